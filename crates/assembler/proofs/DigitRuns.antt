@@ -13,7 +13,7 @@ use Rattle.std.proofs.lemmas.Str.Parse.{digit_from_value}
 use Rattle.lexer.specs.declared.tokens.Token.TheVariants.{Number}
 use Rattle.lexer.specs.declared.tokens.Lexeme.TheVariants.{Solid}
 use Rattle.lexer.specs.Lexing.{is_word_byte, number_at, number_after, number_from, digits_number, lexeme_at}
-use Rattle.assembler.proofs.PlainTexts.{Progress, assembled}
+use Rattle.assembler.proofs.PlainTexts.{StatementSoFar, assembled}
 use Rattle.assembler.proofs.Turns.{token}
 
 -- digits up to the first byte that is not a digit
@@ -84,10 +84,10 @@ lexeme-decimal c (d ∷ ds) rest h small low =
     front ∙ base ∙ number ∙ ap (λ k. Some (Solid (Number (digits_value 10 (d ∷ ds))), k)) (zero-add (length (d ∷ ds)))
 
 -- the progress with one more number
-abbrev with_number : Progress → ℕ → Progress
+abbrev with_number : StatementSoFar → ℕ → StatementSoFar
 with_number s n = record { tokens = s.tokens ++ Number n ∷ []; parts = s.parts }
 
-pub decimal-read : (n c : ℕ) (rest : List ℕ) (s : Progress) → n < 2 ^ 64 → c < 48 → assembled (decimal n ++ c ∷ rest) 0 s ≡ assembled (c ∷ rest) 0 (record { tokens = s.tokens ++ Number n ∷ []; parts = s.parts })
+pub decimal-read : (n c : ℕ) (rest : List ℕ) (s : StatementSoFar) → n < 2 ^ 64 → c < 48 → assembled (decimal n ++ c ∷ rest) 0 s ≡ assembled (c ∷ rest) 0 (record { tokens = s.tokens ++ Number n ∷ []; parts = s.parts })
 decimal-read n c rest s small low =
     let own = decimal_is_IsNumeral n small in
     let fits : digits_value 10 (decimal n) < 2 ^ 64 = rw own.1 small in
@@ -95,7 +95,7 @@ decimal-read n c rest s small low =
     ∙ ap (λ v. assembled (c ∷ rest) 0 (with_number s v)) own.1
 
 -- hexadecimal digits after 0x
-pub hexadecimal-read : (n c : ℕ) (rest : List ℕ) (s : Progress) → n < 2 ^ 64 → c < 48 → assembled (48 ∷ 120 ∷ (digits 16 false n ++ c ∷ rest)) 0 s ≡ assembled (c ∷ rest) 0 (record { tokens = s.tokens ++ Number n ∷ []; parts = s.parts })
+pub hexadecimal-read : (n c : ℕ) (rest : List ℕ) (s : StatementSoFar) → n < 2 ^ 64 → c < 48 → assembled (48 ∷ 120 ∷ (digits 16 false n ++ c ∷ rest)) 0 s ≡ assembled (c ∷ rest) 0 (record { tokens = s.tokens ++ Number n ∷ []; parts = s.parts })
 hexadecimal-read n c rest s small low =
     let own = digits_is_IsNumeral 16 false (lit≤ tt) (lit≤ tt) n (omega arith) in
     let ds = digits 16 false n in

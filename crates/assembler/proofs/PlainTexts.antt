@@ -49,7 +49,7 @@ pub record Parts : Type 0 where
   pub insns : List Insn
 
 -- the tokens of the statement so far, and what comes before it
-pub record Progress : Type 0 where
+pub record StatementSoFar : Type 0 where
   pub tokens : List Token
   pub parts : Parts
 
@@ -70,38 +70,38 @@ is_start ps = is_one ps.version && (length ps.maps == 0 && (length ps.insns == 0
 abbrev pub takes : Parts → Insn → Bool
 takes ps i = is_none (objection_to_load ps.maps i) && has_room (ps.insns ++ i ∷ [])
 
-abbrev pub added : Parts → Option Insn → Option Progress
+abbrev pub added : Parts → Option Insn → Option StatementSoFar
 added ps None = None
 added ps (Some i) = keep (takes ps i) (record { tokens = []; parts = with_insn ps i })
 
-abbrev pub added_row : Parts → Result MapDef Wrong → Option Progress
+abbrev pub added_row : Parts → Result MapDef Wrong → Option StatementSoFar
 added_row ps (Err wrong) = None
 added_row ps (Ok row) = keep (takes_row ps.insns ps.maps row) (record { tokens = []; parts = with_row ps row })
 
-abbrev pub added_version : Parts → Result Statement Wrong → Option Progress
+abbrev pub added_version : Parts → Result Statement Wrong → Option StatementSoFar
 added_version ps (Ok Version) = keep (is_start ps) (record { tokens = []; parts = with_version ps })
 added_version ps r = None
 
 -- at the end of a statement
-abbrev pub closed : Progress → Option Progress
+abbrev pub closed : StatementSoFar → Option StatementSoFar
 closed s =
     if length s.tokens == 0 then Some s
     else if begins_version_line (slice_get s.tokens 0) then added_version s.parts (version_line s.tokens)
     else if begins_map_line (slice_get s.tokens 0) then added_row s.parts (map_line s.tokens)
     else added s.parts (plain_statement s.tokens)
 
-abbrev pub accept : Progress → Lexeme → Option Progress
+abbrev pub accept : StatementSoFar → Lexeme → Option StatementSoFar
 accept s Blank = Some s
 accept s End = closed s
 accept s (Solid t) = Some (record { tokens = s.tokens ++ t ∷ []; parts = s.parts })
 
 -- what a text makes after its first bytes
-abbrev pub assembled : List ℕ → ℕ → Progress → Option Progress
+abbrev pub assembled : List ℕ → ℕ → StatementSoFar → Option StatementSoFar
 assembled [] k s = closed s
 assembled (b ∷ bs) (suc k) s = assembled bs k s
 assembled (b ∷ bs) zero s = lexeme_at (b ∷ bs) >>= λ (p : Lexeme × ℕ). accept s p.0 >>= λ t. assembled bs (p.1 - 1) t
 
-abbrev pub start : Progress
+abbrev pub start : StatementSoFar
 start = record { tokens = []; parts = record { version = One; maps = []; insns = [] } }
 
 -- ---- a map line is no instruction

@@ -30,7 +30,7 @@ use Rattle.assembler.specs.declared.readings.Reading.{Reading}
 use Rattle.assembler.specs.declared.wrong.Wrong.{Wrong}
 use Rattle.assembler.specs.Operands.{◌>>=◌, is_minus, signed_within, is_name}
 use Rattle.assembler.specs.Statements.{arithmetic, called_word, statement_of}
-use Rattle.assembler.specs.Spells.{assigns, changes, compares, extends, reg, IsSigned, IsConstant, IsWide, IsOperand, field, place, memory, IsTarget, Spells}
+use Rattle.assembler.specs.Spells.{assigns, changes, compares, extends, reg, IsSigned, SpellsConstant, IsWide, IsOperand, field, place, memory, IsTarget, Spells}
 use Rattle.assembler.proofs.FormReads.{atomic-back, comparison-back, same-register, same-width, width-back}
 
 abbrev read : Insn → Option ℕ → Result Reading Wrong
@@ -121,7 +121,7 @@ store-reads : (size : Size) (b r : Reg) (s : Sign) (n : ℕ) (by : ℤ) → IsSi
 unfolding statement_of
 store-reads size b r s n by h = rw (signed-reads (2 ^ 15) 7 s n by h) refl
 
-constant-reads : (size : Size) (b : Reg) (s : Sign) (n : ℕ) (by k : ℤ) (xs : List Token) → IsSigned (2 ^ 15) s n by → IsConstant xs k
+constant-reads : (size : Size) (b : Reg) (s : Sign) (n : ℕ) (by k : ℤ) (xs : List Token) → IsSigned (2 ^ 15) s n by → SpellsConstant xs k
     → statement_of (memory (word.Unsigned size) b s n (Signed sign.Assign ∷ xs)) ≡ read (StoreConstant size (record { base = b; offset = by }) k) None
 unfolding statement_of
 constant-reads size b s n by k xs h (inl g) = rw (g.1, g.3, signed-reads (2 ^ 15) 7 s n by h, lt-ltb g.0 (2 ^ 31) g.2) refl
@@ -179,7 +179,7 @@ condition-reads w c d (Register r) by name xs ys g (inr (x, is, other, zero, ind
 condition-reads w c d (Constant k) by name xs ys (inl g) (inr (x, is, other, zero, index)) = rw (index, g.1, g.3, is, zero, comparison-back c, lt-ltb g.0 (2 ^ 31) g.2, named x other) refl
 condition-reads w c d (Constant k) by name xs ys (inr g) (inr (x, is, other, zero, index)) = rw (index, g.1, g.3, is, zero, comparison-back c, le-leb g.0 (2 ^ 31) g.2, named x other) refl
 
-helper-reads : (k : ℤ) (xs : List Token) → IsConstant xs k → statement_of (Named word.Call ∷ xs) ≡ read (CallHelper k) None
+helper-reads : (k : ℤ) (xs : List Token) → SpellsConstant xs k → statement_of (Named word.Call ∷ xs) ≡ read (CallHelper k) None
 unfolding statement_of
 helper-reads k xs (inl h) = rw (h.1, h.3, lt-ltb h.0 (2 ^ 31) h.2) refl
 helper-reads k xs (inr h) = rw (h.1, h.3, le-leb h.0 (2 ^ 31) h.2) refl

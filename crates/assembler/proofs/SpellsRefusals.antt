@@ -26,15 +26,15 @@ use Rattle.assembler.specs.Labels.{slot_in, with_label}
 use Rattle.assembler.specs.MapTests.{takes_row, objection_to_value, objection_to_load, objection}
 use Rattle.assembler.specs.Positions.{error_at}
 use Rattle.assembler.specs.Naming.{NameUse, aimed, or_too_far, distance, aim, aim_used, put, resolved}
-use Rattle.assembler.specs.Assembling.{Progress, TokenPlace, start, unless_wrong, refused_by, unless_refused, is_first, named_by, named, begins_at, refused_at, has_room, with_insn, ended, closed_behind, accept, next_lexeme, read_on, finished, error_in, program_in, assembled}
+use Rattle.assembler.specs.Assembling.{ReadSoFar, TokenPlace, start, unless_wrong, refused_by, unless_refused, is_first, named_by, named, begins_at, refused_at, has_room, with_insn, ended, closed_behind, accept, next_lexeme, read_on, finished, error_in, program_in, assembled}
 use Rattle.assembler.proofs.SpellsTexts.{SpellsSome, IsSpelled, SpellsSome-spelled_behind, closed_spells, joined, AtLexeme, OnLexeme, EachStatement}
 
 -- none of A1, A2 and A3
-abbrev pub IsOther : AsmErrorKind → Type 0
-IsOther UnknownByte = ⊥
-IsOther NoForm = ⊥
-IsOther OutOfRange = ⊥
-IsOther kind = Unit {0}
+abbrev pub IsOtherError : AsmErrorKind → Type 0
+IsOtherError UnknownByte = ⊥
+IsOtherError NoForm = ⊥
+IsOtherError OutOfRange = ⊥
+IsOtherError kind = Unit {0}
 
 -- the first of two that fails
 split : {A B E : Type 0} (r : Result A E) (f : A → Result B E) (e : E) → (r >>= f) ≡ Err e → (r ≡ Err e) ⊎ ((x : A) × (r ≡ Ok x) × (f x ≡ Err e))
@@ -57,54 +57,54 @@ at_place at (Err kind) e h =
 
 -- ---- map lines, loads of maps and the version
 
-objects : (b : Bool) (kind : AsmErrorKind) (token : ℕ) (o : Objection) → IsOther kind → (if b then None else Some (record { kind = kind; token = token })) ≡ Some o → IsOther o.kind
+objects : (b : Bool) (kind : AsmErrorKind) (token : ℕ) (o : Objection) → IsOtherError kind → (if b then None else Some (record { kind = kind; token = token })) ≡ Some o → IsOtherError o.kind
 objects true kind token o other h = absurd (cc)
-objects false kind token o other h = let same : (let p : Objection = record { kind = kind; token = token } in p) ≡ o = cc in subst (λ (p : Objection). IsOther p.kind) same other
+objects false kind token o other h = let same : (let p : Objection = record { kind = kind; token = token } in p) ≡ o = cc in subst (λ (p : Objection). IsOtherError p.kind) same other
 
-objects_always : (kind : AsmErrorKind) (token : ℕ) (o : Objection) → IsOther kind → (let p : Option Objection = Some (record { kind = kind; token = token }) in p) ≡ Some o → IsOther o.kind
-objects_always kind token o other h = let same : (let p : Objection = record { kind = kind; token = token } in p) ≡ o = cc in subst (λ (p : Objection). IsOther p.kind) same other
+objects_always : (kind : AsmErrorKind) (token : ℕ) (o : Objection) → IsOtherError kind → (let p : Option Objection = Some (record { kind = kind; token = token }) in p) ≡ Some o → IsOtherError o.kind
+objects_always kind token o other h = let same : (let p : Objection = record { kind = kind; token = token } in p) ≡ o = cc in subst (λ (p : Objection). IsOtherError p.kind) same other
 
 to_value : (b : Bool) (row : MapDef) (offset : ℕ) (o : Objection)
-    → (if b then (if nat_lt offset row.value_size then None else Some (record { kind = PastValue; token = 10 })) else Some (record { kind = NotOneValue; token = 6 })) ≡ Some o → IsOther o.kind
+    → (if b then (if nat_lt offset row.value_size then None else Some (record { kind = PastValue; token = 10 })) else Some (record { kind = NotOneValue; token = 6 })) ≡ Some o → IsOtherError o.kind
 to_value true row offset o h = objects (nat_lt offset row.value_size) PastValue 10 o tt h
 to_value false row offset o h = objects_always NotOneValue 6 o tt h
 
-to_row : (found : Option MapDef) (offset : ℕ) (o : Objection) → objection_to_value found offset ≡ Some o → IsOther o.kind
+to_row : (found : Option MapDef) (offset : ℕ) (o : Objection) → objection_to_value found offset ≡ Some o → IsOtherError o.kind
 to_row None offset o h = objects_always NoMap 6 o tt h
 to_row (Some row) offset o h = to_value (is_array row.kind && (row.entries == 1)) row offset o h
 
-to_load : (maps : List MapDef) (i : Insn) (o : Objection) → objection_to_load maps i ≡ Some o → IsOther o.kind
+to_load : (maps : List MapDef) (i : Insn) (o : Objection) → objection_to_load maps i ≡ Some o → IsOtherError o.kind
 to_load maps (LoadMap d m) o h = objects (nat_lt m (length maps)) NoMap 4 o tt h
 to_load maps (LoadMapValue d m offset) o h = to_row (slice_get maps m) offset o h
 to_load maps i o h = absurd (cc)
 
-objected : (first : Bool) (insns : List Insn) (maps : List MapDef) (x : Statement) (o : Objection) → objection first insns maps x ≡ Some o → IsOther o.kind
+objected : (first : Bool) (insns : List Insn) (maps : List MapDef) (x : Statement) (o : Objection) → objection first insns maps x ≡ Some o → IsOtherError o.kind
 objected first insns maps said.Empty o h = absurd (cc)
 objected first insns maps said.Version o h = objects first LateVersion 0 o tt h
 objected first insns maps (said.Row row) o h = objects (takes_row insns maps row) MapLine 0 o tt h
 objected first insns maps (said.Instruction r) o h = to_load maps r.insn o h
 
-refused : (s : Progress) (k : ℕ) (o : Option Objection) (e : Refusal) → unless_refused s k o ≡ Err e → (p : Objection) × (o ≡ Some p) × (p.kind ≡ e.kind)
+refused : (s : ReadSoFar) (k : ℕ) (o : Option Objection) (e : Refusal) → unless_refused s k o ≡ Err e → (p : Objection) × (o ≡ Some p) × (p.kind ≡ e.kind)
 refused s k None e h = absurd (cc)
 refused s k (Some p) e h = let same : refused_by s k p ≡ e = cc in (p, refl, ap (λ (d : Refusal). d.kind) same)
 
 -- ---- the end of a statement
 
-labelled : (s : Progress) (place : Option TokenPlace) (e : Refusal) → named_by s place ≡ Err e → IsOther e.kind
+labelled : (s : ReadSoFar) (place : Option TokenPlace) (e : Refusal) → named_by s place ≡ Err e → IsOtherError e.kind
 labelled s None e h = absurd (cc)
 labelled s (Some place) e h =
     elim (split (refused_at place.0 (with_label s.labels place.1 (length (slots s.insns)))) _ e h) [
       | inl twice ↦
           let kind = at_place place.0 (with_label s.labels place.1 (length (slots s.insns))) e twice in
-          subst IsOther (fails_first (is_some (slot_in s.labels place.1)) _ DefinedTwice e.kind kind) tt
+          subst IsOtherError (fails_first (is_some (slot_in s.labels place.1)) _ DefinedTwice e.kind kind) tt
       | inr (labels, made, never) ↦ absurd (cc (never))
     ]
 
-labelled_if : (s : Progress) (b : Bool) (e : Refusal) → (if b then Ok s else named s) ≡ Err e → IsOther e.kind
+labelled_if : (s : ReadSoFar) (b : Bool) (e : Refusal) → (if b then Ok s else named s) ≡ Err e → IsOtherError e.kind
 labelled_if s true e h = absurd (cc)
 labelled_if s false e h = labelled s (slice_get s.places 0) e h
 
-ended_refused : (s : Progress) (k : ℕ) (x : Statement) (e : Refusal) → ended s k x ≡ Err e → IsOther e.kind
+ended_refused : (s : ReadSoFar) (k : ℕ) (x : Statement) (e : Refusal) → ended s k x ≡ Err e → IsOtherError e.kind
 ended_refused s k said.Empty e h = absurd (cc)
 ended_refused s k said.Version e h = absurd (cc)
 ended_refused s k (said.Row row) e h = absurd (cc)
@@ -112,14 +112,14 @@ ended_refused s k (said.Instruction r) e h =
     elim (split (refused_at (begins_at s) (with_insn s.insns r.insn)) _ e h) [
       | inl many ↦
           let kind = at_place (begins_at s) (with_insn s.insns r.insn) e many in
-          subst IsOther (fails (has_room (s.insns ++ r.insn ∷ [])) _ SlotCount e.kind kind) tt
+          subst IsOtherError (fails (has_room (s.insns ++ r.insn ∷ [])) _ SlotCount e.kind kind) tt
       | inr (insns, made, never) ↦ absurd (cc (never))
     ]
 
-wrong_not : (s : Progress) (k : ℕ) (r : Result Statement Wrong) (x : Statement) (e : Refusal) → r ≡ Ok x → unless_wrong s k r ≡ Err e → ⊥
+wrong_not : (s : ReadSoFar) (k : ℕ) (r : Result Statement Wrong) (x : Statement) (e : Refusal) → r ≡ Ok x → unless_wrong s k r ≡ Err e → ⊥
 wrong_not s k r x e is h = let no : unless_wrong s k (Ok x) ≡ Err e = subst (λ (q : Result Statement Wrong). unless_wrong s k q ≡ Err e) is h in absurd (cc (no))
 
-closed_refused : (s : Progress) (k : ℕ) (e : Refusal) → SpellsSome k (drop k s.tokens) → closed_behind s k ≡ Err e → IsOther e.kind
+closed_refused : (s : ReadSoFar) (k : ℕ) (e : Refusal) → SpellsSome k (drop k s.tokens) → closed_behind s k ≡ Err e → IsOtherError e.kind
 closed_refused s k e spells h =
     let (read, is) = SpellsSome-spelled_behind k (drop k s.tokens) spells in
     elim (split (unless_wrong s k (spelled_behind k (drop k s.tokens))) _ e h) [
@@ -128,7 +128,7 @@ closed_refused s k e spells h =
           elim (split (unless_refused s k (objection (is_first s) s.insns s.maps x)) _ e h1) [
             | inl failed ↦
                 let (o, here, kind) = refused s k (objection (is_first s) s.insns s.maps x) e failed in
-                subst IsOther kind (objected (is_first s) s.insns s.maps x o here)
+                subst IsOtherError kind (objected (is_first s) s.insns s.maps x o here)
             | inr (u, allowed, h2) ↦
                 elim (split (if k == 0 then Ok s else named s) _ e h2) [
                   | inl twice ↦ labelled_if s (k == 0) e twice
@@ -139,14 +139,14 @@ closed_refused s k e spells h =
 
 -- ---- texts
 
-accept_refused : (rest : ℕ → List Token → Type 0) (s : Progress) (x : Lexeme) (n : ℕ) (place : TokenPlace) (e : Refusal) → AtLexeme rest IsSpelled s.tokens x n → accept s x place ≡ Err e → IsOther e.kind
+accept_refused : (rest : ℕ → List Token → Type 0) (s : ReadSoFar) (x : Lexeme) (n : ℕ) (place : TokenPlace) (e : Refusal) → AtLexeme rest IsSpelled s.tokens x n → accept s x place ≡ Err e → IsOtherError e.kind
 accept_refused rest s Blank n place e each h = absurd (cc)
 accept_refused rest s End n place e each h = closed_refused s (label_length s.tokens) e each.0 h
 accept_refused rest s (Solid t) n place e each h = absurd (cc)
 
 -- what is left after what was accepted
-accept_left : (rest : ℕ → List Token → Type 0) (s : Progress) (x : Lexeme) (n : ℕ) (place : TokenPlace) (u : Progress) → AtLexeme rest IsSpelled s.tokens x n → accept s x place ≡ Ok u → rest (n - 1) u.tokens
-accept_left rest s Blank n place u each h = let same : s ≡ u = cc in subst (λ (v : Progress). rest (n - 1) v.tokens) same each
+accept_left : (rest : ℕ → List Token → Type 0) (s : ReadSoFar) (x : Lexeme) (n : ℕ) (place : TokenPlace) (u : ReadSoFar) → AtLexeme rest IsSpelled s.tokens x n → accept s x place ≡ Ok u → rest (n - 1) u.tokens
+accept_left rest s Blank n place u each h = let same : s ≡ u = cc in subst (λ (v : ReadSoFar). rest (n - 1) v.tokens) same each
 accept_left rest s End n place u each h =
     let (spells, none) = closed_spells s (label_length s.tokens) u h in
     subst (λ (ts : List Token). rest (n - 1) ts) (sym none) each.1
@@ -162,7 +162,7 @@ lexed o d e p is h = let no : ok_or (Some p) d ≡ Err e = subst (λ (q : Option
 lexed_as : (o : Option (Lexeme × ℕ)) (d : Refusal) (p q : Lexeme × ℕ) → o ≡ Some p → ok_or o d ≡ Ok q → p ≡ q
 lexed_as o d p q is h = let yes : ok_or (Some p) d ≡ Ok q = subst (λ (r : Option (Lexeme × ℕ)). ok_or r d ≡ Ok q) is h in cc (yes)
 
-read_refused : (bs : List ℕ) (k at : ℕ) (s : Progress) (e : Refusal) → EachStatement IsSpelled bs k s.tokens → read_on bs k at s ≡ Err e → IsOther e.kind
+read_refused : (bs : List ℕ) (k at : ℕ) (s : ReadSoFar) (e : Refusal) → EachStatement IsSpelled bs k s.tokens → read_on bs k at s ≡ Err e → IsOtherError e.kind
 unfolding EachStatement
 read_refused [] k at s e each h = closed_refused s (label_length s.tokens) e each h
 read_refused (b ∷ bs) (suc k) at s e each h = read_refused bs k (at + 1) s e each h
@@ -182,16 +182,16 @@ read_refused (b ∷ bs) zero at s e each h =
 
 -- ---- names
 
-too_far : (o : Option Insn) (kind : AsmErrorKind) → or_too_far o ≡ Err kind → IsOther kind
-too_far None kind h = let same : TooFar ≡ kind = cc in subst IsOther same tt
+too_far : (o : Option Insn) (kind : AsmErrorKind) → or_too_far o ≡ Err kind → IsOtherError kind
+too_far None kind h = let same : TooFar ≡ kind = cc in subst IsOtherError same tt
 too_far (Some i) kind h = absurd (cc)
 
-aim_refused : (to : Option ℕ) (from : ℕ) (i : Insn) (kind : AsmErrorKind) → aim to from i ≡ Err kind → IsOther kind
-aim_refused None from i kind h = let same : NotDefined ≡ kind = cc in subst IsOther same tt
+aim_refused : (to : Option ℕ) (from : ℕ) (i : Insn) (kind : AsmErrorKind) → aim to from i ≡ Err kind → IsOtherError kind
+aim_refused None from i kind h = let same : NotDefined ≡ kind = cc in subst IsOtherError same tt
 aim_refused (Some to) from i kind h = too_far (aimed i (distance from to)) kind h
 
-used_refused : (slot_of : List ℕ → Option ℕ) (u : NameUse) (o : Option Insn) (kind : AsmErrorKind) → aim_used slot_of u o ≡ Err kind → IsOther kind
-used_refused slot_of u None kind h = let same : NotDefined ≡ kind = cc in subst IsOther same tt
+used_refused : (slot_of : List ℕ → Option ℕ) (u : NameUse) (o : Option Insn) (kind : AsmErrorKind) → aim_used slot_of u o ≡ Err kind → IsOtherError kind
+used_refused slot_of u None kind h = let same : NotDefined ≡ kind = cc in subst IsOtherError same tt
 used_refused slot_of u (Some i) kind h = aim_refused (slot_of u.name) u.slot i kind h
 
 put_refused : (u : NameUse) (is : List Insn) (r : Result Insn AsmErrorKind) (e : Refusal) → put u is r ≡ Err e → r ≡ Err e.kind
@@ -200,7 +200,7 @@ put_refused u is (Err kind) e h =
     let same : (let d : Refusal = record { kind = kind; offset = u.offset } in d) ≡ e = cc in
     ap (λ (d : Refusal). Err d.kind) same
 
-resolved_refused : (slot_of : List ℕ → Option ℕ) (us : List NameUse) (is : List Insn) (e : Refusal) → resolved slot_of us is ≡ Err e → IsOther e.kind
+resolved_refused : (slot_of : List ℕ → Option ℕ) (us : List NameUse) (is : List Insn) (e : Refusal) → resolved slot_of us is ≡ Err e → IsOtherError e.kind
 resolved_refused slot_of [] is e h = absurd (cc)
 resolved_refused slot_of (u ∷ us) is e h =
     elim (split (put u is (aim_used slot_of u (slice_get is u.index))) _ e h) [
@@ -208,11 +208,11 @@ resolved_refused slot_of (u ∷ us) is e h =
       | inr (next, made, rest) ↦ resolved_refused slot_of us next e rest
     ]
 
-counted : (b : Bool) (p : Program) (e : Refusal) → (if b then Ok p else Err (record { kind = SlotCount; offset = 0 })) ≡ Err e → IsOther e.kind
+counted : (b : Bool) (p : Program) (e : Refusal) → (if b then Ok p else Err (record { kind = SlotCount; offset = 0 })) ≡ Err e → IsOtherError e.kind
 counted true p e h = absurd (cc)
-counted false p e h = let same : (let d : Refusal = record { kind = SlotCount; offset = 0 } in d) ≡ e = cc in subst (λ (d : Refusal). IsOther d.kind) same tt
+counted false p e h = let same : (let d : Refusal = record { kind = SlotCount; offset = 0 } in d) ≡ e = cc in subst (λ (d : Refusal). IsOtherError d.kind) same tt
 
-finished_refused : (s : Progress) (e : Refusal) → finished s ≡ Err e → IsOther e.kind
+finished_refused : (s : ReadSoFar) (e : Refusal) → finished s ≡ Err e → IsOtherError e.kind
 finished_refused s e h =
     elim (split (resolved (slot_in s.labels) s.uses s.insns) _ e h) [
       | inl failed ↦ resolved_refused (slot_in s.labels) s.uses s.insns e failed
@@ -226,11 +226,11 @@ error_of text (Ok p) e h = absurd (cc)
 error_of text (Err d) e h = let same : error_at text d ≡ e = cc in (d, refl, ap (λ (x : AsmError). x.kind) same)
 
 -- where each statement spells something, none is refused for what it spells
-pub EachStatement-refused : (text : List ℕ) (e : AsmError) → EachStatement IsSpelled text 0 [] → assembled text ≡ Err e → IsOther e.kind
+pub EachStatement-refused : (text : List ℕ) (e : AsmError) → EachStatement IsSpelled text 0 [] → assembled text ≡ Err e → IsOtherError e.kind
 unfolding assembled
 EachStatement-refused text e each h =
     let (d, is, kind) = error_of text (program_in text) e h in
-    subst IsOther kind (elim (split (read_on text 0 0 start) _ d is) [
+    subst IsOtherError kind (elim (split (read_on text 0 0 start) _ d is) [
       | inl failed ↦ read_refused text 0 0 start d each failed
       | inr (s, read, last) ↦ finished_refused s d last
     ])

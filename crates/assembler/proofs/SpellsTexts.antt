@@ -22,7 +22,7 @@ use Rattle.assembler.specs.Operands.{◌>>=◌, number_at, word_at, as_kind, fie
 use Rattle.assembler.specs.Statements.{statement_of, map_line}
 use Rattle.assembler.specs.Labelled.{begins_map_line, begins_version_line, version_number, version_line, spelled, spelled_behind, label_length}
 use Rattle.assembler.specs.MapTests.{objection}
-use Rattle.assembler.specs.Assembling.{Progress, TokenPlace, start, unless_wrong, unless_refused, is_first, named, begins_at, refused_at, with_insn, ended, closed_behind, accept, next_lexeme, read_on, error_in, program_in, assembled}
+use Rattle.assembler.specs.Assembling.{ReadSoFar, TokenPlace, start, unless_wrong, unless_refused, is_first, named, begins_at, refused_at, with_insn, ended, closed_behind, accept, next_lexeme, read_on, error_in, program_in, assembled}
 use Rattle.assembler.specs.Spells.{Spells}
 use Rattle.assembler.proofs.SpellsTokens.{bind, kept, passed, equal, At, whole, number_at_token, word_at_token}
 use Rattle.assembler.proofs.SpellsReads.{Spells-statement_of}
@@ -137,21 +137,22 @@ spelled_behind-SpellsSome label ts s h = behind_spells label ts s (begins_versio
 
 -- ---- the end of a statement
 
-not_wrong : (s : Progress) (k : ℕ) (r : Result Statement Wrong) (x : Statement) → unless_wrong s k r ≡ Ok x → r ≡ Ok x
+not_wrong : (s : ReadSoFar) (k : ℕ) (r : Result Statement Wrong) (x : Statement) → unless_wrong s k r ≡ Ok x → r ≡ Ok x
 not_wrong s k (Ok y) x h = let same : y ≡ x = cc in ap (λ (z : Statement). let o : Result Statement Wrong = Ok z in o) same
 not_wrong s k (Err w) x h = absurd (cc)
 
 -- a result that is a progress without tokens
-done : (r : Progress) (t : Progress) → r.tokens ≡ [] → (let o : Result Progress Refusal = Ok r in o) ≡ Ok t → t.tokens ≡ []
-done r t none h = let same : r ≡ t = cc in subst (λ (u : Progress). u.tokens ≡ []) same none
+done : (r : ReadSoFar) (t : ReadSoFar) → r.tokens ≡ [] → (let o : Result ReadSoFar Refusal = Ok r in o) ≡ Ok t → t.tokens ≡ []
+done r t none h = let same : r ≡ t = cc in subst (λ (u : ReadSoFar). u.tokens ≡ []) same none
 
-cleared : (s : Progress) (k : ℕ) (x : Statement) (t : Progress) → ended s k x ≡ Ok t → t.tokens ≡ []
+cleared : (s : ReadSoFar) (k : ℕ) (x : Statement) (t : ReadSoFar) → ended s k x ≡ Ok t
+    → t.tokens ≡ []
 cleared s k said.Empty t h = done _ t refl h
 cleared s k said.Version t h = done _ t refl h
 cleared s k (said.Row row) t h = done _ t refl h
 cleared s k (said.Instruction r) t h = let (insns, front, last) = bind (refused_at (begins_at s) (with_insn s.insns r.insn)) _ t h in done _ t refl last
 
-pub closed_spells : (s : Progress) (k : ℕ) (t : Progress) → closed_behind s k ≡ Ok t → SpellsSome k (drop k s.tokens) × (t.tokens ≡ [])
+pub closed_spells : (s : ReadSoFar) (k : ℕ) (t : ReadSoFar) → closed_behind s k ≡ Ok t → SpellsSome k (drop k s.tokens) × (t.tokens ≡ [])
 closed_spells s k t h =
     let (x, front, h1) = bind (unless_wrong s k (spelled_behind k (drop k s.tokens))) _ t h in
     let (u, allowed, h2) = bind (unless_refused s k (objection (is_first s) s.insns s.maps x)) _ t h1 in
@@ -182,11 +183,11 @@ lexeme_found (Some q) e p h = let same : q ≡ p = cc in ap (λ (z : Lexeme × �
 lexeme_found None e p h = absurd (cc)
 
 -- the tokens of what was read are those of what is answered
-pub joined : (r u : Progress) → (let o : Result Progress Refusal = Ok r in o) ≡ Ok u → r.tokens ≡ u.tokens
-joined r u h = let same : r ≡ u = cc in ap (λ (v : Progress). v.tokens) same
+pub joined : (r u : ReadSoFar) → (let o : Result ReadSoFar Refusal = Ok r in o) ≡ Ok u → r.tokens ≡ u.tokens
+joined r u h = let same : r ≡ u = cc in ap (λ (v : ReadSoFar). v.tokens) same
 
-accepted : (rest : ℕ → List Token → Type 0) (s : Progress) (x : Lexeme) (n : ℕ) (place : TokenPlace) (u : Progress) → accept s x place ≡ Ok u → rest (n - 1) u.tokens → AtLexeme rest IsSpelled s.tokens x n
-accepted rest s Blank n place u h on = let same : s ≡ u = cc in subst (λ (v : Progress). rest (n - 1) v.tokens) (sym same) on
+accepted : (rest : ℕ → List Token → Type 0) (s : ReadSoFar) (x : Lexeme) (n : ℕ) (place : TokenPlace) (u : ReadSoFar) → accept s x place ≡ Ok u → rest (n - 1) u.tokens → AtLexeme rest IsSpelled s.tokens x n
+accepted rest s Blank n place u h on = let same : s ≡ u = cc in subst (λ (v : ReadSoFar). rest (n - 1) v.tokens) (sym same) on
 accepted rest s End n place u h on =
     let (spells, none) = closed_spells s (label_length s.tokens) u h in
     (spells, subst (λ (ts : List Token). rest (n - 1) ts) none on)
@@ -194,7 +195,7 @@ accepted rest s (Solid t) n place u h on =
     let same : s.tokens ++ t ∷ [] ≡ u.tokens = joined _ u h in
     subst (λ (ts : List Token). rest (n - 1) ts) (sym same) on
 
-read_spells : (bs : List ℕ) (k at : ℕ) (s t : Progress) → read_on bs k at s ≡ Ok t → EachStatement IsSpelled bs k s.tokens
+read_spells : (bs : List ℕ) (k at : ℕ) (s t : ReadSoFar) → read_on bs k at s ≡ Ok t → EachStatement IsSpelled bs k s.tokens
 unfolding EachStatement
 read_spells [] k at s t h = (closed_spells s (label_length s.tokens) t h).0
 read_spells (b ∷ bs) (suc k) at s t h = read_spells bs k (at + 1) s t h

@@ -19,7 +19,7 @@ use Rattle.lexer.specs.declared.tokens.Token.TheVariants.{Named, Number, Signed}
 use Rattle.assembler.specs.declared.wrong.Wrong.{Wrong}
 use Rattle.assembler.specs.declared.wrong.Wrong.TheVariants.{Form, Range}
 use Rattle.assembler.specs.Operands.{◌>>=◌, keep, token_at, as_sign, as_number, as_word, sign_at, number_at, word_at, is_sign, expect_at, is_minus, signed_within, signed_at, number_index, constant_at, same_width, same_register, as_register, register_at, again_at, operand_token, operand_at, place_at}
-use Rattle.assembler.specs.Spells.{reg, IsSigned, IsConstant, IsOperand}
+use Rattle.assembler.specs.Spells.{reg, IsSigned, SpellsConstant, IsOperand}
 
 -- ---- results in a row
 
@@ -204,7 +204,7 @@ index_in i (Signed sign.Minus) p h =
 index_in i t p h = absurd (cc)
 
 -- N, and the index after it
-pub constant : (ts : List Token) (i : ℕ) (p : ℤ × ℕ) → constant_at ts i ≡ Ok p → (xs : List Token) × IsConstant xs p.0 × HasTokensAt ts i xs × (p.1 ≡ i + length xs)
+pub constant : (ts : List Token) (i : ℕ) (p : ℤ × ℕ) → constant_at ts i ≡ Ok p → (xs : List Token) × SpellsConstant xs p.0 × HasTokensAt ts i xs × (p.1 ≡ i + length xs)
 constant ts i p h =
     let behind : Bool × ℕ → Result (ℤ × ℕ) Wrong = λ (at : Bool × ℕ). number_at ts at.1 >>= signed_within (2 ^ 31) i at.0 >>= λ k. Ok (k, at.1 + 1) in
     let (at, front, rest) = bind (token_at ts i >>= number_index i) (λ (at : Bool × ℕ). number_at ts at.1 >>= signed_within (2 ^ 31) i at.0 >>= λ k. Ok (k, at.1 + 1)) p h in

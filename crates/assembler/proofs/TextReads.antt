@@ -21,7 +21,7 @@ use Rattle.assembler.specs.MapTests.{takes_row, objection_to_load}
 use Rattle.assembler.proofs.MapLaws.{objection_to_load-NamesRows}
 use Rattle.assembler.specs.Labels.{slot_in}
 use Rattle.assembler.specs.Naming.{resolved}
-use Rattle.assembler.specs.Assembling.{Progress, finished, program_in}
+use Rattle.assembler.specs.Assembling.{ReadSoFar, finished, program_in}
 use Rattle.assembler.specs.Assembling as text
 use Rattle.assembler.proofs.PlainTexts.{Parts, takes, assembled, has_room, start}
 use Rattle.assembler.proofs.PlainTexts as plain
@@ -119,7 +119,7 @@ program_of-instructions p h =
     ∙ ap (λ (q : Program). let r : Result Program Refusal = Ok q in r) (image-again p h)
 
 -- what was read without names is a program already
-finished-unused : (s : Progress) (parts : Parts) → (shadow s).parts ≡ parts → s.uses ≡ [] → finished s ≡ text.program_of parts.version parts.maps parts.insns
+finished-unused : (s : ReadSoFar) (parts : Parts) → (shadow s).parts ≡ parts → s.uses ≡ [] → finished s ≡ text.program_of parts.version parts.maps parts.insns
 finished-unused s parts e unused =
     ap (λ us. resolved (slot_in s.labels) us s.insns >>= text.program_of s.version s.maps) unused ∙ ap (λ (ps : Parts). text.program_of ps.version ps.maps ps.insns) e
 
@@ -127,6 +127,6 @@ finished-unused s parts e unused =
 pub program_in-canonical_text : (p : Program) → IsImage p → program_in (canonical_text p) ≡ Ok p
 program_in-canonical_text p h =
     let went = read-goes (canonical_text p) 0 0 text.start (draft [] (behind p.version p.maps (instructions p.insns))) (refl, refl) (text-read p h) in
-    ap (λ (r : Result Progress Refusal). r >>= finished) went.1
-    ∙ finished-unused went.0 (behind p.version p.maps (instructions p.insns)) (ap (λ (s : plain.Progress). s.parts) went.2) went.3.0
+    ap (λ (r : Result ReadSoFar Refusal). r >>= finished) went.1
+    ∙ finished-unused went.0 (behind p.version p.maps (instructions p.insns)) (ap (λ (s : plain.StatementSoFar). s.parts) went.2) went.3.0
     ∙ program_of-instructions p h

@@ -6,10 +6,10 @@ use Rattle.assembler.specs.declared.refusals.Refusal.{Refusal}
 use Rattle.lexer.specs.declared.tokens.Lexeme.{Lexeme}
 use Rattle.lexer.specs.Lexing.{lexeme_at, fault_at}
 use Rattle.assembler.specs.Operands.{◌>>=◌}
-use Rattle.assembler.specs.Assembling.{Progress, accept, closed, next_lexeme, read_on}
+use Rattle.assembler.specs.Assembling.{ReadSoFar, accept, closed, next_lexeme, read_on}
 
 -- bytes that are passed over
-skip : (bs : List ℕ) (k at : ℕ) (s : Progress) → read_on bs k at s ≡ read_on (drop k bs) 0 (at + k) s
+skip : (bs : List ℕ) (k at : ℕ) (s : ReadSoFar) → read_on bs k at s ≡ read_on (drop k bs) 0 (at + k) s
 skip [] zero at s = refl
 skip [] (suc k) at s = refl
 skip (b ∷ bs) zero at s = ap (λ n. read_on (b ∷ bs) 0 n s) (omega arith)
@@ -18,7 +18,7 @@ skip (b ∷ bs) (suc k) at s =
     skip bs k (at + 1) s ∙ ap (λ n. read_on (drop k bs) 0 n s) same
 
 -- where nothing is left the offset does not count
-anywhere : (bs : List ℕ) (m n : ℕ) (s : Progress) → (length bs ≡ 0) ⊎ (m ≡ n) → read_on bs 0 m s ≡ read_on bs 0 n s
+anywhere : (bs : List ℕ) (m n : ℕ) (s : ReadSoFar) → (length bs ≡ 0) ⊎ (m ≡ n) → read_on bs 0 m s ≡ read_on bs 0 n s
 anywhere bs m n s (inr e) = ap (λ at. read_on bs 0 at s) e
 anywhere [] m n s (inl e) = refl
 anywhere (b ∷ bs) m n s (inl e) = absurd (omega (arith, e))
@@ -34,35 +34,35 @@ behind bs n all more few =
     ]
 
 -- what is read on from a lexeme
-abbrev from_lexeme : List ℕ → ℕ → Progress → Result (Lexeme × ℕ) Refusal → Result Progress Refusal
+abbrev from_lexeme : List ℕ → ℕ → ReadSoFar → Result (Lexeme × ℕ) Refusal → Result ReadSoFar Refusal
 from_lexeme bs at s found = found >>= λ (p : Lexeme × ℕ). accept s p.0 (at, take p.1 bs) >>= λ t. read_on (drop 1 bs) (p.1 - 1) (at + 1) t
 
-turn : (bs : List ℕ) (at : ℕ) (s : Progress) → 0 < length bs → read_on bs 0 at s ≡ from_lexeme bs at s (next_lexeme at bs)
+turn : (bs : List ℕ) (at : ℕ) (s : ReadSoFar) → 0 < length bs → read_on bs 0 at s ≡ from_lexeme bs at s (next_lexeme at bs)
 turn [] at s more = absurd (omega (arith, more))
 turn (b ∷ bs) at s more = refl
 
 -- there is no lexeme
-pub turn-none : (bs : List ℕ) (at : ℕ) (s : Progress) → 0 < length bs → lexeme_at bs ≡ None → read_on bs 0 at s ≡ Err (record { kind = UnknownByte; offset = at + fault_at bs })
+pub turn-none : (bs : List ℕ) (at : ℕ) (s : ReadSoFar) → 0 < length bs → lexeme_at bs ≡ None → read_on bs 0 at s ≡ Err (record { kind = UnknownByte; offset = at + fault_at bs })
 turn-none bs at s more e = turn bs at s more ∙ ap (λ found. from_lexeme bs at s (ok_or found (record { kind = UnknownByte; offset = at + fault_at bs }))) e
 
-taken : (bs : List ℕ) (at : ℕ) (s : Progress) (x : Lexeme) (n : ℕ) (r : Result Progress Refusal) → 0 < length bs → lexeme_at bs ≡ Some (x, n) → accept s x (at, take n bs) ≡ r → read_on bs 0 at s ≡ (r >>= λ t. read_on (drop 1 bs) (n - 1) (at + 1) t)
+taken : (bs : List ℕ) (at : ℕ) (s : ReadSoFar) (x : Lexeme) (n : ℕ) (r : Result ReadSoFar Refusal) → 0 < length bs → lexeme_at bs ≡ Some (x, n) → accept s x (at, take n bs) ≡ r → read_on bs 0 at s ≡ (r >>= λ t. read_on (drop 1 bs) (n - 1) (at + 1) t)
 taken bs at s x n r more e h =
     turn bs at s more
     ∙ ap (λ found. from_lexeme bs at s (ok_or found (record { kind = UnknownByte; offset = at + fault_at bs }))) e
-    ∙ ap (λ (o : Result Progress Refusal). o >>= λ t. read_on (drop 1 bs) (n - 1) (at + 1) t) h
+    ∙ ap (λ (o : Result ReadSoFar Refusal). o >>= λ t. read_on (drop 1 bs) (n - 1) (at + 1) t) h
 
 -- the statement ends there and is refused
-pub turn-refused : (bs : List ℕ) (at : ℕ) (s : Progress) (x : Lexeme) (n : ℕ) (e : Refusal) → 0 < length bs → lexeme_at bs ≡ Some (x, n) → accept s x (at, take n bs) ≡ Err e → read_on bs 0 at s ≡ Err e
+pub turn-refused : (bs : List ℕ) (at : ℕ) (s : ReadSoFar) (x : Lexeme) (n : ℕ) (e : Refusal) → 0 < length bs → lexeme_at bs ≡ Some (x, n) → accept s x (at, take n bs) ≡ Err e → read_on bs 0 at s ≡ Err e
 turn-refused bs at s x n e more found h = taken bs at s x n (Err e) more found h
 
 -- it is taken
-pub turn-taken : (bs : List ℕ) (all : ℕ) (s : Progress) (x : Lexeme) (n : ℕ) (t : Progress) → 0 < length bs → length bs ≤ all → lexeme_at bs ≡ Some (x, n) → accept s x (all - length bs, take n bs) ≡ Ok t → read_on bs 0 (all - length bs) s ≡ read_on (drop (n - 1) (drop 1 bs)) 0 (all - length (drop (n - 1) (drop 1 bs))) t
+pub turn-taken : (bs : List ℕ) (all : ℕ) (s : ReadSoFar) (x : Lexeme) (n : ℕ) (t : ReadSoFar) → 0 < length bs → length bs ≤ all → lexeme_at bs ≡ Some (x, n) → accept s x (all - length bs, take n bs) ≡ Ok t → read_on bs 0 (all - length bs) s ≡ read_on (drop (n - 1) (drop 1 bs)) 0 (all - length (drop (n - 1) (drop 1 bs))) t
 turn-taken bs all s x n t more few found h =
     taken bs (all - length bs) s x n (Ok t) more found h
     ∙ skip (drop 1 bs) (n - 1) ((all - length bs) + 1) t
     ∙ anywhere (drop (n - 1) (drop 1 bs)) (((all - length bs) + 1) + (n - 1)) (all - length (drop (n - 1) (drop 1 bs))) t (behind bs n all more few)
 
 -- the end of the text
-pub turn-end : (bs : List ℕ) (at : ℕ) (s : Progress) → length bs ≡ 0 → read_on bs 0 at s ≡ closed s
+pub turn-end : (bs : List ℕ) (at : ℕ) (s : ReadSoFar) → length bs ≡ 0 → read_on bs 0 at s ≡ closed s
 turn-end [] at s none = refl
 turn-end (b ∷ bs) at s none = absurd (omega (arith, none))

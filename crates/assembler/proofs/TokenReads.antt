@@ -37,12 +37,12 @@ use Rattle.lexer.specs.declared.tokens.Token.TheVariants.{Named, Number, Signed}
 use Rattle.lexer.specs.declared.tokens.Lexeme.TheVariants.{Solid}
 use Rattle.lexer.specs.Lexing.{is_word_byte, lexeme_at}
 use Rattle.assembler.specs.Spells.{assigns, changes, compares, extends}
-use Rattle.assembler.proofs.PlainTexts.{Parts, Progress, assembled}
+use Rattle.assembler.proofs.PlainTexts.{Parts, StatementSoFar, assembled}
 use Rattle.assembler.proofs.Turns.{token}
 use Rattle.assembler.proofs.DigitRuns.{decimal-read, no-equals}
 
 -- the tokens of the statement so far, and what comes before it
-abbrev pub draft : List Token → Parts → Progress
+abbrev pub draft : List Token → Parts → StatementSoFar
 draft ts ps = record { tokens = ts; parts = ps }
 
 -- ---- registers, followed by a byte of no word

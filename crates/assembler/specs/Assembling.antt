@@ -34,7 +34,7 @@ abbrev pub TokenPlace : Type 0
 TokenPlace = ℕ × List ℕ
 
 -- what was read so far
-pub record Progress : Type 0 where
+pub record ReadSoFar : Type 0 where
   -- the tokens of the statement, and where they are
   pub tokens : List Token
   pub places : List TokenPlace
@@ -46,7 +46,7 @@ pub record Progress : Type 0 where
   pub labels : List (List ℕ × ℕ)
   pub uses : List NameUse
 
-abbrev pub start : Progress
+abbrev pub start : ReadSoFar
 start = record { tokens = []; places = []; version = One; maps = []; insns = []; labels = []; uses = [] }
 
 -- ---- refusals
@@ -56,7 +56,7 @@ offset_or (Some place) otherwise = place.0
 offset_or None otherwise = otherwise
 
 -- where the statement begins
-abbrev pub begins_at : Progress → ℕ
+abbrev pub begins_at : ReadSoFar → ℕ
 begins_at s = offset_or (slice_get s.places 0) 0
 
 abbrev pub refused_at : {A : Type 0} → ℕ → Result A AsmErrorKind → Result A Refusal
@@ -65,22 +65,22 @@ refused_at at (Err kind) = Err (record { kind = kind; offset = at })
 
 -- why the tokens without the first k are no instruction: a number out of range is the reason if all
 -- else fits
-abbrev pub refusal_of : Progress → ℕ → Wrong → Refusal
+abbrev pub refusal_of : ReadSoFar → ℕ → Wrong → Refusal
 refusal_of s k Form = record { kind = NoForm; offset = begins_at s }
 refusal_of s k (Range at) =
     if has_form (drop k s.tokens)
     then (record { kind = OutOfRange; offset = offset_or (slice_get s.places (at + k)) 0 })
     else record { kind = NoForm; offset = begins_at s }
 
-abbrev pub unless_wrong : {A : Type 0} → Progress → ℕ → Result A Wrong → Result A Refusal
+abbrev pub unless_wrong : {A : Type 0} → ReadSoFar → ℕ → Result A Wrong → Result A Refusal
 unless_wrong s k (Ok x) = Ok x
 unless_wrong s k (Err wrong) = Err (refusal_of s k wrong)
 
 -- the refusal of a token, counted without the first k
-abbrev pub refused_by : Progress → ℕ → Objection → Refusal
+abbrev pub refused_by : ReadSoFar → ℕ → Objection → Refusal
 refused_by s k o = record { kind = o.kind; offset = offset_or (slice_get s.places (o.token + k)) 0 }
 
-abbrev pub unless_refused : Progress → ℕ → Option Objection → Result (Unit {0}) Refusal
+abbrev pub unless_refused : ReadSoFar → ℕ → Option Objection → Result (Unit {0}) Refusal
 unless_refused s k None = Ok tt
 unless_refused s k (Some o) = Err (refused_by s k o)
 
@@ -95,18 +95,18 @@ abbrev pub with_insn : List Insn → Insn → Result (List Insn) AsmErrorKind
 with_insn insns i = if has_room (insns ++ i ∷ []) then Ok (insns ++ i ∷ []) else Err SlotCount
 
 -- the next instruction uses the name there
-abbrev pub with_use : Progress → Option TokenPlace → List NameUse
+abbrev pub with_use : ReadSoFar → Option TokenPlace → List NameUse
 with_use s None = s.uses
 with_use s (Some place) =
     s.uses ++ (record { index = length s.insns; slot = length (slots s.insns); name = place.1; offset = place.0 }) ∷ []
 
 -- the name of the instruction's target, if it has one; k tokens come before the instruction
-abbrev pub name_place : Progress → ℕ → Option ℕ → Option TokenPlace
+abbrev pub name_place : ReadSoFar → ℕ → Option ℕ → Option TokenPlace
 name_place s k None = None
 name_place s k (Some i) = slice_get s.places (i + k)
 
 -- the statement's instruction is added; k tokens come before it
-abbrev pub added : Progress → ℕ → Reading → Result Progress Refusal
+abbrev pub added : ReadSoFar → ℕ → Reading → Result ReadSoFar Refusal
 added s k r =
     refused_at (begins_at s) (with_insn s.insns r.insn)
     >>= λ insns. Ok (record { tokens = []; places = []; version = s.version; maps = s.maps; insns = insns; labels = s.labels; uses = with_use s (name_place s k r.name) })
@@ -114,14 +114,14 @@ added s k r =
 -- ---- labels
 
 -- the name is defined as the next slot
-abbrev pub named_by : Progress → Option TokenPlace → Result Progress Refusal
+abbrev pub named_by : ReadSoFar → Option TokenPlace → Result ReadSoFar Refusal
 named_by s None = Ok s
 named_by s (Some place) =
     refused_at place.0 (with_label s.labels place.1 (length (slots s.insns)))
     >>= λ labels. Ok (record { tokens = s.tokens; places = s.places; version = s.version; maps = s.maps; insns = s.insns; labels = labels; uses = s.uses })
 
 -- the statement's first token is the name
-abbrev pub named : Progress → Result Progress Refusal
+abbrev pub named : ReadSoFar → Result ReadSoFar Refusal
 named s = named_by s (slice_get s.places 0)
 
 -- ---- statements
@@ -131,18 +131,18 @@ is_one One = true
 is_one Two = false
 
 -- no statement was read that is not empty: each one leaves a name, a version, a row or an instruction
-abbrev pub is_first : Progress → Bool
+abbrev pub is_first : ReadSoFar → Bool
 is_first s = length s.labels == 0 && (is_one s.version && (length s.maps == 0 && (length s.insns == 0)))
 
 -- a statement is taken that follows a label of k tokens
-abbrev pub ended : Progress → ℕ → Statement → Result Progress Refusal
+abbrev pub ended : ReadSoFar → ℕ → Statement → Result ReadSoFar Refusal
 ended s k said.Empty = Ok (record { tokens = []; places = []; version = s.version; maps = s.maps; insns = s.insns; labels = s.labels; uses = s.uses })
 ended s k said.Version = Ok (record { tokens = []; places = []; version = Two; maps = s.maps; insns = s.insns; labels = s.labels; uses = s.uses })
 ended s k (said.Row row) = Ok (record { tokens = []; places = []; version = s.version; maps = s.maps ++ row ∷ []; insns = s.insns; labels = s.labels; uses = s.uses })
 ended s k (said.Instruction r) = added s k r
 
 -- a statement ends that follows a label of k tokens
-abbrev pub closed_behind : Progress → ℕ → Result Progress Refusal
+abbrev pub closed_behind : ReadSoFar → ℕ → Result ReadSoFar Refusal
 closed_behind s k =
     unless_wrong s k (spelled_behind k (drop k s.tokens))
     >>= λ said. unless_refused s k (objection (is_first s) s.insns s.maps said)
@@ -151,11 +151,11 @@ closed_behind s k =
 
 -- at the end of a statement: what its tokens spell counts first, then the maps that it has or names, then its own name,
 -- then its slots
-abbrev pub closed : Progress → Result Progress Refusal
+abbrev pub closed : ReadSoFar → Result ReadSoFar Refusal
 closed s = closed_behind s (label_length s.tokens)
 
 -- the next lexeme of the text, at that place
-abbrev pub accept : Progress → Lexeme → TokenPlace → Result Progress Refusal
+abbrev pub accept : ReadSoFar → Lexeme → TokenPlace → Result ReadSoFar Refusal
 accept s Blank place = Ok s
 accept s End place = closed s
 accept s (Solid t) place =
@@ -168,7 +168,7 @@ abbrev pub next_lexeme : ℕ → List ℕ → Result (Lexeme × ℕ) Refusal
 next_lexeme at bs = ok_or (lexeme_at bs) (record { kind = UnknownByte; offset = at + fault_at bs })
 
 -- what the bytes at that offset of a text make, after the first k of them
-abbrev pub read_on : List ℕ → ℕ → ℕ → Progress → Result Progress Refusal
+abbrev pub read_on : List ℕ → ℕ → ℕ → ReadSoFar → Result ReadSoFar Refusal
 read_on [] k at s = closed s
 read_on (b ∷ bs) (suc k) at s = read_on bs k (at + 1) s
 read_on (b ∷ bs) zero at s =
@@ -183,7 +183,7 @@ program_of version maps insns =
     else Err (record { kind = SlotCount; offset = 0 })
 
 -- the program once names have become distances
-abbrev pub finished : Progress → Result Program Refusal
+abbrev pub finished : ReadSoFar → Result Program Refusal
 finished s = resolved (slot_in s.labels) s.uses s.insns >>= program_of s.version s.maps
 
 abbrev pub error_in : {A : Type 0} → List ℕ → Result A Refusal → Result A AsmError

@@ -4,12 +4,12 @@ use Rattle.assembler.specs.declared.draft.Draft.{Draft}
 use Rattle.assembler.specs.declared.draft.Span.{Span}
 use Rattle.assembler.specs.Labels.{label_of}
 use Rattle.assembler.specs.Naming.{use_of}
-use Rattle.assembler.specs.Assembling.{TokenPlace, Progress}
+use Rattle.assembler.specs.Assembling.{TokenPlace, ReadSoFar}
 
 abbrev pub place_of : Span → TokenPlace
 place_of span = (span.offset, span.bytes.now)
 
-abbrev pub progress_of : Draft → Progress
+abbrev pub progress_of : Draft → ReadSoFar
 progress_of d =
     record {
       tokens = d.tokens.items;

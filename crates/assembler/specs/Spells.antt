@@ -86,8 +86,8 @@ abbrev pub IsSigned : ℕ → Sign → ℕ → ℤ → Type 0
 IsSigned half s n k = ((s ≡ sign.Plus) × (n < half) × (k ≡ pos n)) ⊎ ((s ≡ sign.Minus) × (n ≤ half) × (k ≡ neg_ℤ (pos n)))
 
 -- N: a number of 32 bits, with or without a minus
-abbrev pub IsConstant : List Token → ℤ → Type 0
-IsConstant ts k =
+abbrev pub SpellsConstant : List Token → ℤ → Type 0
+SpellsConstant ts k =
     ((n : ℕ) × (ts ≡ Number n ∷ []) × (n < 2 ^ 31) × (k ≡ pos n)) ⊎ ((n : ℕ) × (ts ≡ Signed sign.Minus ∷ Number n ∷ []) × (n ≤ 2 ^ 31) × (k ≡ neg_ℤ (pos n)))
 
 -- N of 64 bits, as a register holds it
@@ -99,7 +99,7 @@ IsWide ts k =
 -- a register of the width, or N
 abbrev pub IsOperand : Width → List Token → Operand → Type 0
 IsOperand w ts (Register r) = ts ≡ reg w r ∷ []
-IsOperand w ts (Constant k) = IsConstant ts k
+IsOperand w ts (Constant k) = SpellsConstant ts k
 
 -- a number without a sign; a number past the greatest of its field counts as the greatest
 abbrev pub field : ℕ → ℕ
@@ -147,7 +147,7 @@ Spells ts (Load size d p) name =
 Spells ts (LoadSx size d p) name =
     (name ≡ None) × Offset p (λ s n. ts ≡ reg Full64 d ∷ Signed sign.Assign ∷ memory (word.SignExtended size) p.base s n [])
 Spells ts (StoreConstant size p k) name =
-    (name ≡ None) × ((xs : List Token) × IsConstant xs k × Offset p (λ s n. ts ≡ memory (word.Unsigned size) p.base s n (Signed sign.Assign ∷ xs)))
+    (name ≡ None) × ((xs : List Token) × SpellsConstant xs k × Offset p (λ s n. ts ≡ memory (word.Unsigned size) p.base s n (Signed sign.Assign ∷ xs)))
 Spells ts (Store size p r) name =
     (name ≡ None) × Offset p (λ s n. ts ≡ memory (word.Unsigned size) p.base s n (Signed sign.Assign ∷ reg Full64 r ∷ []))
 Spells ts (Atomic w o false p r) name =
@@ -167,7 +167,7 @@ Spells ts (JumpLong by) name = (xs : List Token) × IsTarget (2 ^ 31) xs by 1 na
 Spells ts (JumpIf cond by) name =
     (xs : List Token) × (ys : List Token) × IsOperand cond.width xs cond.operand × IsTarget (2 ^ 15) ys by (4 + length xs) name
     × (ts ≡ Named word.If ∷ reg cond.width cond.register ∷ Signed (compares cond.comparison) ∷ (xs ++ Named word.Goto ∷ ys))
-Spells ts (CallHelper k) name = (name ≡ None) × ((xs : List Token) × IsConstant xs k × (ts ≡ Named word.Call ∷ xs))
+Spells ts (CallHelper k) name = (name ≡ None) × ((xs : List Token) × SpellsConstant xs k × (ts ≡ Named word.Call ∷ xs))
 Spells ts (CallLocal by) name =
     ((name ≡ None) × ((s : Sign) × (n : ℕ) × IsSigned (2 ^ 31) s n by × (ts ≡ Named word.Call ∷ Named word.Pc ∷ Signed s ∷ Number n ∷ [])))
     ⊎ ((x : Word) × (x ≢ word.Pc) × (by ≡ pos 0) × (name ≡ Some 1) × (ts ≡ Named word.Call ∷ Named x ∷ []))

@@ -24,7 +24,7 @@ use Rattle.stack_state.specs.Meaning.{MeansBy}
 use Rattle.stack_state.specs.Places.{kind_of, with_register}
 use Rattle.stack_state.proofs.MeaningLaws.{reg_allowed, MeansBy-narrow}
 use Rattle.stack_state.proofs.PlaceLaws.{same_or_other, kind_of-with_same, kind_of-with_other}
-use Rattle.branch_refine.specs.Refining.{IsNumberKind, IsNumberOperand, IsJust, IsJustOperand, KeepsMembers, Narrows, KeepsOthers}
+use Rattle.branch_refine.specs.Refining.{IsNumberKind, IsNumberOperand, IsJust, IsJustOperand, KeepsMembers, Narrows, KeepsOtherRegisters}
 use Rattle.branch_refine.specs.Numbers.{numbers_in, AreNumbersOf, with_operand, with_compared}
 
 -- ---- numbers and kinds
@@ -222,7 +222,7 @@ others_operand a (Register r) new q unnamed =
     kind_of-with_other a r q (Number new) (λ same. unnamed (ap Register (sym same)))
 
 pub others_compared : (a : State) (cond : Cond) (new_left new_right : Scalar)
-    → KeepsOthers cond a (with_compared a cond new_left new_right)
+    → KeepsOtherRegisters cond a (with_compared a cond new_left new_right)
 others_compared a cond new_left new_right q unnamed =
     others_operand (with_register a cond.register (Number new_left)) cond.operand new_right q (λ h. unnamed (inr h))
     ∙ kind_of-with_other a cond.register q (Number new_left) (λ same. unnamed (inl (sym same)))

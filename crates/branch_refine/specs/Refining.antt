@@ -62,8 +62,8 @@ KeepsMembers cond taken a some b =
     → IsTrue some × MeansBy p e b s
 
 -- the condition names the register
-abbrev pub Names : Cond → Reg → Type 0
-Names cond r = (cond.register ≡ r) ⊎ (cond.operand ≡ Register r)
+abbrev pub NamesRegister : Cond → Reg → Type 0
+NamesRegister cond r = (cond.register ≡ r) ⊎ (cond.operand ≡ Register r)
 
 -- b is a but for kinds in registers: no wider ones, and a constant is still that constant
 pub record Narrows (a b : State) : Type 0 where
@@ -75,8 +75,8 @@ pub record Narrows (a b : State) : Type 0 where
   pub constants : (r : Reg) (x : ℕ) → IsJust (kind_of a r) x → IsJust (kind_of b r) x
 
 -- registers that the condition does not name have the kinds that they had
-abbrev pub KeepsOthers : Cond → State → State → Type 0
-KeepsOthers cond a b = (r : Reg) → (Names cond r → ⊥) → kind_of b r ≡ kind_of a r
+abbrev pub KeepsOtherRegisters : Cond → State → State → Type 0
+KeepsOtherRegisters cond a b = (r : Reg) → (NamesRegister cond r → ⊥) → kind_of b r ≡ kind_of a r
 
 -- two numbers are compared, and b has in their place those that the comparison leaves of them
 pub record Refined (cond : Cond) (taken : Bool) (a b : State) : Type 0 where
@@ -110,7 +110,7 @@ pub record Refines (cond : Cond) (taken : Bool) (a : State) (some : Bool) (b : S
   pub kept : KeepsMembers cond taken a some b
   pub never : some ≡ false → b ≡ a
   pub narrowed : AreCompared a cond → Narrows a b
-  pub others : AreCompared a cond → KeepsOthers cond a b
+  pub others : AreCompared a cond → KeepsOtherRegisters cond a b
   pub shown : AreCompared a cond → IsTrue some → Refined cond taken a b
   -- two constants go one way only
   pub constants : (x y : ℕ) → IsJust (kind_of a cond.register) x → IsJustOperand a cond.width cond.operand y

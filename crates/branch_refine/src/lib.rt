@@ -8,7 +8,7 @@ ghost use Rattle.reg_state.specs.Shown.{NarrowsBoth};
 ghost use Rattle.stack_state.specs.Places.{kind_of};
 ghost use Rattle.stack_state.specs.declared.states.State.{State as TheState};
 ghost use Rattle.isa_model.specs.declared.instructions.Cond.{Cond as TheCond};
-ghost use Rattle.branch_refine.specs.Refining.{IsJust, IsJustOperand, AreCompared, KeepsMembers, Narrows, KeepsOthers, Refined, LearnsOf, Refines, IsRefined};
+ghost use Rattle.branch_refine.specs.Refining.{IsJust, IsJustOperand, AreCompared, KeepsMembers, Narrows, KeepsOtherRegisters, Refined, LearnsOf, Refines, IsRefined};
 ghost use Rattle.branch_refine.specs.Comparing.{same};
 ghost use Rattle.branch_refine.specs.Leaving.{goes, left_in, MayBePut};
 
@@ -101,7 +101,7 @@ fn is_same(taken: bool, outcome: bool) -> bool
 fn numbers_outcome(cond: Cond, taken: bool, state: &State) -> Outcome
     ensures kept { KeepsMembers cond taken state.now (goes result) (left_in cond state.now result) }
     ensures narrowed { Narrows state.now (left_in cond state.now result) }
-    ensures others { KeepsOthers cond state.now (left_in cond state.now result) }
+    ensures others { KeepsOtherRegisters cond state.now (left_in cond state.now result) }
     ensures shown { AreCompared state.now cond → IsTrue (goes result)
         → Refined cond taken state.now (left_in cond state.now result) }
     ensures constants { (x y : ℕ) → IsJust (kind_of state.now cond.register) x

@@ -4,6 +4,6 @@ use Rattle.isa_model.specs.Code.Instructions.{Program}
 use Rattle.isa_model.specs.Machine.States.{Entries}
 
 -- its program, and the maps' contents between runs
-pub record Running : Type 0 where
+pub record LoadedProgram : Type 0 where
   pub program : Program
   pub contents : List Entries

@@ -31,9 +31,9 @@ impl Model for Checked {
     ghost use Rattle.isa_model.specs.Code.Limits.{max_call_frames};
     ghost use Rattle.isa_model.specs.Machine.States.{entries_of};
     ghost use Rattle.std.specs.Prelude.{◌≡◌, ◌≤◌, map, vec_capacity};
-    ghost use Rattle.checked_vm.specs.Machines.{Running};
+    ghost use Rattle.checked_vm.specs.Machines.{LoadedProgram};
 
-    ghost Value = { Running };
+    ghost Value = { LoadedProgram };
 
     ghost view = { λ machine. record {
       program = machine.image;

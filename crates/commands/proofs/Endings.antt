@@ -11,7 +11,7 @@ use Rattle.serving.specs.Statuses.{status_of, is_silent, is_unsaid, message_of}
 use Rattle.serving.specs.Saying.{AppendsPart}
 use Rattle.serving.specs.Known.{told}
 use Rattle.host.specs.Stops.{noted_of}
-use Rattle.tasks.specs.Requests.{Request, RunFiles, Trace, Run, Verify, Prove, Recheck, Assemble, Disassemble}
+use Rattle.tasks.specs.Requests.{TaskRequest, RunFiles, Trace, Run, Verify, Prove, Recheck, Assemble, Disassemble}
 use Rattle.words.specs.Asked.{asked}
 use Rattle.serving.specs.Faults.{fault_lines}
 use Rattle.commands.specs.Executing.{IsTold, TellsDone, TellsFault}
@@ -136,7 +136,7 @@ faulted_plain o old new e h = told_faulted o None old new (inl refl) e h
 
 -- ---- by what was asked for
 
-pub refused_by : (request : Request) (o : Outcome) (why : Option (String Global)) (old new : Option (List ℕ)) → KnowsBy request o why → status_of o ≡ 2 → AppendsPart old new (told o why) → IsTold old new
+pub refused_by : (request : TaskRequest) (o : Outcome) (why : Option (String Global)) (old new : Option (List ℕ)) → KnowsBy request o why → status_of o ≡ 2 → AppendsPart old new (told o why) → IsTold old new
 refused_by (Trace files limit) o why old new (inl k) e h = told_refused o why old new k e h
 refused_by (Trace files limit) Done why old new (inr k) e h = absurd (omega arith)
 refused_by (Trace files limit) (Faulted fault form) why old new (inr k) e h = absurd (omega arith)
@@ -165,7 +165,7 @@ stopped_faulted (CannotWrite path cause) why old new k e h = absurd k.0
 stopped_faulted (CannotReplace path) why old new k e h = absurd k.0
 stopped_faulted NoMemory why old new k e h = absurd k.0
 
-pub faulted_by : (request : Request) (o : Outcome) (why : Option (String Global)) (old new : Option (List ℕ)) → KnowsBy request o why → status_of o ≡ 3 → AppendsPart old new (told o why) → TellsFault old new
+pub faulted_by : (request : TaskRequest) (o : Outcome) (why : Option (String Global)) (old new : Option (List ℕ)) → KnowsBy request o why → status_of o ≡ 3 → AppendsPart old new (told o why) → TellsFault old new
 faulted_by (Trace files limit) o why old new (inl k) e h = told_faulted o why old new k e h
 faulted_by (Trace files limit) o why old new (inr k) e h = stopped_faulted o why old new k e h
 faulted_by (Run files table) o why old new k e h = told_faulted o why old new k e h
@@ -192,7 +192,7 @@ stopped_done words files limit (CannotWrite path cause) why old new is k e unsai
 stopped_done words files limit (CannotReplace path) why old new is k e unsaid h = absurd k.0
 stopped_done words files limit NoMemory why old new is k e unsaid h = absurd k.0
 
-pub done_by : (words : List (List ℕ)) (request : Request) (o : Outcome) (why : Option (String Global)) (old new : Option (List ℕ)) → asked words ≡ Some request → KnowsBy request o why → status_of o ≡ 0
+pub done_by : (words : List (List ℕ)) (request : TaskRequest) (o : Outcome) (why : Option (String Global)) (old new : Option (List ℕ)) → asked words ≡ Some request → KnowsBy request o why → status_of o ≡ 0
     → (is_unsaid o ≡ true → why ≡ None → new ≡ old) → AppendsPart old new (told o why) → TellsDone words old new
 done_by words (Trace files limit) o why old new is (inl k) e unsaid h = quiet words o why old new k e unsaid
 done_by words (Trace files limit) o why old new is (inr k) e unsaid h = stopped_done words files limit o why old new is k e unsaid h

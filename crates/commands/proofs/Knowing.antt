@@ -6,7 +6,7 @@ use Rattle.buffered_io.specs.declared.PromptWriter.{PromptWriter}
 use Rattle.buffered_io.specs.Waiting.{held}
 use Rattle.std.specs.declared.alloc.Global.{Global}
 use Rattle.isa_model.specs.{Program}
-use Rattle.tasks.specs.Requests.{Request, ProofFiles, Trace, Run, Verify, Prove, Recheck, Assemble, Disassemble}
+use Rattle.tasks.specs.Requests.{TaskRequest, ProofFiles, Trace, Run, Verify, Prove, Recheck, Assemble, Disassemble}
 use Rattle.host.specs.declared.errors.HostError.{HostError}
 use Rattle.host.specs.declared.stops.Stops.{Stops}
 use Rattle.host.specs.declared.traced.Traced.{Traced}
@@ -41,7 +41,7 @@ abbrev pub KnowsStops : Outcome → Option (String Global) → Type 0
 KnowsStops o why = IsAtEnd o × ((stops : Stops) × IfSome why (λ text. string_bytes text ≡ stop_lines (noted_of stops)))
 
 -- what is known where this was asked for
-abbrev pub KnowsBy : Request → Outcome → Option (String Global) → Type 0
+abbrev pub KnowsBy : TaskRequest → Outcome → Option (String Global) → Type 0
 KnowsBy (Trace files limit) o why = Knows o why ⊎ KnowsStops o why
 KnowsBy (Run files table) o why = Knows o why
 KnowsBy (Verify path) o why = Knows o why
@@ -50,7 +50,7 @@ KnowsBy (Recheck files) o why = Knows o why
 KnowsBy (Assemble text image) o why = Knows o why
 KnowsBy (Disassemble path) o why = Knows o why
 
-plain_knows : (request : Request) (o : Outcome) (why : Option (String Global)) → why ≡ None → KnowsBy request o why
+plain_knows : (request : TaskRequest) (o : Outcome) (why : Option (String Global)) → why ≡ None → KnowsBy request o why
 plain_knows (Trace files limit) o why h = inl (inl h)
 plain_knows (Run files table) o why h = inl h
 plain_knows (Verify path) o why h = inl h
@@ -73,7 +73,7 @@ stops_known ended (CannotWrite path cause) lines why tells is = inl (inl is)
 stops_known ended (CannotReplace path) lines why tells is = inl (inl is)
 stops_known ended NoMemory lines why tells is = inl (inl is)
 
-served_knows : (request : Request) (old new : Option (List ℕ)) (r : Ending) → Serves (Some request) old new r → KnowsBy request r.outcome r.why
+served_knows : (request : TaskRequest) (old new : Option (List ℕ)) (r : Ending) → Serves (Some request) old new r → KnowsBy request r.outcome r.why
 served_knows (Trace files limit) old new r (inl h) = inl (inl h.1)
 served_knows (Trace files limit) old new r (inr (p, is, inl h)) = inl (inl h.1)
 served_knows (Trace files limit) old new r (inr (p, is, inr some)) = stops_known some.traces.ended r.outcome some.traces.lines r.why some.traces.tells some.traces.why
@@ -92,11 +92,11 @@ served_knows (Assemble text image) old new r (inr (source, ends, known)) = inr (
 served_knows (Disassemble path) old new r h = inl h.1
 
 -- where standard output failed in the end nothing is known beside that
-knows_then : {W : Type 0} (request : Request) (out : PromptWriter W) (ended r : Ending) → KnowsBy request ended.outcome ended.why
+knows_then : {W : Type 0} (request : TaskRequest) (out : PromptWriter W) (ended r : Ending) → KnowsBy request ended.outcome ended.why
     → ((is_silent ended.outcome ≡ false → IsFlushed out) × (r ≡ ended)) ⊎ TellsFailure out r → KnowsBy request r.outcome r.why
 knows_then request out ended r k (inl kept) = subst (λ (e : Ending). KnowsBy request e.outcome e.why) (sym kept.1) k
 knows_then request out ended r k (inr failed) = plain_knows request r.outcome r.why failed.plain
 
-pub whole_knows : {W : Type 0} (contents : W → Option (List ℕ)) (request : Request) (old : Option (List ℕ)) (given new : PromptWriter W) (ended r : Ending)
+pub whole_knows : {W : Type 0} (contents : W → Option (List ℕ)) (request : TaskRequest) (old : Option (List ℕ)) (given new : PromptWriter W) (ended r : Ending)
     → Serves (Some request) old (held contents given) ended → Flushes contents given new ended r → KnowsBy request r.outcome r.why
 whole_knows contents request old given new ended r h on = knows_then request new ended r (served_knows request old (held contents given) ended h) on.ends

@@ -7,12 +7,12 @@ use Rattle.buffered_io.specs.Waiting.{held}
 use Rattle.std.proofs.KnownBytes.{Keeps-refl}
 use Rattle.tasks.specs.declared.WordsError.{WordsError}
 use Rattle.tasks.specs.declared.WordsError.TheVariants.{Wrong, Memory}
-use Rattle.tasks.specs.Requests.{Request}
+use Rattle.tasks.specs.Requests.{TaskRequest}
 use Rattle.words.specs.Asked.{AsksFor, asked}
 use Rattle.serving.specs.declared.outcomes.Outcome.{Outcome}
 use Rattle.serving.specs.declared.outcomes.Outcome.TheVariants.{Done, WrongWords, Refused, Faulted, CannotRead, CannotWrite, CannotReplace, NoMemory}
 use Rattle.serving.specs.declared.endings.Ending.{Ending}
-use Rattle.serving.specs.Statuses.{IsWordsEnd, IsWrong, IsWrongWords, is_silent}
+use Rattle.serving.specs.Statuses.{IsWordsEnd, SaysWrongWords, IsWrongWords, is_silent}
 use Rattle.serving.specs.Commands.{Serves}
 use Rattle.serving.specs.HandingOn.{Flushes}
 use Rattle.commands.specs.Executing.{Executes}
@@ -22,13 +22,13 @@ handed : {W : Type 0} (contents : W → Option (List ℕ)) (given : PromptWriter
 handed contents given r silent = record { kept = Keeps-refl (held contents given); silent = λ _. (refl, refl); ends = inl ((λ loud. absurd (both_ways (is_silent r.outcome) loud silent)), refl) }
 
 -- what is asked for is done, and standard output hands it on
-pub asked-served : {W : Type 0} (contents : W → Option (List ℕ)) (words : List (List ℕ)) (request : Request) (old given new : PromptWriter W) (ended r : Ending) → asked words ≡ Some request
+pub asked-served : {W : Type 0} (contents : W → Option (List ℕ)) (words : List (List ℕ)) (request : TaskRequest) (old given new : PromptWriter W) (ended r : Ending) → asked words ≡ Some request
     → Serves (Some request) (held contents old) (held contents given) ended → Flushes contents given new ended r → Executes contents words old new r
 asked-served contents words request old given new ended r is h on =
-    inr (record { given = given; ended = ended; serves = subst (λ (x : Option Request). Serves x (held contents old) (held contents given) ended) (sym is) h; hands_on = on })
+    inr (record { given = given; ended = ended; serves = subst (λ (x : Option TaskRequest). Serves x (held contents old) (held contents given) ended) (sym is) h; hands_on = on })
 
 -- what is said to be wrong for some reason is wrong
-wrong : (text : List ℕ) (o : Outcome) → IsWrong text o → IsWrongWords o
+wrong : (text : List ℕ) (o : Outcome) → SaysWrongWords text o → IsWrongWords o
 wrong text (WrongWords said) h = tt
 wrong text Done h = absurd h
 wrong text (Refused rejection) h = absurd h
@@ -38,7 +38,7 @@ wrong text (CannotWrite path cause) h = absurd h
 wrong text (CannotReplace path) h = absurd h
 wrong text NoMemory h = absurd h
 
-wrong_silent : (text : List ℕ) (o : Outcome) → IsWrong text o → is_silent o ≡ true
+wrong_silent : (text : List ℕ) (o : Outcome) → SaysWrongWords text o → is_silent o ≡ true
 wrong_silent text (WrongWords said) h = refl
 wrong_silent text Done h = absurd h
 wrong_silent text (Refused rejection) h = absurd h
@@ -57,7 +57,7 @@ unasked contents words (Wrong text) out o none is =
     inr (record {
       given = out;
       ended = ending;
-      serves = subst (λ (x : Option Request). Serves x (held contents out) (held contents out) ending) (sym none) serves;
+      serves = subst (λ (x : Option TaskRequest). Serves x (held contents out) (held contents out) ending) (sym none) serves;
       hands_on = handed contents out ending (wrong_silent (string_bytes text) o is);
     })
 unasked contents words Memory out o none is = inl ((is, refl), refl)

@@ -13,7 +13,7 @@ use Rattle.host.specs.declared.errors.HostError.TheVariants as failure
 use Rattle.host.specs.declared.tallies.Tally.{Tally}
 use Rattle.host.specs.declared.traced.Traced.{Traced}
 use Rattle.host.specs.Tallies.{tallied}
-use Rattle.tasks.specs.Requests.{Request, RunFiles, ProofFiles, Trace, Run, Verify, Prove, Recheck, Assemble, Disassemble}
+use Rattle.tasks.specs.Requests.{TaskRequest, RunFiles, ProofFiles, Trace, Run, Verify, Prove, Recheck, Assemble, Disassemble}
 use Rattle.tasks.specs.declared.WordsError.{WordsError}
 use Rattle.tasks.specs.declared.WordsError.TheVariants.{Wrong, Memory}
 use Rattle.proof_table.specs.declared.errors.WriteTableError.{WriteTableError}
@@ -21,7 +21,7 @@ use Rattle.proof_table.specs.declared.errors.WriteTableError.TheVariants as unwr
 use Rattle.proof_table.specs.Writing.{GainsTable, BeginsTable}
 use Rattle.rechecking.specs.declared.errors.TableError.{TableError}
 use Rattle.rechecking.specs.declared.errors.TableError.TheVariants as table
-use Rattle.serving.specs.declared.forms.Form.{Form}
+use Rattle.serving.specs.declared.forms.FileForm.{FileForm}
 use Rattle.serving.specs.declared.outcomes.Outcome.{Outcome}
 use Rattle.serving.specs.declared.outcomes.Outcome.TheVariants as outcome
 use Rattle.serving.specs.declared.endings.Ending.{Ending}
@@ -59,22 +59,22 @@ says_loud : (old new : Option (List ℕ)) (text : List ℕ) (ended r : Outcome) 
 says_loud old new text ended r loud (inl said) e = both_ways (is_silent r) (ap is_silent said.1 ∙ loud) e
 says_loud old new text ended r loud (inr failed) e = write_loud _ r failed.1 e
 
-at_loud : (form : Form) (fault : Option (Fault × ℕ)) → is_silent (outcome_at form fault) ≡ false
+at_loud : (form : FileForm) (fault : Option (Fault × ℕ)) → is_silent (outcome_at form fault) ≡ false
 at_loud form None = refl
 at_loud form (Some (fault, at)) = refl
 
 -- a run that wrote nothing to standard output lacked memory
-ends_silent : (name : List ℕ) (cause : Option ErrorKind) (form : Form) (ended : Result Tally HostError) (r : Outcome) → EndsBy name cause form ended r → is_silent r ≡ true → ended ≡ Err failure.Memory
+ends_silent : (name : List ℕ) (cause : Option ErrorKind) (form : FileForm) (ended : Result Tally HostError) (r : Outcome) → EndsBy name cause form ended r → is_silent r ≡ true → ended ≡ Err failure.Memory
 ends_silent name cause form (Ok tally) r h e = absurd (both_ways (is_silent r) (ap is_silent h ∙ at_loud form tally.fault) e)
 ends_silent name cause form (Err failure.Memory) r h e = refl
 ends_silent name cause form (Err failure.Report) r h e = absurd (write_loud _ r h e)
 ends_silent name cause form (Err failure.Frames) r h e = absurd (write_loud_by name cause r h e)
 
-fails_silent : (name : List ℕ) (cause : Option ErrorKind) (form : Form) (ended : Result Tally HostError) (r : Outcome) → FailsBy name cause form ended r → is_silent r ≡ true → ended ≡ Err failure.Memory
+fails_silent : (name : List ℕ) (cause : Option ErrorKind) (form : FileForm) (ended : Result Tally HostError) (r : Outcome) → FailsBy name cause form ended r → is_silent r ≡ true → ended ≡ Err failure.Memory
 fails_silent name cause form (Ok tally) r h e = absurd (write_loud_by name cause r h e)
 fails_silent name cause form (Err error) r h e = ends_silent name cause form (Err error) r h e
 
-stops_silent : (name : List ℕ) (cause : Option ErrorKind) (form : Form) (ended : Result Tally HostError) (handed got : Option (List ℕ)) (r : Outcome) → EndsTask name cause form ended handed got r → is_silent r ≡ true
+stops_silent : (name : List ℕ) (cause : Option ErrorKind) (form : FileForm) (ended : Result Tally HostError) (handed got : Option (List ℕ)) (r : Outcome) → EndsTask name cause form ended handed got r → is_silent r ≡ true
     → ended ≡ Err failure.Memory
 stops_silent name cause form ended handed got r (inl whole) e = ends_silent name cause form ended r whole.1 e
 stops_silent name cause form ended handed got r (inr part) e = fails_silent name cause form ended r part.1 e
@@ -209,7 +209,7 @@ assemble_silent text image old new r (inr (source, inl refuses, known)) e = text
 assemble_silent text image old new r (inr (source, inr (p, is, inl makes), known)) e = makes.1
 assemble_silent text image old new r (inr (source, inr (p, is, inr some), known)) e = stores_silent p _ image _ _ old new r.outcome some.stores e
 
-served_silent : (request : Request) (old new : Option (List ℕ)) (r : Ending) → Serves (Some request) old new r → is_silent r.outcome ≡ true → new ≡ old
+served_silent : (request : TaskRequest) (old new : Option (List ℕ)) (r : Ending) → Serves (Some request) old new r → is_silent r.outcome ≡ true → new ≡ old
 served_silent (Trace files limit) old new r h e = trace_silent files limit old new r h e
 served_silent (Run files None) old new r h e = run_silent files old new r h e
 served_silent (Run files (Some table)) old new r h e = shown_silent files table old new r h e
@@ -226,7 +226,7 @@ silent_then : {W : Type 0} (out : PromptWriter W) (ended r : Ending) → ((is_si
 silent_then out ended r (inl kept) e = ap (λ (x : Ending). is_silent x.outcome) (sym kept.1) ∙ e
 silent_then out ended r (inr failed) e = absurd (write_loud_by _ _ r.outcome failed.told e)
 
-pub whole_silent : {W : Type 0} (contents : W → Option (List ℕ)) (request : Request) (old : Option (List ℕ)) (given new : PromptWriter W) (ended r : Ending)
+pub whole_silent : {W : Type 0} (contents : W → Option (List ℕ)) (request : TaskRequest) (old : Option (List ℕ)) (given new : PromptWriter W) (ended r : Ending)
     → Serves (Some request) old (held contents given) ended → Flushes contents given new ended r → is_silent r.outcome ≡ true → held contents new ≡ old
 whole_silent contents request old given new ended r h on e =
     let silent = silent_then new ended r on.ends e in

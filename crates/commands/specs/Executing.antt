@@ -12,14 +12,14 @@ use Rattle.rechecking.specs.declared.errors.TableError.{TableError}
 use Rattle.explanations.specs.Reasons.{IsReason}
 use Rattle.explanations.specs.Entries.{IsEntryReason}
 use Rattle.tasks.specs.declared.WordsError.{WordsError}
-use Rattle.tasks.specs.Requests.{Request, RunFiles, Trace}
+use Rattle.tasks.specs.Requests.{TaskRequest, RunFiles, Trace}
 use Rattle.host.specs.Stops.{Noted}
 use Rattle.words.specs.Asked.{asked}
 use Rattle.serving.specs.declared.outcomes.Outcome.{Outcome}
 use Rattle.serving.specs.declared.endings.Ending.{Ending}
 use Rattle.serving.specs.declared.rejections.Rejection.{Rejection}
 use Rattle.serving.specs.declared.rejections.Rejection.TheVariants as rejection
-use Rattle.serving.specs.declared.forms.Form.{Form}
+use Rattle.serving.specs.declared.forms.FileForm.{FileForm}
 use Rattle.serving.specs.Faults.{fault_lines}
 use Rattle.serving.specs.Messages.{reason_of}
 use Rattle.serving.specs.Statuses.{IsWordsEnd, message_of, status_of}
@@ -31,7 +31,7 @@ use Rattle.serving.specs.HandingOn.{Flushes}
 
 -- What is asked for was done, and how that ended; and then standard output was to hand on what it was given. Where it
 -- fails only at that, this is how the program ends.
-pub record ServesWhole {W : Type 0} (contents : W → Option (List ℕ)) (request : Option Request) (old new : PromptWriter W) (result : Ending) : Type 0 where
+pub record ServesWhole {W : Type 0} (contents : W → Option (List ℕ)) (request : Option TaskRequest) (old new : PromptWriter W) (result : Ending) : Type 0 where
   pub given : PromptWriter W
   pub ended : Ending
   pub serves : Serves request (held contents old) (held contents given) ended
@@ -93,7 +93,7 @@ IsTold old new = TellsReason old new ⊎ (TellsKnown old new ⊎ (TellsEntryKnow
 -- standard error got why a frame stream ended early, and of a trace where the runs of frames stopped; or a beginning of it
 abbrev pub TellsFault : Option (List ℕ) → Option (List ℕ) → Type 0
 TellsFault old new =
-    (fault : Fault) × (form : Form)
+    (fault : Fault) × (form : FileForm)
     × (AppendsPart old new (fault_lines fault form) ⊎ ((noted : Noted) × AppendsPart old new (fault_lines fault form ++ stop_lines noted)))
 
 -- the words ask for a trace, and standard error got where the runs of frames stopped that ended without an action, or a

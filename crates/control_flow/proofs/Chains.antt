@@ -134,17 +134,17 @@ abbrev pub ComesAbove : List Node → ℕ → ℕ → ℕ → Type 0
 ComesAbove nodes to bound k = (fall_from nodes k ≡ Some to) ⊎ ((bound ≤ k) × HasJump nodes to k)
 
 -- the jumps above the next one are followed
-pub record HasFollowed (nodes : List Node) (to : ℕ) (next : Option ℕ) (f : List Bool) (s : List ℕ) (g : List Bool) (t : List ℕ) : Type 0 where
+pub record HasFollowedJumps (nodes : List Node) (to : ℕ) (next : Option ℕ) (f : List Bool) (s : List ℕ) (g : List Bool) (t : List ℕ) : Type 0 where
   pub bound : ℕ
   pub last : IsLastBelow (HasJump nodes to) bound next
   pub found : Extends (ComesAbove nodes to bound) f s g t
 
 -- what falls through is found first
-pub HasFollowed-start : (nodes : List Node) (to : ℕ) (a b next : Option ℕ) (f : List Bool) (s : List ℕ) (g : List Bool) (t : List ℕ) (h : List Bool) (u : List ℕ)
+pub HasFollowedJumps-start : (nodes : List Node) (to : ℕ) (a b next : Option ℕ) (f : List Bool) (s : List ℕ) (g : List Bool) (t : List ℕ) (h : List Bool) (u : List ℕ)
     → FallsNear nodes → ((k : ℕ) → (a ≡ Some k) ↔ FallsBack nodes to 1 k) → ((k : ℕ) → (b ≡ Some k) ↔ FallsBack nodes to 2 k)
     → Extends (λ k. a ≡ Some k) f s g t → Extends (λ k. b ≡ Some k) g t h u
-    → IsLastBelow (HasJump nodes to) (length nodes) next → HasFollowed nodes to next f s h u
-HasFollowed-start nodes to a b next f s g t h u near one two x y last = record {
+    → IsLastBelow (HasJump nodes to) (length nodes) next → HasFollowedJumps nodes to next f s h u
+HasFollowedJumps-start nodes to a b next f s g t h u near one two x y last = record {
   bound = length nodes;
   last = last;
   found = Extends-same (λ k. (a ≡ Some k) ⊎ (b ≡ Some k)) (ComesAbove nodes to (length nodes)) f s h u
@@ -162,15 +162,15 @@ HasFollowed-start nodes to a b next f s g t h u near one two x y last = record {
 }
 
 -- the next one jumps there
-pub HasFollowed-jumps : (nodes : List Node) (to source : ℕ) (next : Option ℕ) (f : List Bool) (s : List ℕ) (g : List Bool) (t : List ℕ)
-    → next ≡ Some source → HasFollowed nodes to next f s g t → HasJump nodes to source
-HasFollowed-jumps nodes to source next f s g t is m = (subst (IsLastBelow (HasJump nodes to) m.bound) is m.last).1
+pub HasFollowedJumps-jumps : (nodes : List Node) (to source : ℕ) (next : Option ℕ) (f : List Bool) (s : List ℕ) (g : List Bool) (t : List ℕ)
+    → next ≡ Some source → HasFollowedJumps nodes to next f s g t → HasJump nodes to source
+HasFollowedJumps-jumps nodes to source next f s g t is m = (subst (IsLastBelow (HasJump nodes to) m.bound) is m.last).1
 
 -- one more is followed
-pub HasFollowed-next : (nodes : List Node) (to source : ℕ) (next before : Option ℕ) (f : List Bool) (s : List ℕ) (g : List Bool) (t : List ℕ) (h : List Bool) (u : List ℕ)
-    → next ≡ Some source → IsLastBelow (HasJump nodes to) source before → HasFollowed nodes to next f s g t → Extends (λ k. Some source ≡ Some k) g t h u
-    → HasFollowed nodes to before f s h u
-HasFollowed-next nodes to source next before f s g t h u is last m x =
+pub HasFollowedJumps-next : (nodes : List Node) (to source : ℕ) (next before : Option ℕ) (f : List Bool) (s : List ℕ) (g : List Bool) (t : List ℕ) (h : List Bool) (u : List ℕ)
+    → next ≡ Some source → IsLastBelow (HasJump nodes to) source before → HasFollowedJumps nodes to next f s g t → Extends (λ k. Some source ≡ Some k) g t h u
+    → HasFollowedJumps nodes to before f s h u
+HasFollowedJumps-next nodes to source next before f s g t h u is last m x =
     let here : IsLastBelow (HasJump nodes to) m.bound (Some source) = subst (IsLastBelow (HasJump nodes to) m.bound) is m.last in record {
       bound = source;
       last = last;
@@ -199,9 +199,9 @@ HasFollowed-next nodes to source next before f s g t h u is last m x =
     }
 
 -- all are followed
-pub HasFollowed-end : (nodes : List Node) (to : ℕ) (next : Option ℕ) (f : List Bool) (s : List ℕ) (g : List Bool) (t : List ℕ)
-    → None ≡ next → HasFollowed nodes to next f s g t → Extends (ComesFrom nodes to) f s g t
-HasFollowed-end nodes to next f s g t over m =
+pub HasFollowedJumps-end : (nodes : List Node) (to : ℕ) (next : Option ℕ) (f : List Bool) (s : List ℕ) (g : List Bool) (t : List ℕ)
+    → None ≡ next → HasFollowedJumps nodes to next f s g t → Extends (ComesFrom nodes to) f s g t
+HasFollowedJumps-end nodes to next f s g t over m =
     let none : IsLastBelow (HasJump nodes to) m.bound None = subst (IsLastBelow (HasJump nodes to) m.bound) (sym over) m.last in
     Extends-same (ComesAbove nodes to m.bound) (ComesFrom nodes to) f s g t
     (λ k. (

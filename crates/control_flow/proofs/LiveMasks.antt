@@ -5,7 +5,7 @@ use Rattle.isa_model.specs.declared.registers.Reg.{Reg}
 use Rattle.isa_model.specs.Code.Instructions.{Program}
 use Rattle.control_flow.specs.declared.homes.HomeMask.{HomeMask}
 use Rattle.control_flow.specs.Liveness.{Home, InRegister, InSlot, IsLive, IsSlotLive, IsHomeLive}
-use Rattle.control_flow.specs.Masks.{Has, HasSlot, HasHome, mask_at}
+use Rattle.control_flow.specs.Masks.{HasRegister, HasSlot, HasHome, mask_at}
 use Rattle.control_flow.specs.Flows.{MarksLive}
 
 home_live : (p q : Program) (masks items : List HomeMask) (m : HomeMask) (slot : ℕ) → p ≡ q
@@ -17,7 +17,7 @@ home_live p q masks items m slot same list is live h =
 
 pub register_live : (p q : Program) (masks items : List HomeMask) (m : HomeMask) (slot : ℕ) → p ≡ q
     → masks ≡ items → m ≡ mask_at masks slot → MarksLive q items
-    → (r : Reg) → Has m.registers r ↔ IsLive p r slot
+    → (r : Reg) → HasRegister m.registers r ↔ IsLive p r slot
 register_live p q masks items m slot same list is live r = home_live p q masks items m slot same list is live (InRegister r)
 
 pub slot_live : (p q : Program) (masks items : List HomeMask) (m : HomeMask) (slot : ℕ) → p ≡ q

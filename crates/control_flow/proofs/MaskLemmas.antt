@@ -14,7 +14,7 @@ use Rattle.control_flow.specs.declared.masks.RegisterMask.{RegisterMask}
 use Rattle.control_flow.proofs.RegisterLaws.{number_below}
 use Rattle.control_flow.specs.declared.homes.HomeMask.{HomeMask}
 use Rattle.control_flow.specs.Liveness.{Home, InRegister, InSlot}
-use Rattle.control_flow.specs.Masks.{no_registers, Has, no_slots, HasSlot, no_homes, HasHome, mask_at}
+use Rattle.control_flow.specs.Masks.{no_registers, HasRegister, no_slots, HasSlot, no_homes, HasHome, mask_at}
 
 -- ---- one register more
 
@@ -29,7 +29,7 @@ with_bit old n k within = elim (cases_eq k n) [
 
 -- the mask with a register has it and those that it had
 pub with_has : (mask : RegisterMask) (register : Reg) (n : ℕ) → n ≡ reg_number register → (r : Reg)
-    → (bit_at (bit_or mask.bits (1 * 2 ^ n % 2 ^ 16)) (reg_number r) ≡ 1) ↔ (Has mask r ⊎ (r ≡ register))
+    → (bit_at (bit_or mask.bits (1 * 2 ^ n % 2 ^ 16)) (reg_number r) ≡ 1) ↔ (HasRegister mask r ⊎ (r ≡ register))
 with_has mask register n is r =
     let low = number_below register in
     let test = with_bit mask.bits n (reg_number r) (omega arith) in (
@@ -64,7 +64,7 @@ without_has a b i =
 
 -- ---- no register
 
-pub none_has : (r : Reg) → Has no_registers r → ⊥
+pub none_has : (r : Reg) → HasRegister no_registers r → ⊥
 none_has r h = let no_bit = bit_at-zero (reg_number r) in absurd cc
 
 pub no_slot : (j : ℕ) → HasSlot no_slots j → ⊥
@@ -122,14 +122,16 @@ some_has o n is within j =
 -- ---- registers and slots
 
 pub both_or : (a b m : HomeMask)
-    → ((r : Reg) → Has m.registers r ↔ (Has a.registers r ⊎ Has b.registers r))
+    → ((r : Reg) → HasRegister m.registers r
+    ↔ (HasRegister a.registers r ⊎ HasRegister b.registers r))
     → ((j : ℕ) → HasSlot m.slots j ↔ (HasSlot a.slots j ⊎ HasSlot b.slots j)) → (h : Home)
     → HasHome m h ↔ (HasHome a h ⊎ HasHome b h)
 both_or a b m rs js (InRegister r) = rs r
 both_or a b m rs js (InSlot j) = js j
 
 pub both_without : (a b m : HomeMask)
-    → ((r : Reg) → Has m.registers r ↔ (Has a.registers r × (Has b.registers r → ⊥)))
+    → ((r : Reg) → HasRegister m.registers r
+    ↔ (HasRegister a.registers r × (HasRegister b.registers r → ⊥)))
     → ((j : ℕ) → HasSlot m.slots j ↔ (HasSlot a.slots j × (HasSlot b.slots j → ⊥))) → (h : Home)
     → HasHome m h ↔ (HasHome a h × (HasHome b h → ⊥))
 both_without a b m rs js (InRegister r) = rs r

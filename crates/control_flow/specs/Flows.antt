@@ -81,7 +81,7 @@ MarksJoins p marks = (slot : ℕ) → IsMarked marks slot ↔ IsJoin p slot
 abbrev pub MarksLive : Program → List HomeMask → Type 0
 MarksLive p masks = (h : Home) (slot : ℕ) → HasHome (mask_at masks slot) h ↔ IsHomeLive p h slot
 
-pub record IsKnown (p : Program) (joins : List Bool) (masks : List HomeMask) : Type 0 where
+pub record DescribesFlow (p : Program) (joins : List Bool) (masks : List HomeMask) : Type 0 where
   pub flow : IsFlow p
   pub marked : MarksJoins p joins
   pub live : MarksLive p masks

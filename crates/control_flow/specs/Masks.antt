@@ -12,8 +12,8 @@ abbrev pub no_registers : RegisterMask
 no_registers = record { bits = 0 }
 
 -- the register is one of the set
-abbrev pub Has : RegisterMask → Reg → Type 0
-Has mask r = bit_at mask.bits (reg_number r) ≡ 1
+abbrev pub HasRegister : RegisterMask → Reg → Type 0
+HasRegister mask r = bit_at mask.bits (reg_number r) ≡ 1
 
 abbrev pub no_slots : SlotMask
 no_slots = record { bits = 0 }
@@ -29,7 +29,7 @@ abbrev pub no_homes : HomeMask
 no_homes = record { registers = no_registers; slots = no_slots }
 
 abbrev pub HasHome : HomeMask → Home → Type 0
-HasHome mask (InRegister r) = Has mask.registers r
+HasHome mask (InRegister r) = HasRegister mask.registers r
 HasHome mask (InSlot j) = HasSlot mask.slots j
 
 -- the mask of a slot of the code

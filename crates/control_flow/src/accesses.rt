@@ -5,14 +5,14 @@ ghost use Rattle.isa_model.specs.declared.registers.Reg.{Reg as TheReg};
 ghost use Rattle.isa_model.specs.declared.registers.Reg.TheVariants.{R1, R2, R3, R4, R5};
 ghost use Rattle.isa_model.specs.MustAccept.Paths.{IsOneOf};
 ghost use Rattle.control_flow.specs.Accesses.{read_registers, written_registers};
-ghost use Rattle.control_flow.specs.Masks.{Has};
+ghost use Rattle.control_flow.specs.Masks.{HasRegister};
 
 use crate::masks::RegisterMask;
 use isa_model::{Insn, Reg};
 
 /// The registers that a call hands over.
 fn arguments() -> RegisterMask
-    ensures { (r : TheReg) → Has result r ↔ IsOneOf (R1 ∷ R2 ∷ R3 ∷ R4 ∷ R5 ∷ []) r }
+    ensures { (r : TheReg) → HasRegister result r ↔ IsOneOf (R1 ∷ R2 ∷ R3 ∷ R4 ∷ R5 ∷ []) r }
 {
     RegisterMask::none()
         .with(Reg::R1)
@@ -24,7 +24,7 @@ fn arguments() -> RegisterMask
 
 /// These registers, and one more if there is one.
 fn with_found(mask: RegisterMask, found: Option<Reg>) -> RegisterMask
-    ensures { (r : TheReg) → Has result r ↔ (Has mask r ⊎ (found ≡ Some r)) }
+    ensures { (r : TheReg) → HasRegister result r ↔ (HasRegister mask r ⊎ (found ≡ Some r)) }
 {
     match found {
         Some(register) => mask.with(register),
@@ -34,7 +34,7 @@ fn with_found(mask: RegisterMask, found: Option<Reg>) -> RegisterMask
 
 /// The registers that an instruction reads.
 pub fn registers_read(insn: &Insn) -> RegisterMask
-    ensures { (r : TheReg) → Has result r ↔ IsOneOf (read_registers insn.now) r }
+    ensures { (r : TheReg) → HasRegister result r ↔ IsOneOf (read_registers insn.now) r }
 {
     match insn {
         Insn::Exit => RegisterMask::none().with(Reg::R0),
@@ -49,7 +49,7 @@ pub fn registers_read(insn: &Insn) -> RegisterMask
 
 /// The registers that have another value after an instruction.
 pub fn registers_written(insn: &Insn) -> RegisterMask
-    ensures { (r : TheReg) → Has result r ↔ IsOneOf (written_registers insn.now) r }
+    ensures { (r : TheReg) → HasRegister result r ↔ IsOneOf (written_registers insn.now) r }
 {
     match insn {
         Insn::CallHelper(_) | Insn::CallLocal(_) => arguments().with(Reg::R0),

@@ -4,7 +4,7 @@ ghost use Rattle.std.specs.Prelude.{◌≡◌, ◌↔◌, ℕ, IsTrue, IfOk, IfE
 ghost use Rattle.isa_model.specs.declared.registers.Reg.{Reg as TheReg};
 ghost use Rattle.control_flow.specs.Flows.{IsFlow, IsJoin, IsRefusal};
 ghost use Rattle.control_flow.specs.Liveness.{IsLive, IsSlotLive};
-ghost use Rattle.control_flow.specs.Masks.{Has, HasSlot};
+ghost use Rattle.control_flow.specs.Masks.{HasRegister, HasSlot};
 
 use crate::errors::FlowError;
 use crate::functions::{first_falling_off, first_leaving, functions_of};
@@ -32,13 +32,13 @@ pub struct Flow<'a> {
 
 impl<'a> Model for Flow<'a> {
     ghost use Rattle.isa_model.specs.Code.Instructions.{Program};
-    ghost use Rattle.control_flow.specs.Flows.{IsKnown};
+    ghost use Rattle.control_flow.specs.Flows.{DescribesFlow};
 
     ghost Value = { Program };
 
     ghost view = { λ flow. flow.image.now };
 
-    ghost invariant = { λ flow. IsKnown flow.image.now flow.joins.items flow.live.items };
+    ghost invariant = { λ flow. DescribesFlow flow.image.now flow.joins.items flow.live.items };
 }
 
 /// Runs the tests in their order; each is run over the whole code.
@@ -103,7 +103,7 @@ impl<'a> Flow<'a> {
     /// The registers whose values may still be read from this slot on: some path of jumps and
     /// fall-throughs reads them before it writes them. A verifier may forget the other ones.
     pub fn live(&self, slot: usize) -> RegisterMask
-        ensures { (r : TheReg) → Has result r ↔ IsLive self.now r slot }
+        ensures { (r : TheReg) → HasRegister result r ↔ IsLive self.now r slot }
     {
         mask_of(&self.live, slot).registers
     }

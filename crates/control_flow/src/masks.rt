@@ -12,7 +12,7 @@ pub struct RegisterMask {
 }
 
 impl RegisterMask {
-    ghost use Rattle.control_flow.specs.Masks.{Has, no_registers};
+    ghost use Rattle.control_flow.specs.Masks.{HasRegister, no_registers};
 
     /// No register.
     pub fn none() -> Self
@@ -23,14 +23,14 @@ impl RegisterMask {
 
     /// Whether a register is one of them.
     pub fn has(self, register: Reg) -> bool
-        ensures { IsTrue result ↔ Has self register }
+        ensures { IsTrue result ↔ HasRegister self register }
     {
         (self.bits >> register.number()) & 1 == 1
     }
 
     /// These and one more.
     pub fn with(self, register: Reg) -> Self
-        ensures { (r : TheReg) → Has result r ↔ (Has self r ⊎ (r ≡ register)) }
+        ensures { (r : TheReg) → HasRegister result r ↔ (HasRegister self r ⊎ (r ≡ register)) }
     {
         RegisterMask {
             bits: self.bits | (1 << register.number()),
@@ -39,7 +39,8 @@ impl RegisterMask {
 
     /// These and the others.
     pub(crate) fn or(self, other: Self) -> Self
-        ensures all { (r : TheReg) → Has result r ↔ (Has self r ⊎ Has other r) }
+        ensures all { (r : TheReg) → HasRegister result r
+            ↔ (HasRegister self r ⊎ HasRegister other r) }
         ensures grown { self.bits ≤ result.bits }
     {
         RegisterMask {
@@ -49,7 +50,8 @@ impl RegisterMask {
 
     /// These without the others.
     pub(crate) fn without(self, other: Self) -> Self
-        ensures { (r : TheReg) → Has result r ↔ (Has self r × (¬ Has other r)) }
+        ensures { (r : TheReg) → HasRegister result r
+            ↔ (HasRegister self r × (¬ HasRegister other r)) }
     {
         RegisterMask {
             bits: self.bits & (self.bits ^ other.bits),

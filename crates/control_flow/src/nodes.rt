@@ -3,7 +3,7 @@
 ghost use Rattle.std.specs.Prelude.{◌≡◌, ◌<◌, ◌^◌, ℕ, ◌↔◌, false, IsTrue, IfOk, MatchOption};
 ghost use Rattle.isa_model.specs.declared.registers.Reg.{Reg as TheReg};
 ghost use Rattle.control_flow.specs.Liveness.{InRegister, ReadsHome};
-ghost use Rattle.control_flow.specs.Masks.{Has};
+ghost use Rattle.control_flow.specs.Masks.{HasRegister};
 ghost use Rattle.control_flow.specs.Nodes.{IsNode, AreNodes};
 ghost use Rattle.control_flow.specs.StackUse.{FrameAddressIsTaken};
 
@@ -28,7 +28,7 @@ fn node_of(image: &Image, slot: usize, handed_on: bool) -> Node
     requires { slot < 2 ^ 63 }
     ensures node { (IsTrue handed_on ↔ FrameAddressIsTaken image.now)
         → IsNode image.now slot result }
-    ensures registers { (r : TheReg) → Has result.reads.registers r
+    ensures registers { (r : TheReg) → HasRegister result.reads.registers r
         ↔ ReadsHome image.now (InRegister r) slot }
 {
     let falls_to = fall_target(image, slot);

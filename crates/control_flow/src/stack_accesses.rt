@@ -7,7 +7,7 @@ ghost use Rattle.isa_model.specs.MustAccept.Paths.{IsOneOf};
 ghost use Rattle.control_flow.specs.Accesses.{read_registers};
 ghost use Rattle.control_flow.specs.StackUse.{IsByte, IsWithinSlot, IsWholeSlot, ReadsSlot, WritesSlot, TakesFrameAddress, HandsOnAt};
 ghost use Rattle.control_flow.specs.Liveness.{Home, InRegister, ReadsHome, IsReadBy, IsWrittenBy};
-ghost use Rattle.control_flow.specs.Masks.{Has, HasSlot, HasHome};
+ghost use Rattle.control_flow.specs.Masks.{HasRegister, HasSlot, HasHome};
 
 use crate::accesses::{registers_read, registers_written};
 use crate::homes::HomeMask;
@@ -80,7 +80,7 @@ fn slot_written(insn: &Insn) -> Option<u8>
 /// Whether an instruction takes r10 for more than the base of a load or a store, by the registers
 /// that it reads.
 fn hands_on(insn: &Insn, read: RegisterMask) -> bool
-    requires { Has read TheReg.R10 ↔ IsOneOf (read_registers insn.now) TheReg.R10 }
+    requires { HasRegister read TheReg.R10 ↔ IsOneOf (read_registers insn.now) TheReg.R10 }
     ensures { IsTrue result ↔ TakesFrameAddress insn.now }
 {
     match insn {
@@ -92,7 +92,7 @@ fn hands_on(insn: &Insn, read: RegisterMask) -> bool
 
 /// The same of the instruction at a slot of the code, which reads these registers.
 pub fn hands_on_at(image: &Image, slot: usize, read: RegisterMask) -> bool
-    requires { Has read TheReg.R10 ↔ ReadsHome image.now (InRegister TheReg.R10) slot }
+    requires { HasRegister read TheReg.R10 ↔ ReadsHome image.now (InRegister TheReg.R10) slot }
     ensures { IsTrue result ↔ HandsOnAt image.now slot }
 {
     if !read.has(Reg::R10) {

@@ -9,7 +9,7 @@ use Rattle.stack_state.specs.declared.states.State.{State}
 use Rattle.transfer.specs.declared.Ways.{Ways}
 use Rattle.transfer.specs.declared.Ways.TheVariants as ways
 use Rattle.table_entries.specs.Entries.{Entry}
-use Rattle.table_entries.specs.Tables.{Kept, KeepsEntries, entry_at, table_read}
+use Rattle.table_entries.specs.Tables.{TableView, KeepsEntries, entry_at, table_read}
 use Rattle.rechecking.specs.declared.errors.TableError.{TableError}
 use Rattle.rechecking.specs.Tables.{EntryAt}
 use Rattle.explanations.specs.declared.entries.EntryReason.{EntryReason}
@@ -83,7 +83,7 @@ tells_second t number i j named w a b (Some s) at count is =
 -- ---- tables
 
 -- what is said by way of a table that is kept is said of its entries
-pub reasons_of : (p : Program) (bytes : List ℕ) (t : Kept) (entries : List Entry) (error : TableError) (r : Option EntryReason) → table_read p bytes ≡ Ok entries → KeepsEntries p t entries
+pub reasons_of : (p : Program) (bytes : List ℕ) (t : TableView) (entries : List Entry) (error : TableError) (r : Option EntryReason) → table_read p bytes ≡ Ok entries → KeepsEntries p t entries
     → IfSome r (λ f. IsReasonAt p (entry_at p t) error f.slot f.insn (string_bytes f.text)) → IfSome r (λ f. IsEntryReason p bytes error f.slot f.insn (string_bytes f.text))
 reasons_of p bytes t entries error None read holds is = tt
 reasons_of p bytes t entries error (Some f) read holds is =

@@ -8,7 +8,7 @@ use Rattle.stack_state.specs.declared.states.State.{State}
 use Rattle.stack_state.specs.Meaning.{Means, Within}
 use Rattle.transfer.specs.declared.Ways.TheVariants as ways
 use Rattle.transfer.specs.Leading.{LeadsTo}
-use Rattle.explorer.specs.declared.stored_states.Stored.{Stored}
+use Rattle.explorer.specs.declared.stored_states.StoredState.{StoredState}
 use Rattle.explorer.specs.declared.trail.Visit.{Visit}
 use Rattle.walks.specs.Counts.{StepsInto, HasNumber, LeadsToOne, LeadsToTwo}
 use Rattle.explorer.specs.Search.{MeantBy, StepsCovered, NumberFollowsBoth, NumberFollows, Waiting, Path}
@@ -16,28 +16,28 @@ use Rattle.explorer.proofs.Stores.{KeepsPlaces, KeepsPlaces-at}
 
 -- ---- paths
 
-Waiting-more : (p : Program) (m n : ℕ) (old new : List Stored) (visit : Visit) (s child : State) → m ≤ n → KeepsPlaces old new → Waiting p m old visit s child → Waiting p n new visit s child
+Waiting-more : (p : Program) (m n : ℕ) (old new : List StoredState) (visit : Visit) (s child : State) → m ≤ n → KeepsPlaces old new → Waiting p m old visit s child → Waiting p n new visit s child
 Waiting-more p m n old new visit s child le kept h =
     record { waits = h.waits; awaits = h.awaits; steps = h.steps; steps_aside = h.steps_aside; best = omega (arith, h.best); stored = KeepsPlaces-at old new visit.stored s kept h.stored; ready = h.ready }
 
-pub Path-more : (p : Program) (m n : ℕ) (old new : List Stored) → m ≤ n → KeepsPlaces old new → (path : List Visit) (a b : State) → Path p m old a path b → Path p n new a path b
+pub Path-more : (p : Program) (m n : ℕ) (old new : List StoredState) → m ≤ n → KeepsPlaces old new → (path : List Visit) (a b : State) → Path p m old a path b → Path p n new a path b
 unfolding Path
 Path-more p m n old new le kept [] a b h = h
 Path-more p m n old new le kept (visit ∷ path) a b h =
     (h.0, Waiting-more p m n old new visit a h.0 le kept h.1, Path-more p m n old new le kept path h.0 b h.2)
 
-pub Path-push : (p : Program) (m : ℕ) (entries : List Stored) (path : List Visit) (visit : Visit) (a s child : State) → Path p m entries a path s → Waiting p m entries visit s child → Path p m entries a (path ++ visit ∷ []) child
+pub Path-push : (p : Program) (m : ℕ) (entries : List StoredState) (path : List Visit) (visit : Visit) (a s child : State) → Path p m entries a path s → Waiting p m entries visit s child → Path p m entries a (path ++ visit ∷ []) child
 unfolding Path
 Path-push p m entries [] visit a s child h waiting = (child, subst (λ x. Waiting p m entries visit x child) h waiting, refl)
 Path-push p m entries (first ∷ path) visit a s child h waiting = (h.0, h.1, Path-push p m entries path visit h.0 s child h.2 waiting)
 
 -- the last visit of a path
-pub record Last (p : Program) (m : ℕ) (entries : List Stored) (a : State) (path : List Visit) (visit : Visit) (child : State) : Type 0 where
+pub record LastVisit (p : Program) (m : ℕ) (entries : List StoredState) (a : State) (path : List Visit) (visit : Visit) (child : State) : Type 0 where
   pub state : State
   pub before : Path p m entries a path state
   pub waiting : Waiting p m entries visit state child
 
-pub Path-pop : (p : Program) (m : ℕ) (entries : List Stored) (path : List Visit) (visit : Visit) (a child : State) → Path p m entries a (path ++ visit ∷ []) child → Last p m entries a path visit child
+pub Path-pop : (p : Program) (m : ℕ) (entries : List StoredState) (path : List Visit) (visit : Visit) (a child : State) → Path p m entries a (path ++ visit ∷ []) child → LastVisit p m entries a path visit child
 unfolding Path
 Path-pop p m entries [] visit a child h =
     record { state = a; before = refl; waiting = subst (λ x. Waiting p m entries visit a x) (sym h.2) h.1 }
@@ -45,12 +45,12 @@ Path-pop p m entries (first ∷ path) visit a child h =
     let rest = Path-pop p m entries path visit h.0 child h.2 in
     record { state = rest.state; before = (h.0, h.1, rest.before); waiting = rest.waiting }
 
-pub Path-none : (p : Program) (m : ℕ) (entries : List Stored) (path : List Visit) (a b : State) → length path ≡ 0 → Path p m entries a path b → b ≡ a
+pub Path-none : (p : Program) (m : ℕ) (entries : List StoredState) (path : List Visit) (a b : State) → length path ≡ 0 → Path p m entries a path b → b ≡ a
 unfolding Path
 Path-none p m entries [] a b none h = h
 Path-none p m entries (visit ∷ path) a b none h = absurd (omega arith)
 
-pub Path-here : (p : Program) (m : ℕ) (entries : List Stored) (path : List Visit) (a b : State) → path ≡ [] → b ≡ a → Path p m entries a path b
+pub Path-here : (p : Program) (m : ℕ) (entries : List StoredState) (path : List Visit) (a b : State) → path ≡ [] → b ≡ a → Path p m entries a path b
 unfolding Path
 Path-here p m entries path a b none e = subst (λ x. Path p m entries a x b) (sym none) e
 

@@ -23,7 +23,7 @@ use Rattle.transfer.specs.declared.Ways.TheVariants as ways
 use Rattle.transfer.specs.Leading.{LeadsTo, EachWay}
 use Rattle.transfer.specs.Following.{returns_of, GoesOnTo}
 use Rattle.transfer.specs.Exact.{StepsToWays}
-use Rattle.explorer.specs.declared.stored_states.Stored.{Stored}
+use Rattle.explorer.specs.declared.stored_states.StoredState.{StoredState}
 use Rattle.explorer.specs.declared.trail.Visit.{Visit}
 use Rattle.explorer.specs.declared.search.Search.{Search}
 use Rattle.explorer.specs.Trail.{Visits}
@@ -39,7 +39,7 @@ use Rattle.explorer.proofs.Counting.{Spends-one, Spends-two, spent_here, spent_i
 use Rattle.walks.specs.Counts.{StepsInto, LeadsNowhere, Nothing}
 use Rattle.explorer.proofs.Stores.{AllSettled-more, IsCovered-known, Arrives-keeps, Arrives-fine, Arrives-stored, GetsNumber-fine, GetsNumber-keeps}
 use Rattle.explorer.proofs.Unfinished.{OnPath-same, OnPath-push, OnPath-pop, OnPath-arrives, OnPath-finish}
-use Rattle.explorer.proofs.Paths.{Last, Path-more, Path-push, Path-pop, StepsCovered-ends, StepsCovered-next, LeadsTo-ends, StepsCovered-one, StepsCovered-two, NumberFollows-ends, NumberFollows-next, NumberFollows-one, NumberFollows-two}
+use Rattle.explorer.proofs.Paths.{LastVisit, Path-more, Path-push, Path-pop, StepsCovered-ends, StepsCovered-next, LeadsTo-ends, StepsCovered-one, StepsCovered-two, NumberFollows-ends, NumberFollows-next, NumberFollows-one, NumberFollows-two}
 
 -- ---- an arrival
 
@@ -88,7 +88,7 @@ comes_to p old states scratch (Finished n) h arrives = absurd arrives
 -- ---- a visit that ends
 
 -- the number is written, and the search is at the state before
-pub record IsBack (p : Program) (m : ℕ) (entries : List Stored) (a : State) (path : List Visit) (number : ℕ) : Type 0 where
+pub record IsBack (p : Program) (m : ℕ) (entries : List StoredState) (a : State) (path : List Visit) (number : ℕ) : Type 0 where
   pub state : State
   pub fine : AllSettled p m entries
   pub before : Path p m entries a path state
@@ -96,8 +96,8 @@ pub record IsBack (p : Program) (m : ℕ) (entries : List Stored) (a : State) (p
   pub within : Settles p state number
   pub most : number ≤ m
 
-pub step_back : (p : Program) (m : ℕ) (old new : List Stored) (a : State) (path : List Visit) (visit : Visit) (child : State) (n best : ℕ)
-    → Forgets p start a → AllSettled p m old → Last p m old a path visit child → OnPath old path visit.stored → Settles p child n → n ≤ m → visit.pending ≡ None → best ≡ max visit.best n
+pub step_back : (p : Program) (m : ℕ) (old new : List StoredState) (a : State) (path : List Visit) (visit : Visit) (child : State) (n best : ℕ)
+    → Forgets p start a → AllSettled p m old → LastVisit p m old a path visit child → OnPath old path visit.stored → Settles p child n → n ≤ m → visit.pending ≡ None → best ≡ max visit.best n
     → GetsNumber old visit.stored (best + 1) new → IsBack p (m + 1) new a path (best + 1)
 step_back p m old new a path visit child n best root fine last on_path within le nothing is numbered =
     let s = last.state in
@@ -121,8 +121,9 @@ step_back p m old new a path visit child n best root fine last on_path within le
 -- ---- a visit that goes on
 
 -- the path to the pending state, once the child has its number
-step_aside : (p : Program) (m : ℕ) (entries : List Stored) (a : State) (path : List Visit) (visit : Visit) (child : State) (n : ℕ) (current : State)
-    → Last p m entries a path visit child → Settles p child n → n ≤ m → visit.pending ≡ Some current
+step_aside : (p : Program) (m : ℕ) (entries : List StoredState) (a : State) (path : List Visit) (visit : Visit) (child : State) (n : ℕ) (current : State)
+    → LastVisit p m entries a path visit child → Settles p child n → n ≤ m
+    → visit.pending ≡ Some current
     → Path p m entries a (path ++ record { pending = None; best = max visit.best n; stored = visit.stored } ∷ []) current
 step_aside p m entries a path visit child n current last within le is =
     let s = last.state in
@@ -186,12 +187,12 @@ pub fetched : (p : Program) (s : State) → IsAtInsns p s → (i : Insn) × (fet
 fetched p s ready = some_there (fetch p s.slot) ready.begins
 
 -- the instruction's state waits for the state after it
-pub record Entered (p : Program) (m : ℕ) (entries : List Stored) (visit : Visit) (s next : State) : Type 0 where
+pub record Entered (p : Program) (m : ℕ) (entries : List StoredState) (visit : Visit) (s next : State) : Type 0 where
   pub waiting : Waiting p m entries visit s next
   pub ready : IsAtInsns p next
   pub spends : Spends p visit s next 1
 
-pub one_way : (p q : Program) (m : ℕ) (entries : List Stored) (stored : Option ℕ) (s a b first : State) (w : Ways) (pending : Option State) → p ≡ q → IsFlow p → IsAtInsns p s → StoredAt entries stored s
+pub one_way : (p q : Program) (m : ℕ) (entries : List StoredState) (stored : Option ℕ) (s a b first : State) (w : Ways) (pending : Option State) → p ≡ q → IsFlow p → IsAtInsns p s → StoredAt entries stored s
     → LeadsTo q s w a b → ((i : Insn) → fetch q s.slot ≡ Some i → StepsToWays q s i w a b) → EachWay w a b (GoesOnTo q s) → Forgets p a first → w ≡ ways.One → pending ≡ None
     → Entered p m entries (record { pending = pending; best = 0; stored = stored }) s first
 one_way p q m entries stored s a b first w pending same flow ready at leads makes follows forgets is none =
@@ -205,7 +206,7 @@ one_way p q m entries stored s a b first w pending same flow ready at leads make
       spends = Spends-one p s first b stored into;
     })
 
-pub two_ways : (p q : Program) (m : ℕ) (entries : List Stored) (stored : Option ℕ) (s a b first other : State) (w : Ways) (pending : Option State) → p ≡ q → IsFlow p → IsAtInsns p s → StoredAt entries stored s
+pub two_ways : (p q : Program) (m : ℕ) (entries : List StoredState) (stored : Option ℕ) (s a b first other : State) (w : Ways) (pending : Option State) → p ≡ q → IsFlow p → IsAtInsns p s → StoredAt entries stored s
     → LeadsTo q s w a b → ((i : Insn) → fetch q s.slot ≡ Some i → StepsToWays q s i w a b) → EachWay w a b (GoesOnTo q s) → Forgets p a first → Forgets p b other → w ≡ ways.Two → pending ≡ Some other
     → Entered p m entries (record { pending = pending; best = 0; stored = stored }) s first
 two_ways p q m entries stored s a b first other w pending same flow ready at leads makes follows forgets aside is some =
@@ -252,7 +253,7 @@ comes_into p old x stored pending whole a o first is at entered pushed =
     })
 
 -- nothing goes on, and the number 1 is written
-pub step_ends : (p q : Program) (m : ℕ) (old new : List Stored) (a : State) (path : List Visit) (stored : Option ℕ) (s x y : State) (w : Ways) → Forgets p start a → p ≡ q → AllSettled p m old → Path p m old a path s → StoredAt old stored s
+pub step_ends : (p q : Program) (m : ℕ) (old new : List StoredState) (a : State) (path : List Visit) (stored : Option ℕ) (s x y : State) (w : Ways) → Forgets p start a → p ≡ q → AllSettled p m old → Path p m old a path s → StoredAt old stored s
     → OnPath old path stored → LeadsTo q s w x y → StepsInto p s ways.None x y → w ≡ ways.None → GetsNumber old stored 1 new → IsBack p (m + 1) new a path 1
 step_ends p q m old new a path stored s x y w root same fine before at on_path leads into is numbered =
     let within : Settles p s 1 = record {
@@ -271,7 +272,7 @@ step_ends p q m old new a path stored s x y w root same fine before at on_path l
 
 -- ---- the start
 
-pub empty_fine : (p : Program) (m : ℕ) (entries : List Stored) → entries ≡ [] → AllSettled p m entries
+pub empty_fine : (p : Program) (m : ℕ) (entries : List StoredState) → entries ≡ [] → AllSettled p m entries
 unfolding AllSettled
 empty_fine p m entries e = subst (λ x. AllSettled p m x) (sym e) (λ k d h. absurd (omega arith))
 

@@ -4,7 +4,7 @@ use Rattle.std.proofs.lemmas.Option.{slice_get_within}
 use Rattle.std.proofs.lemmas.List.{map-append, map-set, length-map}
 use Rattle.isa_model.specs.Code.Instructions.{Program}
 use Rattle.stack_state.specs.declared.states.State.{State}
-use Rattle.explorer.specs.declared.stored_states.Stored.{Stored}
+use Rattle.explorer.specs.declared.stored_states.StoredState.{StoredState}
 use Rattle.explorer.specs.declared.trail.Visit.{Visit}
 use Rattle.explorer.specs.declared.moves.Move.TheVariants.{New}
 use Rattle.explorer.specs.StoredStates.{StoredAt, GetsNumber}
@@ -63,40 +63,40 @@ places_of-push (first ∷ path) visit =
 
 -- ---- the path
 
-pub OnPath-start : (entries : List Stored) (path : List Visit) → entries ≡ [] → path ≡ [] → OnPath entries path None
+pub OnPath-start : (entries : List StoredState) (path : List Visit) → entries ≡ [] → path ≡ [] → OnPath entries path None
 unfolding OnPath
 OnPath-start entries path none empty = subst (λ x. unfinished x ≡ places_of path) (sym none) (subst (λ x. [] ≡ places_of x) (sym empty) refl)
 
-pub OnPath-same : (old new : List Stored) (path : List Visit) (stored : Option ℕ) → new ≡ old → OnPath old path stored → OnPath new path stored
+pub OnPath-same : (old new : List StoredState) (path : List Visit) (stored : Option ℕ) → new ≡ old → OnPath old path stored → OnPath new path stored
 OnPath-same old new path stored e h = subst (λ x. OnPath x path stored) (sym e) h
 
-pub OnPath-push : (entries : List Stored) (path whole : List Visit) (visit : Visit) → whole ≡ path ++ visit ∷ [] → OnPath entries path visit.stored → OnPath entries whole None
+pub OnPath-push : (entries : List StoredState) (path whole : List Visit) (visit : Visit) → whole ≡ path ++ visit ∷ [] → OnPath entries path visit.stored → OnPath entries whole None
 unfolding OnPath
 OnPath-push entries path whole visit e h = h ∙ sym (ap places_of e ∙ places_of-push path visit)
 
-pub OnPath-pop : (entries : List Stored) (path whole : List Visit) (visit : Visit) → whole ≡ path ++ visit ∷ [] → OnPath entries whole None → OnPath entries path visit.stored
+pub OnPath-pop : (entries : List StoredState) (path whole : List Visit) (visit : Visit) → whole ≡ path ++ visit ∷ [] → OnPath entries whole None → OnPath entries path visit.stored
 unfolding OnPath
 OnPath-pop entries path whole visit e h = h ∙ (ap places_of e ∙ places_of-push path visit)
 
 -- a state that was met is stored after all others
-pub OnPath-arrives : (p : Program) (old new : List Stored) (path : List Visit) (s : State) (at : Option ℕ) → Arrives p old s (New at) new → OnPath old path None → OnPath new path at
+pub OnPath-arrives : (p : Program) (old new : List StoredState) (path : List Visit) (s : State) (at : Option ℕ) → Arrives p old s (New at) new → OnPath old path None → OnPath new path at
 unfolding OnPath
 OnPath-arrives p old new path s None h on = ap unfinished h ∙ on
 OnPath-arrives p old new path s (Some k) h on =
-    let e : Stored = record { state = s; number = 0 } in
-    let f : Stored → ℕ = λ x. x.number in
+    let e : StoredState = record { state = s; number = 0 } in
+    let f : StoredState → ℕ = λ x. x.number in
     let count : k ≡ 0 + length (map f old) = omega (arith, h.1, length-map old f) in
     ap unfinished h.2 ∙ (ap (zeros_from 0) (map-append f old (e ∷ [])) ∙ (zeros_from-push 0 (map f old) k count ∙ ap (λ xs. xs ++ k ∷ []) on))
 
 -- the last state gets its number
-pub OnPath-finish : (old new : List Stored) (path : List Visit) (stored : Option ℕ) (s : State) (n : ℕ)
+pub OnPath-finish : (old new : List StoredState) (path : List Visit) (stored : Option ℕ) (s : State) (n : ℕ)
     → GetsNumber old stored n new → StoredAt old stored s → 0 < n → OnPath old path stored → OnPath new path None
 unfolding OnPath
 OnPath-finish old new path None s n h at some on = ap unfinished h ∙ on
 OnPath-finish old new path (Some i) s zero h at some on = absurd (omega arith)
 OnPath-finish old new path (Some i) s (suc n) h at some on =
-    let e : Stored = record { state = s; number = suc n } in
-    let before : Stored = record { state = s; number = at.0 } in
-    let f : Stored → ℕ = λ x. x.number in
+    let e : StoredState = record { state = s; number = suc n } in
+    let before : StoredState = record { state = s; number = at.0 } in
+    let f : StoredState → ℕ = λ x. x.number in
     let within : i < length (map f old) = omega (arith, slice_get_within old i before at.1, length-map old f) in
     ap unfinished (h s at) ∙ (ap (zeros_from 0) (map-set f old i e) ∙ zeros_from-set 0 (map f old) (places_of path) i i n (omega arith) within on)

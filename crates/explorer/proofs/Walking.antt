@@ -11,7 +11,7 @@ use Rattle.transfer.specs.declared.Ways.{Ways}
 use Rattle.transfer.specs.Exact.{StepsToWays}
 use Rattle.walks.specs.declared.refusals.Refusal.{Refusal}
 use Rattle.walks.specs.declared.refusals.Refusal.TheVariants.{Flow, Step, Repeats, TooLong, Memory}
-use Rattle.explorer.specs.declared.stored_states.Stored.{Stored}
+use Rattle.explorer.specs.declared.stored_states.StoredState.{StoredState}
 use Rattle.explorer.specs.declared.trail.Visit.{Visit}
 use Rattle.walks.specs.Walks.{IsAmong, StepsTo, HasPath, WalksTo}
 use Rattle.walks.specs.Forgetting.{Forgets}
@@ -53,13 +53,13 @@ pub WalksTo-start : (p : Program) (first : State) → Forgets p start first → 
 unfolding HasPath
 WalksTo-start p first begins = record { first = first; begins = begins; leads = refl }
 
-pub Path-leads : (p : Program) (m : ℕ) (entries : List Stored) (path : List Visit) (a b : State) → Path p m entries a path b → HasPath p (length path) a b
+pub Path-leads : (p : Program) (m : ℕ) (entries : List StoredState) (path : List Visit) (a b : State) → Path p m entries a path b → HasPath p (length path) a b
 unfolding Path HasPath
 Path-leads p m entries [] a b h = h
 Path-leads p m entries (visit ∷ path) a b h = (h.0, h.1.steps, Path-leads p m entries path h.0 b h.2)
 
 -- and comes from the start
-pub Path-walks : (p : Program) (m : ℕ) (entries : List Stored) (path : List Visit) (a b : State) → Forgets p start a → Path p m entries a path b → WalksTo p (length path) b
+pub Path-walks : (p : Program) (m : ℕ) (entries : List StoredState) (path : List Visit) (a b : State) → Forgets p start a → Path p m entries a path b → WalksTo p (length path) b
 Path-walks p m entries path a b begins h = record { first = a; begins = begins; leads = Path-leads p m entries path a b h }
 
 -- ---- places
@@ -81,10 +81,10 @@ in_first (Some i) k xs (inl e) = inl (ap Some (sym e))
 in_first (Some i) k xs (inr h) = inr h
 
 -- two states that are stored at one place are one
-same_stored : (entries : List Stored) (k n : ℕ) (s t : State) → StoredAt entries (Some k) s → slice_get entries k ≡ Some (record { state = t; number = n }) → t ≡ s
+same_stored : (entries : List StoredState) (k n : ℕ) (s t : State) → StoredAt entries (Some k) s → slice_get entries k ≡ Some (record { state = t; number = n }) → t ≡ s
 same_stored entries k n s t at e =
-    let q : ◌≡◌ {A = Stored} (record { state = t; number = n }) (record { state = s; number = at.0 }) = cc (e, at.1) in
-    ap (λ (x : Stored). x.state) q
+    let q : ◌≡◌ {A = StoredState} (record { state = t; number = n }) (record { state = s; number = at.0 }) = cc (e, at.1) in
+    ap (λ (x : StoredState). x.state) q
 
 -- a walk goes through the state
 record Through (p : Program) (a t b : State) : Type 0 where
@@ -101,7 +101,7 @@ one_more : (p : Program) (a c t b : State) → StepsTo p a c → Through p c t b
 unfolding HasPath
 one_more p a c t b step h = record { before = suc h.before; between = h.between; leads = (c, step, h.leads); leads_on = h.leads_on }
 
-through : (p : Program) (m : ℕ) (entries : List Stored) (path : List Visit) (a b : State) (k : ℕ) (t : State) → Path p m entries a path b → IsIn k (places_of path)
+through : (p : Program) (m : ℕ) (entries : List StoredState) (path : List Visit) (a b : State) (k : ℕ) (t : State) → Path p m entries a path b → IsIn k (places_of path)
     → slice_get entries k ≡ Some (record { state = t; number = 0 }) → Through p a t b
 unfolding Path HasPath
 through p m entries [] a b k t h member e = absurd member
@@ -117,14 +117,14 @@ through p m entries (visit ∷ path) a b k t h member e =
 
 -- ---- why a path is turned back
 
-unfinished_in : (entries : List Stored) (path : List Visit) (k : ℕ) (t : State) → OnPath entries path None → slice_get entries k ≡ Some (record { state = t; number = 0 }) → IsIn k (places_of path)
+unfinished_in : (entries : List StoredState) (path : List Visit) (k : ℕ) (t : State) → OnPath entries path None → slice_get entries k ≡ Some (record { state = t; number = 0 }) → IsIn k (places_of path)
 unfolding OnPath
 unfinished_in entries path k t on e =
-    let f : Stored → ℕ = λ x. x.number in
+    let f : StoredState → ℕ = λ x. x.number in
     let found : slice_get (map f entries) k ≡ Some 0 = slice_get-map f entries k ∙ ap (option_map f) e in
     subst (IsIn k) on (zeros_from-in 0 (map f entries) k k (omega arith) found)
 
-pub turned_back : (p : Program) (m : ℕ) (entries : List Stored) (path : List Visit) (a b : State) (e : Refusal) (slot : ℕ) → Forgets p start a → Path p m entries a path b → OnPath entries path None
+pub turned_back : (p : Program) (m : ℕ) (entries : List StoredState) (path : List Visit) (a b : State) (e : Refusal) (slot : ℕ) → Forgets p start a → Path p m entries a path b → OnPath entries path None
     → TurnsBack p entries b e slot → StopsAt p e slot
 turned_back p m entries path a b (Flow e) slot begins h on back = absurd back
 turned_back p m entries path a b (Step e) slot begins h on back = absurd back
@@ -147,7 +147,7 @@ turned_back p m entries path a b Repeats slot begins h on back =
 turned_back p m entries path a b TooLong slot begins h on back = absurd back
 turned_back p m entries path a b Memory slot begins h on back = back
 
-pub TurnsBack-at : (p : Program) (entries : List Stored) (s : State) (e : Refusal) (slot : ℕ) → TurnsBack p entries s e slot → ComesBackAt s e slot
+pub TurnsBack-at : (p : Program) (entries : List StoredState) (s : State) (e : Refusal) (slot : ℕ) → TurnsBack p entries s e slot → ComesBackAt s e slot
 TurnsBack-at p entries s (Flow e) slot h = absurd h
 TurnsBack-at p entries s (Step e) slot h = absurd h
 TurnsBack-at p entries s Repeats slot h = sym h.2

@@ -15,8 +15,8 @@ use Rattle.explorer.specs.declared.moves.Halt.{Halt}
 use Rattle.explorer.specs.declared.moves.Halt.TheVariants.{Refused, Stopped}
 use Rattle.explorer.specs.declared.moves.Move.{Move}
 use Rattle.explorer.specs.declared.moves.Move.TheVariants.{New, Covered, Finished}
-use Rattle.explorer.specs.declared.moves.Turn.{Turn}
-use Rattle.explorer.specs.declared.moves.Turn.TheVariants.{Explore, Done}
+use Rattle.explorer.specs.declared.moves.NextMove.{NextMove}
+use Rattle.explorer.specs.declared.moves.NextMove.TheVariants.{Explore, Done}
 
 -- a fact of the refusal, if the search ended with one
 abbrev pub IfRefused : {S : Type 0} → Halt S → (Refusal → ℕ → Type 0) → Type 0
@@ -166,7 +166,7 @@ HearsMove p tale path current (Covered k n) = HeardPath p tale path
 HearsMove p tale path current (Finished n) = HeardPath p tale path
 
 -- and where a state is to be explored
-abbrev pub FollowsTurn : Program → (List State → State → Type 0) → List Visit → State → Turn → Type 0
+abbrev pub FollowsTurn : Program → (List State → State → Type 0) → List Visit → State → NextMove → Type 0
 FollowsTurn p tale path current (Explore stored) = FollowsTo p tale path current
 FollowsTurn p tale path current (Done n) = Unit {0}
 

@@ -15,13 +15,13 @@ use Rattle.transfer.specs.Following.{returns_of}
 use Rattle.isa_model.specs.declared.limits.TheConstants.{MAX_EXPLORED}
 use Rattle.walks.specs.declared.refusals.Refusal.{Refusal}
 use Rattle.walks.specs.declared.refusals.Refusal.TheVariants.{Repeats, Memory}
-use Rattle.explorer.specs.declared.stored_states.Stored.{Stored}
+use Rattle.explorer.specs.declared.stored_states.StoredState.{StoredState}
 use Rattle.explorer.specs.declared.trail.Visit.{Visit}
 use Rattle.explorer.specs.declared.search.Search.{Search}
 use Rattle.explorer.specs.declared.moves.Move.{Move}
 use Rattle.explorer.specs.declared.moves.Move.TheVariants.{New, Covered, Finished}
-use Rattle.explorer.specs.declared.moves.Turn.{Turn}
-use Rattle.explorer.specs.declared.moves.Turn.TheVariants.{Explore, Done}
+use Rattle.explorer.specs.declared.moves.NextMove.{NextMove}
+use Rattle.explorer.specs.declared.moves.NextMove.TheVariants.{Explore, Done}
 use Rattle.walks.specs.Forgetting.{Forgets}
 use Rattle.walks.specs.Walks.{StepsTo, WalksTo}
 use Rattle.walks.specs.Counts.{HasNumber, Takes}
@@ -29,11 +29,11 @@ use Rattle.explorer.specs.StoredStates.{IsCovered, IsRepeated, StoredAt}
 
 -- ---- arriving at a state
 
-abbrev pub stored_too : List Stored → State → List Stored
+abbrev pub stored_too : List StoredState → State → List StoredState
 stored_too entries s = entries ++ record { state = s; number = 0 } ∷ []
 
 -- a state at a join has the number of one that covers it, or is stored; or it is new, as at other slots
-abbrev pub Arrives : Program → List Stored → State → Move → List Stored → Type 0
+abbrev pub Arrives : Program → List StoredState → State → Move → List StoredState → Type 0
 Arrives p old s (Covered k n) new = IsJoin p s.slot × IsCovered old k s n × (new ≡ old)
 Arrives p old s (New None) new = new ≡ old
 Arrives p old s (New (Some k)) new = IsJoin p s.slot × (k ≡ length old) × (new ≡ stored_too old s)
@@ -46,7 +46,7 @@ IsArrival (Covered k n) = Unit {0}
 IsArrival (Finished n) = ⊥
 
 -- why a path is turned back at a state, and at which slot
-abbrev pub TurnsBack : Program → List Stored → State → Refusal → ℕ → Type 0
+abbrev pub TurnsBack : Program → List StoredState → State → Refusal → ℕ → Type 0
 TurnsBack p entries s Repeats slot = IsJoin p s.slot × IsRepeated entries s × (slot ≡ s.slot)
 TurnsBack p entries s Memory slot = slot ≡ 0
 TurnsBack p entries s e slot = ⊥
@@ -60,10 +60,10 @@ pub record Settles (p : Program) (s : State) (n : ℕ) : Type 0 where
 
 -- runs from the state of an entry with a number end within that number, no number is above the
 -- count of finished instructions, and a walk from the start reaches the state
-abbrev pub IsSettled : Program → ℕ → Stored → Type 0
+abbrev pub IsSettled : Program → ℕ → StoredState → Type 0
 IsSettled p finished e = 0 < e.number → Settles p e.state e.number × (e.number ≤ finished) × ((steps : ℕ) × WalksTo p steps e.state)
 
-unfoldable pub AllSettled : Program → ℕ → List Stored → Type 0
+unfoldable pub AllSettled : Program → ℕ → List StoredState → Type 0
 AllSettled p finished entries = All (IsSettled p finished) entries
 
 -- an instruction begins at the state's slot, and at each slot to which a live frame returns
@@ -99,7 +99,7 @@ unfoldable pub NumberFollows : Program → Visit → State → State → Type 0
 NumberFollows p visit s child = (n : ℕ) → HasNumber p child n → NumberFollowsBoth p visit.pending s (max visit.best n)
 
 -- a visit of a state that waits for another one
-pub record Waiting (p : Program) (finished : ℕ) (entries : List Stored) (visit : Visit) (s child : State) : Type 0 where
+pub record Waiting (p : Program) (finished : ℕ) (entries : List StoredState) (visit : Visit) (s child : State) : Type 0 where
   pub waits : StepsCovered p visit s child
   pub awaits : NumberFollows p visit s child
   pub steps : StepsTo p s child
@@ -109,7 +109,7 @@ pub record Waiting (p : Program) (finished : ℕ) (entries : List Stored) (visit
   pub ready : IfReady p visit.pending
 
 -- the path goes from one state to another, with a visit for each instruction
-unfoldable pub Path : Program → ℕ → List Stored → State → List Visit → State → Type 0
+unfoldable pub Path : Program → ℕ → List StoredState → State → List Visit → State → Type 0
 Path p finished entries from [] to = to ≡ from
 Path p finished entries from (visit ∷ path) to =
     (child : State) × Waiting p finished entries visit from child × Path p finished entries child path to
@@ -149,7 +149,7 @@ zeros_from k (zero ∷ numbers) = k ∷ zeros_from (suc k) numbers
 zeros_from k (suc n ∷ numbers) = zeros_from (suc k) numbers
 
 -- their indexes, in the order in which they were stored
-abbrev pub unfinished : List Stored → List ℕ
+abbrev pub unfinished : List StoredState → List ℕ
 unfinished entries = zeros_from 0 (map (λ e. e.number) entries)
 
 -- the indexes with one in front of them, or after them, if there is one
@@ -167,7 +167,7 @@ places_of [] = []
 places_of (visit ∷ path) = with_first visit.stored (places_of path)
 
 -- the entries without a number are those of the path and the one after it, in their order, and no others
-unfoldable pub OnPath : List Stored → List Visit → Option ℕ → Type 0
+unfoldable pub OnPath : List StoredState → List Visit → Option ℕ → Type 0
 OnPath entries path stored = unfinished entries ≡ with_last (places_of path) stored
 
 -- ---- the search
@@ -222,7 +222,7 @@ pub record IsFull (search : Search) (slot : ℕ) : Type 0 where
   pub explored : search.finished + length search.path.items ≡ MAX_EXPLORED
   pub next : slot ≡ search.current.slot
 
-abbrev pub TakesTurn : Program → Search → Turn → Type 0
+abbrev pub TakesTurn : Program → Search → NextMove → Type 0
 TakesTurn p search (Explore stored) = Explores p search stored
 TakesTurn p search (Done n) = Settles p start n × (0 < n) × (n ≤ search.finished)
 

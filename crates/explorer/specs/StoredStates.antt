@@ -3,14 +3,14 @@ use Rattle.std.specs.Prelude.{◌≡◌, ℕ, ◌<◌, List, Option, Some, None,
 use Rattle.isa_model.specs.Code.Instructions.{Program}
 use Rattle.stack_state.specs.declared.states.State.{State}
 use Rattle.stack_state.specs.Meaning.{Covers}
-use Rattle.explorer.specs.declared.stored_states.Stored.{Stored}
+use Rattle.explorer.specs.declared.stored_states.StoredState.{StoredState}
 
 -- the stored state with this index is s, and has this number
-abbrev pub IsStored : List Stored → ℕ → State → ℕ → Type 0
+abbrev pub IsStored : List StoredState → ℕ → State → ℕ → Type 0
 IsStored entries index s n = slice_get entries index ≡ Some (record { state = s; number = n })
 
 -- the stored state with this index is finished, has this number, and covers s
-pub record IsCovered (entries : List Stored) (index : ℕ) (s : State) (n : ℕ) : Type 0 where
+pub record IsCovered (entries : List StoredState) (index : ℕ) (s : State) (n : ℕ) : Type 0 where
   pub entry : State
   pub stored : slice_get entries index ≡ Some (record { state = entry; number = n })
   pub finished : 0 < n
@@ -18,7 +18,7 @@ pub record IsCovered (entries : List Stored) (index : ℕ) (s : State) (n : ℕ)
   pub covers : (p : Program) → Covers p entry s
 
 -- an unfinished entry and the state cover one another
-pub record IsRepeated (entries : List Stored) (s : State) : Type 0 where
+pub record IsRepeated (entries : List StoredState) (s : State) : Type 0 where
   pub index : ℕ
   pub entry : State
   pub stored : slice_get entries index ≡ Some (record { state = entry; number = 0 })
@@ -27,12 +27,12 @@ pub record IsRepeated (entries : List Stored) (s : State) : Type 0 where
   pub covered : (p : Program) → Covers p s entry
 
 -- where a state is stored, if it is
-abbrev pub StoredAt : List Stored → Option ℕ → State → Type 0
+abbrev pub StoredAt : List StoredState → Option ℕ → State → Type 0
 StoredAt entries None s = Unit {0}
 StoredAt entries (Some k) s = (n : ℕ) × (slice_get entries k ≡ Some (record { state = s; number = n }))
 
 -- the entry that was stored, if there is one, has the number, and the other entries are as they were
-abbrev pub GetsNumber : List Stored → Option ℕ → ℕ → List Stored → Type 0
+abbrev pub GetsNumber : List StoredState → Option ℕ → ℕ → List StoredState → Type 0
 GetsNumber old None n new = new ≡ old
 GetsNumber old (Some k) n new =
     (s : State) → StoredAt old (Some k) s → new ≡ slice_set old k (record { state = s; number = n })

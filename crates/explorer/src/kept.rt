@@ -6,7 +6,7 @@ ghost use Rattle.state_index.specs.Parts.{AreBlank, AreParts};
 use crate::kept_frames::{KeptFrame, are_frames, keep_all, restore_all};
 use isa_model::FRAME_SIZE;
 use stack_state::{AbstractFrame, State};
-use state_index::{Fingerprints, Key, Limits, Part, take_parts, take_register_parts};
+use state_index::{Fingerprints, Key, PlaceLimits, Part, take_parts, take_register_parts};
 use std::alloc::{AllocError, Global};
 use std::marker::Model;
 use std::rc::Rc;
@@ -165,7 +165,7 @@ impl Kept {
     }
 
     /// Becomes the limits of all frames.
-    pub(crate) fn take_limits(&self, limits: &mut Vec<Limits>) -> Result<(), AllocError> {
+    pub(crate) fn take_limits(&self, limits: &mut Vec<PlaceLimits>) -> Result<(), AllocError> {
         limits.clear();
         let mut level = 0;
         for frame in self.callers.as_ref().as_slice() {

@@ -9,7 +9,7 @@ use crate::kept::Kept;
 use crate::listening::Listener;
 use crate::moves::Halt;
 use crate::search::Search;
-use crate::stored_states::Stored;
+use crate::stored_states::StoredState;
 use arrayvec::ArrayVec;
 use control_flow::Flow;
 use image::Image;
@@ -23,7 +23,7 @@ use walks::Refusal;
 
 /// One explored instruction.
 #[derive(Drop)]
-pub struct Entry {
+pub struct ExploredInsn {
     /// The number of its state: 1 more than the greatest of its successors.
     pub number: u32,
     /// The state in which it is explored.
@@ -39,14 +39,14 @@ pub struct Entry {
 /// Contracts see the entries.
 #[derive(Drop)]
 pub struct Explored {
-    entries: Vec<Entry>,
+    entries: Vec<ExploredInsn>,
 }
 
 impl Model for Explored {
     ghost use Rattle.std.specs.Prelude.{List};
-    ghost use Rattle.explorer.specs.declared.listing.Entry.{Entry};
+    ghost use Rattle.explorer.specs.declared.listing.ExploredInsn.{ExploredInsn};
 
-    ghost Value = { List Entry };
+    ghost Value = { List ExploredInsn };
 
     ghost view = { λ explored. explored.entries.items };
 }
@@ -60,7 +60,7 @@ impl Explored {
     }
 
     /// The one with this index.
-    pub fn entry(&self, place: usize) -> Option<&Entry>
+    pub fn entry(&self, place: usize) -> Option<&ExploredInsn>
         ensures { option_copied result ≡ slice_get self.now place }
     {
         self.entries.get(place)
@@ -71,7 +71,7 @@ impl Explored {
 #[derive(Drop)]
 struct Lister {
     alloc: Global,
-    entries: Vec<Entry>,
+    entries: Vec<ExploredInsn>,
     /// The entries of the stored states.
     stored: Vec<u32>,
     /// The entries of the path's states.
@@ -132,7 +132,7 @@ impl Lister {
 
     /// The entries of stored states get those states, which are not needed any more where they
     /// are stored.
-    fn take_stored(&mut self, states: &mut [Stored]) {
+    fn take_stored(&mut self, states: &mut [StoredState]) {
         for place in 0..states.len() {
             let Some(entry) = self.stored.get(place).copied() else {
                 return;
@@ -159,7 +159,7 @@ impl Lister {
             Some(_) => self.keep_blank()?,
             None => Kept::of(self.alloc, state, &mut self.room, kept)?,
         };
-        self.entries.push(Entry {
+        self.entries.push(ExploredInsn {
             number: 0,
             state,
             successors: ArrayVec::new(),

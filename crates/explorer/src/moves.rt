@@ -23,7 +23,7 @@ pub enum Move {
 
 /// What comes next: the current state is to be explored, or the start has its number.
 #[derive(Clone, Copy, Drop)]
-pub enum Turn {
+pub enum NextMove {
     Explore(Option<usize>),
     Done(u32),
 }

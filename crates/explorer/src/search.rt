@@ -15,7 +15,7 @@ ghost use Rattle.explorer.specs.Listening.{BeginsPath, BeginFails, TellsStep, St
 
 use crate::kept::Kept;
 use crate::listening::{Listener, halt, tell};
-use crate::moves::{Halt, Move, NO_MEMORY, Refused, Turn};
+use crate::moves::{Halt, Move, NO_MEMORY, Refused, NextMove};
 use crate::stored_states::StoredStates;
 use crate::trail::{Trail, Visit};
 use control_flow::Flow;
@@ -147,7 +147,7 @@ impl Search {
     ) -> Result<(Ways, Move), Refused>
         requires image { flow.now ≡ image.now }
         requires good { IsFlow flow.now }
-        requires at { TakesTurn flow.now self.old (Turn.Explore stored) }
+        requires at { TakesTurn flow.now self.old (NextMove.Explore stored) }
         requires room { self.old.finished + length self.old.path.items < MAX_EXPLORED }
         ensures moves { IfOk result (λ made. AfterMove flow.now self.new made.1) }
         ensures steps { IfOk result (λ made. TellsStep flow.now self.old.current
@@ -245,7 +245,7 @@ impl Search {
         flow: &Flow<'_>,
         first: Move,
         listener: &mut L,
-    ) -> Result<Turn, Halt<L::Stop>>
+    ) -> Result<NextMove, Halt<L::Stop>>
         requires moves { AfterMove flow.now self.old first }
         requires room { self.old.finished + length self.old.path.items ≤ MAX_EXPLORED }
         requires untold { IsToTell flow.now (L.follows listener.old flow.now)
@@ -266,12 +266,12 @@ impl Search {
                 return Err(Halt::Stopped(stop));
             }
             let ended = match made {
-                Move::New(stored) => return Ok(Turn::Explore(stored)),
+                Move::New(stored) => return Ok(NextMove::Explore(stored)),
                 Move::Covered(_, number) | Move::Finished(number) => number,
             };
             match self.back(alloc, flow, ended) {
                 Ok(Some(next)) => made = next,
-                Ok(None) => return Ok(Turn::Done(ended)),
+                Ok(None) => return Ok(NextMove::Done(ended)),
                 Err(refused) => return Err(halt(listener, &self.current, refused)),
             }
         }
@@ -287,10 +287,10 @@ impl Search {
         stored: Option<usize>,
         room: &mut Vec<Part>,
         listener: &mut L,
-    ) -> Result<Turn, Halt<L::Stop>>
+    ) -> Result<NextMove, Halt<L::Stop>>
         requires image { flow.now ≡ image.now }
         requires good { IsFlow flow.now }
-        requires at { TakesTurn flow.now self.old (Turn.Explore stored) }
+        requires at { TakesTurn flow.now self.old (NextMove.Explore stored) }
         requires room { self.old.finished + length self.old.path.items < MAX_EXPLORED }
         requires told { FollowsTo flow.now (L.follows listener.old flow.now)
             self.old.path.items self.old.current }
@@ -328,7 +328,7 @@ impl Search {
         requires good { IsFlow flow.now }
         requires new { IsNew self.old }
         requires untold { (last : TheState) × L.follows listener.old flow.now [] last }
-        ensures settles { IfOk result (λ n. TakesTurn flow.now self.new (Turn.Done n)) }
+        ensures settles { IfOk result (λ n. TakesTurn flow.now self.new (NextMove.Done n)) }
         ensures most { IfOk result (λ n. n ≤ MAX_EXPLORED) }
         ensures stops { IfErr result (λ h. IfRefused h (StopsAt flow.now)) }
         ensures too_long { IfErr result (λ h. IfRefused h
@@ -343,15 +343,15 @@ impl Search {
         let mut turn = self.settle(alloc, flow, made, listener)?;
         for _explored in 0..MAX_EXPLORED {
             match turn {
-                Turn::Done(number) => return Ok(number),
-                Turn::Explore(stored) => {
+                NextMove::Done(number) => return Ok(number),
+                NextMove::Explore(stored) => {
                     turn = self.advance(alloc, image, flow, stored, room, listener)?;
                 }
             }
         }
         match turn {
-            Turn::Done(number) => Ok(number),
-            Turn::Explore(_) => Err(Halt::Refused(Refusal::TooLong, self.current.slot)),
+            NextMove::Done(number) => Ok(number),
+            NextMove::Explore(_) => Err(Halt::Refused(Refusal::TooLong, self.current.slot)),
         }
     }
 

@@ -14,7 +14,7 @@ use std::alloc::{AllocError, Global};
 
 /// A state that was met at a join, with its number: 0 until it is finished.
 #[derive(Drop)]
-pub struct Stored {
+pub struct StoredState {
     pub state: Kept,
     pub number: u32,
 }
@@ -38,7 +38,7 @@ const CALLER_READINGS: usize = 3;
 /// The stored states, in the order in which they were met.
 #[derive(Drop)]
 pub struct StoredStates {
-    pub entries: Vec<Stored>,
+    pub entries: Vec<StoredState>,
     index: Index,
     /// The key of the state that is looked up.
     key: Key,
@@ -55,7 +55,7 @@ pub struct StoredStates {
 }
 
 /// The state that was stored last.
-fn last_of(entries: &[Stored]) -> Option<&Kept> {
+fn last_of(entries: &[StoredState]) -> Option<&Kept> {
     let entry = entries.last()?;
     Some(&entry.state)
 }
@@ -341,7 +341,7 @@ impl StoredStates {
         };
         self.words = self.words.saturating_add(u64::from(words));
         self.is_full = self.words >= MOST_WORDS;
-        self.entries.push(Stored { state, number: 0 })?;
+        self.entries.push(StoredState { state, number: 0 })?;
         Ok(index)
     }
 

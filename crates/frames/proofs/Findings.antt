@@ -14,10 +14,10 @@ use Rattle.isa_model.specs.declared.versions.Version.{Version}
 use Rattle.isa_model.specs.declared.versions.Version.TheVariants.{One, Two}
 use Rattle.isa_model.specs.Code.Versions.{stream_magic, head_size}
 use Rattle.isa_model.specs.Code.Limits.{max_body}
-use Rattle.isa_model.specs.Reporting.Streams.{max_frames, cut_by, length_field, Ending, ByEnd, ByError, head_bytes, stop_at}
+use Rattle.isa_model.specs.Reporting.Streams.{max_frames, cut_by, length_field, InputEnding, ByEnd, ByError, head_bytes, stop_at}
 use Rattle.isa_model.proofs.StreamLaws.{some_head}
 use Rattle.frames.specs.Readers.{Position, At, Done}
-use Rattle.frames.specs.Reading.{ReadsMagic, MayOpen, FindsNext, Stops, CanStop, Found, Stopped}
+use Rattle.frames.specs.Reading.{ReadsMagic, MayOpen, FindsNext, StopsReading, CanStop, Found, Stopped}
 use Rattle.frames.proofs.Stopping.{stop_at-cut, stop_at-read, stop_at-nothing_read, stop_at-many, stop_at-long, stop_at-body, length_field-append, opened-short, opened-other}
 
 -- ---- the magic
@@ -70,18 +70,18 @@ whole_head buffer room n v filled size few whole = omega (arith, length-take-le 
 
 -- the source gave front, and whatever is left the stream stops
 stopped_more : (position : Position) (old new : Option (List ℕ)) (front : List ℕ) (stop : Finish) → Consumes old new front
-    → ((bytes rest : List ℕ) → bytes ≡ front ++ rest → Stops position bytes (Some rest) stop) → FindsNext position old new (Stopped stop)
+    → ((bytes rest : List ℕ) → bytes ≡ front ++ rest → StopsReading position bytes (Some rest) stop) → FindsNext position old new (Stopped stop)
 stopped_more position None new front stop p q = tt
 stopped_more position (Some bytes) None front stop p q = absurd p
 stopped_more position (Some bytes) (Some rest) front stop p q = q bytes rest p
 
 -- the source gave front, and that was all
 stopped_all : (position : Position) (old new : Option (List ℕ)) (front : List ℕ) (stop : Finish) → Consumes old new front → IsAtEnd new
-    → ((rest : List ℕ) → Stops position front (Some rest) stop) → FindsNext position old new (Stopped stop)
+    → ((rest : List ℕ) → StopsReading position front (Some rest) stop) → FindsNext position old new (Stopped stop)
 stopped_all position None new front stop p e q = tt
 stopped_all position (Some bytes) None front stop p e q = absurd p
 stopped_all position (Some bytes) (Some rest) front stop p e q =
-    subst (λ (l : List ℕ). Stops position l (Some rest) stop) (sym (p ∙ ap (λ l. front ++ l) e ∙ append-nil front)) (q rest)
+    subst (λ (l : List ℕ). StopsReading position l (Some rest) stop) (sym (p ∙ ap (λ l. front ++ l) e ∙ append-nil front)) (q rest)
 
 pub record_many : (v : Version) (number offset : ℕ) (old new : Option (List ℕ)) (front : List ℕ) → number ≡ max_frames → length front ≡ 1 → Consumes old new front
     → FindsNext (At v number offset) old new (Stopped (finish.Fault TooManyRecords offset))
@@ -118,7 +118,7 @@ record_long v number offset old new head early size long p =
     (let some = some_head v in omega (arith, length_field-append head rest (omega arith)))))
 
 -- the bytes of a head and of a part of its body
-part_of_record : (v : Version) (number offset : ℕ) (head body : List ℕ) (e : Ending) → number ≢ max_frames → length head ≡ head_size v → length_field head ≤ max_body v
+part_of_record : (v : Version) (number offset : ℕ) (head body : List ℕ) (e : InputEnding) → number ≢ max_frames → length head ≡ head_size v → length_field head ≤ max_body v
     → length body < length_field head → stop_at v number offset (head ++ body) e ≡ Some (finish.Fault (cut_by e TruncatedBody) offset)
 part_of_record v number offset head body e early size short less =
     let some = some_head v in
@@ -184,7 +184,7 @@ done_room version stop = record { bytes = []; ending = ByEnd; stops = refl }
 -- ---- a call
 
 -- the stream stops again where it stopped
-done_stops : (version : Version) (bytes : List ℕ) (stop : Finish) → Stops (Done version stop) bytes (Some bytes) stop
+done_stops : (version : Version) (bytes : List ℕ) (stop : Finish) → StopsReading (Done version stop) bytes (Some bytes) stop
 done_stops version bytes finish.End = refl
 done_stops version bytes (finish.Fault BadMagic o) = refl
 done_stops version bytes (finish.Fault TruncatedHead o) = refl

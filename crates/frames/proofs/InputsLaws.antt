@@ -10,10 +10,10 @@ use Rattle.isa_model.specs.declared.streams.Finish.TheVariants as finish
 use Rattle.isa_model.specs.declared.versions.Version.{Version}
 use Rattle.isa_model.specs.declared.versions.Version.TheVariants.{One}
 use Rattle.isa_model.specs.Code.Versions.{stream_magic}
-use Rattle.isa_model.specs.Reporting.Streams.{Frame, IsFrame, Input, Ending, ByEnd, ByError, max_frames, frame_bytes, records_bytes, record_size, opened, stop_at, Stream, stream_with, stream_of, AreOpen, stream_bytes}
+use Rattle.isa_model.specs.Reporting.Streams.{Frame, IsFrame, Input, InputEnding, ByEnd, ByError, max_frames, frame_bytes, records_bytes, record_size, opened, stop_at, Stream, stream_with, stream_of, AreOpen, stream_bytes}
 use Rattle.isa_model.proofs.StreamLaws.{AreOpen-nil, AreOpen-push, size-frame_bytes, offset_after, stream_of-stops, stream_of-unopened}
 use Rattle.frames.specs.Readers.{Position, Fresh, At, Done}
-use Rattle.frames.specs.Reading.{ReadsMagic, MayOpen, OpensStream, position_opened, begun_at, Found, Stopped, Stops, FindsNext, IsOpen, CanStop, next_position, Finds}
+use Rattle.frames.specs.Reading.{ReadsMagic, MayOpen, OpensStream, position_opened, begun_at, Found, Stopped, StopsReading, FindsNext, IsOpen, CanStop, next_position, Finds}
 use Rattle.frames.specs.Inputs.{AreReadFrom, IsBegunBy, IsBegunVersion}
 
 -- Frames of a stream of this version were found by a reader that was fresh at first. Its source had
@@ -36,7 +36,7 @@ HasFound-opened v old known r = record { stands = refl; are_open = AreOpen-nil v
 abbrev pub unopened : Fault → Stream
 unopened fault = stream_with One ([], finish.Fault fault 0)
 
-unopened_read : (bytes read unread : List ℕ) (e : Ending) (fault : Fault) → bytes ≡ read ++ unread → (e ≡ ByEnd → unread ≡ []) → (e ≡ ByError → fault ≡ ReadFailed)
+unopened_read : (bytes read unread : List ℕ) (e : InputEnding) (fault : Fault) → bytes ≡ read ++ unread → (e ≡ ByEnd → unread ≡ []) → (e ≡ ByError → fault ≡ ReadFailed)
     → opened read e ≡ Err fault → AreReadFrom (Some bytes) (unopened fault)
 unopened_read bytes read unread e fault split all error h =
     let input : Input = record { bytes = read; ending = e } in
@@ -115,7 +115,7 @@ left_of v frames bytes (Some rest) h = (rest, refl, h)
 record ReadsStop (v : Version) (number offset : ℕ) (rest : List ℕ) (stop : Finish) : Type 0 where
   read : List ℕ
   unread : List ℕ
-  ending : Ending
+  ending : InputEnding
   split : rest ≡ read ++ unread
   all : ending ≡ ByEnd → unread ≡ []
   error : ending ≡ ByError → (at : ℕ) × (stop ≡ finish.Fault ReadFailed at)
@@ -124,12 +124,12 @@ record ReadsStop (v : Version) (number offset : ℕ) (rest : List ℕ) (stop : F
 whole_stop : (v : Version) (number offset : ℕ) (rest : List ℕ) (stop : Finish) → stop_at v number offset rest ByEnd ≡ Some stop → ReadsStop v number offset rest stop
 whole_stop v number offset rest stop h = record { read = rest; unread = []; ending = ByEnd; split = sym (append-nil rest); all = λ _. refl; error = λ e. cc; stops = h }
 
-read_error : (v : Version) (number offset : ℕ) (rest : List ℕ) (new : Option (List ℕ)) (at : ℕ) → Stops (At v number offset) rest new (finish.Fault ReadFailed at)
+read_error : (v : Version) (number offset : ℕ) (rest : List ℕ) (new : Option (List ℕ)) (at : ℕ) → StopsReading (At v number offset) rest new (finish.Fault ReadFailed at)
     → ReadsStop v number offset rest (finish.Fault ReadFailed at)
 read_error v number offset rest None at h = absurd h.1
 read_error v number offset rest (Some left) at h = record { read = h.0; unread = left; ending = ByError; split = h.1; all = λ e. cc; error = λ _. (at, refl); stops = h.2 }
 
-read_stop : (v : Version) (number offset : ℕ) (rest : List ℕ) (new : Option (List ℕ)) (stop : Finish) → Stops (At v number offset) rest new stop → ReadsStop v number offset rest stop
+read_stop : (v : Version) (number offset : ℕ) (rest : List ℕ) (new : Option (List ℕ)) (stop : Finish) → StopsReading (At v number offset) rest new stop → ReadsStop v number offset rest stop
 read_stop v number offset rest new finish.End h = whole_stop v number offset rest finish.End h
 read_stop v number offset rest new (finish.Fault BadMagic o) h = whole_stop v number offset rest (finish.Fault BadMagic o) h
 read_stop v number offset rest new (finish.Fault TruncatedHead o) h = whole_stop v number offset rest (finish.Fault TruncatedHead o) h
@@ -139,7 +139,7 @@ read_stop v number offset rest new (finish.Fault ReadFailed o) h = read_error v 
 read_stop v number offset rest new (finish.Fault TooManyRecords o) h = whole_stop v number offset rest (finish.Fault TooManyRecords o) h
 
 -- the input that begins with these frames
-abbrev input_of : Version → List Frame → List ℕ → Ending → Input
+abbrev input_of : Version → List Frame → List ℕ → InputEnding → Input
 input_of v frames rest e = record { bytes = stream_magic v ++ (records_bytes v frames ++ rest); ending = e }
 
 -- Where the reader stops, the frames that it found and that end or fault were read.

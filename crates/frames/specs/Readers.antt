@@ -12,6 +12,6 @@ pub data Position : Type 0 where
   Done : Version → Finish → Position
 
 -- its source, and its position in the stream
-pub record Reading (R : Type 0) : Type 0 where
+pub record ReaderState (R : Type 0) : Type 0 where
   pub source : R
   pub position : Position

@@ -9,8 +9,8 @@ use Rattle.isa_model.specs.declared.versions.Version.{Version}
 use Rattle.isa_model.specs.declared.versions.Version.TheVariants.{One}
 use Rattle.isa_model.specs.Code.Versions.{version_number, stream_magic}
 use Rattle.isa_model.specs.Code.Limits.{max_packet}
-use Rattle.isa_model.specs.Reporting.Streams.{Frame, IsFrame, max_frames, frame_bytes, record_size, Ending, ByEnd, ByError, opened, stop_at}
-use Rattle.frames.specs.Readers.{Position, Fresh, At, Done, Reading}
+use Rattle.isa_model.specs.Reporting.Streams.{Frame, IsFrame, max_frames, frame_bytes, record_size, InputEnding, ByEnd, ByError, opened, stop_at}
+use Rattle.frames.specs.Readers.{Position, Fresh, At, Done, ReaderState}
 use Rattle.frames.specs.declared.reader.Next.{Next}
 use Rattle.frames.specs.declared.reader.Next.TheVariants as next
 
@@ -34,7 +34,7 @@ ReadsMagic (Some bytes) (Some rest) (Ok version) = bytes ≡ stream_magic versio
 -- there are bytes, and a way in which they end, with this fault in place of the magic
 abbrev pub MayOpen : Result Version Fault → Type 0
 MayOpen (Ok version) = Unit {0}
-MayOpen (Err fault) = (bytes : List ℕ) × (ending : Ending) × (opened bytes ending ≡ Err fault)
+MayOpen (Err fault) = (bytes : List ℕ) × (ending : InputEnding) × (opened bytes ending ≡ Err fault)
 
 -- the magic is read once: a reader after it reads nothing and stays there
 abbrev pub OpensStream : Position → Option (List ℕ) → Option (List ℕ) → Position → Type 0
@@ -76,17 +76,17 @@ next_position position (Found f) = after_frame position f
 next_position position (Stopped stop) = after_stop position stop
 
 -- why no record follows at a position after the magic, if none does
-abbrev pub stop_from : Position → List ℕ → Ending → Option Finish
+abbrev pub stop_from : Position → List ℕ → InputEnding → Option Finish
 stop_from Fresh bytes ending = None
 stop_from (At version number offset) bytes ending = stop_at version number offset bytes ending
 stop_from (Done version stop) bytes ending = Some stop
 
 -- The stream stops at a position, where the source has these bytes left before the call and those
 -- after it. Only for ReadFailed did the source return an error, after the bytes that were read.
-abbrev pub Stops : Position → List ℕ → Option (List ℕ) → Finish → Type 0
-Stops position bytes new (finish.Fault ReadFailed offset) =
+abbrev pub StopsReading : Position → List ℕ → Option (List ℕ) → Finish → Type 0
+StopsReading position bytes new (finish.Fault ReadFailed offset) =
     (read : List ℕ) × Consumes (Some bytes) new read × (stop_from position read ByError ≡ Some (finish.Fault ReadFailed offset))
-Stops position bytes new stop = stop_from position bytes ByEnd ≡ Some stop
+StopsReading position bytes new stop = stop_from position bytes ByEnd ≡ Some stop
 
 -- the bytes begin with this record, and then there are others
 abbrev pub Begins : Position → List ℕ → Frame → List ℕ → Type 0
@@ -97,7 +97,7 @@ Begins position bytes f rest = ⊥
 -- stream stops there.
 abbrev pub FindsNext : Position → Option (List ℕ) → Option (List ℕ) → Finding → Type 0
 FindsNext position None new finding = Unit {0}
-FindsNext position (Some bytes) new (Stopped stop) = Stops position bytes new stop
+FindsNext position (Some bytes) new (Stopped stop) = StopsReading position bytes new stop
 FindsNext position (Some bytes) None (Found f) = ⊥
 FindsNext position (Some bytes) (Some rest) (Found f) = Begins position bytes f rest
 
@@ -109,7 +109,7 @@ IsOpen position f = ⊥
 -- there are bytes, and a way in which they end, with which a stream stops so at the position
 pub record CanStop (position : Position) (stop : Finish) : Type 0 where
   pub bytes : List ℕ
-  pub ending : Ending
+  pub ending : InputEnding
   pub stops : stop_from position bytes ending ≡ Some stop
 
 -- the position allows what is found: the record, or the end or fault of the stream
@@ -134,5 +134,5 @@ FitsBuffer next.End = Unit {0}
 FitsBuffer (next.Fault f offset) = Unit {0}
 
 -- a reader that is done answers the same again, and reads nothing
-abbrev pub StaysDone : {R : Type 0} → Reading R → Reading R → Finding → Type 0
+abbrev pub StaysDone : {R : Type 0} → ReaderState R → ReaderState R → Finding → Type 0
 StaysDone old new finding = (version : Version) (stop : Finish) → old.position ≡ Done version stop → (finding ≡ Stopped stop) × (new ≡ old)

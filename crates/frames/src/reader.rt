@@ -44,10 +44,10 @@ pub struct FrameReader<R> {
 }
 
 impl<R> Model for FrameReader<R> {
-    ghost use Rattle.frames.specs.Readers.{Reading};
+    ghost use Rattle.frames.specs.Readers.{ReaderState};
     ghost use Rattle.frames.specs.Stages.{position_of, FitsRecord};
 
-    ghost Value = { Reading R };
+    ghost Value = { ReaderState R };
 
     ghost view = { λ r. record { source = r.source; position = position_of r.stage } };
 

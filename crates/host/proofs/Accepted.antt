@@ -12,20 +12,20 @@ use Rattle.isa_model.specs.Machine.States.{Entries}
 use Rattle.isa_model.specs.Reporting.Streams.{Frame, Stream, stream_with, AreOpen}
 use Rattle.isa_model.specs.Running.Runs.{Turn, turn}
 use Rattle.isa_model.proofs.RunLaws.{turn-outcome}
-use Rattle.isa_model.specs.Reporting.Reports.{Piece, ToReport, ToFrames, Form, Rule, turns_pieces, contents_after, maps_pieces, last_line, report_of, checked_rule, checked_report, starting_contents, IsReport}
+use Rattle.isa_model.specs.Reporting.Reports.{Piece, ToReport, ToFrames, ReportForm, Rule, turns_pieces, contents_after, maps_pieces, last_line, report_of, checked_rule, checked_report, starting_contents, IsReport}
 use Rattle.isa_model.specs.Running.Outcomes.{AllExit}
 use Rattle.isa_model.proofs.ReportLaws.{IsReport-checked}
-use Rattle.image.proofs.Programs.{IsProgram-IsImage, FitRows-starting_contents}
+use Rattle.image.proofs.Programs.{IsProgram-IsImage, IsImage-starting_contents}
 use Rattle.bounds.specs.Bounds.{Bounded, IsVerified}
 use Rattle.machine.specs.declared.machines.Exit.{Exit as TheExit}
 use Rattle.machine.specs.Running.{Running, AnswersRun}
-use Rattle.checked_vm.specs.Machines.{Running as Checking}
+use Rattle.checked_vm.specs.Machines.{LoadedProgram as Checking}
 use Rattle.host.specs.declared.errors.HostError.{HostError}
 use Rattle.host.specs.declared.tallies.Tally.{Tally}
 use Rattle.host.specs.declared.traced.Traced.{Traced}
 use Rattle.host.specs.Stops.{Noted, Noting, nothing_noted, checked_notes, TellsNoted, TellsTraced}
 use Rattle.host.specs.Tallies.{tallied, TellsTally}
-use Rattle.host.specs.Writing.{Outputs, WroteBefore, Writes}
+use Rattle.host.specs.Writing.{Outputs, WroteBefore, WritesEach}
 use Rattle.host.specs.Reported.{Reports, ReportsBy, front_in}
 use Rattle.host.specs.Accepted.{ReportsRun, RunsWhole, RunsFront}
 use Rattle.host.proofs.Pieces.{WroteBefore-more}
@@ -53,7 +53,7 @@ turn-AnswersRun r head packet clock exit after left coming h =
 front_goes_on : (limit : ℕ) (program : Version) (rows : List MapDef) (rule : Rule) (contents : List Entries) (v : Version) (frames more : List Frame) (finish : Finish)
     → (rest : List Piece) × (report_of limit program rows rule contents (stream_with v (frames ++ more, finish)) ≡ front_in (record { limit = limit; program = program; stream = v }) rule contents frames ++ rest)
 front_goes_on limit program rows rule contents v frames more finish =
-    let form : Form = record { limit = limit; program = program; stream = v } in
+    let form : ReportForm = record { limit = limit; program = program; stream = v } in
     let later = turns_pieces form rule (0 + length frames) (contents_after rule contents frames) more in
     let closing = maps_pieces 0 rows (contents_after rule contents (frames ++ more)) ++ ToReport (last_line (length (frames ++ more)) finish) ∷ [] in (
       later ++ closing,
@@ -96,7 +96,7 @@ Reports-machine p limit source old new result program m noted version made none 
 reported : (a : Bounded) (found : Stream) → IsVerified a → AreOpen found.version found.frames
     → IsReport a.program found (checked_report a.program a.bound found) × AllExit a.program a.bound (starting_contents a.program.maps) found.frames
 reported a found h open_here =
-    IsReport-checked a.program a.bound found (IsProgram-IsImage a.program h.image) h.ends (FitRows-starting_contents a.program h.image) open_here.fit
+    IsReport-checked a.program a.bound found (IsProgram-IsImage a.program h.image) h.ends (IsImage-starting_contents a.program h.image) open_here.fit
 
 -- what was written of an accepted program's turns is its report
 pub ReportsRun-By : (a : Bounded) (source : Option (List ℕ)) (old new : Outputs) (result : Result Tally HostError) → IsVerified a
@@ -135,9 +135,9 @@ ReportsRun-By a source old new result h r = record { some = h.some; most = h.mos
         )
 
 -- what is noted of frames aside
-Writes-tallied : (old new : Outputs) (result : Result Traced HostError) (pieces : List Piece) → Writes old new result pieces → Writes old new (tallied result) pieces
-Writes-tallied old new (Ok traced) pieces w = w
-Writes-tallied old new (Err e) pieces w = w
+WritesEach-tallied : (old new : Outputs) (result : Result Traced HostError) (pieces : List Piece) → WritesEach old new result pieces → WritesEach old new (tallied result) pieces
+WritesEach-tallied old new (Ok traced) pieces w = w
+WritesEach-tallied old new (Err e) pieces w = w
 
 tells-tallied : (notes : Noting) (rule : Rule) (noted : Noted) (contents : List Entries) (found : Stream) (result : Result Traced HostError)
     → IfOk result (TellsNoted notes rule noted contents found) → IfOk (tallied result) (TellsTally found)
@@ -150,7 +150,7 @@ ReportsBy-tallied source limit program rows rule contents notes noted old new re
   found = r.found;
   are_open = r.are_open;
   read = r.read;
-  writes = Writes-tallied old new result _ r.writes;
+  writes = WritesEach-tallied old new result _ r.writes;
   tells = tells-tallied notes rule noted contents r.found result r.tells;
 })
 ReportsBy-tallied source limit program rows rule contents notes noted old new result (inr (error, is, r)) = inr (error, ap tallied is, r)

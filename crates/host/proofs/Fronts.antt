@@ -8,19 +8,19 @@ use Rattle.isa_model.specs.Machine.States.{Entries}
 use Rattle.isa_model.specs.Running.Runs.{Outcome, Turn}
 use Rattle.isa_model.proofs.RunLaws.{turn-outcome, HasOutcome-same}
 use Rattle.isa_model.specs.Reporting.Streams.{Frame, stream_with}
-use Rattle.isa_model.specs.Reporting.Reports.{Piece, ToReport, ToFrames, Form, frame_line, frame_pieces, skip_pieces, turn_on, turn_pieces, contents_left, turns_pieces, maps_pieces, last_line, checked_rule, turn_by, starting_contents, ReportsFrame, ReportsFrames, form_of, IsReport}
+use Rattle.isa_model.specs.Reporting.Reports.{Piece, ToReport, ToFrames, ReportForm, frame_line, frame_pieces, skip_pieces, turn_on, turn_pieces, contents_left, turns_pieces, maps_pieces, last_line, checked_rule, turn_by, starting_contents, ReportsFrame, ReportsFrames, form_of, IsReport}
 use Rattle.isa_model.specs.Running.Outcomes.{ExitsOn, AllExit}
 use Rattle.host.specs.Reported.{front_in}
 
 module _ (p : Program) (n : ℕ) where
   -- the form of the checked report with this limit
-  abbrev limited : Form → Form
+  abbrev limited : ReportForm → ReportForm
   limited form = record form { limit = n }
 
   abbrev turn_if : List Entries → Frame → Bool → Option Turn
   turn_if contents f runs = if runs then Some (checked_rule p n f.head f.body contents) else None
 
-  module _ (form : Form) (number : ℕ) (contents : List Entries) (f : Frame) where
+  module _ (form : ReportForm) (number : ℕ) (contents : List Entries) (f : Frame) where
     exit_pieces : (o : Outcome) → frame_pieces form number f (turn_by o) ≡ frame_pieces (limited form) number f (turn_by o)
     unfolding frame_pieces frame_line
     exit_pieces o = refl
@@ -44,7 +44,7 @@ module _ (p : Program) (n : ℕ) where
         )
 
   -- the pieces of frames whose runs exit, from any number on
-  first_frames : (form : Form) (number : ℕ) (contents : List Entries) (fs gs : List Frame) (turns : List Piece) (last : List Entries) → AllExit p n contents fs
+  first_frames : (form : ReportForm) (number : ℕ) (contents : List Entries) (fs gs : List Frame) (turns : List Piece) (last : List Entries) → AllExit p n contents fs
       → ReportsFrames form p number contents (fs ++ gs) turns last → (rest : List Piece) × (turns ≡ turns_pieces (limited form) (checked_rule p n) number contents fs ++ rest)
   first_frames form number contents [] gs turns last exits h = (turns, refl)
   first_frames form number contents (f ∷ fs) gs turns last exits h =

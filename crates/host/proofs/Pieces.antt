@@ -7,7 +7,7 @@ use Rattle.exact_io.specs.Transfers.{AppendsBeginning}
 use Rattle.isa_model.specs.declared.ends.End.{End}
 use Rattle.isa_model.specs.Reporting.Streams.{Frame, frame_bytes}
 use Rattle.isa_model.specs.Running.Runs.{Turn}
-use Rattle.isa_model.specs.Reporting.Reports.{Piece, ToReport, ToFrames, Form, frame_line, frame_pieces, record_pieces, is_sent, end_reason, skip_line, skip_pieces}
+use Rattle.isa_model.specs.Reporting.Reports.{Piece, ToReport, ToFrames, ReportForm, frame_line, frame_pieces, record_pieces, is_sent, end_reason, skip_line, skip_pieces}
 use Rattle.host.specs.declared.errors.HostError.{HostError}
 use Rattle.host.specs.declared.errors.HostError.TheVariants as failure
 use Rattle.host.specs.Writing.{Outputs, Wrote, WroteBefore}
@@ -94,7 +94,8 @@ frames_failed r f g bytes rest p = record {
 
 -- ---- a frame's pieces, where its run ended by e and left these bytes
 
-module _ (form : Form) (number : ℕ) (frame : Frame) (t : Turn) (e : End) (ended : e ≡ t.ends) where
+module _ (form : ReportForm) (number : ℕ) (frame : Frame) (t : Turn) (e : End)
+    (ended : e ≡ t.ends) where
   module _ (line : List ℕ) (is : line ≡ frame_line form number e (length frame.body)) where
     -- the line as it was made is the turn's
     line_is : line ≡ frame_line form number t.ends (length frame.body)
@@ -147,7 +148,7 @@ module _ (form : Form) (number : ℕ) (frame : Frame) (t : Turn) (e : End) (ende
 
 -- ---- the pieces of a frame that is not run
 
-module _ (form : Form) (number : ℕ) (frame : Frame) (line : List ℕ) (is : line ≡ skip_line number (length frame.body) frame.reason) (r s f : Option (List ℕ)) where
+module _ (form : ReportForm) (number : ℕ) (frame : Frame) (line : List ℕ) (is : line ≡ skip_line number (length frame.body) frame.reason) (r s f : Option (List ℕ)) where
   -- the line failed
   pub skip_line_failed : AppendsBeginning r s line → WroteBefore (record { report = r; frames = f }) (record { report = s; frames = f }) (skip_pieces form number frame) failure.Report
   unfolding skip_pieces

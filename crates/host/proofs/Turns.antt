@@ -12,7 +12,7 @@ use Rattle.isa_model.specs.Code.Limits.{max_body, max_packet}
 use Rattle.isa_model.specs.Machine.States.{Entries}
 use Rattle.isa_model.specs.Reporting.Streams.{Frame, Stream, max_frames, stream_with}
 use Rattle.isa_model.proofs.StreamLaws.{AreOpen-nil}
-use Rattle.isa_model.specs.Reporting.Reports.{Piece, Rule, Form, ToReport, ToFrames, turns_pieces, contents_after, turn_on, turn_pieces, contents_left, maps_pieces, last_line}
+use Rattle.isa_model.specs.Reporting.Reports.{Piece, Rule, ReportForm, ToReport, ToFrames, turns_pieces, contents_after, turn_on, turn_pieces, contents_left, maps_pieces, last_line}
 use Rattle.frames.specs.Readers.{Position, Fresh}
 use Rattle.frames.specs.Reading.{OpensStream, begun_at, Found, Stopped, Finds}
 use Rattle.frames.proofs.InputsLaws.{HasBegun, HasBegun-opens, HasBegun-open, HasBegun-found, HasBegun-stopped, HasFound-begins, unopened}
@@ -22,10 +22,10 @@ use Rattle.host.specs.declared.errors.HostError.TheVariants as failure
 use Rattle.host.specs.declared.traced.Traced.{Traced}
 use Rattle.host.specs.Stops.{Noted, Noting, noted_of, noted_after, TellsNoted}
 use Rattle.host.specs.Tallies.{tally_of}
-use Rattle.host.specs.Writing.{Outputs, Wrote, WroteBefore, Writes}
+use Rattle.host.specs.Writing.{Outputs, Wrote, WroteBefore, WritesEach}
 use Rattle.host.specs.Reported.{front_in, ReportsBy}
 use Rattle.host.proofs.Pieces.{Wrote-append, WroteBefore-append, wrote_frames, frames_failed}
-use Rattle.host.proofs.SoFar.{SoFar}
+use Rattle.host.proofs.WrittenSoFar.{WrittenSoFar}
 
 -- a body that a stream may have is a packet
 pub body_short : (v : Version) (n : ℕ) → n ≤ max_body v → n ≤ max_packet
@@ -43,7 +43,7 @@ begin_opens v source old new p after answer fresh same opens answers is =
 -- ---- frames in a row
 
 -- the pieces of frames, and of those after them
-pub turns_pieces-append : (form : Form) (rule : Rule) (n : ℕ) (c : List Entries) (fs gs : List Frame)
+pub turns_pieces-append : (form : ReportForm) (rule : Rule) (n : ℕ) (c : List Entries) (fs gs : List Frame)
     → turns_pieces form rule n c (fs ++ gs) ≡ turns_pieces form rule n c fs ++ turns_pieces form rule (n + length fs) (contents_after rule c fs) gs
 turns_pieces-append form rule n c [] gs = ap (λ m. turns_pieces form rule m c gs) (sym (add-zero n))
 turns_pieces-append form rule n c (f ∷ fs) gs =
@@ -60,7 +60,7 @@ contents_after-append rule c (f ∷ fs) gs = contents_after-append rule (content
 
 -- ---- a run of frames from these contents on, over this source
 
-module _ (form : Form) (rule : Rule) (start : List Entries) (source : Option (List ℕ)) (before : Outputs) where
+module _ (form : ReportForm) (rule : Rule) (start : List Entries) (source : Option (List ℕ)) (before : Outputs) where
   -- the pieces so far and those of one more frame
   front_more : (frames : List Frame) (f : Frame) (number : ℕ) (contents : List Entries) → number ≡ length frames → contents ≡ contents_after rule start frames
       → front_in form rule start frames ++ turn_pieces form number f (turn_on rule contents f) ≡ front_in form rule start (frames ++ f ∷ [])
@@ -74,7 +74,7 @@ module _ (form : Form) (rule : Rule) (start : List Entries) (source : Option (Li
 
   -- before the first turn, once the magic is written
   pub no_turn : (known : Option (List ℕ)) (p : Position) (r f g : Option (List ℕ)) → HasBegun form.stream [] source known p → before ≡ record { report = r; frames = f }
-      → Appends f g (stream_magic form.stream) → SoFar form rule start source before [] known p 0 start (record { report = r; frames = g })
+      → Appends f g (stream_magic form.stream) → WrittenSoFar form rule start source before [] known p 0 start (record { report = r; frames = g })
   no_turn known p r f g begun is w = record {
     begun = begun;
     numbered = refl;
@@ -82,7 +82,7 @@ module _ (form : Form) (rule : Rule) (start : List Entries) (source : Option (Li
     carried = refl;
   }
 
-  module _ (frames : List Frame) (known new : Option (List ℕ)) (p q : Position) (number : ℕ) (contents : List Entries) (now : Outputs) (so : SoFar form rule start source before frames known p number contents now) where
+  module _ (frames : List Frame) (known new : Option (List ℕ)) (p q : Position) (number : ℕ) (contents : List Entries) (now : Outputs) (so : WrittenSoFar form rule start source before frames known p number contents now) where
     module _ (f : Frame) (h : Finds p known new q (Found f)) where
       -- there is a number for the frame, and its body fits
       pub turn_fits : (number < max_frames) × (length f.body ≤ max_body form.stream)
@@ -93,7 +93,7 @@ module _ (form : Form) (rule : Rule) (start : List Entries) (source : Option (Li
 
       -- one more frame was found and taken, and its pieces were written
       pub turn_more : (contents' : List Entries) (after : Outputs) → Wrote now after (turn_pieces form number f (turn_on rule contents f)) → contents' ≡ contents_left contents (turn_on rule contents f)
-          → SoFar form rule start source before (frames ++ f ∷ []) new q (number + 1) contents' after
+          → WrittenSoFar form rule start source before (frames ++ f ∷ []) new q (number + 1) contents' after
       turn_more contents' after w c =
           let (found, early, fits) = HasBegun-found form.stream frames source known new p q f so.begun h in
           let n = so.numbered in
@@ -107,9 +107,9 @@ module _ (form : Form) (rule : Rule) (start : List Entries) (source : Option (Li
 -- ---- the ends of a run
 
 -- pieces after pieces, where one of the later ones may have failed
-Writes-append : (a b c : Outputs) (front more : List Piece) (result : Result Traced HostError) → Wrote a b front → Writes b c result more → Writes a c result (front ++ more)
-Writes-append a b c front more (Ok traced) v w = Wrote-append a b c front more v w
-Writes-append a b c front more (Err e) v w = WroteBefore-append a b c front more e v w
+WritesEach-append : (a b c : Outputs) (front more : List Piece) (result : Result Traced HostError) → Wrote a b front → WritesEach b c result more → WritesEach a c result (front ++ more)
+WritesEach-append a b c front more (Ok traced) v w = Wrote-append a b c front more v w
+WritesEach-append a b c front more (Err e) v w = WroteBefore-append a b c front more e v w
 
 -- two facts of what a run answers
 both : (result : Result Traced HostError) (n : ℕ) (stop : Finish) (noted : Noted) → IfOk result (λ t. t.tally ≡ tally_of n stop) → IfOk result (λ t. noted_of t.stops ≡ noted)
@@ -121,7 +121,7 @@ module _ (limit : ℕ) (program : Version) (rows : List MapDef) (rule : Rule) (s
   abbrev Tells : Stream → Traced → Type 0
   Tells = TellsNoted notes rule none start
 
-  abbrev form_on : Version → Form
+  abbrev form_on : Version → ReportForm
   form_on v = record { limit = limit; program = program; stream = v }
 
   -- the magic failed
@@ -142,7 +142,7 @@ module _ (limit : ℕ) (program : Version) (rows : List MapDef) (rule : Rule) (s
 
   module _ (v : Version) (before : Outputs) (frames : List Frame) (known new : Option (List ℕ)) (p q : Position) (number : ℕ) (contents : List Entries) where
     -- a turn's piece failed
-    pub turn_failed : (now after : Outputs) (f : Frame) (error : HostError) → SoFar (form_on v) rule start source before frames known p number contents now → Finds p known new q (Found f)
+    pub turn_failed : (now after : Outputs) (f : Frame) (error : HostError) → WrittenSoFar (form_on v) rule start source before frames known p number contents now → Finds p known new q (Found f)
         → WroteBefore now after (turn_pieces (form_on v) number f (turn_on rule contents f)) error
         → ReportsBy source limit program rows rule start Tells before after (Err error)
     turn_failed now after f error so h w =
@@ -162,8 +162,8 @@ module _ (limit : ℕ) (program : Version) (rows : List MapDef) (rule : Rule) (s
 
     -- the stream stopped, and the lines of maps and the last line were written, or one of them failed
     pub run_ended : (r s g : Option (List ℕ)) (stop : Finish) (result : Result Traced HostError) (noted : Noted)
-        → SoFar (form_on v) rule start source before frames known p number contents (record { report = r; frames = g }) → Finds p known new q (Stopped stop)
-        → Writes (record { report = r; frames = g }) (record { report = s; frames = g }) result (maps_pieces 0 rows contents ++ ToReport (last_line number stop) ∷ [])
+        → WrittenSoFar (form_on v) rule start source before frames known p number contents (record { report = r; frames = g }) → Finds p known new q (Stopped stop)
+        → WritesEach (record { report = r; frames = g }) (record { report = s; frames = g }) result (maps_pieces 0 rows contents ++ ToReport (last_line number stop) ∷ [])
         → IfOk result (λ traced. traced.tally ≡ tally_of number stop)
         → IfOk result (λ traced. noted_of traced.stops ≡ noted) → noted ≡ noted_after notes rule none 0 start frames
         → ReportsBy source limit program rows rule start Tells before (record { report = s; frames = g }) result
@@ -171,13 +171,13 @@ module _ (limit : ℕ) (program : Version) (rows : List MapDef) (rule : Rule) (s
         let now : Outputs = record { report = r; frames = g } in
         let after : Outputs = record { report = s; frames = g } in
         let front = front_in (form_on v) rule start frames in
-        let whole = Writes-append before now after front (maps_pieces 0 rows contents ++ ToReport (last_line number stop) ∷ []) result so.wrote written in
-        let counted = subst (λ (n : ℕ). Writes before after result (front ++ (maps_pieces 0 rows contents ++ ToReport (last_line n stop) ∷ []))) so.numbered whole in
+        let whole = WritesEach-append before now after front (maps_pieces 0 rows contents ++ ToReport (last_line number stop) ∷ []) result so.wrote written in
+        let counted = subst (λ (n : ℕ). WritesEach before after result (front ++ (maps_pieces 0 rows contents ++ ToReport (last_line n stop) ∷ []))) so.numbered whole in
         inl (record {
           found = stream_with v (frames, stop);
           are_open = HasBegun-open v frames source known p so.begun;
           read = HasBegun-stopped v frames source known new p q stop so.begun h;
-          writes = subst (λ (c : List Entries). Writes before after result (front ++ (maps_pieces 0 rows c ++ ToReport (last_line (length frames) stop) ∷ []))) so.carried counted;
+          writes = subst (λ (c : List Entries). WritesEach before after result (front ++ (maps_pieces 0 rows c ++ ToReport (last_line (length frames) stop) ∷ []))) so.carried counted;
           tells = both result (length frames) stop (noted_after notes rule none 0 start frames)
               (subst (λ (n : ℕ). IfOk result (λ t. t.tally ≡ tally_of n stop)) so.numbered tally) (subst (λ (x : Noted). IfOk result (λ t. noted_of t.stops ≡ x)) told_is told);
         })

@@ -11,7 +11,7 @@ use Rattle.frames.specs.Inputs.{AreReadFrom, IsBegunBy}
 use Rattle.host.specs.declared.errors.HostError.{HostError}
 use Rattle.host.specs.declared.tallies.Tally.{Tally}
 use Rattle.host.specs.Tallies.{tally_of}
-use Rattle.host.specs.Writing.{Outputs, Writes, WroteBefore}
+use Rattle.host.specs.Writing.{Outputs, WritesEach, WroteBefore}
 
 -- The stream was read to its end, or to a fault: it is the stream of the source's bytes, where they are known. The heads,
 -- the lengths of the bodies and the reasons fit, and the bodies are bytes. The report of that stream was written, whole or
@@ -24,7 +24,7 @@ pub record RunsWhole (a : Bounded) (source : Option (List ℕ)) (old new : Outpu
   pub read : AreReadFrom source found
   pub is_report : IsReport a.program found pieces
   pub exits : AllExit a.program a.bound (starting_contents a.program.maps) found.frames
-  pub writes : Writes old new result pieces
+  pub writes : WritesEach old new result pieces
   pub tells : IfOk result (λ tally. tally ≡ tally_of (length found.frames) found.finish)
 
 -- An output failed at the magic or at a frame, and no more was read: the source begins with these frames, where its bytes

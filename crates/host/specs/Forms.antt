@@ -2,10 +2,10 @@
 use Rattle.std.specs.Prelude.{◌≡◌, ℕ}
 use Rattle.isa_model.specs.declared.versions.Version.{Version}
 use Rattle.isa_model.specs.Code.Versions.{version_number}
-use Rattle.isa_model.specs.Reporting.Reports.{Form}
-use Rattle.host.specs.declared.forms.Form.{Form as Fields}
+use Rattle.isa_model.specs.Reporting.Reports.{ReportForm}
+use Rattle.host.specs.declared.forms.ReportForm.{ReportForm as Fields}
 
-abbrev pub form_by : Fields → Form
+abbrev pub form_by : Fields → ReportForm
 form_by form = record { limit = form.limit; program = form.program; stream = form.stream }
 
 -- a version by its number

@@ -6,10 +6,10 @@ use Rattle.isa_model.specs.declared.versions.Version.{Version}
 use Rattle.isa_model.specs.Code.Versions.{stream_magic}
 use Rattle.isa_model.specs.Machine.States.{Entries}
 use Rattle.isa_model.specs.Reporting.Streams.{Frame, Stream, stream_with, AreOpen}
-use Rattle.isa_model.specs.Reporting.Reports.{Piece, ToFrames, Form, Rule, turns_pieces, report_of}
+use Rattle.isa_model.specs.Reporting.Reports.{Piece, ToFrames, ReportForm, Rule, turns_pieces, report_of}
 use Rattle.frames.specs.Inputs.{AreReadFrom, IsBegunBy}
 use Rattle.host.specs.declared.errors.HostError.{HostError}
-use Rattle.host.specs.Writing.{Outputs, Writes, WroteBefore}
+use Rattle.host.specs.Writing.{Outputs, WritesEach, WroteBefore}
 
 -- The stream was read to its end, or to a fault: it is the stream of the source's bytes, where they are known. The heads,
 -- the lengths of the bodies and the reasons fit, and the bodies are bytes. The stream's pieces were written, all of them
@@ -18,7 +18,7 @@ pub record ReportsWhole {X : Type 0} (source : Option (List ℕ)) (pieces : Stre
   pub found : Stream
   pub are_open : AreOpen found.version found.frames
   pub read : AreReadFrom source found
-  pub writes : Writes old new result (pieces found)
+  pub writes : WritesEach old new result (pieces found)
   pub tells : IfOk result (Tells found)
 
 -- An output failed at the magic or at a frame, and no more was read: the source begins with these frames, where its bytes
@@ -39,7 +39,7 @@ Reports source pieces Tells old new result =
 -- ---- the same of a machine, which runs frames by a rule
 
 -- the magic and the frames' pieces
-abbrev pub front_in : Form → Rule → List Entries → List Frame → List Piece
+abbrev pub front_in : ReportForm → Rule → List Entries → List Frame → List Piece
 front_in form rule contents frames = ToFrames (stream_magic form.stream) ∷ turns_pieces form rule 0 contents frames
 
 -- An output failed at one of the magic and these frames' pieces, and no more was read.

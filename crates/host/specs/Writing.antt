@@ -38,10 +38,10 @@ pub record WroteBefore (old new : Outputs) (pieces : List Piece) (error : HostEr
   pub frames : Appends old.frames new.frames (frames_out before ++ take count (frames_part failed))
 
 -- all of the pieces were written, or those before one that failed
-abbrev pub Writes : {X : Type 0} → Outputs → Outputs → Result X HostError → List Piece → Type 0
-Writes old new result pieces = MatchResult result (λ _. Wrote old new pieces) (λ error. WroteBefore old new pieces error)
+abbrev pub WritesEach : {X : Type 0} → Outputs → Outputs → Result X HostError → List Piece → Type 0
+WritesEach old new result pieces = MatchResult result (λ _. Wrote old new pieces) (λ error. WroteBefore old new pieces error)
 
 -- the same of pieces for the report only, whatever the frames out have
 abbrev pub WritesReport : {X : Type 0} → Option (List ℕ) → Option (List ℕ) → Result X HostError → List Piece → Type 0
 WritesReport old new result pieces =
-    (frames : Option (List ℕ)) → Writes (record { report = old; frames = frames }) (record { report = new; frames = frames }) result pieces
+    (frames : Option (List ℕ)) → WritesEach (record { report = old; frames = frames }) (record { report = new; frames = frames }) result pieces

@@ -5,11 +5,11 @@ ghost use Rattle.isa_model.specs.Reporting.Reports.{ToReport, maps_pieces, last_
 ghost use Rattle.host.specs.Forms.{form_by};
 ghost use Rattle.host.specs.Stops.{noted_of, noted_on, TellsNoted};
 ghost use Rattle.host.specs.Tallies.{tally_of};
-ghost use Rattle.host.specs.Writing.{Writes, WritesReport};
+ghost use Rattle.host.specs.Writing.{WritesEach, WritesReport};
 ghost use Rattle.host.specs.Reported.{ReportsBy};
 
 use super::errors::HostError;
-use super::forms::Form;
+use super::forms::ReportForm;
 use super::lines::{line_of_finish, line_of_frame, line_of_skip};
 use super::listings::write_maps;
 use super::reasons::{end_reason, is_written};
@@ -33,14 +33,15 @@ struct Arrival {
 // Runs a frame, and writes its line and then its record, if it has one.
 fn run_frame<M: Runner, W1: Write, W2: Write>(
     machine: &mut M,
-    form: Form,
+    form: ReportForm,
     frame: Arrival,
     body: &mut [u8],
     report: &mut W1,
     out: &mut W2,
 ) -> Result<(), HostError>
     requires { length body.old ≤ max_body form.stream }
-    ensures writes { Writes record { report = W1.contents report.old; frames = W2.contents out.old }
+    ensures writes { WritesEach
+        record { report = W1.contents report.old; frames = W2.contents out.old }
         record { report = W1.contents report.new; frames = W2.contents out.new } result
         (frame_pieces (form_by form) frame.number
         record { head = frame.head; body = body.old; reason = frame.reason }
@@ -74,14 +75,15 @@ fn run_frame<M: Runner, W1: Write, W2: Write>(
 
 // Writes the line of a frame that is not run, and then its record as it came.
 fn skip_frame<W1: Write, W2: Write>(
-    form: Form,
+    form: ReportForm,
     frame: Arrival,
     body: &[u8],
     report: &mut W1,
     out: &mut W2,
 ) -> Result<(), HostError>
     requires { length body.now ≤ max_body form.stream }
-    ensures writes { Writes record { report = W1.contents report.old; frames = W2.contents out.old }
+    ensures writes { WritesEach
+        record { report = W1.contents report.old; frames = W2.contents out.old }
         record { report = W1.contents report.new; frames = W2.contents out.new } result
         (skip_pieces (form_by form) frame.number
         record { head = frame.head; body = body.now; reason = frame.reason }) }
@@ -101,14 +103,15 @@ fn skip_frame<W1: Write, W2: Write>(
 // Runs a frame, unless it has a reason already.
 fn take_frame<M: Runner, W1: Write, W2: Write>(
     machine: &mut M,
-    form: Form,
+    form: ReportForm,
     frame: Arrival,
     body: &mut [u8],
     report: &mut W1,
     out: &mut W2,
 ) -> Result<(), HostError>
     requires { length body.old ≤ max_body form.stream }
-    ensures writes { Writes record { report = W1.contents report.old; frames = W2.contents out.old }
+    ensures writes { WritesEach
+        record { report = W1.contents report.old; frames = W2.contents out.old }
         record { report = W1.contents report.new; frames = W2.contents out.new } result
         (turn_pieces (form_by form) frame.number
         record { head = frame.head; body = body.old; reason = frame.reason }
@@ -193,7 +196,7 @@ pub fn run_frames<M: Runner + Drop, R: Read + Drop, W1: Write, W2: Write>(
         Ok(()) => {}
         Err(_) => return Err(HostError::Frames),
     }
-    let form = Form {
+    let form = ReportForm {
         limit,
         program,
         stream,

@@ -4,7 +4,7 @@ ghost use Rattle.arrayvec.specs.ArrayString.{array_string_len};
 ghost use Rattle.isa_model.specs.Reporting.Reports.{frame_line, skip_line, last_line, reason_text};
 ghost use Rattle.host.specs.Forms.{form_by};
 
-use super::forms::Form;
+use super::forms::ReportForm;
 use super::reasons::reason_of;
 use arrayvec::ArrayString;
 use isa_model::{Action, End, Finish, Version};
@@ -77,7 +77,7 @@ fn push_reason(line: &mut Line, stream: Version, reason: u32)
 /// The line of the frame with this number, by how its run ended and how many bytes it has.
 #[tactic(auto, unfolding(isa_model::specs::Reporting::Reports::frame_line))]
 #[inline(always)]
-pub fn line_of_frame(form: Form, number: u32, end: End, size: usize) -> Line
+pub fn line_of_frame(form: ReportForm, number: u32, end: End, size: usize) -> Line
     ensures { result.bytes ≡ frame_line (form_by form) number end size }
 {
     let mut line = Line::new();

@@ -7,8 +7,8 @@ use Rattle.isa_model.specs.Code.Spelling.{InsnFits}
 use Rattle.isa_model.specs.Text.CanonicalText.{instructions}
 use Rattle.image.specs.Images.{IsCode, is_wide}
 
-abbrev Slots : Type 0
-Slots = List (Option Insn)
+abbrev CodeSlots : Type 0
+CodeSlots = List (Option Insn)
 
 -- the numbers in instructions are of their types
 abbrev pub AllFit : List Insn → Type 0
@@ -17,11 +17,11 @@ AllFit (i ∷ is) = InsnFits i × AllFit is
 
 pub slots-append : (is js : List Insn) → slots (is ++ js) ≡ slots is ++ slots js
 slots-append [] js = refl
-slots-append (LoadNumber d n ∷ is) js = ap (λ (l : Slots). Some (LoadNumber d n) ∷ None ∷ l) (slots-append is js)
-slots-append (LoadMap d m ∷ is) js = ap (λ (l : Slots). Some (LoadMap d m) ∷ None ∷ l) (slots-append is js)
+slots-append (LoadNumber d n ∷ is) js = ap (λ (l : CodeSlots). Some (LoadNumber d n) ∷ None ∷ l) (slots-append is js)
+slots-append (LoadMap d m ∷ is) js = ap (λ (l : CodeSlots). Some (LoadMap d m) ∷ None ∷ l) (slots-append is js)
 slots-append (LoadMapValue d m o ∷ is) js =
-    ap (λ (l : Slots). Some (LoadMapValue d m o) ∷ None ∷ l) (slots-append is js)
-slots-append (i ∷ is) js = ap (λ (l : Slots). Some i ∷ l) (slots-append is js)
+    ap (λ (l : CodeSlots). Some (LoadMapValue d m o) ∷ None ∷ l) (slots-append is js)
+slots-append (i ∷ is) js = ap (λ (l : CodeSlots). Some i ∷ l) (slots-append is js)
 
 -- an instruction of two slots
 pub slots-two : (i : Insn) → slots_of i ≡ 2 → slots (i ∷ []) ≡ Some i ∷ None ∷ []
@@ -45,7 +45,7 @@ length-slots i = refl
 
 -- one more instruction adds its slots
 pub length-slots-more : (is : List Insn) (i : Insn) → length (slots (is ++ i ∷ [])) ≡ length (slots is) + slots_of i
-length-slots-more is i = ap (λ (l : Slots). length l) (slots-append is (i ∷ [])) ∙ length-append (slots is) (slots (i ∷ [])) ∙ ap (λ n. length (slots is) + n) (length-slots i)
+length-slots-more is i = ap (λ (l : CodeSlots). length l) (slots-append is (i ∷ [])) ∙ length-append (slots is) (slots (i ∷ [])) ∙ ap (λ n. length (slots is) + n) (length-slots i)
 
 pub IsCode-one : (i : Insn) → InsnFits i → IsCode false (slots (i ∷ []))
 IsCode-one (LoadNumber d n) h = (h, refl)
@@ -62,7 +62,7 @@ IsCode-append (None ∷ xs) ys false h k = absurd h
 IsCode-append (Some i ∷ xs) ys false h k = (h.0, IsCode-append xs ys (is_wide i) h.1 k)
 
 -- where a second half comes first
-abbrev halves : Bool → List Insn → Slots
+abbrev halves : Bool → List Insn → CodeSlots
 halves true is = None ∷ slots is
 halves false is = slots is
 
@@ -75,10 +75,10 @@ front i is = refl
 halves-instructions : (xs : List (Option Insn)) (half : Bool) → IsCode half xs → halves half (instructions xs) ≡ xs
 halves-instructions [] true h = absurd cc
 halves-instructions [] false h = refl
-halves-instructions (None ∷ xs) true h = ap (λ (l : Slots). None ∷ l) (halves-instructions xs false h)
+halves-instructions (None ∷ xs) true h = ap (λ (l : CodeSlots). None ∷ l) (halves-instructions xs false h)
 halves-instructions (Some i ∷ xs) true h = absurd h
 halves-instructions (None ∷ xs) false h = absurd h
-halves-instructions (Some i ∷ xs) false h = front i (instructions xs) ∙ ap (λ (l : Slots). Some i ∷ l) (halves-instructions xs (is_wide i) h.1)
+halves-instructions (Some i ∷ xs) false h = front i (instructions xs) ∙ ap (λ (l : CodeSlots). Some i ∷ l) (halves-instructions xs (is_wide i) h.1)
 
 -- the slots of an image's instructions are its slots
 pub slots-instructions : (xs : List (Option Insn)) → IsCode false xs → slots (instructions xs) ≡ xs

@@ -16,8 +16,8 @@ use Rattle.image.specs.Images.{code_bytes, is_wide, IsCode, NamesMaps}
 use Rattle.image.specs.Refusals.{◌>>=◌, unless, map_refusal, insn_at, at_slot, code_from}
 use Rattle.image.proofs.RowLaws.{NamesRows-map_refusal, map_refusal-NamesRows}
 
-abbrev Slots : Type 0
-Slots = List (Option Insn)
+abbrev CodeSlots : Type 0
+CodeSlots = List (Option Insn)
 
 -- the laws of the decoder
 pub record Laws : Type 0 where
@@ -29,10 +29,10 @@ bind_ok : {A B : Type 0} (r : Result A ImageError) (f : A → Result B ImageErro
 bind_ok (Ok x) f y e = (x, refl, e)
 bind_ok (Err d) f y e = absurd cc
 
-abbrev slots_ok : Slots → Result Slots ImageError
+abbrev slots_ok : CodeSlots → Result CodeSlots ImageError
 slots_ok xs = Ok xs
 
-pub ok_is : (xs ys : Slots) → slots_ok xs ≡ slots_ok ys → xs ≡ ys
+pub ok_is : (xs ys : CodeSlots) → slots_ok xs ≡ slots_ok ys → xs ≡ ys
 ok_is xs ys e = cc
 
 abbrev decoded_ok : Insn → Result Insn CodecError
@@ -98,7 +98,7 @@ has_half (LoadMapValue d m o) n h = omega arith
 has_half i n h = tt
 
 -- what code was read from: its spelling, its slots, and that it is code
-pub record IsReadFrom (rows : List MapDef) (n : ℕ) (half : Bool) (bytes : List ℕ) (xs : List (Option Insn)) : Type 0 where
+pub record IsParsedCode (rows : List MapDef) (n : ℕ) (half : Bool) (bytes : List ℕ) (xs : List (Option Insn)) : Type 0 where
   pub spelled : code_bytes xs ≡ rest_of half bytes
   pub count : length xs ≡ n
   pub code : IsCode half xs
@@ -108,10 +108,10 @@ no_half : (half : Bool) → HasSecondHalf half 0 → half ≡ false
 no_half true h = absurd (omega arith)
 no_half false h = refl
 
-pub code_from-found : Laws → (rows : List MapDef) (n : ℕ) (half : Bool) (slot : ℕ) (bytes : List ℕ) (xs : List (Option Insn)) → EachByte bytes → length bytes ≡ 8 * n → HasSecondHalf half n → code_from rows n half slot bytes ≡ Ok xs → IsReadFrom rows n half bytes xs
+pub code_from-found : Laws → (rows : List MapDef) (n : ℕ) (half : Bool) (slot : ℕ) (bytes : List ℕ) (xs : List (Option Insn)) → EachByte bytes → length bytes ≡ 8 * n → HasSecondHalf half n → code_from rows n half slot bytes ≡ Ok xs → IsParsedCode rows n half bytes xs
 unfolding code_from
 code_from-found laws rows zero half slot bytes xs small len room e =
-    subst (λ (ys : Slots). IsReadFrom rows 0 half bytes ys) (ok_is [] xs e) (record {
+    subst (λ (ys : CodeSlots). IsParsedCode rows 0 half bytes ys) (ok_is [] xs e) (record {
       spelled = nothing half bytes (omega arith);
       count = refl;
       code = no_half half room;
@@ -120,7 +120,7 @@ code_from-found laws rows zero half slot bytes xs small len room e =
 code_from-found laws rows (suc n) true slot bytes xs small len room e =
     let b = bind_ok (code_from rows n false (slot + 1) (drop 8 bytes)) (λ ys. slots_ok (None ∷ ys)) xs e in
     let more = code_from-found laws rows n false (slot + 1) (drop 8 bytes) b.0 (EachByte-drop 8 bytes small) (omega (arith, length-drop 8 bytes)) tt b.1 in
-    subst (λ (ys : Slots). IsReadFrom rows (suc n) true bytes ys) (ok_is (None ∷ b.0) xs b.2) (record {
+    subst (λ (ys : CodeSlots). IsParsedCode rows (suc n) true bytes ys) (ok_is (None ∷ b.0) xs b.2) (record {
       spelled = more.spelled;
       count = ap suc more.count;
       code = more.code;
@@ -134,7 +134,7 @@ code_from-found laws rows (suc n) false slot bytes xs small len room e =
     let spelled = laws.found bytes a.0 small at.decoded in
     let long : slots_of a.0 ≤ suc n = omega (arith, ap length spelled, length-spelling_of a.0, length-take (8 * slots_of a.0) bytes, len) in
     let more = code_from-found laws rows n (is_wide a.0) (slot + 1) (drop 8 bytes) b.0 (EachByte-drop 8 bytes small) (omega (arith, length-drop 8 bytes)) (has_half a.0 n long) b.1 in
-    subst (λ (ys : Slots). IsReadFrom rows (suc n) false bytes ys) (ok_is (Some a.0 ∷ b.0) xs b.2) (record {
+    subst (λ (ys : CodeSlots). IsParsedCode rows (suc n) false bytes ys) (ok_is (Some a.0 ∷ b.0) xs b.2) (record {
       spelled =
           ap (λ l. spelling_of a.0 ++ l) (more.spelled ∙ after a.0 bytes)
           ∙ ap (λ l. l ++ drop (8 * slots_of a.0) bytes) (sym spelled)
@@ -151,7 +151,7 @@ pub code_from-code_bytes : Laws → (rows : List MapDef) (xs : List (Option Insn
 unfolding code_from
 code_from-code_bytes laws rows [] half slot bytes h k e = refl
 code_from-code_bytes laws rows (None ∷ xs) true slot bytes h k e =
-    ap (λ (r : Result Slots ImageError). r >>= λ ys. slots_ok (None ∷ ys)) (code_from-code_bytes laws rows xs false (slot + 1) (drop 8 bytes) h k e)
+    ap (λ (r : Result CodeSlots ImageError). r >>= λ ys. slots_ok (None ∷ ys)) (code_from-code_bytes laws rows xs false (slot + 1) (drop 8 bytes) h k e)
 code_from-code_bytes laws rows (Some i ∷ xs) true slot bytes h k e = absurd h
 code_from-code_bytes laws rows (None ∷ xs) false slot bytes h k e = absurd h
 code_from-code_bytes laws rows (Some i ∷ xs) false slot bytes h k e =
@@ -161,7 +161,7 @@ code_from-code_bytes laws rows (Some i ∷ xs) false slot bytes h k e =
     let after_is : rest_of (is_wide i) (drop 8 bytes) ≡ code_bytes xs =
     after i bytes ∙ ap (drop (8 * slots_of i)) e ∙ drop_at (spelling_of i) (code_bytes xs) (8 * slots_of i) (length-spelling_of i) in
     ap (λ (r : Result Insn ImageError). r >>= λ j. code_from rows (length xs) (is_wide j) (slot + 1) (drop 8 bytes) >>= λ ys. slots_ok (Some j ∷ ys)) first
-    ∙ ap (λ (r : Result Slots ImageError). r >>= λ ys. slots_ok (Some i ∷ ys)) (code_from-code_bytes laws rows xs (is_wide i) (slot + 1) (drop 8 bytes) h.1 k.1 after_is)
+    ∙ ap (λ (r : Result CodeSlots ImageError). r >>= λ ys. slots_ok (Some i ∷ ys)) (code_from-code_bytes laws rows xs (is_wide i) (slot + 1) (drop 8 bytes) h.1 k.1 after_is)
 
 -- how many bytes of a slot that is a second half are spelled before it
 abbrev pub spelled_before : Bool → ℕ

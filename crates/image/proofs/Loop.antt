@@ -6,8 +6,8 @@ use Rattle.image.specs.declared.errors.ImageError.{ImageError}
 use Rattle.image.specs.Images.{is_wide}
 use Rattle.image.specs.Refusals.{◌>>=◌, row_at, rows_from, insn_at, code_from}
 
-abbrev Slots : Type 0
-Slots = List (Option Insn)
+abbrev CodeSlots : Type 0
+CodeSlots = List (Option Insn)
 
 abbrev pub with_front : {A : Type 0} → List A → Result (List A) ImageError → Result (List A) ImageError
 with_front front read = read >>= λ xs. Ok (front ++ xs)
@@ -20,17 +20,18 @@ regroup front x (Err f) = refl
 next_bytes : (slot : ℕ) (bytes : List ℕ) → drop 8 (drop (8 * slot) bytes) ≡ drop (8 * (slot + 1)) bytes
 next_bytes slot bytes = drop-drop 8 (8 * slot) bytes ∙ ap (λ n. drop n bytes) (omega arith)
 
-abbrev pub SoFar : List MapDef → Slots → ℕ → Bool → ℕ → List ℕ → Result Slots ImageError → Type 0
-SoFar rows front n half slot bytes total = with_front front (code_from rows (n - slot) half slot (drop (8 * slot) bytes)) ≡ total
+abbrev pub CodeReadSoFar : List MapDef → CodeSlots → ℕ → Bool → ℕ → List ℕ
+    → Result CodeSlots ImageError → Type 0
+CodeReadSoFar rows front n half slot bytes total = with_front front (code_from rows (n - slot) half slot (drop (8 * slot) bytes)) ≡ total
 
-pub goes_on_half : (rows : List MapDef) (front : Slots) (n slot : ℕ) (bytes : List ℕ) (total : Result Slots ImageError) → slot < n → SoFar rows front n true slot bytes total → SoFar rows (front ++ None ∷ []) n false (slot + 1) bytes total
+pub goes_on_half : (rows : List MapDef) (front : CodeSlots) (n slot : ℕ) (bytes : List ℕ) (total : Result CodeSlots ImageError) → slot < n → CodeReadSoFar rows front n true slot bytes total → CodeReadSoFar rows (front ++ None ∷ []) n false (slot + 1) bytes total
 unfolding code_from
 goes_on_half rows front n slot bytes total lt so_far =
     let k : n - slot ≡ suc (n - (slot + 1)) = omega arith in
     let one : with_front front (code_from rows (n - slot) true slot (drop (8 * slot) bytes)) ≡ with_front (front ++ None ∷ []) (code_from rows (n - (slot + 1)) false (slot + 1) (drop 8 (drop (8 * slot) bytes))) = rw k (regroup front None (code_from rows (n - (slot + 1)) false (slot + 1) (drop 8 (drop (8 * slot) bytes)))) in
     ap (λ b. with_front (front ++ None ∷ []) (code_from rows (n - (slot + 1)) false (slot + 1) b)) (sym (next_bytes slot bytes)) ∙ sym one ∙ so_far
 
-pub goes_on : (rows : List MapDef) (front : Slots) (n slot : ℕ) (bytes : List ℕ) (i : Insn) (total : Result Slots ImageError) → slot < n → insn_at rows slot (drop (8 * slot) bytes) ≡ Ok i → SoFar rows front n false slot bytes total → SoFar rows (front ++ Some i ∷ []) n (is_wide i) (slot + 1) bytes total
+pub goes_on : (rows : List MapDef) (front : CodeSlots) (n slot : ℕ) (bytes : List ℕ) (i : Insn) (total : Result CodeSlots ImageError) → slot < n → insn_at rows slot (drop (8 * slot) bytes) ≡ Ok i → CodeReadSoFar rows front n false slot bytes total → CodeReadSoFar rows (front ++ Some i ∷ []) n (is_wide i) (slot + 1) bytes total
 unfolding code_from
 goes_on rows front n slot bytes i total lt h so_far =
     let k : n - slot ≡ suc (n - (slot + 1)) = omega arith in
@@ -39,7 +40,7 @@ goes_on rows front n slot bytes i total lt h so_far =
     rw k (ap (λ (r : Result Insn ImageError). with_front front (r >>= λ j. code_from rows (n - (slot + 1)) (is_wide j) (slot + 1) rest >>= λ xs. Ok (Some j ∷ xs))) h ∙ regroup front (Some i) (code_from rows (n - (slot + 1)) (is_wide i) (slot + 1) rest)) in
     ap (λ b. with_front (front ++ Some i ∷ []) (code_from rows (n - (slot + 1)) (is_wide i) (slot + 1) b)) (sym (next_bytes slot bytes)) ∙ sym one ∙ so_far
 
-pub fails : (rows : List MapDef) (e : ImageError) (front : Slots) (n slot : ℕ) (bytes : List ℕ) (total : Result Slots ImageError) → slot < n → insn_at rows slot (drop (8 * slot) bytes) ≡ Err e → SoFar rows front n false slot bytes total → total ≡ Err e
+pub fails : (rows : List MapDef) (e : ImageError) (front : CodeSlots) (n slot : ℕ) (bytes : List ℕ) (total : Result CodeSlots ImageError) → slot < n → insn_at rows slot (drop (8 * slot) bytes) ≡ Err e → CodeReadSoFar rows front n false slot bytes total → total ≡ Err e
 unfolding code_from
 fails rows e front n slot bytes total lt h so_far =
     let k : n - slot ≡ suc (n - (slot + 1)) = omega arith in
@@ -48,11 +49,11 @@ fails rows e front n slot bytes total lt h so_far =
     rw k (ap (λ (r : Result Insn ImageError). with_front front (r >>= λ j. code_from rows (n - (slot + 1)) (is_wide j) (slot + 1) rest >>= λ xs. Ok (Some j ∷ xs))) h) in
     sym so_far ∙ one
 
-pub is_done : (rows : List MapDef) (front : Slots) (n slot : ℕ) (half : Bool) (bytes : List ℕ) (total : Result Slots ImageError) → n ≤ slot → SoFar rows front n half slot bytes total → total ≡ Ok front
+pub is_done : (rows : List MapDef) (front : CodeSlots) (n slot : ℕ) (half : Bool) (bytes : List ℕ) (total : Result CodeSlots ImageError) → n ≤ slot → CodeReadSoFar rows front n half slot bytes total → total ≡ Ok front
 unfolding code_from
 is_done rows front n slot half bytes total le so_far =
     let k : n - slot ≡ 0 = omega arith in
-    let one : with_front front (code_from rows (n - slot) half slot (drop (8 * slot) bytes)) ≡ Ok front = rw k (ap (λ (xs : Slots). Ok xs) (append-nil front)) in
+    let one : with_front front (code_from rows (n - slot) half slot (drop (8 * slot) bytes)) ≡ Ok front = rw k (ap (λ (xs : CodeSlots). Ok xs) (append-nil front)) in
     sym so_far ∙ one
 
 -- ---- map rows

@@ -43,5 +43,5 @@ IsProgram-IsImage p h = record {
 }
 
 -- the contents that maps start with fit their rows
-pub FitRows-starting_contents : (p : Program) → IsImage p → FitRows p.maps (starting_contents p.maps)
-FitRows-starting_contents p h = starting.FitRows-starting_contents p.maps h.rows
+pub IsImage-starting_contents : (p : Program) → IsImage p → FitRows p.maps (starting_contents p.maps)
+IsImage-starting_contents p h = starting.FitRows-starting_contents p.maps h.rows

@@ -125,7 +125,7 @@ length-row_bytes row = refl
 -- ---- rows
 
 -- what rows were read from
-pub record AreReadFrom (n : ℕ) (bytes : List ℕ) (rows : List MapDef) : Type 0 where
+pub record AreParsedRows (n : ℕ) (bytes : List ℕ) (rows : List MapDef) : Type 0 where
   pub spelled : flat_map row_bytes rows ≡ take (12 * n) bytes
   pub count : length rows ≡ n
 

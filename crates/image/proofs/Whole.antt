@@ -101,8 +101,8 @@ sizes bytes h =
 
 -- ---- bytes to images
 
-abbrev pub Slots : Type 0
-Slots = List (Option Insn)
+abbrev pub CodeSlots : Type 0
+CodeSlots = List (Option Insn)
 
 abbrev pub parts : Version → List MapDef → List (Option Insn) → Program
 parts v rows xs = record { insns = xs; maps = rows; version = v }
@@ -289,7 +289,7 @@ image_bytes-read laws bytes p h e =
       sizes = ap size_refusal plain ∙ size_refusal-whole_bytes v m n (rows ++ code) h.few_maps h.some_slots h.few_slots (omega (arith, length-append rows code, rows_long, code_long));
       program =
           ap (λ (r : Result (List MapDef) ImageError). r >>= λ l. code_read bytes l >>= λ xs. program_ok (parts (version_read bytes) l xs)) rows_are
-          ∙ ap (λ (r : Result Slots ImageError). r >>= λ xs. program_ok (parts (version_read bytes) p.maps xs)) code_is
+          ∙ ap (λ (r : Result CodeSlots ImageError). r >>= λ xs. program_ok (parts (version_read bytes) p.maps xs)) code_is
           ∙ ap (λ (w : Version). program_ok (parts w p.maps p.insns)) version;
     }
 
@@ -308,11 +308,11 @@ code_read-slice bytes count rows s e =
     ∙ ap (λ (n : ℕ). code_from rows n false 0 (drop (8 + 12 * map_count bytes) bytes)) slots
 
 -- where the rows were read, the code decides
-pub program_read-code : (bytes : List ℕ) (rows : List MapDef) (r : Result Slots ImageError) → rows_from (map_count bytes) 0 (drop 8 bytes) ≡ Ok rows → room_refusal rows ≡ None → code_read bytes rows ≡ r → program_read bytes ≡ (r >>= λ xs. program_ok (parts (version_read bytes) rows xs))
+pub program_read-code : (bytes : List ℕ) (rows : List MapDef) (r : Result CodeSlots ImageError) → rows_from (map_count bytes) 0 (drop 8 bytes) ≡ Ok rows → room_refusal rows ≡ None → code_read bytes rows ≡ r → program_read bytes ≡ (r >>= λ xs. program_ok (parts (version_read bytes) rows xs))
 program_read-code bytes rows r h room e =
     ap (λ (x : Result (List MapDef) ImageError). (x >>= λ l. unless (room_refusal l) l) >>= λ l. code_read bytes l >>= λ xs. program_ok (parts (version_read bytes) l xs)) h
     ∙ ap (λ (o : Option ImageError). unless o rows >>= λ l. code_read bytes l >>= λ xs. program_ok (parts (version_read bytes) l xs)) room
-    ∙ ap (λ (x : Result Slots ImageError). x >>= λ xs. program_ok (parts (version_read bytes) rows xs)) e
+    ∙ ap (λ (x : Result CodeSlots ImageError). x >>= λ xs. program_ok (parts (version_read bytes) rows xs)) e
 
 pub code_fails : (bytes : List ℕ) (rows : List MapDef) (e : ImageError) → rows_from (map_count bytes) 0 (drop 8 bytes) ≡ Ok rows → room_refusal rows ≡ None → (e ≡ Memory) ⊎ (code_read bytes rows ≡ Err e) → (e ≡ Memory) ⊎ (program_read bytes ≡ Err e)
 code_fails bytes rows e h room (inl m) = inl m

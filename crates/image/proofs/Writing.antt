@@ -13,8 +13,8 @@ use Rattle.exact_io.specs.Transfers.{AppendsBeginning}
 use Rattle.exact_io.proofs.TransferLaws.{AppendsBeginning-first, AppendsBeginning-second}
 use Rattle.image.specs.Images.{row_bytes, slot_spelling, code_bytes}
 
-abbrev Slots : Type 0
-Slots = List (Option Insn)
+abbrev CodeSlots : Type 0
+CodeSlots = List (Option Insn)
 
 -- a fact holds on an error, where it holds
 pub on_err : {X E : Type 0} (P : Type 0) (r : Result X E) → P → OnErr r P
@@ -24,9 +24,9 @@ on_err P (Err e) h = h
 -- the spelling of code, in three parts at the instruction of a slot
 code_bytes-split : (xs : List (Option Insn)) (k : ℕ) (i : Insn) → k < length xs → get_or xs k None ≡ Some i → code_bytes xs ≡ code_bytes (take k xs) ++ (spelling_of i ++ code_bytes (drop (suc k) xs))
 code_bytes-split xs k i lt e =
-    ap (λ (l : Slots). code_bytes l) (sym (take-append-drop k xs))
+    ap (λ (l : CodeSlots). code_bytes l) (sym (take-append-drop k xs))
     ∙ flat_map-append slot_spelling (take k xs) (drop k xs)
-    ∙ ap (λ (l : Slots). code_bytes (take k xs) ++ code_bytes l) (drop-cons xs k None lt)
+    ∙ ap (λ (l : CodeSlots). code_bytes (take k xs) ++ code_bytes l) (drop-cons xs k None lt)
     ∙ ap (λ (o : Option Insn). code_bytes (take k xs) ++ (slot_spelling o ++ code_bytes (drop (suc k) xs))) e
 
 -- after the slots before it, a part of a slot's instruction was written

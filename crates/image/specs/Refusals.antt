@@ -198,6 +198,7 @@ unfoldable pub refusal_of : List ℕ → Option ImageError
 refusal_of bytes = option_or (size_refusal bytes) (result_err (program_read bytes))
 
 -- the view of what a function returned is what reading gives, unless memory ran out
-abbrev pub Gives : {X Y : Type 0} → (X → Y) → Result X ImageError → Result Y ImageError → Type 0
-Gives view (Ok x) read = read ≡ Ok (view x)
-Gives view (Err e) read = (e ≡ Memory) ⊎ (read ≡ Err e)
+abbrev pub ReturnsParsed : {X Y : Type 0} → (X → Y) → Result X ImageError → Result Y ImageError
+    → Type 0
+ReturnsParsed view (Ok x) read = read ≡ Ok (view x)
+ReturnsParsed view (Err e) read = (e ≡ Memory) ⊎ (read ≡ Err e)

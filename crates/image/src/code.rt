@@ -6,7 +6,7 @@ ghost use Rattle.isa_model.specs.Code.Instructions.{slots};
 ghost use Rattle.isa_model.specs.Code.Spelling.{spelling_of, InsnFits};
 ghost use Rattle.exact_io.specs.Transfers.{AppendsBeginning};
 ghost use Rattle.image.specs.Images.{code_bytes, IsCode};
-ghost use Rattle.image.specs.Refusals.{Gives, insn_at, code_from};
+ghost use Rattle.image.specs.Refusals.{ReturnsParsed, insn_at, code_from};
 
 use crate::errors::ImageError;
 use crate::named::map_refusal;
@@ -75,7 +75,7 @@ pub fn code_of(
     maps: &[MapDef],
     bytes: &[u8],
 ) -> Result<Vec<Option<Insn>>, ImageError>
-    ensures { Gives (λ v. v.items) result
+    ensures { ReturnsParsed (λ v. v.items) result
         (code_from maps.now (length bytes.now / 8) false 0 bytes.now) }
 {
     let mut slots = Vec::new(alloc);

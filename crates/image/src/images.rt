@@ -7,7 +7,7 @@ ghost use Rattle.isa_model.specs.Code.Versions.{version_number};
 ghost use Rattle.isa_model.specs.Code.Instructions.{Program, fetch, slots};
 ghost use Rattle.exact_io.specs.Transfers.{AppendsBeginning};
 ghost use Rattle.image.specs.Images.{IsImage, image_bytes, program_of};
-ghost use Rattle.image.specs.Refusals.{Gives, size_refusal, version_read, program_read, refusal_of, parts_refusal};
+ghost use Rattle.image.specs.Refusals.{ReturnsParsed, size_refusal, version_read, program_read, refusal_of, parts_refusal};
 
 use crate::code::{by_slot, code_of, write_code};
 use crate::errors::ImageError;
@@ -51,7 +51,7 @@ impl Model for Image {
 // The rows and the code of an image whose sizes are right.
 fn parts_of(alloc: Global, bytes: &[u8]) -> Result<(Vec<MapDef>, Vec<Option<Insn>>), ImageError>
     requires { size_refusal bytes.now ≡ None }
-    ensures { Gives (λ parts. record {
+    ensures { ReturnsParsed (λ parts. record {
       insns = parts.1.items;
       maps = parts.0.items;
       version = version_read bytes.now;

@@ -6,7 +6,7 @@ ghost use Rattle.std.specs.Io.KnownBytes.{Appends};
 ghost use Rattle.isa_model.specs.Code.MapRows.{IsRow};
 ghost use Rattle.exact_io.specs.Transfers.{AppendsBeginning};
 ghost use Rattle.image.specs.Images.{kind_code, row_bytes, room_of};
-ghost use Rattle.image.specs.Refusals.{Gives, key_fits, row_fits, kind_numbered, row_at, rows_from, rows_refusal, room_refusal};
+ghost use Rattle.image.specs.Refusals.{ReturnsParsed, key_fits, row_fits, kind_numbered, row_at, rows_from, rows_refusal, room_refusal};
 
 use crate::errors::ImageError;
 use byteorder::{ByteOrder, LittleEndian};
@@ -109,7 +109,7 @@ fn row_at(index: usize, bytes: &[u8]) -> Result<MapDef, ImageError>
 /// As many rows, one after the other, as the count says.
 pub fn rows_of(alloc: Global, count: usize, bytes: &[u8]) -> Result<Vec<MapDef>, ImageError>
     requires { 12 * count ≤ length bytes.now }
-    ensures { Gives (λ v. v.items) result (rows_from count 0 bytes.now) }
+    ensures { ReturnsParsed (λ v. v.items) result (rows_from count 0 bytes.now) }
 {
     let mut rows = Vec::new(alloc);
     for index in 0..count {

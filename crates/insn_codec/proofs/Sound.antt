@@ -289,7 +289,7 @@ meaning-spelled form.Exit d r o k rest i h z e =
     tt tt (ok_is _ _ e)
 
 -- a slot whose fields fit
-pub record SlotFits (s : Slot) : Type 0 where
+pub record HasFittingFields (s : Slot) : Type 0 where
   pub opcode : s.opcode < 256
   pub dst : s.dst < 16
   pub src : s.src < 16
@@ -308,7 +308,7 @@ src_some : (f : Form) (s : Slot) (d : Reg) (r : Option Reg) (rest : List ℕ) (i
 src_some f s d None rest i e = absurd cc
 src_some f s d (Some x) rest i e = (x, refl, e)
 
-pub slot_meaning-spelled : (s : Slot) (rest : List ℕ) (i : Insn) → SlotFits s → EachByte rest → slot_meaning s rest ≡ Ok i → SpelledBy s rest i
+pub slot_meaning-spelled : (s : Slot) (rest : List ℕ) (i : Insn) → HasFittingFields s → EachByte rest → slot_meaning s rest ≡ Ok i → SpelledBy s rest i
 unfolding slot_meaning
 slot_meaning-spelled s rest i fits small e =
     let a = form_some (form_of s.opcode) s rest i e in

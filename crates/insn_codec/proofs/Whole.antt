@@ -32,7 +32,7 @@ use Rattle.insn_codec.specs.declared.errors.CodecError.{CodecError}
 use Rattle.insn_codec.specs.declared.errors.CodecError.TheVariants.{Short}
 use Rattle.insn_codec.specs.Decoding.{slot_at, slot_meaning, decoded, sized}
 use Rattle.insn_codec.proofs.Selectors.{chosen}
-use Rattle.insn_codec.proofs.Sound.{slot_is, Continues, SlotFits, SpelledBy, slot_meaning-spelled}
+use Rattle.insn_codec.proofs.Sound.{slot_is, Continues, HasFittingFields, SpelledBy, slot_meaning-spelled}
 use Rattle.insn_codec.proofs.Again.{slot_meaning-first_slot}
 
 two_heads : (xs : List ℕ) → 2 ≤ length xs → take 2 xs ≡ slice_index xs 0 ∷ slice_index xs 1 ∷ []
@@ -54,7 +54,7 @@ bytes-slot_at xs small long =
     ∙ ap (λ l. slice_index xs 0 ∷ slice_index xs 1 ∷ l) (sym six)
     ∙ sym (take-add 2 6 xs ∙ ap (λ l. l ++ take 6 (drop 2 xs)) heads)
 
-slot_at-fits : (xs : List ℕ) → EachByte xs → SlotFits (slot_at xs)
+slot_at-fits : (xs : List ℕ) → EachByte xs → HasFittingFields (slot_at xs)
 slot_at-fits xs small = record {
   opcode = small 0;
   dst = omega arith;

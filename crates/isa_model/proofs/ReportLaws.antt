@@ -13,7 +13,7 @@ use Rattle.isa_model.specs.Code.Versions.{stream_magic, head_size}
 use Rattle.isa_model.specs.Code.Limits.{max_body, max_packet}
 use Rattle.isa_model.specs.Code.Instructions.{Program}
 use Rattle.isa_model.specs.Machine.States.{Entries}
-use Rattle.isa_model.specs.Reporting.Streams.{Frame, IsFrame, ReasonFits, reason_field, length_field, Ending, ByEnd, ByError, opened, stop_at, frame_of, record_size, frames_from, Input, Stream, stream_opened, stream_of}
+use Rattle.isa_model.specs.Reporting.Streams.{Frame, IsFrame, ReasonFits, reason_field, length_field, InputEnding, ByEnd, ByError, opened, stop_at, frame_of, record_size, frames_from, Input, Stream, stream_opened, stream_of}
 use Rattle.isa_model.proofs.StreamLaws.{frames_from-stops, frames_from-goes_on, frames_behind}
 use Rattle.isa_model.specs.Running.Runs.{Outcome, Turn}
 use Rattle.isa_model.proofs.RunLaws.{turn-outcome, HasOutcome-same}
@@ -21,7 +21,7 @@ use Rattle.isa_model.specs.Machine.MachineStates.{AreBytes, FitRows, IsProgram, 
 use Rattle.isa_model.proofs.ValueLaws.{slice_index_fits}
 use Rattle.isa_model.specs.Running.Outcomes.{StartsEnd, AllExit, ExitsOn}
 use Rattle.isa_model.proofs.OutcomesLaws.{ExitsWithin, ExitsWithin-StartsEnd, FitRows-HasOutcome}
-use Rattle.isa_model.specs.Reporting.Reports.{Piece, ToReport, ToFrames, Form, maps_pieces, last_line, frame_pieces, frame_line, skip_pieces, turn_pieces, contents_left, turns_pieces, contents_after, checked_rule, checked_report, turn_by, starting_contents, ReportsFrame, ReportsFrames, form_of, IsReport}
+use Rattle.isa_model.specs.Reporting.Reports.{Piece, ToReport, ToFrames, ReportForm, maps_pieces, last_line, frame_pieces, frame_line, skip_pieces, turn_pieces, contents_left, turns_pieces, contents_after, checked_rule, checked_report, turn_by, starting_contents, ReportsFrame, ReportsFrames, form_of, IsReport}
 
 reason_fits : (v : Version) (bytes : List ℕ) → AreBytes bytes → ReasonFits v (reason_field v bytes)
 reason_fits One bytes h = refl
@@ -39,13 +39,13 @@ IsFrame-frame_of v bytes h short = record {
 }
 
 -- where a record follows, its body is no longer than it may be
-length_field-stop_at : (v : Version) (number offset : ℕ) (bytes : List ℕ) (e : Ending) → stop_at v number offset bytes e ≡ None → length_field bytes ≤ max_body v
+length_field-stop_at : (v : Version) (number offset : ℕ) (bytes : List ℕ) (e : InputEnding) → stop_at v number offset bytes e ≡ None → length_field bytes ≤ max_body v
 unfolding stop_at
 length_field-stop_at v number offset [] ByEnd h = absurd (cc)
 length_field-stop_at v number offset [] ByError h = absurd (cc)
 length_field-stop_at v number offset (b ∷ bytes) e h = grind (arith, nat_tests)
 
-frames_fit : (fuel : ℕ) (v : Version) (number offset : ℕ) (bytes : List ℕ) (e : Ending) → AreBytes bytes → All (IsFrame v) (frames_from fuel v number offset bytes e).0
+frames_fit : (fuel : ℕ) (v : Version) (number offset : ℕ) (bytes : List ℕ) (e : InputEnding) → AreBytes bytes → All (IsFrame v) (frames_from fuel v number offset bytes e).0
 unfolding frames_from
 frames_fit zero v number offset bytes e h = All-nil (IsFrame v)
 frames_fit (suc fuel) v number offset bytes e h = go (stop_at v number offset bytes e) refl (λ n o rest k. frames_fit fuel v n o rest e k)
@@ -76,15 +76,15 @@ stream_of-AreFrames input h = go (opened input.bytes input.ending)
     go (Err fault) = All-nil (IsFrame One)
 
 -- the limit shows in the line of a run that it stopped only
-abbrev with_limit : ℕ → Form → Form
+abbrev with_limit : ℕ → ReportForm → ReportForm
 with_limit n form = record form { limit = n }
 
-frame_pieces-turn_by : (m : ℕ) (form : Form) (number : ℕ) (f : Frame) (o : Outcome)
+frame_pieces-turn_by : (m : ℕ) (form : ReportForm) (number : ℕ) (f : Frame) (o : Outcome)
     → frame_pieces (with_limit m form) number f (turn_by o) ≡ frame_pieces form number f (turn_by o)
 unfolding frame_pieces frame_line
 frame_pieces-turn_by m form number f o = refl
 
-skip_pieces-limit : (m : ℕ) (form : Form) (number : ℕ) (f : Frame) → skip_pieces (with_limit m form) number f ≡ skip_pieces form number f
+skip_pieces-limit : (m : ℕ) (form : ReportForm) (number : ℕ) (f : Frame) → skip_pieces (with_limit m form) number f ≡ skip_pieces form number f
 unfolding skip_pieces
 skip_pieces-limit m form number f = refl
 
@@ -101,7 +101,7 @@ outcome_on p n contents v f h fits here =
     (ExitsWithin-StartsEnd p n f.head f.body contents (λ k. f.head.time) h (λ k. here.time) given, given)
 
 -- one frame: what its run, if it has one, is, and what it leaves
-abbrev RunsOne : Program → ℕ → Form → ℕ → List Entries → Frame → Bool → Option Turn → Type 0
+abbrev RunsOne : Program → ℕ → ReportForm → ℕ → List Entries → Frame → Bool → Option Turn → Type 0
 RunsOne p n form number contents f runs t =
     ExitsOn p n contents f runs (contents_left contents t)
     × ReportsFrame form p number contents f runs (turn_pieces (with_limit n form) number f t) (contents_left contents t)
@@ -110,7 +110,7 @@ RunsOne p n form number contents f runs t =
 abbrev turn_if : Program → ℕ → List Entries → Frame → Bool → Option Turn
 turn_if p n contents f runs = if runs then Some (checked_rule p n f.head f.body contents) else None
 
-runs_one : (p : Program) (n : ℕ) (form : Form) (number : ℕ) (contents : List Entries) (v : Version) (f : Frame) (runs : Bool) → IsProgram p → StartsEnd p n
+runs_one : (p : Program) (n : ℕ) (form : ReportForm) (number : ℕ) (contents : List Entries) (v : Version) (f : Frame) (runs : Bool) → IsProgram p → StartsEnd p n
     → FitRows p.maps contents → IsFrame v f → RunsOne p n form number contents f runs (turn_if p n contents f runs)
 runs_one p n form number contents v f false program h fits here = (refl, (skip_pieces-limit n form number f, refl), fits)
 runs_one p n form number contents v f true program h fits here =
@@ -123,12 +123,12 @@ runs_one p n form number contents v f true program h fits here =
     subst (λ (t : Turn). RunsOne p n form number contents f true (Some t)) (sym same)
     ((o, exit.found, exit.few, refl), (o, exit.found, frame_pieces-turn_by n form number f o, refl), left)
 
-abbrev RunsOn : Program → ℕ → Form → ℕ → List Entries → List Frame → Type 0
+abbrev RunsOn : Program → ℕ → ReportForm → ℕ → List Entries → List Frame → Type 0
 RunsOn p n form number contents frames =
     AllExit p n contents frames
     × ReportsFrames form p number contents frames (turns_pieces (with_limit n form) (checked_rule p n) number contents frames) (contents_after (checked_rule p n) contents frames)
 
-runs_on : (p : Program) (n : ℕ) (form : Form) (number : ℕ) (contents : List Entries) (v : Version) (frames : List Frame) → IsProgram p → StartsEnd p n → FitRows p.maps contents
+runs_on : (p : Program) (n : ℕ) (form : ReportForm) (number : ℕ) (contents : List Entries) (v : Version) (frames : List Frame) → IsProgram p → StartsEnd p n → FitRows p.maps contents
     → All (IsFrame v) frames → RunsOn p n form number contents frames
 runs_on p n form number contents v [] program h fits each = (tt, (refl, refl))
 runs_on p n form number contents v (f ∷ frames) program h fits each =
@@ -156,7 +156,7 @@ IsReport-checked p n found program h fits each =
       exits,
     )
 
-ReportsFrame-same : (form : Form) (p : Program) (number : ℕ) (contents : List Entries) (f : Frame) (runs : Bool) (pieces others : List Piece) (next after : List Entries)
+ReportsFrame-same : (form : ReportForm) (p : Program) (number : ℕ) (contents : List Entries) (f : Frame) (runs : Bool) (pieces others : List Piece) (next after : List Entries)
     → ReportsFrame form p number contents f runs pieces next → ReportsFrame form p number contents f runs others after → (pieces ≡ others) × (next ≡ after)
 ReportsFrame-same form p number contents f false pieces others next after h k = (h.0 ∙ sym k.0, h.1 ∙ sym k.1)
 ReportsFrame-same form p number contents f true pieces others next after h k =
@@ -165,7 +165,7 @@ ReportsFrame-same form p number contents f true pieces others next after h k =
     let one : o ≡ q = HasOutcome-same p f.head f.body contents (λ k. f.head.time) o q found also in
     (is ∙ ap (λ (x : Outcome). frame_pieces form number f (turn_by x)) one ∙ sym was, leaves ∙ ap (λ (x : Outcome). x.contents) one ∙ sym left)
 
-ReportsFrames-same : (form : Form) (p : Program) (number : ℕ) (contents : List Entries) (frames : List Frame) (pieces others : List Piece) (last end : List Entries)
+ReportsFrames-same : (form : ReportForm) (p : Program) (number : ℕ) (contents : List Entries) (frames : List Frame) (pieces others : List Piece) (last end : List Entries)
     → ReportsFrames form p number contents frames pieces last → ReportsFrames form p number contents frames others end → (pieces ≡ others) × (last ≡ end)
 ReportsFrames-same form p number contents [] pieces others last end h k = (h.0 ∙ sym k.0, h.1 ∙ sym k.1)
 ReportsFrames-same form p number contents (f ∷ frames) pieces others last end h k =

@@ -12,7 +12,7 @@ use Rattle.isa_model.specs.declared.versions.Version.{Version}
 use Rattle.isa_model.specs.declared.versions.Version.TheVariants.{One, Two}
 use Rattle.isa_model.specs.Code.Versions.{stream_magic, head_size}
 use Rattle.isa_model.specs.Code.Limits.{max_body}
-use Rattle.isa_model.specs.Reporting.Streams.{Frame, IsFrame, max_frames, head_bytes, frame_bytes, records_bytes, length_field, reason_field, Ending, ByEnd, ByError, Input, opened, stop_at, frame_of, record_size, frames_from, stream_with, stream_opened, stream_of, AreOpen}
+use Rattle.isa_model.specs.Reporting.Streams.{Frame, IsFrame, max_frames, head_bytes, frame_bytes, records_bytes, length_field, reason_field, InputEnding, ByEnd, ByError, Input, opened, stop_at, frame_of, record_size, frames_from, stream_with, stream_opened, stream_of, AreOpen}
 
 -- the length in a record's head is that of its body
 pub length_field-frame_bytes : (v : Version) (f : Frame) (rest : List ℕ) → length f.body ≤ max_body v
@@ -69,14 +69,14 @@ size-frame_bytes One f = omega arith
 size-frame_bytes Two f = omega arith
 
 -- the stream does not stop where a head and all of its body are there
-stop_at-none : (v : Version) (number offset : ℕ) (bytes : List ℕ) (e : Ending) → number ≢ max_frames → head_size v ≤ length bytes → length_field bytes ≤ max_body v
+stop_at-none : (v : Version) (number offset : ℕ) (bytes : List ℕ) (e : InputEnding) → number ≢ max_frames → head_size v ≤ length bytes → length_field bytes ≤ max_body v
     → head_size v + length_field bytes ≤ length bytes → stop_at v number offset bytes e ≡ None
 unfolding stop_at
 stop_at-none v number offset [] e n p q r = let some = some_head v in absurd (omega arith)
 stop_at-none v number offset (b ∷ bytes) e n p q r = grind (arith, nat_tests)
 
 -- the stream does not stop where a record is there
-pub stop_at-frame_bytes : (v : Version) (number offset : ℕ) (f : Frame) (rest : List ℕ) (e : Ending) → number < max_frames → IsFrame v f
+pub stop_at-frame_bytes : (v : Version) (number offset : ℕ) (f : Frame) (rest : List ℕ) (e : InputEnding) → number < max_frames → IsFrame v f
     → stop_at v number offset (frame_bytes v f ++ rest) e ≡ None
 stop_at-frame_bytes v number offset f rest e early ok =
     let field = length_field-frame_bytes v f rest ok.short in
@@ -85,13 +85,13 @@ stop_at-frame_bytes v number offset f rest e early ok =
     stop_at-none v number offset (frame_bytes v f ++ rest) e (omega arith) (omega arith) (omega arith) (omega arith)
 
 -- a stream that stops has no more records
-pub frames_from-stops : (fuel : ℕ) (v : Version) (number offset : ℕ) (bytes : List ℕ) (e : Ending) (stop : Finish) → stop_at v number offset bytes e ≡ Some stop
+pub frames_from-stops : (fuel : ℕ) (v : Version) (number offset : ℕ) (bytes : List ℕ) (e : InputEnding) (stop : Finish) → stop_at v number offset bytes e ≡ Some stop
     → frames_from (suc fuel) v number offset bytes e ≡ ([], stop)
 unfolding frames_from
 frames_from-stops fuel v number offset bytes e stop h = rw (h, frames_from) refl
 
 -- the records after the one at the front
-abbrev pub frames_behind : ℕ → Version → ℕ → ℕ → List ℕ → Ending → List Frame × Finish
+abbrev pub frames_behind : ℕ → Version → ℕ → ℕ → List ℕ → InputEnding → List Frame × Finish
 frames_behind fuel v number offset bytes e =
     let size = record_size v (frame_of v bytes) in
     frames_from fuel v (number + 1) (offset + size) (drop size bytes) e
@@ -100,20 +100,20 @@ abbrev with_frame : Frame → List Frame × Finish → List Frame × Finish
 with_frame f t = (f ∷ t.0, t.1)
 
 -- a stream that goes on has the record at its front, and then those after it
-pub frames_from-goes_on : (fuel : ℕ) (v : Version) (number offset : ℕ) (bytes : List ℕ) (e : Ending) → stop_at v number offset bytes e ≡ None
+pub frames_from-goes_on : (fuel : ℕ) (v : Version) (number offset : ℕ) (bytes : List ℕ) (e : InputEnding) → stop_at v number offset bytes e ≡ None
     → frames_from (suc fuel) v number offset bytes e
     ≡ (frame_of v bytes ∷ (frames_behind fuel v number offset bytes e).0, (frames_behind fuel v number offset bytes e).1)
 unfolding frames_from
 frames_from-goes_on fuel v number offset bytes e h = rw (h, frames_from) refl
 
 -- no bytes at all
-frames_from-nil : (fuel more : ℕ) (v : Version) (number offset : ℕ) (e : Ending) → frames_from (suc fuel) v number offset [] e ≡ frames_from (suc more) v number offset [] e
+frames_from-nil : (fuel more : ℕ) (v : Version) (number offset : ℕ) (e : InputEnding) → frames_from (suc fuel) v number offset [] e ≡ frames_from (suc more) v number offset [] e
 unfolding frames_from stop_at
 frames_from-nil fuel more v number offset ByEnd = refl
 frames_from-nil fuel more v number offset ByError = refl
 
 -- fuel beyond the number of bytes changes nothing
-pub frames_from-fuel : (fuel more : ℕ) (v : Version) (number offset : ℕ) (bytes : List ℕ) (e : Ending) → length bytes < fuel → length bytes < more
+pub frames_from-fuel : (fuel more : ℕ) (v : Version) (number offset : ℕ) (bytes : List ℕ) (e : InputEnding) → length bytes < fuel → length bytes < more
     → frames_from fuel v number offset bytes e ≡ frames_from more v number offset bytes e
 frames_from-fuel zero more v number offset bytes e a b = absurd (omega arith)
 frames_from-fuel (suc fuel) zero v number offset bytes e a b = absurd (omega arith)
@@ -135,7 +135,7 @@ frames_from-fuel (suc fuel) (suc more) v number offset (x ∷ xs) e a b =
     go (Some stop) h same = frames_from-stops fuel v number offset (x ∷ xs) e stop h ∙ sym (frames_from-stops more v number offset (x ∷ xs) e stop h)
 
 -- A stream that begins with a record has that record, and then the records after it.
-pub frames_from-frame_bytes : (fuel more : ℕ) (v : Version) (number offset : ℕ) (f : Frame) (rest : List ℕ) (e : Ending) → number < max_frames → IsFrame v f
+pub frames_from-frame_bytes : (fuel more : ℕ) (v : Version) (number offset : ℕ) (f : Frame) (rest : List ℕ) (e : InputEnding) → number < max_frames → IsFrame v f
     → length (frame_bytes v f ++ rest) < fuel → length rest < more
     → frames_from fuel v number offset (frame_bytes v f ++ rest) e
     ≡ with_frame f (frames_from more v (number + 1) (offset + record_size v f) rest e)
@@ -166,7 +166,7 @@ abbrev with_frames : List Frame → List Frame × Finish → List Frame × Finis
 with_frames fs t = (fs ++ t.0, t.1)
 
 -- A stream that begins with records in a row has these records, and then those after them.
-pub frames_from-records : (fs : List Frame) (fuel more : ℕ) (v : Version) (number offset : ℕ) (rest : List ℕ) (e : Ending)
+pub frames_from-records : (fs : List Frame) (fuel more : ℕ) (v : Version) (number offset : ℕ) (rest : List ℕ) (e : InputEnding)
     → number + length fs ≤ max_frames → All (IsFrame v) fs → length (records_bytes v fs ++ rest) < fuel → length rest < more
     → frames_from fuel v number offset (records_bytes v fs ++ rest) e
     ≡ with_frames fs (frames_from more v (number + length fs) (offset + length (records_bytes v fs)) rest e)
@@ -188,7 +188,7 @@ frames_from-records (f ∷ fs) fuel more v number offset rest e few ok a b =
     ∙ ap (λ n. with_frames (f ∷ fs) (frames_from more v (number + length (f ∷ fs)) n rest e)) offsets
 
 -- the magic opens a stream of its version
-pub opened-magic : (v : Version) (rest : List ℕ) (e : Ending) → opened (stream_magic v ++ rest) e ≡ Ok v
+pub opened-magic : (v : Version) (rest : List ℕ) (e : InputEnding) → opened (stream_magic v ++ rest) e ≡ Ok v
 unfolding opened
 opened-magic One rest e = let long : nat_lt (length (stream_magic One ++ rest)) 4 ≡ false = le-ltb _ _ (omega (arith, length-append (stream_magic One) rest)) in rw long refl
 opened-magic Two rest e = let long : nat_lt (length (stream_magic Two ++ rest)) 4 ≡ false = le-ltb _ _ (omega (arith, length-append (stream_magic Two) rest)) in rw long refl
@@ -199,7 +199,7 @@ drop-magic One rest = refl
 drop-magic Two rest = refl
 
 -- the stream of an input that begins with the magic
-stream_of-magic : (v : Version) (rest : List ℕ) (e : Ending)
+stream_of-magic : (v : Version) (rest : List ℕ) (e : InputEnding)
     → stream_of (record { bytes = stream_magic v ++ rest; ending = e })
     ≡ stream_with v (frames_from (suc (length (stream_magic v ++ rest))) v 0 4 rest e)
 stream_of-magic v rest e =
@@ -212,7 +212,8 @@ abbrev pub offset_after : Version → List Frame → ℕ
 offset_after v frames = 4 + length (records_bytes v frames)
 
 -- The stream of an input that begins with records in a row has these records, and then those after them.
-pub stream_of-records : (v : Version) (fs : List Frame) (rest : List ℕ) (e : Ending) → AreOpen v fs
+pub stream_of-records : (v : Version) (fs : List Frame) (rest : List ℕ) (e : InputEnding)
+    → AreOpen v fs
     → stream_of (record { bytes = stream_magic v ++ (records_bytes v fs ++ rest); ending = e })
     ≡ stream_with v (with_frames fs (frames_from (suc (length rest)) v (length fs) (offset_after v fs) rest e))
 stream_of-records v fs rest e ok =
@@ -226,7 +227,8 @@ stream_of-records v fs rest e ok =
     ∙ ap (λ n. stream_with v (with_frames fs (frames_from (suc (length rest)) v n (offset_after v fs) rest e))) number
 
 -- The stream of an input that begins with records in a row has these records, and then more.
-pub stream_of-begins : (v : Version) (fs : List Frame) (rest : List ℕ) (e : Ending) → AreOpen v fs
+pub stream_of-begins : (v : Version) (fs : List Frame) (rest : List ℕ) (e : InputEnding)
+    → AreOpen v fs
     → (more : List Frame) × (stop : Finish)
     × (stream_of (record { bytes = stream_magic v ++ (records_bytes v fs ++ rest); ending = e }) ≡ stream_with v (fs ++ more, stop))
 stream_of-begins v fs rest e ok =
@@ -234,7 +236,7 @@ stream_of-begins v fs rest e ok =
     (t.0, t.1, stream_of-records v fs rest e ok)
 
 -- The stream of an input that stops after records in a row is these records and that stop.
-pub stream_of-stops : (v : Version) (fs : List Frame) (rest : List ℕ) (e : Ending) (stop : Finish) → AreOpen v fs
+pub stream_of-stops : (v : Version) (fs : List Frame) (rest : List ℕ) (e : InputEnding) (stop : Finish) → AreOpen v fs
     → stop_at v (length fs) (offset_after v fs) rest e ≡ Some stop
     → stream_of (record { bytes = stream_magic v ++ (records_bytes v fs ++ rest); ending = e }) ≡ stream_with v (fs, stop)
 stream_of-stops v fs rest e stop ok h =

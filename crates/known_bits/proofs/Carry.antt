@@ -6,7 +6,7 @@ use Rattle.std.proofs.lemmas.Nat.{and_le_l, and_le_r, and_mod, or_lt, xor_lt, po
 use Rattle.std.proofs.lemmas.Nat.Bits.{bit_at_and, bit_at_or, bit_at_xor, bit_at-lt, bit_at_ones}
 use Rattle.std.proofs.lemmas.Bool.{cases_lt}
 use Rattle.known_bits.specs.Member.{IsMember}
-use Rattle.known_bits.proofs.Members.{Known, Between, bits_between, member_from_bits, member_and_most}
+use Rattle.known_bits.proofs.Members.{Apart, Between, bits_between, member_from_bits, member_and_most}
 use Rattle.known_bits.proofs.Logic.{without, without_bit, known_without}
 
 -- the carry into bit i
@@ -47,7 +47,7 @@ low_least {v} {m} {x} h i =
     let le = and_le_l (x % 2 ^ i) (bit_not w64 m % 2 ^ i) in
     omega arith
 
-pub low_most : {v m x : ℕ} → Known v m → IsMember v m x → (i : ℕ) → x % 2 ^ i ≤ bit_or v m % 2 ^ i
+pub low_most : {v m x : ℕ} → Apart v m → IsMember v m x → (i : ℕ) → x % 2 ^ i ≤ bit_or v m % 2 ^ i
 low_most {v} {m} {x} k h i =
     let e : x % 2 ^ i ≡ bit_and (x % 2 ^ i) (bit_or v m % 2 ^ i) = ap (λ n. n % 2 ^ i) (sym (member_and_most k h)) ∙ and_mod x (bit_or v m) i in
     let le = and_le_r (x % 2 ^ i) (bit_or v m % 2 ^ i) in
@@ -81,14 +81,14 @@ sum_least av bv = (av + bv) % 2 ^ 64
 abbrev pub sum_mask : ℕ → ℕ → ℕ → ℕ → ℕ
 sum_mask av am bv bm = bit_or (bit_or (bit_xor ((bit_or av am + bit_or bv bm) % 2 ^ 64) (sum_least av bv)) am) bm
 
-module _ {av am bv bm : ℕ} (ka : Known av am) (kb : Known bv bm) where
+module _ {av am bv bm : ℕ} (ka : Apart av am) (kb : Apart bv bm) where
   mask_in : sum_mask av am bv bm < 2 ^ 64
   mask_in =
       let top = (bit_or av am + bit_or bv bm) % 2 ^ 64 in
       let x = xor_lt 64 top (sum_least av bv) (omega arith) (omega arith) in
       or_lt 64 _ bm (or_lt 64 _ am x ka.mask_in) kb.mask_in
 
-  pub sum_known : Known (without (sum_least av bv) (sum_mask av am bv bm)) (sum_mask av am bv bm)
+  pub sum_known : Apart (without (sum_least av bv) (sum_mask av am bv bm)) (sum_mask av am bv bm)
   sum_known = known_without (omega arith) mask_in
 
   pub sum_contains : (x y : ℕ) → IsMember av am x → IsMember bv bm y → IsMember (without (sum_least av bv) (sum_mask av am bv bm)) (sum_mask av am bv bm) ((x + y) % 2 ^ 64)

@@ -15,7 +15,7 @@ use Rattle.isa_model.specs.Code.Numbers.{alu, low, shift, signed, unsigned, sign
 use Rattle.isa_model.proofs.NumberLemmas.{alu_below, low_below, shift_below, width_fits, width_most}
 use Rattle.isa_model.proofs.ExtensionLemmas.{sign_extended_below, sign_extended_cases, sign_extended-small}
 use Rattle.known_bits.specs.Member.{IsMember, Occurs}
-use Rattle.known_bits.proofs.Members.{Known, bits_between, bits_apart, known_from_bits, member_from_bits}
+use Rattle.known_bits.proofs.Members.{Apart, bits_between, bits_apart, known_from_bits, member_from_bits}
 use Rattle.known_bits.proofs.Carry.{low_bit}
 use Rattle.known_bits.proofs.Order.{low_fits}
 use Rattle.known_bits.proofs.Sharp.{both_values, least_member, most_member}
@@ -32,7 +32,7 @@ module _ {n : ℕ} {place : ℕ → ℕ} {f : ℕ → ℕ} (c : Copies n place f
   copy_fits : (x : ℕ) → f x < 2 ^ 64
   copy_fits x = let b = c.below x in let s = c.fits in omega arith
 
-  pub copied_known : {v m : ℕ} → Known v m → Known (f v) (f m)
+  pub copied_known : {v m : ℕ} → Apart v m → Apart (f v) (f m)
   copied_known {v} {m} k =
       known_from_bits (copy_fits v) (copy_fits m)
       (λ i i_in. elim (cases_lt i n) [
@@ -40,7 +40,7 @@ module _ {n : ℕ} {place : ℕ → ℕ} {f : ℕ → ℕ} (c : Copies n place f
         | inr ge ↦ let zv = bit_at_above (f v) n i (c.below v) ge in let zm = bit_at_above (f m) n i (c.below m) ge in omega arith
       ])
 
-  pub copied_contains : {v m : ℕ} → Known v m → (x : ℕ) → IsMember v m x → IsMember (f v) (f m) (f x)
+  pub copied_contains : {v m : ℕ} → Apart v m → (x : ℕ) → IsMember v m x → IsMember (f v) (f m) (f x)
   copied_contains {v} {m} k x h =
       member_from_bits (copy_fits v) (copy_fits m) (copy_fits x)
       (λ i i_in. elim (cases_lt i n) [
@@ -55,14 +55,14 @@ module _ {n : ℕ} {place : ℕ → ℕ} {f : ℕ → ℕ} (c : Copies n place f
             record { apart = omega arith; least = omega arith; most = omega arith }
       ])
 
-  pub copied_fits : {v m x : ℕ} → Known v m → IsMember (f v) (f m) x → x < 2 ^ n
+  pub copied_fits : {v m x : ℕ} → Apart v m → IsMember (f v) (f m) x → x < 2 ^ n
   copied_fits {v} {m} {x} k h =
       let ev = mod-eq_of_lt {n = f v} {m = 2 ^ n} (c.below v) in
       let em = mod-eq_of_lt {n = f m} {m = 2 ^ n} (c.below m) in
       low_fits (copied_known k) n (rw (ev, em) h)
 
   -- an unknown bit has both values, those of the bit that it copies
-  pub copied_sharp : {av am bv bm : ℕ} → Known av am → Known bv bm → (i : ℕ) → bit_at (f am) i ≡ 1
+  pub copied_sharp : {av am bv bm : ℕ} → Apart av am → Apart bv bm → (i : ℕ) → bit_at (f am) i ≡ 1
       → Occurs av am bv bm (λ x y. f x) i 0 × Occurs av am bv bm (λ x y. f x) i 1
   copied_sharp {av} {am} {bv} {bm} ka kb i h =
       elim (cases_lt i n) [

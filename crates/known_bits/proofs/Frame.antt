@@ -9,7 +9,7 @@ use Rattle.std.proofs.Math.Pow.{pow_mono}
 use Rattle.std.proofs.lemmas.Bool.{cases_lt}
 use Rattle.known_bits.specs.Member.{IsMember}
 use Rattle.known_bits.proofs.MemberLaws.{bit_at-differing}
-use Rattle.known_bits.proofs.Members.{Known, member_and_most}
+use Rattle.known_bits.proofs.Members.{Apart, member_and_most}
 use Rattle.known_bits.proofs.Carry.{low_bit}
 use Rattle.known_bits.proofs.Parts.{high_bit, low_known}
 use Rattle.known_bits.proofs.Order.{member_most}
@@ -92,7 +92,7 @@ trailing_zeros-multiple n j n_in j_in h =
 -- ---- members
 
 -- a member is a multiple of each power of 2 that divides the greatest member
-pub member-multiple : {v m x : ℕ} → Known v m → IsMember v m x → (j : ℕ) → bit_or v m % 2 ^ j ≡ 0 → x % 2 ^ j ≡ 0
+pub member-multiple : {v m x : ℕ} → Apart v m → IsMember v m x → (j : ℕ) → bit_or v m % 2 ^ j ≡ 0 → x % 2 ^ j ≡ 0
 member-multiple {v} {m} {x} k h j z =
     let e : x % 2 ^ j ≡ bit_and (x % 2 ^ j) (bit_or v m % 2 ^ j) = ap (λ t. t % 2 ^ j) (sym (member_and_most k h)) ∙ and_mod x (bit_or v m) j in
     let le = and_le_r (x % 2 ^ j) (bit_or v m % 2 ^ j) in
@@ -126,11 +126,11 @@ member-length v m g x l m_in zero sharp small h =
 -- ---- low parts
 
 -- members of the low parts are multiples, and below a limit, where the greatest member is
-pub low-multiple : {v m x : ℕ} → Known v m → (w j : ℕ) → bit_or v m % 2 ^ j ≡ 0 → IsMember (v % 2 ^ w) (m % 2 ^ w) x → x % 2 ^ j ≡ 0
+pub low-multiple : {v m x : ℕ} → Apart v m → (w j : ℕ) → bit_or v m % 2 ^ j ≡ 0 → IsMember (v % 2 ^ w) (m % 2 ^ w) x → x % 2 ^ j ≡ 0
 low-multiple {v} {m} k w j z h =
     member-multiple (low_known k w) h j (ap (λ t. t % 2 ^ j) (sym (or_mod v m w)) ∙ mod-mod_pow (bit_or v m) j w z)
 
-pub low-limit : {v m x : ℕ} → Known v m → (w l : ℕ) → bit_or v m < 2 ^ l → IsMember (v % 2 ^ w) (m % 2 ^ w) x → x < 2 ^ l
+pub low-limit : {v m x : ℕ} → Apart v m → (w l : ℕ) → bit_or v m < 2 ^ l → IsMember (v % 2 ^ w) (m % 2 ^ w) x → x < 2 ^ l
 low-limit {v} {m} k w l small h =
     let most = member_most (low_known k w) h in
     let e = or_mod v m w in

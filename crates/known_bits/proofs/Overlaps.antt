@@ -7,11 +7,11 @@ use Rattle.std.proofs.Math.Nat.{div-eq_of_lt}
 use Rattle.std.proofs.Math.Pow.{pow-lt}
 use Rattle.std.proofs.lemmas.Bool.{cases_lt}
 use Rattle.known_bits.specs.Member.{IsMember}
-use Rattle.known_bits.proofs.Members.{Known, bits_between}
+use Rattle.known_bits.proofs.Members.{Apart, bits_between}
 use Rattle.known_bits.proofs.Order.{without_self}
 
 -- what has no bit in common with a member has none in common with its known ones
-pub and_value_zero : {v m y : ℕ} (x : ℕ) → Known v m → IsMember v m y → bit_and x y ≡ 0 → bit_and x v ≡ 0
+pub and_value_zero : {v m y : ℕ} (x : ℕ) → Apart v m → IsMember v m y → bit_and x y ≡ 0 → bit_and x v ≡ 0
 and_value_zero {v} {m} {y} x k h none =
     same_from_bits_below 64 _ _ (let le = and_le_r x v in let b = k.value_in in omega arith) (omega arith)
     (λ i i_in.
@@ -21,7 +21,7 @@ and_value_zero {v} {m} {y} x k h none =
     bit_at_and x v i ∙ omega arith)
 
 -- two members share only bits that both may have
-pub and_shared : {v m w n x y : ℕ} → Known v m → Known w n → IsMember v m x → IsMember w n y
+pub and_shared : {v m w n x y : ℕ} → Apart v m → Apart w n → IsMember v m x → IsMember w n y
     → bit_and (bit_and x y) (bit_and (bit_or v m) (bit_or w n)) ≡ bit_and x y
 and_shared {v} {m} {w} {n} {x} {y} k l hx hy =
     let x_in = hx.below in

@@ -7,7 +7,7 @@ use Rattle.std.proofs.lemmas.Nat.{or_lt, or_disjoint, pow_pos, pow-add, div_belo
 use Rattle.std.proofs.lemmas.Nat.Bits.{bit_at_or, bit_at_xor, bit_at_not, bit_at-lt, bit_at-pow_other, and_pow, bit_at_cat_low, bit_at_cat_high}
 use Rattle.std.proofs.lemmas.Bool.{cases_lt}
 use Rattle.known_bits.specs.Member.{IsMember, Occurs}
-use Rattle.known_bits.proofs.Members.{Known, bits_apart, bits_between, member_from_bits}
+use Rattle.known_bits.proofs.Members.{Apart, bits_apart, bits_between, member_from_bits}
 use Rattle.known_bits.proofs.Carry.{sum_least, sum_mask, sum_known, low_bit}
 use Rattle.known_bits.proofs.Order.{low_fits}
 use Rattle.known_bits.proofs.Parts.{low_known}
@@ -22,12 +22,12 @@ flips n i =
     ap (λ t. t / 2 ^ i) (let s : n + 2 ^ i ≡ n + 1 * 2 ^ i = omega arith in s) ∙ add-mul-div_right n 1 (pow_pos i) in
     ap (λ q. q % 2) e ∙ omega arith
 
-raised : {v m : ℕ} → Known v m → (i : ℕ) → bit_at m i ≡ 1 → bit_or v (2 ^ i) ≡ v + 2 ^ i
+raised : {v m : ℕ} → Apart v m → (i : ℕ) → bit_at m i ≡ 1 → bit_or v (2 ^ i) ≡ v + 2 ^ i
 raised {v} {m} k i h =
     or_disjoint v (2 ^ i)
     (and_pow v i ∙ ap (λ b. b * 2 ^ i) (let a = bits_apart k i in let z : bit_at v i ≡ 0 = omega arith in z) ∙ omega arith)
 
-raised_member : {v m : ℕ} → Known v m → (i : ℕ) → i < 64 → bit_at m i ≡ 1 → IsMember v m (bit_or v (2 ^ i))
+raised_member : {v m : ℕ} → Apart v m → (i : ℕ) → i < 64 → bit_at m i ≡ 1 → IsMember v m (bit_or v (2 ^ i))
 raised_member {v} {m} k i i_in h =
     member_from_bits k.value_in k.mask_in (or_lt 64 v (2 ^ i) k.value_in (pow-lt i_in))
     (λ j j_in.
@@ -52,7 +52,7 @@ sum_flips : (n p i : ℕ) → i < 64 → p ≡ n + 2 ^ i → bit_at (p % 2 ^ 64)
 sum_flips n p i i_in e =
     low_bit p 64 i i_in ∙ ap (λ t. bit_at t i) e ∙ flips n i ∙ ap (λ b. 1 - b) (sym (low_bit n 64 i i_in))
 
-module _ {av am bv bm : ℕ} (ka : Known av am) (kb : Known bv bm) where
+module _ {av am bv bm : ℕ} (ka : Apart av am) (kb : Apart bv bm) where
   pub sum_sharp : (i : ℕ) → bit_at (sum_mask av am bv bm) i ≡ 1
       → Occurs av am bv bm (λ x y. (x + y) % 2 ^ 64) i 0 × Occurs av am bv bm (λ x y. (x + y) % 2 ^ 64) i 1
   sum_sharp i h =
@@ -101,7 +101,7 @@ occurs_not back i b i_in o = record {
 
 -- ---- shifts
 
-module _ {av am bv bm : ℕ} (ka : Known av am) (kb : Known bv bm) where
+module _ {av am bv bm : ℕ} (ka : Apart av am) (kb : Apart bv bm) where
   pub left_sharp : (k i : ℕ) → bit_at ((am * 2 ^ k) % 2 ^ 64) i ≡ 1
       → Occurs av am bv bm (λ x y. (x * 2 ^ k) % 2 ^ 64) i 0 × Occurs av am bv bm (λ x y. (x * 2 ^ k) % 2 ^ 64) i 1
   left_sharp k i h =
@@ -149,7 +149,7 @@ lifted_below v n z n_in v_in z_in =
     let split : (q + 1) * 2 ^ n ≡ q * 2 ^ n + 2 ^ n = omega arith in
     omega arith
 
-lifted_member : {v m : ℕ} → Known v m → (n z : ℕ) → n ≤ 64 → IsMember (v % 2 ^ n) (m % 2 ^ n) z → IsMember v m (lifted v n z)
+lifted_member : {v m : ℕ} → Apart v m → (n z : ℕ) → n ≤ 64 → IsMember (v % 2 ^ n) (m % 2 ^ n) z → IsMember v m (lifted v n z)
 lifted_member {v} {m} k n z n_in h =
     let z_in = low_fits k n h in
     member_from_bits k.value_in k.mask_in (lifted_below v n z n_in k.value_in z_in)
@@ -166,7 +166,7 @@ lifted_member {v} {m} k n z n_in h =
           record { apart = a; least = omega arith; most = omega arith }
     ])
 
-pub occurs_lifted : {av am bv bm : ℕ} → Known av am → Known bv bm → (f : ℕ → ℕ → ℕ) (n i b : ℕ) → n ≤ 64
+pub occurs_lifted : {av am bv bm : ℕ} → Apart av am → Apart bv bm → (f : ℕ → ℕ → ℕ) (n i b : ℕ) → n ≤ 64
     → Occurs (av % 2 ^ n) (am % 2 ^ n) (bv % 2 ^ n) (bm % 2 ^ n) f i b → Occurs av am bv bm (λ x y. f (x % 2 ^ n) (y % 2 ^ n)) i b
 occurs_lifted {av} {am} {bv} {bm} ka kb f n i b n_in o =
     let x_is = mod-mul-add (av / 2 ^ n) (2 ^ n) o.x (low_fits ka n o.first) in

@@ -4,9 +4,9 @@ use Rattle.std.proofs.lemmas.Nat.{or_lt}
 use Rattle.std.proofs.Math.Nat.{mod-eq_of_lt}
 use Rattle.std.proofs.lemmas.Nat.Bits.{bit_at_or, bit_at-zero}
 use Rattle.known_bits.specs.Member.{IsMember}
-use Rattle.known_bits.proofs.Members.{Known, bits_between, member_from_bits}
+use Rattle.known_bits.proofs.Members.{Apart, bits_between, member_from_bits}
 
-pub or_zero_contains : {v m : ℕ} → Known v m → (x : ℕ) → IsMember v m x → IsMember 0 (bit_or v m) x
+pub or_zero_contains : {v m : ℕ} → Apart v m → (x : ℕ) → IsMember v m x → IsMember 0 (bit_or v m) x
 or_zero_contains {v} {m} k x h =
     member_from_bits (omega arith) (or_lt 64 v m k.value_in k.mask_in) h.below
     (λ i i_in. let b = bits_between k h i i_in in let e = bit_at_or v m i in let z = bit_at-zero i in record { apart = omega arith; least = omega arith; most = omega arith })

@@ -5,16 +5,16 @@ use Rattle.std.proofs.lemmas.Nat.{or_lt}
 use Rattle.std.proofs.lemmas.Nat.Bits.{bit_at_and, bit_at_or, bit_at_xor, bit_at-lt, bit_at_above}
 use Rattle.std.proofs.lemmas.Bool.{cases_lt}
 use Rattle.known_bits.specs.Member.{IsMember, Occurs}
-use Rattle.known_bits.proofs.Members.{Known, bits_apart, member_from_bits}
+use Rattle.known_bits.proofs.Members.{Apart, bits_apart, member_from_bits}
 use Rattle.known_bits.proofs.Logic.{without_bit, and_mask_of, or_mask_of, and_bit, and_known, or_known}
 use Rattle.known_bits.proofs.Carry.{low_bit}
 use Rattle.known_bits.proofs.Parts.{high_bit}
 
-pub least_member : {v m : ℕ} → Known v m → IsMember v m v
+pub least_member : {v m : ℕ} → Apart v m → IsMember v m v
 least_member {v} {m} k = member_from_bits k.value_in k.mask_in k.value_in
     (λ i i_in. let a = bits_apart k i in record { apart = a; least = omega arith; most = omega arith })
 
-pub most_member : {v m : ℕ} → Known v m → IsMember v m (bit_or v m)
+pub most_member : {v m : ℕ} → Apart v m → IsMember v m (bit_or v m)
 most_member {v} {m} k = member_from_bits k.value_in k.mask_in (or_lt 64 v m k.value_in k.mask_in)
     (λ i i_in. let a = bits_apart k i in let e = bit_at_or v m i in record { apart = a; least = omega arith; most = omega arith })
 
@@ -35,7 +35,7 @@ both_values f i x y x' y' hx hy hx' hy' differ =
           (record { x = x; y = y; first = hx; second = hy; is = omega arith }, record { x = x'; y = y'; first = hx'; second = hy'; is = omega arith })
     ]
 
-module _ {av am bv bm : ℕ} (ka : Known av am) (kb : Known bv bm) where
+module _ {av am bv bm : ℕ} (ka : Apart av am) (kb : Apart bv bm) where
   pub and_sharp : (i : ℕ) → bit_at (and_mask_of av am bv bm) i ≡ 1 → Occurs av am bv bm bit_and i 0 × Occurs av am bv bm bit_and i 1
   and_sharp i h =
       let e = and_bit ka kb i (set_below _ i (and_known ka kb).mask_in h) in

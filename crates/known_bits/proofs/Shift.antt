@@ -6,7 +6,7 @@ use Rattle.std.proofs.lemmas.Nat.{and_le_r, or_lt, pow-add, pow_pos, and_mask}
 use Rattle.std.proofs.lemmas.Nat.Bits.{bit_at_or, bit_at_not, bit_at-lt, bit_at-zero, bit_at_above, bit_at_cat_low, bit_at_cat_high}
 use Rattle.std.proofs.lemmas.Bool.{cases_lt}
 use Rattle.known_bits.specs.Member.{IsMember}
-use Rattle.known_bits.proofs.Members.{Known, Between, bits_between, bits_apart, known_from_bits, member_from_bits}
+use Rattle.known_bits.proofs.Members.{Apart, Between, bits_between, bits_apart, known_from_bits, member_from_bits}
 use Rattle.known_bits.proofs.Carry.{low_bit}
 
 -- ---- one number
@@ -22,13 +22,13 @@ any_has x h = record { below = h; known = let le = and_le_r x 0 in omega arith }
 
 -- ---- the complement
 
-pub not_known : {v m : ℕ} → Known v m → Known (bit_not w64 (bit_or v m)) m
+pub not_known : {v m : ℕ} → Apart v m → Apart (bit_not w64 (bit_or v m)) m
 not_known {v} {m} k =
     let o = or_lt 64 v m k.value_in k.mask_in in
     known_from_bits (omega arith) k.mask_in
     (λ i i_in. let n = bit_at_not w64 (bit_or v m) i o i_in in let e = bit_at_or v m i in let a = bits_apart k i in let b = bit_at-lt v i in let c = bit_at-lt m i in omega arith)
 
-pub not_contains : {v m : ℕ} → Known v m → (x : ℕ) → IsMember v m x → IsMember (bit_not w64 (bit_or v m)) m (2 ^ 64 - 1 - x)
+pub not_contains : {v m : ℕ} → Apart v m → (x : ℕ) → IsMember v m x → IsMember (bit_not w64 (bit_or v m)) m (2 ^ 64 - 1 - x)
 not_contains {v} {m} k x h =
     let o = or_lt 64 v m k.value_in k.mask_in in
     let kn = not_known k in
@@ -37,7 +37,7 @@ not_contains {v} {m} k x h =
     let b = bits_between k h i i_in in let bx = bit_at-lt x i in
     record { apart = bits_apart kn i; least = omega arith; most = omega arith })
 
-pub not_back : {v m : ℕ} → Known v m → (x : ℕ) → IsMember (bit_not w64 (bit_or v m)) m x → IsMember v m (2 ^ 64 - 1 - x)
+pub not_back : {v m : ℕ} → Apart v m → (x : ℕ) → IsMember (bit_not w64 (bit_or v m)) m x → IsMember v m (2 ^ 64 - 1 - x)
 not_back {v} {m} k x h =
     let o = or_lt 64 v m k.value_in k.mask_in in
     member_from_bits k.value_in k.mask_in (omega arith)
@@ -53,7 +53,7 @@ shifted_low n k i i_in h = low_bit (n * 2 ^ k) 64 i i_in ∙ ap (λ m. bit_at m 
 pub shifted_high : (n k i : ℕ) → i < 64 → k ≤ i → bit_at ((n * 2 ^ k) % 2 ^ 64) i ≡ bit_at n (i - k)
 shifted_high n k i i_in h = low_bit (n * 2 ^ k) 64 i i_in ∙ ap (λ m. bit_at m i) (sym (add-zero (n * 2 ^ k))) ∙ bit_at_cat_high n k 0 i (pow_pos k) h
 
-pub left_between : {v m x : ℕ} → Known v m → IsMember v m x → (k i : ℕ) → i < 64 → Between (bit_at ((v * 2 ^ k) % 2 ^ 64) i) (bit_at ((m * 2 ^ k) % 2 ^ 64) i) (bit_at ((x * 2 ^ k) % 2 ^ 64) i)
+pub left_between : {v m x : ℕ} → Apart v m → IsMember v m x → (k i : ℕ) → i < 64 → Between (bit_at ((v * 2 ^ k) % 2 ^ 64) i) (bit_at ((m * 2 ^ k) % 2 ^ 64) i) (bit_at ((x * 2 ^ k) % 2 ^ 64) i)
 left_between {v} {m} {x} kn h k i i_in =
     elim (cases_lt i k) [
       | inl lt ↦
@@ -65,7 +65,7 @@ left_between {v} {m} {x} kn h k i i_in =
           record { apart = omega arith; least = omega arith; most = omega arith }
     ]
 
-pub left_known : {v m : ℕ} → Known v m → (k : ℕ) → Known ((v * 2 ^ k) % 2 ^ 64) ((m * 2 ^ k) % 2 ^ 64)
+pub left_known : {v m : ℕ} → Apart v m → (k : ℕ) → Apart ((v * 2 ^ k) % 2 ^ 64) ((m * 2 ^ k) % 2 ^ 64)
 left_known {v} {m} kn k =
     known_from_bits (omega arith) (omega arith)
     (λ i i_in. elim (cases_lt i k) [
@@ -73,7 +73,7 @@ left_known {v} {m} kn k =
       | inr ge ↦ let ev = shifted_high v k i i_in ge in let em = shifted_high m k i i_in ge in let a = bits_apart kn (i - k) in omega arith
     ])
 
-pub left_contains : {v m : ℕ} → Known v m → (k x : ℕ) → IsMember v m x → IsMember ((v * 2 ^ k) % 2 ^ 64) ((m * 2 ^ k) % 2 ^ 64) ((x * 2 ^ k) % 2 ^ 64)
+pub left_contains : {v m : ℕ} → Apart v m → (k x : ℕ) → IsMember v m x → IsMember ((v * 2 ^ k) % 2 ^ 64) ((m * 2 ^ k) % 2 ^ 64) ((x * 2 ^ k) % 2 ^ 64)
 left_contains kn k x h = let l = left_known kn k in member_from_bits l.value_in l.mask_in (omega arith) (left_between kn h k)
 
 -- ---- to the right
@@ -81,7 +81,7 @@ left_contains kn k x h = let l = left_known kn k in member_from_bits l.value_in 
 pub right_bit : (n k i : ℕ) → bit_at (n / 2 ^ k) i ≡ bit_at n (k + i)
 right_bit n k i = ap (λ q. q % 2) (div-div-eq-div-mul n (2 ^ k) (2 ^ i)) ∙ ap (λ p. n / p % 2) (sym (pow-add 2 k i))
 
-pub right_between : {v m x : ℕ} → Known v m → IsMember v m x → (k i : ℕ) → Between (bit_at (v / 2 ^ k) i) (bit_at (m / 2 ^ k) i) (bit_at (x / 2 ^ k) i)
+pub right_between : {v m x : ℕ} → Apart v m → IsMember v m x → (k i : ℕ) → Between (bit_at (v / 2 ^ k) i) (bit_at (m / 2 ^ k) i) (bit_at (x / 2 ^ k) i)
 right_between {v} {m} {x} kn h k i =
     let ev = right_bit v k i in let em = right_bit m k i in let ex = right_bit x k i in
     elim (cases_lt (k + i) 64) [
@@ -93,12 +93,12 @@ right_between {v} {m} {x} kn h k i =
           record { apart = omega arith; least = omega arith; most = omega arith }
     ]
 
-pub right_known : {v m : ℕ} → Known v m → (k : ℕ) → Known (v / 2 ^ k) (m / 2 ^ k)
+pub right_known : {v m : ℕ} → Apart v m → (k : ℕ) → Apart (v / 2 ^ k) (m / 2 ^ k)
 right_known {v} {m} kn k =
     known_from_bits (let h = kn.value_in in let l = div-le_self v (2 ^ k) in omega arith) (let h = kn.mask_in in let l = div-le_self m (2 ^ k) in omega arith)
     (λ i i_in. let ev = right_bit v k i in let em = right_bit m k i in let a = bits_apart kn (k + i) in omega arith)
 
-pub right_contains : {v m : ℕ} → Known v m → (k x : ℕ) → IsMember v m x → IsMember (v / 2 ^ k) (m / 2 ^ k) (x / 2 ^ k)
+pub right_contains : {v m : ℕ} → Apart v m → (k x : ℕ) → IsMember v m x → IsMember (v / 2 ^ k) (m / 2 ^ k) (x / 2 ^ k)
 right_contains kn k x h =
     let l = right_known kn k in
     member_from_bits l.value_in l.mask_in (let b = h.below in let le = div-le_self x (2 ^ k) in omega arith) (λ i i_in. right_between kn h k i)

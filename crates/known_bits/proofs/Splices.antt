@@ -8,7 +8,7 @@ use Rattle.std.proofs.lemmas.Nat.Bits.{bit_at_and, bit_at_or, bit_at_not, bit_at
 use Rattle.std.proofs.lemmas.Bool.{cases_lt}
 use Rattle.known_bits.specs.Member.{IsMember}
 use Rattle.known_bits.specs.Bits.{spliced}
-use Rattle.known_bits.proofs.Members.{Known, Between, bits_between, bits_apart, known_from_bits, member_from_bits}
+use Rattle.known_bits.proofs.Members.{Apart, Between, bits_between, bits_apart, known_from_bits, member_from_bits}
 use Rattle.known_bits.proofs.Carry.{low_bit}
 use Rattle.known_bits.proofs.Shift.{right_bit, shifted_high}
 
@@ -101,8 +101,8 @@ spliced-masked from count x y m start inside fits is small =
 
 -- ---- sets
 
-pub spliced_known : {v m w n : ℕ} → Known v m → Known w n → (from count : ℕ) → from + count ≤ 64
-    → Known (spliced from count v w) (spliced from count m n)
+pub spliced_known : {v m w n : ℕ} → Apart v m → Apart w n → (from count : ℕ) → from + count ≤ 64
+    → Apart (spliced from count v w) (spliced from count m n)
 spliced_known {v} {m} {w} {n} a b from count inside =
     known_from_bits (spliced-lt from count v w inside a.value_in) (spliced-lt from count m n inside a.mask_in)
     (λ i within. elim (cases_lt i from) [
@@ -119,7 +119,7 @@ spliced_known {v} {m} {w} {n} a b from count inside =
       ]
     ])
 
-spliced_between : {v m w n x y : ℕ} → Known v m → Known w n → IsMember v m x → IsMember w n y → (from count i : ℕ) → i < 64
+spliced_between : {v m w n x y : ℕ} → Apart v m → Apart w n → IsMember v m x → IsMember w n y → (from count i : ℕ) → i < 64
     → Between (bit_at (spliced from count v w) i) (bit_at (spliced from count m n) i) (bit_at (spliced from count x y) i)
 spliced_between {v} {m} {w} {n} {x} {y} a b hx hy from count i within =
     elim (cases_lt i from) [
@@ -139,7 +139,7 @@ spliced_between {v} {m} {w} {n} {x} {y} a b hx hy from count i within =
       ]
     ]
 
-pub spliced_contains : {v m w n : ℕ} → Known v m → Known w n → (from count x y : ℕ) → from + count ≤ 64 → IsMember v m x → IsMember w n y
+pub spliced_contains : {v m w n : ℕ} → Apart v m → Apart w n → (from count x y : ℕ) → from + count ≤ 64 → IsMember v m x → IsMember w n y
     → IsMember (spliced from count v w) (spliced from count m n) (spliced from count x y)
 spliced_contains a b from count x y inside hx hy =
     let k = spliced_known a b from count inside in

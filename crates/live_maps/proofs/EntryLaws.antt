@@ -20,8 +20,8 @@ use Rattle.isa_model.specs.Machine.MapContents.{key_order, is_key, at_key, with_
 use Rattle.maps.specs.ContentLaws.{changed, find-changed, is_sorted-changed}
 use Rattle.maps.proofs.ContentLaws.{same_contents}
 use Rattle.maps.proofs.ReportOrderLaws.{get_at, above}
-use Rattle.map_indexes.specs.Slots.{Places}
-use Rattle.map_indexes.specs.SlotLaws.{is_key-equal}
+use Rattle.map_indexes.specs.PlaceKeys.{Places}
+use Rattle.map_indexes.specs.PlaceKeyLaws.{is_key-equal}
 use Rattle.map_indexes.proofs.SlotLaws.{is_key-itself}
 use Rattle.live_maps.specs.Live.{value_bytes}
 

@@ -11,7 +11,7 @@ use Rattle.isa_model.specs.Machine.States.{Content, Entries, entries_of}
 use Rattle.isa_model.specs.Machine.Memory.{entry_index, put_value}
 use Rattle.isa_model.specs.Machine.MapContents.{at_key, with_key, without_key, update_answer, delete_answer, update_answer_by, delete_answer_by}
 use Rattle.map_indexes.specs.Rows.{with_row}
-use Rattle.map_indexes.specs.Slots.{Places, TakesPlace}
+use Rattle.map_indexes.specs.PlaceKeys.{Places, TakesPlace}
 use Rattle.maps.specs.Maps.{MapState, IsMap, WritesValue, Updated, Deleted, map_at, content_in}
 use Rattle.maps.proofs.UpdateLaws.{delete_answer-places}
 use Rattle.isa_model.specs.declared.map_defs.MapKind.{MapKind}

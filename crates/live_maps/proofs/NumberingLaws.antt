@@ -12,7 +12,7 @@ use Rattle.isa_model.specs.Machine.MapContents.{key_order, is_key}
 use Rattle.isa_model.specs.Running.Runs.{numbered, numbered_maps, count_values}
 use Rattle.map_indexes.specs.Rows.{row_at}
 use Rattle.map_indexes.specs.RowLaws.{below_or_above}
-use Rattle.map_indexes.specs.Slots.{Places}
+use Rattle.map_indexes.specs.PlaceKeys.{Places}
 use Rattle.maps.specs.ContentLaws.{changed}
 use Rattle.maps.proofs.ReportOrderLaws.{get_at}
 use Rattle.maps.specs.Maps.{MapState, IsMap, map_at, content_in, contents_of}

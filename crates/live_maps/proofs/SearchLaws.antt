@@ -15,7 +15,7 @@ use Rattle.isa_model.specs.Machine.Memory.{entry_at}
 use Rattle.isa_model.specs.Machine.MapContents.{key_order, at_key}
 use Rattle.map_indexes.specs.Rows.{row_at}
 use Rattle.map_indexes.specs.RowLaws.{length-row_at}
-use Rattle.map_indexes.specs.Slots.{Places}
+use Rattle.map_indexes.specs.PlaceKeys.{Places}
 use Rattle.maps.specs.ContentLaws.{changed}
 use Rattle.maps.specs.Maps.{MapState, map_at}
 use Rattle.map_indexes.specs.ArrayPlaces.{array_places}

@@ -15,8 +15,8 @@ use Rattle.isa_model.specs.Machine.Memory.{entry_index, put_value}
 use Rattle.isa_model.specs.Machine.MapContents.{is_key, at_key, with_key, without_key}
 use Rattle.map_indexes.specs.Rows.{row_at, with_row}
 use Rattle.map_indexes.specs.RowLaws.{row_at-with_row, row_at-other, length-changed_row}
-use Rattle.map_indexes.specs.Slots.{Places, TakesPlace}
-use Rattle.map_indexes.specs.SlotLaws.{is_key-equal}
+use Rattle.map_indexes.specs.PlaceKeys.{Places, TakesPlace}
+use Rattle.map_indexes.specs.PlaceKeyLaws.{is_key-equal}
 use Rattle.map_indexes.proofs.SlotLaws.{is_key-itself}
 use Rattle.maps.specs.ContentLaws.{changed, find-changed}
 use Rattle.maps.proofs.ContentLaws.{get-taken}

@@ -15,7 +15,7 @@ ghost use Rattle.live_maps.specs.Live.{serials_at, place_if_new, content_at, val
 
 use crate::asked;
 use crate::numbering::{Span, number_all, spans_for};
-use crate::table::Table;
+use crate::table::SerialTable;
 use crate::tables::{find_serial, give_serial, serial_at, tables_for, take_away};
 use isa_model::MapDef;
 use maps::Maps;
@@ -29,7 +29,7 @@ use std::marker::Model;
 #[derive(Drop)]
 pub struct LiveMaps {
     maps: Maps,
-    serials: Vec<Table>,
+    serials: Vec<SerialTable>,
     next: u64,
     // By map: which serials its values have, where they are numbered as at the start of a run.
     spans: Vec<Option<Span>>,

@@ -6,7 +6,7 @@ ghost use Rattle.maps.specs.Maps.{IsMap, map_at};
 ghost use Rattle.live_maps.specs.Live.{serials_at};
 ghost use Rattle.live_maps.specs.Numbering.{IsNumbered, IsSpan, AreSpans, Numbers, span_at};
 
-use crate::table::Table;
+use crate::table::SerialTable;
 use maps::Maps;
 use std::alloc::{AllocError, Global};
 
@@ -32,7 +32,13 @@ pub fn spans_for(alloc: Global, count: usize) -> Result<Vec<Option<Span>>, Alloc
 }
 
 // Numbers the values of a map from `first` on, and answers how many they are.
-fn number_map(maps: &Maps, map: usize, table: &mut Table, list: &mut Vec<usize>, first: u64) -> u64
+fn number_map(
+    maps: &Maps,
+    map: usize,
+    table: &mut SerialTable,
+    list: &mut Vec<usize>,
+    first: u64,
+) -> u64
     requires map { map < length maps.now }
     requires is_map { IsMap (map_at maps.now map) }
     requires room { length table.old ≡ (map_at maps.now map).row.entries }
@@ -53,7 +59,7 @@ fn number_map(maps: &Maps, map: usize, table: &mut Table, list: &mut Vec<usize>,
 fn renumber_map(
     maps: &Maps,
     map: usize,
-    table: &mut Table,
+    table: &mut SerialTable,
     list: &mut Vec<usize>,
     span: Option<Span>,
     first: u64,
@@ -82,7 +88,7 @@ fn renumber_map(
 /// maps have their values numbered already: those cost no more than the others before them.
 pub fn number_all(
     maps: &Maps,
-    all: &mut Vec<Table>,
+    all: &mut Vec<SerialTable>,
     list: &mut Vec<usize>,
     spans: &mut Vec<Option<Span>>,
 ) -> u64

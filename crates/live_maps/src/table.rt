@@ -64,7 +64,7 @@ fn hint_at(distance: u64, count: usize) -> usize
 ///
 /// Contracts see the serials, place after place.
 #[derive(Drop)]
-pub struct Table {
+pub struct SerialTable {
     // Each is as much above `base`, modulo 2^64: to number all anew from another serial on costs
     // one addition where the order is the same.
     serials: Vec<Option<u64>>,
@@ -75,7 +75,7 @@ pub struct Table {
     hints: Vec<usize>,
 }
 
-impl Model for Table {
+impl Model for SerialTable {
     ghost use Rattle.std.specs.Prelude.{◌≡◌, length, vec_capacity};
     ghost use Rattle.live_maps.specs.Live.{Serials};
     ghost use Rattle.live_maps.specs.Numbering.{all_above};
@@ -90,7 +90,7 @@ impl Model for Table {
         × (vec_capacity t.hints ≡ length t.serials.items) };
 }
 
-impl Table {
+impl SerialTable {
     /// Room for the serials of this number of places. No place has a serial yet.
     pub fn new(alloc: Global, places: usize) -> Result<Self, AllocError>
         ensures { IfOk result (λ t. length t ≡ places) }
@@ -99,7 +99,7 @@ impl Table {
         let zeros = vec![in alloc; 0; places]?;
         let serials = exact(none)?;
         let hints = exact(zeros)?;
-        Ok(Table {
+        Ok(SerialTable {
             serials,
             base: 0,
             hints,

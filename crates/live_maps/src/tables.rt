@@ -5,12 +5,12 @@ ghost use Rattle.std.specs.List.{position};
 ghost use Rattle.maps.specs.Maps.{map_at};
 ghost use Rattle.live_maps.specs.Live.{serial_in, serials_at, has_serial};
 
-use crate::table::Table;
+use crate::table::SerialTable;
 use maps::Maps;
 use std::alloc::{AllocError, Global};
 
 /// Room for the serials of all maps' places.
-pub fn tables_for(alloc: Global, maps: &Maps) -> Result<Vec<Table>, AllocError>
+pub fn tables_for(alloc: Global, maps: &Maps) -> Result<Vec<SerialTable>, AllocError>
     ensures len { IfOk result (λ all. vec_len all ≡ length maps.now) }
     ensures room { IfOk result (λ all. vec_capacity all ≡ length maps.now) }
     ensures rooms { IfOk result (λ all. (m : ℕ) → m < length maps.now
@@ -19,13 +19,13 @@ pub fn tables_for(alloc: Global, maps: &Maps) -> Result<Vec<Table>, AllocError>
     let mut all = Vec::with_capacity(alloc, maps.count())?;
     for m in 0..maps.count() {
         let entries = maps.row(m).entries as usize;
-        all.push_reserved(Table::new(alloc, entries)?);
+        all.push_reserved(SerialTable::new(alloc, entries)?);
     }
     Ok(all)
 }
 
 /// The serial at a place of a map.
-pub fn serial_at(all: &Vec<Table>, index: usize, place: usize) -> Option<u64>
+pub fn serial_at(all: &Vec<SerialTable>, index: usize, place: usize) -> Option<u64>
     requires index { index < vec_len all.now }
     requires place { place < length (serials_at all.now.items index) }
     ensures { result ≡ serial_in (serials_at all.now.items index) place }
@@ -34,7 +34,7 @@ pub fn serial_at(all: &Vec<Table>, index: usize, place: usize) -> Option<u64>
 }
 
 /// The place of a map that has a serial, if there are such a map and such a place, and no two.
-pub fn find_serial(all: &Vec<Table>, index: usize, serial: u64) -> Option<usize>
+pub fn find_serial(all: &Vec<SerialTable>, index: usize, serial: u64) -> Option<usize>
     requires { (p q : ℕ) → serial_in (serials_at all.now.items index) p ≡ Some serial
         → serial_in (serials_at all.now.items index) q ≡ Some serial → p ≡ q }
     ensures { result ≡ position (has_serial serial) (serials_at all.now.items index) }
@@ -47,7 +47,7 @@ pub fn find_serial(all: &Vec<Table>, index: usize, serial: u64) -> Option<usize>
 }
 
 /// Gives a place of a map a serial.
-pub fn give_serial(all: &mut Vec<Table>, index: usize, place: usize, serial: u64)
+pub fn give_serial(all: &mut Vec<SerialTable>, index: usize, place: usize, serial: u64)
     requires index { index < vec_len all.old }
     requires place { place < length (serials_at all.old.items index) }
     ensures given { all.new.items ≡ slice_set all.old.items index
@@ -58,7 +58,7 @@ pub fn give_serial(all: &mut Vec<Table>, index: usize, place: usize, serial: u64
 }
 
 /// Takes the serial of a place of a map away.
-pub fn take_away(all: &mut Vec<Table>, index: usize, place: usize)
+pub fn take_away(all: &mut Vec<SerialTable>, index: usize, place: usize)
     requires index { index < vec_len all.old }
     requires place { place < length (serials_at all.old.items index) }
     ensures taken { all.new.items ≡ slice_set all.old.items index

@@ -26,7 +26,7 @@ use Rattle.maps.proofs.MapLaws.{FitsRow-IsMap, FitRows-IsMap, contents_of-at, co
 use Rattle.word_machine.specs.declared.memory.Memory.{Memory}
 use Rattle.machine.specs.Running.{Running}
 use Rattle.machine.specs.Ready.{IsReady}
-use Rattle.machine.specs.Entries.{row_at, content_at, ordered_at, with_content, key_or, value_or, Updates, Deletes, CopiesEntry}
+use Rattle.machine.specs.Entries.{row_at, content_at, ordered_at, with_content, key_or, value_or, AnswersUpdate, AnswersDelete, CopiesEntry}
 
 abbrev no_row : MapDef
 no_row = record { kind = Hash; key_size = 0; value_size = 0; entries = 0 }
@@ -73,22 +73,22 @@ module _ (p : Program) (bound : ℕ) (maps : List MapState) (rows : rows_of maps
         ap (λ (cs : List Entries). record { program = p; bound = bound; contents = cs }) set
 
     pub updates : (key value : List ℕ) (flags result : ℕ) → Updated key value flags result (map_at maps m) (map_at new m)
-        → Updates m key value flags result r (seen p bound new)
+        → AnswersUpdate m key value flags result r (seen p bound new)
     updates key value flags result u =
         let row = row_seen in
         let content = content_seen in
-        subst (λ (x : Running). Updates m key value flags result x (seen p bound new)) view (record {
+        subst (λ (x : Running). AnswersUpdate m key value flags result x (seen p bound new)) view (record {
           answer = u.answer ∙ (λ i. update_answer (row i) (content i) key flags);
           machine = changed (after_update (row_at (seen p bound maps) m) (content_at (seen p bound maps) m) key value flags)
               (u.content ∙ (λ i. after_update (row i) (content i) key value flags));
         })
 
     pub deletes : (key : List ℕ) (result : ℕ) → Deleted key result (map_at maps m) (map_at new m)
-        → Deletes m key result r (seen p bound new)
+        → AnswersDelete m key result r (seen p bound new)
     deletes key result d =
         let row = row_seen in
         let content = content_seen in
-        subst (λ (x : Running). Deletes m key result x (seen p bound new)) view (record {
+        subst (λ (x : Running). AnswersDelete m key result x (seen p bound new)) view (record {
           answer = d.answer ∙ (λ i. delete_answer (row i) (content i) key);
           machine = changed (after_delete (row_at (seen p bound maps) m) (content_at (seen p bound maps) m) key)
               (d.content ∙ (λ i. after_delete (row i) (content i) key));

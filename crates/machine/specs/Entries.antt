@@ -32,12 +32,12 @@ value_or None bytes = bytes
 value_or (Some entry) bytes = entry.1
 
 -- an update of one map: 0, or the error of the first test that fails, and then nothing has changed
-pub record Updates (m : ℕ) (key value : List ℕ) (flags result : ℕ) (old new : Running) : Type 0 where
+pub record AnswersUpdate (m : ℕ) (key value : List ℕ) (flags result : ℕ) (old new : Running) : Type 0 where
   pub answer : result ≡ update_answer (row_at old m) (content_at old m) key flags
   pub machine : new ≡ with_content old m (after_update (row_at old m) (content_at old m) key value flags)
 
 -- a delete from one map, in the same way
-pub record Deletes (m : ℕ) (key : List ℕ) (result : ℕ) (old new : Running) : Type 0 where
+pub record AnswersDelete (m : ℕ) (key : List ℕ) (result : ℕ) (old new : Running) : Type 0 where
   pub answer : result ≡ delete_answer (row_at old m) (content_at old m) key
   pub machine : new ≡ with_content old m (after_delete (row_at old m) (content_at old m) key)
 

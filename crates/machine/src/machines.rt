@@ -7,7 +7,7 @@ ghost use Rattle.isa_model.specs.Machine.MachineStates.{AreBytes};
 ghost use Rattle.isa_model.specs.Machine.MapContents.{at_key};
 ghost use Rattle.maps.specs.Maps.{rows_of, contents_of};
 ghost use Rattle.machine.specs.Running.{AnswersRun, RunsWithinBound};
-ghost use Rattle.machine.specs.Entries.{row_at, content_at, ordered_at, Updates, Deletes, CopiesEntry};
+ghost use Rattle.machine.specs.Entries.{row_at, content_at, ordered_at, AnswersUpdate, AnswersDelete, CopiesEntry};
 
 use super::errors::VmError;
 use bounds::Verified;
@@ -146,7 +146,7 @@ impl Machine {
         requires map { map < length self.old.program.maps }
         requires key_size { length key.now ≡ (row_at self.old map).key_size }
         requires value_size { length value.now ≡ (row_at self.old map).value_size }
-        ensures { Updates map key.now value.now flags result self.old self.new }
+        ensures { AnswersUpdate map key.now value.now flags result self.old self.new }
     {
         // only for the proof: these calls say what is known of each map, before and after
         let _count = self.memory.maps.count();
@@ -159,7 +159,7 @@ impl Machine {
     pub fn delete(&mut self, map: usize, key: &[u8]) -> u64
         requires map { map < length self.old.program.maps }
         requires key_size { length key.now ≡ (row_at self.old map).key_size }
-        ensures { Deletes map key.now result self.old self.new }
+        ensures { AnswersDelete map key.now result self.old self.new }
     {
         // only for the proof: these calls say what is known of each map, before and after
         let _count = self.memory.maps.count();

@@ -12,7 +12,7 @@ use Rattle.isa_model.proofs.LittleEndianLaws.{little_bytes-little_from}
 use Rattle.isa_model.specs.Machine.MapContents.{key_order, is_key}
 use Rattle.map_indexes.specs.ArrayPlaces.{array_places}
 use Rattle.map_indexes.proofs.SlotLaws.{is_key-itself}
-use Rattle.map_indexes.specs.SlotLaws.{is_key-equal}
+use Rattle.map_indexes.specs.PlaceKeyLaws.{is_key-equal}
 use Rattle.map_indexes.specs.ArrayLaws.{got_index}
 
 -- the bytes of an index of 32 bits read as that index

@@ -17,13 +17,13 @@ use Rattle.isa_model.specs.Machine.MapContents.{key_order}
 use Rattle.map_indexes.specs.ArrayPlaces.{array_places}
 use Rattle.map_indexes.specs.ArrayLaws.{got_index}
 use Rattle.map_indexes.proofs.ArrayLaws.{get_index}
-use Rattle.map_indexes.specs.Slots.{Slots, slot, places, IsDistinct}
-use Rattle.map_indexes.specs.SlotLaws.{got}
+use Rattle.map_indexes.specs.PlaceKeys.{PlaceKeys, slot, places, IsDistinct}
+use Rattle.map_indexes.specs.PlaceKeyLaws.{got}
 use Rattle.map_indexes.proofs.SlotLaws.{get_here}
 use Rattle.map_indexes.specs.KeyOrder.{key_or_none, used_places}
 use Rattle.map_indexes.proofs.KeyOrderLaws.{values-sorted}
 
-abbrev index_slots : ℕ → ℕ → Slots
+abbrev index_slots : ℕ → ℕ → PlaceKeys
 index_slots at n = map (λ i. Some (little_bytes 4 i)) (range_with_len at n)
 
 used-index_slots : (at n : ℕ) → used_places at (index_slots at n) ≡ range_with_len at n
@@ -31,7 +31,7 @@ used-index_slots at zero = refl
 used-index_slots at (suc n) = ap (λ (l : List ℕ). at ∷ l) (used-index_slots (at + 1) n)
 
 module _ (n : ℕ) (small : n ≤ 2 ^ 32) where
-  abbrev S : Slots
+  abbrev S : PlaceKeys
   S = index_slots 0 n
 
   slot_within : (i : ℕ) → i < n → slot S i ≡ Some (little_bytes 4 i)

@@ -13,7 +13,7 @@ use Rattle.map_indexes.proofs.LastBelowLaws.{last_is, none_below}
 use Rattle.map_indexes.specs.Chains.{in_chain, spot}
 use Rattle.map_indexes.proofs.ChainLaws.{link_of, in_chain-is}
 use Rattle.map_indexes.specs.Hashing.{chain_of}
-use Rattle.map_indexes.specs.Slots.{Slots, slot, places, IsScan}
+use Rattle.map_indexes.specs.PlaceKeys.{PlaceKeys, slot, places, IsScan}
 use Rattle.map_indexes.proofs.SlotLaws.{same_or_not, set_here, set_else, get_here, get_none}
 use Rattle.map_indexes.specs.ScanLaws.{slot_inside}
 use Rattle.map_indexes.proofs.ScanLaws.{scan-added, scan-emptied, scan_some}
@@ -56,7 +56,7 @@ chain_index-none n chains free spots long down none =
       apart = λ j k b c p e f. let g = none j in absurd (cc);
     }
 
-module _ (slots : Slots) (free : List ℕ) (chains : ℕ) (spots : ℕ → Option (ℕ × ℕ)) (is : IsChainIndex slots free chains spots) where
+module _ (slots : PlaceKeys) (free : List ℕ) (chains : ℕ) (spots : ℕ → Option (ℕ × ℕ)) (is : IsChainIndex slots free chains spots) where
   abbrev pub keys_here : ℕ
   keys_here = length slots - length free
 
@@ -90,7 +90,7 @@ module _ (slots : Slots) (free : List ℕ) (chains : ℕ) (spots : ℕ → Optio
 
     module _ (key : List ℕ) (absent : get (places slots) key ≡ None) (new : ℕ → Option (ℕ × ℕ)) (at : ℕ) (vacant : spots at ≡ None)
         (here : new at ≡ Some (chain_of key chains, p)) (others : (j : ℕ) → (j ≡ at → ⊥) → new j ≡ spots j) where
-      abbrev S : Slots
+      abbrev S : PlaceKeys
       S = slice_set slots p (Some key)
 
       -- a place that has a key is not the free one
@@ -154,7 +154,7 @@ module _ (slots : Slots) (free : List ℕ) (chains : ℕ) (spots : ℕ → Optio
 
   module _ (key : List ℕ) (p at chain : ℕ) (there : spots at ≡ Some (chain, p)) (present : slot slots p ≡ Some key)
       (new : ℕ → Option (ℕ × ℕ)) (gone : new at ≡ None) (others : (j : ℕ) → (j ≡ at → ⊥) → new j ≡ spots j) where
-    abbrev R : Slots
+    abbrev R : PlaceKeys
     R = slice_set slots p None
 
     inside : p < length slots
@@ -227,12 +227,12 @@ module _ (slots : Slots) (free : List ℕ) (chains : ℕ) (spots : ℕ → Optio
         }
 
 -- what is left of the key's chain lies below m, and no link from m on has the key
-pub record Left (slots : Slots) (chains : ℕ) (links : ℕ → Option Link) (key : List ℕ) (next : Option ℕ) : Type 0 where
+pub record Left (slots : PlaceKeys) (chains : ℕ) (links : ℕ → Option Link) (key : List ℕ) (next : Option ℕ) : Type 0 where
   pub m : ℕ
   pub is_next : next ≡ last_below (in_chain links (chain_of key chains)) m
   pub passed : (j : ℕ) → m ≤ j → HasKey slots links key j → ⊥
 
-module _ (slots : Slots) (free : List ℕ) (chains : ℕ) (links : ℕ → Option Link) (is : IsChainIndex slots free chains (λ k. spot (links k))) (key : List ℕ) where
+module _ (slots : PlaceKeys) (free : List ℕ) (chains : ℕ) (links : ℕ → Option Link) (is : IsChainIndex slots free chains (λ k. spot (links k))) (key : List ℕ) where
   link_sound : (k : ℕ) (l : Link) → links k ≡ Some l → (q : List ℕ) × (slot slots l.place ≡ Some q) × (l.chain ≡ chain_of q chains)
   link_sound k l e = key_of chains (slot slots l.place) l.chain (is.sound k l.chain l.place (ap spot e))
 

@@ -10,14 +10,14 @@ use Rattle.isa_model.specs.Machine.MachineStates.{AreBytes}
 use Rattle.map_indexes.specs.ArrayPlaces.{array_places}
 use Rattle.map_indexes.specs.ArrayLaws.{got_index}
 use Rattle.map_indexes.proofs.ChainIndexesLaws.{slot-none}
-use Rattle.map_indexes.specs.Slots.{Slots, slot, places, IsKey, AreKeys}
+use Rattle.map_indexes.specs.PlaceKeys.{PlaceKeys, slot, places, IsKey, AreKeys}
 use Rattle.map_indexes.proofs.SlotLaws.{same_or_not, set_here, set_else}
-use Rattle.map_indexes.specs.SlotLaws.{got}
+use Rattle.map_indexes.specs.PlaceKeyLaws.{got}
 
 pub AreKeys-none : (size n : ℕ) → AreKeys size (replicate n None)
 AreKeys-none size n p key e = let f = slot-none n p in absurd (cc)
 
-module _ (size : ℕ) (slots : Slots) (keys : AreKeys size slots) (p : ℕ) (inside : p < length slots) where
+module _ (size : ℕ) (slots : PlaceKeys) (keys : AreKeys size slots) (p : ℕ) (inside : p < length slots) where
   pub AreKeys-put : (key : List ℕ) → IsKey size key → AreKeys size (slice_set slots p (Some key))
   AreKeys-put key is j k e =
       elim (same_or_not j p) [
@@ -38,7 +38,7 @@ module _ (size : ℕ) (slots : Slots) (keys : AreKeys size slots) (p : ℕ) (ins
       ]
 
 -- a key that is found among places is one
-pub key_found : (size : ℕ) (slots : Slots) → AreKeys size slots → (k : List ℕ) (p : ℕ) → get (places slots) k ≡ Some p → IsKey size k
+pub key_found : (size : ℕ) (slots : PlaceKeys) → AreKeys size slots → (k : List ℕ) (p : ℕ) → get (places slots) k ≡ Some p → IsKey size k
 key_found size slots keys k p e = keys p k (got slots k p e)
 
 AreBytes-bytes_low_first : (i k n : ℕ) → AreBytes (bytes_low_first i k n)

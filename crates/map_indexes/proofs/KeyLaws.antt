@@ -3,7 +3,7 @@ use Rattle.std.proofs.Common.{◌≡◌, ℕ, zero, suc, ◌+◌, ◌*◌, ◌<�
 use Rattle.std.specs.Prelude.{slice_index_or, slice_set, is_some, replicate}
 use Rattle.map_indexes.specs.Rows.{row_at, with_row}
 use Rattle.map_indexes.specs.RowLaws.{row_at-other, row_at-with_row}
-use Rattle.map_indexes.specs.Slots.{Slots, slots_of, slot}
+use Rattle.map_indexes.specs.PlaceKeys.{PlaceKeys, slots_of, slot}
 
 module _ (size : ℕ) (block : List ℕ) where
   pub length-slots_of : (at : ℕ) (used : List Bool) → length (slots_of size block at used) ≡ length used
@@ -44,14 +44,14 @@ module _ (size : ℕ) (block : List ℕ) where
   pub slots_of-unused : (at : ℕ) (used : List Bool) (i : ℕ) → slots_of size block at (slice_set used i false) ≡ slice_set (slots_of size block at used) i None
   slots_of-unused at [] i = refl
   slots_of-unused at (true ∷ used) zero = refl
-  slots_of-unused at (true ∷ used) (suc i) = ap (λ (r : Slots). Some (row_at size block at) ∷ r) (slots_of-unused (at + 1) used i)
+  slots_of-unused at (true ∷ used) (suc i) = ap (λ (r : PlaceKeys). Some (row_at size block at) ∷ r) (slots_of-unused (at + 1) used i)
   slots_of-unused at (false ∷ used) zero = refl
-  slots_of-unused at (false ∷ used) (suc i) = ap (λ (r : Slots). None ∷ r) (slots_of-unused (at + 1) used i)
+  slots_of-unused at (false ∷ used) (suc i) = ap (λ (r : PlaceKeys). None ∷ r) (slots_of-unused (at + 1) used i)
 
   -- no place is in use at first
   pub slots_of-replicate : (at n : ℕ) → slots_of size block at (replicate n false) ≡ replicate n None
   slots_of-replicate at zero = refl
-  slots_of-replicate at (suc n) = ap (λ (r : Slots). None ∷ r) (slots_of-replicate (at + 1) n)
+  slots_of-replicate at (suc n) = ap (λ (r : PlaceKeys). None ∷ r) (slots_of-replicate (at + 1) n)
 
 module _ (size : ℕ) (block : List ℕ) (p : ℕ) (key : List ℕ) (n : ℕ) (long : length key ≡ size) (whole : length block ≡ n * size) (inside : p < n) where
   abbrev after : List ℕ
@@ -62,7 +62,7 @@ module _ (size : ℕ) (block : List ℕ) (p : ℕ) (key : List ℕ) (n : ℕ) (l
   slots_of-above at [] l = refl
   slots_of-above at (true ∷ used) l =
       λ i. Some (row_at-other size block p key n long whole inside at (λ e. omega arith) i) ∷ slots_of-above (at + 1) used (omega arith) i
-  slots_of-above at (false ∷ used) l = ap (λ (r : Slots). None ∷ r) (slots_of-above (at + 1) used (omega arith))
+  slots_of-above at (false ∷ used) l = ap (λ (r : PlaceKeys). None ∷ r) (slots_of-above (at + 1) used (omega arith))
 
   -- a key that is written at a place, which is then in use, is that place's
   pub slots_of-put : (at : ℕ) (used : List Bool) (i : ℕ) → at + i ≡ p → i < length used
@@ -76,4 +76,4 @@ module _ (size : ℕ) (block : List ℕ) (p : ℕ) (key : List ℕ) (n : ℕ) (l
       λ i. Some ((ap (row_at size after) here ∙ row_at-with_row size block p key n long whole inside) i) ∷ slots_of-above (at + 1) used (omega arith) i
   slots_of-put at (true ∷ used) (suc i) e l =
       λ t. Some (row_at-other size block p key n long whole inside at (λ g. omega arith) t) ∷ slots_of-put (at + 1) used i (omega arith) (omega arith) t
-  slots_of-put at (false ∷ used) (suc i) e l = ap (λ (r : Slots). None ∷ r) (slots_of-put (at + 1) used i (omega arith) (omega arith))
+  slots_of-put at (false ∷ used) (suc i) e l = ap (λ (r : PlaceKeys). None ∷ r) (slots_of-put (at + 1) used i (omega arith) (omega arith))

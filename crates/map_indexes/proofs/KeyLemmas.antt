@@ -1,7 +1,7 @@
 -- Keys and the table that contracts see.
 use Rattle.std.proofs.Common.{◌≡◌, ℕ, List, ◌++◌, take, drop, Bool, length, sym, ap, ◌∙◌}
 use Rattle.std.proofs.lemmas.List.{take_at}
-use Rattle.map_indexes.specs.Slots.{KeyTable, slots_of}
+use Rattle.map_indexes.specs.PlaceKeys.{KeyTable, slots_of}
 use Rattle.map_indexes.proofs.KeyLaws.{length-slots_of}
 
 -- the table's places are those of the block

@@ -15,28 +15,28 @@ use Rattle.std.proofs.lemmas.List.Sorted.{ranks_by, sorted_far, All-permutation,
 use Rattle.std.proofs.lemmas.Map.Keys.{IsDistinct-IsPermutation}
 use Rattle.std.proofs.Math.Dec.{eqb}
 use Rattle.isa_model.specs.Machine.MapContents.{key_order, is_key}
-use Rattle.map_indexes.specs.Slots.{Slots, slot, places, IsDistinct as IsApart}
+use Rattle.map_indexes.specs.PlaceKeys.{PlaceKeys, slot, places, IsDistinct as IsApart}
 use Rattle.map_indexes.proofs.SlotLaws.{is_key-itself, get_here}
-use Rattle.map_indexes.specs.SlotLaws.{is_key-equal, got}
+use Rattle.map_indexes.specs.PlaceKeyLaws.{is_key-equal, got}
 use Rattle.map_indexes.specs.KeyOrder.{key_or_none, used_places}
 
 -- no place past the end has a key
-pub key_or_none-past : (slots : Slots) (p : ℕ) → length slots ≤ p → key_or_none slots p ≡ []
+pub key_or_none-past : (slots : PlaceKeys) (p : ℕ) → length slots ≤ p → key_or_none slots p ≡ []
 key_or_none-past [] p l = refl
 key_or_none-past (x ∷ slots) zero l = absurd (omega arith)
 key_or_none-past (x ∷ slots) (suc p) l = key_or_none-past slots p (omega arith)
 
-pub key_or_none-unused : (slots : Slots) (p : ℕ) → is_some (slot slots p) ≡ false → key_or_none slots p ≡ []
+pub key_or_none-unused : (slots : PlaceKeys) (p : ℕ) → is_some (slot slots p) ≡ false → key_or_none slots p ≡ []
 key_or_none-unused slots p e = elim (slot slots p) as (λ o. is_some o ≡ false → unwrap_or o [] ≡ []) [ None ↦ λ f. refl | Some k ↦ λ f. absurd (cc) ] e
 
-pub key_or_none-used : (slots : Slots) (p : ℕ) (k : List ℕ) → slot slots p ≡ Some k → k ≡ key_or_none slots p
+pub key_or_none-used : (slots : PlaceKeys) (p : ℕ) (k : List ℕ) → slot slots p ≡ Some k → k ≡ key_or_none slots p
 key_or_none-used slots p k e = sym (ap (λ (o : Option (List ℕ)). unwrap_or o []) e)
 
 abbrev place_if : Option (List ℕ) → ℕ → List ℕ
 place_if None p = []
 place_if (Some key) p = p ∷ []
 
-used_places-suc : (slots : Slots) (at i : ℕ) → i < length slots
+used_places-suc : (slots : PlaceKeys) (at i : ℕ) → i < length slots
     → used_places at (take (suc i) slots) ≡ used_places at (take i slots) ++ place_if (slot slots i) (at + i)
 used_places-suc [] at i l = absurd (omega arith)
 used_places-suc (None ∷ slots) at zero l = refl
@@ -60,7 +60,7 @@ append-none : (xs : List ℕ) → xs ++ [] ≡ xs
 append-none [] = refl
 append-none (x ∷ xs) = ap (λ (ys : List ℕ). x ∷ ys) (append-none xs)
 
-module _ (slots : Slots) (i : ℕ) (inside : i < length slots) where
+module _ (slots : PlaceKeys) (i : ℕ) (inside : i < length slots) where
   -- one place more that has a key
   pub used_places-key : is_some (slot slots i) ≡ true → used_places 0 (take (i + 1) slots) ≡ used_places 0 (take i slots) ++ i ∷ []
   used_places-key e =
@@ -77,7 +77,7 @@ module _ (slots : Slots) (i : ℕ) (inside : i < length slots) where
       ∙ ap (λ (ps : List ℕ). used_places 0 (take i slots) ++ ps) (place_if-none (slot slots i) (0 + i) e) ∙ append-none (used_places 0 (take i slots))
 
 module _ (P : ℕ → Type 0) where
-  each_used : (slots : Slots) (at : ℕ) → ((i : ℕ) (k : List ℕ) → slot slots i ≡ Some k → P (at + i)) → All P (used_places at slots)
+  each_used : (slots : PlaceKeys) (at : ℕ) → ((i : ℕ) (k : List ℕ) → slot slots i ≡ Some k → P (at + i)) → All P (used_places at slots)
   each_used [] at h = All-nil P
   each_used (None ∷ slots) at h = each_used slots (at + 1) (λ i k e. let s : at + suc i ≡ at + 1 + i = omega arith in subst P s (h (suc i) k e))
   each_used (Some q ∷ slots) at h =
@@ -85,7 +85,7 @@ module _ (P : ℕ → Type 0) where
       All-cons P at (used_places (at + 1) slots) (subst P z (h 0 q refl))
       (each_used slots (at + 1) (λ i k e. let s : at + suc i ≡ at + 1 + i = omega arith in subst P s (h (suc i) k e)))
 
-  of_used : (slots : Slots) (at i : ℕ) (k : List ℕ) → All P (used_places at slots) → slot slots i ≡ Some k → P (at + i)
+  of_used : (slots : PlaceKeys) (at i : ℕ) (k : List ℕ) → All P (used_places at slots) → slot slots i ≡ Some k → P (at + i)
   of_used [] at i k all e = absurd (cc)
   of_used (None ∷ slots) at zero k all e = absurd (cc)
   of_used (None ∷ slots) at (suc i) k all e = let s : at + 1 + i ≡ at + suc i = omega arith in subst P s (of_used slots (at + 1) i k all e)
@@ -98,7 +98,7 @@ by_recursion : (P : ℕ → Type 0) (xs : List ℕ) → All P xs → AllByRecurs
 by_recursion P [] all = tt
 by_recursion P (x ∷ xs) all = (All-head P x xs all, by_recursion P xs (All-tail P x xs all))
 
-distinct_used : (slots : Slots) (at : ℕ) → IsDistinct eqb (used_places at slots)
+distinct_used : (slots : PlaceKeys) (at : ℕ) → IsDistinct eqb (used_places at slots)
 unfolding IsDistinct
 distinct_used [] at = tt
 distinct_used (None ∷ slots) at = distinct_used slots (at + 1)
@@ -133,7 +133,7 @@ is_less Less t = refl
 is_less Equal t = absurd t
 is_less Greater t = absurd t
 
-module _ (slots : Slots) (apart : IsApart slots) where
+module _ (slots : PlaceKeys) (apart : IsApart slots) where
   abbrev key : ℕ → List ℕ
   key = key_or_none slots
 

@@ -4,7 +4,7 @@ use Rattle.std.specs.Prelude.{slice_set, is_some, replicate}
 use Rattle.std.specs.Cmp.Lexicographic.{nat_list_cmp_total}
 use Rattle.std.specs.FinMap.{get, len, empty, from_entries, len-insert, len-remove, len-empty}
 use Rattle.isa_model.specs.Machine.MapContents.{key_order}
-use Rattle.map_indexes.specs.Slots.{Slots, slot, entries_from, places, IsScan, key_count}
+use Rattle.map_indexes.specs.PlaceKeys.{PlaceKeys, slot, entries_from, places, IsScan, key_count}
 use Rattle.map_indexes.proofs.SlotLaws.{get_here}
 use Rattle.map_indexes.proofs.SlotLaws.{added-distinct, places-added, emptied-distinct, places-emptied}
 use Rattle.map_indexes.specs.ScanLaws.{slot_inside}
@@ -26,7 +26,8 @@ key_count-none (suc n) = key_count-none n
 pub places-none : (n : ℕ) → places (replicate n None) ≡ empty
 places-none n = ap (λ (es : List (List ℕ × ℕ)). from_entries es) (entries_from-none 0 n)
 
-pub key_count-added : (slots : Slots) (p : ℕ) (k : List ℕ) → p < length slots → slot slots p ≡ None
+pub key_count-added : (slots : PlaceKeys) (p : ℕ) (k : List ℕ) → p < length slots
+    → slot slots p ≡ None
     → key_count (slice_set slots p (Some k)) ≡ key_count slots + 1
 key_count-added [] p k l e = absurd (omega arith)
 key_count-added (None ∷ slots) zero k l e = omega arith
@@ -34,7 +35,7 @@ key_count-added (None ∷ slots) (suc p) k l e = let h = key_count-added slots p
 key_count-added (Some q ∷ slots) zero k l e = absurd (cc)
 key_count-added (Some q ∷ slots) (suc p) k l e = let h = key_count-added slots p k (omega arith) e in omega arith
 
-pub key_count-emptied : (slots : Slots) (p : ℕ) (k : List ℕ) → slot slots p ≡ Some k
+pub key_count-emptied : (slots : PlaceKeys) (p : ℕ) (k : List ℕ) → slot slots p ≡ Some k
     → key_count (slice_set slots p None) + 1 ≡ key_count slots
 key_count-emptied [] p k e = absurd (cc)
 key_count-emptied (None ∷ slots) zero k e = absurd (cc)
@@ -43,12 +44,12 @@ key_count-emptied (Some q ∷ slots) zero k e = omega arith
 key_count-emptied (Some q ∷ slots) (suc p) k e = let h = key_count-emptied slots p k e in omega arith
 
 -- where each place has a key, each is counted
-pub key_count-all : (slots : Slots) → ((j : ℕ) → j < length slots → is_some (slot slots j) ≡ true) → key_count slots ≡ length slots
+pub key_count-all : (slots : PlaceKeys) → ((j : ℕ) → j < length slots → is_some (slot slots j) ≡ true) → key_count slots ≡ length slots
 key_count-all [] f = refl
 key_count-all (None ∷ slots) f = let h = f 0 (omega arith) in absurd (cc)
 key_count-all (Some q ∷ slots) f = let h = key_count-all slots (λ j l. f (suc j) (omega arith)) in omega arith
 
-module _ (slots : Slots) (count : ℕ) (is : IsScan slots count) (k : List ℕ) (p : ℕ) where
+module _ (slots : PlaceKeys) (count : ℕ) (is : IsScan slots count) (k : List ℕ) (p : ℕ) where
   module _ (inside : p < length slots) (free : slot slots p ≡ None) (absent : get (places slots) k ≡ None) where
     pub scan-added : IsScan (slice_set slots p (Some k)) (count + 1)
     scan-added = record {

@@ -5,14 +5,14 @@ use Rattle.std.specs.Cmp.{eq_by_cmp_equiv}
 use Rattle.std.specs.Cmp.Lexicographic.{nat_list_cmp_total}
 use Rattle.std.specs.FinMap.{find, get, insert, remove, get-insert, get-remove, get-from_entries, same_map, slice_cmp-IsAntisymmetric, nat_cmp-IsAntisymmetric}
 use Rattle.isa_model.specs.Machine.MapContents.{key_order, is_key}
-use Rattle.map_indexes.specs.Slots.{Places, Slots, entries_from, places, slot, IsDistinct}
-use Rattle.map_indexes.specs.SlotLaws.{got, is_key-equal}
+use Rattle.map_indexes.specs.PlaceKeys.{Places, PlaceKeys, entries_from, places, slot, IsDistinct}
+use Rattle.map_indexes.specs.PlaceKeyLaws.{got, is_key-equal}
 
 pub is_key-itself : (k : List ℕ) → is_key k k ≡ true
 is_key-itself k = (eq_by_cmp_equiv nat_list_cmp_total).refl k
 
 -- a slot with this key, which no other slot has, is found
-pub find_here : (slots : Slots) (at i : ℕ) (k : List ℕ) → slot slots i ≡ Some k
+pub find_here : (slots : PlaceKeys) (at i : ℕ) (k : List ℕ) → slot slots i ≡ Some k
     → ((j : ℕ) → slot slots j ≡ Some k → j ≡ i) → find key_order k (entries_from at slots) ≡ Some (at + i)
 find_here [] at i k e d = cc
 find_here (None ∷ slots) at zero k e d = cc
@@ -31,7 +31,7 @@ find_here (Some q ∷ slots) at (suc i) k e d =
       | false ↦ λ t. rest ∙ ap Some sum
     ] refl
 
-pub find_none : (slots : Slots) (at : ℕ) (k : List ℕ) → ((j : ℕ) → slot slots j ≡ Some k → ⊥) → find key_order k (entries_from at slots) ≡ None
+pub find_none : (slots : PlaceKeys) (at : ℕ) (k : List ℕ) → ((j : ℕ) → slot slots j ≡ Some k → ⊥) → find key_order k (entries_from at slots) ≡ None
 find_none [] at k d = refl
 find_none (None ∷ slots) at k d = find_none slots (at + 1) k (λ j f. d (suc j) f)
 find_none (Some q ∷ slots) at k d =
@@ -41,21 +41,21 @@ find_none (Some q ∷ slots) at k d =
     ] refl
 
 -- the same of the map
-pub get_here : (slots : Slots) (i : ℕ) (k : List ℕ) → IsDistinct slots → slot slots i ≡ Some k → get (places slots) k ≡ Some i
+pub get_here : (slots : PlaceKeys) (i : ℕ) (k : List ℕ) → IsDistinct slots → slot slots i ≡ Some k → get (places slots) k ≡ Some i
 get_here slots i k d e =
     let sum : 0 + i ≡ i = omega arith in
     get-from_entries nat_list_cmp_total (entries_from 0 slots) k ∙ find_here slots 0 i k e (λ j f. d j i k f e) ∙ ap Some sum
 
-pub get_none : (slots : Slots) (k : List ℕ) → ((j : ℕ) → slot slots j ≡ Some k → ⊥) → get (places slots) k ≡ None
+pub get_none : (slots : PlaceKeys) (k : List ℕ) → ((j : ℕ) → slot slots j ≡ Some k → ⊥) → get (places slots) k ≡ None
 get_none slots k d = get-from_entries nat_list_cmp_total (entries_from 0 slots) k ∙ find_none slots 0 k d
 
 -- what a slot holds after one was set
-pub set_here : (slots : Slots) (i : ℕ) (v : Option (List ℕ)) → i < length slots → slot (slice_set slots i v) i ≡ v
+pub set_here : (slots : PlaceKeys) (i : ℕ) (v : Option (List ℕ)) → i < length slots → slot (slice_set slots i v) i ≡ v
 set_here [] i v h = absurd (omega arith)
 set_here (x ∷ slots) zero v h = refl
 set_here (x ∷ slots) (suc i) v h = set_here slots i v (omega arith)
 
-pub set_else : (slots : Slots) (i j : ℕ) (v : Option (List ℕ)) → (j ≡ i → ⊥) → slot (slice_set slots i v) j ≡ slot slots j
+pub set_else : (slots : PlaceKeys) (i j : ℕ) (v : Option (List ℕ)) → (j ≡ i → ⊥) → slot (slice_set slots i v) j ≡ slot slots j
 set_else [] i j v h = refl
 set_else (x ∷ slots) zero zero v h = absurd (h refl)
 set_else (x ∷ slots) zero (suc j) v h = refl
@@ -68,13 +68,13 @@ same_or_not zero (suc i) = inr (λ e. omega arith)
 same_or_not (suc j) zero = inr (λ e. omega arith)
 same_or_not (suc j) (suc i) = elim (same_or_not j i) [ inl e ↦ inl (ap suc e) | inr d ↦ inr (λ e. d (omega arith)) ]
 
-module _ (slots : Slots) (p : ℕ) (k : List ℕ) (inside : p < length slots) (apart : IsDistinct slots) where
-  abbrev S : Slots
+module _ (slots : PlaceKeys) (p : ℕ) (k : List ℕ) (inside : p < length slots) (apart : IsDistinct slots) where
+  abbrev S : PlaceKeys
   S = slots
 
   -- ---- a key that has no slot is put into an empty one
   module _ (absent : get (places slots) k ≡ None) (empty_there : slot slots p ≡ None) where
-    abbrev added : Slots
+    abbrev added : PlaceKeys
     added = slice_set slots p (Some k)
 
     nowhere : (j : ℕ) → slot slots j ≡ Some k → ⊥
@@ -116,7 +116,7 @@ module _ (slots : Slots) (p : ℕ) (k : List ℕ) (inside : p < length slots) (a
 
   -- ---- the slot of a key is emptied
   module _ (present : slot slots p ≡ Some k) where
-    abbrev emptied : Slots
+    abbrev emptied : PlaceKeys
     emptied = slice_set slots p None
 
     from_emptied : (j : ℕ) (q : List ℕ) → slot emptied j ≡ Some q → (j ≡ p → ⊥) × (slot slots j ≡ Some q)

@@ -6,7 +6,7 @@ use Rattle.std.specs.FinMap.{get, len, get-empty, get-insert, len-empty, len-ins
 use Rattle.byteorder.specs.Endian.{little_bytes}
 use Rattle.isa_model.specs.Machine.MapContents.{key_order, is_key}
 use Rattle.map_indexes.specs.ArrayPlaces.{array_places}
-use Rattle.map_indexes.specs.SlotLaws.{is_key-equal}
+use Rattle.map_indexes.specs.PlaceKeyLaws.{is_key-equal}
 
 -- what is found is an index below n, and its bytes are the key
 pub got_index : (n : ℕ) (k : List ℕ) (p : ℕ) → get (array_places n) k ≡ Some p → (p < n) × (k ≡ little_bytes 4 p)

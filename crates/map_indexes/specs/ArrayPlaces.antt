@@ -2,7 +2,7 @@
 use Rattle.std.specs.Prelude.{ℕ, zero, suc}
 use Rattle.std.specs.FinMap.{empty, insert}
 use Rattle.byteorder.specs.Endian.{little_bytes}
-use Rattle.map_indexes.specs.Slots.{Places}
+use Rattle.map_indexes.specs.PlaceKeys.{Places}
 
 -- the indexes below n
 abbrev pub array_places : ℕ → Places

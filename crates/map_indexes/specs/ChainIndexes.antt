@@ -5,13 +5,13 @@ use Rattle.std.specs.Option.{option_map}
 use Rattle.std.specs.Prelude.{slice_index_or}
 use Rattle.map_indexes.specs.declared.chains.Link.{Link}
 use Rattle.map_indexes.specs.Hashing.{chain_of}
-use Rattle.map_indexes.specs.Slots.{Slots, slot, IsScan}
+use Rattle.map_indexes.specs.PlaceKeys.{PlaceKeys, slot, IsScan}
 
 abbrev pub free_at : List ℕ → ℕ → ℕ
 free_at free i = slice_index_or free i 0
 
 -- each key's place has one link, in the key's chain, and the free places are all others, each once
-pub record IsChainIndex (slots : Slots) (free : List ℕ) (chains : ℕ) (spots : ℕ → Option (ℕ × ℕ)) : Type 0 where
+pub record IsChainIndex (slots : PlaceKeys) (free : List ℕ) (chains : ℕ) (spots : ℕ → Option (ℕ × ℕ)) : Type 0 where
   pub few : length free ≤ length slots
   pub scan : IsScan slots (length slots - length free)
   pub unused : (i : ℕ) → i < length free → (free_at free i < length slots) × (slot slots (free_at free i) ≡ None)
@@ -23,7 +23,8 @@ pub record IsChainIndex (slots : Slots) (free : List ℕ) (chains : ℕ) (spots 
 -- ---- look-ups
 
 -- the link's place has the key
-pub record HasKey (slots : Slots) (links : ℕ → Option Link) (key : List ℕ) (at : ℕ) : Type 0 where
+pub record HasKey (slots : PlaceKeys) (links : ℕ
+    → Option Link) (key : List ℕ) (at : ℕ) : Type 0 where
   pub link : Link
   pub there : links at ≡ Some link
   pub has : slot slots link.place ≡ Some key

@@ -1,11 +1,11 @@
 -- The places of keys in the order of the keys: they are the values of the slots' finite map.
 use Rattle.std.proofs.Common.{ℕ, List, [], map, unwrap_or}
-use Rattle.map_indexes.specs.Slots.{Slots, slot, entries_from}
+use Rattle.map_indexes.specs.PlaceKeys.{PlaceKeys, slot, entries_from}
 
 -- the key of a place, or no bytes where it has none
-abbrev pub key_or_none : Slots → ℕ → List ℕ
+abbrev pub key_or_none : PlaceKeys → ℕ → List ℕ
 key_or_none slots p = unwrap_or (slot slots p) []
 
 -- the places that have a key, from place 0 on
-abbrev pub used_places : ℕ → Slots → List ℕ
+abbrev pub used_places : ℕ → PlaceKeys → List ℕ
 used_places at slots = map (λ e. e.1) (entries_from at slots)

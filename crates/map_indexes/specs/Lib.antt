@@ -1,7 +1,7 @@
 pub mod Rows
 pub mod RowLaws
-pub mod Slots
-pub mod SlotLaws
+pub mod PlaceKeys
+pub mod PlaceKeyLaws
 pub mod KeyOrder
 pub mod ScanLaws
 pub mod ArrayPlaces

@@ -4,7 +4,7 @@ ghost use Rattle.std.specs.Prelude.{◌≡◌, ◌≢◌, ◌<◌, ◌≤◌, �
 ghost use Rattle.std.specs.FinMap as map;
 ghost use Rattle.isa_model.specs.declared.map_defs.MapKind.{MapKind};
 ghost use Rattle.isa_model.specs.declared.map_defs.MapKind.TheVariants.{Hash, Array};
-ghost use Rattle.map_indexes.specs.Slots.{Places, TakesPlace};
+ghost use Rattle.map_indexes.specs.PlaceKeys.{Places, TakesPlace};
 
 /// Which place each key of a map has. The places are the numbers below `room`, and a key keeps its
 /// place until it is removed.

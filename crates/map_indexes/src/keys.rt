@@ -7,7 +7,7 @@ ghost use Rattle.std.specs.List.Sorted.{IsSortedByKey};
 ghost use Rattle.isa_model.specs.Code.LittleEndian.{EachByte};
 ghost use Rattle.isa_model.specs.Machine.MapContents.{key_order};
 ghost use Rattle.map_indexes.specs.KeyOrder.{key_or_none};
-ghost use Rattle.map_indexes.specs.Slots.{KeyTable, slot, slots_of};
+ghost use Rattle.map_indexes.specs.PlaceKeys.{KeyTable, slot, slots_of};
 
 use crate::rooms::exact;
 use byteorder::{ByteOrder, LittleEndian};

@@ -2,7 +2,7 @@
 
 ghost use Rattle.std.specs.Prelude.{◌≡◌, ◌<◌, length, None, slice_index_or};
 ghost use Rattle.isa_model.specs.declared.map_defs.MapKind.TheVariants.{Hash};
-ghost use Rattle.map_indexes.specs.Slots.{places, slot, IsScan};
+ghost use Rattle.map_indexes.specs.PlaceKeys.{places, slot, IsScan};
 
 use crate::index::Index;
 use crate::keys::Keys;

@@ -14,7 +14,7 @@ use Rattle.maps.specs.contracts.either.EitherIndexIndex.TheImpl as indexes
 use Rattle.maps.specs.declared.store.Store.{Store}
 use Rattle.isa_model.specs.Machine.States.{Entries}
 use Rattle.isa_model.specs.Machine.MachineStates.{AreBytes}
-use Rattle.map_indexes.specs.Slots.{IsKey}
+use Rattle.map_indexes.specs.PlaceKeys.{IsKey}
 use Rattle.map_indexes.specs.ArrayPlaces.{array_places}
 use Rattle.maps.specs.Either.{places_of, kind_of, room_of, either_in_range, either_apart, either_few}
 use Rattle.maps.proofs.EitherLaws.{either_keys}

@@ -7,7 +7,7 @@ use Rattle.isa_model.specs.declared.map_defs.MapDef.{MapDef}
 use Rattle.isa_model.specs.Machine.States.{Entries}
 use Rattle.maps.specs.declared.commands.Command.{Command}
 use Rattle.maps.specs.declared.commands.Reply.{Reply}
-use Rattle.map_indexes.specs.Slots.{Places}
+use Rattle.map_indexes.specs.PlaceKeys.{Places}
 use Rattle.maps.specs.Contents.{content}
 use Rattle.maps.specs.Commands.{Said, said, reply_to, content_after, replies_of, left_by}
 

@@ -10,9 +10,9 @@ use Rattle.isa_model.specs.Machine.States.{Entries}
 use Rattle.isa_model.specs.Machine.MapContents.{key_order, is_key, at_key, has_key, with_key, without_key}
 use Rattle.map_indexes.specs.Rows.{row_at, with_row}
 use Rattle.map_indexes.specs.RowLaws.{row_at-with_row, row_at-other}
-use Rattle.map_indexes.specs.Slots.{Places, TakesPlace}
+use Rattle.map_indexes.specs.PlaceKeys.{Places, TakesPlace}
 use Rattle.map_indexes.proofs.SlotLaws.{is_key-itself}
-use Rattle.map_indexes.specs.SlotLaws.{is_key-equal}
+use Rattle.map_indexes.specs.PlaceKeyLaws.{is_key-equal}
 use Rattle.maps.specs.Contents.{content}
 use Rattle.maps.specs.ContentLaws.{changed, find-changed, is_sorted-changed, length-changed}
 

@@ -5,7 +5,7 @@ use Rattle.isa_model.specs.declared.map_defs.MapKind.TheVariants.{Array}
 use Rattle.maps.specs.declared.either.EitherIndex.{EitherIndex}
 use Rattle.maps.specs.declared.either.EitherIndex.TheVariants as either
 use Rattle.map_indexes.proofs.KeyBytes.{key_found, index_found}
-use Rattle.map_indexes.specs.Slots.{IsKey}
+use Rattle.map_indexes.specs.PlaceKeys.{IsKey}
 use Rattle.maps.specs.Either.{key_size_of, places_of}
 
 pub either_keys : (s : EitherIndex) (k : List ℕ) (p : ℕ) → get (places_of s) k ≡ Some p → IsKey (key_size_of s) k

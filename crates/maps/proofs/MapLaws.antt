@@ -28,7 +28,7 @@ use Rattle.maps.specs.Maps.{MapState, IsMap, content_in, contents_of, rows_of, m
 use Rattle.maps.proofs.ReportOrderLaws.{get_at}
 use Rattle.map_indexes.specs.Rows.{row_at}
 use Rattle.map_indexes.specs.RowLaws.{row_end, length-row_at}
-use Rattle.map_indexes.specs.Slots.{Places}
+use Rattle.map_indexes.specs.PlaceKeys.{Places}
 
 -- ---- a map's content fits its row
 

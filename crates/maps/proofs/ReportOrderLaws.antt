@@ -26,9 +26,9 @@ use Rattle.maps.proofs.ContentLaws.{at_key-content}
 use Rattle.maps.specs.Contents.{content}
 use Rattle.maps.specs.Either.{places_of, kind_of, room_of, either_in_range}
 use Rattle.map_indexes.specs.Rows.{row_at}
-use Rattle.map_indexes.specs.Slots.{Places, Slots, slot, places}
+use Rattle.map_indexes.specs.PlaceKeys.{Places, PlaceKeys, slot, places}
 use Rattle.map_indexes.proofs.SlotLaws.{is_key-itself}
-use Rattle.map_indexes.specs.SlotLaws.{got}
+use Rattle.map_indexes.specs.PlaceKeyLaws.{got}
 use Rattle.maps.specs.ReportOrder.{listed_of, with_key_of}
 
 all_some : {Y : Type 0} (h : ℕ → Option Y) (f : ℕ → Y) (a n : ℕ) → ((i : ℕ) → a ≤ i → i < a + n → h i ≡ Some (f i))
@@ -100,7 +100,7 @@ placed (x ∷ es) (suc k) e s g =
 pub get_at : (m : Places) (k : ℕ) (e : List ℕ × ℕ) → slice_get (entries m) k ≡ Some e → get m e.0 ≡ Some e.1
 get_at m k e g = get-entries m e.0 ∙ placed (entries m) k e (entries_sorted m) g
 
-module _ (slots : Slots) (k p : ℕ) (there : slice_get (values (places slots)) k ≡ Some p) where
+module _ (slots : PlaceKeys) (k p : ℕ) (there : slice_get (values (places slots)) k ≡ Some p) where
   listed : (e : List ℕ × ℕ) × (slice_get (entries (places slots)) k ≡ Some e) × (e.1 ≡ p)
   listed = elim (slice_get (entries (places slots)) k) as (λ o. slice_get (entries (places slots)) k ≡ o → option_map (λ e. e.1) o ≡ Some p
       → (e : List ℕ × ℕ) × (slice_get (entries (places slots)) k ≡ Some e) × (e.1 ≡ p)) [
@@ -121,7 +121,7 @@ module _ (slots : Slots) (k p : ℕ) (there : slice_get (values (places slots)) 
       let same : listed.0.0 ≡ key = let f = slot_there in cc in
       listed.1 ∙ (λ i. Some (same i, listed.2 i))
 
-pub listed-none : (slots : Slots) (k : ℕ) → slice_get (values (places slots)) k ≡ None → slice_get (entries (places slots)) k ≡ None
+pub listed-none : (slots : PlaceKeys) (k : ℕ) → slice_get (values (places slots)) k ≡ None → slice_get (entries (places slots)) k ≡ None
 listed-none slots k none =
     elim (slice_get (entries (places slots)) k) as (λ o. option_map (λ e. e.1) o ≡ None → o ≡ None) [
       | None ↦ λ f. refl

@@ -10,7 +10,7 @@ use Rattle.isa_model.specs.Machine.MapContents.{with_key, without_key, enoent, e
 use Rattle.map_indexes.specs.Rows.{with_row}
 use Rattle.maps.specs.Contents.{content}
 use Rattle.maps.proofs.ContentLaws.{has_key-content, length-content, content-written, content-added, content-removed, get-taken}
-use Rattle.map_indexes.specs.Slots.{Places, TakesPlace}
+use Rattle.map_indexes.specs.PlaceKeys.{Places, TakesPlace}
 use Rattle.maps.specs.Changes.{Writes, Updates, Deletes}
 
 -- a test of a number for 0

@@ -2,7 +2,7 @@
 use Rattle.std.specs.Prelude.{◌≡◌, ◌≢◌, ℕ, List, Some, None}
 use Rattle.std.specs.FinMap.{get, remove}
 use Rattle.map_indexes.specs.Rows.{with_row}
-use Rattle.map_indexes.specs.Slots.{Places, TakesPlace}
+use Rattle.map_indexes.specs.PlaceKeys.{Places, TakesPlace}
 
 -- the value of a key is written: a present key keeps its place, and a new one takes a free one
 pub record Writes (size : ℕ) (key value : List ℕ) (P : Places) (B : List ℕ) (P' : Places) (B' : List ℕ) : Type 0 where

@@ -7,7 +7,7 @@ use Rattle.isa_model.specs.declared.map_defs.MapDef.{MapDef}
 use Rattle.isa_model.specs.Machine.States.{Entries}
 use Rattle.map_indexes.specs.Rows.{row_at}
 use Rattle.map_indexes.specs.ArrayPlaces.{array_places}
-use Rattle.map_indexes.specs.Slots.{Places}
+use Rattle.map_indexes.specs.PlaceKeys.{Places}
 
 -- the value of each key, in the order of the keys
 abbrev pub content : ℕ → Places → List ℕ → Entries

@@ -8,7 +8,7 @@ use Rattle.maps.specs.declared.either.EitherIndex.TheVariants as either
 use Rattle.map_indexes.specs.ArrayPlaces.{array_places}
 use Rattle.map_indexes.specs.ArrayLaws.{array_in_range, array_apart, array_few}
 use Rattle.map_indexes.specs.ScanLaws.{scan_in_range, scan_apart, scan_few}
-use Rattle.map_indexes.specs.Slots.{Places, places}
+use Rattle.map_indexes.specs.PlaceKeys.{Places, places}
 
 abbrev pub places_of : EitherIndex → Places
 places_of (either.Array s) = array_places s.entries

@@ -13,7 +13,7 @@ use Rattle.isa_model.specs.Reporting.Reports.{in_report_order}
 use Rattle.std.specs.List.{splice}
 use Rattle.map_indexes.specs.Rows.{row_at, with_row}
 use Rattle.map_indexes.specs.ArrayPlaces.{array_places}
-use Rattle.map_indexes.specs.Slots.{Places, IsKey}
+use Rattle.map_indexes.specs.PlaceKeys.{Places, IsKey}
 use Rattle.maps.specs.Contents.{content, starting_places}
 use Rattle.maps.specs.Changes.{Updates, Deletes}
 

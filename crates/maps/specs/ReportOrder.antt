@@ -7,7 +7,7 @@ use Rattle.isa_model.specs.declared.map_defs.MapKind.TheVariants.{Hash, Array}
 use Rattle.maps.specs.declared.either.EitherIndex.{EitherIndex}
 use Rattle.maps.specs.declared.either.EitherIndex.TheVariants as either
 use Rattle.maps.specs.Either.{places_of, kind_of}
-use Rattle.map_indexes.specs.Slots.{places}
+use Rattle.map_indexes.specs.PlaceKeys.{places}
 
 -- an array's keys by their index, a hash map's by their bytes
 abbrev pub listed_of : EitherIndex → List (List ℕ × ℕ)

@@ -4,7 +4,7 @@ use Rattle.isa_model.specs.declared.map_defs.MapDef.{MapDef}
 use Rattle.isa_model.specs.declared.map_defs.MapKind.TheVariants.{Hash}
 use Rattle.map_indexes.specs.declared.index.Index.{Ghosts}
 use Rattle.maps.specs.declared.store.Store.{Store}
-use Rattle.map_indexes.specs.Slots.{Places}
+use Rattle.map_indexes.specs.PlaceKeys.{Places}
 use Rattle.isa_model.specs.Code.MapRows.{IsRow}
 use Rattle.maps.specs.Maps.{MapState}
 

@@ -9,7 +9,7 @@ ghost use Rattle.isa_model.specs.declared.map_defs.MapKind.TheVariants.{Hash, Ar
 ghost use Rattle.isa_model.specs.declared.map_defs.MapDef.{MapDef};
 ghost use Rattle.map_indexes.specs.Rows.{row_at, with_row};
 ghost use Rattle.maps.specs.Contents.{hash_row};
-ghost use Rattle.map_indexes.specs.Slots.{Places, TakesPlace};
+ghost use Rattle.map_indexes.specs.PlaceKeys.{Places, TakesPlace};
 
 use isa_model::{MapDef, MapKind};
 use map_indexes::rooms::exact;

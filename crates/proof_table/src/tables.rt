@@ -14,7 +14,7 @@ use bounds::Verified;
 use byteorder::{ByteOrder, LittleEndian};
 use control_flow::FlowError;
 use exact_io::write_bytes;
-use explorer::{Entry, Explored, Refusal, explore};
+use explorer::{ExploredInsn, Explored, Refusal, explore};
 use image::Image;
 use isa_model::MAX_EXPLORED;
 use stack_state::State;
@@ -49,7 +49,7 @@ fn write_all<W: Write>(writer: &mut W, bytes: &[u8]) -> Result<(), WriteTableErr
 /// it.
 fn spell_explored(
     image: &Image,
-    entry: &Entry,
+    entry: &ExploredInsn,
     state: &mut State,
     buffer: &mut Vec<u8>,
 ) -> Result<(), WriteTableError>

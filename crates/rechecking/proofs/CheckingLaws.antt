@@ -15,7 +15,7 @@ use Rattle.stack_state.specs.Starts.{start}
 use Rattle.stack_state.proofs.StartsLaws.{Means-start}
 use Rattle.transfer.specs.declared.Ways.{Ways}
 use Rattle.transfer.specs.declared.Ways.TheVariants as ways
-use Rattle.state_cover.specs.FrameCover.{Encloses}
+use Rattle.state_cover.specs.FrameCover.{StateEncloses}
 use Rattle.transfer.specs.declared.refusals.Refusal.{Refusal}
 use Rattle.transfer.specs.Exact.{Steps}
 use Rattle.transfer.specs.Leading.{LeadsTo, InSome}
@@ -24,7 +24,7 @@ use Rattle.table_entries.specs.declared.entries.Head.{Head}
 use Rattle.table_entries.specs.Entries.{Entry, entry_of}
 use Rattle.rechecking.specs.Tables.{EntryAt, EntersSmaller, IsClosedEntry, MeansStarts}
 use Rattle.rechecking.specs.declared.errors.TableError.TheVariants.{Step, Successor}
-use Rattle.rechecking.specs.Standing.{StandsAt}
+use Rattle.rechecking.specs.KnownEntries.{HasEntry}
 use Rattle.rechecking.specs.Checking.{Covering, CoversClearly, Enters, EntersClearly, FollowsBy, StartsClearly, HasStart, IsFaultyAt, AllFineBefore}
 
 goes_into : (p : Program) (t : EntryAt) (e : Entry) (index : ℕ) (a : State) (s : Machine.State) → Contains e.successors index → Enters t e.number index a
@@ -79,7 +79,7 @@ same_entry o d e h k = cc
 -- ---- an entry that covers a state, or not
 
 -- a state covers itself
-pub Enters-same : (p : Program) (t : EntryAt) (number index : ℕ) (a : State) (head : Head) → StandsAt p t index head a
+pub Enters-same : (p : Program) (t : EntryAt) (number index : ℕ) (a : State) (head : Head) → HasEntry p t index head a
     → ((e : Entry) → t index ≡ Some e → e.number < number) → Enters t number index a
 unfolding Covers
 Enters-same p t number index a head stands smaller = record {
@@ -104,21 +104,21 @@ pub unclear_number : (t : EntryAt) (number index : ℕ) (a : State) (answer : Bo
 unclear_number t number index a answer finds refuted h = let yes : answer ≡ true = finds h.entry h.there h.smaller in cc
 
 -- a test that finds what is clear, and says no of this entry
-pub unclear_entry : (t : EntryAt) (index : ℕ) (a : State) (e : Entry) (answer : Bool) → t index ≡ Some e → ((packet null : ℕ → ℕ) → Encloses packet null e.state a → IsTrue answer)
+pub unclear_entry : (t : EntryAt) (index : ℕ) (a : State) (e : Entry) (answer : Bool) → t index ≡ Some e → ((packet null : ℕ → ℕ) → StateEncloses packet null e.state a → IsTrue answer)
     → answer ≡ false → CoversClearly t index a → ⊥
 unclear_entry t index a e answer there finds refuted h =
     let is : h.entry ≡ e = same_entry (t index) h.entry e h.there there in
-    let yes : answer ≡ true = finds h.packet h.null (subst (λ (x : Entry). Encloses h.packet h.null x.state a) is h.covers) in
+    let yes : answer ≡ true = finds h.packet h.null (subst (λ (x : Entry). StateEncloses h.packet h.null x.state a) is h.covers) in
     cc
 
 pub no_entry : (t : EntryAt) (index : ℕ) (a : State) → t index ≡ None → CoversClearly t index a → ⊥
 no_entry t index a none h = let there = h.there in absurd (cc)
 
-pub unclear_start : (t : EntryAt) (e : Entry) (answer : Bool) → t 0 ≡ Some e → ((packet null : ℕ → ℕ) → Encloses packet null e.state start → IsTrue answer)
+pub unclear_start : (t : EntryAt) (e : Entry) (answer : Bool) → t 0 ≡ Some e → ((packet null : ℕ → ℕ) → StateEncloses packet null e.state start → IsTrue answer)
     → answer ≡ false → StartsClearly t → ⊥
 unclear_start t e answer there finds refuted h =
     let is : h.first ≡ e = same_entry (t 0) h.first e h.there there in
-    let yes : answer ≡ true = finds h.packet h.null (subst (λ (x : Entry). Encloses h.packet h.null x.state start) is h.covers) in
+    let yes : answer ≡ true = finds h.packet h.null (subst (λ (x : Entry). StateEncloses h.packet h.null x.state start) is h.covers) in
     cc
 
 pub no_start : (t : EntryAt) → t 0 ≡ None → StartsClearly t → ⊥

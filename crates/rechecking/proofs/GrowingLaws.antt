@@ -13,7 +13,7 @@ use Rattle.table_entries.proofs.GrowingLaws.{entry_at-before, entry_at-stays}
 use Rattle.rechecking.specs.declared.entries.Known.{Known}
 use Rattle.rechecking.specs.declared.entries.Known.TheVariants as known
 use Rattle.rechecking.specs.Tables.{EntryAt, EntersSmaller, IsClosedEntry}
-use Rattle.rechecking.specs.Standing.{StandsAt, IsKnownEntry}
+use Rattle.rechecking.specs.KnownEntries.{HasEntry, IsKnownEntry}
 use Rattle.rechecking.specs.Checking.{Enters, HasStart, AllFineBefore}
 use Rattle.rechecking.proofs.CheckingLaws.{Enters-same}
 
@@ -33,15 +33,15 @@ IsClosedEntry-stays p t u e each fine = record {
       (fine.steps clock fits s m);
 }
 
-pub StandsAt-grows : (p : Program) (g h : Grown) (index : ℕ) (head : Head) (a : State) → Grows p g h → StandsAt p (entry_at p g.table) index head a
-    → StandsAt p (entry_at p h.table) index head a
-StandsAt-grows p g h index head a grows s =
+pub HasEntry-grows : (p : Program) (g h : Grown) (index : ℕ) (head : Head) (a : State) → Grows p g h → HasEntry p (entry_at p g.table) index head a
+    → HasEntry p (entry_at p h.table) index head a
+HasEntry-grows p g h index head a grows s =
     record { allowed = s.allowed; there = entry_at-stays p g h index (entry_of head a) grows s.there }
 
 pub IsKnownEntry-grows : (p : Program) (g h : Grown) (a b : State) (k : Known) → Grows p g h → IsKnownEntry p (entry_at p g.table) a b k → IsKnownEntry p (entry_at p h.table) a b k
 IsKnownEntry-grows p g h a b known.None grows s = tt
-IsKnownEntry-grows p g h a b (known.First index head) grows s = StandsAt-grows p g h index head a grows s
-IsKnownEntry-grows p g h a b (known.Second index head) grows s = StandsAt-grows p g h index head b grows s
+IsKnownEntry-grows p g h a b (known.First index head) grows s = HasEntry-grows p g h index head a grows s
+IsKnownEntry-grows p g h a b (known.Second index head) grows s = HasEntry-grows p g h index head b grows s
 
 pub HasStart-grows : (p : Program) (g h : Grown) (n : ℕ) → Grows p g h → HasStart p (entry_at p g.table) n → HasStart p (entry_at p h.table) n
 HasStart-grows p g h n grows s = record {

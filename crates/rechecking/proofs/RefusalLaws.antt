@@ -6,7 +6,7 @@ use Rattle.control_flow.specs.Flows.{IsFlow}
 use Rattle.table_entries.specs.declared.faults.TableFault.{TableFault}
 use Rattle.table_entries.specs.declared.faults.TableFault.TheVariants as fault
 use Rattle.table_entries.specs.Entries.{Entry}
-use Rattle.table_entries.specs.Tables.{Kept, KeepsEntries, count_of, entry_at, table_read}
+use Rattle.table_entries.specs.Tables.{TableView, KeepsEntries, count_of, entry_at, table_read}
 use Rattle.table_entries.proofs.GrowingLaws.{inside_some}
 use Rattle.rechecking.specs.declared.errors.TableError.{TableError}
 use Rattle.rechecking.specs.declared.errors.TableError.TheVariants.{Flow, Fault, Start, Step, Successor}
@@ -15,15 +15,15 @@ use Rattle.rechecking.specs.Checking.{HasStart, StartsClearly, IsFirstFault}
 use Rattle.rechecking.specs.Refusing.{ShowsBound, IsFault, TableIsRefused}
 
 -- the entries by their indexes are those of the bytes
-same_entries : (p : Program) (t : Kept) (entries : List Entry) → KeepsEntries p t entries → entry_at p t ≡ slice_get entries
+same_entries : (p : Program) (t : TableView) (entries : List Entry) → KeepsEntries p t entries → entry_at p t ≡ slice_get entries
 same_entries p t entries h = λ i k. h.each k i
 
-pub entries_there : (p : Program) (t : Kept) (entries : List Entry) → KeepsEntries p t entries → (k : ℕ) → k < count_of t → IsSome (entry_at p t k)
+pub entries_there : (p : Program) (t : TableView) (entries : List Entry) → KeepsEntries p t entries → (k : ℕ) → k < count_of t → IsSome (entry_at p t k)
 entries_there p t entries h k less =
     let count = h.count in
     subst IsSome (sym (h.each k)) (inside_some entries k (omega arith))
 
-pub shows_of : (p : Program) (bytes : List ℕ) (t : Kept) (entries : List Entry) (n : ℕ) → table_read p bytes ≡ Ok entries → KeepsEntries p t entries → HasStart p (entry_at p t) n
+pub shows_of : (p : Program) (bytes : List ℕ) (t : TableView) (entries : List Entry) (n : ℕ) → table_read p bytes ≡ Ok entries → KeepsEntries p t entries → HasStart p (entry_at p t) n
     → ((k : ℕ) (e : Entry) → entry_at p t k ≡ Some e → IsClosedEntry p (entry_at p t) e) → ShowsBound p bytes n
 shows_of p bytes t entries n read h start each =
     let same = same_entries p t entries h in
@@ -47,12 +47,12 @@ refused_fault p bytes fault.Long flow (inr read) = (flow, read)
 refused_fault p bytes fault.Count flow (inr read) = (flow, read)
 refused_fault p bytes (fault.Entry k) flow (inr read) = (flow, read)
 
-pub refused_start : (p : Program) (bytes : List ℕ) (t : Kept) (entries : List Entry) → IsFlow p → table_read p bytes ≡ Ok entries → KeepsEntries p t entries
+pub refused_start : (p : Program) (bytes : List ℕ) (t : TableView) (entries : List Entry) → IsFlow p → table_read p bytes ≡ Ok entries → KeepsEntries p t entries
     → (StartsClearly (entry_at p t) → ⊥) → TableIsRefused p bytes Start
 refused_start p bytes t entries flow read h lacks =
     (entries, (flow, read), λ clear. lacks (subst StartsClearly (sym (same_entries p t entries h)) clear))
 
-pub refused_entry : (p : Program) (bytes : List ℕ) (t : Kept) (entries : List Entry) (n : ℕ) (error : TableError) → IsFlow p → table_read p bytes ≡ Ok entries → KeepsEntries p t entries
+pub refused_entry : (p : Program) (bytes : List ℕ) (t : TableView) (entries : List Entry) (n : ℕ) (error : TableError) → IsFlow p → table_read p bytes ≡ Ok entries → KeepsEntries p t entries
     → HasStart p (entry_at p t) n → IsFirstFault p (entry_at p t) error → TableIsRefused p bytes error
 refused_entry p bytes t entries n error flow read h start fault = by error (subst (λ (u : EntryAt). IsFirstFault p u error) same fault)
   where

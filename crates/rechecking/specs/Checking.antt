@@ -5,7 +5,7 @@ use Rattle.isa_model.specs.Code.Instructions.{Program, fetch}
 use Rattle.stack_state.specs.declared.states.State.{State}
 use Rattle.stack_state.specs.Meaning.{Covers}
 use Rattle.stack_state.specs.Starts.{start}
-use Rattle.state_cover.specs.FrameCover.{Encloses}
+use Rattle.state_cover.specs.FrameCover.{StateEncloses}
 use Rattle.transfer.specs.declared.Ways.{Ways}
 use Rattle.transfer.specs.declared.Ways.TheVariants as ways
 use Rattle.transfer.specs.declared.refusals.Refusal.{Refusal}
@@ -31,7 +31,7 @@ pub record EntersClearly (t : EntryAt) (number index : ℕ) (a : State) : Type 0
   pub smaller : entry.number < number
   pub packet : ℕ → ℕ
   pub null : ℕ → ℕ
-  pub covers : Encloses packet null entry.state a
+  pub covers : StateEncloses packet null entry.state a
 
 -- the entry with this index covers the state
 pub record Covering (t : EntryAt) (index : ℕ) (a : State) : Type 0 where
@@ -45,7 +45,7 @@ pub record CoversClearly (t : EntryAt) (index : ℕ) (a : State) : Type 0 where
   pub there : t index ≡ Some entry
   pub packet : ℕ → ℕ
   pub null : ℕ → ℕ
-  pub covers : Encloses packet null entry.state a
+  pub covers : StateEncloses packet null entry.state a
 
 -- there are as many named entries as successors, and each has this relation to its successor
 abbrev pub FollowsBy : (ℕ → State → Type 0) → List ℕ → Ways → State → State → Type 0
@@ -69,7 +69,7 @@ pub record StartsClearly (t : EntryAt) : Type 0 where
   pub there : t 0 ≡ Some first
   pub packet : ℕ → ℕ
   pub null : ℕ → ℕ
-  pub covers : Encloses packet null first.state start
+  pub covers : StateEncloses packet null first.state start
 
 -- ---- the first entry that does not pass
 

@@ -1,5 +1,5 @@
 pub mod Tables
-pub mod Standing
+pub mod KnownEntries
 pub mod Checking
 pub mod Refusing
 pub mod Messages

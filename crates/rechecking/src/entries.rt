@@ -8,7 +8,7 @@ ghost use Rattle.table_entries.specs.Tables.{entry_at, count_of};
 ghost use Rattle.table_entries.specs.Growing.{MayGrow, Grows, AllThere};
 ghost use Rattle.rechecking.specs.Tables.{EntryAt, IsClosedEntry};
 ghost use Rattle.rechecking.specs.Checking.{Enters, EntersClearly, FollowsBy, Covering, CoversClearly, AllFineBefore, IsFaultyAt, IsFirstFault};
-ghost use Rattle.rechecking.specs.Standing.{StandsAt, IsKnownEntry};
+ghost use Rattle.rechecking.specs.KnownEntries.{HasEntry, IsKnownEntry};
 
 use crate::errors::TableError;
 use image::Image;
@@ -59,7 +59,7 @@ fn read_covering(
     room: &mut State,
 ) -> Option<Head>
     ensures stands { IfSome result
-        (λ head. StandsAt image.now (entry_at image.now table.now) index head room.new) }
+        (λ head. HasEntry image.now (entry_at image.now table.now) index head room.new) }
     ensures covers { IfSome result
         (λ _. Covering (entry_at image.now table.now) index state.now) }
     ensures none { result ≡ None
@@ -192,7 +192,7 @@ fn test_standing(
     room: &mut State,
 ) -> Result<Known, TableError>
     requires may { MayGrow image.now growing.old }
-    requires there { StandsAt image.now (entry_at image.now growing.old.table) index head state.old }
+    requires there { HasEntry image.now (entry_at image.now growing.old.table) index head state.old }
     ensures grows { Grows image.now growing.old growing.new }
     ensures fine { IfOk result (λ _. (e : Entry)
         → entry_at image.now growing.new.table index ≡ Some e

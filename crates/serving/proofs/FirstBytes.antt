@@ -3,8 +3,8 @@ use Rattle.std.proofs.Common.{◌≡◌, ◌∙◌, ℕ, ◌≤◌, List, ◌++�
 use Rattle.std.specs.Prelude.{IfSome, take, min}
 use Rattle.std.specs.Io.KnownBytes.{Consumes, IsAtEnd}
 use Rattle.std.proofs.lemmas.List.{append-nil, take-append-le}
-use Rattle.serving.specs.declared.forms.Form.{Form}
-use Rattle.serving.specs.declared.forms.Form.TheVariants.{Unknown}
+use Rattle.serving.specs.declared.forms.FileForm.{FileForm}
+use Rattle.serving.specs.declared.forms.FileForm.TheVariants.{Unknown}
 use Rattle.serving.specs.Forms.{form_by, front_of, form_of, IsFormOf}
 
 front_more : (front more : List ℕ) → length front ≡ 4 → front_of (front ++ more) ≡ front_of front
@@ -23,9 +23,9 @@ whole None new front e h = tt
 whole (Some xs) None front e h = absurd h
 whole (Some xs) (Some ys) front e h = inr (sym (ap form_of h ∙ form_more front ys e))
 
-pub form_whole : (old new : Option (List ℕ)) (front read : List ℕ) (form : Form) → form ≡ form_of front → front ≡ read → length read ≡ 4 → Consumes old new read → IfSome old (λ bytes. IsFormOf bytes form)
+pub form_whole : (old new : Option (List ℕ)) (front read : List ℕ) (form : FileForm) → form ≡ form_of front → front ≡ read → length read ≡ 4 → Consumes old new read → IfSome old (λ bytes. IsFormOf bytes form)
 form_whole old new front read form is same e h =
-    subst (λ (f : Form). IfSome old (λ bytes. IsFormOf bytes f)) (sym (is ∙ ap form_of same)) (whole old new read e h)
+    subst (λ (f : FileForm). IfSome old (λ bytes. IsFormOf bytes f)) (sym (is ∙ ap form_of same)) (whole old new read e h)
 
 -- fewer bytes were read, and no more are there
 ended : (old new : Option (List ℕ)) (front : List ℕ) → Consumes old new front → IsAtEnd new → IfSome old (λ bytes. IsFormOf bytes (form_of front))
@@ -33,10 +33,10 @@ ended None new front h end = tt
 ended (Some xs) None front h end = absurd h
 ended (Some xs) (Some ys) front h end = inr (sym (ap form_of (h ∙ (ap (λ (l : List ℕ). front ++ l) end ∙ append-nil front))))
 
-pub form_ended : (old new : Option (List ℕ)) (front read : List ℕ) (form : Form) → form ≡ form_of front → front ≡ read → Consumes old new read → IsAtEnd new → IfSome old (λ bytes. IsFormOf bytes form)
+pub form_ended : (old new : Option (List ℕ)) (front read : List ℕ) (form : FileForm) → form ≡ form_of front → front ≡ read → Consumes old new read → IsAtEnd new → IfSome old (λ bytes. IsFormOf bytes form)
 form_ended old new front read form is same h end =
-    subst (λ (f : Form). IfSome old (λ bytes. IsFormOf bytes f)) (sym (is ∙ ap form_of same)) (ended old new read h end)
+    subst (λ (f : FileForm). IfSome old (λ bytes. IsFormOf bytes f)) (sym (is ∙ ap form_of same)) (ended old new read h end)
 
-pub form_unknown : (old : Option (List ℕ)) (form : Form) → form ≡ Unknown → IfSome old (λ bytes. IsFormOf bytes form)
+pub form_unknown : (old : Option (List ℕ)) (form : FileForm) → form ≡ Unknown → IfSome old (λ bytes. IsFormOf bytes form)
 form_unknown None form e = tt
 form_unknown (Some xs) form e = inl e

@@ -12,11 +12,11 @@ use Rattle.stack_state.specs.Starts.{start}
 use Rattle.walks.specs.Accepting.{BoundsAll}
 use Rattle.walks.specs.Counts.{HasNumber}
 use Rattle.serving.specs.declared.rejections.Rejection.TheVariants as rejection
-use Rattle.serving.specs.declared.forms.Form.{Form}
+use Rattle.serving.specs.declared.forms.FileForm.{FileForm}
 use Rattle.serving.specs.declared.outcomes.Outcome.{Outcome}
 use Rattle.serving.specs.declared.outcomes.Outcome.TheVariants.{Done, WrongWords, Refused, Faulted, CannotRead, CannotWrite, CannotReplace, NoMemory}
 use Rattle.serving.specs.declared.endings.Ending.{Ending}
-use Rattle.serving.specs.Known.{IsKnown, IsKnownOfTable, IsKnownOfText, Tells, Plainly}
+use Rattle.serving.specs.Known.{IsKnownOfProgram, IsKnownOfTable, IsKnownOfText, Tells, Plainly}
 use Rattle.serving.specs.Statuses.{IsReadFailure, IsMakeFailure}
 use Rattle.serving.specs.Lines.{bound_line, size_line}
 use Rattle.serving.specs.Judging.{Accepts, IsBoundOf, RefusesProgram, RefusesTable, Verifies, StoresImage}
@@ -55,7 +55,7 @@ verify_unloaded path old new o r h same none = inl (unloaded path old new o r h 
 pub run_unloaded : (files : RunFiles) (old new : Option (List ℕ)) (o : Outcome) (r : Ending) → LoadsNone files.image old new o → r.outcome ≡ o → r.why ≡ None → RunsFile files old new r
 run_unloaded files old new o r h same none = inl (unloaded files.image old new o r h same none)
 
-pub image_verified : (path : List ℕ) (old mid new : Option (List ℕ)) (p : Program) (r : Ending) → mid ≡ old → IsImage p → Verifies p mid new r.outcome → IsKnown p r → VerifiesFile path old new r
+pub image_verified : (path : List ℕ) (old mid new : Option (List ℕ)) (p : Program) (r : Ending) → mid ≡ old → IsImage p → Verifies p mid new r.outcome → IsKnownOfProgram p r → VerifiesFile path old new r
 image_verified path old mid new p r e h v known =
     inr (p, h, (subst (λ (o : Option (List ℕ)). Verifies p o new r.outcome) e v, known))
 
@@ -68,7 +68,7 @@ pub trace_unopened : (files : RunFiles) (limit : ℕ) (old new : Option (List �
     → r.outcome ≡ o → r.why ≡ None → TracesFile files limit old new r
 trace_unopened files limit old new p o r e h failed same none = inr (p, h, inl ((rw same (opens-none files old new o e failed)), none))
 
-pub image_traced : (files : RunFiles) (limit : ℕ) (old mid new before after source : Option (List ℕ)) (form : Form) (cause : Option ErrorKind) (p : Program) (r : Ending) → mid ≡ old → IsImage p
+pub image_traced : (files : RunFiles) (limit : ℕ) (old mid new before after source : Option (List ℕ)) (form : FileForm) (cause : Option ErrorKind) (p : Program) (r : Ending) → mid ≡ old → IsImage p
     → Traces p limit source form files.out cause (record { report = mid; frames = before }) (record { report = new; frames = after }) r → TracesFile files limit old new r
 image_traced files limit old mid new before after source form cause p r e h traces =
     let some : TracesSome p limit files.out old new r = record {
@@ -87,12 +87,12 @@ image_traced files limit old mid new before after source form cause p r e h trac
 pub bound_of_verified : (p : Program) (v : Bounded) → v.program ≡ p → IsVerified v → HasNumber p start v.bound → BoundsAll p v.bound → IsBoundOf v.program v.bound
 bound_of_verified p v same h number bounds = record { verified = h; number = rw same number; bounds = rw same bounds }
 
-pub image_refused : (files : RunFiles) (old mid new : Option (List ℕ)) (p : Program) (r : Ending) → mid ≡ old → IsImage p → RefusesProgram p mid new r.outcome → IsKnown p r → RunsFile files old new r
+pub image_refused : (files : RunFiles) (old mid new : Option (List ℕ)) (p : Program) (r : Ending) → mid ≡ old → IsImage p → RefusesProgram p mid new r.outcome → IsKnownOfProgram p r → RunsFile files old new r
 image_refused files old mid new p r e h v known =
     inr (p, h, (inl (subst (λ (o : Option (List ℕ)). RefusesProgram p o new r.outcome) e v), known))
 
 -- standard output got the report of a run, and nothing before it
-runs-on : (files : RunFiles) (old mid now new before after source : Option (List ℕ)) (form : Form) (cause : Option ErrorKind) (v : Bounded) (o r : Outcome) → mid ≡ old → now ≡ mid
+runs-on : (files : RunFiles) (old mid now new before after source : Option (List ℕ)) (form : FileForm) (cause : Option ErrorKind) (v : Bounded) (o r : Outcome) → mid ≡ old → now ≡ mid
     → RunsAccepted v source form files.out cause (record { report = now; frames = before }) (record { report = new; frames = after }) o → r ≡ o → RunsOn files v old new r
 runs-on files old mid now new before after source form cause v o r e f runs same =
     let some : RunsSome v files.out old new r = record {
@@ -108,7 +108,7 @@ runs-on files old mid now new before after source form cause v o r e f runs same
 opens-on : (files : RunFiles) (old mid new : Option (List ℕ)) (v : Bounded) (o r : Outcome) → mid ≡ old → new ≡ mid → IsReadFailure files.frames o ⊎ IsMakeFailure files.out o → r ≡ o → RunsOn files v old new r
 opens-on files old mid new v o r e f failed same = inl (rw same (opens-none files old new o (f ∙ e) failed))
 
-pub image_run : (files : RunFiles) (old mid now new before after source : Option (List ℕ)) (form : Form) (cause : Option ErrorKind) (v : Bounded) (o : Outcome) (r : Ending) → mid ≡ old → now ≡ mid → IsBoundOf v.program v.bound
+pub image_run : (files : RunFiles) (old mid now new before after source : Option (List ℕ)) (form : FileForm) (cause : Option ErrorKind) (v : Bounded) (o : Outcome) (r : Ending) → mid ≡ old → now ≡ mid → IsBoundOf v.program v.bound
     → RunsAccepted v source form files.out cause (record { report = now; frames = before }) (record { report = new; frames = after }) o → r.outcome ≡ o → r.why ≡ None → RunsFile files old new r
 image_run files old mid now new before after source form cause v o r e f h runs same none =
     inr (v.program, h.verified.image, (inr (v.bound, h, runs-on files old mid now new before after source form cause v o r.outcome e f runs same), tells-none v.program r.outcome r.why none))
@@ -148,7 +148,7 @@ pub bound_said : (files : ProofFiles) (old mid new : Option (List ℕ)) (v : Bou
 bound_said files old mid new v o r e is accepts same none =
     inr (v, is, (rw same (subst (λ (x : Option (List ℕ)). Accepts v x new o) e accepts), none))
 
-pub shown_run : (files : RunFiles) (table : List ℕ) (old mid now new before after source : Option (List ℕ)) (form : Form) (cause : Option ErrorKind) (v : Bounded) (o : Outcome) (r : Ending) → mid ≡ old → now ≡ mid → IsShown v
+pub shown_run : (files : RunFiles) (table : List ℕ) (old mid now new before after source : Option (List ℕ)) (form : FileForm) (cause : Option ErrorKind) (v : Bounded) (o : Outcome) (r : Ending) → mid ≡ old → now ≡ mid → IsShown v
     → RunsAccepted v source form files.out cause (record { report = now; frames = before }) (record { report = new; frames = after }) o → r.outcome ≡ o → r.why ≡ None → RunsShown files table old new r
 shown_run files table old mid now new before after source form cause v o r e f is runs same none =
     inr (v, is, (runs-on files old mid now new before after source form cause v o r.outcome e f runs same, none))
@@ -163,7 +163,7 @@ shown_unopened files table old mid new v o r e f is failed same none =
 pub prove_unloaded : (files : ProofFiles) (old new : Option (List ℕ)) (o : Outcome) (r : Ending) → LoadsNone files.image old new o → r.outcome ≡ o → r.why ≡ None → ProvesFile files old new r
 prove_unloaded files old new o r h same none = inl (unloaded files.image old new o r h same none)
 
-pub prove_refused : (files : ProofFiles) (old mid new : Option (List ℕ)) (p : Program) (r : Ending) → mid ≡ old → IsImage p → RefusesProgram p mid new r.outcome → IsKnown p r → ProvesFile files old new r
+pub prove_refused : (files : ProofFiles) (old mid new : Option (List ℕ)) (p : Program) (r : Ending) → mid ≡ old → IsImage p → RefusesProgram p mid new r.outcome → IsKnownOfProgram p r → ProvesFile files old new r
 prove_refused files old mid new p r e h v known =
     inr (p, h, (inl (subst (λ (o : Option (List ℕ)). RefusesProgram p o new r.outcome) e v), known))
 

@@ -6,18 +6,18 @@ use Rattle.isa_model.specs.Text.CanonicalText.{canonical_text}
 use Rattle.image.specs.Images.{IsImage}
 use Rattle.assembler.specs.Assembling.{assembled}
 use Rattle.bounds.specs.Bounds.{Bounded}
-use Rattle.serving.specs.declared.forms.Form.{Form}
+use Rattle.serving.specs.declared.forms.FileForm.{FileForm}
 use Rattle.serving.specs.declared.outcomes.Outcome.{Outcome}
 use Rattle.serving.specs.declared.outcomes.Outcome.TheVariants as outcome
 use Rattle.serving.specs.declared.endings.Ending.{Ending}
-use Rattle.serving.specs.Known.{IsKnown, IsKnownOfTable, IsKnownOfText, Plainly}
+use Rattle.serving.specs.Known.{IsKnownOfProgram, IsKnownOfTable, IsKnownOfText, Plainly}
 use Rattle.serving.specs.Lines.{bound_line, size_line}
 use Rattle.serving.specs.Statuses.{IsMakeFailure, IsReadFailure, IsWrongWords}
 use Rattle.serving.specs.Saying.{Says}
 use Rattle.serving.specs.Judging.{Accepts, IsBoundOf, IsBoundShown, RefusesImage, RefusesProgram, RefusesTable, RefusesText, StoresImage, Verifies}
 use Rattle.serving.specs.Streams.{RunsAccepted, Traces}
 use Rattle.serving.specs.Proving.{StoresTable}
-use Rattle.tasks.specs.Requests.{Request, RunFiles, ProofFiles, Trace, Run, Verify, Prove, Recheck, Assemble, Disassemble}
+use Rattle.tasks.specs.Requests.{TaskRequest, RunFiles, ProofFiles, Trace, Run, Verify, Prove, Recheck, Assemble, Disassemble}
 
 -- ---- files
 
@@ -60,7 +60,7 @@ OpensNone files old new result = ReadsNone files.frames old new result ⊎ Makes
 -- a run over some source, which begins as some file does; the frames out go to the file at the path
 pub record TracesSome (p : Program) (limit : ℕ) (out : List ℕ) (old new : Option (List ℕ)) (result : Ending) : Type 0 where
   pub source : Option (List ℕ)
-  pub form : Form
+  pub form : FileForm
   pub before : Option (List ℕ)
   pub after : Option (List ℕ)
   pub cause : Option ErrorKind
@@ -68,7 +68,7 @@ pub record TracesSome (p : Program) (limit : ℕ) (out : List ℕ) (old new : Op
 
 pub record RunsSome (v : Bounded) (out : List ℕ) (old new : Option (List ℕ)) (result : Outcome) : Type 0 where
   pub source : Option (List ℕ)
-  pub form : Form
+  pub form : FileForm
   pub before : Option (List ℕ)
   pub after : Option (List ℕ)
   pub cause : Option ErrorKind
@@ -107,7 +107,7 @@ AcceptsAndRuns files p old new result =
 abbrev pub RunsFile : RunFiles → Option (List ℕ) → Option (List ℕ) → Ending → Type 0
 RunsFile files old new result =
     Plainly (LoadsNone files.image old new) result
-    ⊎ ReadsImage (λ p. (RefusesProgram p old new result.outcome ⊎ AcceptsAndRuns files p old new result.outcome) × IsKnown p result)
+    ⊎ ReadsImage (λ p. (RefusesProgram p old new result.outcome ⊎ AcceptsAndRuns files p old new result.outcome) × IsKnownOfProgram p result)
 
 -- the same where a table takes the place of the verifier
 abbrev pub RunsShown : RunFiles → List ℕ → Option (List ℕ) → Option (List ℕ) → Ending → Type 0
@@ -121,7 +121,7 @@ RechecksFile files old new result =
 
 abbrev pub VerifiesFile : List ℕ → Option (List ℕ) → Option (List ℕ) → Ending → Type 0
 VerifiesFile path old new result =
-    Plainly (LoadsNone path old new) result ⊎ ReadsImage (λ p. Verifies p old new result.outcome × IsKnown p result)
+    Plainly (LoadsNone path old new) result ⊎ ReadsImage (λ p. Verifies p old new result.outcome × IsKnownOfProgram p result)
 
 -- a program is accepted, with its bound, and then a table of it is written
 abbrev pub AcceptsAndProves : List ℕ → Program → Option (List ℕ) → Option (List ℕ) → Outcome → Type 0
@@ -131,7 +131,7 @@ AcceptsAndProves table p old new result =
 abbrev pub ProvesFile : ProofFiles → Option (List ℕ) → Option (List ℕ) → Ending → Type 0
 ProvesFile files old new result =
     Plainly (LoadsNone files.image old new) result
-    ⊎ ReadsImage (λ p. (RefusesProgram p old new result.outcome ⊎ AcceptsAndProves files.table p old new result.outcome) × IsKnown p result)
+    ⊎ ReadsImage (λ p. (RefusesProgram p old new result.outcome ⊎ AcceptsAndProves files.table p old new result.outcome) × IsKnownOfProgram p result)
 
 abbrev pub DisassemblesFile : List ℕ → Option (List ℕ) → Option (List ℕ) → Outcome → Type 0
 DisassemblesFile path old new result = LoadsNone path old new result ⊎ ReadsImage (λ p. Says old new (canonical_text p) outcome.Done result)
@@ -154,7 +154,7 @@ AssemblesFile text image old new result =
 -- ---- the program
 
 -- what is done where this is asked for
-abbrev pub Serves : Option Request → Option (List ℕ) → Option (List ℕ) → Ending → Type 0
+abbrev pub Serves : Option TaskRequest → Option (List ℕ) → Option (List ℕ) → Ending → Type 0
 Serves None old new result = Plainly (λ o. IsWrongWords o × (new ≡ old)) result
 Serves (Some (Trace files limit)) old new result = TracesFile files limit old new result
 Serves (Some (Run files None)) old new result = RunsFile files old new result

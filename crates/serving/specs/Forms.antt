@@ -1,8 +1,8 @@
 -- What a file is that is no image or no frame stream, and what makes one of it.
 use Rattle.std.specs.Prelude.{◌≡◌, ◌⊎◌, ℕ, ◌==◌, min, nat_le, nat_lt, Bool, ◌&&◌, ◌||◌, not, List, [], ◌∷◌, length, take, bytes_eq, codes, if◌then◌else◌}
 use Rattle.std.specs.List.{list_all}
-use Rattle.serving.specs.declared.forms.Form.{Form}
-use Rattle.serving.specs.declared.forms.Form.TheVariants.{Unknown, Short, Elf, Gzip, Pcap, Pcapng, Image, Frames, Table, Text}
+use Rattle.serving.specs.declared.forms.FileForm.{FileForm}
+use Rattle.serving.specs.declared.forms.FileForm.TheVariants.{Unknown, Short, Elf, Gzip, Pcap, Pcapng, Image, Frames, Table, Text}
 
 -- the first four bytes, or fewer
 abbrev pub front_of : List ℕ → List ℕ
@@ -13,7 +13,7 @@ abbrev pub is_text_byte : ℕ → Bool
 is_text_byte b = (b == 10) || (b == 9) || (nat_le 32 b && nat_lt b 127)
 
 -- fewer than four bytes, ELF, the four byte orders of pcap, pcapng, images, frame streams, proof tables, gzip with and without a name
-abbrev pub form_by : List ℕ → Form
+abbrev pub form_by : List ℕ → FileForm
 form_by front =
     if nat_lt (length front) 4 then Short
     else if bytes_eq front (127 ∷ 69 ∷ 76 ∷ 70 ∷ []) then Elf
@@ -28,14 +28,14 @@ form_by front =
     else Unknown
 
 -- what a file is that begins so
-unfoldable pub form_of : List ℕ → Form
+unfoldable pub form_of : List ℕ → FileForm
 form_of bs = form_by (front_of bs)
 
 -- what the bytes show, or nothing
-abbrev pub IsFormOf : List ℕ → Form → Type 0
+abbrev pub IsFormOf : List ℕ → FileForm → Type 0
 IsFormOf bytes form = (form ≡ Unknown) ⊎ (form ≡ form_of bytes)
 
-abbrev pub form_line : Form → List ℕ
+abbrev pub form_line : FileForm → List ℕ
 form_line Unknown = codes "an image is made of a text by xdpvm asm, of an ELF object by image.py\n"
 form_line Short = codes "it has fewer than 4 bytes\n"
 form_line Elf = codes "it is an ELF object: image.py makes an image of it\n"
@@ -48,7 +48,7 @@ form_line Table = codes "it is a proof table: the image stands before it, as in 
 form_line Text = codes "it looks like a text: xdpvm asm makes an image of it\n"
 
 -- the end of a line, and then the same where frames belong
-abbrev pub stream_line : Form → List ℕ
+abbrev pub stream_line : FileForm → List ℕ
 stream_line Unknown = codes "\nframes.py makes a stream of a capture (pcap, pcapng)\n"
 stream_line Short = codes "\nit has fewer than 4 bytes\n"
 stream_line Elf = codes "\nit is an ELF object: image.py makes an image of it, not frames\n"

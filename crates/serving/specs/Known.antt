@@ -20,8 +20,8 @@ abbrev pub Tells : Program → Outcome → Option (String Global) → Type 0
 Tells p (Refused (rejection.Program refusal slot insn)) why = IfSome why (λ text. IsReason p refusal slot (string_bytes text))
 Tells p outcome why = why ≡ None
 
-abbrev pub IsKnown : Program → Ending → Type 0
-IsKnown p ending = Tells p ending.outcome ending.why
+abbrev pub IsKnownOfProgram : Program → Ending → Type 0
+IsKnownOfProgram p ending = Tells p ending.outcome ending.why
 
 -- The same of a task on these bytes as a table of the program: if the step of an entry was tested,
 -- the message may name its slot and its instruction, and then this is what is known there.

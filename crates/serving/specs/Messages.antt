@@ -17,7 +17,7 @@ use Rattle.rechecking.specs.Messages as rechecking
 use Rattle.proof_table.specs.declared.errors.WriteTableError.TheVariants as unwritten
 use Rattle.proof_table.specs.Messages as proof_table
 use Rattle.assembler.specs.Messages as assembler
-use Rattle.serving.specs.declared.forms.Form.{Form}
+use Rattle.serving.specs.declared.forms.FileForm.{FileForm}
 use Rattle.serving.specs.Forms.{form_line}
 use Rattle.serving.specs.declared.rejections.Rejection.{Rejection}
 use Rattle.serving.specs.declared.rejections.Rejection.TheVariants.{Image, Program, Table, Explored, Text}
@@ -102,7 +102,7 @@ table_place error place = anew
 
 -- an image is refused at a slot, at a map row, or as a whole; for another magic, what the file
 -- looks like, else what helps
-abbrev pub image_place : ImageError → Form → List ℕ
+abbrev pub image_place : ImageError → FileForm → List ℕ
 image_place Magic form = form_line form
 image_place (Code slot error) form = codes "slot " ++ (decimal slot ++ codec_cure error)
 image_place (MapRow index) form = codes "map " ++ (decimal index ++ image_cure (MapRow index))

@@ -61,9 +61,9 @@ message_of NoMemory = codes "out of memory\n"
 -- ---- what an outcome is
 
 -- the words ask for nothing, and this text says why
-abbrev pub IsWrong : List ℕ → Outcome → Type 0
-IsWrong text (WrongWords said) = said.now ≡ text
-IsWrong text outcome = ⊥
+abbrev pub SaysWrongWords : List ℕ → Outcome → Type 0
+SaysWrongWords text (WrongWords said) = said.now ≡ text
+SaysWrongWords text outcome = ⊥
 
 -- the words ask for nothing
 abbrev pub IsWrongWords : Outcome → Type 0
@@ -72,7 +72,7 @@ IsWrongWords outcome = ⊥
 
 -- how the task ends where the words ask for nothing
 abbrev pub IsWordsEnd : WordsError → Outcome → Type 0
-IsWordsEnd (Wrong text) outcome = IsWrong (string_bytes text) outcome
+IsWordsEnd (Wrong text) outcome = SaysWrongWords (string_bytes text) outcome
 IsWordsEnd Memory outcome = outcome ≡ NoMemory
 
 -- the output of this name cannot be written

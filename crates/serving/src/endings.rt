@@ -5,7 +5,7 @@ ghost use Rattle.std.specs.Io.KnownBytes.{Appends};
 ghost use Rattle.exact_io.specs.Transfers.{AppendsBeginning};
 ghost use Rattle.serving.specs.Statuses.{status_of, is_unsaid};
 ghost use Rattle.serving.specs.Saying.{AppendsPart};
-ghost use Rattle.serving.specs.Known.{IsKnown, IsKnownOfText, told_of};
+ghost use Rattle.serving.specs.Known.{IsKnownOfProgram, IsKnownOfText, told_of};
 ghost use Rattle.serving.specs.HandingOn.{Flushes};
 
 use super::outcomes::{Outcome, STANDARD_OUTPUT};
@@ -42,7 +42,7 @@ impl<'a> Ending<'a> {
     /// that is looked for: nothing is known where memory runs out.
     pub fn of_program(alloc: Global, image: &Image, outcome: Outcome<'a>) -> Self
         ensures outcome { result.outcome ≡ outcome.entry }
-        ensures known { IsKnown image.now result }
+        ensures known { IsKnownOfProgram image.now result }
     {
         let why = match outcome {
             Outcome::Refused(Rejection::Program(refusal, slot, _)) => {

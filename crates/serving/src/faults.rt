@@ -5,7 +5,7 @@ ghost use Rattle.std.specs.Io.KnownBytes.{Appends};
 ghost use Rattle.exact_io.specs.Transfers.{AppendsBeginning};
 ghost use Rattle.serving.specs.Faults.{fault_help, fault_rest, fault_lines};
 
-use super::forms::Form;
+use super::forms::FileForm;
 use super::texts::write_texts;
 use isa_model::Fault;
 use std::io;
@@ -13,7 +13,7 @@ use std::io::Write;
 
 // The end of the line with the sentence, and then a line with a hint; for a file with another magic
 // one that says what it is.
-fn fault_help(fault: Fault, form: Form) -> &'static str
+fn fault_help(fault: Fault, form: FileForm) -> &'static str
     ensures { result.now ≡ fault_help fault form }
 {
     match fault {
@@ -36,7 +36,7 @@ fn fault_rest(fault: Fault) -> &'static str
 }
 
 /// Says why a frame stream that begins so ended early, and in the next line a hint.
-pub fn say_fault<W: Write>(err: &mut W, fault: Fault, form: Form) -> io::Result<()>
+pub fn say_fault<W: Write>(err: &mut W, fault: Fault, form: FileForm) -> io::Result<()>
     ensures ok { OnOk result
         (Appends (W.contents err.old) (W.contents err.new) (fault_lines fault form)) }
     ensures err { OnErr result

@@ -7,7 +7,7 @@ ghost use Rattle.tasks.specs.Requests.{files_of};
 ghost use Rattle.serving.specs.Commands.{LoadsNone, TracesFile, RunsFile, VerifiesFile, DisassemblesFile, Assembles, AssemblesFile};
 
 use super::endings::Ending;
-use super::forms::Form;
+use super::forms::FileForm;
 use super::fronts::{Ahead, Watched, read_ahead};
 use super::outcomes::Outcome;
 use super::reading::{read_file, read_start};
@@ -38,7 +38,7 @@ const MAGIC: usize = 4;
 /// A source of frames, what it is by its first bytes, and where the frames out go.
 pub type Streams<'b, R> = (
     Ahead<BufReader<Watched<'b, R, <R as Files>::File>>>,
-    Form,
+    FileForm,
     PromptWriter<<R as Files>::File>,
 );
 

@@ -6,7 +6,7 @@ ghost use Rattle.serving.specs.Forms.{front_of, is_text_byte, form_by, form_of, 
 
 /// What the first bytes of a file show that it is.
 #[derive(Clone, Copy)]
-pub enum Form {
+pub enum FileForm {
     Unknown,
     /// It has fewer than four bytes.
     Short,
@@ -50,59 +50,63 @@ fn is_text(front: &[u8]) -> bool
     front.iter().all(|b| is_text_byte(*b))
 }
 
-fn form_by(front: &[u8]) -> Form
+fn form_by(front: &[u8]) -> FileForm
     ensures { result ≡ form_by front.now }
 {
     if front.len() < 4 {
-        Form::Short
+        FileForm::Short
     } else if is_same(front, b"\x7fELF") {
-        Form::Elf
+        FileForm::Elf
     } else if is_same(front, b"\xd4\xc3\xb2\xa1") || is_same(front, b"\xa1\xb2\xc3\xd4") {
-        Form::Pcap
+        FileForm::Pcap
     } else if is_same(front, b"\x4d\x3c\xb2\xa1") || is_same(front, b"\xa1\xb2\x3c\x4d") {
-        Form::Pcap
+        FileForm::Pcap
     } else if is_same(front, b"\x0a\x0d\x0d\x0a") {
-        Form::Pcapng
+        FileForm::Pcapng
     } else if is_same(front, b"XBP1") || is_same(front, b"XBP2") {
-        Form::Image
+        FileForm::Image
     } else if is_same(front, b"XPF1") || is_same(front, b"XPF2") {
-        Form::Frames
+        FileForm::Frames
     } else if is_same(front, b"XPT1") {
-        Form::Table
+        FileForm::Table
     } else if is_same(front, b"\x1f\x8b\x08\x00") || is_same(front, b"\x1f\x8b\x08\x08") {
-        Form::Gzip
+        FileForm::Gzip
     } else if is_text(front) && !is_same(front, b"XBP3") {
-        Form::Text
+        FileForm::Text
     } else {
-        Form::Unknown
+        FileForm::Unknown
     }
 }
 
 /// What a file is that begins so.
 #[tactic(auto, unfolding(crate::specs::Forms::form_of))]
-pub fn form_of(bytes: &[u8]) -> Form
+pub fn form_of(bytes: &[u8]) -> FileForm
     ensures { result ≡ form_of bytes.now }
 {
     form_by(front_of(bytes))
 }
 
-impl Form {
+impl FileForm {
     /// What the file is, and what makes an image of it, in a line.
     pub fn line(self) -> &'static str
         ensures { result.now ≡ form_line self }
     {
         match self {
-            Form::Unknown =>
+            FileForm::Unknown =>
                 "an image is made of a text by xdpvm asm, of an ELF object by image.py\n",
-            Form::Short => "it has fewer than 4 bytes\n",
-            Form::Elf => "it is an ELF object: image.py makes an image of it\n",
-            Form::Gzip => "it is packed by gzip: gunzip unpacks it\n",
-            Form::Pcap => "it is a capture (pcap): frames.py makes a frame stream of it\n",
-            Form::Pcapng => "it is a capture (pcapng): frames.py makes a frame stream of it\n",
-            Form::Image => "it is an image\n",
-            Form::Frames => "it is a frame stream: the image stands before it, as in xdpvm run\n",
-            Form::Table => "it is a proof table: the image stands before it, as in xdpvm recheck\n",
-            Form::Text => "it looks like a text: xdpvm asm makes an image of it\n",
+            FileForm::Short => "it has fewer than 4 bytes\n",
+            FileForm::Elf => "it is an ELF object: image.py makes an image of it\n",
+            FileForm::Gzip => "it is packed by gzip: gunzip unpacks it\n",
+            FileForm::Pcap => "it is a capture (pcap): frames.py makes a frame stream of it\n",
+            FileForm::Pcapng => "it is a capture (pcapng): frames.py makes a frame stream of it\n",
+            FileForm::Image => "it is an image\n",
+            FileForm::Frames => {
+                "it is a frame stream: the image stands before it, as in xdpvm run\n"
+            }
+            FileForm::Table => {
+                "it is a proof table: the image stands before it, as in xdpvm recheck\n"
+            }
+            FileForm::Text => "it looks like a text: xdpvm asm makes an image of it\n",
         }
     }
     /// The end of a line, and then the same where frames belong.
@@ -110,17 +114,21 @@ impl Form {
         ensures { result.now ≡ stream_line self }
     {
         match self {
-            Form::Unknown | Form::Frames =>
+            FileForm::Unknown | FileForm::Frames =>
                 "\nframes.py makes a stream of a capture (pcap, pcapng)\n",
-            Form::Short => "\nit has fewer than 4 bytes\n",
-            Form::Elf => "\nit is an ELF object: image.py makes an image of it, not frames\n",
-            Form::Gzip =>
+            FileForm::Short => "\nit has fewer than 4 bytes\n",
+            FileForm::Elf => "\nit is an ELF object: image.py makes an image of it, not frames\n",
+            FileForm::Gzip =>
                 "\nit is packed by gzip: frames.py makes a frame stream of a packed capture\n",
-            Form::Pcap => "\nit is a capture (pcap): frames.py makes a frame stream of it\n",
-            Form::Pcapng => "\nit is a capture (pcapng): frames.py makes a frame stream of it\n",
-            Form::Image => "\nit is an image: it stands before the frames, as in xdpvm run\n",
-            Form::Table => "\nit is a proof table: it stands after --table, as in xdpvm run\n",
-            Form::Text => "\nit looks like a text: frames.py makes a stream of a text of frames\n",
+            FileForm::Pcap => "\nit is a capture (pcap): frames.py makes a frame stream of it\n",
+            FileForm::Pcapng => {
+                "\nit is a capture (pcapng): frames.py makes a frame stream of it\n"
+            }
+            FileForm::Image => "\nit is an image: it stands before the frames, as in xdpvm run\n",
+            FileForm::Table => "\nit is a proof table: it stands after --table, as in xdpvm run\n",
+            FileForm::Text => {
+                "\nit looks like a text: frames.py makes a stream of a text of frames\n"
+            }
         }
     }
 }

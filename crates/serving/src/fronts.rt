@@ -3,7 +3,7 @@
 ghost use Rattle.std.specs.Prelude.{IfSome};
 ghost use Rattle.serving.specs.Forms.{IsFormOf};
 
-use super::forms::{Form, form_of};
+use super::forms::{FileForm, form_of};
 use super::screens::Screen;
 use exact_io::{Filled, fill};
 use std::io;
@@ -62,19 +62,19 @@ impl<R: Files + Clock, S: Read> Read for Watched<'_, R, S> {
 pub type Ahead<S> = Chain<Take<Cursor<[u8; FRONT]>>, S>;
 
 // Reads the first bytes: how many there are, and what they show that the file is.
-fn read_front<S: Read>(source: &mut S, front: &mut [u8; FRONT]) -> (usize, Form)
+fn read_front<S: Read>(source: &mut S, front: &mut [u8; FRONT]) -> (usize, FileForm)
     ensures { IfSome (S.remaining source.old) (λ bytes. IsFormOf bytes result.1) }
 {
     match fill(source, front) {
         Filled::Whole => (FRONT, form_of(&front[..])),
         Filled::Ended(count) => (count, form_of(&front[..count])),
-        Filled::Failed(count) => (count, Form::Unknown),
+        Filled::Failed(count) => (count, FileForm::Unknown),
     }
 }
 
 /// A source that gives what the given one does, and what its first bytes show that it is. If
 /// reading them failed, each later read of the given one has to fail too.
-pub fn read_ahead<S: Read>(mut source: S) -> (Ahead<S>, Form)
+pub fn read_ahead<S: Read>(mut source: S) -> (Ahead<S>, FileForm)
     ensures { IfSome (S.remaining source) (λ bytes. IsFormOf bytes result.1) }
 {
     let mut front = [0; FRONT];

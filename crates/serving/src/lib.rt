@@ -24,7 +24,7 @@ mod texts;
 mod verdicts;
 
 pub use endings::Ending;
-pub use forms::Form;
+pub use forms::FileForm;
 pub use outcomes::Outcome;
 pub use rejections::Rejection;
 pub use requests::serve;

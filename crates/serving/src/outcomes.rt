@@ -10,7 +10,7 @@ ghost use Rattle.serving.specs.Judging.{IsStoreFailure};
 
 use super::causes::{cause_line, line_after};
 use super::faults::say_fault;
-use super::forms::Form;
+use super::forms::FileForm;
 use super::rejections::Rejection;
 use super::texts::write_texts;
 use exact_io::write_bytes;
@@ -33,7 +33,7 @@ pub enum Outcome<'a> {
     /// The image, the program, the table or the text was refused, which standard output says.
     Refused(Rejection),
     /// The report ended in this fault, and the stream begins as such a file does.
-    Faulted(Fault, Form),
+    Faulted(Fault, FileForm),
     /// The file at the path cannot be read.
     CannotRead(&'a str, ErrorKind),
     /// The file or output of this name cannot be written. If standard output failed in a run, the

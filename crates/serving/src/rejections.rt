@@ -7,7 +7,7 @@ ghost use Rattle.exact_io.specs.Transfers.{AppendsBeginning};
 ghost use Rattle.serving.specs.Forms.{form_line};
 ghost use Rattle.serving.specs.Messages.{sentence_of, codec_cure, image_cure, image_place, insn_place, text_place, place_of, entry_place, anew, entry_anew, step_place, table_place, reason_of};
 
-use super::forms::Form;
+use super::forms::FileForm;
 use super::texts::write_texts;
 use assembler::AsmError;
 use disassembler::write_insn;
@@ -31,7 +31,7 @@ const ROWS: &str =
 #[derive(Clone, Copy)]
 pub enum Rejection {
     /// The bytes are no image, and look like this.
-    Image(ImageError, Form),
+    Image(ImageError, FileForm),
     /// The program is not accepted, at a slot. The instruction is the one that begins there.
     Program(Refusal, usize, Option<Insn>),
     /// The table is not accepted. If the step of an entry was tested, these are its slot and the
@@ -86,7 +86,7 @@ impl Rejection {
 }
 
 // Writes what a file is that is no image.
-fn say_form<W: Write>(err: &mut W, form: Form) -> io::Result<()>
+fn say_form<W: Write>(err: &mut W, form: FileForm) -> io::Result<()>
     ensures ok { OnOk result (Appends (W.contents err.old) (W.contents err.new)
         (form_line form)) }
     ensures err { OnErr result (AppendsBeginning (W.contents err.old) (W.contents err.new)
@@ -148,7 +148,7 @@ fn say_map<W: Write>(err: &mut W, index: usize, back: &str) -> io::Result<()>
 }
 
 // Writes where bytes are no image, and what helps.
-fn say_image_place<W: Write>(err: &mut W, error: ImageError, form: Form) -> io::Result<()>
+fn say_image_place<W: Write>(err: &mut W, error: ImageError, form: FileForm) -> io::Result<()>
     ensures ok { OnOk result (Appends (W.contents err.old) (W.contents err.new)
         (image_place error form)) }
     ensures err { OnErr result (AppendsBeginning (W.contents err.old) (W.contents err.new)

@@ -5,7 +5,7 @@ ghost use Rattle.serving.specs.Streams.{EndsTask, Traces, RunsAccepted};
 ghost use Rattle.buffered_io.specs.Waiting.{behind, failure_of, held};
 
 use super::endings::Ending;
-use super::forms::Form;
+use super::forms::FileForm;
 use super::outcomes::{Outcome, STANDARD_OUTPUT};
 use super::stopped::{at_end, lines_of_stops};
 use super::verdicts::say_line;
@@ -22,7 +22,7 @@ use tasks::StepLimit;
 // standard output is reported when it is flushed.
 fn outcome_of<'a, W: Write + Drop>(
     path: &'a str,
-    form: Form,
+    form: FileForm,
     ended: Result<Tally, HostError>,
     file: &mut PromptWriter<W>,
 ) -> Outcome<'a>
@@ -55,7 +55,7 @@ pub fn trace_stream<'a, R: Read + Drop, W1: Write, W2: Write + Drop>(
     image: Image,
     limit: StepLimit,
     source: R,
-    form: Form,
+    form: FileForm,
     path: &'a str,
     out: &mut W1,
     file: &mut PromptWriter<W2>,
@@ -79,7 +79,7 @@ pub fn run_stream<'a, R: Read + Drop, W1: Write, W2: Write + Drop>(
     alloc: Global,
     verified: Verified,
     source: R,
-    form: Form,
+    form: FileForm,
     path: &'a str,
     out: &mut W1,
     file: &mut PromptWriter<W2>,

@@ -14,7 +14,7 @@ ghost use Rattle.serving.specs.Statuses.{is_silent};
 ghost use Rattle.serving.specs.Lines.{bound_line, size_line};
 ghost use Rattle.serving.specs.Saying.{Says, LacksMemory};
 ghost use Rattle.serving.specs.Judging.{RefusesImage, RefusesProgram, Accepts, Verifies, RefusesText, SaysRefused};
-ghost use Rattle.serving.specs.Known.{IsKnown};
+ghost use Rattle.serving.specs.Known.{IsKnownOfProgram};
 
 use super::endings::Ending;
 use super::forms::form_of;
@@ -123,7 +123,7 @@ pub fn judge<'a, R: Files + Clock, W: Write>(
     ensures bounds { IfOk result (λ verified. BoundsAll image verified.bound) }
     ensures refused { IfErr result
         (λ ended. RefusesProgram image (W.contents out.old) (W.contents out.new) ended.outcome) }
-    ensures known { IfErr result (IsKnown image) }
+    ensures known { IfErr result (IsKnownOfProgram image) }
 {
     // A copy, since the verifier takes the image, and after a refusal its instruction is shown, and
     // what is known there is looked for. To read it again from the image's bytes would keep those
@@ -164,7 +164,7 @@ pub fn say_verdict<'a, R: Files + Clock, W: Write>(
     out: &mut W,
 ) -> Ending<'a>
     ensures verifies { Verifies image (W.contents out.old) (W.contents out.new) result.outcome }
-    ensures known { IsKnown image result }
+    ensures known { IsKnownOfProgram image result }
 {
     match judge(rt, alloc, image, out) {
         Ok(verified) => Ending::plain(accepted(alloc, &verified, out)),

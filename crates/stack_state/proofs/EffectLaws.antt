@@ -35,7 +35,7 @@ use Rattle.stack_state.specs.declared.states.State.{State}
 use Rattle.stack_state.specs.Meaning.{frames_of, no_frame, frame_of, kind_at, kinds_of, slots_of, depth, registers_of, IsOf, MeansBy}
 use Rattle.stack_state.proofs.MeaningLaws.{length-frames_of, frame_of-innermost, depth_is_length, FrameKeeps, MeansBy-onto}
 use Rattle.stack_state.specs.Slots.{slot_at, kind_in, forgotten_slot}
-use Rattle.stack_state.specs.StackMeaning.{SlotMeans, StackMeans, StoresBytes, Spills, LoadsNumber, LoadsSlot, KeepsOthers, with_maps}
+use Rattle.stack_state.specs.StackMeaning.{SlotMeans, StackMeans, StoresBytes, Spills, LoadsNumber, LoadsSlot, KeepsOtherMaps, with_maps}
 use Rattle.stack_state.proofs.StackLaws.{SlotMeans-spilled}
 use Rattle.stack_state.proofs.FillLaws.{SlotMeans-forgotten}
 use Rattle.stack_state.proofs.FrameLaws.{IsHere, with_cells, loads_here, fills_here, stores_here, spills_here}
@@ -311,33 +311,33 @@ MeansBy-tested p e a s i null zeros known has m =
 
 -- ---- a map forgotten everywhere
 
-forgotten_null : (e : Assigned) (maps : List Content) (m n : ℕ) (o : Option ℕ) (v : Value) → n ≢ m → KeepsOthers m e.maps maps
+forgotten_null : (e : Assigned) (maps : List Content) (m n : ℕ) (o : Option ℕ) (v : Value) → n ≢ m → KeepsOtherMaps m e.maps maps
     → AllowsOrNull e n o v → AllowsOrNull (with_maps e maps) n o v
 forgotten_null e maps m n None v other keeps h = h
 forgotten_null e maps m n (Some serial) v other keeps h = (h.0, keeps n serial other h.1)
 
-forgotten_or_null : (e : Assigned) (maps : List Content) (m n i : ℕ) (v : Value) (b : Bool) → (n == m) ≡ b → KeepsOthers m e.maps maps
+forgotten_or_null : (e : Assigned) (maps : List Content) (m n i : ℕ) (v : Value) (b : Bool) → (n == m) ≡ b → KeepsOtherMaps m e.maps maps
     → Allows e (MapValueOrNull n i) v → Allows (with_maps e maps) (kind_in (if b then Written 0 else Spilled (MapValueOrNull n i))) v
 forgotten_or_null e maps m n i v true is keeps h = tt
 forgotten_or_null e maps m n i v false is keeps h =
     let other : n ≢ m = grind (arith, nat_tests) in
     forgotten_null e maps m n (e.value i) v other keeps h
 
-forgotten_value : (e : Assigned) (maps : List Content) (m n : ℕ) (l g : ℤ) (v : Value) (b : Bool) → (n == m) ≡ b → KeepsOthers m e.maps maps
+forgotten_value : (e : Assigned) (maps : List Content) (m n : ℕ) (l g : ℤ) (v : Value) (b : Bool) → (n == m) ≡ b → KeepsOtherMaps m e.maps maps
     → Allows e (MapValue n l g) v → Allows (with_maps e maps) (kind_in (if b then Written 0 else Spilled (MapValue n l g))) v
 forgotten_value e maps m n l g v true is keeps h = tt
 forgotten_value e maps m n l g v false is keeps h =
     let other : n ≢ m = grind (arith, nat_tests) in
     record { serial = h.serial; offset = h.offset; points = h.points; from = h.from; to = h.to; live = keeps n h.serial other h.live }
 
-Allows-forgotten : (e : Assigned) (maps : List Content) (m : ℕ) (k : Kind) (v : Value) → KeepsOthers m e.maps maps → Allows e k v
+Allows-forgotten : (e : Assigned) (maps : List Content) (m : ℕ) (k : Kind) (v : Value) → KeepsOtherMaps m e.maps maps → Allows e k v
     → Allows (with_maps e maps) (forgotten_register m k) v
 Allows-forgotten e maps m (MapValue n l g) v keeps h = forgotten_value e maps m n l g v (n == m) refl keeps h
 Allows-forgotten e maps m (MapValueOrNull n i) v keeps h = forgotten_or_null e maps m n i v (n == m) refl keeps h
 Allows-forgotten e maps m (Packet f i l g p) v keeps h = record { points = h.points; from = h.from; to = h.to; inside = h.inside }
 Allows-forgotten e maps m k v keeps h = h
 
-FrameKeeps-forgotten : (e : Assigned) (maps : List Content) (m : ℕ) (x : AbstractFrame) → KeepsOthers m e.maps maps
+FrameKeeps-forgotten : (e : Assigned) (maps : List Content) (m : ℕ) (x : AbstractFrame) → KeepsOtherMaps m e.maps maps
     → FrameKeeps e (with_maps e maps) x (forgotten_frame m x)
 FrameKeeps-forgotten e maps m x keeps = record {
   registers = λ k v h. subst (λ l. Allows (with_maps e maps) l v) (sym (get_or-map_default (forgotten_register m) x.registers k Unset))
@@ -347,12 +347,12 @@ FrameKeeps-forgotten e maps m x keeps = record {
 }
 
 -- whatever becomes of the values of the map
-pub MeansBy-forgets : (p : Program) (e : Assigned) (a : State) (s : Machine.State) (m : ℕ) (maps : List Content) → KeepsOthers m s.maps maps
+pub MeansBy-forgets : (p : Program) (e : Assigned) (a : State) (s : Machine.State) (m : ℕ) (maps : List Content) → KeepsOtherMaps m s.maps maps
     → IsState p (record s { maps = maps }) → MeansBy p e a s
     → MeansBy p (with_maps e maps) (forgotten_in m a) (record s { maps = maps })
 MeansBy-forgets p e a s m maps keeps is means =
     let of = means.assigned in
-    let kept : KeepsOthers m e.maps maps = subst (λ l. KeepsOthers m l maps) (sym of.contents) keeps in
+    let kept : KeepsOtherMaps m e.maps maps = subst (λ l. KeepsOtherMaps m l maps) (sym of.contents) keeps in
     MeansBy-map p e (with_maps e maps) (forgotten_frame m) a s (record s { maps = maps }) refl refl refl is
     (record { none = of.none; length_is = of.length_is; serials = of.serials; contents = refl }) (λ x. refl)
     (λ x. FrameKeeps-forgotten e maps m x kept) means

@@ -16,7 +16,7 @@ use Rattle.reg_state.specs.Kinds.{Assigned, Allows, AllowsOrNull}
 use Rattle.stack_state.specs.declared.slots.Slot.{Slot}
 use Rattle.stack_state.specs.declared.slots.Slot.TheVariants.{Written, Spilled}
 use Rattle.stack_state.specs.Slots.{slot_at, IsAnyNumber, IsWrittenFill, IsFill, spilled_kind, forgotten_slot, forgotten, frame_slots}
-use Rattle.stack_state.specs.StackMeaning.{chunk_of, Marked, SlotMeans, LoadsSlot, KeepsOthers, with_maps, ForgetsMap}
+use Rattle.stack_state.specs.StackMeaning.{chunk_of, Marked, SlotMeans, LoadsSlot, KeepsOtherMaps, with_maps, ForgetsMap}
 use Rattle.stack_state.proofs.SpliceLaws.{length-chunk}
 use Rattle.stack_state.proofs.CellLaws.{all_bytes, value_in-bytes, no_marks, value_stored}
 use Rattle.stack_state.proofs.StackLaws.{StackMeans-map, part_below}
@@ -68,13 +68,13 @@ fills slots k answer within is = fills_slot slots k (slot_at slots k) answer wit
 
 -- ---- forgotten
 
-null_kept : (e : Assigned) (maps : List Content) (m n : ℕ) (o : Option ℕ) (v : Value) → n ≢ m → KeepsOthers m e.maps maps
+null_kept : (e : Assigned) (maps : List Content) (m n : ℕ) (o : Option ℕ) (v : Value) → n ≢ m → KeepsOtherMaps m e.maps maps
     → AllowsOrNull e n o v → AllowsOrNull (with_maps e maps) n o v
 null_kept e maps m n None v other keeps h = h
 null_kept e maps m n (Some serial) v other keeps h = (h.0, keeps n serial other h.1)
 
 forgets_value : (e : Assigned) (maps : List Content) (m n : ℕ) (l g : ℤ) (cs : List Cell) (b : Bool) → (n == m) ≡ b
-    → KeepsOthers m e.maps maps → SlotMeans e (Spilled (MapValue n l g)) cs
+    → KeepsOtherMaps m e.maps maps → SlotMeans e (Spilled (MapValue n l g)) cs
     → SlotMeans (with_maps e maps) (if b then Written 0 else Spilled (MapValue n l g)) cs
 forgets_value e maps m n l g cs true is keeps h = no_marks cs
 forgets_value e maps m n l g cs false is keeps h =
@@ -86,14 +86,14 @@ forgets_value e maps m n l g cs false is keeps h =
     )
 
 forgets_null : (e : Assigned) (maps : List Content) (m n i : ℕ) (cs : List Cell) (b : Bool) → (n == m) ≡ b
-    → KeepsOthers m e.maps maps → SlotMeans e (Spilled (MapValueOrNull n i)) cs
+    → KeepsOtherMaps m e.maps maps → SlotMeans e (Spilled (MapValueOrNull n i)) cs
     → SlotMeans (with_maps e maps) (if b then Written 0 else Spilled (MapValueOrNull n i)) cs
 forgets_null e maps m n i cs true is keeps h = no_marks cs
 forgets_null e maps m n i cs false is keeps h =
     let other : n ≢ m = grind (arith, nat_tests) in
     (h.0, null_kept e maps m n (e.value i) h.0 other keeps h.1, h.2)
 
-pub SlotMeans-forgotten : (e : Assigned) (maps : List Content) (m : ℕ) (s : Slot) (cs : List Cell) → KeepsOthers m e.maps maps
+pub SlotMeans-forgotten : (e : Assigned) (maps : List Content) (m : ℕ) (s : Slot) (cs : List Cell) → KeepsOtherMaps m e.maps maps
     → SlotMeans e s cs → SlotMeans (with_maps e maps) (forgotten_slot m s) cs
 SlotMeans-forgotten e maps m (Written marks) cs keeps h = h
 SlotMeans-forgotten e maps m (Spilled (MapValue n l g)) cs keeps h = forgets_value e maps m n l g cs (n == m) refl keeps h

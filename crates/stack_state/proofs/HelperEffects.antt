@@ -26,7 +26,7 @@ use Rattle.stack_state.specs.declared.states.State.{State}
 use Rattle.stack_state.specs.Meaning.{frames_of, frame_of, kind_at, slots_of, depth, registers_of, MeansBy}
 use Rattle.stack_state.proofs.MeaningLaws.{frame_of-caller, stack_at-last, MeansBy-fresh_null}
 use Rattle.stack_state.specs.Identities.{IsFreshNull}
-use Rattle.stack_state.specs.StackMeaning.{StackMeans, KeepsOthers, with_maps}
+use Rattle.stack_state.specs.StackMeaning.{StackMeans, KeepsOtherMaps, with_maps}
 use Rattle.stack_state.specs.Effects.{forgotten_in}
 use Rattle.stack_state.proofs.EffectLaws.{MeansBy-forgets}
 use Rattle.stack_state.specs.Calls.{left_kinds, resumed_of}
@@ -205,8 +205,8 @@ MeansBy-asked p e a s calls is means = MeansBy-given p e a s s.maps s.next_seria
 
 -- ---- keys removed
 
-KeepsOthers-set : (maps : List Content) (m : ℕ) (content : Content) → KeepsOthers m maps (slice_set maps m content)
-KeepsOthers-set maps m content j n other live =
+KeepsOtherMaps-set : (maps : List Content) (m : ℕ) (content : Content) → KeepsOtherMaps m maps (slice_set maps m content)
+KeepsOtherMaps-set maps m content j n other live =
     subst (λ c. Contains (value_serials c) n) (sym (get_or-set_other maps m j content [] other)) live
 
 -- a delete keeps what is known of all other maps' values
@@ -221,5 +221,5 @@ MeansBy-delete p e a s m row key is means = by (delete_answer row (content_of s 
     by : (b : Bool) → IsState p (if b then remove_key s m key else s)
         → (f : Assigned) × MeansBy p f (forgotten_in m a) (if b then remove_key s m key else s)
     by true is =
-        (with_maps e removed, MeansBy-forgets p e a s m removed (KeepsOthers-set s.maps m (without_key key (content_of s m))) is means)
+        (with_maps e removed, MeansBy-forgets p e a s m removed (KeepsOtherMaps-set s.maps m (without_key key (content_of s m))) is means)
     by false is = (with_maps e s.maps, MeansBy-forgets p e a s m s.maps (λ j n other live. live) is means)

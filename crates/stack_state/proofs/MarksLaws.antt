@@ -15,7 +15,7 @@ use Rattle.stack_state.specs.declared.states.State.{State}
 use Rattle.stack_state.specs.Meaning.{frames_of, no_frame, frame_of}
 use Rattle.stack_state.proofs.MeaningLaws.{length-frames_of, frame_of-caller, frame_of-innermost}
 use Rattle.stack_state.specs.Identities.{named_by, IsFresh, IsLeastFresh}
-use Rattle.stack_state.specs.Marks.{AreFree, HoldsOther, IsFreshAt, IsFreshIn, IsOther, Marks, is_marked, marked}
+use Rattle.stack_state.specs.Marks.{AreFree, HoldsOther, IsFreshAt, IsFreshIn, NamesOther, Marks, is_marked, marked}
 
 -- nothing is marked yet
 pub marked-replicate : (n : ℕ) → marked (replicate n false) ≡ 0
@@ -105,10 +105,10 @@ unset_names Packets i = λ e. absurd (cc)
 unset_names Nulls i = λ e. absurd (cc)
 
 -- past the last register, and past the last slot, no kind names one
-pub Marks-registers : (names : Names) (kinds : List Kind) (n m : ℕ) (old new : List Bool) → length kinds ≤ n → Marks (AreFree (IsOther names kinds) n) m old new
-    → Marks (λ i. (k : ℕ) → IsOther names kinds k i) m old new
+pub Marks-registers : (names : Names) (kinds : List Kind) (n m : ℕ) (old new : List Bool) → length kinds ≤ n → Marks (AreFree (NamesOther names kinds) n) m old new
+    → Marks (λ i. (k : ℕ) → NamesOther names kinds k i) m old new
 Marks-registers names kinds n m old new all =
-    Marks-same (AreFree (IsOther names kinds) n) (λ i. (k : ℕ) → IsOther names kinds k i) m old new
+    Marks-same (AreFree (NamesOther names kinds) n) (λ i. (k : ℕ) → NamesOther names kinds k i) m old new
     (λ i below k. elim (cases_lt k n) [
       | inl l ↦ below k l
       | inr past ↦ rw (get_or_past kinds k Unset (omega arith)) (unset_names names i)
@@ -124,10 +124,10 @@ Marks-slots names slots n m old new all =
     ]) (λ i free k below. free k)
 
 -- both of a frame
-pub Marks-frame : (names : Names) (f : AbstractFrame) (m n : ℕ) (old mid new : List Bool) → Marks (λ i. (k : ℕ) → IsOther names f.registers k i) m old mid
+pub Marks-frame : (names : Names) (f : AbstractFrame) (m n : ℕ) (old mid new : List Bool) → Marks (λ i. (k : ℕ) → NamesOther names f.registers k i) m old mid
     → Marks (λ i. (k : ℕ) → HoldsOther names f.stack.slots k i) n mid new → Marks (IsFreshIn names f) (m + n) old new
 Marks-frame names f m n old mid new =
-    Marks-then (λ i. (k : ℕ) → IsOther names f.registers k i) (λ i. (k : ℕ) → HoldsOther names f.stack.slots k i) (IsFreshIn names f) m n old mid new
+    Marks-then (λ i. (k : ℕ) → NamesOther names f.registers k i) (λ i. (k : ℕ) → HoldsOther names f.stack.slots k i) (IsFreshIn names f) m n old mid new
     (λ i r s. record { registers = r; slots = s }) (λ i free. free.registers) (λ i free. free.slots)
 
 -- of a kind that names the identity

@@ -30,7 +30,7 @@ use Rattle.stack_state.specs.declared.slots.Slot.{Slot}
 use Rattle.stack_state.specs.declared.slots.Slot.TheVariants.{Written, Spilled}
 use Rattle.stack_state.specs.Slots.{slot_at, marks_of, mask_of, frame_slots}
 use Rattle.stack_state.specs.StackMeaning.{chunk_of, written, stored_cells, Marked, SlotMeans}
-use Rattle.stack_state.specs.NumberStores.{AreWhole, marks_after, IsSpliced, IsSlotStored, StoresNumber}
+use Rattle.stack_state.specs.NumberStores.{AreWhole, marks_after, IsSplicedSlot, IsSlotStored, StoresNumber}
 use Rattle.stack_state.proofs.SpelledBytes.{AreSpliced, spliced_number}
 use Rattle.stack_state.proofs.SpliceLaws.{chunk_kept, chunk_written, length-chunk, length-written}
 use Rattle.stack_state.proofs.CellLaws.{length-bytes_of, marked_after, marked_slot, number_of-stored_cells, number_of-part}
@@ -138,7 +138,7 @@ whole_has e (Spilled k) cs old whole h fits = whole (number_of cs) fits
 -- the slot that is left stands for its cells
 slot_stored : (e : Assigned) (rows next : ℕ) (s t : Slot) (cells : List Cell) (at n : ℕ) (size : Size) (numbers : Scalar)
     → at % 8 + size_bytes size ≤ 8 → at + size_bytes size ≤ length cells → 8 * (at / 8) + 8 ≤ length cells → All (IsCell rows next) cells
-    → Has numbers n → SlotMeans e s (chunk_of (at / 8) cells) → marks_after s (at % 8) size ≡ 255 → IsSpliced s (at % 8) size numbers t
+    → Has numbers n → SlotMeans e s (chunk_of (at / 8) cells) → marks_after s (at % 8) size ≡ 255 → IsSplicedSlot s (at % 8) size numbers t
     → SlotMeans e t (chunk_of (at / 8) (written cells at (map Byte (bytes_of size n))))
 slot_stored e rows next s t cells at n size numbers inside fits eight fit has h all is =
     let small : n < 2 ^ 64 = has.0.below in

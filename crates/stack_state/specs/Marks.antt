@@ -22,8 +22,8 @@ abbrev pub AreFree : (ℕ → ℕ → Type 0) → ℕ → ℕ → Type 0
 AreFree Free n i = (k : ℕ) → k < n → Free k i
 
 -- a register
-abbrev pub IsOther : Names → List Kind → ℕ → ℕ → Type 0
-IsOther names kinds k i = named_by names (kind_at kinds k) ≢ Some i
+abbrev pub NamesOther : Names → List Kind → ℕ → ℕ → Type 0
+NamesOther names kinds k i = named_by names (kind_at kinds k) ≢ Some i
 
 -- a slot
 abbrev pub HoldsOther : Names → List Slot → ℕ → ℕ → Type 0

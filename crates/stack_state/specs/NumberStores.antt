@@ -34,7 +34,7 @@ abbrev pub marks_after : Slot → ℕ → Size → ℕ
 marks_after s from size = bit_or (marks_of s) (mask_of from (from + size_bytes size))
 
 -- the slot's number with other bytes
-pub record IsSpliced (s : Slot) (from : ℕ) (size : Size) (numbers : Scalar) (t : Slot)
+pub record IsSplicedSlot (s : Slot) (from : ℕ) (size : Size) (numbers : Scalar) (t : Slot)
     : Type 0 where
   pub old : Scalar
   pub new : Scalar
@@ -56,7 +56,7 @@ IsBlank (Spilled k) size numbers = ⊥
 -- known of their number is kept, if anything is, and else which are written
 pub record IsSlotStored (s : Slot) (from : ℕ) (size : Size) (numbers : Scalar) (t : Slot)
     : Type 0 where
-  pub whole : marks_after s from size ≡ 255 → IsSpliced s from size numbers t
+  pub whole : marks_after s from size ≡ 255 → IsSplicedSlot s from size numbers t
       ⊎ (IsBlank s size numbers × (t ≡ Written 255))
   pub parts : marks_after s from size ≢ 255 → t ≡ Written (marks_after s from size)
 

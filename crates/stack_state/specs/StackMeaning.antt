@@ -93,8 +93,8 @@ AreNumberBytes slots from n = (e : Assigned) (cells : List Cell) → StackMeans 
     × (number_in (part_of cells from n) ≡ Ok (number_of (part_of cells from n)))
 
 -- the live values of every other map stay live
-abbrev pub KeepsOthers : ℕ → List Content → List Content → Type 0
-KeepsOthers m before after = (j n : ℕ) → j ≢ m → HasLiveValue before j n → HasLiveValue after j n
+abbrev pub KeepsOtherMaps : ℕ → List Content → List Content → Type 0
+KeepsOtherMaps m before after = (j n : ℕ) → j ≢ m → HasLiveValue before j n → HasLiveValue after j n
 
 abbrev pub with_maps : Assigned → List Content → Assigned
 with_maps e maps = record e { maps = maps }
@@ -102,5 +102,5 @@ with_maps e maps = record e { maps = maps }
 -- whatever happens to the values of the map
 unfoldable pub ForgetsMap : ℕ → List Slot → List Slot → Type 0
 ForgetsMap m old new =
-    (e : Assigned) (maps : List Content) (cells : List Cell) → KeepsOthers m e.maps maps
+    (e : Assigned) (maps : List Content) (cells : List Cell) → KeepsOtherMaps m e.maps maps
     → StackMeans e old cells → StackMeans (with_maps e maps) new cells

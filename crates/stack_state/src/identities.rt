@@ -3,7 +3,7 @@
 ghost use Rattle.std.specs.Prelude.{◌≡◌, ◌≢◌, ℕ, ◌*◌, ◌<◌, ◌≤◌, Some, true, false, length};
 ghost use Rattle.stack_state.specs.Slots.{frame_slots};
 ghost use Rattle.stack_state.specs.Identities.{named_by, IsLeastFresh, IsLeastFreshPacket, IsLeastFreshNull};
-ghost use Rattle.stack_state.specs.Marks.{AreFree, IsOther, HoldsOther, IsFreshIn, IsFreshAt, Marks, is_marked, marked};
+ghost use Rattle.stack_state.specs.Marks.{AreFree, NamesOther, HoldsOther, IsFreshIn, IsFreshAt, Marks, is_marked, marked};
 
 use crate::slots::Slot;
 use crate::stacks::FRAME_SLOTS;
@@ -46,7 +46,7 @@ fn mark(names: Names, named: &mut Named, kind: Kind)
 }
 
 fn mark_registers(names: Names, named: &mut Named, registers: &[Kind; 10])
-    ensures { Marks (λ i. (k : ℕ) → IsOther names registers.now k i) 10 named.old named.new }
+    ensures { Marks (λ i. (k : ℕ) → NamesOther names registers.now k i) 10 named.old named.new }
 {
     for index in 0..10 {
         mark(names, named, registers[index]);

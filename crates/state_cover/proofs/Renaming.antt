@@ -21,7 +21,7 @@ use Rattle.stack_state.proofs.MeaningLaws.{length-frames_of, frame_of-caller, fr
 use Rattle.state_cover.specs.declared.names.Sort.{Sort}
 use Rattle.state_cover.specs.declared.names.Sort.TheVariants as sort
 use Rattle.state_cover.specs.Names.{identity_of, is_number, is_named, spilled_kinds, frame_places, places, first_named, name_at, name_of, packet_name, null_name}
-use Rattle.state_cover.specs.FrameCover.{SlotEncloses, KindsEnclose, SlotsEnclose, Encloses}
+use Rattle.state_cover.specs.FrameCover.{SlotEncloses, KindsEnclose, SlotsEnclose, StateEncloses}
 
 -- ---- one place
 
@@ -247,19 +247,19 @@ renamed_slot packet null names nulls (Written marks) y agree c = c
 renamed_slot packet null names nulls (Spilled k) (Spilled l) agree c = renamed_kind packet null names nulls k l agree.packets agree.values c
 renamed_slot packet null names nulls (Spilled k) (Written marks) agree c = absurd c
 
-all_opposite_packet : (packet null : ℕ → ℕ) (a b : State) → Encloses packet null a b → AllOpposite sort.Packet packet (frames_of a) (frames_of b)
+all_opposite_packet : (packet null : ℕ → ℕ) (a b : State) → StateEncloses packet null a b → AllOpposite sort.Packet packet (frames_of a) (frames_of b)
 all_opposite_packet packet null a b c = λ j. record {
   registers = λ k. opposite_packet packet null (kind_at (kinds_of a j) k) (kind_at (kinds_of b j) k) (c.registers j k);
   slots = opposite_slots sort.Packet packet packet null (slots_of a j) (slots_of b j) (opposite_packet packet null) (c.slots j);
 }
 
-all_opposite_null : (packet null : ℕ → ℕ) (a b : State) → Encloses packet null a b → AllOpposite sort.Null null (frames_of a) (frames_of b)
+all_opposite_null : (packet null : ℕ → ℕ) (a b : State) → StateEncloses packet null a b → AllOpposite sort.Null null (frames_of a) (frames_of b)
 all_opposite_null packet null a b c = λ j. record {
   registers = λ k. opposite_null packet null (kind_at (kinds_of a j) k) (kind_at (kinds_of b j) k) (c.registers j k);
   slots = opposite_slots sort.Null null packet null (slots_of a j) (slots_of b j) (opposite_null packet null) (c.slots j);
 }
 
-agree : (packet null : ℕ → ℕ) (a b : State) (j : ℕ) (x : Kind) → Encloses packet null a b
+agree : (packet null : ℕ → ℕ) (a b : State) (j : ℕ) (x : Kind) → StateEncloses packet null a b
     → ((s : Sort) (i : ℕ) → identity_of s x ≡ Some i → NamedIn s (frame_of a j) i)
     → AgreeOn packet null (packet_name a b) (null_name a b) x
 agree packet null a b j x c named = record {
@@ -270,8 +270,8 @@ agree packet null a b j x c named = record {
 }
 
 -- the names at the first places serve where other maps do
-pub Encloses-names : (packet null : ℕ → ℕ) (a b : State) → Encloses packet null a b → Encloses (packet_name a b) (null_name a b) a b
-Encloses-names packet null a b c = record {
+pub StateEncloses-names : (packet null : ℕ → ℕ) (a b : State) → StateEncloses packet null a b → StateEncloses (packet_name a b) (null_name a b) a b
+StateEncloses-names packet null a b c = record {
   none = refl;
   slot = c.slot;
   returns = c.returns;
@@ -304,8 +304,8 @@ own_slot : (x : Slot) → SlotEncloses (λ i. i) (λ i. i) x x
 own_slot (Written marks) = λ i within bit. bit
 own_slot (Spilled k) = own_kind k
 
-pub Encloses-own : (a : State) → Encloses (λ i. i) (λ i. i) a a
-Encloses-own a = record {
+pub StateEncloses-own : (a : State) → StateEncloses (λ i. i) (λ i. i) a a
+StateEncloses-own a = record {
   none = refl;
   slot = refl;
   returns = refl;
@@ -314,9 +314,10 @@ Encloses-own a = record {
 }
 
 -- an equal state is found where all is that can be
-pub own_found : (a b : State) (P : Type 0) → ((packet null : ℕ → ℕ) → Encloses packet null a b → P) → a ≡ b → P
+pub own_found : (a b : State) (P : Type 0) → ((packet null : ℕ → ℕ) → StateEncloses packet null a b → P) → a ≡ b → P
 own_found a b P found same =
-    found (λ i. i) (λ i. i) (subst (λ b. Encloses (λ i. i) (λ i. i) a b) same (Encloses-own a))
+    found (λ i. i) (λ i. i)
+    (subst (λ b. StateEncloses (λ i. i) (λ i. i) a b) same (StateEncloses-own a))
 
 -- ---- a frame
 
@@ -330,7 +331,7 @@ returns_at (f ∷ fs) (g ∷ gs) (suc j) same =
     let rest : map (λ f. f.return_slot) fs ≡ map (λ f. f.return_slot) gs = cc (same) in
     returns_at fs gs j rest
 
-pub callers-same : (a b : State) (packet null : ℕ → ℕ) → Encloses packet null a b → length a.callers.items ≡ length b.callers.items
+pub callers-same : (a b : State) (packet null : ℕ → ℕ) → StateEncloses packet null a b → length a.callers.items ≡ length b.callers.items
 callers-same a b packet null c =
     let same : length (frames_of a) ≡ length (frames_of b) =
     sym (length-map (frames_of a) (λ f. f.return_slot)) ∙ ap length c.returns ∙ length-map (frames_of b) (λ f. f.return_slot) in
@@ -344,12 +345,12 @@ pub record IsFound (a b : State) (f g : AbstractFrame) : Type 0 where
   pub registers : KindsEnclose (packet_name a b) (null_name a b) f.registers g.registers
   pub slots : SlotsEnclose (packet_name a b) (null_name a b) f.stack.slots g.stack.slots
 
-found_at : (a b : State) (packet null : ℕ → ℕ) (j : ℕ) → Encloses packet null a b → IsFound a b (frame_of a j) (frame_of b j)
+found_at : (a b : State) (packet null : ℕ → ℕ) (j : ℕ) → StateEncloses packet null a b → IsFound a b (frame_of a j) (frame_of b j)
 found_at a b packet null j c =
-    let named = Encloses-names packet null a b c in
+    let named = StateEncloses-names packet null a b c in
     record { returns = returns_at (frames_of a) (frames_of b) j c.returns; registers = named.registers j; slots = named.slots j }
 
-pub innermost_found : (a b : State) (packet null : ℕ → ℕ) → Encloses packet null a b → IsFound a b a.innermost b.innermost
+pub innermost_found : (a b : State) (packet null : ℕ → ℕ) → StateEncloses packet null a b → IsFound a b a.innermost b.innermost
 innermost_found a b packet null c =
     let same = callers-same a b packet null c in
     subst (λ f. IsFound a b f b.innermost) (frame_of-innermost a)
@@ -358,7 +359,7 @@ innermost_found a b packet null c =
 
 -- a caller's frame
 pub caller_found : (a b : State) (fs gs : List AbstractFrame) (packet null : ℕ → ℕ) (n : ℕ) (f g : AbstractFrame) → fs ≡ a.callers.items
-    → gs ≡ b.callers.items → Encloses packet null a b → n < length fs → n < length gs → f ≡ get_or fs n f → g ≡ get_or gs n g
+    → gs ≡ b.callers.items → StateEncloses packet null a b → n < length fs → n < length gs → f ≡ get_or fs n f → g ≡ get_or gs n g
     → IsFound a b f g
 caller_found a b fs gs packet null n f g is_a is_b c in_a in_b at_f at_g =
     let of_a : n < length a.callers.items = rw is_a at in_a in

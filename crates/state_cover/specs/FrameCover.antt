@@ -57,7 +57,7 @@ SlotsEnclose packet null xs ys = (k : ℕ) → SlotEncloses packet null (slot_at
 
 -- each register and slot of a covers its counterpart of b, numbers by their bits and limits, under
 -- these names of identities
-pub record Encloses (packet null : ℕ → ℕ) (a b : State) : Type 0 where
+pub record StateEncloses (packet null : ℕ → ℕ) (a b : State) : Type 0 where
   pub none : packet 0 ≡ 0
   pub slot : a.slot ≡ b.slot
   pub returns : map (λ f. f.return_slot) (frames_of a) ≡ map (λ f. f.return_slot) (frames_of b)

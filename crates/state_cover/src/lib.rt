@@ -7,7 +7,7 @@ ghost use Rattle.reg_state.specs.KindCover.{KindCovers, KindEncloses};
 ghost use Rattle.stack_state.specs.Meaning.{Covers};
 ghost use Rattle.stack_state.specs.Slots.{marks_of};
 ghost use Rattle.state_cover.specs.Names.{packet_name, null_name};
-ghost use Rattle.state_cover.specs.FrameCover.{FrameCovers, KindsCover, KindsEnclose, Encloses, AreAmong, SlotCovers, SlotEncloses, SlotsCover, SlotsEnclose};
+ghost use Rattle.state_cover.specs.FrameCover.{FrameCovers, KindsCover, KindsEnclose, StateEncloses, AreAmong, SlotCovers, SlotEncloses, SlotsCover, SlotsEnclose};
 
 mod names;
 
@@ -22,7 +22,8 @@ pub fn covers(a: &State, b: &State) -> bool
 
     // It finds what can be found by registers and slots, whatever b calls the identities of a, and
     // by bits and limits of numbers.
-    ensures encloses { (packet null : ℕ → ℕ) → Encloses packet null a.now b.now → IsTrue result }
+    ensures encloses { (packet null : ℕ → ℕ) → StateEncloses packet null a.now b.now
+        → IsTrue result }
     ensures equal { a.now ≡ b.now → IsTrue result }
 {
     if a.slot != b.slot {

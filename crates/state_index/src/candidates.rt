@@ -4,7 +4,7 @@ ghost use Rattle.std.specs.Iterator.{at_most};
 
 use crate::buckets::Link;
 use crate::efforts::Effort;
-use crate::limits::Limits;
+use crate::limits::PlaceLimits;
 use crate::shapes::ShapeLink;
 use crate::trees::{Sought, Tree};
 
@@ -63,7 +63,7 @@ pub struct FinishedCandidates<'a> {
     pub links: &'a [Link],
     /// What is known of the state.
     pub known: u64,
-    pub limits: &'a [Limits],
+    pub limits: &'a [PlaceLimits],
     pub trees: &'a [Tree],
     /// An entry of the first tree, and what is sought there once it is known.
     pub number: usize,

@@ -10,7 +10,7 @@ use crate::candidates::{FinishedCandidates, ShapesAt, UnfinishedCandidates};
 use crate::efforts::Effort;
 use crate::fingerprints::mixed;
 use crate::keys::Key;
-use crate::limits::Limits;
+use crate::limits::PlaceLimits;
 use crate::shapes::{Shape, ShapeLink};
 use crate::tree_sets::TreeSets;
 use crate::trees::Tree;
@@ -88,7 +88,7 @@ impl Index {
     pub fn finished_candidates<'a>(
         &'a self,
         known: u64,
-        limits: &'a [Limits],
+        limits: &'a [PlaceLimits],
     ) -> FinishedCandidates<'a> {
         let (trees, unplaced) = self.tree_sets.trees(known);
         let is_ordered = trees.is_empty();

@@ -4,7 +4,7 @@ ghost use Rattle.std.specs.Prelude.{◌≡◌, OnOk, IsTrue};
 ghost use Rattle.state_index.specs.Parts.{AreBlank, AreParts};
 
 use crate::fingerprints::Fingerprints;
-use crate::limits::{Limits, add_limits};
+use crate::limits::{PlaceLimits, add_limits};
 use crate::parts::{Part, take_parts, take_register_parts};
 use stack_state::{FRAME_SLOTS, State};
 use std::alloc::{AllocError, Global};
@@ -18,7 +18,7 @@ const PLACES: usize = 10 + FRAME_SLOTS;
 pub struct Key {
     pub parts: Vec<Part>,
     pub fingerprints: Fingerprints,
-    pub limits: Vec<Limits>,
+    pub limits: Vec<PlaceLimits>,
     /// Whether the limits are wanted.
     pub has_limits: bool,
     /// Whether more than the parts is wanted.

@@ -26,7 +26,7 @@ pub use equality::are_same;
 pub use fingerprints::Fingerprints;
 pub use index::Index;
 pub use keys::Key;
-pub use limits::{Limits, add_limits};
+pub use limits::{PlaceLimits, add_limits};
 pub use parts::{Part, may_cover_place, take_parts, take_register_parts, write};
 pub use rows::{Rows, Spread};
 pub use tree_sets::LONG_SCAN;

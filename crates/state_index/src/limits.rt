@@ -27,7 +27,7 @@ enum Sort {
 
 /// Monotone measures of a place: if a covers b, each measure of a is at least that of b.
 #[derive(Clone, Copy, Drop)]
-pub struct Limits {
+pub struct PlaceLimits {
     /// Frames come one after another, and in each of them registers before slots.
     pub place: u32,
     sort: Sort,
@@ -45,7 +45,7 @@ pub struct Measure {
 /// beside them the least of each measure.
 #[derive(Clone, Copy, Drop)]
 pub struct Span {
-    pub limits: Limits,
+    pub limits: PlaceLimits,
     least: [u64; MEASURES],
 }
 
@@ -143,7 +143,7 @@ fn of_marks(marks: u8) -> [u64; MEASURES] {
 /// How far the places of one frame are from those of the next.
 const LEVEL: u32 = 1 << 9;
 
-impl Limits {
+impl PlaceLimits {
     /// The measures of a part of a frame; the outermost frame is at level 0. A part that allows all
     /// has none.
     fn of(level: u32, part: &Part) -> Option<Self> {
@@ -154,7 +154,7 @@ impl Limits {
             }
             Part::InSlot(place, Slot::Spilled(kind)) => (16 + u32::from(*place), of_kind(kind)?),
         };
-        Some(Limits {
+        Some(PlaceLimits {
             place: level.wrapping_mul(LEVEL).wrapping_add(place),
             sort,
             measures,
@@ -163,7 +163,7 @@ impl Limits {
 
     /// Whether all that is measured here may be in a state that covers one where the other limits
     /// are: a no says that it is not.
-    fn may_enclose(&self, other: &Limits) -> bool {
+    fn may_enclose(&self, other: &PlaceLimits) -> bool {
         if self.sort != other.sort {
             return self.sort == Sort::Written;
         }
@@ -178,7 +178,7 @@ impl Limits {
 
 impl Span {
     /// Of one state.
-    pub fn of(limits: &Limits) -> Self {
+    pub fn of(limits: &PlaceLimits) -> Self {
         Span {
             limits: *limits,
             least: limits.measures,
@@ -186,7 +186,7 @@ impl Span {
     }
 
     /// Takes in the limits of one more state, and says whether those of all still say anything.
-    fn widen(&mut self, other: &Limits) -> bool {
+    fn widen(&mut self, other: &PlaceLimits) -> bool {
         let sort = self.limits.sort;
         if sort != other.sort {
             return false;
@@ -206,9 +206,13 @@ impl Span {
 }
 
 /// Puts the limits of a frame's parts after those of the frames around it.
-pub fn add_limits(limits: &mut Vec<Limits>, level: u32, parts: &[Part]) -> Result<(), AllocError> {
+pub fn add_limits(
+    limits: &mut Vec<PlaceLimits>,
+    level: u32,
+    parts: &[Part],
+) -> Result<(), AllocError> {
     for part in parts {
-        if let Some(found) = Limits::of(level, part) {
+        if let Some(found) = PlaceLimits::of(level, part) {
             limits.push(found)?;
         }
     }
@@ -216,7 +220,7 @@ pub fn add_limits(limits: &mut Vec<Limits>, level: u32, parts: &[Part]) -> Resul
 }
 
 /// The limits from a place on, in the order of their places.
-pub fn from_place(limits: &[Limits], place: u32) -> &[Limits] {
+pub fn from_place(limits: &[PlaceLimits], place: u32) -> &[PlaceLimits] {
     let mut rest = limits;
     for _skipped in 0..limits.len() {
         match rest {
@@ -228,7 +232,7 @@ pub fn from_place(limits: &[Limits], place: u32) -> &[Limits] {
 }
 
 /// Whether a state with these limits may cover one with others: a no says that it does not.
-pub fn may_enclose(limits: &[Limits], others: &[Limits]) -> bool {
+pub fn may_enclose(limits: &[PlaceLimits], others: &[PlaceLimits]) -> bool {
     let mut rest = others;
     for own in limits {
         rest = from_place(rest, own.place);
@@ -242,7 +246,7 @@ pub fn may_enclose(limits: &[Limits], others: &[Limits]) -> bool {
 
 /// A measure of a place, from which on these are the limits; the greatest number where nothing is
 /// known of it.
-pub fn measured(limits: &[Limits], measure: Measure) -> u64 {
+pub fn measured(limits: &[PlaceLimits], measure: Measure) -> u64 {
     match limits.first() {
         Some(own) if own.place == measure.place => {
             own.measures.get(measure.index).copied().unwrap_or(0)
@@ -252,7 +256,7 @@ pub fn measured(limits: &[Limits], measure: Measure) -> u64 {
 }
 
 /// Widens spans by the limits of one more state, and leaves out places where they say nothing.
-pub fn widen(spans: &mut Vec<Span>, others: &[Limits]) {
+pub fn widen(spans: &mut Vec<Span>, others: &[PlaceLimits]) {
     let mut rest = others;
     let mut kept = 0;
     for index in 0..spans.len() {

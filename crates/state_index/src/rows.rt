@@ -1,6 +1,6 @@
 //! Rows of words that tell entries apart: what a tree is made of.
 
-use crate::limits::{Limits, MEASURES, Measure, Span, from_place, measured, widen};
+use crate::limits::{PlaceLimits, MEASURES, Measure, Span, from_place, measured, widen};
 use std::alloc::{AllocError, Global};
 
 /// How many words a row has at most.
@@ -19,7 +19,7 @@ pub struct Spread {
 #[derive(Drop)]
 pub struct Rows {
     /// Limits that enclose those of all entries.
-    pub common: Vec<Limits>,
+    pub common: Vec<PlaceLimits>,
     /// Those in which entries differ, in the order of their places.
     pub measures: Vec<Measure>,
     pub places: Vec<u32>,
@@ -36,7 +36,7 @@ impl Spread {
     }
 
     /// Takes in an entry with these limits.
-    pub fn add(&mut self, limits: &[Limits]) -> Result<(), AllocError> {
+    pub fn add(&mut self, limits: &[PlaceLimits]) -> Result<(), AllocError> {
         if self.count == 0 {
             for own in limits {
                 self.spans.push(Span::of(own))?;
@@ -107,7 +107,7 @@ impl Rows {
     }
 
     /// Adds the row of an entry with these limits.
-    pub fn add(&mut self, place: u32, limits: &[Limits]) -> Result<(), AllocError> {
+    pub fn add(&mut self, place: u32, limits: &[PlaceLimits]) -> Result<(), AllocError> {
         let mut row = [0; WIDTH];
         row[0] = !u64::from(place);
         put_measured(&mut row, &self.measures, limits);
@@ -120,7 +120,7 @@ impl Rows {
 }
 
 /// Puts the measures of limits into a row, after its first word.
-pub fn put_measured(row: &mut [u64; WIDTH], measures: &[Measure], limits: &[Limits]) {
+pub fn put_measured(row: &mut [u64; WIDTH], measures: &[Measure], limits: &[PlaceLimits]) {
     let mut rest = limits;
     let mut column: usize = 1;
     for measure in measures {

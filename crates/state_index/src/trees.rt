@@ -3,7 +3,7 @@
 //! No contract rests on them: they propose states, and `covers` decides.
 
 use crate::efforts::Effort;
-use crate::limits::{Limits, Measure, may_enclose};
+use crate::limits::{PlaceLimits, Measure, may_enclose};
 use crate::orders::Order;
 use crate::rows::{Rows, WIDTH, put_measured};
 use std::alloc::{AllocError, Global};
@@ -24,7 +24,7 @@ pub type Sought = [u64; WIDTH];
 #[derive(Drop)]
 pub struct Tree {
     /// Limits that enclose those of all entries.
-    common: Vec<Limits>,
+    common: Vec<PlaceLimits>,
     measures: Vec<Measure>,
     places: Vec<u32>,
     /// The lowest level has a row for each entry. A row of a higher level has the greatest words of
@@ -119,7 +119,7 @@ impl Tree {
     }
 
     /// The words that are sought for a state with these limits, if an entry may cover it.
-    pub fn sought(&self, limits: &[Limits]) -> Option<Sought> {
+    pub fn sought(&self, limits: &[PlaceLimits]) -> Option<Sought> {
         if !may_enclose(&self.common, limits) {
             return None;
         }

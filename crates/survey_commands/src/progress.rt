@@ -9,7 +9,7 @@ const CLEARED: &str = "\r\x1b[K";
 
 /// How far a survey is.
 #[derive(Clone, Copy, Drop)]
-pub struct Progress {
+pub struct SurveyProgress {
     /// Whether it is shown.
     is_shown: bool,
     /// How many images there are.
@@ -20,10 +20,10 @@ pub struct Progress {
     shown: usize,
 }
 
-impl Progress {
+impl SurveyProgress {
     /// No image is judged yet, of this number of images.
     pub fn of(total: usize, is_shown: bool) -> Self {
-        Progress {
+        SurveyProgress {
             is_shown,
             total,
             done: 0,

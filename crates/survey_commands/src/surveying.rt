@@ -5,7 +5,7 @@ ghost use Rattle.std.specs.Prelude.{◌≤◌, IfOk};
 use crate::failures::{Failure, file_line};
 use crate::files::read_image;
 use crate::folders::{Named, add_folder, add_images, images};
-use crate::progress::Progress;
+use crate::progress::SurveyProgress;
 use crate::tables::store_table;
 use crate::writing::{Sheet, sheet_of, write_head, write_row, write_waiting};
 use exact_io::write_bytes;
@@ -136,7 +136,7 @@ fn judge_all<R: Files + Clock + AllocGlobal, W1: Write, W2: Write>(
     rt: &R,
     sheet: &Sheet<'_>,
     named: &[Named],
-    progress: &mut Progress,
+    progress: &mut SurveyProgress,
     out: &mut W1,
     err: &mut W2,
 ) -> Result<(Vec<Row>, Summary), Failure> {
@@ -176,7 +176,7 @@ pub fn survey<R: Files + Clock + AllocGlobal + Clone + Drop, W1: Write, W2: Writ
     let named = all_named(rt, survey)?;
     let sheet = sheet_of(alloc, survey, named.as_slice())?;
     write_head(alloc, &sheet, out)?;
-    let mut progress = Progress::of(named.len(), has_progress);
+    let mut progress = SurveyProgress::of(named.len(), has_progress);
     let (mut rows, summary) = judge_all(rt, &sheet, named.as_slice(), &mut progress, out, err)?;
     write_waiting(rt, &sheet, &mut rows, out)?;
     let line = summary_line(alloc, &summary)?;

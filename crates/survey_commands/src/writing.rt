@@ -8,7 +8,7 @@ use std::alloc::{AllocError, Global};
 use std::io::Write;
 use std::rt::Files;
 use survey_rows::{
-    Column, EarlierError, Grid, Layout, Row, changes_since, csv_text, grid_of, json_text,
+    Column, EarlierError, Grid, RowLayout, Row, changes_since, csv_text, grid_of, json_text,
     shown_width, sort, table_text,
 };
 use survey_words::{Format, Survey};
@@ -39,7 +39,7 @@ const TABLE_COLUMNS: [Column; 3] = [
 #[derive(Drop)]
 pub struct Sheet<'a> {
     pub survey: &'a Survey<'a>,
-    pub layout: Layout,
+    pub layout: RowLayout,
 }
 
 impl Sheet<'_> {
@@ -76,7 +76,7 @@ pub fn sheet_of<'a>(
     let columns = columns_of(alloc, survey)?;
     Ok(Sheet {
         survey,
-        layout: Layout {
+        layout: RowLayout {
             columns,
             longest: longest_of(named),
             only_refused: survey.only_refused,

@@ -123,7 +123,7 @@ fn heads_of(alloc: Global, columns: &[Column], longest: usize) -> Result<Vec<Hea
 
 /// How rows are chosen and laid out.
 #[derive(Drop)]
-pub struct Layout {
+pub struct RowLayout {
     pub columns: Vec<Column>,
     /// How many characters the longest path has.
     pub longest: usize,
@@ -131,7 +131,7 @@ pub struct Layout {
 }
 
 /// The rows that are chosen: all, or those of refused images.
-pub fn grid_of(alloc: Global, rows: &[Row], layout: &Layout) -> Result<Grid, AllocError>
+pub fn grid_of(alloc: Global, rows: &[Row], layout: &RowLayout) -> Result<Grid, AllocError>
     ensures all { IfOk result (λ grid. layout.now.only_refused ≡ false
         → length grid.rows.items ≡ length rows.now) }
 {

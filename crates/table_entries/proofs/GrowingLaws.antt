@@ -8,7 +8,7 @@ use Rattle.std.proofs.lemmas.List.{append-nil, length-map, length-append}
 use Rattle.isa_model.specs.Code.Instructions.{Program}
 use Rattle.table_entries.specs.Reading.{seen}
 use Rattle.table_entries.specs.Entries.{Entry, entry_in}
-use Rattle.table_entries.specs.Tables.{Kept, KeepsEntries, count_of, count_in, entry_at, entry_from, earlier, first_none, all_of, body_in, to_the_end, table_read}
+use Rattle.table_entries.specs.Tables.{TableView, KeepsEntries, count_of, count_in, entry_at, entry_from, earlier, first_none, all_of, body_in, to_the_end, table_read}
 use Rattle.table_entries.specs.Growing.{Grown, IsBegun, MayGrow, Grows, AllThere, with_place}
 use Rattle.table_entries.proofs.Ends.{IsEnd-more, IsEnd-place, IsEnd-length, entry_in-end}
 use Rattle.table_entries.proofs.Seen.{read-seen}
@@ -115,7 +115,7 @@ entry_at-before p g h k grows less =
     rw (grows.bytes, grows.places) (ap (option_and_then (entry_from p g.table.bytes)) (get-front g.table.places grows.more k less))
 
 -- past the last entry there is none
-pub no_entry_past : (p : Program) (t : Kept) (k : ℕ) (e : Entry) → count_of t ≤ k → entry_at p t k ≡ Some e → ⊥
+pub no_entry_past : (p : Program) (t : TableView) (k : ℕ) (e : Entry) → count_of t ≤ k → entry_at p t k ≡ Some e → ⊥
 no_entry_past p t k e past there =
     let none : entry_at p t k ≡ None = ap (option_and_then (entry_from p t.bytes)) (slice_get_past t.places k past) in
     cc

@@ -13,7 +13,7 @@ use Rattle.stack_state.specs.declared.states.AbstractFrame.{AbstractFrame}
 use Rattle.table_entries.specs.Reading.{Read, then_read, allowed}
 use Rattle.table_entries.specs.Frames.{frame_in, callers_in}
 use Rattle.table_entries.specs.Entries.{Entry, entry_of, IsAllowed, named_in, head_allowed, entry_with, rest_in, entry_in}
-use Rattle.table_entries.specs.Tables.{Kept, entry_from, entry_at}
+use Rattle.table_entries.specs.Tables.{TableView, entry_from, entry_at}
 
 -- what is so of the entry, if there is one
 abbrev pub EntryIs : (Entry → Type 0) → Option Entry → Type 0
@@ -99,13 +99,13 @@ pub short-from : (p : Program) (bytes : List ℕ) → length bytes < 4 → allow
 unfolding entry_in
 short-from p bytes less = let short : nat_lt (length bytes) 7 ≡ true = grind arith in rw short refl
 
-pub number-at : (p : Program) (t : Kept) (k place : ℕ) (e : Entry) → slice_get t.places k ≡ Some place → entry_at p t k ≡ Some e
+pub number-at : (p : Program) (t : TableView) (k place : ℕ) (e : Entry) → slice_get t.places k ≡ Some place → entry_at p t k ≡ Some e
     → Some (little_number 4 (drop place t.bytes)) ≡ Some e.number
 number-at p t k place e there h =
     let begun : entry_from p t.bytes place ≡ Some e = rw there at h in
     ap Some (sym (number-from p t.bytes place e begun))
 
-pub short-at : (p : Program) (t : Kept) (k place : ℕ) (e : Entry) → slice_get t.places k ≡ Some place → length (drop place t.bytes) < 4
+pub short-at : (p : Program) (t : TableView) (k place : ℕ) (e : Entry) → slice_get t.places k ≡ Some place → length (drop place t.bytes) < 4
     → entry_at p t k ≡ Some e → ⊥
 short-at p t k place e there less h =
     let begun : entry_from p t.bytes place ≡ Some e = rw there at h in
@@ -117,13 +117,13 @@ pub found-at : (xs ys : List ℕ) (i x : ℕ) → ys ≡ xs → i < length ys �
 found-at xs ys i x same less is = rw (← same) (slice_get-get_or ys i x less ∙ ap Some (sym is))
 
 -- what is read at its place
-pub read-at : (p : Program) (t : Kept) (k place : ℕ) (head : Option Head) (a : State) (after : List ℕ) → slice_get t.places k ≡ Some place
+pub read-at : (p : Program) (t : TableView) (k place : ℕ) (head : Option Head) (a : State) (after : List ℕ) → slice_get t.places k ≡ Some place
     → entry_in p (drop place t.bytes) ≡ Ok (option_map (λ (h : Head). entry_of h a) head, after)
     → MatchOption head (entry_at p t k ≡ None) (λ h. entry_at p t k ≡ Some (entry_of h a))
 read-at p t k place None a after there read = rw (there, read)
 read-at p t k place (Some h) a after there read = rw (there, read)
 
-pub stop-at : (p : Program) (t : Kept) (k place : ℕ) (stop : Stop) → slice_get t.places k ≡ Some place → entry_in p (drop place t.bytes) ≡ Err stop
+pub stop-at : (p : Program) (t : TableView) (k place : ℕ) (stop : Stop) → slice_get t.places k ≡ Some place → entry_in p (drop place t.bytes) ≡ Err stop
     → entry_at p t k ≡ None
 stop-at p t k place stop there read = rw (there, read)
 

@@ -9,7 +9,7 @@ use Rattle.table_entries.specs.declared.faults.TableFault.{TableFault}
 use Rattle.table_entries.specs.declared.faults.TableFault.TheVariants as fault
 use Rattle.table_entries.specs.declared.stops.Stop.{Stop}
 use Rattle.table_entries.specs.Entries.{Entry, entry_in}
-use Rattle.table_entries.specs.Tables.{before, fault_of, entries_in, to_the_end, earlier, first_none, all_of, entry_from, Kept, KeepsEntries}
+use Rattle.table_entries.specs.Tables.{before, fault_of, entries_in, to_the_end, earlier, first_none, all_of, entry_from, TableView, KeepsEntries}
 use Rattle.table_entries.specs.Growing.{with_entries, IsEnd}
 use Rattle.table_entries.proofs.Ends.{IsEnd-place}
 
@@ -85,7 +85,7 @@ then-some p bytes (Some place) None h = grind arith
 then-some p bytes (Some place) (Some e) h = grind arith
 
 -- the table has the entries that begin at its places
-pub KeepsEntries-places : (p : Program) (t : Kept) → first_none 0 (map (entry_from p t.bytes) t.places) ≡ None → KeepsEntries p t (all_of (map (entry_from p t.bytes) t.places))
+pub KeepsEntries-places : (p : Program) (t : TableView) → first_none 0 (map (entry_from p t.bytes) t.places) ≡ None → KeepsEntries p t (all_of (map (entry_from p t.bytes) t.places))
 KeepsEntries-places p t h =
     let xs = map (entry_from p t.bytes) t.places in
     let same : xs ≡ map Some (all_of xs) = all_of-some 0 xs h in

@@ -3,11 +3,11 @@ use Rattle.std.specs.Prelude.{◌≡◌, ℕ, ◌-◌, ◌<◌, ◌≤◌, List,
 use Rattle.isa_model.specs.Code.Instructions.{Program}
 use Rattle.table_entries.specs.declared.faults.TableFault.{TableFault}
 use Rattle.table_entries.specs.Entries.{Entry}
-use Rattle.table_entries.specs.Tables.{Kept, count_of, count_in, entries_in, entry_at, entry_from, first_none}
+use Rattle.table_entries.specs.Tables.{TableView, count_of, count_in, entries_in, entry_at, entry_from, first_none}
 
 -- the entries that are placed, the bytes after them, and how many entries the table says that it has
 pub record Grown : Type 0 where
-  pub table : Kept
+  pub table : TableView
   pub rest : List ℕ
   pub count : ℕ
 
@@ -43,7 +43,7 @@ pub record Grows (p : Program) (g h : Grown) : Type 0 where
   pub whole : g.count ≤ count_of g.table → h.table.places ≡ g.table.places
 
 -- the entry at the front of the remaining bytes is placed
-abbrev pub with_place : Kept → ℕ → Kept
+abbrev pub with_place : TableView → ℕ → TableView
 with_place t place = record { bytes = t.bytes; places = t.places ++ place ∷ [] }
 
 -- every entry that is placed is there

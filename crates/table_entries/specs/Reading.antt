@@ -9,9 +9,9 @@ abbrev pub Read : Type 0 → Type 0
 Read X = Result (Option X × List ℕ) Stop
 
 -- the view of what a function returned is what is read
-abbrev pub Gives : {X Y : Type 0} → (X → Y) → Result X Stop → Result Y Stop → Type 0
-Gives view (Ok x) read = read ≡ Ok (view x)
-Gives view (Err stop) read = read ≡ Err stop
+abbrev pub ReturnsRead : {X Y : Type 0} → (X → Y) → Result X Stop → Result Y Stop → Type 0
+ReturnsRead view (Ok x) read = read ≡ Ok (view x)
+ReturnsRead view (Err stop) read = read ≡ Err stop
 
 -- what was put into the room for it, if it is allowed
 abbrev pub kept : {X : Type 0} → Bool → X → Option X

@@ -82,7 +82,7 @@ table_read p bytes = all_allowed (table_in p bytes)
 -- ---- tables that are kept
 
 -- the bytes, and where in them each entry begins
-pub record Kept : Type 0 where
+pub record TableView : Type 0 where
   pub bytes : List ℕ
   pub places : List ℕ
 
@@ -91,15 +91,15 @@ abbrev pub entry_from : Program → List ℕ → ℕ → Option Entry
 entry_from p bytes place = allowed (entry_in p (drop place bytes))
 
 -- the entry of index k
-abbrev pub entry_at : Program → Kept → ℕ → Option Entry
+abbrev pub entry_at : Program → TableView → ℕ → Option Entry
 entry_at p t k = option_and_then (entry_from p t.bytes) (slice_get t.places k)
 
 -- how many entries it has
-abbrev pub count_of : Kept → ℕ
+abbrev pub count_of : TableView → ℕ
 count_of t = length t.places
 
 -- the entries that it keeps
-pub record KeepsEntries (p : Program) (t : Kept) (entries : List Entry) : Type 0 where
+pub record KeepsEntries (p : Program) (t : TableView) (entries : List Entry) : Type 0 where
   pub count : count_of t ≡ length entries
   pub each : (k : ℕ) → entry_at p t k ≡ slice_get entries k
 

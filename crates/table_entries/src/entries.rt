@@ -4,7 +4,7 @@ ghost use Rattle.std.specs.Prelude.{◌≡◌, ◌<◌, Some};
 ghost use Rattle.std.specs.Option.{option_map};
 ghost use Rattle.isa_model.specs.Code.Limits.{max_call_frames};
 ghost use Rattle.table_entries.specs.Entries.{entry_in, entry_of, head_allowed, list_of, named_in, rest_in};
-ghost use Rattle.table_entries.specs.Reading.{Gives, kept};
+ghost use Rattle.table_entries.specs.Reading.{ReturnsRead, kept};
 
 use crate::frames::{read_callers, read_frame};
 use crate::loops::both;
@@ -34,7 +34,7 @@ pub struct Head {
 /// The entries that are named, and the bytes after them.
 #[tactic(auto, unfolding(crate::specs::Entries::named_in))]
 pub fn named_in(bytes: &[u8]) -> Result<(Named, &[u8]), Stop>
-    ensures { Gives (λ x. (Some (list_of x.0), x.1.now)) result (named_in bytes.now) }
+    ensures { ReturnsRead (λ x. (Some (list_of x.0), x.1.now)) result (named_in bytes.now) }
 {
     match bytes {
         [] => Err(Stop::Short),
@@ -76,7 +76,7 @@ fn read_rest<'a>(
     state: &mut State,
 ) -> Result<(Option<Head>, &'a [u8]), Stop>
     requires { outer < max_call_frames }
-    ensures { Gives (λ x. (option_map (λ head. entry_of head state.new) x.0, x.1.now)) result
+    ensures { ReturnsRead (λ x. (option_map (λ head. entry_of head state.new) x.0, x.1.now)) result
         (rest_in image.now number state.old.slot outer bytes.now) }
 {
     let rows = image.maps().len();
@@ -102,7 +102,7 @@ pub fn read_entry<'a>(
     bytes: &'a [u8],
     state: &mut State,
 ) -> Result<(Option<Head>, &'a [u8]), Stop>
-    ensures { Gives (λ x. (option_map (λ head. entry_of head state.new) x.0, x.1.now)) result
+    ensures { ReturnsRead (λ x. (option_map (λ head. entry_of head state.new) x.0, x.1.now)) result
         (entry_in image.now bytes.now) }
 {
     if bytes.len() < 7 {

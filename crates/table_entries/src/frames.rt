@@ -3,7 +3,7 @@
 ghost use Rattle.std.specs.Prelude.{◌≡◌, ◌<◌};
 ghost use Rattle.isa_model.specs.Code.Limits.{max_call_frames};
 ghost use Rattle.table_entries.specs.Frames.{is_unset, are_unset, frame_allowed, frame_in, callers_in};
-ghost use Rattle.table_entries.specs.Reading.{Gives, kept};
+ghost use Rattle.table_entries.specs.Reading.{ReturnsRead, kept};
 
 use crate::loops::{both, read_registers, read_slots};
 use crate::slices::{skip, u16_at};
@@ -45,7 +45,7 @@ pub fn read_frame<'a>(
     bytes: &'a [u8],
     frame: &mut AbstractFrame,
 ) -> Result<(bool, &'a [u8]), Stop>
-    ensures { Gives (λ x. (kept x.0 frame.new, x.1.now)) result
+    ensures { ReturnsRead (λ x. (kept x.0 frame.new, x.1.now)) result
         (frame_in rows holder outer bytes.now) }
 {
     if bytes.len() < 2 {
@@ -68,7 +68,7 @@ pub fn read_callers<'a>(
     free: &mut AbstractFrame,
 ) -> Result<(bool, &'a [u8]), Stop>
     requires { count < max_call_frames }
-    ensures { Gives (λ x. (kept x.0 callers.new.items, x.1.now)) result
+    ensures { ReturnsRead (λ x. (kept x.0 callers.new.items, x.1.now)) result
         (callers_in rows count bytes.now) }
 {
     callers.clear();

@@ -3,7 +3,7 @@
 ghost use Rattle.std.specs.Prelude.{◌≡◌, ◌≤◌, ◌&&◌, take, replicate};
 ghost use Rattle.stack_state.specs.Slots.{frame_slots};
 ghost use Rattle.table_entries.specs.Values.{kind_in, slot_in};
-ghost use Rattle.table_entries.specs.Reading.{Gives, kept, many};
+ghost use Rattle.table_entries.specs.Reading.{ReturnsRead, kept, many};
 
 use crate::blanks::blank_slots;
 use crate::slices::skip;
@@ -28,7 +28,8 @@ fn read_kind<'a>(
     bytes: &'a [u8],
     kind: &mut Kind,
 ) -> Result<(bool, &'a [u8]), Stop>
-    ensures { Gives (λ x. (kept x.0 kind.new, x.1.now)) result (kind_in rows holder bytes.now) }
+    ensures { ReturnsRead (λ x. (kept x.0 kind.new, x.1.now)) result
+        (kind_in rows holder bytes.now) }
 {
     match bytes {
         [0, rest @ ..] => {
@@ -70,7 +71,8 @@ fn read_slot<'a>(
     bytes: &'a [u8],
     slot: &mut Slot,
 ) -> Result<(bool, &'a [u8]), Stop>
-    ensures { Gives (λ x. (kept x.0 slot.new, x.1.now)) result (slot_in rows holder bytes.now) }
+    ensures { ReturnsRead (λ x. (kept x.0 slot.new, x.1.now)) result
+        (slot_in rows holder bytes.now) }
 {
     match bytes {
         [0, marks, rest @ ..] => {
@@ -98,7 +100,7 @@ pub fn read_registers<'a>(
     bytes: &'a [u8],
     registers: &mut [Kind; 10],
 ) -> Result<(bool, &'a [u8]), Stop>
-    ensures { Gives (λ x. (kept x.0 registers.new, x.1.now)) result
+    ensures { ReturnsRead (λ x. (kept x.0 registers.new, x.1.now)) result
         (many (λ k. kind_in rows holder) 10 0 bytes.now) }
 {
     let mut rest = bytes;
@@ -129,7 +131,7 @@ pub fn read_slots<'a>(
     bytes: &'a [u8],
     slots: &mut [Slot; FRAME_SLOTS],
 ) -> Result<(bool, &'a [u8]), Stop>
-    ensures { Gives (λ x. (kept x.0 slots.new, x.1.now)) result
+    ensures { ReturnsRead (λ x. (kept x.0 slots.new, x.1.now)) result
         (many (λ k. slot_in rows holder) frame_slots 0 bytes.now) }
 {
     let blank = blank_slots(bytes);

@@ -6,7 +6,7 @@ ghost use Rattle.stack_state.specs.Slots.{frame_slots};
 ghost use Rattle.table_entries.specs.Values.{kind_in, slot_in, stack_in};
 ghost use Rattle.table_entries.specs.Frames.{frame_in, callers_in};
 ghost use Rattle.table_entries.specs.Entries.{rest_in, entry_in};
-ghost use Rattle.table_entries.specs.Reading.{Gives, seen, many};
+ghost use Rattle.table_entries.specs.Reading.{ReturnsRead, seen, many};
 
 use crate::blanks::{begins_unset, blank_slots};
 use crate::entries::{head_allowed, named_in};
@@ -23,7 +23,7 @@ use stack_state::FRAME_SLOTS;
 // A value of one of the rare kinds, or one that is not allowed or of no kind.
 #[inline(never)]
 fn pass_other(rows: usize, holder: usize, bytes: &[u8]) -> Result<(bool, &[u8]), Stop>
-    ensures { Gives (λ x. (x.0, x.1.now)) result (seen (kind_in rows holder bytes.now)) }
+    ensures { ReturnsRead (λ x. (x.0, x.1.now)) result (seen (kind_in rows holder bytes.now)) }
 {
     let (kind, rest) = kind_in(rows, holder, bytes)?;
     Ok((kind.is_some(), rest))
@@ -46,7 +46,7 @@ fn is_stack(holder: usize, bytes: &[u8]) -> bool
 #[inline(always)]
 #[tactic(auto, using(crate::proofs::NumberSlots::number_there), unfolding(crate::specs::Values::kind_in, crate::specs::Values::fields_in))]
 fn pass_kind(rows: usize, holder: usize, bytes: &[u8]) -> Result<(bool, &[u8]), Stop>
-    ensures { Gives (λ x. (x.0, x.1.now)) result (seen (kind_in rows holder bytes.now)) }
+    ensures { ReturnsRead (λ x. (x.0, x.1.now)) result (seen (kind_in rows holder bytes.now)) }
 {
     match bytes {
         [0, rest @ ..] => Ok((true, rest)),
@@ -77,7 +77,7 @@ fn pass_kind(rows: usize, holder: usize, bytes: &[u8]) -> Result<(bool, &[u8]), 
 // A slot with a spilled value, or of no form.
 #[inline(never)]
 fn pass_spilled(rows: usize, holder: usize, bytes: &[u8]) -> Result<(bool, &[u8]), Stop>
-    ensures { Gives (λ x. (x.0, x.1.now)) result (seen (slot_in rows holder bytes.now)) }
+    ensures { ReturnsRead (λ x. (x.0, x.1.now)) result (seen (slot_in rows holder bytes.now)) }
 {
     let (slot, rest) = slot_in(rows, holder, bytes)?;
     Ok((slot.is_some(), rest))
@@ -86,7 +86,7 @@ fn pass_spilled(rows: usize, holder: usize, bytes: &[u8]) -> Result<(bool, &[u8]
 #[inline(always)]
 #[tactic(auto, using(crate::proofs::NumberSlots::spilled_number), unfolding(crate::specs::Values::slot_in, crate::specs::Values::kind_in, crate::specs::Values::fields_in))]
 fn pass_slot(rows: usize, holder: usize, bytes: &[u8]) -> Result<(bool, &[u8]), Stop>
-    ensures { Gives (λ x. (x.0, x.1.now)) result (seen (slot_in rows holder bytes.now)) }
+    ensures { ReturnsRead (λ x. (x.0, x.1.now)) result (seen (slot_in rows holder bytes.now)) }
 {
     match bytes {
         [0, _, rest @ ..] => Ok((true, rest)),
@@ -103,7 +103,7 @@ fn pass_slot(rows: usize, holder: usize, bytes: &[u8]) -> Result<(bool, &[u8]), 
 }
 
 fn pass_kinds(rows: usize, holder: usize, bytes: &[u8]) -> Result<(bool, &[u8]), Stop>
-    ensures { Gives (λ x. (x.0, x.1.now)) result
+    ensures { ReturnsRead (λ x. (x.0, x.1.now)) result
         (seen (many (λ k. kind_in rows holder) 10 0 bytes.now)) }
 {
     let mut rest = bytes;
@@ -117,7 +117,7 @@ fn pass_kinds(rows: usize, holder: usize, bytes: &[u8]) -> Result<(bool, &[u8]),
 }
 
 fn pass_slots(rows: usize, holder: usize, bytes: &[u8]) -> Result<(bool, &[u8]), Stop>
-    ensures { Gives (λ x. (x.0, x.1.now)) result
+    ensures { ReturnsRead (λ x. (x.0, x.1.now)) result
         (seen (many (λ k. slot_in rows holder) frame_slots 0 bytes.now)) }
 {
     let blank = blank_slots(bytes);
@@ -139,7 +139,8 @@ fn returns_right(holder: usize, slot: u16) -> bool
 
 /// The innermost frame.
 fn pass_frame(rows: usize, holder: usize, bytes: &[u8]) -> Result<(bool, &[u8]), Stop>
-    ensures { Gives (λ x. (x.0, x.1.now)) result (seen (frame_in rows holder false bytes.now)) }
+    ensures { ReturnsRead (λ x. (x.0, x.1.now)) result
+        (seen (frame_in rows holder false bytes.now)) }
 {
     if bytes.len() < 2 {
         return Err(Stop::Short);
@@ -157,7 +158,8 @@ fn pass_registers<'a>(
     bytes: &'a [u8],
     room: &mut [Kind; 10],
 ) -> Result<(bool, &'a [u8]), Stop>
-    ensures { Gives (λ x. (x.0, x.1.now)) result (seen (frame_in rows holder true bytes.now)) }
+    ensures { ReturnsRead (λ x. (x.0, x.1.now)) result
+        (seen (frame_in rows holder true bytes.now)) }
 {
     if bytes.len() < 2 {
         return Err(Stop::Short);
@@ -176,7 +178,8 @@ fn pass_caller<'a>(
     bytes: &'a [u8],
     room: &mut [Kind; 10],
 ) -> Result<(bool, &'a [u8]), Stop>
-    ensures { Gives (λ x. (x.0, x.1.now)) result (seen (frame_in rows holder true bytes.now)) }
+    ensures { ReturnsRead (λ x. (x.0, x.1.now)) result
+        (seen (frame_in rows holder true bytes.now)) }
 {
     if begins_unset(bytes) {
         return pass_frame(rows, holder, bytes);
@@ -191,7 +194,7 @@ fn pass_callers<'a>(
     bytes: &'a [u8],
     room: &mut [Kind; 10],
 ) -> Result<(bool, &'a [u8]), Stop>
-    ensures { Gives (λ x. (x.0, x.1.now)) result (seen (callers_in rows count bytes.now)) }
+    ensures { ReturnsRead (λ x. (x.0, x.1.now)) result (seen (callers_in rows count bytes.now)) }
 {
     let mut rest = bytes;
     let mut allowed = true;
@@ -212,7 +215,7 @@ fn pass_rest<'a>(
     bytes: &'a [u8],
     room: &mut [Kind; 10],
 ) -> Result<(bool, &'a [u8]), Stop>
-    ensures { Gives (λ x. (x.0, x.1.now)) result
+    ensures { ReturnsRead (λ x. (x.0, x.1.now)) result
         (seen (rest_in image.now number slot outer bytes.now)) }
 {
     let rows = image.maps().len();
@@ -231,7 +234,7 @@ pub fn pass_entry<'a>(
     bytes: &'a [u8],
     room: &mut [Kind; 10],
 ) -> Result<(bool, &'a [u8]), Stop>
-    ensures { Gives (λ x. (x.0, x.1.now)) result (seen (entry_in image.now bytes.now)) }
+    ensures { ReturnsRead (λ x. (x.0, x.1.now)) result (seen (entry_in image.now bytes.now)) }
 {
     if bytes.len() < 7 {
         return Err(Stop::Short);

@@ -7,7 +7,7 @@ ghost use Rattle.table_entries.specs.Entries.{Entry, IsAllowed, entry_in, entry_
 ghost use Rattle.table_entries.specs.declared.entries.Head.{Head};
 ghost use Rattle.table_entries.specs.declared.stops.Stop.{Stop};
 ghost use Rattle.table_entries.specs.Growing.{with_place};
-ghost use Rattle.table_entries.specs.Tables.{Kept, KeepsEntries, table_read, entry_at, count_of, ArePlaced, count_in, body_in, fault_of, earlier};
+ghost use Rattle.table_entries.specs.Tables.{TableView, KeepsEntries, table_read, entry_at, count_of, ArePlaced, count_in, body_in, fault_of, earlier};
 
 use crate::entries::{Head, read_entry};
 use crate::faults::TableFault;
@@ -33,9 +33,9 @@ pub struct Table<'a> {
 }
 
 impl<'a> Model for Table<'a> {
-    ghost use Rattle.table_entries.specs.Tables.{Kept};
+    ghost use Rattle.table_entries.specs.Tables.{TableView};
 
-    ghost Value = { Kept };
+    ghost Value = { TableView };
 
     ghost view = { λ t. record { bytes = t.bytes.now; places = t.places.items } };
 }

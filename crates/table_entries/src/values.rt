@@ -3,7 +3,7 @@
 ghost use Rattle.std.specs.Prelude.{◌≡◌, ◌≤◌, length, MatchResult, Ok, Err};
 ghost use Rattle.table_entries.specs.Values.{bits_of, wide_of, low_of, scalar_in, packet_in, stack_in, map_in, value_in, null_in, fields_in, kind_in, slot_in, marks_in, spilled, has_no_part, limits_of, limits_in, range_of, scalar_of, packet_of, lacks_identity, bits_in, wide_in, low_in};
 ghost use Rattle.std.specs.Option.{option_map};
-ghost use Rattle.table_entries.specs.Reading.{Gives};
+ghost use Rattle.table_entries.specs.Reading.{ReturnsRead};
 
 use crate::slices::{skip, u32_at, u64_at};
 use crate::stops::Stop;
@@ -274,7 +274,7 @@ fn fields_in(
     kind: u8,
     bytes: &[u8],
 ) -> Result<(Option<Kind>, &[u8]), Stop>
-    ensures { Gives (λ x. (x.0, x.1.now)) result (fields_in rows holder kind bytes.now) }
+    ensures { ReturnsRead (λ x. (x.0, x.1.now)) result (fields_in rows holder kind bytes.now) }
 {
     match kind {
         0 => Ok((Some(Kind::Unset), bytes)),
@@ -323,7 +323,7 @@ fn fields_in(
 /// A value.
 #[tactic(auto, unfolding(crate::specs::Values::kind_in))]
 pub fn kind_in(rows: usize, holder: usize, bytes: &[u8]) -> Result<(Option<Kind>, &[u8]), Stop>
-    ensures { Gives (λ x. (x.0, x.1.now)) result (kind_in rows holder bytes.now) }
+    ensures { ReturnsRead (λ x. (x.0, x.1.now)) result (kind_in rows holder bytes.now) }
 {
     match bytes {
         [] => Err(Stop::Short),
@@ -333,7 +333,7 @@ pub fn kind_in(rows: usize, holder: usize, bytes: &[u8]) -> Result<(Option<Kind>
 
 /// The marks of written bytes.
 fn marks_in(bytes: &[u8]) -> Result<(Option<Slot>, &[u8]), Stop>
-    ensures { Gives (λ x. (x.0, x.1.now)) result (marks_in bytes.now) }
+    ensures { ReturnsRead (λ x. (x.0, x.1.now)) result (marks_in bytes.now) }
 {
     match bytes {
         [] => Err(Stop::Short),
@@ -354,7 +354,7 @@ fn spilled(kind: Option<Kind>) -> Option<Slot>
 /// A stack slot: what is known of its bytes.
 #[tactic(auto, unfolding(crate::specs::Values::slot_in))]
 pub fn slot_in(rows: usize, holder: usize, bytes: &[u8]) -> Result<(Option<Slot>, &[u8]), Stop>
-    ensures { Gives (λ x. (x.0, x.1.now)) result (slot_in rows holder bytes.now) }
+    ensures { ReturnsRead (λ x. (x.0, x.1.now)) result (slot_in rows holder bytes.now) }
 {
     match bytes {
         [] => Err(Stop::Short),

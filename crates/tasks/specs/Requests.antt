@@ -17,16 +17,16 @@ pub record ProofFiles : Type 0 where
   pub table : List ℕ
 
 -- what is asked for, on files by their paths
-pub data Request : Type 0 where
-  Trace : RunFiles → ℕ → Request
+pub data TaskRequest : Type 0 where
+  Trace : RunFiles → ℕ → TaskRequest
   -- where a proof table is given, that is tested in place of verifying the program
-  Run : RunFiles → Option (List ℕ) → Request
-  Verify : List ℕ → Request
-  Prove : ProofFiles → Request
-  Recheck : ProofFiles → Request
+  Run : RunFiles → Option (List ℕ) → TaskRequest
+  Verify : List ℕ → TaskRequest
+  Prove : ProofFiles → TaskRequest
+  Recheck : ProofFiles → TaskRequest
   -- of a text, an image
-  Assemble : List ℕ → List ℕ → Request
-  Disassemble : List ℕ → Request
+  Assemble : List ℕ → List ℕ → TaskRequest
+  Disassemble : List ℕ → TaskRequest
 
 -- ---- what a task is of
 
@@ -36,7 +36,7 @@ files_of paths = record { image = paths.image.now; frames = paths.frames.now; ou
 abbrev pub proof_files_of : Proof → ProofFiles
 proof_files_of proof = record { image = proof.image.now; table = proof.table.now }
 
-abbrev pub request_of : Task → Request
+abbrev pub request_of : Task → TaskRequest
 request_of (task.Trace paths limit) = Trace (files_of paths) limit.steps
 request_of (task.Run paths table) = Run (files_of paths) (option_map (λ path. path.now) table)
 request_of (task.Verify path) = Verify path.now

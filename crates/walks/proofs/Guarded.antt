@@ -32,7 +32,7 @@ use Rattle.walks.proofs.Living.{needs_live}
 use Rattle.walks.proofs.Exits.{ShowsNoAction}
 use Rattle.walks.proofs.OnNumbers.{NumbersIn, RefusesStep-performs, performs_goes}
 use Rattle.walks.proofs.OnPackets.{packet_from, field_goes, copy_goes, ahead_goes, load_passes, load_signed_passes, end_test, test_goes}
-use Rattle.walks.proofs.GuardedParts.{AtPacket, AtEnd, AtCopy, AtAhead, AtTest, InBody, AtAnswer, AtExit, Part, part_at, one_insn, IsGuarded-no_calls}
+use Rattle.walks.proofs.GuardedParts.{AtPacket, AtEnd, AtCopy, AtAhead, AtTest, InBody, AtAnswer, AtExit, GuardedPart, part_at, one_insn, IsGuarded-no_calls}
 use Rattle.walks.proofs.Guards.{Guards, free_own, numbers_needed, body_needs}
 use Rattle.walks.proofs.GuardedWalks.{plain_form, load_parts, WalksTo-guards}
 
@@ -91,7 +91,7 @@ guards_accepted p len g s i here h = of (part_at p len s.slot i g here) where
       let set = numbers_needed p len g s i h here free in
       (tests_pass s i (needs_reads (NumbersIn s) i set) own, λ e b c fails. performs_goes p s i e b c plain set h.knows.one fails)
 
-  of : Part g.tail s.slot → Passes p s i
+  of : GuardedPart g.tail s.slot → Passes p s i
   of (AtPacket at) =
       let one = one_insn p s.slot 0 i (Load U32 R2 (record { base = R1; offset = pos 0 })) at g.packet here in
       subst (Passes p s) one (rw (h.context (omega (arith, at))) refl, λ e b c fails. absurd (field_goes p.maps s R1 (pos 0) e (h.context (omega (arith, at))) (inl refl) fails))

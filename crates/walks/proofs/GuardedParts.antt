@@ -15,17 +15,17 @@ use Rattle.walks.proofs.Living.{CallsNothing, none_called}
 -- ---- slots
 
 -- where a slot of a guarded program is
-pub data Part (tail slot : ℕ) : Type 0 where
-  AtPacket : slot ≡ 0 → Part tail slot
-  AtEnd : slot ≡ 1 → Part tail slot
-  AtCopy : slot ≡ 2 → Part tail slot
-  AtAhead : slot ≡ 3 → Part tail slot
-  AtTest : slot ≡ 4 → Part tail slot
-  InBody : 5 ≤ slot → slot < tail → Part tail slot
-  AtAnswer : slot ≡ tail → Part tail slot
-  AtExit : slot ≡ tail + 1 → Part tail slot
+pub data GuardedPart (tail slot : ℕ) : Type 0 where
+  AtPacket : slot ≡ 0 → GuardedPart tail slot
+  AtEnd : slot ≡ 1 → GuardedPart tail slot
+  AtCopy : slot ≡ 2 → GuardedPart tail slot
+  AtAhead : slot ≡ 3 → GuardedPart tail slot
+  AtTest : slot ≡ 4 → GuardedPart tail slot
+  InBody : 5 ≤ slot → slot < tail → GuardedPart tail slot
+  AtAnswer : slot ≡ tail → GuardedPart tail slot
+  AtExit : slot ≡ tail + 1 → GuardedPart tail slot
 
-part_behind : (tail slot : ℕ) → 5 ≤ slot → slot < tail + 2 → Part tail slot
+part_behind : (tail slot : ℕ) → 5 ≤ slot → slot < tail + 2 → GuardedPart tail slot
 part_behind tail slot behind below =
     elim (cases_order slot tail) [
       | inl same ↦ AtAnswer same
@@ -33,7 +33,7 @@ part_behind tail slot behind below =
       | inr (inr after) ↦ AtExit (omega (arith, after, below))
     ]
 
-part_of : (tail slot : ℕ) → slot < tail + 2 → Part tail slot
+part_of : (tail slot : ℕ) → slot < tail + 2 → GuardedPart tail slot
 part_of tail zero below = AtPacket refl
 part_of tail (suc zero) below = AtEnd refl
 part_of tail (suc (suc zero)) below = AtCopy refl
@@ -42,7 +42,7 @@ part_of tail (suc (suc (suc (suc zero)))) below = AtTest refl
 part_of tail (suc (suc (suc (suc (suc slot))))) below = part_behind tail (suc (suc (suc (suc (suc slot))))) (omega arith) below
 
 pub part_at : (p : Program) (len slot : ℕ) (i : Insn) → (g : IsGuarded p len) → fetch p slot ≡ Some i
-    → Part g.tail slot
+    → GuardedPart g.tail slot
 part_at p len slot i g here =
     let inside = BeginsInsn-inside p slot (fetch-BeginsInsn p slot i here) in
     let ends = g.ends in
@@ -63,7 +63,7 @@ calls_at i j one none = subst CallsNothing one none
 
 pub IsGuarded-calls : (p : Program) (len slot : ℕ) (i : Insn) → IsGuarded p len → fetch p slot ≡ Some i → CallsNothing i
 IsGuarded-calls p len slot i g here = of (part_at p len slot i g here) where
-  of : Part g.tail slot → CallsNothing i
+  of : GuardedPart g.tail slot → CallsNothing i
   of (AtPacket at) = calls_at i _ (one_insn p slot 0 i _ at g.packet here) tt
   of (AtEnd at) = calls_at i _ (one_insn p slot 1 i _ at g.packet_end here) tt
   of (AtCopy at) = calls_at i _ (one_insn p slot 2 i _ at g.copy here) tt
@@ -90,7 +90,7 @@ first_no_join p len slot g early (from, jumps) = of (part_at p len from j.insn g
   low : from < 4
   low = let up = g.forward.forward from j.insn j.by j.here j.distance in let at = j.at in omega (arith, up, at, early)
 
-  of : Part g.tail from → ⊥
+  of : GuardedPart g.tail from → ⊥
   of (AtPacket at) = jumps_not j.insn _ j.by (one_insn p from 0 j.insn _ at g.packet j.here) refl j.distance
   of (AtEnd at) = jumps_not j.insn _ j.by (one_insn p from 1 j.insn _ at g.packet_end j.here) refl j.distance
   of (AtCopy at) = jumps_not j.insn _ j.by (one_insn p from 2 j.insn _ at g.copy j.here) refl j.distance

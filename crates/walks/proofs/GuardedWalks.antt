@@ -30,7 +30,7 @@ use Rattle.walks.proofs.Living.{needs_live, live_before}
 use Rattle.walks.proofs.OnNumbers.{NumbersIn, StepsToWays-made, KnowsNumbers}
 use Rattle.walks.proofs.OnPackets.{packet_from, GivesKind, packet_gives, packet_end_gives, copy_gives, ahead_gives, load_gives, load_signed_gives, end_test, Proves, ShowsBytes, test_leaves}
 use Rattle.walks.proofs.Plain.{PathTo-more}
-use Rattle.walks.proofs.GuardedParts.{AtPacket, AtEnd, AtCopy, AtAhead, AtTest, InBody, AtAnswer, AtExit, Part, part_at, one_insn, IsGuarded-no_calls}
+use Rattle.walks.proofs.GuardedParts.{AtPacket, AtEnd, AtCopy, AtAhead, AtTest, InBody, AtAnswer, AtExit, GuardedPart, part_at, one_insn, IsGuarded-no_calls}
 use Rattle.walks.proofs.Guards.{put_of, known_aside, Guards, start_guards, none_known, prologue, numbers_needed, body_needs, body_free, plain_step, load_step, body_keeps, Guards-forgets}
 
 -- ---- steps
@@ -134,7 +134,7 @@ makes_guards p len g s t insn taken first other there makes among h = of (part_a
       let far = g.behind in
       plain_step p len g s t i taken first other h (omega (arith, past, far)) here plain set made among (λ below. absurd (omega (arith, up, past, below)))
 
-  of : Part g.tail s.slot → Guards p len g t
+  of : GuardedPart g.tail s.slot → Guards p len g t
   of (AtPacket at) =
       let one = one_insn p s.slot 0 insn (Load U32 R2 (record { base = R1; offset = pos 0 })) at g.packet there in
       let made = subst (λ x. StepsToWays p s x taken first other) (sym one) makes in

@@ -22,7 +22,7 @@ use Rattle.stack_state.specs.declared.states.State.{State}
 use Rattle.stack_state.specs.Places.{kind_of, with_register, go_to}
 use Rattle.stack_state.proofs.PlaceLaws.{kind_of-with_other}
 use Rattle.stack_state.specs.Starts.{start}
-use Rattle.branch_refine.specs.Refining.{IsNumberKind, Names}
+use Rattle.branch_refine.specs.Refining.{IsNumberKind, NamesRegister}
 use Rattle.transfer.specs.declared.Ways.{Ways}
 use Rattle.transfer.specs.Exact.{StepsToWays, SetsRegister}
 use Rattle.control_flow.specs.Liveness.{IsLive}
@@ -273,7 +273,7 @@ sets_aside rows s a i d written free h =
     ap (λ (x : State). kind_of x R2) h.next ∙ kind_of-go_to (with_register s h.register h.kind) (s.slot + slots_of i) R2
     ∙ kind_of-with_other s h.register R2 h.kind (λ e. subst IsFree (sym (e ∙ same)) free)
 
-unnamed : (c : Cond) → IsFree c.register → IsFreeOperand c.operand → Names c R2 → ⊥
+unnamed : (c : Cond) → IsFree c.register → IsFreeOperand c.operand → NamesRegister c R2 → ⊥
 unnamed c left right (inl is) = subst IsFree is left
 unnamed c left right (inr is) = subst IsFreeOperand is right
 

@@ -30,7 +30,7 @@ IsPlain-no_calls p plain = λ slot i here. no_call i (plain.forms slot i here)
 -- ---- walks
 
 -- some path comes to the state's slot, and what it wrote and is live is known there
-record IsKnown (p : Program) (s : State) : Type 0 where
+record KnowsWritten (p : Program) (s : State) : Type 0 where
   steps : ℕ
   written : List Reg
   path : PathTo p steps s.slot written
@@ -38,7 +38,7 @@ record IsKnown (p : Program) (s : State) : Type 0 where
   knows : KnowsNumbers s known
   live : (r : Reg) → IsLive p r s.slot → IsOneOf written r → IsOneOf known r
 
-needed : (p : Program) (s : State) (i : Insn) → IsPlain p → fetch p s.slot ≡ Some i → (h : IsKnown p s) → Each (NumbersIn s) (needs i)
+needed : (p : Program) (s : State) (i : Insn) → IsPlain p → fetch p s.slot ≡ Some i → (h : KnowsWritten p s) → Each (NumbersIn s) (needs i)
 needed p s i plain here h =
     let written = plain.written h.steps s.slot h.written i h.path here in
     let calls = plain_calls i (plain.forms s.slot i here) in
@@ -56,7 +56,7 @@ unfolding PathTo
 PathTo-more p n from slot written i path here on = (from, written, i, path, here, on, refl)
 
 -- also once dead registers are forgotten
-known_forgets : (p : Program) (a b : State) → Forgets p a b → IsKnown p a → IsKnown p b
+known_forgets : (p : Program) (a b : State) → Forgets p a b → KnowsWritten p a → KnowsWritten p b
 known_forgets p a b f h =
     let rest = KnowsNumbers-forgets p a b h.known f h.knows in
     let slot : a.slot ≡ b.slot = sym (Forgets-slot p a b f) in record {
@@ -70,7 +70,8 @@ known_forgets p a b f h =
           rest.live r before (h.live r before among);
     }
 
-step_known : (p : Program) (s t : State) → IsPlain p → StepsTo p s t → IsKnown p s → IsKnown p t
+step_known : (p : Program) (s t : State) → IsPlain p → StepsTo p s t → KnowsWritten p s
+    → KnowsWritten p t
 step_known p s t plain step h =
     let i = step.insn in
     let form = plain.forms s.slot i step.here in
@@ -86,12 +87,12 @@ step_known p s t plain step h =
           (elim (live_before p s.slot step.next.slot i r step.here (plain_calls i form) follows live) [ inl written ↦ inl written | inr early ↦ inr (h.live r early) ]) among;
     })
 
-walk_known : (p : Program) (n : ℕ) (a b : State) → IsPlain p → HasPath p n a b → IsKnown p a → IsKnown p b
+walk_known : (p : Program) (n : ℕ) (a b : State) → IsPlain p → HasPath p n a b → KnowsWritten p a → KnowsWritten p b
 unfolding HasPath
-walk_known p zero a b plain h known = subst (IsKnown p) (sym h) known
+walk_known p zero a b plain h known = subst (KnowsWritten p) (sym h) known
 walk_known p (suc n) a b plain h known = walk_known p n h.0 b plain h.2 (step_known p a h.0 plain h.1 known)
 
-start_known : (p : Program) → IsKnown p start
+start_known : (p : Program) → KnowsWritten p start
 unfolding start PathTo
 start_known p = record {
   steps = 0;

@@ -10,8 +10,8 @@ use Rattle.std.specs.FinMap.Entries.{by_order, find, is_sorted, find-put, find-w
 use Rattle.isa_model.specs.Machine.MapContents.{key_order, is_key, at_key, with_key, without_key}
 use Rattle.map_indexes.specs.Rows.{with_row}
 use Rattle.map_indexes.specs.RowLaws.{row_at-with_row, row_at-other}
-use Rattle.map_indexes.specs.Slots.{Places}
-use Rattle.map_indexes.specs.SlotLaws.{is_key-equal}
+use Rattle.map_indexes.specs.PlaceKeys.{Places}
+use Rattle.map_indexes.specs.PlaceKeyLaws.{is_key-equal}
 use Rattle.maps.specs.ContentLaws.{changed, find-changed, is_sorted-changed}
 use Rattle.maps.proofs.ContentLaws.{same_contents}
 use Rattle.word_relation.specs.Related.{by_place}

@@ -13,7 +13,7 @@ use Rattle.isa_model.specs.Machine.MapHelpers.{serial_given, serial_after, put_b
 use Rattle.isa_model.specs.Machine.MachineStates.{IsState}
 use Rattle.isa_model.proofs.HelperLaws.{value_serials_given}
 use Rattle.map_indexes.specs.RowLaws.{row_end}
-use Rattle.map_indexes.specs.Slots.{Places}
+use Rattle.map_indexes.specs.PlaceKeys.{Places}
 use Rattle.map_indexes.proofs.SlotLaws.{is_key-itself}
 use Rattle.maps.specs.Changes.{Writes}
 use Rattle.maps.specs.ContentLaws.{changed, find-changed}

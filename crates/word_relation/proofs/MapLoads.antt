@@ -13,7 +13,7 @@ use Rattle.isa_model.specs.Code.Instructions.{Program}
 use Rattle.isa_model.specs.Machine.States.{State, Content, content_of}
 use Rattle.isa_model.specs.Machine.Steps.{one_serial, value_pointer}
 use Rattle.isa_model.specs.Machine.MachineStates.{IsState}
-use Rattle.map_indexes.specs.Slots.{Places}
+use Rattle.map_indexes.specs.PlaceKeys.{Places}
 use Rattle.map_indexes.proofs.ArrayLaws.{get_index}
 use Rattle.maps.specs.Maps.{MapState, map_at}
 use Rattle.word_machine.specs.Addresses.{values_base}

@@ -17,7 +17,7 @@ use Rattle.isa_model.specs.Running.Ends.{After, Ends as ModelEnds}
 use Rattle.isa_model.proofs.EndsLaws.{Reaches-then}
 use Rattle.word_machine.specs.Words.{Words}
 use Rattle.word_machine.specs.Flows.{AccessesFit}
-use Rattle.word_machine.specs.Runs.{CanStepTo, EndsSafely, StepsTo, Reaches, Exits}
+use Rattle.word_machine.specs.Runs.{CanStepTo, EndsSafely, WordsStepTo, WordsReach, Exits}
 use Rattle.word_relation.specs.Related.{Layout, Related}
 use Rattle.word_relation.proofs.Moves.{OkMove, not_last, moves}
 use Rattle.word_relation.specs.Running.{Finishes, Tracks}
@@ -104,7 +104,7 @@ module _ (p : Program) (clock : ℕ → ℕ) (program : IsProgram p) (answers : 
   some_left s zero h = absurd h
   some_left s (suc m) h = (m, refl, h)
 
-  one_more : (s : State) (n k : ℕ) (u v : Words) → Tracks p clock s n k u → StepsTo p clock u v → Tracks p clock s n (suc k) v
+  one_more : (s : State) (n k : ℕ) (u v : Words) → Tracks p clock s n k u → WordsStepTo p clock u v → Tracks p clock s n (suc k) v
   one_more s n k u v F S =
       let (m, left, ends) = some_left F.state F.left F.ends in
       let found : fetch p F.state.slot ≡ Some S.insn = ap (fetch p) (sym F.related.slot) ∙ S.found in
@@ -128,8 +128,8 @@ module _ (p : Program) (clock : ℕ → ℕ) (program : IsProgram p) (answers : 
       goes m left (Trapped x) e ends move keeps = absurd ends
 
   pub related_Reaches : (k n : ℕ) (a : Layout) (s : State) (w v : Words) → Related p a s w → IsState p s → ModelEnds p clock s n
-      → Reaches p clock w k v → Tracks p clock s n k v
-  unfolding Reaches
+      → WordsReach p clock w k v → Tracks p clock s n k v
+  unfolding WordsReach
   related_Reaches zero n a s w v R K h r = record {
     state = s;
     layout = a;

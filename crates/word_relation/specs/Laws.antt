@@ -6,7 +6,7 @@ use Rattle.isa_model.specs.Machine.States.{State}
 use Rattle.isa_model.specs.Machine.MachineStates.{IsProgram, IsClock, IsState}
 use Rattle.isa_model.specs.Running.Ends.{Ends as ModelEnds}
 use Rattle.word_machine.specs.Words.{Words}
-use Rattle.word_machine.specs.Runs.{EndsSafely, Reaches, Exits}
+use Rattle.word_machine.specs.Runs.{EndsSafely, WordsReach, Exits}
 use Rattle.word_relation.specs.Related.{Layout, Related}
 use Rattle.maps.specs.Maps.{MapState}
 use Rattle.word_relation.specs.Running.{Tracks, Finishes}
@@ -21,7 +21,7 @@ EndsInWords = (p : Program) (clock : ℕ → ℕ) → IsProgram p → IsClock cl
 -- where moves lead, steps lead to a related state
 abbrev pub MovesAreSteps : Type 0
 MovesAreSteps = (p : Program) (clock : ℕ → ℕ) → IsProgram p → IsClock clock → (k n : ℕ) (a : Layout) (s : State) (w v : Words)
-    → Related p a s w → IsState p s → ModelEnds p clock s n → Reaches p clock w k v → Tracks p clock s n k v
+    → Related p a s w → IsState p s → ModelEnds p clock s n → WordsReach p clock w k v → Tracks p clock s n k v
 
 -- an exit of words is the model's, with the same number after as many steps
 abbrev pub ExitsAgree : Type 0

@@ -13,7 +13,7 @@ use Rattle.tasks.specs.declared.Task.{Task}
 use Rattle.tasks.specs.declared.WordsError.{WordsError}
 use Rattle.tasks.specs.declared.WordsError.TheVariants.{Wrong, Memory}
 use Rattle.words.specs.CommandLine.{program, asm, dis, verify, run, trace, prove, recheck}
-use Rattle.tasks.specs.Requests.{Request}
+use Rattle.tasks.specs.Requests.{TaskRequest}
 use Rattle.words.specs.Asked.{AsksFor, TellsOf, asked, request_by, request_met, unless_faulty}
 
 -- clap says of this command line what a parse finds, and how it fails
@@ -25,7 +25,7 @@ is_simple_and_free-program : is_simple_and_free program ≡ true
 unfolding program asm dis verify run trace prove recheck
 is_simple_and_free-program = refl
 
-unless_faulty-among : (k : ErrorKind) (kinds : Kinds) (r : Option Request) → IsAmong k kinds → unless_faulty kinds r ≡ None
+unless_faulty-among : (k : ErrorKind) (kinds : Kinds) (r : Option TaskRequest) → IsAmong k kinds → unless_faulty kinds r ≡ None
 unless_faulty-among k [] r among = absurd among
 unless_faulty-among k (x ∷ xs) r among = refl
 
@@ -72,7 +72,7 @@ pub parsed-reads : (a : App) (words : List (List ℕ)) (m : ArgMatches) (name : 
 parsed-reads a words m name rows r is h found e f tells =
     let met : subcommand_rows_of m ≡ Some (name, rows) = met-some (subcommand_rows_of m) name rows (e ∙ name-met m) f in
     let same : request_by name rows ≡ asked words = sym (asked-parsed a words m is h found ∙ ap request_met met) in
-    subst (λ (o : Option Request). TellsOf o r) same tells
+    subst (λ (o : Option TaskRequest). TellsOf o r) same tells
 
 -- and met none
 pub parsed-none : (a : App) (words : List (List ℕ)) (m : ArgMatches) → a ≡ program

@@ -11,7 +11,7 @@ use Rattle.clap.specs.Faults.{fault_of}
 use Rattle.tasks.specs.declared.Task.{Task}
 use Rattle.tasks.specs.declared.WordsError.{WordsError}
 use Rattle.tasks.specs.declared.WordsError.TheVariants.{Wrong, Memory}
-use Rattle.tasks.specs.Requests.{Request, RunFiles, ProofFiles, Trace, Run, Verify, Prove, Recheck, Assemble, Disassemble, request_of}
+use Rattle.tasks.specs.Requests.{TaskRequest, RunFiles, ProofFiles, Trace, Run, Verify, Prove, Recheck, Assemble, Disassemble, request_of}
 use Rattle.isa_model.specs.Code.Limits.{max_steps}
 use Rattle.words.specs.CommandLine.{program}
 
@@ -44,17 +44,17 @@ abbrev pub limit_in : List Row → Option ℕ
 limit_in rows = limit_or_most (first_of (codes "limit") rows)
 
 -- with a proof table, if one is given
-abbrev pub run_of : List Row → Option Request
+abbrev pub run_of : List Row → Option TaskRequest
 run_of rows = option_map (λ files. Run files (first_of (codes "table") rows)) (files_in rows)
 
-abbrev pub trace_of : List Row → Option Request
+abbrev pub trace_of : List Row → Option TaskRequest
 trace_of rows = option_and_then (λ files. option_map (Trace files) (limit_in rows)) (files_in rows)
 
-abbrev pub assembly_of : List Row → Option Request
+abbrev pub assembly_of : List Row → Option TaskRequest
 assembly_of rows = option_and_then (λ text. option_map (Assemble text) (first_of (codes "image") rows)) (first_of (codes "text") rows)
 
 -- what the command of this name asks for with these arguments
-abbrev pub request_by : List ℕ → List Row → Option Request
+abbrev pub request_by : List ℕ → List Row → Option TaskRequest
 request_by name rows =
     if bytes_eq name (codes "run") then run_of rows
     else if bytes_eq name (codes "verify") then option_map Verify (first_of (codes "image") rows)
@@ -68,16 +68,16 @@ request_by name rows =
 -- ---- what the words ask for
 
 -- the command that is met, with its arguments
-abbrev pub request_met : Option (List ℕ × List Row) → Option Request
+abbrev pub request_met : Option (List ℕ × List Row) → Option TaskRequest
 request_met = option_and_then (λ met. request_by met.0 met.1)
 
 -- words with a fault ask for nothing
-abbrev pub unless_faulty : Kinds → Option Request → Option Request
+abbrev pub unless_faulty : Kinds → Option TaskRequest → Option TaskRequest
 unless_faulty [] request = request
 unless_faulty (fault ∷ faults) request = None
 
 -- what the words ask for: what their command asks for; the first word is the program's name
-unfoldable pub asked : List (List ℕ) → Option Request
+unfoldable pub asked : List (List ℕ) → Option TaskRequest
 asked words = unless_faulty (fault_of program words) (request_met (subcommand_of program words))
 
 -- ---- what was read of them
@@ -88,7 +88,7 @@ IsWrong (Wrong text) = Unit {0}
 IsWrong Memory = ⊥
 
 -- the task that the words ask for, or that they ask for none; or memory ran out
-abbrev pub TellsOf : Option Request → Result Task WordsError → Type 0
+abbrev pub TellsOf : Option TaskRequest → Result Task WordsError → Type 0
 TellsOf request (Ok task) = request ≡ Some (request_of task)
 TellsOf request (Err (Wrong text)) = request ≡ None
 TellsOf request (Err Memory) = Unit {0}

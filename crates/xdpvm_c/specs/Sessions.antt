@@ -6,7 +6,7 @@ use Rattle.isa_model.specs.Reporting.Reports.{starting_contents}
 use Rattle.machine.specs.declared.machines.Exit.{Exit}
 use Rattle.machine.specs.Running.{Running, AnswersRun}
 use Rattle.machine.specs.Entries.{row_at}
-use Rattle.xdpvm_c.specs.Verdicts.{Accepts}
+use Rattle.xdpvm_c.specs.Verdicts.{IsAcceptedImage}
 
 -- a session is open, and this is so of its machine
 pub record HoldsOpen (held : Option Running) (fact : Running → Type 0) : Type 0 where
@@ -25,11 +25,11 @@ pub record StaysOpen (old new : Option Running) (relation : Running → Running 
 -- the bytes are an accepted image, and the session holds its program, with maps as they start
 pub record OpensSession (bytes : List ℕ) (held : Option Running) : Type 0 where
   pub bound : ℕ
-  pub accepts : Accepts bytes bound
+  pub accepts : IsAcceptedImage bytes bound
   pub is : held ≡ Some (record { program = accepts.program; bound = bound; contents = starting_contents accepts.program.maps })
 
 -- the run of the open program on this packet has this exit, and leaves this packet; program and bound stay, and the maps go on
-pub record RunsOn (old new : Option Running) (head : FrameHead) (packet : List ℕ) (exit : Exit) (after : List ℕ) : Type 0 where
+pub record RunsSession (old new : Option Running) (head : FrameHead) (packet : List ℕ) (exit : Exit) (after : List ℕ) : Type 0 where
   pub machine : Running
   pub left : List Entries
   pub coming : ℕ → ℕ

@@ -7,7 +7,7 @@ use Rattle.host.specs.declared.tallies.Tally.{Tally}
 use Rattle.host.specs.Accepted.{RunsWhole}
 use Rattle.xdpvm_c.specs.declared.streaming.Streamed.{Streamed}
 use Rattle.xdpvm_c.specs.Crossing.{filled}
-use Rattle.xdpvm_c.specs.Verdicts.{Accepts}
+use Rattle.xdpvm_c.specs.Verdicts.{IsAcceptedImage}
 
 abbrev pub fault_number : Fault → ℕ
 fault_number BadMagic = 1
@@ -38,7 +38,7 @@ WritesStream a source report sent tally =
 -- the bytes are an accepted image, and the buffers hold what a run of its program over the stream writes
 pub record RunsStream (bytes source old_report old_sent new_report new_sent : List ℕ) (out : Streamed) : Type 0 where
   pub bound : ℕ
-  pub accepts : Accepts bytes bound
+  pub accepts : IsAcceptedImage bytes bound
   pub report : List ℕ
   pub sent : List ℕ
   pub tally : Tally

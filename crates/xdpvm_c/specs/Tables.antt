@@ -11,7 +11,7 @@ use Rattle.xdpvm_c.specs.declared.rechecks.Rechecked.{Rechecked}
 use Rattle.image.specs.declared.errors.ImageError.{ImageError}
 use Rattle.image.specs.Refusals.{refusal_of}
 use Rattle.xdpvm_c.specs.Crossing.{FillsBuffer}
-use Rattle.xdpvm_c.specs.Texts.{image_text, TellsTable}
+use Rattle.xdpvm_c.specs.Texts.{image_text, TellsTableRefusal}
 use Rattle.xdpvm_c.specs.Verdicts.{IsNoImage}
 
 -- a rule that is broken, at an entry; `said` is how many bytes the text has
@@ -47,12 +47,12 @@ pub record TellsRefusedTable (p : Program) (table old new : List ℕ) (out : Rec
   pub not_memory : is_table_memory error ≡ false
   pub told : out ≡ broken error out.said
   pub text : List ℕ
-  pub tells : TellsTable p table error text
+  pub tells : TellsTableRefusal p table error text
   pub fills : FillsBuffer old new out.said text
 
 -- the bytes are no image, or the table is refused; and the buffer says that
-abbrev pub RefusesTable : List ℕ → List ℕ → List ℕ → List ℕ → Rechecked → Type 0
-RefusesTable bytes table old new out =
+abbrev pub FillsTableRefusal : List ℕ → List ℕ → List ℕ → List ℕ → Rechecked → Type 0
+FillsTableRefusal bytes table old new out =
     ((error : ImageError) × (refusal_of bytes ≡ Some error) × (out ≡ breaks out.said 0 0) × FillsBuffer old new out.said (image_text error))
     ⊎ ((program : Program) × (bytes ≡ image_bytes program) × TellsRefusedTable program table old new out)
 

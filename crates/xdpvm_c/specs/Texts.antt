@@ -99,7 +99,7 @@ TellsEntry p bytes error text =
     × (text ≡ slot_place slot ++ (codes ": " ++ (line_of insn ++ (step_sentence error ++ known)))))
 
 -- the same after the front
-pub record TellsTable (p : Program) (bytes : List ℕ) (error : TableError) (text : List ℕ) : Type 0 where
+pub record TellsTableRefusal (p : Program) (bytes : List ℕ) (error : TableError) (text : List ℕ) : Type 0 where
   pub entry : List ℕ
   pub is_entry : TellsEntry p bytes error entry
   pub text_is : text ≡ table_front p error ++ entry

@@ -31,7 +31,7 @@ end_of (Trap reason steps) limit = record { r0 = 0; steps = steps; kind = 1; rea
 end_of Limit limit = record { r0 = 0; steps = limit; kind = 2; reason = 0 }
 
 -- the bytes are an image, and the run of its program within the limit, on maps as they start, ends so and leaves this packet
-pub record Traces (bytes : List ℕ) (head : FrameHead) (packet : List ℕ) (limit : ℕ) (end : TracedEnd) (after : List ℕ) : Type 0 where
+pub record AnswersTrace (bytes : List ℕ) (head : FrameHead) (packet : List ℕ) (limit : ℕ) (end : TracedEnd) (after : List ℕ) : Type 0 where
   pub program : Program
   pub spelled : bytes ≡ image_bytes program
   pub is_image : IsImage program

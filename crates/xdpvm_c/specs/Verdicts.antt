@@ -22,7 +22,7 @@ use Rattle.xdpvm_c.specs.Texts.{image_text, source_text, TellsProgram}
 -- ---- images
 
 -- the bytes are an image, and every run of its program exits within the bound, without a trap
-pub record Accepts (bytes : List ℕ) (bound : ℕ) : Type 0 where
+pub record IsAcceptedImage (bytes : List ℕ) (bound : ℕ) : Type 0 where
   pub program : Program
   pub spelled : bytes ≡ image_bytes program
   pub verified : IsVerified (record { program = program; bound = bound })
@@ -32,14 +32,14 @@ abbrev pub IsNoImage : List ℕ → Type 0
 IsNoImage bytes = (error : ImageError) × (refusal_of bytes ≡ Some error)
 
 -- they are one, whose program is refused
-pub record RefusesProgram (bytes : List ℕ) (refusal : Refusal) (slot : ℕ) : Type 0 where
+pub record HasRefusedProgram (bytes : List ℕ) (refusal : Refusal) (slot : ℕ) : Type 0 where
   pub program : Program
   pub spelled : bytes ≡ image_bytes program
   pub refused : IsRefused program refusal slot
   pub not_memory : is_memory refusal ≡ false
 
 abbrev pub IsRefusedImage : List ℕ → Type 0
-IsRefusedImage bytes = IsNoImage bytes ⊎ ((refusal : Refusal) × (slot : ℕ) × RefusesProgram bytes refusal slot)
+IsRefusedImage bytes = IsNoImage bytes ⊎ ((refusal : Refusal) × (slot : ℕ) × HasRefusedProgram bytes refusal slot)
 
 -- the program is refused at a slot, and a buffer says why; `said` is how many bytes the text has
 abbrev pub TellsRefusal : Program → ℕ → List ℕ → List ℕ → ℕ → Type 0
@@ -48,8 +48,8 @@ TellsRefusal p slot old new said =
     × ((told : List ℕ) × TellsProgram p refusal slot told × FillsBuffer old new said told)
 
 -- the bytes are no image, and a buffer says why; or they are one whose program is refused, and the buffer says that
-abbrev pub RefusesImage : List ℕ → ℕ → List ℕ → List ℕ → ℕ → Type 0
-RefusesImage bytes slot old new said =
+abbrev pub FillsImageRefusal : List ℕ → ℕ → List ℕ → List ℕ → ℕ → Type 0
+FillsImageRefusal bytes slot old new said =
     ((error : ImageError) × (refusal_of bytes ≡ Some error) × (slot ≡ 0) × FillsBuffer old new said (image_text error))
     ⊎ ((program : Program) × (bytes ≡ image_bytes program) × TellsRefusal program slot old new said)
 
@@ -60,12 +60,12 @@ IsUndecided bytes limit = (program : Program) × (bytes ≡ image_bytes program)
 -- ---- texts
 
 -- the text spells a program, whose image is written to a buffer
-abbrev pub Assembles : List ℕ → List ℕ → List ℕ → ℕ → Type 0
-Assembles source old new size = (p : Program) × (assembled source ≡ Ok p) × FillsBuffer old new size (image_bytes p)
+abbrev pub FillsAssembledImage : List ℕ → List ℕ → List ℕ → ℕ → Type 0
+FillsAssembledImage source old new size = (p : Program) × (assembled source ≡ Ok p) × FillsBuffer old new size (image_bytes p)
 
 -- it spells none, and a buffer says why, at this line and column
-abbrev pub RefusesText : List ℕ → List ℕ → List ℕ → ℕ → ℕ → ℕ → Type 0
-RefusesText source old new size line column =
+abbrev pub FillsTextRefusal : List ℕ → List ℕ → List ℕ → ℕ → ℕ → ℕ → Type 0
+FillsTextRefusal source old new size line column =
     (error : AsmError) × (assembled source ≡ Err error) × (error.kind ≢ text.Memory)
     × (line ≡ error.line) × (column ≡ error.column) × FillsBuffer old new size (source_text error)
 
@@ -75,7 +75,7 @@ RefusesText source old new size line column =
 -- leaves this packet
 pub record RunsProgram (bytes : List ℕ) (head : FrameHead) (packet : List ℕ) (exit : Exit) (after : List ℕ) : Type 0 where
   pub bound : ℕ
-  pub accepts : Accepts bytes bound
+  pub accepts : IsAcceptedImage bytes bound
   pub left : List Entries
   pub coming : ℕ → ℕ
   pub answers : AnswersRun (record { program = accepts.program; bound = bound; contents = starting_contents accepts.program.maps })

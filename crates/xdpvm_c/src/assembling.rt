@@ -3,7 +3,7 @@
 ghost use Rattle.std.specs.Prelude.{◌≡◌, ◌≢◌, IfSome};
 ghost use Rattle.image.specs.Images.{image_bytes};
 ghost use Rattle.xdpvm_c.specs.Crossing.{IsVerdict};
-ghost use Rattle.xdpvm_c.specs.Verdicts.{Assembles, RefusesText};
+ghost use Rattle.xdpvm_c.specs.Verdicts.{FillsAssembledImage, FillsTextRefusal};
 
 use crate::filling::fill;
 use crate::statuses::{MEMORY, OK, REFUSED};
@@ -43,8 +43,8 @@ pub extern "C" fn xdpvm_assemble(
     why: &mut [u8],
     out: &mut Assembled,
 ) -> u32
-    ensures assembled { result ≡ 0 → Assembles text.now image.old image.new out.new.size }
-    ensures refused { result ≡ 2 → RefusesText text.now why.old why.new out.new.size
+    ensures assembled { result ≡ 0 → FillsAssembledImage text.now image.old image.new out.new.size }
+    ensures refused { result ≡ 2 → FillsTextRefusal text.now why.old why.new out.new.size
         out.new.line out.new.column }
     ensures image_kept { result ≢ 0 → image.new ≡ image.old }
     ensures why_kept { result ≢ 2 → why.new ≡ why.old }

@@ -5,7 +5,7 @@ ghost use Rattle.isa_model.specs.Code.Limits.{max_explored};
 ghost use Rattle.image.specs.Images.{image_bytes};
 ghost use Rattle.bounds.specs.Bounds.{IsVerified};
 ghost use Rattle.xdpvm_c.specs.Crossing.{IsDecision, is_memory};
-ghost use Rattle.xdpvm_c.specs.Verdicts.{Accepts, IsRefusedImage, RefusesImage, TellsRefusal, IsUndecided};
+ghost use Rattle.xdpvm_c.specs.Verdicts.{IsAcceptedImage, IsRefusedImage, FillsImageRefusal, TellsRefusal, IsUndecided};
 ghost use Rattle.xdpvm_c.specs.declared.statuses.Failure.TheVariants as Failure;
 
 use crate::filling::fill;
@@ -110,10 +110,10 @@ pub extern "C" fn xdpvm_verify(
     why: &mut [u8],
     out: &mut Verdict,
 ) -> u32
-    ensures accepted { result ≡ 0 → Accepts image.now out.new.bound }
+    ensures accepted { result ≡ 0 → IsAcceptedImage image.now out.new.bound }
     ensures wrong { (result ≡ 1) ↔ ((limit ≡ 0) ⊎ (max_explored < limit)) }
     ensures refused { result ≡ 2
-        → RefusesImage image.now out.new.slot why.old why.new out.new.said }
+        → FillsImageRefusal image.now out.new.slot why.old why.new out.new.said }
     ensures undecided { result ≡ 6 → IsUndecided image.now limit }
     ensures why_kept { result ≢ 2 → why.new ≡ why.old }
     ensures out_kept { result ≢ 0 → result ≢ 2 → out.new ≡ out.old }

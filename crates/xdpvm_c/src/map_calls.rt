@@ -3,7 +3,7 @@
 ghost use Rattle.std.specs.Prelude.{◌≡◌, ◌≢◌, ◌↔◌, length, true, None, Some};
 ghost use Rattle.std.specs.List.{slice_get};
 ghost use Rattle.isa_model.specs.Machine.MapContents.{at_key};
-ghost use Rattle.machine.specs.Entries.{content_at, ordered_at, Updates, Deletes, CopiesEntry};
+ghost use Rattle.machine.specs.Entries.{content_at, ordered_at, AnswersUpdate, AnswersDelete, CopiesEntry};
 ghost use Rattle.xdpvm_c.specs.Crossing.{IsLookUp, IsChange};
 ghost use Rattle.xdpvm_c.specs.Sessions.{HoldsOpen, StaysOpen, FitsKey, FitsMap};
 
@@ -94,7 +94,7 @@ pub extern "C" fn xdpvm_update(
     out: &mut Changed,
 ) -> u32
     ensures updated { result ≡ 0 → StaysOpen session.old.held session.new.held
-        (Updates map key.now value.now flags out.new.answer) }
+        (AnswersUpdate map key.now value.now flags out.new.answer) }
     ensures fits { (result ≢ 1) ↔ HoldsOpen session.old.held
         (λ m. FitsMap m map (length key.now) (length value.now)) }
     ensures session_kept { result ≢ 0 → session.new.held ≡ session.old.held }
@@ -125,7 +125,7 @@ pub extern "C" fn xdpvm_delete(
     out: &mut Changed,
 ) -> u32
     ensures deleted { result ≡ 0 → StaysOpen session.old.held session.new.held
-        (Deletes map key.now out.new.answer) }
+        (AnswersDelete map key.now out.new.answer) }
     ensures fits { (result ≢ 1) ↔ HoldsOpen session.old.held (λ m. FitsKey m map (length key.now)) }
     ensures session_kept { result ≢ 0 → session.new.held ≡ session.old.held }
     ensures kept { result ≢ 0 → out.new ≡ out.old }

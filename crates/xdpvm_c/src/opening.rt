@@ -6,7 +6,7 @@ ghost use Rattle.isa_model.specs.Reporting.Reports.{starting_contents};
 ghost use Rattle.xdpvm_c.specs.Crossing.{IsStatus, IsChange};
 ghost use Rattle.xdpvm_c.specs.Verdicts.{IsRefusedImage};
 ghost use Rattle.xdpvm_c.specs.Tables.{IsRefusedTable};
-ghost use Rattle.xdpvm_c.specs.Sessions.{OpensSession, RunsOn};
+ghost use Rattle.xdpvm_c.specs.Sessions.{OpensSession, RunsSession};
 
 use crate::clocks::clock_at;
 use crate::judging::verified_of;
@@ -107,7 +107,7 @@ pub extern "C" fn xdpvm_run(
     packet: &mut [u8],
     out: &mut Ended,
 ) -> u32
-    ensures ran { result ≡ 0 → RunsOn session.old.held session.new.held (record {
+    ensures ran { result ≡ 0 → RunsSession session.old.held session.new.held (record {
       time = head.now.time;
       interface = head.now.interface;
       queue = head.now.queue;

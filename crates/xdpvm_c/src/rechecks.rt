@@ -4,9 +4,9 @@ ghost use Rattle.std.specs.Prelude.{◌≡◌, ◌≢◌, Err, IfOk};
 ghost use Rattle.image.specs.Images.{image_bytes};
 ghost use Rattle.bounds.specs.Bounds.{IsVerified};
 ghost use Rattle.xdpvm_c.specs.Crossing.{IsVerdict};
-ghost use Rattle.xdpvm_c.specs.Verdicts.{Accepts};
+ghost use Rattle.xdpvm_c.specs.Verdicts.{IsAcceptedImage};
 ghost use Rattle.xdpvm_c.specs.declared.statuses.Failure.TheVariants as Failure;
-ghost use Rattle.xdpvm_c.specs.Tables.{RefusesTable, TellsRefusedTable, IsRefusedTable, broken, is_table_memory};
+ghost use Rattle.xdpvm_c.specs.Tables.{FillsTableRefusal, TellsRefusedTable, IsRefusedTable, broken, is_table_memory};
 
 use crate::filling::fill;
 use crate::statuses::{Failure, MEMORY, OK, REFUSED};
@@ -138,9 +138,9 @@ pub extern "C" fn xdpvm_recheck(
     why: &mut [u8],
     out: &mut Rechecked,
 ) -> u32
-    ensures accepted { result ≡ 0 → Accepts image.now out.new.bound }
+    ensures accepted { result ≡ 0 → IsAcceptedImage image.now out.new.bound }
     ensures refused { result ≡ 2
-        → RefusesTable image.now table.now why.old why.new out.new }
+        → FillsTableRefusal image.now table.now why.old why.new out.new }
     ensures why_kept { result ≢ 2 → why.new ≡ why.old }
     ensures memory { result ≡ 5 → out.new ≡ out.old }
     ensures status { IsVerdict result }

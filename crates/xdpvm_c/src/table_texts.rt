@@ -4,7 +4,7 @@ ghost use Rattle.std.specs.Prelude.{◌≡◌, ◌++◌, codes, IfOk, IfSome, On
 ghost use Rattle.std.specs.String.{string_bytes};
 ghost use Rattle.isa_model.specs.Text.CanonicalText.{line_of};
 ghost use Rattle.explanations.specs.Entries.{IsEntryReason};
-ghost use Rattle.xdpvm_c.specs.Texts.{fault_front, table_front, slot_place, step_sentence, TellsTable};
+ghost use Rattle.xdpvm_c.specs.Texts.{fault_front, table_front, slot_place, step_sentence, TellsTableRefusal};
 
 use crate::texts::{end_line, program_front};
 use exact_io::write_bytes;
@@ -122,7 +122,7 @@ pub fn table_text(
     error: TableError,
     asked: bool,
 ) -> Option<Vec<u8>>
-    ensures { IfSome result (λ text. TellsTable image.now table.now error text.items) }
+    ensures { IfSome result (λ text. TellsTableRefusal image.now table.now error text.items) }
 {
     let mut text = table_front(alloc, image, error)?;
     let Some(found) = found_of(alloc, image, table, error, asked) else {

@@ -5,7 +5,7 @@ ghost use Rattle.isa_model.specs.{max_packet};
 ghost use Rattle.isa_model.specs.Code.Limits.{max_steps};
 ghost use Rattle.xdpvm_c.specs.Crossing.{IsStatus};
 ghost use Rattle.xdpvm_c.specs.Verdicts.{IsNoImage};
-ghost use Rattle.xdpvm_c.specs.Traces.{Traces, trap_number, end_of};
+ghost use Rattle.xdpvm_c.specs.Traces.{AnswersTrace, trap_number, end_of};
 
 use crate::clocks::clock_at;
 use crate::running::Head;
@@ -81,7 +81,7 @@ pub extern "C" fn xdpvm_trace_once(
     limit: u32,
     out: &mut TracedEnd,
 ) -> u32
-    ensures traced { result ≡ 0 → Traces image.now (record {
+    ensures traced { result ≡ 0 → AnswersTrace image.now (record {
       time = head.now.time;
       interface = head.now.interface;
       queue = head.now.queue;

@@ -72,7 +72,7 @@ reason_of program value = if is_forwarded (action_of value) then 0 else told_rea
 -- ---- lines, each ended by one line feed
 
 -- what the lines depend on beside the runs: the limit of steps, and the versions of the program and of the stream
-pub record Form : Type 0 where
+pub record ReportForm : Type 0 where
   pub limit : ℕ
   pub program : Version
   pub stream : Version
@@ -83,7 +83,7 @@ reason_text One reason = []
 reason_text Two reason = codes " " ++ decimal reason
 
 -- a frame's line, by its number, how its run ended, and the length of its body
-unfoldable pub frame_line : Form → ℕ → End → ℕ → List ℕ
+unfoldable pub frame_line : ReportForm → ℕ → End → ℕ → List ℕ
 frame_line form number (Exit value steps) size =
     decimal number ++ codes " " ++ action_name (action_of value) ++ codes " " ++ decimal size ++ codes " " ++ decimal steps
     ++ reason_text form.stream (reason_of form.program value) ++ codes "\n"
@@ -140,18 +140,18 @@ abbrev pub end_reason : Version → End → ℕ
 end_reason program (Exit value steps) = reason_of program value
 end_reason program end = 0
 
-abbrev pub record_pieces : Form → FrameHead → Turn → List Piece
+abbrev pub record_pieces : ReportForm → FrameHead → Turn → List Piece
 record_pieces form head t =
     if is_sent form.stream t.ends
     then ToFrames (frame_bytes form.stream (record { head = head; body = t.packet; reason = end_reason form.program t.ends })) ∷ []
     else []
 
 -- a frame's line, and then its record if it has one
-unfoldable pub frame_pieces : Form → ℕ → Frame → Turn → List Piece
+unfoldable pub frame_pieces : ReportForm → ℕ → Frame → Turn → List Piece
 frame_pieces form number f t = ToReport (frame_line form number t.ends (length f.body)) ∷ record_pieces form f.head t
 
 -- a frame that is not run goes out as it came
-unfoldable pub skip_pieces : Form → ℕ → Frame → List Piece
+unfoldable pub skip_pieces : ReportForm → ℕ → Frame → List Piece
 skip_pieces form number f = ToReport (skip_line number (length f.body) f.reason) ∷ ToFrames (frame_bytes form.stream f) ∷ []
 
 -- what running a frame on map contents gives
@@ -162,7 +162,7 @@ Rule = FrameHead → List ℕ → List Entries → Turn
 abbrev pub turn_on : Rule → List Entries → Frame → Option Turn
 turn_on rule contents f = if f.reason == 0 then Some (rule f.head f.body contents) else None
 
-abbrev pub turn_pieces : Form → ℕ → Frame → Option Turn → List Piece
+abbrev pub turn_pieces : ReportForm → ℕ → Frame → Option Turn → List Piece
 turn_pieces form number f (Some t) = frame_pieces form number f t
 turn_pieces form number f None = skip_pieces form number f
 
@@ -171,7 +171,7 @@ contents_left contents (Some t) = t.contents
 contents_left contents None = contents
 
 -- the frames' pieces, the maps' contents carried along
-abbrev pub turns_pieces : Form → Rule → ℕ → List Entries → List Frame → List Piece
+abbrev pub turns_pieces : ReportForm → Rule → ℕ → List Entries → List Frame → List Piece
 turns_pieces form rule number contents [] = []
 turns_pieces form rule number contents (f ∷ frames) =
     let t = turn_on rule contents f in
@@ -215,7 +215,7 @@ starting_contents rows = map (λ row. starting_entries row.kind row) rows
 -- the magic, each frame's pieces, the maps' lines, and the last line
 abbrev pub report_of : ℕ → Version → List MapDef → Rule → List Entries → Stream → List Piece
 report_of limit program rows rule contents found =
-    let form : Form = record { limit = limit; program = program; stream = found.version } in
+    let form : ReportForm = record { limit = limit; program = program; stream = found.version } in
     (ToFrames (stream_magic found.version) ∷ turns_pieces form rule 0 contents found.frames)
     ++ (maps_pieces 0 rows (contents_after rule contents found.frames) ++ ToReport (last_line (length found.frames) found.finish) ∷ [])
 
@@ -232,14 +232,14 @@ abbrev pub turn_by : Outcome → Turn
 turn_by o = record { ends = Exit o.number o.steps; packet = o.packet; contents = o.contents; clock_calls = o.clock_calls }
 
 -- a frame without a reason has the pieces of its run's outcome, which leaves the contents; every other one is skipped
-abbrev pub ReportsFrame : Form → Program → ℕ → List Entries → Frame → Bool → List Piece → List Entries → Type 0
+abbrev pub ReportsFrame : ReportForm → Program → ℕ → List Entries → Frame → Bool → List Piece → List Entries → Type 0
 ReportsFrame form p number contents f true pieces next =
     (o : Outcome) × HasOutcome p f.head f.body contents (λ k. f.head.time) o
     × (pieces ≡ frame_pieces form number f (turn_by o)) × (next ≡ o.contents)
 ReportsFrame form p number contents f false pieces next = (pieces ≡ skip_pieces form number f) × (next ≡ contents)
 
 -- the frames' pieces by the outcomes of their runs, and the contents that the last one leaves
-abbrev pub ReportsFrames : Form → Program → ℕ → List Entries → List Frame → List Piece → List Entries → Type 0
+abbrev pub ReportsFrames : ReportForm → Program → ℕ → List Entries → List Frame → List Piece → List Entries → Type 0
 ReportsFrames form p number contents [] pieces last = (pieces ≡ []) × (last ≡ contents)
 ReportsFrames form p number contents (f ∷ frames) pieces last =
     (front : List Piece) × (rest : List Piece) × (next : List Entries)
@@ -247,7 +247,7 @@ ReportsFrames form p number contents (f ∷ frames) pieces last =
     × (pieces ≡ front ++ rest) × ReportsFrames form p (number + 1) next frames rest last
 
 -- the form of a report; no line of it tells the limit, since every run exits
-abbrev pub form_of : Program → Stream → Form
+abbrev pub form_of : Program → Stream → ReportForm
 form_of p found = record { limit = max_steps; program = p.version; stream = found.version }
 
 -- the report of a program, and a stream: every run exits

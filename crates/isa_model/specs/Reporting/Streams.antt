@@ -56,26 +56,26 @@ pub record IsFrame (version : Version) (f : Frame) : Type 0 where
 -- ---- reading
 
 -- how an input ends: by an end, or by the reader's first error
-pub data Ending : Type 0 where
-  ByEnd : Ending
-  ByError : Ending
+pub data InputEnding : Type 0 where
+  ByEnd : InputEnding
+  ByError : InputEnding
 
 -- an input: the bytes that the reader gives, and how they end
 pub record Input : Type 0 where
   pub bytes : List ℕ
-  pub ending : Ending
+  pub ending : InputEnding
 
 -- the most records that a stream may have
 abbrev pub max_frames : ℕ
 max_frames = 4294967295
 
 -- where something is cut off, an end makes it the fault f and an error ReadFailed
-abbrev pub cut_by : Ending → Fault → Fault
+abbrev pub cut_by : InputEnding → Fault → Fault
 cut_by ByEnd f = f
 cut_by ByError f = ReadFailed
 
 -- the version that the magic at the front of the bytes names, or the fault if there is no magic
-unfoldable pub opened : List ℕ → Ending → Result Version Fault
+unfoldable pub opened : List ℕ → InputEnding → Result Version Fault
 opened bytes ending =
     if nat_lt (length bytes) 4 then Err (cut_by ending BadMagic)
     else if starts_with nat_eq bytes (stream_magic One) then Ok One
@@ -92,7 +92,7 @@ reason_field One bytes = 0
 reason_field Two bytes = little_from 20 4 bytes
 
 -- why no record begins with these bytes, after `number` records and at `offset`, if none does
-unfoldable pub stop_at : Version → ℕ → ℕ → List ℕ → Ending → Option Finish
+unfoldable pub stop_at : Version → ℕ → ℕ → List ℕ → InputEnding → Option Finish
 stop_at version number offset [] ByEnd = Some finish.End
 stop_at version number offset [] ByError = Some (finish.Fault ReadFailed offset)
 stop_at version number offset (b ∷ bytes) ending =
@@ -117,7 +117,7 @@ record_size version f = head_size version + length f.body
 
 -- the records that the bytes begin with, after `number` others and at `offset`, and how they end;
 -- `fuel` is more than the number of bytes
-unfoldable pub frames_from : ℕ → Version → ℕ → ℕ → List ℕ → Ending → List Frame × Finish
+unfoldable pub frames_from : ℕ → Version → ℕ → ℕ → List ℕ → InputEnding → List Frame × Finish
 frames_from zero version number offset bytes ending = ([], finish.End)
 frames_from (suc fuel) version number offset bytes ending =
     elim (stop_at version number offset bytes ending) [

@@ -13,23 +13,23 @@ use Rattle.isa_model.specs.Running.Runs.{start_state}
 
 -- ---- commands in a row on one map
 
-pub data Command : Type 0 where
-  Update : List ℕ → List ℕ → ℕ → Command
-  Delete : List ℕ → Command
+pub data MapChange : Type 0 where
+  Update : List ℕ → List ℕ → ℕ → MapChange
+  Delete : List ℕ → MapChange
 
-abbrev pub answer_to : MapDef → Entries → Command → ℕ
+abbrev pub answer_to : MapDef → Entries → MapChange → ℕ
 answer_to row es (Update key value flags) = update_answer row es key flags
 answer_to row es (Delete key) = delete_answer row es key
 
-abbrev pub content_after : MapDef → Entries → Command → Entries
+abbrev pub content_after : MapDef → Entries → MapChange → Entries
 content_after row es (Update key value flags) = after_update row es key value flags
 content_after row es (Delete key) = after_delete row es key
 
-abbrev pub answers : MapDef → Entries → List Command → List ℕ
+abbrev pub answers : MapDef → Entries → List MapChange → List ℕ
 answers row es [] = []
 answers row es (c ∷ cs) = answer_to row es c ∷ answers row (content_after row es c) cs
 
-abbrev pub left_by : MapDef → Entries → List Command → Entries
+abbrev pub left_by : MapDef → Entries → List MapChange → Entries
 left_by row es [] = es
 left_by row es (c ∷ cs) = left_by row (content_after row es c) cs
 
@@ -37,13 +37,13 @@ left_by row es (c ∷ cs) = left_by row (content_after row es c) cs
 abbrev pub one_entry : MapDef
 one_entry = record { kind = Hash; key_size = 1; value_size = 1; entries = 1 }
 
-abbrev pub update_k : ℕ → Command
+abbrev pub update_k : ℕ → MapChange
 update_k flags = Update (1 ∷ []) (7 ∷ []) flags
 
-abbrev pub update_m : ℕ → Command
+abbrev pub update_m : ℕ → MapChange
 update_m flags = Update (2 ∷ []) (8 ∷ []) flags
 
-abbrev pub delete_k : Command
+abbrev pub delete_k : MapChange
 delete_k = Delete (1 ∷ [])
 
 -- two keys on a map of one entry: -2, -2, 0, -17, -7, -2, -22, 0, 0, 0

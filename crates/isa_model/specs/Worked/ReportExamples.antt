@@ -21,7 +21,7 @@ use Rattle.isa_model.specs.Machine.Steps.{act, step}
 use Rattle.isa_model.specs.Running.Runs.{start_state, progress, turn}
 use Rattle.isa_model.specs.Code.Versions.{stream_magic}
 use Rattle.isa_model.specs.Reporting.Streams.{ByEnd, head_bytes, opened, stop_at, frames_from, stream_of}
-use Rattle.isa_model.specs.Reporting.Reports.{Form, frame_line, skip_line, skip_pieces, map_line, last_line, report_bytes, frames_out, is_sent, frame_pieces, reason_of, Rule, in_report_order, starting_contents, report_of, checked_report}
+use Rattle.isa_model.specs.Reporting.Reports.{ReportForm, frame_line, skip_line, skip_pieces, map_line, last_line, report_bytes, frames_out, is_sent, frame_pieces, reason_of, Rule, in_report_order, starting_contents, report_of, checked_report}
 use Rattle.isa_model.specs.Worked.StreamExamples.{head_of}
 use Rattle.isa_model.specs.Worked.Examples.{set, copy, above, zeros}
 use Rattle.isa_model.specs.declared.versions.Version.{Version}
@@ -93,7 +93,7 @@ limit_line = refl
 -- ---- actions and lines
 
 -- a program and a stream of the first version
-abbrev form : ℕ → Form
+abbrev form : ℕ → ReportForm
 form limit = record { limit = limit; program = One; stream = One }
 
 -- 0 to 5, and results whose low 32 bits are 2, 4 and 2^32 - 1
@@ -192,38 +192,38 @@ abbrev pub answers : Version → ℕ → Program
 answers version n = record { insns = slots (insn.LoadNumber R0 n ∷ insn.Exit ∷ []); maps = []; version = version }
 
 -- a record of a body of n bytes with a reason, all other fields 0
-abbrev pub told_head : ℕ → ℕ → List ℕ
-told_head n reason = zeros 16 ++ n ∷ 0 ∷ 0 ∷ 0 ∷ reason ∷ 0 ∷ 0 ∷ 0 ∷ []
+abbrev pub head_with_reason : ℕ → ℕ → List ℕ
+head_with_reason n reason = zeros 16 ++ n ∷ 0 ∷ 0 ∷ 0 ∷ reason ∷ 0 ∷ 0 ∷ 0 ∷ []
 
 -- a frame that is dropped goes out with the reason that the program gives
-pub told_reason_goes_out : report_on (answers Two 0x700000001) (stream_magic Two ++ told_head 3 0 ++ 170 ∷ 187 ∷ 204 ∷ [])
-    ∷ out_on (answers Two 0x700000001) (stream_magic Two ++ told_head 3 0 ++ 170 ∷ 187 ∷ 204 ∷ []) ∷ []
-    ≡ codes "0 DROP 3 2 7\nend 1\n" ∷ (stream_magic Two ++ told_head 3 7 ++ 170 ∷ 187 ∷ 204 ∷ []) ∷ []
+pub reason_goes_out : report_on (answers Two 0x700000001) (stream_magic Two ++ head_with_reason 3 0 ++ 170 ∷ 187 ∷ 204 ∷ [])
+    ∷ out_on (answers Two 0x700000001) (stream_magic Two ++ head_with_reason 3 0 ++ 170 ∷ 187 ∷ 204 ∷ []) ∷ []
+    ≡ codes "0 DROP 3 2 7\nend 1\n" ∷ (stream_magic Two ++ head_with_reason 3 7 ++ 170 ∷ 187 ∷ 204 ∷ []) ∷ []
 unfolding frames_from opened stop_at turn progress start_state new_frame step act alu frame_pieces frame_line last_line head_bytes digits
-told_reason_goes_out = refl
+reason_goes_out = refl
 
 -- on a stream without reasons it is not written
-pub no_reason_told : report_on (answers Two 0x700000001) (stream_magic One ++ head_of 3 ++ 170 ∷ 187 ∷ 204 ∷ [])
+pub no_reason_goes_out : report_on (answers Two 0x700000001) (stream_magic One ++ head_of 3 ++ 170 ∷ 187 ∷ 204 ∷ [])
     ∷ out_on (answers Two 0x700000001) (stream_magic One ++ head_of 3 ++ 170 ∷ 187 ∷ 204 ∷ []) ∷ []
     ≡ codes "0 DROP 3 2\nend 1\n" ∷ codes "XPF1" ∷ []
 unfolding frames_from opened stop_at turn progress start_state new_frame step act alu frame_pieces frame_line last_line head_bytes digits
-no_reason_told = refl
+no_reason_goes_out = refl
 
 -- a frame that has a reason is not run, and goes out as it came
-pub frame_with_a_reason_is_skipped : report_on (answers One 0x700000001) (stream_magic Two ++ told_head 0 0 ++ told_head 2 5 ++ 1 ∷ 2 ∷ [])
-    ∷ out_on (answers One 0x700000001) (stream_magic Two ++ told_head 0 0 ++ told_head 2 5 ++ 1 ∷ 2 ∷ []) ∷ []
-    ≡ codes "0 DROP 0 2 1\n1 SKIP 2 0 5\nend 2\n" ∷ (stream_magic Two ++ told_head 0 1 ++ told_head 2 5 ++ 1 ∷ 2 ∷ []) ∷ []
+pub frame_with_a_reason_is_skipped : report_on (answers One 0x700000001) (stream_magic Two ++ head_with_reason 0 0 ++ head_with_reason 2 5 ++ 1 ∷ 2 ∷ [])
+    ∷ out_on (answers One 0x700000001) (stream_magic Two ++ head_with_reason 0 0 ++ head_with_reason 2 5 ++ 1 ∷ 2 ∷ []) ∷ []
+    ≡ codes "0 DROP 0 2 1\n1 SKIP 2 0 5\nend 2\n" ∷ (stream_magic Two ++ head_with_reason 0 1 ++ head_with_reason 2 5 ++ 1 ∷ 2 ∷ []) ∷ []
 unfolding frames_from opened stop_at turn progress start_state new_frame step act alu frame_pieces frame_line skip_pieces skip_line last_line head_bytes digits
 frame_with_a_reason_is_skipped = refl
 
 -- a program of version 2 has to answer an action; one of version 1 may answer any number
-pub action_over_4 : map (λ version. report_on (answers version 6) (stream_magic Two ++ told_head 0 0)) (One ∷ Two ∷ [])
+pub action_over_4 : map (λ version. report_on (answers version 6) (stream_magic Two ++ head_with_reason 0 0)) (One ∷ Two ∷ [])
     ≡ codes "0 INVALID 0 2 1\nend 1\n" ∷ codes "0 TRAP action 0 1\nend 1\n" ∷ []
 unfolding frames_from opened stop_at turn progress start_state new_frame step act alu frame_pieces frame_line last_line digits
 action_over_4 = refl
 
 -- a trapped frame is not written out
-pub trapped_frame_has_no_record : out_on (answers Two 6) (stream_magic Two ++ told_head 0 0) ≡ codes "XPF2"
+pub trapped_frame_has_no_record : out_on (answers Two 6) (stream_magic Two ++ head_with_reason 0 0) ≡ codes "XPF2"
 unfolding frames_from opened stop_at turn progress start_state new_frame step act alu frame_pieces frame_line last_line digits
 trapped_frame_has_no_record = refl
 

@@ -7,7 +7,7 @@ use Rattle.isa_model.specs.declared.streams.Finish.{Finish}
 use Rattle.isa_model.specs.declared.streams.Finish.TheVariants as finish
 use Rattle.isa_model.specs.Code.Versions.{stream_magic}
 use Rattle.isa_model.specs.declared.versions.Version.TheVariants.{One, Two}
-use Rattle.isa_model.specs.Reporting.Streams.{Frame, max_frames, Ending, ByEnd, ByError, head_bytes, frame_bytes, opened, stop_at, frames_from, stream_of}
+use Rattle.isa_model.specs.Reporting.Streams.{Frame, max_frames, InputEnding, ByEnd, ByError, head_bytes, frame_bytes, opened, stop_at, frames_from, stream_of}
 use Rattle.isa_model.specs.Worked.Examples.{zeros}
 
 -- the magic, and two records of no bytes
@@ -15,7 +15,7 @@ abbrev pub two_empty_records : List ℕ
 two_empty_records = stream_magic One ++ zeros 40
 
 -- how many records there are, and how they end
-abbrev pub summary_of : List ℕ → Ending → ℕ × Finish
+abbrev pub summary_of : List ℕ → InputEnding → ℕ × Finish
 summary_of bytes ending = let found = stream_of (record { bytes = bytes; ending = ending }) in (length found.frames, found.finish)
 
 -- the two records cut after 0, 1, .. 44 bytes

@@ -3,7 +3,7 @@ use Rattle.std.proofs.lemmas.Option.{same_Some}
 use Rattle.control_flow.specs.Sources.{IsLastBelow, HasJump}
 use Rattle.control_flow.proofs.MarkLemmas.{read_at}
 use Rattle.control_flow.proofs.Graphs.{jump_from-inside}
-use Rattle.control_flow.proofs.Chains.{IsLastBelow-left, left_of-smaller, HasFollowed-start, HasFollowed-jumps, HasFollowed-next, HasFollowed-end}
+use Rattle.control_flow.proofs.Chains.{IsLastBelow-left, left_of-smaller, HasFollowedJumps-start, HasFollowedJumps-jumps, HasFollowedJumps-next, HasFollowedJumps-end}
 use Rattle.control_flow.proofs.liveness.go_back.Goals as goal
 use Rattle.control_flow.proofs.liveness.go_back.Goals.{In-Some}
 
@@ -18,14 +18,14 @@ loop-from-init c =
     let nodes = c.args.nodes.now in
     let latest = c.args.sources.now.last.items in
     let within : c.args.slot < length latest = omega (arith, c.requires.sources.as_many, c.requires.inside) in
-    HasFollowed-start nodes c.args.slot c.falling.result c.falling-2.result c.index-from.result.now _ _ _ _ _ _
+    HasFollowedJumps-start nodes c.args.slot c.falling.result c.falling-2.result c.index-from.result.now _ _ _ _ _ _
     c.requires.near c.falling.ensures c.falling-2.ensures c.in_ok-find.ensures c.in_ok-find-2.ensures
     (subst (IsLastBelow (HasJump nodes c.args.slot) (length nodes)) (read_at latest c.args.slot c.index-from.result.now None within c.index-from.ensures)
     (c.requires.sources.last c.args.slot c.requires.inside))
 
 -- the next source is inside the code, and jumps to the slot
 jumps_of : (c : In-Some) → HasJump c.args.nodes.now c.args.slot c.in-Some.source
-jumps_of c = HasFollowed-jumps c.args.nodes.now c.args.slot c.in-Some.source c.loop-from.from _ _ _ _ c.in-Some.is c.loop-from.invariant
+jumps_of c = HasFollowedJumps-jumps c.args.nodes.now c.args.slot c.in-Some.source c.loop-from.from _ _ _ _ c.in-Some.is c.loop-from.invariant
 
 inside_of : (c : In-Some) → c.in-Some.source < length c.args.nodes.now
 inside_of c = jump_from-inside c.args.nodes.now c.in-Some.source c.args.slot (jumps_of c)
@@ -53,7 +53,7 @@ last_of c before read =
 
 pub loop-from-preserved : goal.loop-from-preserved
 loop-from-preserved c =
-    HasFollowed-next c.args.nodes.now c.args.slot c.in-Some.source c.loop-from.from c.index-from-in-Some.result.now _ _ _ _ _ _
+    HasFollowedJumps-next c.args.nodes.now c.args.slot c.in-Some.source c.loop-from.from c.index-from-in-Some.result.now _ _ _ _ _ _
     c.in-Some.is (last_of (goal.at.loop-from-preserved c).In-Some c.index-from-in-Some.result.now c.index-from-in-Some.ensures) c.loop-from.invariant c.in_ok-find-3.ensures
 
 pub loop-from-smaller : goal.loop-from-smaller
@@ -63,4 +63,4 @@ loop-from-smaller c =
     (last_of (goal.at.loop-from-smaller c).In-Some c.index-from-in-Some.result.now c.index-from-in-Some.ensures))
 
 pub returns : goal.returns
-returns c = HasFollowed-end c.args.nodes.now c.args.slot c.loop-from.from _ _ _ _ (sym c.in_default.is) c.loop-from.invariant
+returns c = HasFollowedJumps-end c.args.nodes.now c.args.slot c.loop-from.from _ _ _ _ (sym c.in_default.is) c.loop-from.invariant

@@ -1,10 +1,10 @@
 use Rattle.std.specs.Prelude.{IsTrue}
 use Rattle.isa_model.specs.declared.registers.Reg.TheVariants.{R10}
-use Rattle.control_flow.specs.Masks.{Has}
+use Rattle.control_flow.specs.Masks.{HasRegister}
 use Rattle.control_flow.proofs.StackUses.{others_hand_on}
 use Rattle.control_flow.proofs.stack_accesses.hands_on.Goals as goal
 
 pub returns-in_default : goal.returns-in_default
 returns-in_default c =
     others_hand_on c.args.insn.now c.in_default.not-Load c.in_default.not-LoadSx c.in_default.not-StoreConstant c.in_default.not-Store
-    (IsTrue c.has.result) (Has c.args.read R10) c.has.ensures c.requires
+    (IsTrue c.has.result) (HasRegister c.args.read R10) c.has.ensures c.requires

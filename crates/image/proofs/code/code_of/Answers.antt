@@ -2,7 +2,7 @@ use Rattle.std.proofs.Common.{◌≡◌, ℕ, ◌*◌, ◌/◌, List, Bool, Ok, 
 use Rattle.std.proofs.lemmas.Result.{err_from_is_err_and}
 use Rattle.image.specs.Refusals.{insn_at, code_from}
 use Rattle.image.proofs.CodeSpelling.{take-rest}
-use Rattle.image.proofs.Loop.{SoFar, goes_on_half, goes_on, fails, is_done}
+use Rattle.image.proofs.Loop.{CodeReadSoFar, goes_on_half, goes_on, fails, is_done}
 use Rattle.image.proofs.code.code_of.Goals as goal
 use Rattle.image.proofs.code.code_of.Goals.{then-second_half+in_ok-push, else-second_half+in_ok-insn+in_ok-push-2}
 
@@ -12,7 +12,7 @@ returns-in_err-insn c =
     let n = length bytes / 8 in
     let total = code_from c.args.maps.now n false 0 bytes in
     let failed = subst (λ (b : List ℕ). insn_at c.args.maps.now c.loop-slot.slot b ≡ Err c.in_err-insn.field-0.0) (take-rest (8 * c.loop-slot.slot) bytes) (sym c.in_err-insn.ensures) in
-    let start = subst (λ (b : Bool). SoFar c.args.maps.now c.loop-slot.slots.items n b c.loop-slot.slot bytes total) c.if-second_half.false c.loop-slot.invariant in
+    let start = subst (λ (b : Bool). CodeReadSoFar c.args.maps.now c.loop-slot.slots.items n b c.loop-slot.slot bytes total) c.if-second_half.false c.loop-slot.invariant in
     let p = err_from_is_err_and c.from_residual-in_err-insn.result c.from_residual-in_err-insn.ensures.1 in
     rw (p.1, p.2) (inr (fails c.args.maps.now c.in_err-insn.field-0.0 c.loop-slot.slots.items n c.loop-slot.slot bytes total c.loop-slot-test.true failed start))
 
@@ -22,7 +22,7 @@ loop-slot-preserved c =
     let n = length bytes / 8 in
     let total = code_from c.args.maps.now n false 0 bytes in
     let slot = c.loop-slot.slot in
-    let start = λ (h : Bool) (e : c.loop-slot.second_half ≡ h). subst (λ (b : Bool). SoFar c.args.maps.now c.loop-slot.slots.items n b slot bytes total) e c.loop-slot.invariant in
+    let start = λ (h : Bool) (e : c.loop-slot.second_half ≡ h). subst (λ (b : Bool). CodeReadSoFar c.args.maps.now c.loop-slot.slots.items n b slot bytes total) e c.loop-slot.invariant in
     elim c.if-second_half.branch [
       | then-second_half+in_ok-push w ↦ rw (w.slots-is, w.second_half-is, w.in_ok-push.ensures.items) (goes_on_half c.args.maps.now c.loop-slot.slots.items n slot bytes total c.loop-slot-test.true (start true w.if-second_half.true))
       | else-second_half+in_ok-insn+in_ok-push-2 w ↦

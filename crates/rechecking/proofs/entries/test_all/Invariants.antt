@@ -2,7 +2,7 @@ use Rattle.std.proofs.Common.{◌≤◌}
 use Rattle.table_entries.specs.Tables.{entry_at, count_of}
 use Rattle.table_entries.specs.Growing.{Grows}
 use Rattle.rechecking.specs.Checking.{AllFineBefore}
-use Rattle.rechecking.specs.Standing.{IsKnownEntry}
+use Rattle.rechecking.specs.KnownEntries.{IsKnownEntry}
 use Rattle.rechecking.proofs.entries.test_all.Given as goal
 
 -- the entries before it are placed and closed, and the known entry's state is in its room

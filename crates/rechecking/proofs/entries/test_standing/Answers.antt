@@ -3,7 +3,7 @@ use Rattle.table_entries.specs.Entries.{entry_of}
 use Rattle.table_entries.specs.Tables.{entry_at}
 use Rattle.table_entries.proofs.GrowingLaws.{Grows-then}
 use Rattle.rechecking.proofs.CheckingLaws.{IsClosedEntry-follows, fine_of, refused_step, unnamed_step}
-use Rattle.rechecking.proofs.GrowingLaws.{StandsAt-grows}
+use Rattle.rechecking.proofs.GrowingLaws.{HasEntry-grows}
 use Rattle.rechecking.proofs.entries.test_standing.Goals as goal
 
 pub returns-in-Err-clause-faulty : goal.returns-in-Err-clause-faulty
@@ -20,7 +20,7 @@ returns-in-Some-clause-fine c =
     let h = c.next_follows.new.growing in
     let e = entry_of c.args.head c.args.state.now in
     let allowed = c.requires.there.allowed in
-    let stands = StandsAt-grows p c.args.growing.now h c.args.index c.args.head c.args.state.now c.next_follows.ensures.grows c.requires.there in
+    let stands = HasEntry-grows p c.args.growing.now h c.args.index c.args.head c.args.state.now c.next_follows.ensures.grows c.requires.there in
     fine_of p (entry_at p h.table) c.args.index e stands.there (IsClosedEntry-follows p (entry_at p h.table) e c.in-Ok.ways c.step_in_place.new.state c.step_in_place.new.other
     allowed.some allowed.most c.in-Ok.ensures.leads (c.in-Some.ensures.yes c.step_in_place.new.other))
 
@@ -34,7 +34,7 @@ returns-in-Some-follows-clause-fine c =
     let e = entry_of c.args.head c.args.state.now in
     let allowed = c.requires.there.allowed in
     let grows = Grows-then p c.args.growing.now c.next_follows.new.growing h c.next_follows.ensures.grows c.place_named.ensures in
-    let stands = StandsAt-grows p c.args.growing.now h c.args.index c.args.head c.args.state.now grows c.requires.there in
+    let stands = HasEntry-grows p c.args.growing.now h c.args.index c.args.head c.args.state.now grows c.requires.there in
     fine_of p (entry_at p h.table) c.args.index e stands.there (IsClosedEntry-follows p (entry_at p h.table) e c.in-Ok.ways c.step_in_place.new.state c.step_in_place.new.other
     allowed.some allowed.most c.in-Ok.ensures.leads (rw c.placed.ensures at c.in-Some-follows.ensures.yes))
 
@@ -44,6 +44,6 @@ returns-in-None-clause-faulty c =
     let h = c.place_named.new.growing in
     let e = entry_of c.args.head c.args.state.now in
     let grows = Grows-then p c.args.growing.now c.next_follows.new.growing h c.next_follows.ensures.grows c.place_named.ensures in
-    let stands = StandsAt-grows p c.args.growing.now h c.args.index c.args.head c.args.state.now grows c.requires.there in
+    let stands = HasEntry-grows p c.args.growing.now h c.args.index c.args.head c.args.state.now grows c.requires.there in
     unnamed_step p (entry_at p h.table) c.args.index e c.in-Ok.ways c.step_in_place.new.state c.step_in_place.new.other stands.there
     c.requires.there.allowed.begins c.in-Ok.ensures.steps (rw c.placed.ensures at (c.in-None.ensures.none refl))

@@ -1,7 +1,7 @@
 use Rattle.std.proofs.Common.{sym, subst}
 use Rattle.stack_state.specs.declared.states.State.{State}
 use Rattle.stack_state.specs.Meaning.{Covers}
-use Rattle.state_cover.specs.FrameCover.{Encloses}
+use Rattle.state_cover.specs.FrameCover.{StateEncloses}
 use Rattle.table_entries.specs.Entries.{entry_of}
 use Rattle.table_entries.specs.Tables.{entry_at}
 use Rattle.rechecking.proofs.CheckingLaws.{HasStart-covers, unclear_start}
@@ -18,4 +18,4 @@ pub returns-else-covers-clause-none : goal.returns-else-covers-clause-none
 returns-else-covers-clause-none c = λ e.
     let p = c.args.image.now in
     unclear_start (entry_at p c.args.table.now) (entry_of c.in-Some.head c.read.new.state) c.covers.result c.in-Some.ensures.entry
-    (λ packet null h. c.covers.ensures.encloses packet null (subst (λ (b : State). Encloses packet null c.read.new.state b) (sym c.start-start.ensures) h)) c.if-covers.false
+    (λ packet null h. c.covers.ensures.encloses packet null (subst (λ (b : State). StateEncloses packet null c.read.new.state b) (sym c.start-start.ensures) h)) c.if-covers.false

@@ -2,7 +2,7 @@ use Rattle.std.proofs.Common.{◌≡◌, ℕ, ap, ◌∙◌, subst}
 use Rattle.isa_model.specs.declared.ends.End.{End}
 use Rattle.isa_model.specs.declared.frames.FrameHead.{FrameHead}
 use Rattle.isa_model.specs.Running.Runs.{turn}
-use Rattle.checked_vm.specs.Machines.{Running}
+use Rattle.checked_vm.specs.Machines.{LoadedProgram}
 use Rattle.xdpvm_c.specs.Traces.{end_of}
 use Rattle.xdpvm_c.proofs.tracing.xdpvm_trace_once.Goals as goal
 
@@ -19,8 +19,8 @@ returns-clause-traced c = λ _.
       program = c.in-Ok.program;
       spelled = c.in-Ok.ensures.found;
       is_image = c.in-Ok.ensures.fits;
-      ends = subst (λ (m : Running). c.end_of.result ≡ end_of (turn m.program c.args.limit (λ _. head.time) head c.args.packet.now m.contents).ends c.args.limit)
+      ends = subst (λ (m : LoadedProgram). c.end_of.result ≡ end_of (turn m.program c.args.limit (λ _. head.time) head c.args.packet.now m.contents).ends c.args.limit)
           made (c.end_of.ensures ∙ ap (λ (e : End). end_of e c.args.limit) ended);
-      packet_is = subst (λ (m : Running). c.run-end.new.packet ≡ (turn m.program c.args.limit (λ _. head.time) head c.args.packet.now m.contents).packet)
+      packet_is = subst (λ (m : LoadedProgram). c.run-end.new.packet ≡ (turn m.program c.args.limit (λ _. head.time) head c.args.packet.now m.contents).packet)
           made left;
     }

@@ -2,14 +2,14 @@ use Rattle.std.proofs.Common.{◌≡◌, ◌∙◌, ℕ, ◌+◌, List, Some, No
 use Rattle.explorer.specs.declared.trail.Visit.{Visit}
 use Rattle.explorer.specs.Search.{Settles, HasSpent, Path}
 use Rattle.explorer.proofs.Stores.{Settles-start}
-use Rattle.explorer.proofs.Paths.{Last, Path-pop, Path-none}
+use Rattle.explorer.proofs.Paths.{LastVisit, Path-pop, Path-none}
 use Rattle.explorer.proofs.Unfinished.{OnPath-pop}
 use Rattle.explorer.proofs.Counting.{spent_back}
 use Rattle.explorer.proofs.Steps.{step_back, comes_aside}
 use Rattle.explorer.proofs.search.Search.back.Goals as goal
 use Rattle.explorer.proofs.search.Search.back.Goals.{In-Some}
 
-last_of : (c : In-Some) → Last c.args.flow.now c.args.self.now.finished c.args.self.now.stored.entries.items c.requires.at.at.first c.pop.new.self.items c.in-Some.visit c.requires.at.state
+last_of : (c : In-Some) → LastVisit c.args.flow.now c.args.self.now.finished c.args.self.now.stored.entries.items c.requires.at.at.first c.pop.new.self.items c.in-Some.visit c.requires.at.state
 last_of c =
     let p = c.args.flow.now in
     let search = c.args.self.now in

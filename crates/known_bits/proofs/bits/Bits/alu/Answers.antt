@@ -11,7 +11,7 @@ use Rattle.std.proofs.Math.Nat.{mod-eq_of_lt}
 use Rattle.known_bits.specs.declared.bits.Bits.{Bits}
 use Rattle.known_bits.specs.Member.{Occurs}
 use Rattle.known_bits.specs.Bits.{Has, IsSharp, greatest_of, KnowsProduct}
-use Rattle.known_bits.proofs.Members.{Known, known}
+use Rattle.known_bits.proofs.Members.{Apart, known}
 use Rattle.known_bits.proofs.Sharp.{low_set, occurs_low}
 use Rattle.known_bits.proofs.Frame.{mod_le, mod-mod_pow, mod-pow-mul}
 use Rattle.known_bits.proofs.Precise.{occurs_lifted, second_sharp}
@@ -35,7 +35,7 @@ low_constant : (low m n : ℕ) → low ≡ m % 2 ^ n → m ≡ 0 → low ≡ 0
 low_constant low m n e zero = e ∙ ap (λ t. t % 2 ^ n) zero ∙ mod-eq_of_lt {n = 0} {m = 2 ^ n} (pow_pos n)
 
 -- both values of a bit that occur on the low parts occur on the numbers
-lifted_sharp : {av am bv bm : ℕ} → Known av am → Known bv bm → (w : Width) (f : ℕ → ℕ → ℕ) (i : ℕ)
+lifted_sharp : {av am bv bm : ℕ} → Apart av am → Apart bv bm → (w : Width) (f : ℕ → ℕ → ℕ) (i : ℕ)
     → Occurs (av % 2 ^ width_bits w) (am % 2 ^ width_bits w) (bv % 2 ^ width_bits w) (bm % 2 ^ width_bits w) f i 0
     × Occurs (av % 2 ^ width_bits w) (am % 2 ^ width_bits w) (bv % 2 ^ width_bits w) (bm % 2 ^ width_bits w) f i 1
     → Occurs av am bv bm (λ x y. f (x % 2 ^ width_bits w) (y % 2 ^ width_bits w)) i 0

@@ -3,12 +3,12 @@ use Rattle.std.proofs.lemmas.Nat.{or_disjoint}
 use Rattle.std.proofs.lemmas.Bool.{cases_lt}
 use Rattle.known_bits.specs.declared.bits.Bits.{Bits}
 use Rattle.known_bits.specs.Bits.{SomePair}
-use Rattle.known_bits.proofs.Members.{known, Known}
+use Rattle.known_bits.proofs.Members.{known, Apart}
 use Rattle.known_bits.proofs.Sharp.{least_member, most_member}
 use Rattle.known_bits.proofs.bits.Bits.apart.Goals.{else-self-eq0-via-then-self-eq0+then-other-eq0+else-self-other, else-self-eq0-via-then-self-eq0+else-other-eq0, else-self-eq0-via-else-self-eq0}
 use Rattle.known_bits.proofs.bits.Bits.apart.Goals as goal
 
-some_left : (a b : Bits) → Known a.value a.mask → Known b.value b.mask → a.mask ≢ 0 → SomePair a b (λ x y. x ≢ y)
+some_left : (a b : Bits) → Apart a.value a.mask → Apart b.value b.mask → a.mask ≢ 0 → SomePair a b (λ x y. x ≢ y)
 some_left a b ka kb some =
     let e = or_disjoint a.value a.mask ka.apart in
     elim (cases_lt b.value (a.value + a.mask)) [
@@ -17,7 +17,7 @@ some_left a b ka kb some =
       | inr ge ↦ record { x = a.value; y = b.value; first = least_member ka; second = least_member kb; is = λ same. omega arith }
     ]
 
-some_right : (a b : Bits) → Known a.value a.mask → Known b.value b.mask → b.mask ≢ 0 → SomePair a b (λ x y. x ≢ y)
+some_right : (a b : Bits) → Apart a.value a.mask → Apart b.value b.mask → b.mask ≢ 0 → SomePair a b (λ x y. x ≢ y)
 some_right a b ka kb some =
     let e = or_disjoint b.value b.mask kb.apart in
     elim (cases_lt a.value (b.value + b.mask)) [

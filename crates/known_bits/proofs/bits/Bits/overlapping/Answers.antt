@@ -4,7 +4,7 @@ use Rattle.std.proofs.lemmas.Nat.{and_le_l, and_le_r, or_lt, one_shl}
 use Rattle.std.proofs.lemmas.Nat.Bits.{bit_at-trailing_zeros}
 use Rattle.known_bits.specs.declared.bits.Bits.{Bits}
 use Rattle.known_bits.specs.Member.{IsMember}
-use Rattle.known_bits.proofs.Members.{Known, known}
+use Rattle.known_bits.proofs.Members.{Apart, known}
 use Rattle.known_bits.proofs.Overlaps.{and_shared, shared_bit, same_place, one_place}
 use Rattle.known_bits.proofs.Sharp.{most_member}
 use Rattle.known_bits.proofs.bits.Bits.overlapping.Goals as goal
@@ -13,7 +13,7 @@ use Rattle.known_bits.proofs.bits.Bits.overlapping.Goals as goal
 abbrev shared : Bits → Bits → ℕ
 shared a b = bit_and (bit_or a.value a.mask) (bit_or b.value b.mask)
 
-shared_fits : (a b : Bits) → Known a.value a.mask → shared a b < 2 ^ 64
+shared_fits : (a b : Bits) → Apart a.value a.mask → shared a b < 2 ^ 64
 shared_fits a b ka =
     let le = and_le_l (bit_or a.value a.mask) (bit_or b.value b.mask) in
     let o = or_lt 64 a.value a.mask ka.value_in ka.mask_in in
@@ -23,18 +23,18 @@ shared_fits a b ka =
 abbrev lowest : Bits → Bits → ℕ
 lowest a b = trailing_zeros w64 (shared a b)
 
-lowest_inside : (a b : Bits) → Known a.value a.mask → shared a b ≢ 0 → lowest a b < 64
+lowest_inside : (a b : Bits) → Apart a.value a.mask → shared a b ≢ 0 → lowest a b < 64
 lowest_inside a b ka some =
     let fits = shared_fits a b ka in
     (bit_at-trailing_zeros w64 (shared a b) (omega arith) fits).0
 
 -- the only one
-lone : (a b : Bits) → Known a.value a.mask → shared a b ≢ 0
+lone : (a b : Bits) → Apart a.value a.mask → shared a b ≢ 0
     → shared a b ≡ 1 * 2 ^ lowest a b % 2 ^ 64 → shared a b ≡ 2 ^ lowest a b
 lone a b ka some one = one ∙ one_shl (lowest a b) 64 (lowest_inside a b ka some)
 
 -- which two members with a common bit have
-both_have : (a b : Bits) (x y : ℕ) → Known a.value a.mask → Known b.value b.mask
+both_have : (a b : Bits) (x y : ℕ) → Apart a.value a.mask → Apart b.value b.mask
     → IsMember a.value a.mask x → IsMember b.value b.mask y → bit_and x y ≢ 0 → shared a b ≢ 0
     → shared a b ≡ 1 * 2 ^ lowest a b % 2 ^ 64
     → (bit_at x (lowest a b) ≡ 1) × (bit_at y (lowest a b) ≡ 1)

@@ -2,7 +2,7 @@ use Rattle.std.proofs.Common.{◌≡◌, ◌<◌, ℕ, List, Option, Some, true,
 use Rattle.std.specs.Prelude.{is_some, nat_eq}
 use Rattle.std.specs.Cmp.Lexicographic.{pointwise, bytes_decides}
 use Rattle.map_indexes.specs.declared.chains.Link.{Link}
-use Rattle.map_indexes.specs.Slots.{slot}
+use Rattle.map_indexes.specs.PlaceKeys.{slot}
 use Rattle.map_indexes.specs.Chains.{in_chain, link_in, height}
 use Rattle.map_indexes.proofs.ChainLaws.{link_in-is, lower}
 use Rattle.map_indexes.proofs.ChainIndexesLaws.{Left, next_there, left_next, not_found}

@@ -2,9 +2,9 @@ use Rattle.std.proofs.Common.{◌≡◌, ℕ, ◌<◌, List, Option, Some, None,
 use Rattle.std.specs.Option.{option_map}
 use Rattle.std.proofs.lemmas.List.Elements.{All-from_get_or}
 use Rattle.std.specs.Prelude.{slice_set}
-use Rattle.map_indexes.specs.Slots.{Slots, slot, places, AreKeys}
+use Rattle.map_indexes.specs.PlaceKeys.{PlaceKeys, slot, places, AreKeys}
 use Rattle.map_indexes.proofs.KeyBytes.{AreKeys-put}
-use Rattle.map_indexes.specs.SlotLaws.{got}
+use Rattle.map_indexes.specs.PlaceKeyLaws.{got}
 use Rattle.map_indexes.proofs.SlotLaws.{places-added}
 use Rattle.map_indexes.specs.Hashing.{chain_of}
 use Rattle.map_indexes.specs.Chains.{spot, link_in}
@@ -14,7 +14,7 @@ use Rattle.map_indexes.proofs.ChainIndexesLaws.{chain_index-added, last_inside, 
 use Rattle.map_indexes.proofs.chained.ChainIndexIndex.add.Goals as goal
 
 -- a place without a key has no link
-no_link : (slots : Slots) (free : List ℕ) (count : ℕ) (chains nexts : List (Option ℕ))
+no_link : (slots : PlaceKeys) (free : List ℕ) (count : ℕ) (chains nexts : List (Option ℕ))
     → IsChainIndex slots free count (λ k. spot (link_in chains nexts k))
     → (p : ℕ) → slot slots p ≡ None → link_in chains nexts p ≡ None
 no_link slots free count chains nexts is p none = elim (link_in chains nexts p) as
@@ -50,7 +50,7 @@ add-requires-clause-free c =
 pub invariant_of-self-2-clause-index : goal.invariant_of-self-2-clause-index
 invariant_of-self-2-clause-index c =
     let s = c.args.self.now in
-    let slots : Slots = s.keys.slots in
+    let slots : PlaceKeys = s.keys.slots in
     let key : List ℕ = c.args.key.now in
     let rest : List ℕ = c.pop.new.self.items in
     let p : ℕ = c.in_ok-place.place in
@@ -58,7 +58,7 @@ invariant_of-self-2-clause-index c =
     let e = c.add.ensures in
     let new = λ (k : ℕ). spot (link_in t.chains t.nexts k) in
     let chain : c.chain_of-chain.result ≡ chain_of key s.chains.count = c.chain_of-chain.ensures.value ∙ ap (chain_of key) c.count.ensures in
-    subst (λ (x : Slots). IsChainIndex x rest t.count new) (sym c.put.ensures.slots)
+    subst (λ (x : PlaceKeys). IsChainIndex x rest t.count new) (sym c.put.ensures.slots)
     (subst (λ (x : ℕ). IsChainIndex (slice_set slots p (Some key)) rest x new) (sym e.count)
     (chain_index-added slots s.free.items s.chains.count (λ (k : ℕ). spot
     (link_in s.chains.chains s.chains.nexts k)) s.index rest p c.in_ok-place.ensures.items key
@@ -71,21 +71,21 @@ invariant_of-self-2-clause-index c =
 pub invariant_of-self-2-clause-sized : goal.invariant_of-self-2-clause-sized
 invariant_of-self-2-clause-sized c =
     let s = c.args.self.now in
-    let slots : Slots = s.keys.slots in
+    let slots : PlaceKeys = s.keys.slots in
     let key : List ℕ = c.args.key.now in
     let p : ℕ = c.in_ok-place.place in
     let spots = λ (k : ℕ). spot (link_in s.chains.chains s.chains.nexts k) in
     let inside = last_inside slots s.free.items s.chains.count spots s.index c.pop.new.self.items p c.in_ok-place.ensures.items in
     let new = c.put.new.self in
     subst (λ (n : ℕ). AreKeys n new.slots) (sym c.put.ensures.size)
-    (subst (λ (x : Slots). AreKeys s.keys.size x) (sym c.put.ensures.slots)
+    (subst (λ (x : PlaceKeys). AreKeys s.keys.size x) (sym c.put.ensures.slots)
     (AreKeys-put s.keys.size slots s.sized p inside key
     (record { long = c.requires.size; bytes = All-from_get_or (λ b. b < 256) key 0 (λ j l. omega (arith, c.type_inv.key j)) })))
 
 pub returns-clause-added : goal.returns-clause-added
 returns-clause-added c =
     let s = c.args.self.now in
-    let slots : Slots = s.keys.slots in
+    let slots : PlaceKeys = s.keys.slots in
     let key : List ℕ = c.args.key.now in
     let rest : List ℕ = c.pop.new.self.items in
     let p : ℕ = c.in_ok-place.place in
@@ -93,6 +93,6 @@ returns-clause-added c =
     let inside = last_inside slots s.free.items s.chains.count spots s.index rest p c.in_ok-place.ensures.items in
     let free = last_free slots s.free.items s.chains.count spots s.index rest p c.in_ok-place.ensures.items in
     record {
-      added = ap (λ (x : Slots). places x) c.put.ensures.slots ∙ places-added slots p key inside s.index.scan.distinct c.requires.absent free;
+      added = ap (λ (x : PlaceKeys). places x) c.put.ensures.slots ∙ places-added slots p key inside s.index.scan.distinct c.requires.absent free;
       free = λ k e. let h = got slots k p e in cc;
     }

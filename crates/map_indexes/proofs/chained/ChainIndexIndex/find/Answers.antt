@@ -1,7 +1,7 @@
 use Rattle.std.proofs.Common.{◌≡◌, ℕ, List, Option, Some, None, refl, sym, ap, ◌∙◌}
 use Rattle.std.specs.Prelude.{IfSome}
 use Rattle.std.specs.FinMap as map
-use Rattle.map_indexes.specs.Slots.{Slots, places}
+use Rattle.map_indexes.specs.PlaceKeys.{PlaceKeys, places}
 use Rattle.map_indexes.specs.Chains.{spot, link_in}
 use Rattle.map_indexes.specs.ChainIndexes.{IsChainIndex, HasKey}
 use Rattle.map_indexes.proofs.ChainLaws.{link_in-is}
@@ -9,7 +9,7 @@ use Rattle.map_indexes.proofs.ChainIndexesLaws.{found}
 use Rattle.map_indexes.proofs.chained.ChainIndexIndex.find.Goals as goal
 
 -- the number of a link is its place
-placed : (slots : Slots) (free : List ℕ) (count : ℕ) (chains nexts : List (Option ℕ))
+placed : (slots : PlaceKeys) (free : List ℕ) (count : ℕ) (chains nexts : List (Option ℕ))
     → IsChainIndex slots free count (λ k. spot (link_in chains nexts k))
     → (key : List ℕ) (at : Option ℕ) → IfSome at (HasKey slots (link_in chains nexts) key) → (at
     ≡ None → map.get (places slots) key ≡ None)

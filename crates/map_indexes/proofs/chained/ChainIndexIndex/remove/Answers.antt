@@ -1,7 +1,7 @@
 use Rattle.std.proofs.Common.{◌≡◌, ℕ, ◌-◌, List, [], ◌∷◌, ◌++◌, length, Some, None, refl, sym, ap, subst, ◌∙◌, arith, rules}
 use Rattle.std.specs.Prelude.{slice_set}
 use Rattle.std.specs.FinMap as map
-use Rattle.map_indexes.specs.Slots.{Slots, slot, places, AreKeys}
+use Rattle.map_indexes.specs.PlaceKeys.{PlaceKeys, slot, places, AreKeys}
 use Rattle.map_indexes.proofs.KeyBytes.{AreKeys-cleared}
 use Rattle.map_indexes.proofs.SlotLaws.{places-emptied, remove_absent}
 use Rattle.map_indexes.specs.ScanLaws.{slot_inside}
@@ -30,7 +30,7 @@ returns-in_err-place-clause-hash c = λ kind.
 pub invariant_of-self-clause-index : goal.invariant_of-self-clause-index
 invariant_of-self-clause-index c =
     let s = c.args.self.now in
-    let slots : Slots = s.keys.slots in
+    let slots : PlaceKeys = s.keys.slots in
     let free : List ℕ = s.free.items in
     let t = c.remove.new.self in
     let h = c.in_ok-place.ensures.found in
@@ -38,7 +38,7 @@ invariant_of-self-clause-index c =
     let e = c.remove.ensures in
     let at = (link_in-is s.chains.chains s.chains.nexts p h.link h.there).1 in
     let new = λ (k : ℕ). spot (link_in t.chains t.nexts k) in
-    subst (λ (x : Slots). IsChainIndex x c.push_reserved.new.self.items t.count new) (sym c.clear.ensures.slots)
+    subst (λ (x : PlaceKeys). IsChainIndex x c.push_reserved.new.self.items t.count new) (sym c.clear.ensures.slots)
     (subst (λ (x : List ℕ). IsChainIndex (slice_set slots p None) x t.count new) (sym c.push_reserved.ensures.items)
     (subst (λ (x : ℕ). IsChainIndex (slice_set slots p None) (free ++ p ∷ []) x new) (sym e.count)
     (chain_index-removed slots free s.chains.count (λ (k : ℕ). spot
@@ -50,25 +50,25 @@ invariant_of-self-clause-index c =
 pub invariant_of-self-clause-sized : goal.invariant_of-self-clause-sized
 invariant_of-self-clause-sized c =
     let s = c.args.self.now in
-    let slots : Slots = s.keys.slots in
+    let slots : PlaceKeys = s.keys.slots in
     let p : ℕ = c.in_ok-place.place in
     let new = c.clear.new.self in
     subst (λ (n : ℕ). AreKeys n new.slots) (sym c.clear.ensures.size)
-    (subst (λ (x : Slots). AreKeys s.keys.size x) (sym c.clear.ensures.slots)
+    (subst (λ (x : PlaceKeys). AreKeys s.keys.size x) (sym c.clear.ensures.slots)
     (AreKeys-cleared s.keys.size slots s.sized p (slot_inside slots p c.args.key.now (has
     (goal.at.invariant_of-self-clause-sized c).In_ok-place))))
 
 pub returns-clause-hash : goal.returns-clause-hash
 returns-clause-hash c = λ kind.
     let s = c.args.self.now in
-    let slots : Slots = s.keys.slots in
+    let slots : PlaceKeys = s.keys.slots in
     let h = c.in_ok-place.ensures.found in
     let p : ℕ = c.in_ok-place.place in
     let is = has (goal.at.returns-clause-hash c).In_ok-place in
     let at = (link_in-is s.chains.chains s.chains.nexts p h.link h.there).1 in (
       ap Some (sym at) ∙ sym (found slots s.free.items s.chains.count
           (link_in s.chains.chains s.chains.nexts) s.index c.args.key.now p h),
-      ap (λ (x : Slots). places x) c.clear.ensures.slots
+      ap (λ (x : PlaceKeys). places x) c.clear.ensures.slots
           ∙ places-emptied slots p c.args.key.now (slot_inside slots p c.args.key.now is)
           s.index.scan.distinct is,
     )
@@ -76,7 +76,7 @@ returns-clause-hash c = λ kind.
 pub push_reserved-requires : goal.push_reserved-requires
 push_reserved-requires c =
     let s = c.args.self.now in
-    let slots : Slots = s.keys.slots in
+    let slots : PlaceKeys = s.keys.slots in
     let some = scan_some slots (length slots - length s.free.items) s.index.scan c.args.key.now
     c.in_ok-place.place (has (goal.at.push_reserved-requires c).In_ok-place) in
     let few = s.index.few in

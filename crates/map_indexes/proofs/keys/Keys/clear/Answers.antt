@@ -1,6 +1,6 @@
 use Rattle.std.proofs.Common.{ap, ◌∙◌, arith}
 use Rattle.std.specs.Prelude.{slice_set, None}
-use Rattle.map_indexes.specs.Slots.{KeyTable}
+use Rattle.map_indexes.specs.PlaceKeys.{KeyTable}
 use Rattle.map_indexes.proofs.KeyLaws.{slots_of-unused}
 use Rattle.map_indexes.proofs.KeyLemmas.{table_places}
 use Rattle.map_indexes.proofs.keys.Keys.clear.Goals as goal

@@ -1,7 +1,7 @@
 use Rattle.std.proofs.Common.{ap, sym, ◌∙◌, arith, false}
 use Rattle.std.proofs.lemmas.List.{get_or_read}
 use Rattle.std.specs.Prelude.{is_some}
-use Rattle.map_indexes.specs.Slots.{KeyTable, slot}
+use Rattle.map_indexes.specs.PlaceKeys.{KeyTable, slot}
 use Rattle.map_indexes.proofs.KeyLaws.{is_some-slot}
 use Rattle.map_indexes.proofs.KeyLemmas.{table_places}
 use Rattle.map_indexes.proofs.keys.Keys.is_used.Goals as goal

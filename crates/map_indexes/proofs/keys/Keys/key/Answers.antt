@@ -3,7 +3,7 @@ use Rattle.std.proofs.lemmas.List.{length-take, length-drop}
 use Rattle.std.specs.Prelude.{is_some}
 use Rattle.map_indexes.specs.Rows.{row_at}
 use Rattle.map_indexes.specs.RowLaws.{row_end}
-use Rattle.map_indexes.specs.Slots.{KeyTable, slot, slots_of}
+use Rattle.map_indexes.specs.PlaceKeys.{KeyTable, slot, slots_of}
 use Rattle.map_indexes.proofs.KeyLaws.{slot-used, used_inside}
 use Rattle.map_indexes.proofs.keys.Keys.key.Goals as goal
 

@@ -1,6 +1,6 @@
 use Rattle.std.proofs.Common.{◌≡◌, ap, ◌∙◌, List, Bool, false}
 use Rattle.std.specs.Prelude.{replicate}
-use Rattle.map_indexes.specs.Slots.{slots_of}
+use Rattle.map_indexes.specs.PlaceKeys.{slots_of}
 use Rattle.map_indexes.proofs.KeyLaws.{slots_of-replicate}
 use Rattle.map_indexes.proofs.keys.Keys.new.Goals as goal
 

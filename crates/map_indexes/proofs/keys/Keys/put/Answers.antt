@@ -2,7 +2,7 @@ use Rattle.std.proofs.Common.{◌≡◌, ℕ, ◌<◌, List, length, ap, sym, �
 use Rattle.std.specs.Prelude.{slice_set, Some}
 use Rattle.map_indexes.specs.Rows.{with_row}
 use Rattle.map_indexes.specs.RowLaws.{row_end, length-with_row}
-use Rattle.map_indexes.specs.Slots.{KeyTable, slots_of}
+use Rattle.map_indexes.specs.PlaceKeys.{KeyTable, slots_of}
 use Rattle.map_indexes.proofs.KeyLaws.{slots_of-put}
 use Rattle.map_indexes.proofs.KeyLemmas.{table_places, lent_whole}
 use Rattle.map_indexes.proofs.keys.Keys.put.Goals as goal

@@ -1,6 +1,6 @@
 use Rattle.std.proofs.Common.{ap, sym, ◌∙◌, subst, arith, ◌+◌}
-use Rattle.map_indexes.specs.Slots.{Slots, IsScan, places}
-use Rattle.map_indexes.specs.SlotLaws.{got}
+use Rattle.map_indexes.specs.PlaceKeys.{PlaceKeys, IsScan, places}
+use Rattle.map_indexes.specs.PlaceKeyLaws.{got}
 use Rattle.map_indexes.proofs.SlotLaws.{places-added}
 use Rattle.map_indexes.specs.ScanLaws.{scan_few}
 use Rattle.map_indexes.proofs.ScanLaws.{scan-added}
@@ -30,7 +30,7 @@ invariant_of-self c =
     let s = c.args.self.now in
     let v = c.vacant-place in
     record {
-      scan = subst (λ (slots : Slots). IsScan slots (s.len + 1)) (sym c.put.ensures.slots)
+      scan = subst (λ (slots : PlaceKeys). IsScan slots (s.len + 1)) (sym c.put.ensures.slots)
           (scan-added s.keys.slots s.len s.scan c.args.key.now v.result v.ensures.in_range v.ensures.free c.requires.absent);
     }
 
@@ -39,7 +39,7 @@ returns-clause-added c =
     let s = c.args.self.now in
     let v = c.vacant-place in
     record {
-      added = ap (λ (slots : Slots). places slots) c.put.ensures.slots
+      added = ap (λ (slots : PlaceKeys). places slots) c.put.ensures.slots
           ∙ places-added s.keys.slots v.result c.args.key.now v.ensures.in_range s.scan.distinct c.requires.absent v.ensures.free;
       free = λ k e. let h = got s.keys.slots k v.result e in let f = v.ensures.free in cc;
     }

@@ -1,5 +1,5 @@
 use Rattle.std.proofs.Common.{◌≡◌, ℕ, ◌<◌, Some}
-use Rattle.map_indexes.specs.Slots.{slot}
+use Rattle.map_indexes.specs.PlaceKeys.{slot}
 use Rattle.map_indexes.proofs.scan.ScanIndexIndex.find.Given as goal
 
 abbrev pub invariant-loop-i : goal.invariant-loop-i

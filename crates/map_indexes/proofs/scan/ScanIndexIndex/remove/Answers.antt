@@ -1,6 +1,6 @@
 use Rattle.std.proofs.Common.{ap, sym, ◌∙◌, subst, rules, ◌-◌}
-use Rattle.map_indexes.specs.Slots.{Slots, IsScan, places}
-use Rattle.map_indexes.specs.SlotLaws.{got}
+use Rattle.map_indexes.specs.PlaceKeys.{PlaceKeys, IsScan, places}
+use Rattle.map_indexes.specs.PlaceKeyLaws.{got}
 use Rattle.map_indexes.proofs.SlotLaws.{places-emptied}
 use Rattle.map_indexes.proofs.SlotLaws.{remove_absent}
 use Rattle.map_indexes.specs.ScanLaws.{slot_inside}
@@ -25,7 +25,7 @@ invariant_of-self c =
     let s = c.args.self.now in
     let here = got s.keys.slots c.args.key.now c.in_ok-place.place (sym c.in_ok-place.ensures) in
     record {
-      scan = subst (λ (slots : Slots). IsScan slots (s.len - 1)) (sym c.clear.ensures.slots)
+      scan = subst (λ (slots : PlaceKeys). IsScan slots (s.len - 1)) (sym c.clear.ensures.slots)
           (scan-emptied s.keys.slots s.len s.scan c.args.key.now c.in_ok-place.place here);
     }
 
@@ -34,6 +34,6 @@ returns-clause-hash c = λ kind.
     let s = c.args.self.now in
     let here = got s.keys.slots c.args.key.now c.in_ok-place.place (sym c.in_ok-place.ensures) in (
       c.in_ok-place.ensures,
-      ap (λ (slots : Slots). places slots) c.clear.ensures.slots
+      ap (λ (slots : PlaceKeys). places slots) c.clear.ensures.slots
           ∙ places-emptied s.keys.slots c.in_ok-place.place c.args.key.now (slot_inside s.keys.slots c.in_ok-place.place c.args.key.now here) s.scan.distinct here,
     )

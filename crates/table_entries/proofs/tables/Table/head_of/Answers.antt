@@ -1,7 +1,7 @@
 use Rattle.std.proofs.Common.{◌≡◌, Some, subst, arith}
 use Rattle.std.specs.Prelude.{slice_get}
 use Rattle.table_entries.specs.Entries.{entry_of}
-use Rattle.table_entries.specs.Tables.{Kept, entry_at}
+use Rattle.table_entries.specs.Tables.{TableView, entry_at}
 use Rattle.table_entries.proofs.Numbers.{allowed-in, read-at, found-at}
 use Rattle.table_entries.proofs.tables.Table.head_of.Goals as goal
 
@@ -12,11 +12,11 @@ returns-clause-allowed c =
 pub returns-clause-entry : goal.returns-clause-entry
 returns-clause-entry c =
     let p = c.args.image.now in
-    let t : Kept = record { bytes = c.self.inside.bytes.now; places = c.self.inside.places.items } in
+    let t : TableView = record { bytes = c.self.inside.bytes.now; places = c.self.inside.places.items } in
     let place = c.in_ok-place.field-0.now in
     let a = c.args.state.now in
     let found = c.in_ok-place.ensures.lookup in
     let there : slice_get t.places c.args.index ≡ Some place =
     found-at t.places c.deref.result.now c.args.index place c.deref.ensures.value (omega arith) found.1 in
-    subst (λ (v : Kept). entry_at p v c.args.index ≡ Some (entry_of c.in_ok-head.head a)) c.self.view_is
+    subst (λ (v : TableView). entry_at p v c.args.index ≡ Some (entry_of c.in_ok-head.head a)) c.self.view_is
     (read-at p t c.args.index place (Some c.in_ok-head.head) a _ there (rw c.bytes_from.ensures at c.in_ok-head.ensures))

@@ -1,13 +1,13 @@
 use Rattle.std.proofs.Common.{◌≡◌, ◌∙◌, sym, None, refl}
 use Rattle.std.specs.Prelude.{map}
-use Rattle.table_entries.specs.Tables.{Kept, entry_from, first_none, all_of}
+use Rattle.table_entries.specs.Tables.{TableView, entry_from, first_none, all_of}
 use Rattle.table_entries.proofs.Rows.{KeepsEntries-places}
 use Rattle.table_entries.proofs.tables.Table.of.Goals as goal
 
 pub returns-in-None : goal.returns-in-None
 returns-in-None c =
     let p = c.args.image.now in
-    let t : Kept = record { bytes = c.args.bytes.now; places = c.in_ok-places.places.items } in
+    let t : TableView = record { bytes = c.args.bytes.now; places = c.in_ok-places.places.items } in
     let placed = c.in_ok-places.ensures in
     let xs = map (entry_from p t.bytes) t.places in
     let none : first_none 0 xs ≡ None = sym placed.first_is ∙ c.in-None.is in

@@ -3,7 +3,7 @@ use Rattle.std.specs.Prelude.{slice_set}
 use Rattle.live_maps.specs.Live.{Serials}
 use Rattle.live_maps.specs.Numbering.{all_above}
 use Rattle.live_maps.proofs.AboveLaws.{all_above-set, above_back}
-use Rattle.live_maps.proofs.table.Table.give.Goals as goal
+use Rattle.live_maps.proofs.table.SerialTable.give.Goals as goal
 
 pub returns : goal.returns
 returns c =

@@ -4,7 +4,7 @@ use Rattle.live_maps.specs.Live.{Serials, has_serial}
 use Rattle.live_maps.specs.Numbering.{above}
 use Rattle.live_maps.proofs.AboveLaws.{position-map}
 use Rattle.live_maps.proofs.SearchLaws.{position-once}
-use Rattle.live_maps.proofs.table.Table.find.Goals as goal
+use Rattle.live_maps.proofs.table.SerialTable.find.Goals as goal
 
 pub returns-in-Some : goal.returns-in-Some
 returns-in-Some c = sym (position-once c.args.serial c.in-Some.place c.args.self.now c.requires c.in-Some.ensures)

@@ -3,7 +3,7 @@ use Rattle.std.proofs.lemmas.List.{length-map}
 use Rattle.live_maps.specs.Live.{Serials}
 use Rattle.live_maps.specs.Numbering.{above}
 use Rattle.live_maps.proofs.AboveLaws.{serial_in-above}
-use Rattle.live_maps.proofs.table.Table.start.Goals as goal
+use Rattle.live_maps.proofs.table.SerialTable.start.Goals as goal
 
 pub returns-clause-none : goal.returns-clause-none
 returns-clause-none c p = serial_in-above c.args.first c.clear.new.serials.items p ∙ ap (above c.args.first) (c.clear.ensures.none p)

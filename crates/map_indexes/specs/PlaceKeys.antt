@@ -10,22 +10,22 @@ abbrev pub Places : Type 0
 Places = FinMap key_order ℕ
 
 -- the key of each place, from place 0 on
-abbrev pub Slots : Type 0
-Slots = List (Option (List ℕ))
+abbrev pub PlaceKeys : Type 0
+PlaceKeys = List (Option (List ℕ))
 
-abbrev pub slot : Slots → ℕ → Option (List ℕ)
+abbrev pub slot : PlaceKeys → ℕ → Option (List ℕ)
 slot slots place = slice_index_or slots place None
 
-abbrev pub entries_from : ℕ → Slots → List (List ℕ × ℕ)
+abbrev pub entries_from : ℕ → PlaceKeys → List (List ℕ × ℕ)
 entries_from at [] = []
 entries_from at (None ∷ slots) = entries_from (at + 1) slots
 entries_from at (Some key ∷ slots) = (key, at) ∷ entries_from (at + 1) slots
 
-abbrev pub places : Slots → Places
+abbrev pub places : PlaceKeys → Places
 places slots = from_entries (entries_from 0 slots)
 
 -- no key has two places
-abbrev pub IsDistinct : Slots → Type 0
+abbrev pub IsDistinct : PlaceKeys → Type 0
 IsDistinct slots = (i j : ℕ) (key : List ℕ) → slot slots i ≡ Some key → slot slots j ≡ Some key → i ≡ j
 
 -- a key has the map's key size
@@ -33,11 +33,11 @@ pub record IsKey (size : ℕ) (key : List ℕ) : Type 0 where
   pub long : length key ≡ size
   pub bytes : AreBytes key
 
-abbrev pub AreKeys : ℕ → Slots → Type 0
+abbrev pub AreKeys : ℕ → PlaceKeys → Type 0
 AreKeys size slots = (p : ℕ) (key : List ℕ) → slot slots p ≡ Some key → IsKey size key
 
 -- the slots that a block of keys has where its places are in use
-abbrev pub slots_of : ℕ → List ℕ → ℕ → List Bool → Slots
+abbrev pub slots_of : ℕ → List ℕ → ℕ → List Bool → PlaceKeys
 slots_of size block at [] = []
 slots_of size block at (true ∷ used) = Some (row_at size block at) ∷ slots_of size block (at + 1) used
 slots_of size block at (false ∷ used) = None ∷ slots_of size block (at + 1) used
@@ -45,7 +45,7 @@ slots_of size block at (false ∷ used) = None ∷ slots_of size block (at + 1) 
 -- the keys of one size by place
 pub record KeyTable : Type 0 where
   pub size : ℕ
-  pub slots : Slots
+  pub slots : PlaceKeys
 
 -- the key takes a place that no key had, and every other key keeps its own
 pub record TakesPlace (old : Places) (key : List ℕ) (p : ℕ) (new : Places) : Type 0 where
@@ -53,13 +53,13 @@ pub record TakesPlace (old : Places) (key : List ℕ) (p : ℕ) (new : Places) :
   pub free : (k : List ℕ) → get old k ≢ Some p
 
 -- how many places have a key
-abbrev pub key_count : Slots → ℕ
+abbrev pub key_count : PlaceKeys → ℕ
 key_count [] = 0
 key_count (None ∷ slots) = key_count slots
 key_count (Some key ∷ slots) = key_count slots + 1
 
 -- no key has two places, and this is how many places have one
-pub record IsScan (slots : Slots) (count : ℕ) : Type 0 where
+pub record IsScan (slots : PlaceKeys) (count : ℕ) : Type 0 where
   pub distinct : IsDistinct slots
   pub counted : count ≡ key_count slots
   pub mapped : count ≡ len (places slots)

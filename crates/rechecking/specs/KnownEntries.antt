@@ -9,12 +9,12 @@ use Rattle.rechecking.specs.declared.entries.Known.TheVariants as known
 use Rattle.rechecking.specs.Tables.{EntryAt}
 
 -- the entry with this index has this state, and this head beside it
-pub record StandsAt (p : Program) (t : EntryAt) (index : ℕ) (head : Head) (a : State) : Type 0 where
+pub record HasEntry (p : Program) (t : EntryAt) (index : ℕ) (head : Head) (a : State) : Type 0 where
   pub allowed : IsAllowed p head.number a.slot
   pub there : t index ≡ Some (entry_of head a)
 
 -- the state of the known entry is in the first room or in the second
 abbrev pub IsKnownEntry : Program → EntryAt → State → State → Known → Type 0
 IsKnownEntry p t a b known.None = Unit {0}
-IsKnownEntry p t a b (known.First index head) = StandsAt p t index head a
-IsKnownEntry p t a b (known.Second index head) = StandsAt p t index head b
+IsKnownEntry p t a b (known.First index head) = HasEntry p t index head a
+IsKnownEntry p t a b (known.Second index head) = HasEntry p t index head b

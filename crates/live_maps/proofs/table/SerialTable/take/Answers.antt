@@ -2,7 +2,7 @@ use Rattle.std.proofs.Common.{◌∙◌, ap, None}
 use Rattle.std.specs.Prelude.{slice_set}
 use Rattle.live_maps.specs.Live.{Serials}
 use Rattle.live_maps.proofs.AboveLaws.{all_above-set}
-use Rattle.live_maps.proofs.table.Table.take.Goals as goal
+use Rattle.live_maps.proofs.table.SerialTable.take.Goals as goal
 
 pub returns : goal.returns
 returns c =
