@@ -2,8 +2,8 @@
 use Rattle.std.proofs.Common.{◌≡◌, ℕ, List, Option, Some, None, String, Result, Ok, Err, false, subst, sym, inl, inr, ◌⊎◌}
 use Rattle.std.specs.Prelude.{IfSome}
 use Rattle.std.specs.String.{string_bytes}
-use Rattle.buffered_io.specs.declared.PromptWriter.{PromptWriter}
-use Rattle.buffered_io.specs.Waiting.{held}
+use Rattle.exact_io.specs.declared.buffering.PromptWriter.{PromptWriter}
+use Rattle.exact_io.specs.Waiting.{held}
 use Rattle.std.specs.declared.alloc.Global.{Global}
 use Rattle.isa_model.specs.{Program}
 use Rattle.tasks.specs.Requests.{TaskRequest, ProofFiles, Trace, Run, Verify, Prove, Recheck, Assemble, Disassemble}

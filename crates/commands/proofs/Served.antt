@@ -2,8 +2,8 @@
 use Rattle.std.proofs.Common.{◌≡◌, ℕ, List, Option, Some, None, Err, true, subst, sym, refl, inl, inr}
 use Rattle.std.proofs.lemmas.Bool.{both_ways}
 use Rattle.std.specs.String.{string_bytes}
-use Rattle.buffered_io.specs.declared.PromptWriter.{PromptWriter}
-use Rattle.buffered_io.specs.Waiting.{held}
+use Rattle.exact_io.specs.declared.buffering.PromptWriter.{PromptWriter}
+use Rattle.exact_io.specs.Waiting.{held}
 use Rattle.std.proofs.KnownBytes.{Keeps-refl}
 use Rattle.tasks.specs.declared.WordsError.{WordsError}
 use Rattle.tasks.specs.declared.WordsError.TheVariants.{Wrong, Memory}

@@ -1,7 +1,7 @@
 -- What the program does where it is given words.
 use Rattle.std.specs.Prelude.{◌≡◌, ℕ, List, ◌++◌, Option, Some, ◌⊎◌}
-use Rattle.buffered_io.specs.declared.PromptWriter.{PromptWriter}
-use Rattle.buffered_io.specs.Waiting.{held}
+use Rattle.exact_io.specs.declared.buffering.PromptWriter.{PromptWriter}
+use Rattle.exact_io.specs.Waiting.{held}
 use Rattle.isa_model.specs.declared.instructions.Insn.{Insn}
 use Rattle.isa_model.specs.declared.streams.Fault.{Fault}
 use Rattle.isa_model.specs.{Program}

@@ -2,11 +2,11 @@
 
 ghost use Rattle.std.specs.Prelude.{◌≡◌, ◌≢◌, ◌≤◌, map, MatchResult};
 ghost use Rattle.std.specs.String.{string_bytes};
-ghost use Rattle.buffered_io.specs.Waiting.{held};
+ghost use Rattle.exact_io.specs.Waiting.{held};
 ghost use Rattle.serving.specs.HandingOn.{IsFlushed};
 ghost use Rattle.commands.specs.Executing.{AnswersWords, AnswersError, IsTold, TellsDone, TellsFault};
 
-use buffered_io::PromptWriter;
+use exact_io::PromptWriter;
 use serving::{Outcome, serve};
 use std::io::Write;
 use std::rt::{Clock, Files};

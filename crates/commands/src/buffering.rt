@@ -1,9 +1,9 @@
 //! The buffer in front of standard output.
 
 ghost use Rattle.std.specs.Prelude.{◌≡◌, [], None, IfOk, if◌then◌else◌};
-ghost use Rattle.buffered_io.specs.Waiting.{behind, failure_of, prompt_left, waiting};
+ghost use Rattle.exact_io.specs.Waiting.{behind, failure_of, prompt_left, waiting};
 
-use buffered_io::PromptWriter;
+use exact_io::PromptWriter;
 use std::alloc::Global;
 use std::io;
 use std::io::Write;

@@ -65,7 +65,7 @@ frame_line span bytes =
 abbrev pub packet_line : (span behind : List ℕ) → (proved : ℕ) → List ℕ
 packet_line span behind proved =
     span ++ (behind ++ (codes "; " ++ (decimal proved ++ codes
-        " are proved: compare a pointer after them with the packet end, or correct the offset\n")))
+    " are proved: compare a pointer after them with the packet end, or correct the offset\n")))
 
 abbrev pub value_line : (span : List ℕ) → (bytes : ℕ) → List ℕ
 value_line span bytes =

@@ -97,7 +97,7 @@ abbrev pub other_line : Program → ℕ → Option ℕ → List ℕ
 other_line p slot None = []
 other_line p slot (Some to) =
     other_words to (function_words p (function_at p to (length p.insns)))
-        (function_words p (function_at p slot (length p.insns)))
+    (function_words p (function_at p slot (length p.insns)))
 
 -- what is after the end of a function: the end of the code, or another function
 abbrev pub next_line : ℕ → Option ℕ → List ℕ

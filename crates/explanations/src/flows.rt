@@ -191,12 +191,7 @@ fn function_words(alloc: Global, image: &Image, begin: usize) -> Result<String, 
 }
 
 // Where a jump leads, the function that is in, and the one of the jump.
-fn other_words(
-    alloc: Global,
-    to: usize,
-    there: &str,
-    here: &str,
-) -> Result<String, AllocError>
+fn other_words(alloc: Global, to: usize, there: &str, here: &str) -> Result<String, AllocError>
     ensures { IfOk result (λ text. string_bytes text ≡ other_words to there.now here.now) }
 {
     format!(in alloc;

@@ -6,7 +6,7 @@ ghost use Rattle.state_index.specs.Parts.{AreBlank, AreParts};
 use crate::kept_frames::{KeptFrame, are_frames, keep_all, restore_all};
 use isa_model::FRAME_SIZE;
 use stack_state::{AbstractFrame, State};
-use state_index::{Fingerprints, Key, PlaceLimits, Part, take_parts, take_register_parts};
+use state_index::{Fingerprints, Key, Part, PlaceLimits, take_parts, take_register_parts};
 use std::alloc::{AllocError, Global};
 use std::marker::Model;
 use std::rc::Rc;

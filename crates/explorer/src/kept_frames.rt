@@ -9,7 +9,7 @@ use crate::pieces::{FEW, KeptParts, Rest, may_cover_all, words_of, write_all};
 use arrayvec::ArrayVec;
 use reg_state::Kind;
 use stack_state::{AbstractFrame, FRAME_SLOTS, MAX_CALLERS, Slot};
-use state_index::{Fingerprints, PlaceLimits, Part, add_limits, take_parts};
+use state_index::{Fingerprints, Part, PlaceLimits, add_limits, take_parts};
 use std::alloc::{AllocError, Global};
 use std::marker::Model;
 

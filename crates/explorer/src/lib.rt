@@ -27,7 +27,7 @@ pub use kept::Kept;
 pub use limited::{Stop, verify_within};
 pub use listened::{own_words, verify_with};
 pub use listening::Listener;
-pub use listing::{ExploredInsn, Explored, explore};
+pub use listing::{Explored, ExploredInsn, explore};
 pub use moves::Halt;
 pub use verified::verify;
 pub use walks::Refusal;

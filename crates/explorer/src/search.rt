@@ -15,7 +15,7 @@ ghost use Rattle.explorer.specs.Listening.{BeginsPath, BeginFails, TellsStep, St
 
 use crate::kept::Kept;
 use crate::listening::{Listener, halt, tell};
-use crate::moves::{Halt, Move, NO_MEMORY, Refused, NextMove};
+use crate::moves::{Halt, Move, NO_MEMORY, NextMove, Refused};
 use crate::stored_states::StoredStates;
 use crate::trail::{Trail, Visit};
 use control_flow::Flow;

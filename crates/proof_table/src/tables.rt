@@ -14,7 +14,7 @@ use bounds::Verified;
 use byteorder::{ByteOrder, LittleEndian};
 use control_flow::FlowError;
 use exact_io::write_bytes;
-use explorer::{ExploredInsn, Explored, Refusal, explore};
+use explorer::{Explored, ExploredInsn, Refusal, explore};
 use image::Image;
 use isa_model::MAX_EXPLORED;
 use stack_state::State;

@@ -15,7 +15,7 @@ use super::same::is_same_file;
 use super::screens::Screen;
 use super::streams::{run_stream, store_image, trace_stream};
 use super::verdicts::{assembled, image_of, judge, say_text, say_verdict, size_line};
-use buffered_io::PromptWriter;
+use exact_io::PromptWriter;
 use image::Image;
 use isa_model::{MAX_MAPS, MAX_SLOTS};
 use std::alloc::Global;

@@ -1,13 +1,13 @@
 //! Proof tables that are written.
 
 ghost use Rattle.std.specs.Prelude.{◌≡◌};
-ghost use Rattle.buffered_io.specs.Waiting.{behind, held};
+ghost use Rattle.exact_io.specs.Waiting.{behind, held};
 ghost use Rattle.serving.specs.Proving.{EndsUnwritten, StoresTable};
 
 use super::outcomes::Outcome;
 use super::rejections::Rejection;
 use super::verdicts::say_line;
-use buffered_io::PromptWriter;
+use exact_io::PromptWriter;
 use explorer::Verified;
 use proof_table::{WriteTableError, write_table};
 use std::alloc::Global;

@@ -101,8 +101,7 @@ fn codec_cure(error: CodecError) -> &'static str
 {
     match error {
         CodecError::Short => "\nthe file was cut: make it again\n",
-        CodecError::UnknownOpcode =>
-            "\nno instruction begins with this byte; \
+        CodecError::UnknownOpcode => "\nno instruction begins with this byte; \
              legacy packet loads become loads by a pointer\n",
         CodecError::UnknownRegister =>
             "\nregisters are 0 to 10; the second byte has two, 4 bits each\n",

@@ -58,8 +58,7 @@ fn trap_line(reason: TrapReason) -> &'static str
         TrapReason::BadPointer =>
             "stack, packet and value pointers move by += and -= of a number, at 64 bits\n",
         TrapReason::OutOfRange => "a pointer moves by at most 536870912 bytes\n",
-        TrapReason::BadAccess =>
-            "bytes are not there: test the packet's length or a look-up's r0, \
+        TrapReason::BadAccess => "bytes are not there: test the packet's length or a look-up's r0, \
              or correct the offset\n",
         TrapReason::BadCompare =>
             "compare a packet pointer with the packet end, a value pointer with 0, at 64 bits\n",

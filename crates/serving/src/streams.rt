@@ -2,14 +2,14 @@
 
 ghost use Rattle.serving.specs.Judging.{StoresImage};
 ghost use Rattle.serving.specs.Streams.{EndsTask, Traces, RunsAccepted};
-ghost use Rattle.buffered_io.specs.Waiting.{behind, failure_of, held};
+ghost use Rattle.exact_io.specs.Waiting.{behind, failure_of, held};
 
 use super::endings::Ending;
 use super::forms::FileForm;
 use super::outcomes::{Outcome, STANDARD_OUTPUT};
 use super::stopped::{at_end, lines_of_stops};
 use super::verdicts::say_line;
-use buffered_io::PromptWriter;
+use exact_io::PromptWriter;
 use explorer::Verified;
 use host::{HostError, Tally, run, run_checked, tally_in};
 use image::Image;

@@ -14,7 +14,7 @@ use super::reading::read_file;
 use super::rechecks::shown;
 use super::streams::run_stream;
 use super::verdicts::{accepted, bound_line, judge};
-use buffered_io::PromptWriter;
+use exact_io::PromptWriter;
 use explorer::Verified;
 use std::alloc::Global;
 use std::io::Write;

@@ -1,6 +1,6 @@
 //! Rows of words that tell entries apart: what a tree is made of.
 
-use crate::limits::{PlaceLimits, MEASURES, Measure, Span, from_place, measured, widen};
+use crate::limits::{MEASURES, Measure, PlaceLimits, Span, from_place, measured, widen};
 use std::alloc::{AllocError, Global};
 
 /// How many words a row has at most.

@@ -3,7 +3,7 @@
 //! No contract rests on them: they propose states, and `covers` decides.
 
 use crate::efforts::Effort;
-use crate::limits::{PlaceLimits, Measure, may_enclose};
+use crate::limits::{Measure, PlaceLimits, may_enclose};
 use crate::orders::Order;
 use crate::rows::{Rows, WIDTH, put_measured};
 use std::alloc::{AllocError, Global};

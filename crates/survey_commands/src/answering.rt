@@ -5,7 +5,7 @@ ghost use Rattle.std.specs.Prelude.{◌≤◌, IfOk};
 use crate::failures::Failure;
 use crate::looks::{Look, look_at};
 use crate::surveying::survey;
-use buffered_io::PromptWriter;
+use exact_io::PromptWriter;
 use std::io::Write;
 use std::rt::{Clock, Files};
 use survey_words::{Asked, read_words};

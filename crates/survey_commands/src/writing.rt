@@ -8,7 +8,7 @@ use std::alloc::{AllocError, Global};
 use std::io::Write;
 use std::rt::Files;
 use survey_rows::{
-    Column, EarlierError, Grid, RowLayout, Row, changes_since, csv_text, grid_of, json_text,
+    Column, EarlierError, Grid, Row, RowLayout, changes_since, csv_text, grid_of, json_text,
     shown_width, sort, table_text,
 };
 use survey_words::{Format, Survey};

@@ -17,6 +17,6 @@ pub use columns::Column;
 pub use csvs::csv_text;
 pub use earlier::EarlierError;
 pub use jsons::json_text;
-pub use rows::{Counts, RowLayout, Row, Verdict, grid_of, sort};
+pub use rows::{Counts, Row, RowLayout, Verdict, grid_of, sort};
 pub use summaries::Summary;
 pub use tables::{shown, shown_width, table_text};

@@ -1,6 +1,6 @@
 //! What is written of images that are accepted, refused and missing, and an output that fails.
 
-use buffered_io::PromptWriter;
+use exact_io::PromptWriter;
 use failing_io::{Failure, Writer};
 use std::alloc::Global;
 use std::fs;

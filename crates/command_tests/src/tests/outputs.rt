@@ -2,9 +2,8 @@
 //! nothing is tried again.
 
 use super::{PASSED, RUN, VERIFY, remove_files, sink, status_with, words_of, write_files};
-use buffered_io::PromptWriter;
 use commands::execute;
-use exact_io::write_bytes;
+use exact_io::{PromptWriter, write_bytes};
 use failing_io::{Failure, FlushedWriter, Writer};
 use std::io::{ErrorKind, Write};
 use std::process::Abort;

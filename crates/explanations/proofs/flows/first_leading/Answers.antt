@@ -6,4 +6,4 @@ pub returns : goal.returns
 returns c =
     let all : c.loop-slot.slot ≡ length c.args.image.now.insns = omega arith in
     subst (λ n. c.loop-slot.found ≡ first_leading c.args.image.now c.args.to n) all
-        c.loop-slot.invariant
+    c.loop-slot.invariant

@@ -6,4 +6,4 @@ pub returns : goal.returns
 returns c =
     let all : c.loop-index.index ≡ length c.args.slots.now - 1 = omega arith in
     subst (λ n. c.loop-index.found ≡ last_back c.args.image.now c.args.slots.now n) all
-        c.loop-index.invariant
+    c.loop-index.invariant

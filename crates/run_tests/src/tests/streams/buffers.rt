@@ -1,7 +1,6 @@
 //! Writers whose first bytes go through at once.
 
-use buffered_io::PromptWriter;
-use exact_io::write_bytes;
+use exact_io::{PromptWriter, write_bytes};
 use failing_io::{FAILURES, Writer};
 use std::io::Write;
 use std::test::Fail;

@@ -1,5 +1,5 @@
 use Rattle.std.proofs.Common.{◌∙◌, Some, ap, refl, sym}
-use Rattle.buffered_io.specs.Waiting.{waiting}
+use Rattle.exact_io.specs.Waiting.{waiting}
 use Rattle.serving.proofs.Delivered.{fails_at_the_end}
 use Rattle.serving.proofs.streams.outcome_of.Goals as goal
 

@@ -5,7 +5,7 @@ use Rattle.std.specs.Io.Buffered.{writer_buffer, writer_inner}
 use Rattle.std.specs.Io.KnownBytes.{append_known}
 use Rattle.std.specs.declared.io.ErrorKind.{ErrorKind}
 use Rattle.std.specs.declared.io.Error.{Error}
-use Rattle.buffered_io.specs.declared.PromptWriter.{PromptWriter}
+use Rattle.exact_io.specs.declared.buffering.PromptWriter.{PromptWriter}
 
 -- the writer behind the buffer
 abbrev pub behind : {W : Type 0} → PromptWriter W → W

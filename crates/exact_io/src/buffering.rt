@@ -2,8 +2,6 @@
 //!
 //! std's `BufWriter` keeps all bytes until it is full. A file that cannot be written is then found
 //! only when much else has been done.
-#![tactic(auto)]
-
 ghost use Rattle.std.specs.Prelude.{◌≡◌, ◌<◌, ◌-◌, [], length, None, Some, IfOk, OnOk, IfErr, MatchResult};
 ghost use Rattle.std.specs.IoError.{error_kind};
 ghost use Rattle.std.specs.Io.{WritesAtMost};
@@ -27,7 +25,7 @@ pub struct PromptWriter<W: Write + Drop> {
 }
 
 impl<W: Write + Drop> PromptWriter<W> {
-    ghost use Rattle.buffered_io.specs.Waiting.{behind, failure_of, held, prompt_left, waiting};
+    ghost use Rattle.exact_io.specs.Waiting.{behind, failure_of, held, prompt_left, waiting};
 
     /// Puts a buffer in front of a writer. The first `prompt` bytes are written through at once.
     pub fn new(alloc: Global, capacity: usize, prompt: usize, writer: W) -> io::Result<Self>
@@ -88,7 +86,7 @@ impl<W: Write + Drop> PromptWriter<W> {
 }
 
 impl<W: Write + Drop> Write for PromptWriter<W> {
-    ghost use Rattle.buffered_io.specs.Waiting.{FailsWith, failure_of, held, prompt_left, waiting};
+    ghost use Rattle.exact_io.specs.Waiting.{FailsWith, failure_of, held, prompt_left, waiting};
 
     ghost contents = { held W.contents };
 
