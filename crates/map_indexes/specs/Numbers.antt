@@ -1,5 +1,5 @@
 -- Numbers, or none, as codes.
-use Rattle.std.proofs.Common.{ℕ, zero, suc, Option, Some, None}
+use Rattle.std.specs.Prelude.{ℕ, zero, suc, Option, Some, None}
 
 -- a code is one more than its number, or 0
 abbrev pub number_of : ℕ → Option ℕ
