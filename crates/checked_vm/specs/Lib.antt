@@ -1,4 +1,3 @@
-pub mod Messages
 pub mod Reads
 pub mod Machine
 pub mod Outcomes

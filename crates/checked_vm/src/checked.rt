@@ -3,13 +3,13 @@
 ghost use Rattle.std.specs.Prelude.{◌≡◌, ◌+◌, ◌≤◌, ℕ, length, IfOk};
 ghost use Rattle.isa_model.specs.{max_packet};
 ghost use Rattle.isa_model.specs.Code.Limits.{max_steps};
-ghost use Rattle.isa_model.specs.Running.Runs.{turn};
 ghost use Rattle.isa_model.specs.Reporting.Reports.{starting_contents};
 ghost use Rattle.maps.specs.Maps.{rows_of, contents_of};
+ghost use Rattle.checked_vm.specs.Machines.{turn_from};
 ghost use Rattle.checked_vm.specs.Stops.{stop_of};
 
+use crate::VmError;
 use crate::core_state::Core;
-use crate::errors::VmError;
 use crate::stops::Stop;
 use image::Image;
 use isa_model::{Clock, End, FrameHead, Version};
@@ -73,7 +73,7 @@ impl Checked {
         ensures made { IfOk result (λ machine. machine
             ≡ record { program = image; contents = contents_of maps }) }
     {
-        let _slots = image.slots();
+        image.recall();
         let core = Core::new(alloc, LiveMaps::new(alloc, maps)?)?;
         Ok(Checked { image, core })
     }
@@ -92,23 +92,17 @@ impl Checked {
         requires some { 1 ≤ limit }
         requires most { limit ≤ max_steps }
         ensures ends { result
-            ≡ (turn self.old.program limit (C.at clock.old) head packet.old
-            self.old.contents).ends }
+            ≡ (turn_from self.old limit (C.at clock.old) head packet.old).ends }
         ensures packet { packet.new
-            ≡ (turn self.old.program limit (C.at clock.old) head packet.old
-            self.old.contents).packet }
+            ≡ (turn_from self.old limit (C.at clock.old) head packet.old).packet }
         ensures contents { self.new.contents
-            ≡ (turn self.old.program limit (C.at clock.old) head packet.old
-            self.old.contents).contents }
+            ≡ (turn_from self.old limit (C.at clock.old) head packet.old).contents }
         ensures program { self.new.program ≡ self.old.program }
         ensures clock { (k : ℕ) → C.at clock.new k
-            ≡ C.at clock.old ((turn self.old.program limit (C.at clock.old) head packet.old
-            self.old.contents).clock_calls + k) }
+            ≡ C.at clock.old ((turn_from self.old limit (C.at clock.old) head packet.old).clock_calls
+            + k) }
     {
-        let _slots = self.image.slots();
-        let version = version_of(&self.image);
-        self.core
-            .run(self.image.code(), version, head, packet, clock, limit)
+        self.run_to_stop(head, packet, clock, limit).end
     }
 
     /// Runs the program as `run` does, and answers where the run stopped.
@@ -126,20 +120,17 @@ impl Checked {
         ensures stop { result
             ≡ stop_of self.old.program limit (C.at clock.old) head packet.old self.old.contents }
         ensures ends { result.end
-            ≡ (turn self.old.program limit (C.at clock.old) head packet.old
-            self.old.contents).ends }
+            ≡ (turn_from self.old limit (C.at clock.old) head packet.old).ends }
         ensures packet { packet.new
-            ≡ (turn self.old.program limit (C.at clock.old) head packet.old
-            self.old.contents).packet }
+            ≡ (turn_from self.old limit (C.at clock.old) head packet.old).packet }
         ensures contents { self.new.contents
-            ≡ (turn self.old.program limit (C.at clock.old) head packet.old
-            self.old.contents).contents }
+            ≡ (turn_from self.old limit (C.at clock.old) head packet.old).contents }
         ensures program { self.new.program ≡ self.old.program }
         ensures clock { (k : ℕ) → C.at clock.new k
-            ≡ C.at clock.old ((turn self.old.program limit (C.at clock.old) head packet.old
-            self.old.contents).clock_calls + k) }
+            ≡ C.at clock.old ((turn_from self.old limit (C.at clock.old) head packet.old).clock_calls
+            + k) }
     {
-        let _slots = self.image.slots();
+        self.image.recall();
         let version = version_of(&self.image);
         let end = self
             .core

@@ -12,7 +12,6 @@ mod cells;
 pub mod checked;
 mod comparisons;
 mod core_state;
-pub mod errors;
 mod forms;
 mod memory;
 mod places;
@@ -23,5 +22,5 @@ pub mod stops;
 mod values;
 
 pub use checked::Checked;
-pub use errors::VmError;
+pub use maps::MapError as VmError;
 pub use stops::Stop;

@@ -1,4 +1,3 @@
-pub mod Messages
 pub mod Running
 pub mod Ready
 pub mod Entries

@@ -9,7 +9,7 @@ ghost use Rattle.maps.specs.Maps.{rows_of, contents_of};
 ghost use Rattle.machine.specs.Running.{AnswersRun, RunsWithinBound};
 ghost use Rattle.machine.specs.Entries.{row_at, content_at, ordered_at, AnswersUpdate, AnswersDelete, CopiesEntry};
 
-use super::errors::VmError;
+use crate::VmError;
 use bounds::Verified;
 use isa_model::{Clock, FrameHead, MAX_KEY_SIZE, MapDef};
 use maps::Maps;
@@ -75,8 +75,7 @@ impl Machine {
           contents = contents_of maps;
         }) }
     {
-        // only for the proof: this call says that the contents fit the rows
-        let _count = maps.count();
+        maps.say_fits();
         let bound = verified.bound();
         let Ok(program) = Loaded::new(alloc, verified.into_image()) else {
             return Err(VmError::Memory);
@@ -135,8 +134,7 @@ impl Machine {
         ensures size { IfSome result (λ value. length value.now
             ≡ (row_at self.now map).value_size) }
     {
-        // only for the proof: this call says what is known of each map
-        let _count = self.memory.maps.count();
+        self.memory.maps.say_fits();
         self.memory.maps.lookup(map, key)
     }
 
@@ -148,10 +146,9 @@ impl Machine {
         requires value_size { length value.now ≡ (row_at self.old map).value_size }
         ensures { AnswersUpdate map key.now value.now flags result self.old self.new }
     {
-        // only for the proof: these calls say what is known of each map, before and after
-        let _count = self.memory.maps.count();
+        self.memory.maps.say_fits();
         let answer = self.memory.maps.update(map, key, value, flags);
-        let _after = self.memory.maps.count();
+        self.memory.maps.say_fits();
         answer
     }
 
@@ -161,10 +158,9 @@ impl Machine {
         requires key_size { length key.now ≡ (row_at self.old map).key_size }
         ensures { AnswersDelete map key.now result self.old self.new }
     {
-        // only for the proof: these calls say what is known of each map, before and after
-        let _count = self.memory.maps.count();
+        self.memory.maps.say_fits();
         let answer = self.memory.maps.delete(map, key);
-        let _after = self.memory.maps.count();
+        self.memory.maps.say_fits();
         answer
     }
 
@@ -178,8 +174,7 @@ impl Machine {
             key.old key.new value.old value.new }
         ensures machine { self.new ≡ self.old }
     {
-        // only for the proof: this call says what is known of each map
-        let _count = self.memory.maps.count();
+        self.memory.maps.say_fits();
         let mut front = [0; MAX_KEY_SIZE as usize];
         let entries = self.memory.maps.order(map);
         let Some(found) = entries.entry(k, &mut front) else {
@@ -199,8 +194,7 @@ impl Machine {
         ensures bound { self.new.bound ≡ self.old.bound }
     {
         in_range(head, packet);
-        // only for the proof: this call says what is known of each map
-        let _count = self.memory.maps.count();
+        self.memory.maps.say_fits();
         self.memory.interface = head.interface;
         self.memory.queue = head.queue;
         let mut regs = [0, CONTEXT, 0, 0, 0, 0, 0, 0, 0, 0, FRAME_END];

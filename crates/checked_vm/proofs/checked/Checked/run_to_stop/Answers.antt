@@ -7,5 +7,5 @@ pub run-end-requires-clause-named : goal.run-end-requires-clause-named
 run-end-requires-clause-named g c = λ slot i found.
     let image = c.self.inside.image in
     let there : slice_index_or image.insns slot None ≡ Some i = rw c.code.ensures at found in
-    let named = NamesRows-fetch image slot i c.slots-slots.ensures.fits (fetch_at image slot i there) in
+    let named = NamesRows-fetch image slot i c.recall.ensures (fetch_at image slot i there) in
     rw c.self.invariant.1 named

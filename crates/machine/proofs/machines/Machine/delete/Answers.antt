@@ -9,7 +9,7 @@ invariant_of-self c =
     let new = c.delete-answer.new.self in
     ready_again p bound memory new c.self.invariant
     (keeps_rows p bound memory.maps c.self.invariant.rows c.args.self.now c.self.view_is c.args.map c.requires.map new c.delete-answer.ensures.others c.delete-answer.ensures.deleted.row)
-    c.count-after.ensures.maps
+    c.say_fits-2.ensures
 
 pub returns : goal.returns
 returns c =

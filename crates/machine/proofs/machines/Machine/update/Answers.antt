@@ -9,7 +9,7 @@ invariant_of-self c =
     let new = c.update-answer.new.self in
     ready_again p bound memory new c.self.invariant
     (keeps_rows p bound memory.maps c.self.invariant.rows c.args.self.now c.self.view_is c.args.map c.requires.map new c.update-answer.ensures.others c.update-answer.ensures.updated.row)
-    c.count-after.ensures.maps
+    c.say_fits-2.ensures
 
 pub returns : goal.returns
 returns c =
