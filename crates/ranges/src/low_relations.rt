@@ -23,9 +23,7 @@ impl Range {
             → L.Has self.low (y % 2 ^ 32)) }
         ensures tight { IfSome result (λ p. IsTight p.0 × IsTight p.1) }
     {
-        let left = self.low_limited(other.low)?;
-        let right = other.low_limited(self.low)?;
-        Some((left, right))
+        self.both_low_limited(other, other.low, self.low)
     }
 
     /// Those whose low half is below that of some number of the other, and those above one.
@@ -43,9 +41,9 @@ impl Range {
         if other.low.greatest == 0 || self.low.least == u32::MAX {
             return None;
         }
-        let left = self.low_from_to(0, other.low.greatest - 1)?;
-        let right = other.low_from_to(self.low.least + 1, u32::MAX)?;
-        Some((left, right))
+        let left = Low::between(0, other.low.greatest - 1);
+        let right = Low::between(self.low.least + 1, u32::MAX);
+        self.both_low_limited(other, left, right)
     }
 
     /// Those whose low half is at most that of some number of the other, and those at least one.
@@ -60,9 +58,9 @@ impl Range {
             → self.low.least ≤ y % 2 ^ 32) }
         ensures tight { IfSome result (λ p. IsTight p.0 × IsTight p.1) }
     {
-        let left = self.low_from_to(0, other.low.greatest)?;
-        let right = other.low_from_to(self.low.least, u32::MAX)?;
-        Some((left, right))
+        let left = Low::between(0, other.low.greatest);
+        let right = Low::between(self.low.least, u32::MAX);
+        self.both_low_limited(other, left, right)
     }
 
     /// Those whose low half is below that of some number of the other, and those above one, read as
@@ -82,10 +80,9 @@ impl Range {
         if other.low.signed_greatest == i32::MIN || self.low.signed_least == i32::MAX {
             return None;
         }
-        let above = self.low.signed_least + 1;
-        let left = self.low_signed_from_to(i32::MIN, other.low.signed_greatest - 1)?;
-        let right = other.low_signed_from_to(above, i32::MAX)?;
-        Some((left, right))
+        let left = Low::signed_between(i32::MIN, other.low.signed_greatest - 1);
+        let right = Low::signed_between(self.low.signed_least + 1, i32::MAX);
+        self.both_low_limited(other, left, right)
     }
 
     /// Those whose low half is at most that of some number of the other, and those at least one,
@@ -102,9 +99,9 @@ impl Range {
             → self.low.signed_least ≤ℤ cast_signed w32 (y % 2 ^ 32)) }
         ensures tight { IfSome result (λ p. IsTight p.0 × IsTight p.1) }
     {
-        let left = self.low_signed_from_to(i32::MIN, other.low.signed_greatest)?;
-        let right = other.low_signed_from_to(self.low.signed_least, i32::MAX)?;
-        Some((left, right))
+        let left = Low::signed_between(i32::MIN, other.low.signed_greatest);
+        let right = Low::signed_between(self.low.signed_least, i32::MAX);
+        self.both_low_limited(other, left, right)
     }
 
     /// Those whose low half differs from that of some number of the other, and the other way round.
@@ -155,9 +152,26 @@ impl Range {
         ensures right_limit { IfSome result (λ p. (y : ℕ) → Has p.1 y → 0 < y % 2 ^ 32) }
         ensures tight { IfSome result (λ p. IsTight p.0 × IsTight p.1) }
     {
-        let left = self.low_from_to(1, u32::MAX)?;
-        let right = other.low_from_to(1, u32::MAX)?;
-        Some((left, right))
+        let not_zero = Low::between(1, u32::MAX);
+        self.both_low_limited(other, not_zero, not_zero)
+    }
+
+    // Those whose low halves are within limits, and those of the other within its own. None: either
+    // has none.
+    fn both_low_limited(self, other: Self, left: Low, right: Low) -> Option<(Self, Self)>
+        ensures common { (x y : ℕ) → Has self x → Has other y → L.Has left (x % 2 ^ 32)
+            → L.Has right (y % 2 ^ 32)
+            → IsSomeAnd result (λ p. Has p.0 x × Has p.1 y) }
+        ensures left { IfSome result (λ p. (x : ℕ) → Has p.0 x → Has self x) }
+        ensures right { IfSome result (λ p. (y : ℕ) → Has p.1 y → Has other y) }
+        ensures left_limits { IfSome result (λ p. (x : ℕ) → Has p.0 x → L.Has left (x % 2 ^ 32)) }
+        ensures right_limits { IfSome result (λ p. (y : ℕ) → Has p.1 y
+            → L.Has right (y % 2 ^ 32)) }
+        ensures tight { IfSome result (λ p. IsTight p.0 × IsTight p.1) }
+    {
+        let first = self.low_limited(left)?;
+        let second = other.low_limited(right)?;
+        Some((first, second))
     }
 
     // Those whose low half is from one number to another.

@@ -2,6 +2,7 @@
 
 ghost use Rattle.std.specs.Prelude.{◌≡◌, ◌≢◌, ◌⊎◌, ℕ, ◌<◌, ◌≤◌, ◌<ℤ◌, ◌≤ℤ◌, None, IsSomeAnd, IfSome, bit_and};
 ghost use Rattle.std.specs.Int.{w64, cast_signed};
+ghost use Rattle.ranges.specs.Wides as W;
 
 use crate::range::Range;
 use crate::wide::Wide;
@@ -22,9 +23,9 @@ impl Range {
         if other.wide.greatest == 0 || self.wide.least == u64::MAX {
             return None;
         }
-        let left = self.from_to(0, other.wide.greatest - 1)?;
-        let right = other.from_to(self.wide.least + 1, u64::MAX)?;
-        Some((left, right))
+        let left = Wide::between(0, other.wide.greatest - 1);
+        let right = Wide::between(self.wide.least + 1, u64::MAX);
+        self.both_limited(other, left, right)
     }
 
     /// Those at most some number of the other, and those at least one.
@@ -37,9 +38,9 @@ impl Range {
         ensures right_limit { IfSome result (λ p. (y : ℕ) → Has p.1 y → self.wide.least ≤ y) }
         ensures tight { IfSome result (λ p. IsTight p.0 × IsTight p.1) }
     {
-        let left = self.from_to(0, other.wide.greatest)?;
-        let right = other.from_to(self.wide.least, u64::MAX)?;
-        Some((left, right))
+        let left = Wide::between(0, other.wide.greatest);
+        let right = Wide::between(self.wide.least, u64::MAX);
+        self.both_limited(other, left, right)
     }
 
     /// Those below some number of the other, and those above one, read as signed numbers.
@@ -58,10 +59,9 @@ impl Range {
         if other.wide.signed_greatest == i64::MIN || self.wide.signed_least == i64::MAX {
             return None;
         }
-        let above = self.wide.signed_least + 1;
-        let left = self.signed_from_to(i64::MIN, other.wide.signed_greatest - 1)?;
-        let right = other.signed_from_to(above, i64::MAX)?;
-        Some((left, right))
+        let left = Wide::signed_between(i64::MIN, other.wide.signed_greatest - 1);
+        let right = Wide::signed_between(self.wide.signed_least + 1, i64::MAX);
+        self.both_limited(other, left, right)
     }
 
     /// Those at most some number of the other, and those at least one, read as signed numbers.
@@ -77,9 +77,9 @@ impl Range {
             → self.wide.signed_least ≤ℤ cast_signed w64 y) }
         ensures tight { IfSome result (λ p. IsTight p.0 × IsTight p.1) }
     {
-        let left = self.signed_from_to(i64::MIN, other.wide.signed_greatest)?;
-        let right = other.signed_from_to(self.wide.signed_least, i64::MAX)?;
-        Some((left, right))
+        let left = Wide::signed_between(i64::MIN, other.wide.signed_greatest);
+        let right = Wide::signed_between(self.wide.signed_least, i64::MAX);
+        self.both_limited(other, left, right)
     }
 
     /// Those that differ from some number of the other, and the other way round.
@@ -127,9 +127,23 @@ impl Range {
         ensures right_limit { IfSome result (λ p. (y : ℕ) → Has p.1 y → 0 < y) }
         ensures tight { IfSome result (λ p. IsTight p.0 × IsTight p.1) }
     {
-        let left = self.from_to(1, u64::MAX)?;
-        let right = other.from_to(1, u64::MAX)?;
-        Some((left, right))
+        let not_zero = Wide::between(1, u64::MAX);
+        self.both_limited(other, not_zero, not_zero)
+    }
+
+    // Those within limits, and those of the other within its own. None: either has none.
+    fn both_limited(self, other: Self, left: Wide, right: Wide) -> Option<(Self, Self)>
+        ensures common { (x y : ℕ) → Has self x → Has other y → W.Has left x → W.Has right y
+            → IsSomeAnd result (λ p. Has p.0 x × Has p.1 y) }
+        ensures left { IfSome result (λ p. (x : ℕ) → Has p.0 x → Has self x) }
+        ensures right { IfSome result (λ p. (y : ℕ) → Has p.1 y → Has other y) }
+        ensures left_limits { IfSome result (λ p. (x : ℕ) → Has p.0 x → W.Has left x) }
+        ensures right_limits { IfSome result (λ p. (y : ℕ) → Has p.1 y → W.Has right y) }
+        ensures tight { IfSome result (λ p. IsTight p.0 × IsTight p.1) }
+    {
+        let first = self.limited(left)?;
+        let second = other.limited(right)?;
+        Some((first, second))
     }
 
     // Those from one number to another.
