@@ -1,6 +1,6 @@
 //! Arithmetic on kinds.
 
-ghost use Rattle.reg_state.specs.Arithmetic.{IsNegated, IsSignExtended, IsReordered};
+ghost use Rattle.reg_state.specs.Arithmetic.{IsAlu, IsNegated, IsSignExtended, IsReordered};
 ghost use Rattle.branch_refine.specs.Refining.{IsJust};
 ghost use Rattle.transfer.specs.Results.{OfNumber, IsLowWord, NumberAnd, PointerAnd, Combined, Copied, Arithmetic};
 
@@ -47,12 +47,19 @@ pub fn reordered(order: ByteOrder, span: Span, kind: Kind) -> Result<Kind, Refus
     }
 }
 
+/// What an operation gives on two numbers.
+fn computed(op: AluOp, width: Width, a: Scalar, b: Scalar) -> Scalar
+    ensures { IsAlu op width a b result }
+{
+    Scalar::alu(op, width, a, b)
+}
+
 /// The low 32 bits of a number.
 fn low_word(kind: Kind) -> Result<Kind, Refusal>
     ensures { OfNumber IsLowWord kind result }
 {
     match kind {
-        Kind::Number(a) => Ok(Kind::Number(Scalar::alu(AluOp::Mov, Width::Low32, a, a))),
+        Kind::Number(a) => Ok(Kind::Number(computed(AluOp::Mov, Width::Low32, a, a))),
         _ => Err(Refusal::PointerOperand),
     }
 }
@@ -72,7 +79,7 @@ fn number_and(state: &State, op: AluOp, width: Width, a: Scalar, b: Kind) -> Res
     ensures { NumberAnd state.now op width a b result }
 {
     match b {
-        Kind::Number(number) => Ok(Kind::Number(Scalar::alu(op, width, a, number))),
+        Kind::Number(number) => Ok(Kind::Number(computed(op, width, a, number))),
         _ => number_and_pointer(state, op, width, a, b),
     }
 }
