@@ -8,32 +8,10 @@ use std::alloc::{AllocError, Global};
 use std::io::Write;
 use std::rt::Files;
 use survey_rows::{
-    Column, EarlierError, Grid, Row, RowLayout, changes_since, csv_text, grid_of, json_text,
-    shown_width, sort, table_text,
+    COLUMNS, Column, EarlierError, Grid, Row, RowLayout, changes_since, csv_text, grid_of,
+    json_text, shown_width, sort, table_text,
 };
 use survey_words::{Format, Survey};
-
-/// The columns of a survey without proof tables.
-const COLUMNS: [Column; 11] = [
-    Column::File,
-    Column::Verdict,
-    Column::Slot,
-    Column::Slots,
-    Column::Maps,
-    Column::Bound,
-    Column::Explored,
-    Column::Stored,
-    Column::Deepest,
-    Column::StoredBytes,
-    Column::Milliseconds,
-];
-
-/// Those that proof tables add.
-const TABLE_COLUMNS: [Column; 3] = [
-    Column::TableBytes,
-    Column::ProveMilliseconds,
-    Column::RecheckMilliseconds,
-];
 
 /// What is asked for, and how rows are laid out for it.
 #[derive(Drop)]
@@ -51,9 +29,12 @@ impl Sheet<'_> {
 
 /// The columns of a survey.
 fn columns_of(alloc: Global, survey: &Survey<'_>) -> Result<Vec<Column>, AllocError> {
-    let mut columns = Vec::from_slice(alloc, &COLUMNS)?;
-    if survey.tables.is_some() {
-        columns.extend_from_slice(&TABLE_COLUMNS)?;
+    let has_tables = survey.tables.is_some();
+    let mut columns = Vec::with_capacity(alloc, COLUMNS.len())?;
+    for column in COLUMNS {
+        if has_tables || !column.is_of_proof_tables() {
+            columns.push(column)?;
+        }
     }
     Ok(columns)
 }

@@ -1,26 +1,12 @@
 //! The differences from an earlier survey.
 
 use crate::cells::{Cell, Grid, Head, cell_text};
-use crate::columns::Column;
+use crate::columns::{COLUMNS, Column};
 use crate::earlier::{Earlier, EarlierError};
 use crate::rows::Row;
 use csv::ByteRecord;
 use indexmap::IndexSet;
 use std::alloc::{AllocError, Global};
-
-/// The columns that are compared: those that another run repeats.
-const COMPARED: [Column; 10] = [
-    Column::Verdict,
-    Column::Slot,
-    Column::Slots,
-    Column::Maps,
-    Column::Bound,
-    Column::Explored,
-    Column::Stored,
-    Column::Deepest,
-    Column::StoredBytes,
-    Column::TableBytes,
-];
 
 const HEADS: [Head; 5] = [
     Head {
@@ -120,7 +106,7 @@ fn add_column(
     Ok(())
 }
 
-/// Adds what changed of an image.
+/// Adds what changed of an image, in the columns that another run repeats.
 fn add_changes(
     alloc: Global,
     earlier: &Earlier,
@@ -128,7 +114,10 @@ fn add_changes(
     row: &Row,
     rows: &mut Vec<Vec<Cell>>,
 ) -> Result<(), AllocError> {
-    for column in COMPARED {
+    for column in COLUMNS {
+        if column == Column::File || column.is_time() {
+            continue;
+        }
         if let Some(old) = earlier.field(record, column) {
             add_column(alloc, row, column, old, rows)?;
         }

@@ -36,7 +36,7 @@ pub enum Column {
 }
 
 /// All of them, in their order.
-const COLUMNS: [Column; 14] = [
+pub const COLUMNS: [Column; 14] = [
     Column::File,
     Column::Verdict,
     Column::Slot,
@@ -93,6 +93,14 @@ impl Column {
         matches!(
             self,
             Column::Milliseconds | Column::ProveMilliseconds | Column::RecheckMilliseconds
+        )
+    }
+
+    /// Whether only a survey of proof tables has it.
+    pub fn is_of_proof_tables(self) -> bool {
+        matches!(
+            self,
+            Column::TableBytes | Column::ProveMilliseconds | Column::RecheckMilliseconds
         )
     }
 

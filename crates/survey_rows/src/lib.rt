@@ -13,7 +13,7 @@ mod tables;
 
 pub use cells::{Cell, Grid, Head};
 pub use changes::changes_since;
-pub use columns::Column;
+pub use columns::{COLUMNS, Column};
 pub use csvs::csv_text;
 pub use earlier::EarlierError;
 pub use jsons::json_text;
