@@ -111,7 +111,7 @@ fn update<C: Clock>(regs: &[u64; 11], memory: &mut Memory, packet: &[u8], clock:
         flags: regs[4],
     };
     let answer = call(&mut memory.maps, &request, clock);
-    let _count = memory.maps.count();
+    memory.maps.say_fits();
     number(answer)
 }
 
@@ -141,7 +141,7 @@ fn delete<C: Clock>(regs: &[u64; 11], memory: &mut Memory, packet: &[u8], clock:
         flags: 0,
     };
     let answer = call(&mut memory.maps, &request, clock);
-    let _count = memory.maps.count();
+    memory.maps.say_fits();
     number(answer)
 }
 

@@ -18,5 +18,5 @@ returns-clause-deletes g c =
     let answer = c.call-answer.ensures.answer in
     let Is : Answer → Type 0 =
     λ a. IsNumberAnswer a (λ n. Deleted given n (map_at c.args.memory.now.maps m) (map_at c.call-answer.new.maps m)) in
-    deletes w m same c.call-answer.new.maps c.count-count.ensures.maps c.requires.map answer.1
+    deletes w m same c.call-answer.new.maps c.say_fits.ensures c.requires.map answer.1
     _ c.number.result key (subst Is c.number.ensures answer.0)

@@ -23,5 +23,5 @@ returns-clause-updates g c =
     let answer = c.call-answer.ensures.answer in
     let Is : Answer → Type 0 =
     λ a. IsNumberAnswer a (λ n. Updated given c.front-value.result.now (word_at w R4) n (map_at c.args.memory.now.maps m) (map_at c.call-answer.new.maps m)) in
-    updates w m same c.call-answer.new.maps c.count-count.ensures.maps c.requires.key.map answer.1
+    updates w m same c.call-answer.new.maps c.say_fits.ensures c.requires.key.map answer.1
     _ c.front-value.result.now c.number.result key value (subst Is c.number.ensures answer.0)
