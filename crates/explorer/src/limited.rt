@@ -124,8 +124,7 @@ pub fn verify_within(alloc: Global, image: Image, limit: u32) -> Result<Verified
             Err((refusal, slot)) => Err(Stop::Refused(refusal, slot)),
         };
     }
-    // only for the proof: this call says that the program is an image's, which `verified` needs
-    let _slots = image.slots();
+    image.recall();
     match bound_within(alloc, &image, limit) {
         Ok(bound) => Ok(Verified::from_within(image, bound)),
         Err(stop) => Err(stop),

@@ -65,8 +65,7 @@ pub fn verify_with<L: Listener>(
     ensures accepts { IfErr result (λ h. IfRefused h (λ e _. AcceptsAll image e)) }
     ensures bounds { IfOk result (λ verified. BoundsAll image verified.bound) }
 {
-    // only for the proof: this call says that the program is an image's, which `verified` needs
-    let _slots = image.slots();
+    image.recall();
     match bound_with(alloc, &image, listener) {
         Ok(bound) => Ok(Verified::from_within(image, bound)),
         Err(halt) => Err(halt),

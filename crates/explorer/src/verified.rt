@@ -59,8 +59,7 @@ pub fn verify(alloc: Global, image: Image) -> Result<Verified, (Refusal, usize)>
     ensures accepts { IfErr result (λ r. AcceptsAll image r.0) }
     ensures bounds { IfOk result (λ verified. BoundsAll image verified.bound) }
 {
-    // only for the proof: this call says that the program is an image's, which `verified` needs
-    let _slots = image.slots();
+    image.recall();
     let bound = bound_of(alloc, &image)?;
     Ok(Verified::from_within(image, bound))
 }

@@ -15,3 +15,4 @@ pub mod GuardedParts
 pub mod Guards
 pub mod GuardedWalks
 pub mod Guarded
+pub mod AcceptingLaws

@@ -1,41 +1,24 @@
-use Rattle.std.proofs.Common.{◌≡◌, ℕ, rules}
 use Rattle.isa_model.specs.Code.Instructions.{Program}
-use Rattle.image.specs.Images.{IsImage}
+use Rattle.isa_model.specs.Machine.MachineStates.{IsProgram}
 use Rattle.image.proofs.Programs.{IsProgram-IsImage}
-use Rattle.bounds.specs.Bounds.{Bounded}
-use Rattle.stack_state.specs.Starts.{start}
 use Rattle.walks.specs.Refused.{IsRefused}
-use Rattle.walks.specs.Accepting.{AcceptsAll, BoundsAll}
-use Rattle.walks.specs.Counts.{HasNumber}
-use Rattle.walks.proofs.Plain.{IsPlain-refused, IsPlain-bound}
-use Rattle.walks.proofs.Determined.{IsDetermined-refused, IsDetermined-bound}
-use Rattle.walks.proofs.Guarded.{IsGuarded-refused, IsGuarded-bound}
+use Rattle.walks.specs.Accepting.{AcceptsAll}
+use Rattle.walks.proofs.AcceptingLaws.{AcceptsAll-refused, BoundsAll-number}
 use Rattle.explorer.specs.declared.moves.Halt.{Halt}
 use Rattle.explorer.specs.declared.moves.Halt.TheVariants.{Refused, Stopped}
 use Rattle.explorer.specs.Listening.{IfRefused}
 use Rattle.explorer.proofs.listened.verify_with.Goals as goal
 
--- a refusal is one that programs which must be accepted do not get
-accepting : {S : Type 0} (p : Program) (h : Halt S) → IsImage p → IfRefused h (IsRefused p) → IfRefused h (λ e _. AcceptsAll p e)
-accepting p (Refused e slot) image refused = record {
-  plain = λ h. IsPlain-refused p e slot refused h;
-  determined = λ steps h. IsDetermined-refused p steps e slot (IsProgram-IsImage p image) refused h;
-  guarded = λ len h. IsGuarded-refused p len e slot refused h;
-}
-accepting p (Stopped stop) image refused = tt
-
--- and a number is the bound that is known of them
-bounds : (p : Program) (v : Bounded) (n : ℕ) → IsImage p → HasNumber p start n → v ≡ record { program = p; bound = n } → BoundsAll p v.bound
-bounds p v n image number e = rw e (record {
-  plain = λ h. IsPlain-bound p n number h;
-  determined = λ steps h. IsDetermined-bound p steps n (IsProgram-IsImage p image) number h;
-  guarded = λ len h. IsGuarded-bound p len n number h;
-})
+accepting : {S : Type 0} (p : Program) (h : Halt S) → IsProgram p → IfRefused h (IsRefused p) → IfRefused h (λ e _. AcceptsAll p e)
+accepting p (Refused e slot) program refused = AcceptsAll-refused p e slot program refused
+accepting p (Stopped stop) program refused = tt
 
 pub returns-in-Ok-clause-bounds : goal.returns-in-Ok-clause-bounds
 returns-in-Ok-clause-bounds g c =
-    bounds c.args.image c.from_within.result c.in-Ok.bound c.slots-slots.ensures.fits c.in-Ok.ensures.number c.from_within.ensures
+    let program = IsProgram-IsImage c.args.image c.recall.ensures in
+    rw c.from_within.ensures (BoundsAll-number c.args.image c.in-Ok.bound program c.in-Ok.ensures.number)
 
 pub returns-in-Err-clause-accepts : goal.returns-in-Err-clause-accepts
 returns-in-Err-clause-accepts g c =
-    accepting c.args.image c.in-Err.halt c.slots-slots.ensures.fits c.in-Err.ensures.refused
+    let program = IsProgram-IsImage c.args.image c.recall.ensures in
+    accepting c.args.image c.in-Err.halt program c.in-Err.ensures.refused
