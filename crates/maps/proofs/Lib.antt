@@ -2,6 +2,7 @@ pub mod AllMaps
 pub mod CommandLaws
 pub mod ContentLaws
 pub mod EitherLaws
+pub mod InsertLaws
 pub mod MapLaws
 pub mod MapsLaws
 pub mod ReportOrderLaws

@@ -1,6 +1,6 @@
 //! All maps of an image.
 
-ghost use Rattle.std.specs.Prelude.{◌≡◌, ◌<◌, ◌≤◌, length, map, All, IfOk, slice_set, option_copied, ◌+◌, ℕ, vec_capacity};
+ghost use Rattle.std.specs.Prelude.{◌≡◌, ◌<◌, ◌≤◌, length, map, All, IfOk, Some, slice_set, option_copied, ◌+◌, ℕ, vec_capacity};
 ghost use Rattle.std.specs.Borrow.{sem};
 ghost use Rattle.std.specs.FinMap as finmap;
 ghost use Rattle.std.specs.FinMap.{values};
@@ -173,6 +173,20 @@ impl Maps {
         ensures capacity { vec_capacity list.new ≡ vec_capacity list.old }
     {
         self.stores.all[map].index().list_places(list);
+    }
+
+    /// Puts the place of a key into a list of the places of all other keys of a map, in the order
+    /// of the keys' bytes. The list has room for the places of all keys.
+    pub fn insert_place(&self, map: usize, key: &[u8], place: usize, list: &mut Vec<usize>)
+        requires map { map < length self.now }
+        requires place { finmap.get (map_at self.now map).places key.now ≡ Some place }
+        requires others { list.old.items
+            ≡ values (finmap.remove (map_at self.now map).places key.now) }
+        requires room { (map_at self.now map).row.entries ≤ vec_capacity list.old }
+        ensures places { list.new.items ≡ values (map_at self.now map).places }
+        ensures capacity { vec_capacity list.new ≡ vec_capacity list.old }
+    {
+        self.stores.all[map].index().insert_place(key, place, list);
     }
 
     /// Writes bytes into the value at a place, from its `at`th byte on.

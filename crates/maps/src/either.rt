@@ -1,11 +1,12 @@
 //! The index that a map's row asks for.
 
-ghost use Rattle.std.specs.Prelude.{◌≡◌, ◌≤◌, IfOk, length, vec_capacity};
-ghost use Rattle.std.specs.FinMap.{values};
+ghost use Rattle.std.specs.Prelude.{◌≡◌, ◌≤◌, IfOk, Some, length, vec_capacity};
+ghost use Rattle.std.specs.FinMap.{get, remove, values};
 ghost use Rattle.std.specs.List.{slice_get};
 ghost use Rattle.std.specs.Option.{option_map};
 ghost use Rattle.isa_model.specs.declared.map_defs.MapKind.TheVariants.{Hash, Array};
 
+use crate::inserting::insert_place;
 use byteorder::{ByteOrder, LittleEndian};
 use isa_model::{MapDef, MapKind};
 use map_indexes::{ArrayIndex, ChainIndex, Index, put_bytes};
@@ -60,6 +61,21 @@ impl EitherIndex {
         match self {
             EitherIndex::Array(index) => index.list(list),
             EitherIndex::Chain(index) => index.list(list),
+        }
+    }
+
+    /// Puts the place of a key into a list of the places of all other keys, in the order of the
+    /// keys' bytes. The list has room for the places of all keys.
+    pub fn insert_place(&self, key: &[u8], place: usize, list: &mut Vec<usize>)
+        requires place { get (places_of self.now) key.now ≡ Some place }
+        requires others { list.old.items ≡ values (remove (places_of self.now) key.now) }
+        requires room { room_of self.now ≤ vec_capacity list.old }
+        ensures places { list.new.items ≡ values (places_of self.now) }
+        ensures capacity { vec_capacity list.new ≡ vec_capacity list.old }
+    {
+        match self {
+            EitherIndex::Array(index) => index.list(list),
+            EitherIndex::Chain(index) => insert_place(index, key, place, list),
         }
     }
 

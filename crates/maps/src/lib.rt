@@ -9,6 +9,7 @@ pub mod commands;
 pub mod either;
 pub mod errors;
 mod helpers;
+mod inserting;
 pub mod ordered;
 pub mod rooms;
 pub mod store;
