@@ -1,12 +1,12 @@
 -- Laws of serials by what they are above a base.
-use Rattle.std.proofs.Common.{◌≡◌, ℕ, zero, suc, ◌+◌, ◌-◌, ◌^◌, ◌%◌, ◌<◌, ◌≤◌, List, [], ◌∷◌, map, length, Option, Some, None, Bool, cond, refl, sym, ap, subst, ◌∙◌, arith}
-use Rattle.std.specs.Prelude.{slice_set, slice_index_or}
+use Rattle.std.proofs.Common.{◌≡◌, ℕ, zero, suc, ◌+◌, ◌-◌, ◌^◌, ◌%◌, ◌<◌, List, [], ◌∷◌, map, length, Option, Some, None, Bool, cond, refl, sym, ap, ◌∙◌, arith}
+use Rattle.std.specs.Prelude.{slice_set}
 use Rattle.std.specs.List.{position}
 use Rattle.std.specs.Option.{option_map}
 use Rattle.std.proofs.Math.ListN.{get_or-map}
 use Rattle.std.proofs.lemmas.List.{length-map}
 use Rattle.live_maps.specs.Live.{Serials, serial_in}
-use Rattle.live_maps.specs.Numbering.{Numbers, NumbersFirst, place_in, above, all_above, moved}
+use Rattle.live_maps.specs.Numbering.{Numbers, NumbersFirst, OnlyThere, place_in, above, all_above, moved}
 use Rattle.live_maps.proofs.EntryLaws.{position-cons}
 
 -- the first that passes a test once all are changed
@@ -49,18 +49,30 @@ above-some : (base k : ℕ) (of : Option ℕ) → above base of ≡ Some k → (
 above-some base k None e = absurd cc
 above-some base k (Some n) e = (n, refl, cc)
 
+-- where serials are moved, no other place has one
+pub OnlyThere-moved : (from to : ℕ) (places : List ℕ) (s : Serials) → OnlyThere places s
+    → OnlyThere places (moved from to s)
+OnlyThere-moved from to places s h p k e =
+    let by : ℕ = (to + (2 ^ 64 - from)) % 2 ^ 64 in
+    let old = above-some by k (serial_in s p) (sym (serial_in-above by s p) ∙ e) in
+    h p old.0 old.1
+
+-- none of a list is numbered yet
+pub NumbersFirst-moved : (from to : ℕ) (places : List ℕ) (s : Serials) → OnlyThere places s
+    → NumbersFirst to places 0 (moved from to s)
+NumbersFirst-moved from to places s h = record {
+  there = λ i l. absurd (omega arith);
+  only = OnlyThere-moved from to places s h;
+}
+
 -- numbered places whose serials are moved are numbered
 pub numbers-moved : (from to : ℕ) (places : List ℕ) (s : Serials) → from < 2 ^ 64 → to + length places < 2 ^ 64
     → Numbers from places s → Numbers to places (moved from to s)
 numbers-moved from to places s f l h = record {
   there = λ i inside.
-      serial_in-above by s (place_in places i) ∙ ap (above by) (h.there i inside) ∙ ap Some (moved_one from to i f (omega arith));
-  only = λ p k e.
-      let old = above-some by k (serial_in s p) (sym (serial_in-above by s p) ∙ e) in
-      let r = h.only p old.0 old.1 in
-      let inside = r.1 in
-      let same = moved_one from to r.0 f (omega arith) in
-      (r.0, r.1, r.2, sym old.2 ∙ ap (λ (n : ℕ). (n + by) % 2 ^ 64) r.3 ∙ same);
+      serial_in-above by s (place_in places i) ∙ ap (above by) (h.there i inside)
+      ∙ ap Some (moved_one from to i f (omega arith));
+  only = OnlyThere-moved from to places s h.only;
 }
   where
     by : ℕ

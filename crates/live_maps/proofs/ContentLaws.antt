@@ -1,7 +1,6 @@
 -- Rows and contents of all maps, by the maps and the serials of their places.
-use Rattle.std.proofs.Common.{◌≡◌, ℕ, zero, suc, ◌<◌, ◌≤◌, List, [], ◌∷◌, map, length, refl, sym, ap, subst, ◌∙◌, arith}
-use Rattle.std.specs.Prelude.{All, IsSomeAnd, slice_get, slice_set, slice_index_or}
-use Rattle.std.proofs.lemmas.List.Elements.{All-set}
+use Rattle.std.proofs.Common.{◌≡◌, ℕ, zero, suc, ◌<◌, ◌≤◌, List, [], ◌∷◌, map, length, refl, ap, ◌∙◌, arith}
+use Rattle.std.specs.Prelude.{IsSomeAnd, slice_get, slice_set, slice_index_or}
 use Rattle.std.specs.FinMap.{entries}
 use Rattle.std.proofs.lemmas.List.{get_or_past, length-set}
 use Rattle.isa_model.specs.Machine.States.{Content, Entries, entries_of}
@@ -91,11 +90,6 @@ rows_of-set [] m x e = refl
 rows_of-set (y ∷ maps) zero x e = ap (λ (r : MapDef). r ∷ rows_of maps) e
 rows_of-set (y ∷ maps) (suc m) x e = ap (λ (l : List MapDef). y.row ∷ l) (rows_of-set maps m x e)
 
--- what holds of all rows, holds with a map replaced by one with its row
-pub All-rows-set : (P : MapDef → Type 0) (maps new : List MapState) (m : ℕ) (x : MapState) → new ≡ slice_set maps m x → x.row ≡ (map_at maps m).row
-    → m < length maps → All (λ y. P y.row) maps → All (λ y. P y.row) new
-All-rows-set P maps new m x e row l h =
-    subst (All (λ y. P y.row)) (sym e) (All-set (λ y. P y.row) maps m x (subst P (sym row) (h m _ l)) h)
-
+-- how many maps there are stays
 pub length-changed_maps : (maps new : List MapState) (m : ℕ) (x : MapState) → new ≡ slice_set maps m x → length new ≡ length maps
 length-changed_maps maps new m x e = ap length e ∙ length-set maps m x

@@ -1,4 +1,3 @@
-pub mod Clearing
 pub mod OneChanged
 pub mod AboveLaws
 pub mod ContentLaws
@@ -6,5 +5,6 @@ pub mod EntryLaws
 pub mod LivingLaws
 pub mod LiveLaws
 pub mod NumberingLaws
+pub mod OrderLaws
 pub mod SearchLaws
 pub mod SerialLaws

@@ -1,12 +1,12 @@
 -- Laws of the definitions in specs/Numbering.
 use Rattle.std.proofs.Common.{◌≡◌, ℕ, zero, suc, ◌+◌, ◌-◌, ◌<◌, ◌≤◌, List, [], ◌∷◌, map, length, Option, Some, None, true, false, cond, refl, sym, ap, subst, ◌∙◌, arith, inl, inr}
-use Rattle.std.specs.Prelude.{◌≢◌, All, IfSome, ◌++◌, slice_set, slice_index_or, unwrap_or}
+use Rattle.std.specs.Prelude.{◌≢◌, All, slice_set, slice_index_or, unwrap_or}
 use Rattle.std.specs.FinMap.{get, entries, values, get-entries, len-entries}
 use Rattle.std.specs.FinMap.Entries.{find}
 use Rattle.std.proofs.Math.ListN.{get_or-map}
 use Rattle.std.proofs.Math.Dec.{eqb}
 use Rattle.std.proofs.lemmas.Bool.{eqb-true, eqb-false}
-use Rattle.std.proofs.lemmas.List.{get_or-set_same, get_or-set_other, get_or_default, length-map, length-set, take_all}
+use Rattle.std.proofs.lemmas.List.{get_or-set_same, get_or-set_other, get_or_default, length-map, take_all}
 use Rattle.std.proofs.lemmas.Option.{slice_get-get_or}
 use Rattle.isa_model.specs.Machine.MapContents.{key_order, is_key}
 use Rattle.isa_model.specs.Running.Runs.{numbered, numbered_maps, count_values}
@@ -18,8 +18,7 @@ use Rattle.maps.proofs.ReportOrderLaws.{get_at}
 use Rattle.maps.specs.Maps.{MapState, IsMap, map_at, content_in, contents_of}
 use Rattle.live_maps.specs.Live.{Serials, serial_in, serials_at, stored, live_content, live_contents, HasSerials, AreLive}
 use Rattle.live_maps.proofs.EntryLaws.{AreApart, entries-apart}
-use Rattle.live_maps.specs.Numbering.{AreDistinct, AreNumbered, AreSpans, IsNumbered, IsSpan, Numbers, NumbersFirst, count_before, place_in, span_at}
-use Rattle.live_maps.specs.declared.numbering.Span.{Span}
+use Rattle.live_maps.specs.Numbering.{AreDistinct, AreNumbered, Numbers, NumbersFirst, OnlyThere, count_before, place_in}
 
 -- one more place of a list has its serial
 pub NumbersFirst-more : (n : ℕ) (places : List ℕ) (i : ℕ) (serials : Serials) → AreDistinct places → i < length places → place_in places i < length serials
@@ -34,17 +33,11 @@ NumbersFirst-more n places i serials apart inside within h = record {
         let less : j < i = less_than j i l d in
         else_where (place_in places j) (λ same. d (apart j i (omega arith) inside same)) ∙ h.there j less
   ] refl;
-  only = λ p k e. elim (eqb p q) as (λ b. eqb p q ≡ b → (j : ℕ) × (j < i + 1) × (place_in places j ≡ p) × (k ≡ n + j)) [
-    | true ↦ λ t.
-        let same = eqb-true p q t in
-        let f : Some (n + i) ≡ Some k = sym here ∙ ap (serial_in after) (sym same) ∙ e in
-        let equal : k ≡ n + i = cc in
-        (i, omega arith, sym same, equal)
-    | false ↦ λ t.
-        let old = h.only p k (sym (else_where p (eqb-false p q t)) ∙ e) in
-        let less = old.1 in
-        (old.0, omega arith, old.2, old.3)
-  ] refl;
+  only = λ p k e. elim (eqb p q) as (λ b. eqb p q ≡ b
+      → (j : ℕ) × (j < length places) × (place_in places j ≡ p)) [
+        | true ↦ λ t. (i, inside, sym (eqb-true p q t))
+        | false ↦ λ t. h.only p k (sym (else_where p (eqb-false p q t)) ∙ e)
+      ] refl;
 }
   where
     q : ℕ
@@ -62,12 +55,20 @@ NumbersFirst-more n places i serials apart inside within h = record {
     less_than : (j i : ℕ) → j < i + 1 → j ≢ i → j < i
     less_than j i l d = elim (below_or_above j i d) [ inl h ↦ h | inr h ↦ absurd (omega arith) ]
 
--- where no place has a serial, none of a list is numbered yet
-pub NumbersFirst-none : (n : ℕ) (places : List ℕ) (serials : Serials) → ((p : ℕ) → serial_in serials p ≡ None) → NumbersFirst n places 0 serials
-NumbersFirst-none n places serials none = record {
-  there = λ i l. absurd (omega arith);
-  only = λ p k e. let f = sym (none p) ∙ e in absurd cc;
-}
+-- where no place has a serial, none has one beside those of a list
+pub OnlyThere-none : (places : List ℕ) (serials : Serials)
+    → ((p : ℕ) → serial_in serials p ≡ None) → OnlyThere places serials
+OnlyThere-none places serials none p k e = let f = sym (none p) ∙ e in absurd cc
+
+-- a serial of numbered places is that of a place of the list
+pub numbered_only : (n : ℕ) (places : List ℕ) (serials : Serials) → Numbers n places serials
+    → (p k : ℕ) → serial_in serials p ≡ Some k
+    → (i : ℕ) × (i < length places) × (place_in places i ≡ p) × (k ≡ n + i)
+numbered_only n places serials h p k e =
+    let r = h.only p k e in
+    let f : Some (n + r.0) ≡ Some k = sym (h.there r.0 r.1) ∙ ap (serial_in serials) r.2 ∙ e in
+    let equal : k ≡ n + r.0 = cc in
+    (r.0, r.1, r.2, equal)
 
 abbrev no_key : List ℕ × ℕ
 no_key = ([], 0)
@@ -134,18 +135,25 @@ HasSerials-numbered n next m serials is long room h = record {
       let r = value_index m.places key p e in
       (n + r.0, ap (serial_in serials) (sym r.2) ∙ h.there r.0 r.1);
   owned = λ p k e.
-      let r = h.only p k e in
+      let r = numbered_only n (values m.places) serials h p k e in
       let less = r.1 in
       let equal = r.3 in
       (omega arith, (slice_index_or (entries m.places) r.0 no_key).0, key_at m.places r.0 less ∙ ap Some r.2);
   once = λ p q k e f.
-      let r = h.only p k e in
-      let t = h.only q k f in
+      let r = numbered_only n (values m.places) serials h p k e in
+      let t = numbered_only n (values m.places) serials h q k f in
       let a = r.3 in
       let b = t.3 in
       let same : r.0 ≡ t.0 = omega arith in
       sym r.2 ∙ ap (place_in (values m.places)) same ∙ t.2;
 }
+
+-- the places of a map's keys are all that have serials
+pub OnlyThere-live : (next : ℕ) (m : MapState) (serials : Serials) → HasSerials next m serials
+    → OnlyThere (values m.places) serials
+OnlyThere-live next m serials h p k e =
+    let r = h.owned p k e in
+    value_index m.places r.1 p r.2
 
 -- the values are numbered by their keys
 content-numbered : (m : MapState) (serials : Serials) (n : ℕ) (es : List (List ℕ × ℕ))
@@ -276,87 +284,15 @@ rooms-next maps all more m s inside is same rooms k l =
       | false ↦ λ t. ap length (get_or-set_other all m k s [] (eqb-false k m t)) ∙ rooms k l
     ] refl
 
--- ---- what is told of the numbering of each map
-
--- nothing is told yet
-pub AreSpans-none : (maps : List MapState) (all : List Serials) (spans : List (Option Span)) → length spans ≡ length maps
-    → ((m : ℕ) → span_at spans m ≡ None) → AreSpans maps all spans
-AreSpans-none maps all spans long none = record {
-  long = long;
-  each = λ k l. subst (λ (o : Option Span). IfSome o (IsSpan (map_at maps k) (serials_at all k))) (sym (none k)) tt;
-}
-
--- nothing more is told
-pub none-more : (spans : List (Option Span)) → ((m : ℕ) → span_at spans m ≡ None) → (m : ℕ) → span_at (spans ++ None ∷ []) m ≡ None
-none-more [] none zero = refl
-none-more [] none (suc m) = refl
-none-more (x ∷ spans) none zero = none 0
-none-more (x ∷ spans) none (suc m) = none-more spans (λ k. none (suc k)) m
-
--- one map's serials and what is told of them replaced, the maps as they are
-pub AreSpans-numbered : (maps : List MapState) (all : List Serials) (spans : List (Option Span)) (m : ℕ) (s : Serials) (o : Option Span)
-    → length all ≡ length maps → m < length maps → IfSome o (IsSpan (map_at maps m) s) → AreSpans maps all spans
-    → AreSpans maps (slice_set all m s) (slice_set spans m o)
-AreSpans-numbered maps all spans m s o long inside now h = record {
-  long = length-set spans m o ∙ h.long;
-  each = λ k l. elim (eqb k m) as (λ b. eqb k m ≡ b → IfSome (span_at (slice_set spans m o) k) (IsSpan (map_at maps k) (serials_at (slice_set all m s) k))) [
-    | true ↦ λ t.
-        let spanned = h.long in
-        subst (λ (j : ℕ). IfSome (span_at (slice_set spans m o) j) (IsSpan (map_at maps j) (serials_at (slice_set all m s) j))) (sym (eqb-true k m t))
-        (subst (λ (p : Option Span). IfSome p (IsSpan (map_at maps m) (serials_at (slice_set all m s) m))) (sym (get_or-set_same spans m o None (omega arith)))
-        (subst (λ (r : Serials). IfSome o (IsSpan (map_at maps m) r)) (sym (get_or-set_same all m s [] (omega arith))) now))
-    | false ↦ λ t.
-        let d = eqb-false k m t in
-        subst (λ (p : Option Span). IfSome p (IsSpan (map_at maps k) (serials_at (slice_set all m s) k))) (sym (get_or-set_other spans m k o None d))
-        (subst (λ (r : Serials). IfSome (span_at spans k) (IsSpan (map_at maps k) r)) (sym (get_or-set_other all m k s [] d)) (h.each k l))
-  ] refl;
-}
-
--- what follows for each span, follows for one that there may be
-IfSome-span : (P Q : Span → Type 0) (o : Option Span) → ((s : Span) → P s → Q s) → IfSome o P → IfSome o Q
-IfSome-span P Q None more h = tt
-IfSome-span P Q (Some s) more h = more s h
-
--- another map at a place of which nothing is told
-pub AreSpans-forgotten : (maps new : List MapState) (all : List Serials) (spans : List (Option Span)) (m : ℕ) (x : MapState) (s : Serials)
-    → new ≡ slice_set maps m x → m < length maps → AreSpans maps all spans → AreSpans new (slice_set all m s) (slice_set spans m None)
-AreSpans-forgotten maps new all spans m x s is inside h = subst (λ (l : List MapState). AreSpans l (slice_set all m s) (slice_set spans m None)) (sym is) (record {
-  long = length-set spans m None ∙ h.long ∙ sym (length-set maps m x);
-  each = λ k l. elim (eqb k m) as (λ b. eqb k m ≡ b → IfSome (span_at (slice_set spans m None) k) (IsSpan (map_at (slice_set maps m x) k) (serials_at (slice_set all m s) k))) [
-    | true ↦ λ t.
-        let spanned = h.long in
-        subst (λ (p : Option Span). IfSome p (IsSpan (map_at (slice_set maps m x) k) (serials_at (slice_set all m s) k)))
-        (sym (ap (span_at (slice_set spans m None)) (eqb-true k m t) ∙ get_or-set_same spans m None None (omega arith))) tt
-    | false ↦ λ t.
-        let d = eqb-false k m t in
-        let long = length-set maps m x in
-        subst (λ (p : Option Span). IfSome p (IsSpan (map_at (slice_set maps m x) k) (serials_at (slice_set all m s) k))) (sym (get_or-set_other spans m k None None d))
-        (subst (λ (y : MapState). IfSome (span_at spans k) (IsSpan y (serials_at (slice_set all m s) k))) (sym (get_or-set_other maps m k x _ d))
-        (subst (λ (r : Serials). IfSome (span_at spans k) (IsSpan (map_at maps k) r)) (sym (get_or-set_other all m k s [] d)) (h.each k (omega arith))))
-  ] refl;
-})
-
--- a map replaced by one whose keys have the same places
-pub AreSpans-set : (maps new : List MapState) (all : List Serials) (spans : List (Option Span)) (m : ℕ) (x : MapState)
-    → new ≡ slice_set maps m x → m < length maps → x.places ≡ (map_at maps m).places → AreSpans maps all spans → AreSpans new all spans
-AreSpans-set maps new all spans m x is inside places h = subst (λ (l : List MapState). AreSpans l all spans) (sym is) (record {
-  long = h.long ∙ sym (length-set maps m x);
-  each = λ k l.
-      let long = length-set maps m x in
-      IfSome-span (IsSpan (map_at maps k) (serials_at all k)) (IsSpan (map_at (slice_set maps m x) k) (serials_at all k)) (span_at spans k)
-      (λ s told. record {
-        numbers = subst (λ (P : Places). Numbers s.first (values P) (serials_at all k)) (kept k) told.numbers;
-        counted = told.counted ∙ ap (λ (P : Places). length (values P)) (kept k);
-        few = told.few;
-      })
-      (h.each k (omega arith));
-})
-  where
-    kept : (k : ℕ) → (map_at maps k).places ≡ (map_at (slice_set maps m x) k).places
-    kept k = elim (eqb k m) as (λ b. eqb k m ≡ b → (map_at maps k).places ≡ (map_at (slice_set maps m x) k).places) [
-      | true ↦ λ t.
-          let e = eqb-true k m t in
-          ap (λ (j : ℕ). (map_at maps j).places) e ∙ sym places
-          ∙ ap (λ (y : MapState). y.places) (sym (get_or-set_same maps m x _ inside)) ∙ ap (λ (j : ℕ). (map_at (slice_set maps m x) j).places) (sym e)
-      | false ↦ λ t. ap (λ (y : MapState). y.places) (sym (get_or-set_other maps m k x _ (eqb-false k m t)))
-    ] refl
+-- the places that had serials in the maps that are not numbered yet
+pub only-next : (maps : List MapState) (all more : List Serials) (m : ℕ) (s : Serials)
+    → more ≡ slice_set all m s
+    → ((k : ℕ) → m ≤ k → k < length maps
+    → OnlyThere (values (map_at maps k).places) (serials_at all k))
+    → (k : ℕ) → m + 1 ≤ k → k < length maps
+    → OnlyThere (values (map_at maps k).places) (serials_at more k)
+only-next maps all more m s is before k l inside =
+    subst (λ (r : Serials). OnlyThere (values (map_at maps k).places) r)
+    (sym (ap (λ (a : List Serials). serials_at a k) is
+    ∙ get_or-set_other all m k s [] (λ same. omega arith)))
+    (before k (omega arith) inside)

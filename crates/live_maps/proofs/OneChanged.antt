@@ -3,11 +3,10 @@ use Rattle.std.proofs.Common.{◌≡◌, ◌∙◌, ℕ, ◌<◌, ◌≤◌, Lis
 use Rattle.std.specs.Prelude.{All, IsSomeAnd, slice_get, slice_set}
 use Rattle.std.specs.List.{position}
 use Rattle.isa_model.specs.declared.map_defs.MapDef.{MapDef}
-use Rattle.maps.specs.Maps.{MapState, IsMap, map_at, rows_of}
-use Rattle.live_maps.specs.declared.numbering.Span.{Span}
-use Rattle.live_maps.specs.Live.{Live, Serials, AreLive, IsLeastRoom, content_at, serials_at, has_serial, value_bytes}
-use Rattle.live_maps.specs.Numbering.{AreSpans, IsKept}
-use Rattle.live_maps.proofs.ContentLaws.{live_of, rows_of-known, rows_of-some, rows_of-set, All-rows-set, length-changed_maps}
+use Rattle.maps.specs.Maps.{MapState, IsMap, map_at}
+use Rattle.live_maps.specs.Live.{Live, Serials, AreLive, content_at, serials_at, has_serial, value_bytes}
+use Rattle.live_maps.specs.Orders.{AreOrders, IsKept, KeyOrder}
+use Rattle.live_maps.proofs.ContentLaws.{live_of, rows_of-known, rows_of-some, length-changed_maps}
 use Rattle.live_maps.proofs.SearchLaws.{searched-inside, searched-some}
 
 -- one of the maps, of whose row P holds, and what it is now
@@ -46,19 +45,13 @@ found_at next maps all now view m n p size h found fits =
     let room = subst (λ (o : Option (List ℕ)). IsSomeAnd o Q) (sym (ap (λ (l : Live). value_bytes (content_at l m) n) view) ∙ r.1) fits in
     record { inside = searched-inside next maps all m n h p found; place = r.0; fits = omega arith }
 
--- maps of which one has changed, but not its row, are kept as before, with their serials and what is told of them
-pub still_kept : (room serials_room spans_room next after : ℕ) (maps new : List MapState) (all given : List Serials) (spans told : List (Option Span)) (m : ℕ)
-    → IsKept room serials_room spans_room next maps all spans → m < length maps → new ≡ slice_set maps m (map_at new m)
-    → (map_at new m).row ≡ (map_at maps m).row → AreLive after new given → AreSpans new given told
-    → IsKept room serials_room spans_room after new given told
-still_kept room serials_room spans_room next after maps new all given spans told m h inside others row live are =
+-- maps of which one has changed are kept as before, with their serials and their orders
+pub still_kept : (serials_room orders_room next after : ℕ) (maps new : List MapState)
+    (all given : List Serials) (orders told : List KeyOrder) (m : ℕ)
+    → IsKept serials_room orders_room next maps all orders → new ≡ slice_set maps m (map_at new m)
+    → AreLive after new given → AreOrders new given told
+    → IsKept serials_room orders_room after new given told
+still_kept serials_room orders_room next after maps new all given orders told m h others live are =
     let few = h.0 in
-    let count = length-changed_maps maps new m (map_at new m) others in (
-      omega arith,
-      All-rows-set (λ (r : MapDef). r.entries ≤ room) maps new m (map_at new m) others row inside h.1,
-      live,
-      are,
-      h.4 ∙ sym count,
-      subst (IsLeastRoom room) (sym (ap rows_of others ∙ rows_of-set maps m (map_at new m) row)) h.5,
-      h.6 ∙ sym count,
-    )
+    let count = length-changed_maps maps new m (map_at new m) others in
+    (omega arith, h.1 ∙ sym count, live, are, h.4 ∙ sym count)

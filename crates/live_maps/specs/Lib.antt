@@ -1,2 +1,3 @@
 pub mod Live
 pub mod Numbering
+pub mod Orders

@@ -1,5 +1,5 @@
 -- Maps whose values have serials.
-use Rattle.std.specs.Prelude.{◌≡◌, ℕ, ◌<◌, ◌≤◌, ◌==◌, All, List, [], ◌∷◌, length, map, slice_index_or, slice_set, unwrap_or, Bool, false, Option, Some, None}
+use Rattle.std.specs.Prelude.{◌≡◌, ℕ, ◌<◌, ◌==◌, List, [], ◌∷◌, length, map, slice_index_or, slice_set, unwrap_or, Bool, false, Option, Some, None}
 use Rattle.std.specs.Option.{option_map}
 use Rattle.std.specs.FinMap.{get, entries}
 use Rattle.isa_model.specs.declared.map_defs.MapDef.{MapDef}
@@ -43,10 +43,6 @@ with_bytes l m key bytes =
 -- the key is gone, and with it the serial of its value
 abbrev pub without : Live → ℕ → List ℕ → Live
 without l m key = with_content l m (without_key key (content_at l m))
-
--- less room would not do for the places of each map
-abbrev pub IsLeastRoom : ℕ → List MapDef → Type 0
-IsLeastRoom room rows = (n : ℕ) → All (λ row. row.entries ≤ n) rows → room ≤ n
 
 -- ---- serials by place
 

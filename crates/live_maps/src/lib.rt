@@ -5,6 +5,7 @@
 mod asked;
 pub mod live;
 mod numbering;
+mod orders;
 mod table;
 mod tables;
 

@@ -1,6 +1,6 @@
 //! Maps whose values have serials.
 
-ghost use Rattle.std.specs.Prelude.{◌≡◌, ◌+◌, ◌==◌, ◌<◌, ◌≤◌, ◌^◌, ℕ, length, map, if◌then◌else◌, All, vec_len, IfOk, IfSome, IsSomeAnd, slice_get, option_copied};
+ghost use Rattle.std.specs.Prelude.{◌≡◌, ◌+◌, ◌==◌, ◌<◌, ◌≤◌, ◌^◌, length, map, if◌then◌else◌, IfOk, IfSome, IsSomeAnd, slice_get, option_copied};
 ghost use Rattle.std.specs.Option.{option_map};
 ghost use Rattle.std.specs.FinMap.{get};
 ghost use Rattle.isa_model.specs.declared.map_defs.MapKind.TheVariants.{Array};
@@ -14,7 +14,8 @@ ghost use Rattle.maps.specs.Maps.{rows_of, contents_of, map_at};
 ghost use Rattle.live_maps.specs.Live.{serials_at, place_if_new, content_at, value_bytes, with_value, with_bytes, without};
 
 use crate::asked;
-use crate::numbering::{Span, number_all, spans_for};
+use crate::numbering::number_all;
+use crate::orders::{Order, orders_for};
 use crate::table::SerialTable;
 use crate::tables::{find_serial, give_serial, serial_at, tables_for, take_away};
 use isa_model::MapDef;
@@ -31,17 +32,15 @@ pub struct LiveMaps {
     maps: Maps,
     serials: Vec<SerialTable>,
     next: u64,
-    // By map: which serials its values have, where they are numbered as at the start of a run.
-    spans: Vec<Option<Span>>,
-    // Room for the places of any map.
-    list: Vec<usize>,
+    // By map: the places of its keys, in the order of the keys.
+    orders: Vec<Order>,
 }
 
 impl Model for LiveMaps {
     ghost use Rattle.std.specs.Prelude.{vec_capacity};
     ghost use Rattle.maps.specs.Maps.{rows_of};
     ghost use Rattle.live_maps.specs.Live.{Live, live_contents};
-    ghost use Rattle.live_maps.specs.Numbering.{IsKept};
+    ghost use Rattle.live_maps.specs.Orders.{IsKept};
 
     ghost Value = { Live };
 
@@ -51,22 +50,8 @@ impl Model for LiveMaps {
       next_serial = l.next;
     } };
 
-    ghost invariant = { λ l. IsKept (vec_capacity l.list) (vec_capacity l.serials)
-        (vec_capacity l.spans) l.next l.maps l.serials.items l.spans.items };
-}
-
-// The most entries that a map has.
-fn most_entries(maps: &Maps) -> usize
-    ensures enough { All (λ m. m.row.entries ≤ result) maps.now }
-    ensures least { (n : ℕ) → All (λ m. m.row.entries ≤ n) maps.now → result ≤ n }
-{
-    let mut most = 0;
-    for m in 0..maps.count() {
-        if maps.row(m).entries > most {
-            most = maps.row(m).entries;
-        }
-    }
-    most as usize
+    ghost invariant = { λ l. IsKept (vec_capacity l.serials) (vec_capacity l.orders) l.next l.maps
+        l.serials.items l.orders.items };
 }
 
 // The place of a key that had none before.
@@ -89,15 +74,13 @@ impl LiveMaps {
         ensures contents { IfOk result (λ l. map entries_of l.contents ≡ contents_of maps) }
     {
         let mut serials = tables_for(alloc, &maps)?;
-        let mut list = Vec::with_capacity(alloc, most_entries(&maps))?;
-        let mut spans = spans_for(alloc, maps.count())?;
-        let next = number_all(&maps, &mut serials, &mut list, &mut spans);
+        let mut orders = orders_for(alloc, &maps)?;
+        let next = number_all(&maps, &mut serials, &mut orders);
         Ok(LiveMaps {
             maps,
             serials,
             next,
-            spans,
-            list,
+            orders,
         })
     }
 
@@ -175,7 +158,7 @@ impl LiveMaps {
             if let Some(place) = new_place(&self.maps, map, key, found) {
                 give_serial(&mut self.serials, map, place, self.next);
                 self.next += 1;
-                self.spans[map] = None;
+                self.orders[map].insert(&self.maps, map, key, place);
             }
         }
         answer
@@ -196,7 +179,7 @@ impl LiveMaps {
         if answer == 0 {
             if let Some(place) = found {
                 take_away(&mut self.serials, map, place);
-                self.spans[map] = None;
+                self.orders[map].remove(place);
             }
         }
         answer
@@ -233,12 +216,7 @@ impl LiveMaps {
           next_serial = count_values (map entries_of self.old.contents);
         } }
     {
-        let count = number_all(
-            &self.maps,
-            &mut self.serials,
-            &mut self.list,
-            &mut self.spans,
-        );
+        let count = number_all(&self.maps, &mut self.serials, &mut self.orders);
         self.next = count;
     }
 

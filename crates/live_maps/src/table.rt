@@ -3,7 +3,7 @@
 ghost use Rattle.std.specs.Prelude.{◌≡◌, ◌+◌, ◌<◌, ◌^◌, ℕ, length, All, IfOk, IfSome, Some, None, slice_set, vec_len, vec_capacity};
 ghost use Rattle.std.specs.List.{position};
 ghost use Rattle.live_maps.specs.Live.{serial_in, has_serial};
-ghost use Rattle.live_maps.specs.Numbering.{Numbers, AreDistinct, above, all_above, moved};
+ghost use Rattle.live_maps.specs.Numbering.{Numbers, AreDistinct, OnlyThere, above, all_above, moved};
 
 use map_indexes::rooms::exact;
 use std::alloc::{AllocError, Global};
@@ -34,17 +34,6 @@ fn place_of(base: u64, serials: &[Option<u64>], serial: u64) -> Option<usize>
     ensures { result ≡ position (λ of. has_serial serial (above base of)) serials.now }
 {
     serials.iter().position(|of| has_serial(base, serial, of))
-}
-
-// Takes the serials of all places away.
-fn clear(serials: &mut Vec<Option<u64>>)
-    ensures none { (p : ℕ) → serial_in serials.new.items p ≡ None }
-    ensures len { vec_len serials.new ≡ vec_len serials.old }
-    ensures room { vec_capacity serials.new ≡ vec_capacity serials.old }
-{
-    for place in 0..serials.len() {
-        serials[place] = None;
-    }
 }
 
 // Where the hint for a serial is kept, by its distance from the base. Those of the start of
@@ -93,7 +82,8 @@ impl Model for SerialTable {
 impl SerialTable {
     /// Room for the serials of this number of places. No place has a serial yet.
     pub fn new(alloc: Global, places: usize) -> Result<Self, AllocError>
-        ensures { IfOk result (λ t. length t ≡ places) }
+        ensures len { IfOk result (λ t. length t ≡ places) }
+        ensures none { IfOk result (λ t. (p : ℕ) → serial_in t p ≡ None) }
     {
         let none = vec![in alloc; None; places]?;
         let zeros = vec![in alloc; 0; places]?;
@@ -170,16 +160,6 @@ impl SerialTable {
         self.serials[place] = None;
     }
 
-    // Takes the serials of all places away. Those that are given are kept by what they are above
-    // `first`.
-    fn start(&mut self, first: u64)
-        ensures none { (p : ℕ) → serial_in self.new p ≡ None }
-        ensures len { length self.new ≡ length self.old }
-    {
-        clear(&mut self.serials);
-        self.base = first;
-    }
-
     /// Moves all serials, so that those from `from` on begin at `to`.
     pub fn shift(&mut self, from: u64, to: u64)
         ensures { self.new ≡ moved from to self.old }
@@ -187,16 +167,18 @@ impl SerialTable {
         self.base = self.base.wrapping_add(to.wrapping_sub(from));
     }
 
-    /// Gives the places of a list the serials from `first` on, in the order of the list, and no
-    /// other place one.
+    /// Gives the places of a list the serials from `first` on, in the order of the list. No other
+    /// place has one before, so none has one after.
     pub fn number(&mut self, places: &[usize], first: u64)
         requires within { All (λ p. p < length self.old) places.now }
         requires distinct { AreDistinct places.now }
+        requires only { OnlyThere places.now self.old }
         requires room { first + length places.now < 2 ^ 64 }
         ensures numbers { Numbers first places.now self.new }
         ensures len { length self.new ≡ length self.old }
     {
-        self.start(first);
+        // What is given now is kept by what it is above `first`.
+        self.shift(self.base, first);
         for i in 0..places.len() {
             self.give(places[i], first + i as u64);
         }

@@ -9,12 +9,14 @@ use crate::table::SerialTable;
 use maps::Maps;
 use std::alloc::{AllocError, Global};
 
-/// Room for the serials of all maps' places.
+/// Room for the serials of all maps' places. No place has a serial yet.
 pub fn tables_for(alloc: Global, maps: &Maps) -> Result<Vec<SerialTable>, AllocError>
     ensures len { IfOk result (λ all. vec_len all ≡ length maps.now) }
     ensures room { IfOk result (λ all. vec_capacity all ≡ length maps.now) }
     ensures rooms { IfOk result (λ all. (m : ℕ) → m < length maps.now
         → length (serials_at all.items m) ≡ (map_at maps.now m).row.entries) }
+    ensures none { IfOk result (λ all. (m p : ℕ) → m < length maps.now
+        → serial_in (serials_at all.items m) p ≡ None) }
 {
     let mut all = Vec::with_capacity(alloc, maps.count())?;
     for m in 0..maps.count() {

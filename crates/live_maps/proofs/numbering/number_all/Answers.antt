@@ -1,84 +1,132 @@
-use Rattle.std.proofs.Common.{◌≡◌, ◌<◌, ◌∙◌, refl, sym, ap, subst, ℕ, List, [], None, Some, Option, length, arith}
-use Rattle.std.specs.Prelude.{All, IfSome, slice_set}
+use Rattle.std.proofs.Common.{◌≡◌, ◌∙◌, refl, sym, ap, subst, ℕ, List, Some, length, arith}
+use Rattle.std.specs.Prelude.{slice_set}
 use Rattle.std.specs.FinMap.{values}
 use Rattle.std.proofs.lemmas.List.{get_or_default}
 use Rattle.maps.specs.Maps.{IsMap, map_at}
-use Rattle.live_maps.specs.declared.numbering.Span.{Span}
 use Rattle.live_maps.specs.Live.{Serials, serials_at}
-use Rattle.live_maps.specs.Numbering.{AreSpans, IsSpan, Numbers, count_before, span_at}
-use Rattle.live_maps.proofs.NumberingLaws.{AreSpans-numbered, values-few, numbers-next, rooms-next, count_before-suc, count_before-all}
+use Rattle.live_maps.specs.Numbering.{Numbers, OnlyThere, count_before}
+use Rattle.live_maps.specs.Orders.{AreOrders, IsOrder, KeyOrder}
+use Rattle.live_maps.proofs.NumberingLaws.{numbers-next, only-next, rooms-next, count_before-suc, count_before-all}
+use Rattle.live_maps.proofs.OrderLaws.{AreOrders-numbered, CanNumber, can_number, order_found}
 use Rattle.live_maps.proofs.numbering.number_all.Goals as goal
+use Rattle.live_maps.proofs.numbering.number_all.Goals.{After-index_mut-in-loop-m}
 
-pub renumber_map-count-requires-clause-is_map : goal.renumber_map-count-requires-clause-is_map
-renumber_map-count-requires-clause-is_map c = c.count-m-end.ensures.maps c.loop-m.m _ (omega arith)
-
-pub renumber_map-count-requires-clause-room : goal.renumber_map-count-requires-clause-room
-renumber_map-count-requires-clause-room c =
+-- the serials of the map that is next
+here : (c : After-index_mut-in-loop-m)
+    → serials_at c.loop-m.all.items c.loop-m.m ≡ c.index_mut-in-loop-m.result.now
+here c =
     let m = c.loop-m.m in
     let all = c.loop-m.all.items in
     let vector = c.loop-m.all.ok.0 in
-    let here : serials_at all m ≡ c.index_mut.result.now = get_or_default all m [] _ (omega arith) ∙ sym c.index_mut.ensures.value in
-    sym (ap length here) ∙ c.loop-m.invariant.rooms m (omega arith)
+    get_or_default all m _ _ (omega arith) ∙ sym c.index_mut-in-loop-m.ensures.value
 
-pub renumber_map-count-requires-clause-span : goal.renumber_map-count-requires-clause-span
-renumber_map-count-requires-clause-span c =
+-- what numbering it needs
+can : (c : After-index_mut-in-loop-m) → CanNumber (map_at c.args.maps.now c.loop-m.m)
+    c.index_mut-in-loop-m.result.now c.index_mut.result.now
+can c =
     let maps = c.args.maps.now in
     let m = c.loop-m.m in
-    let all = c.loop-m.all.items in
-    let spans = c.loop-m.spans.items in
-    let vector = c.loop-m.all.ok.0 in
-    let here : serials_at all m ≡ c.index_mut.result.now = get_or_default all m [] _ (omega arith) ∙ sym c.index_mut.ensures.value in
-    let spread = c.loop-m.invariant.spans.long in
-    let ok = c.loop-m.spans.ok.0 in
-    let told : span_at spans m ≡ c.index.result.now = get_or_default spans m None _ (omega arith) ∙ sym c.index.ensures in
-    subst (λ (o : Option Span). IfSome o (IsSpan (map_at maps m) c.index_mut.result.now)) told
-    (subst (λ (s : Serials). IfSome (span_at spans m) (IsSpan (map_at maps m) s)) here (c.loop-m.invariant.spans.each m (omega arith)))
+    let i = c.loop-m.invariant in
+    let x = map_at maps m in
+    let o : KeyOrder = c.index_mut.result.now in
+    let count = c.count-m-end.ensures.count in
+    let is : IsMap x = c.count-m-end.ensures.maps m _ (omega arith) in
+    let order = order_found maps c.loop-m.all.items c.loop-m.orders.items m o _ i.orders
+    (omega arith) c.index_mut.ensures.value in
+    can_number x c.index_mut-in-loop-m.result.now o is
+    (sym (ap length (here c)) ∙ i.rooms m (omega arith))
+    (subst (λ (s : Serials). OnlyThere (values x.places) s) (here c)
+    (i.only m (omega arith) (omega arith)))
+    (subst (λ (s : Serials). IsOrder x s o) (here c) order)
+
+pub number-next-requires-clause-within : goal.number-next-requires-clause-within
+number-next-requires-clause-within c =
+    (can (goal.at.number-next-requires-clause-within c).After-index_mut-in-loop-m).within
+
+pub number-next-requires-clause-distinct : goal.number-next-requires-clause-distinct
+number-next-requires-clause-distinct c =
+    (can (goal.at.number-next-requires-clause-distinct c).After-index_mut-in-loop-m).distinct
+
+pub number-next-requires-clause-only : goal.number-next-requires-clause-only
+number-next-requires-clause-only c =
+    (can (goal.at.number-next-requires-clause-only c).After-index_mut-in-loop-m).only
+
+pub number-next-requires-clause-few : goal.number-next-requires-clause-few
+number-next-requires-clause-few c =
+    let few = c.loop-m.invariant.few in
+    let maps_few = c.requires.few in
+    let count = c.count-m-end.ensures.count in
+    omega arith
+
+pub number-next-requires-clause-many : goal.number-next-requires-clause-many
+number-next-requires-clause-many c =
+    let is : IsMap (map_at c.args.maps.now c.loop-m.m) =
+    c.count-m-end.ensures.maps c.loop-m.m _ (omega arith) in
+    let row = is.is_row.few_entries in
+    let many = (can (goal.at.number-next-requires-clause-many c).After-index_mut-in-loop-m).many in
+    omega arith
+
+pub number-next-requires-clause-numbered : goal.number-next-requires-clause-numbered
+number-next-requires-clause-numbered c =
+    (can (goal.at.number-next-requires-clause-numbered c).After-index_mut-in-loop-m).order.numbered
 
 pub overflow_add-next : goal.overflow_add-next
 overflow_add-next c =
-    let maps = c.args.maps.now in
-    let m = c.loop-m.m in
-    let is : IsMap (map_at maps m) = c.count-m-end.ensures.maps m _ (omega arith) in
+    let is : IsMap (map_at c.args.maps.now c.loop-m.m) =
+    c.count-m-end.ensures.maps c.loop-m.m _ (omega arith) in
     let row = is.is_row.few_entries in
-    let few = values-few (map_at maps m) is in
-    let counted = c.renumber_map-count.ensures.count in
+    let many = (can (goal.at.overflow_add-next c).After-index_mut-in-loop-m).many in
+    let counted = c.number-next.ensures.count in
     let most = c.loop-m.invariant.few in
     let maps_few = c.requires.few in
     omega arith
 
 pub loop-m-preserved : goal.loop-m-preserved
 loop-m-preserved c =
+    let w = (goal.at.loop-m-preserved c).After-index_mut-in-loop-m in
     let maps = c.args.maps.now in
     let m = c.loop-m.m in
+    let x = map_at maps m in
+    let i = c.loop-m.invariant in
     let all = c.loop-m.all.items in
-    let s : Serials = c.index_mut.result.now in
-    let t : Serials = c.renumber_map-count.new.table in
-    let done = c.renumber_map-count.ensures in
-    let count = c.renumber_map-count.result in
-    let is : IsMap (map_at maps m) = c.count-m-end.ensures.maps m _ (omega arith) in
-    let row = is.is_row.few_entries in
-    let few = values-few (map_at maps m) is in
-    let counted = done.count in
+    let orders = c.loop-m.orders.items in
+    let is : IsMap x = c.count-m-end.ensures.maps m _ (omega arith) in
     let vector = c.loop-m.all.ok.0 in
-    let here : serials_at all m ≡ s = get_or_default all m [] s (omega arith) ∙ sym c.index_mut.ensures.value in
-    let next : c.loop-m.next ≡ count_before maps m = c.loop-m.invariant.next in
-    let most = c.loop-m.invariant.few in
+    let k = can w in
+    let o : KeyOrder = c.index_mut.result.now in
+    let t : Serials = c.number-next.new.table in
+    let done = c.number-next.ensures in
+    let row = is.is_row.few_entries in
+    let many = k.many in
+    let listed = ap length k.order.places in
+    let counted = done.count in
+    let next : c.loop-m.next ≡ count_before maps m = i.next in
+    let most = i.few in
     let maps_few = c.requires.few in
     let more = count_before-suc maps m (omega arith) in
-    let long : length t ≡ length (serials_at all m) = done.len ∙ ap length (sym here) in
-    let numbers : Numbers (count_before maps m) (values (map_at maps m).places) t =
-    subst (λ (n : ℕ). Numbers n (values (map_at maps m).places) t) next done.numbers in
-    let span : Span = record { first = c.loop-m.next; count = count } in
-    let told : IsSpan (map_at maps m) t span = record { numbers = done.numbers; counted = done.count; few = omega arith } in
+    let long : length t ≡ length (serials_at all m) = done.len ∙ ap length (sym (here w)) in
+    let numbers : Numbers (count_before maps m) (values x.places) t =
+    subst (λ (n : ℕ). Numbers n (values x.places) t) next
+    (subst (λ (ps : List ℕ). Numbers c.loop-m.next ps t) k.order.places done.numbers) in
+    let q : KeyOrder = record { places = o.places; room = o.room; first = Some c.loop-m.next } in
+    let now : IsOrder x t q = record {
+      places = k.order.places;
+      room = k.order.room;
+      numbered = (omega arith, done.numbers);
+    } in
+    let known = AreOrders-numbered maps all orders m t q (omega arith) (omega arith) now i.orders in
     record {
-      len = c.loop-m.invariant.len;
-      room = c.loop-m.invariant.room;
-      list = done.capacity ∙ c.loop-m.invariant.list;
-      rooms = rooms-next maps all (slice_set all m t) m t (omega arith) refl long c.loop-m.invariant.rooms;
-      numbers = numbers-next maps all (slice_set all m t) m t (omega arith) refl c.loop-m.invariant.numbers numbers;
+      len = i.len;
+      room = i.room;
+      rooms = rooms-next maps all (slice_set all m t) m t (omega arith) refl long i.rooms;
+      only = only-next maps all (slice_set all m t) m t refl i.only;
+      numbers =
+          numbers-next maps all (slice_set all m t) m t (omega arith) refl i.numbers numbers;
       next = omega arith;
-      spans = AreSpans-numbered maps all c.loop-m.spans.items m t (Some span) (omega arith) (omega arith) told c.loop-m.invariant.spans;
-      spans_room = c.loop-m.invariant.spans_room;
+      orders =
+          subst (λ (p : KeyOrder). AreOrders maps (slice_set all m t) (slice_set orders m p))
+          (sym done.known) known;
+      orders_room = i.orders_room;
       few = omega arith;
     }
 
@@ -97,13 +145,17 @@ returns c =
     record {
       numbered =
           record {
-            are = record { long = omega arith; rooms = inv.rooms; numbers = λ k l. inv.numbers k (omega arith) };
+            are =
+                record {
+                  long = omega arith;
+                  rooms = inv.rooms;
+                  numbers = λ k l. inv.numbers k (omega arith);
+                };
             counted = inv.next ∙ ap (count_before maps) last ∙ count_before-all maps;
             few = omega arith;
           };
       maps = c.count-m-end.ensures.maps;
-      list = inv.list;
       room = inv.room;
-      spans = inv.spans;
-      spans_room = inv.spans_room;
+      orders = inv.orders;
+      orders_room = inv.orders_room;
     }

@@ -1,15 +1,15 @@
-use Rattle.std.proofs.Common.{◌≡◌, ◌∙◌, sym, ap, subst, List, ℕ, length, Some, None, arith}
+use Rattle.std.proofs.Common.{◌≡◌, ◌∙◌, refl, sym, ap, subst, List, ℕ, length, Some, None, arith}
 use Rattle.std.specs.Prelude.{IsSomeAnd, slice_get, slice_set, vec_capacity, ◌==◌, if◌then◌else◌}
-use Rattle.std.specs.FinMap.{get}
+use Rattle.std.specs.FinMap.{get, values}
 use Rattle.isa_model.specs.declared.map_defs.MapDef.{MapDef}
 use Rattle.isa_model.specs.Machine.MapContents.{delete_answer}
 use Rattle.maps.specs.Maps.{MapState, Deleted, map_at}
 use Rattle.live_maps.specs.Live.{Live, Serials, AreLive, content_at, serials_at, without}
-use Rattle.live_maps.specs.Numbering.{IsKept}
+use Rattle.live_maps.specs.Orders.{IsKept, IsOrder, KeyOrder, places_without}
 use Rattle.live_maps.proofs.ContentLaws.{live_of}
 use Rattle.live_maps.proofs.LiveLaws.{live-removed, live-same, deleted_there, delete_answer-live}
 use Rattle.live_maps.proofs.SearchLaws.{lookup-present}
-use Rattle.live_maps.proofs.NumberingLaws.{AreSpans-forgotten}
+use Rattle.live_maps.proofs.OrderLaws.{AreOrders-changed, IsOrder-listed, order_found, values-removed}
 use Rattle.live_maps.proofs.OneChanged.{OneChanged, one_changed, row_told, still_kept}
 use Rattle.live_maps.proofs.live.LiveMaps.delete.Goals as goal
 use Rattle.live_maps.proofs.live.LiveMaps.delete.Goals.{In-Some, In_default, Else-answer-eq0}
@@ -118,6 +118,29 @@ take_away-requires-clause-place c =
     (lookup-present i.next i.maps i.serials.items c.args.map c.self.invariant.2
     (some_changed w.In-Some).inside c.args.key.now c.in-Some.place (had w.In-Some)).0
 
+-- the order without the place
+ordered : (c : In-Some) → OneChanged (Size c.args.key.now) c.self.inside.maps
+    c.delete-answer.new.maps c.args.map
+    → (o q : KeyOrder) → IsOrder (map_at c.self.inside.maps c.args.map)
+    (serials_at c.self.inside.serials.items c.args.map) o
+    → q.places ≡ places_without c.in-Some.place o.places → q.room ≡ o.room → q.first ≡ None
+    → IsOrder (map_at c.delete-answer.new.maps c.args.map)
+    (slice_set (serials_at c.self.inside.serials.items c.args.map) c.in-Some.place None) q
+ordered c d o q was places room first =
+    let i = c.self.inside in
+    let m = c.args.map in
+    let x = map_at i.maps m in
+    let y = map_at c.delete-answer.new.maps m in
+    let key = c.args.key.now in
+    let p = c.in-Some.place in
+    let del = deleted c.delete-answer.result c.if-answer-eq0.true key x y
+    c.delete-answer.ensures.deleted in
+    let apart = (c.self.invariant.2.each m d.inside).is_map.apart in
+    IsOrder-listed y (slice_set (serials_at i.serials.items m) p None) q
+    (places ∙ ap (places_without p) was.places ∙ sym (values-removed x.places key p apart (had c))
+    ∙ sym (ap values (del.deletes.removes refl)))
+    (room ∙ was.room ∙ sym (ap (λ (r : MapDef). r.entries) del.row)) first
+
 pub invariant_of-self : goal.invariant_of-self
 invariant_of-self c =
     let w = goal.at.invariant_of-self c in
@@ -126,18 +149,23 @@ invariant_of-self c =
     let new = c.delete-answer.new.maps in
     let others = c.delete-answer.ensures.others in
     let d = some_changed w.In-Some in
-    let told = slice_set i.spans.items m None in
+    let q : KeyOrder = c.remove.new.self in
+    let told = slice_set i.orders.items m q in
+    let was = order_found i.maps i.serials.items i.orders.items m c.index_mut.result.now _
+    c.self.invariant.3 d.inside c.index_mut.ensures.value in
+    let now = ordered w.In-Some d c.index_mut.result.now q was c.remove.ensures.places
+    c.remove.ensures.room c.remove.ensures.first in
     let kept =
-    still_kept (vec_capacity i.list) (vec_capacity i.serials)
-    (vec_capacity i.spans) i.next i.next i.maps new i.serials.items
-    (left w.In-Some) i.spans.items told m
-    c.self.invariant d.inside others c.delete-answer.ensures.deleted.row (lives w.In-Some d).0
-    (AreSpans-forgotten i.maps new i.serials.items i.spans.items m (map_at new m) (slice_set
-    (serials_at i.serials.items m) c.in-Some.place None) others d.inside c.self.invariant.3) in
-    subst (λ (n : ℕ). IsKept (vec_capacity i.list) n (vec_capacity i.spans) i.next new
-    c.take_away.new.all.items told) (sym c.take_away.ensures.room)
-    (subst (λ (a : List Serials). IsKept (vec_capacity i.list) (vec_capacity i.serials)
-    (vec_capacity i.spans) i.next new a told) (sym c.take_away.ensures.taken) kept)
+    still_kept (vec_capacity i.serials) (vec_capacity i.orders) i.next i.next i.maps new
+    i.serials.items (left w.In-Some) i.orders.items told m c.self.invariant others
+    (lives w.In-Some d).0
+    (AreOrders-changed i.maps new i.serials.items i.orders.items m
+    (slice_set (serials_at i.serials.items m) c.in-Some.place None) q others
+    c.self.invariant.2.long d.inside now c.self.invariant.3) in
+    subst (λ (n : ℕ). IsKept n (vec_capacity i.orders) i.next new c.take_away.new.all.items told)
+    (sym c.take_away.ensures.room)
+    (subst (λ (a : List Serials). IsKept (vec_capacity i.serials) (vec_capacity i.orders) i.next new
+    a told) (sym c.take_away.ensures.taken) kept)
 
 pub invariant_of-self-in_default : goal.invariant_of-self-in_default
 invariant_of-self-in_default c = absurd (never (goal.at.invariant_of-self-in_default c).In_default)
@@ -146,8 +174,8 @@ pub invariant_of-self-else-answer-eq0 : goal.invariant_of-self-else-answer-eq0
 invariant_of-self-else-answer-eq0 c =
     let w = goal.at.invariant_of-self-else-answer-eq0 c in
     let i = c.self.inside in
-    subst (λ (l : List MapState). IsKept (vec_capacity i.list) (vec_capacity i.serials)
-    (vec_capacity i.spans) i.next l i.serials.items i.spans.items)
+    subst (λ (l : List MapState). IsKept (vec_capacity i.serials) (vec_capacity i.orders) i.next l
+    i.serials.items i.orders.items)
     (same w.Else-answer-eq0 (error_changed w.Else-answer-eq0)) c.self.invariant
 
 pub returns-in-Some-clause-answer : goal.returns-in-Some-clause-answer

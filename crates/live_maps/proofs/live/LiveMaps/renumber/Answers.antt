@@ -1,26 +1,30 @@
-use Rattle.std.proofs.Common.{◌≡◌, ◌∙◌, ℕ, List, map, sym, ap, subst, arith}
+use Rattle.std.proofs.Common.{◌≡◌, ◌∙◌, ℕ, List, map, sym, ap, subst}
 use Rattle.isa_model.specs.Machine.States.{Entries, entries_of}
 use Rattle.isa_model.specs.Running.Runs.{numbered_maps, count_values}
-use Rattle.maps.specs.Maps.{rows_of, contents_of}
-use Rattle.live_maps.specs.Live.{Live, AreLive}
+use Rattle.maps.specs.Maps.{rows_of, contents_of, map_at}
+use Rattle.live_maps.specs.Live.{Live, AreLive, serials_at}
 use Rattle.live_maps.proofs.ContentLaws.{live_of, entries_of-live_contents}
-use Rattle.live_maps.proofs.NumberingLaws.{AreLive-numbered, numbered-all}
+use Rattle.live_maps.proofs.NumberingLaws.{AreLive-numbered, OnlyThere-live, numbered-all}
 use Rattle.live_maps.proofs.live.LiveMaps.renumber.Goals as goal
+
+pub number_all-count-requires-clause-only : goal.number_all-count-requires-clause-only
+number_all-count-requires-clause-only c m inside =
+    let i = c.self.inside in
+    OnlyThere-live i.next (map_at i.maps m) (serials_at i.serials.items m)
+    (c.self.invariant.2.each m inside)
 
 pub invariant_of-self : goal.invariant_of-self
 invariant_of-self c =
     let maps = c.self.inside.maps in
     let all = c.number_all-count.new.all.items in
     let done = c.number_all-count.ensures in
-    let inv = c.self.invariant in
-    let kept = done.list in (
+    let inv = c.self.invariant in (
       inv.0,
-      (λ k d l. let entries = inv.1 k d l in omega arith),
-      subst (λ (n : ℕ). AreLive n maps all) (sym done.numbered.counted) (AreLive-numbered maps all done.maps done.numbered.are),
-      done.spans,
-      done.room ∙ inv.4,
-      (λ n h. let least = inv.5 n h in omega arith),
-      done.spans_room ∙ inv.6,
+      done.room ∙ inv.1,
+      subst (λ (n : ℕ). AreLive n maps all) (sym done.numbered.counted)
+          (AreLive-numbered maps all done.maps done.numbered.are),
+      done.orders,
+      done.orders_room ∙ inv.4,
     )
 
 pub returns-clause-numbered : goal.returns-clause-numbered

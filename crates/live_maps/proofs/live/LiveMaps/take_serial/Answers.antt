@@ -6,4 +6,5 @@ pub invariant_of-self : goal.invariant_of-self
 invariant_of-self c =
     let i = c.self.inside in
     let inv = c.self.invariant in
-    (inv.0, inv.1, AreLive-more i.next (i.next + 1) i.maps i.serials.items (omega arith) inv.2, inv.3, inv.4, inv.5, inv.6)
+    let live = AreLive-more i.next (i.next + 1) i.maps i.serials.items (omega arith) inv.2 in
+    (inv.0, inv.1, live, inv.3, inv.4)

@@ -1,14 +1,15 @@
 use Rattle.std.proofs.Common.{◌≡◌, ◌+◌, ◌∙◌, refl, sym, ap, subst, length, List, ℕ, suc, Option, Some, None, false, arith}
 use Rattle.std.specs.Prelude.{IsSomeAnd, slice_get, slice_set, vec_capacity, ◌==◌, if◌then◌else◌}
-use Rattle.std.specs.FinMap.{get}
+use Rattle.std.specs.FinMap.{get, remove, values}
 use Rattle.isa_model.specs.declared.map_defs.MapDef.{MapDef}
 use Rattle.isa_model.specs.Machine.MapContents.{update_answer}
+use Rattle.map_indexes.specs.PlaceKeys.{Places}
 use Rattle.maps.specs.Maps.{MapState, Updated, map_at}
 use Rattle.live_maps.specs.Live.{Live, Serials, AreLive, place_if_new, content_at, serials_at, with_bytes}
-use Rattle.live_maps.specs.Numbering.{IsKept}
+use Rattle.live_maps.specs.Orders.{IsKept, IsOrder, KeyOrder}
 use Rattle.live_maps.proofs.ContentLaws.{live_of}
 use Rattle.live_maps.proofs.LiveLaws.{live-updated, live-added, live-same, not_zero, updated_there, place_if_new-Some, place_if_new-None, update_answer-live}
-use Rattle.live_maps.proofs.NumberingLaws.{AreSpans-forgotten, AreSpans-set}
+use Rattle.live_maps.proofs.OrderLaws.{AreOrders-changed, AreOrders-set, IsOrder-listed, order_found, remove-added}
 use Rattle.live_maps.proofs.OneChanged.{OneChanged, one_changed, row_told, still_kept}
 use Rattle.live_maps.proofs.live.LiveMaps.update.Goals as goal
 use Rattle.live_maps.proofs.live.LiveMaps.update.Goals.{In-Some, In_default, Else-answer-eq0}
@@ -159,6 +160,52 @@ give_serial-requires-clause-place c =
     ap (λ (r : MapDef). r.entries) c.update-answer.ensures.updated.row in
     omega arith
 
+-- without the new key there are the places that there were
+others_stay : (c : In-Some) → values (map_at c.self.inside.maps c.args.map).places
+    ≡ values (remove (map_at c.update-answer.new.maps c.args.map).places c.args.key.now)
+others_stay c =
+    let x = map_at c.self.inside.maps c.args.map in
+    let y = map_at c.update-answer.new.maps c.args.map in
+    let key = c.args.key.now in
+    let u = updated c.update-answer.result c.if-answer-eq0.true key c.args.value.now c.args.flags x
+    y c.update-answer.ensures.updated in
+    let none = (came c).0 in
+    let taken = (u.updates.writes refl).taken none in
+    sym (ap (λ (P : Places). values (remove P key)) taken.added
+    ∙ ap values (remove-added x.places key _ none))
+
+pub insert-requires-clause-map : goal.insert-requires-clause-map
+insert-requires-clause-map c =
+    let d = some_changed (goal.at.insert-requires-clause-map c).In-Some in
+    let inside = d.inside in
+    let count = d.count in
+    omega arith
+
+pub insert-requires-clause-place : goal.insert-requires-clause-place
+insert-requires-clause-place c = (came (goal.at.insert-requires-clause-place c).In-Some).1
+
+pub insert-requires-clause-others : goal.insert-requires-clause-others
+insert-requires-clause-others c =
+    let w = goal.at.insert-requires-clause-others c in
+    let i = c.self.inside in
+    let d = some_changed w.In-Some in
+    let was = order_found i.maps i.serials.items i.orders.items c.args.map c.index_mut.result.now _
+    c.self.invariant.3 d.inside c.index_mut.ensures.value in
+    was.places ∙ others_stay w.In-Some
+
+pub insert-requires-clause-room : goal.insert-requires-clause-room
+insert-requires-clause-room c =
+    let w = goal.at.insert-requires-clause-room c in
+    let i = c.self.inside in
+    let m = c.args.map in
+    let d = some_changed w.In-Some in
+    let was = order_found i.maps i.serials.items i.orders.items m c.index_mut.result.now _
+    c.self.invariant.3 d.inside c.index_mut.ensures.value in
+    let room = was.room in
+    let same : (map_at c.update-answer.new.maps m).row.entries ≡ (map_at i.maps m).row.entries =
+    ap (λ (r : MapDef). r.entries) c.update-answer.ensures.updated.row in
+    omega arith
+
 pub invariant_of-self : goal.invariant_of-self
 invariant_of-self c =
     let w = goal.at.invariant_of-self c in
@@ -168,20 +215,28 @@ invariant_of-self c =
     let others = c.update-answer.ensures.others in
     let d = some_changed w.In-Some in
     let s : suc i.next ≡ i.next + 1 = omega arith in
-    let told = slice_set i.spans.items m None in
+    let q : KeyOrder = c.insert.new.self in
+    let told = slice_set i.orders.items m q in
+    let here : Serials = slice_set (serials_at i.serials.items m) c.in-Some.place (Some i.next) in
+    let was = order_found i.maps i.serials.items i.orders.items m c.index_mut.result.now _
+    c.self.invariant.3 d.inside c.index_mut.ensures.value in
+    let now : IsOrder (map_at new m) here q =
+    IsOrder-listed (map_at new m) here q c.insert.ensures.places
+    (c.insert.ensures.room ∙ was.room
+    ∙ sym (ap (λ (r : MapDef). r.entries) c.update-answer.ensures.updated.row))
+    c.insert.ensures.first in
     let kept =
-    still_kept (vec_capacity i.list) (vec_capacity i.serials) (vec_capacity i.spans) i.next
-    (suc i.next) i.maps new i.serials.items (given w.In-Some) i.spans.items told m
-    c.self.invariant d.inside others c.update-answer.ensures.updated.row (added w.In-Some d).0
-    (AreSpans-forgotten i.maps new i.serials.items i.spans.items m (map_at new m) (slice_set
-    (serials_at i.serials.items m) c.in-Some.place (Some i.next)) others d.inside
-    c.self.invariant.3) in
-    subst (λ (n : ℕ). IsKept (vec_capacity i.list) n (vec_capacity i.spans)
-    (i.next + 1) new c.give_serial.new.all.items told) (sym c.give_serial.ensures.room)
-    (subst (λ (a : List Serials). IsKept (vec_capacity i.list) (vec_capacity i.serials)
-    (vec_capacity i.spans) (i.next + 1) new a told) (sym c.give_serial.ensures.given)
-    (subst (λ (n : ℕ). IsKept (vec_capacity i.list) (vec_capacity i.serials)
-    (vec_capacity i.spans) n new (given w.In-Some) told) s kept))
+    still_kept (vec_capacity i.serials) (vec_capacity i.orders) i.next (suc i.next) i.maps new
+    i.serials.items (given w.In-Some) i.orders.items told m c.self.invariant others
+    (added w.In-Some d).0
+    (AreOrders-changed i.maps new i.serials.items i.orders.items m here q others
+    c.self.invariant.2.long d.inside now c.self.invariant.3) in
+    subst (λ (n : ℕ). IsKept n (vec_capacity i.orders) (i.next + 1) new c.give_serial.new.all.items
+    told) (sym c.give_serial.ensures.room)
+    (subst (λ (a : List Serials). IsKept (vec_capacity i.serials) (vec_capacity i.orders)
+    (i.next + 1) new a told) (sym c.give_serial.ensures.given)
+    (subst (λ (n : ℕ). IsKept (vec_capacity i.serials) (vec_capacity i.orders) n new
+    (given w.In-Some) told) s kept))
 
 pub invariant_of-self-in_default : goal.invariant_of-self-in_default
 invariant_of-self-in_default c =
@@ -194,19 +249,18 @@ invariant_of-self-in_default c =
     let u = updated c.update-answer.result c.if-answer-eq0.true _ _ _ _ _
     c.update-answer.ensures.updated in
     let p = had w.In_default in
-    still_kept (vec_capacity i.list) (vec_capacity i.serials)
-    (vec_capacity i.spans) i.next i.next i.maps new i.serials.items i.serials.items i.spans.items
-    i.spans.items m
-    c.self.invariant d.inside others u.row (written w.In_default d).0
-    (AreSpans-set i.maps new i.serials.items i.spans.items m (map_at new m) others d.inside
+    still_kept (vec_capacity i.serials) (vec_capacity i.orders) i.next i.next i.maps new
+    i.serials.items i.serials.items i.orders.items i.orders.items m c.self.invariant others
+    (written w.In_default d).0
+    (AreOrders-set i.maps new i.serials.items i.orders.items m (map_at new m) others d.inside u.row
     ((u.updates.writes refl).kept p.0 p.1) c.self.invariant.3)
 
 pub invariant_of-self-else-answer-eq0 : goal.invariant_of-self-else-answer-eq0
 invariant_of-self-else-answer-eq0 c =
     let w = goal.at.invariant_of-self-else-answer-eq0 c in
     let i = c.self.inside in
-    subst (λ (l : List MapState). IsKept (vec_capacity i.list) (vec_capacity i.serials)
-    (vec_capacity i.spans) i.next l i.serials.items i.spans.items)
+    subst (λ (l : List MapState). IsKept (vec_capacity i.serials) (vec_capacity i.orders) i.next l
+    i.serials.items i.orders.items)
     (sym (same w.Else-answer-eq0 (error_changed w.Else-answer-eq0))) c.self.invariant
 
 pub returns-in-Some-clause-answer : goal.returns-in-Some-clause-answer

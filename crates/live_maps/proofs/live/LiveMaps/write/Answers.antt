@@ -5,7 +5,7 @@ use Rattle.live_maps.specs.Live.{Live, AreLive, content_at, serials_at, value_by
 use Rattle.live_maps.proofs.ContentLaws.{live_of, length-changed_maps}
 use Rattle.live_maps.proofs.LiveLaws.{live-written}
 use Rattle.live_maps.proofs.SearchLaws.{serials-once, searched-none, position-serial}
-use Rattle.live_maps.proofs.NumberingLaws.{AreSpans-set}
+use Rattle.live_maps.proofs.OrderLaws.{AreOrders-set}
 use Rattle.live_maps.proofs.OneChanged.{Found, found_at, still_kept}
 use Rattle.live_maps.proofs.live.LiveMaps.write.Goals as goal
 use Rattle.live_maps.proofs.live.LiveMaps.write.Goals.{After-say_fits, In-Some}
@@ -60,12 +60,11 @@ invariant_of-self c =
     let new = c.write_value.new.self in
     let others = c.write_value.ensures.others in
     let w = c.write_value.ensures.written in
-    still_kept (vec_capacity i.list) (vec_capacity i.serials)
-    (vec_capacity i.spans) i.next i.next i.maps new i.serials.items i.serials.items i.spans.items
-    i.spans.items m
-    c.self.invariant f.inside others w.row (written at.After-say_fits f).0
-    (AreSpans-set i.maps new i.serials.items i.spans.items m (map_at new m) others f.inside w.places
-    c.self.invariant.3)
+    still_kept (vec_capacity i.serials) (vec_capacity i.orders) i.next i.next i.maps new
+    i.serials.items i.serials.items i.orders.items i.orders.items m c.self.invariant others
+    (written at.After-say_fits f).0
+    (AreOrders-set i.maps new i.serials.items i.orders.items m (map_at new m) others f.inside w.row
+    w.places c.self.invariant.3)
 
 pub returns-in-Some : goal.returns-in-Some
 returns-in-Some c =

@@ -1,4 +1,4 @@
-use Rattle.std.proofs.Common.{◌+◌, ◌-◌, ◌%◌, ◌^◌, ◌<◌, ◌∙◌, sym, ap, Some, Option, ℕ, arith, rules}
+use Rattle.std.proofs.Common.{◌+◌, ◌-◌, ◌%◌, ◌^◌, ◌<◌, ◌∙◌, ap, Some, rules}
 use Rattle.std.specs.Prelude.{slice_set}
 use Rattle.live_maps.specs.Live.{Serials}
 use Rattle.live_maps.specs.Numbering.{all_above}

@@ -1,5 +1,4 @@
 use Rattle.std.proofs.Common.{◌+◌, ◌-◌, ◌%◌, ◌^◌, ◌∙◌, ap}
-use Rattle.live_maps.specs.Live.{Serials}
 use Rattle.live_maps.specs.Numbering.{moved}
 use Rattle.live_maps.proofs.AboveLaws.{all_above-more}
 use Rattle.live_maps.proofs.table.SerialTable.shift.Goals as goal

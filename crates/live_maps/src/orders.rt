@@ -1,0 +1,124 @@
+//! The places of a map's keys in the order of the keys.
+
+ghost use Rattle.std.specs.Prelude.{◌≡◌, ◌<◌, ◌≤◌, ◌^◌, ℕ, length, All, IfOk, IfSome, Some, None, vec_len, vec_capacity};
+ghost use Rattle.std.specs.FinMap.{get, remove, values};
+ghost use Rattle.maps.specs.Maps.{map_at};
+ghost use Rattle.live_maps.specs.Numbering.{AreDistinct, Numbers, OnlyThere};
+ghost use Rattle.live_maps.specs.Orders.{AreListed, NumbersFrom, places_without};
+
+use crate::table::SerialTable;
+use maps::Maps;
+use std::alloc::{AllocError, Global};
+use std::marker::Model;
+
+// Numbers the values at some places from `to` on. Where they are numbered already, from another
+// serial on, their serials are moved.
+fn number_places(places: &[usize], table: &mut SerialTable, from: Option<u64>, to: u64)
+    requires within { All (λ p. p < length table.old) places.now }
+    requires distinct { AreDistinct places.now }
+    requires only { OnlyThere places.now table.old }
+    requires few { to ≤ 2 ^ 32 }
+    requires many { length places.now ≤ 2 ^ 32 }
+    requires numbered { IfSome from (NumbersFrom places.now table.old) }
+    ensures numbers { Numbers to places.now table.new }
+    ensures len { length table.new ≡ length table.old }
+{
+    match from {
+        Some(from) => table.shift(from, to),
+        None => table.number(places, to),
+    }
+}
+
+/// The places of a map's keys, in the order of the keys' bytes. Where the values have serials in
+/// this order, the first of those is known.
+#[derive(Drop)]
+pub struct Order {
+    places: Vec<usize>,
+    first: Option<u64>,
+}
+
+impl Model for Order {
+    ghost use Rattle.std.specs.Prelude.{vec_capacity};
+    ghost use Rattle.live_maps.specs.Orders.{KeyOrder};
+
+    ghost Value = { KeyOrder };
+
+    ghost view = { λ o. record {
+      places = o.places.items;
+      room = vec_capacity o.places;
+      first = o.first;
+    } };
+}
+
+impl Order {
+    /// The order of a map's keys, with room for as many as the map can have.
+    pub fn new(alloc: Global, maps: &Maps, map: usize) -> Result<Self, AllocError>
+        requires { map < length maps.now }
+        ensures places { IfOk result (λ o. o.places ≡ values (map_at maps.now map).places) }
+        ensures room { IfOk result (λ o. o.room ≡ (map_at maps.now map).row.entries) }
+        ensures first { IfOk result (λ o. o.first ≡ None) }
+    {
+        let mut places = Vec::with_capacity(alloc, maps.row(map).entries as usize)?;
+        maps.list_places(map, &mut places);
+        Ok(Order {
+            places,
+            first: None,
+        })
+    }
+
+    /// Takes in the place of a key that has come.
+    pub fn insert(&mut self, maps: &Maps, map: usize, key: &[u8], place: usize)
+        requires map { map < length maps.now }
+        requires place { get (map_at maps.now map).places key.now ≡ Some place }
+        requires others { self.old.places ≡ values (remove (map_at maps.now map).places key.now) }
+        requires room { (map_at maps.now map).row.entries ≤ self.old.room }
+        ensures places { self.new.places ≡ values (map_at maps.now map).places }
+        ensures room { self.new.room ≡ self.old.room }
+        ensures first { self.new.first ≡ None }
+    {
+        maps.insert_place(map, key, place, &mut self.places);
+        self.first = None;
+    }
+
+    /// Leaves out the place of a key that has gone.
+    pub fn remove(&mut self, place: usize)
+        ensures places { self.new.places ≡ places_without place self.old.places }
+        ensures room { self.new.room ≡ self.old.room }
+        ensures first { self.new.first ≡ None }
+    {
+        self.places.retain(|p| *p != place);
+        self.first = None;
+    }
+
+    /// Numbers the values at these places from `first` on, and answers how many they are. Where
+    /// they are numbered already, that costs one addition.
+    pub fn number(&mut self, table: &mut SerialTable, first: u64) -> u64
+        requires within { All (λ p. p < length table.old) self.old.places }
+        requires distinct { AreDistinct self.old.places }
+        requires only { OnlyThere self.old.places table.old }
+        requires few { first ≤ 2 ^ 32 }
+        requires many { length self.old.places ≤ 2 ^ 32 }
+        requires numbered { IfSome self.old.first (NumbersFrom self.old.places table.old) }
+        ensures count { result ≡ length self.old.places }
+        ensures numbers { Numbers first self.old.places table.new }
+        ensures len { length table.new ≡ length table.old }
+        ensures known { self.new ≡ record self.old { first = Some first } }
+    {
+        number_places(self.places.as_slice(), table, self.first, first);
+        self.first = Some(first);
+        self.places.len() as u64
+    }
+}
+
+/// The orders of all maps' keys, map by map.
+pub fn orders_for(alloc: Global, maps: &Maps) -> Result<Vec<Order>, AllocError>
+    ensures len { IfOk result (λ all. vec_len all ≡ length maps.now) }
+    ensures room { IfOk result (λ all. vec_capacity all ≡ length maps.now) }
+    ensures listed { IfOk result (λ all. AreListed (length maps.now) maps.now all.items) }
+{
+    let mut all = Vec::with_capacity(alloc, maps.count())?;
+    for m in 0..maps.count() {
+        all.push_reserved(Order::new(alloc, maps, m)?);
+    }
+    Ok(all)
+}
