@@ -5,8 +5,8 @@ use super::runs::ends_are;
 use assembler::assemble;
 use checked_vm::Checked;
 use isa_model::End::{Exit, Trap};
-use isa_model::FrameHead;
 use isa_model::TrapReason::{BadAccess, BadHelper, UnsetRead};
+use isa_model::{End, FrameHead};
 use maps::Maps;
 use std::test::Fail;
 
@@ -137,6 +137,56 @@ fn values_stay_from_run_to_run(rt: HostRuntime) -> Result<(), Fail> {
     }
     let maps = checked.into_maps();
     assert_eq!(rt; value_of(&maps, &[0; 4]), Some(2));
+    Ok(())
+}
+
+const COMES_AND_GOES: &str =
+    "map hash 1 1 8\nr6 = *(u32 *)(r1 + 16); r7 = *(u32 *)(r1 + 12); *(u8 *)(r10 - 1) = r6
+    *(u8 *)(r10 - 2) = r6; r1 = map_by_idx(0); r2 = r10; r2 += -1; if r7 == 1 goto +6
+    if r7 == 2 goto +7; r3 = r10; r3 += -2; r4 = 0; call 2; exit; call 3; exit
+    call 1; r0 = *(u8 *)(r0 + 0); exit";
+
+// What a frame of this interface and queue does: it puts the key of its queue, with the key's byte
+// as the value, removes it, or reads its value.
+const PUT: u32 = 0;
+
+const REMOVE: u32 = 1;
+
+const READ: u32 = 2;
+
+const COMINGS: [(u32, u32, End); 16] = [
+    (PUT, 5, Exit(0, 14)),
+    (PUT, 2, Exit(0, 14)),
+    (PUT, 9, Exit(0, 14)),
+    (READ, 2, Exit(2, 12)),
+    (READ, 5, Exit(5, 12)),
+    (READ, 9, Exit(9, 12)),
+    (REMOVE, 5, Exit(0, 10)),
+    (READ, 5, Trap(BadAccess, 10)),
+    (READ, 9, Exit(9, 12)),
+    (PUT, 3, Exit(0, 14)),
+    (PUT, 1, Exit(0, 14)),
+    (REMOVE, 2, Exit(0, 10)),
+    (READ, 1, Exit(1, 12)),
+    (READ, 3, Exit(3, 12)),
+    (READ, 9, Exit(9, 12)),
+    (READ, 2, Trap(BadAccess, 10)),
+];
+
+/// Each start numbers the values anew, by the keys and not by the order in which these came.
+#[test]
+fn values_are_found_as_keys_come_and_go(rt: HostRuntime) -> Result<(), Fail> {
+    let image = assemble(rt.alloc(), COMES_AND_GOES.as_bytes())?;
+    let mut checked = Checked::new(rt.alloc(), image)?;
+    for (interface, queue, end) in &COMINGS {
+        let head = FrameHead {
+            time: 0,
+            interface: *interface,
+            queue: *queue,
+        };
+        let found = checked.run(head, &mut [], &mut Stopped, 100);
+        assert_eq!(rt; found, *end);
+    }
     Ok(())
 }
 
