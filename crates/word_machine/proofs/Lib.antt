@@ -8,3 +8,4 @@ pub mod Constants
 pub mod FlowLaws
 pub mod FrameLaws
 pub mod HelpingLaws
+pub mod ShortNumbers
