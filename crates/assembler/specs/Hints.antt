@@ -13,6 +13,12 @@ abbrev pub has : List ℕ → List ℕ → Bool
 has [] part = false
 has (b ∷ bs) part = begins (b ∷ bs) part || has bs part
 
+-- a sign of arithmetic or of a test, without =
+abbrev pub begins_operator : List ℕ → Bool
+begins_operator bytes =
+    begins bytes (codes "/") || begins bytes (codes "%") || begins bytes (codes "|") ||
+    begins bytes (codes "^") || begins bytes (codes "!")
+
 -- of a byte that begins no token
 unfoldable pub unknown_byte : List ℕ → List ℕ → List ℕ
 unknown_byte front back =
@@ -25,7 +31,7 @@ unknown_byte front back =
     else if begins back (codes "//") || begins back (codes "/*") then codes "a comment begins with #, and ends with the line"
     else if begins back (codes ".") then codes "there are no directives such as .section"
     else if begins back (codes "[") || begins back (codes "]") then codes "memory has a size and parentheses: *(u32 *)(r1 + 4)"
-    else if begins back (codes "/") || begins back (codes "%") || begins back (codes "|") || begins back (codes "^") || begins back (codes "!") then codes "the sign stands only with = behind it: r1 |= r2, if r1 != 3 goto +1"
+    else if begins_operator back then codes "the sign stands only with = behind it: r1 |= r2, if r1 != 3 goto +1"
     else codes "outside comments stand words, signs, and numbers with no letter behind them"
 
 -- of a statement that begins with a word of a jump or a call
@@ -40,10 +46,23 @@ no_jump back =
     else if begins back (codes "map ") then codes "it is `map hash 4 8 16`: bytes of a key, of a value, entries; no commas"
     else codes "no statement begins so: in place of `mov r0, 2` write `r0 = 2`"
 
+-- the order of bytes
+abbrev pub names_byte_order : List ℕ → Bool
+names_byte_order bytes =
+    has bytes (codes "be16") || has bytes (codes "be32") || has bytes (codes "be64") ||
+    has bytes (codes "le16") || has bytes (codes "le32") || has bytes (codes "le64") ||
+    has bytes (codes "bswap")
+
+-- a minus before a register
+abbrev pub has_negation : List ℕ → Bool
+has_negation bytes =
+    has bytes (codes "-r") || has bytes (codes "-w") || has bytes (codes "- r") ||
+    has bytes (codes "- w")
+
 -- of a statement that begins with a register
 unfoldable pub no_assignment : List ℕ → List ℕ
 no_assignment back =
-    if has back (codes "be16") || has back (codes "be32") || has back (codes "be64") || has back (codes "le16") || has back (codes "le32") || has back (codes "le64") || has back (codes "bswap") then codes "it is `r1 = be16 r1`: both are one register, of r0 to r10"
+    if names_byte_order back then codes "it is `r1 = be16 r1`: both are one register, of r0 to r10"
     else if has back (codes "atomic_fetch") then codes "it is `r1 = atomic_fetch_add_64(r10 - 8, r1)`: both are one register"
     else if has back (codes "cmpxchg") then codes "it is `r0 = cmpxchg_64(r10 - 8, r0, r1)`"
     else if has back (codes "xchg") then codes "it is `r1 = xchg_64(r10 - 8, r1)`: both are one register"
@@ -51,18 +70,39 @@ no_assignment back =
     else if has back (codes "map_by") then codes "it is `r1 = map_by_idx(0)`"
     else if has back (codes "*)") then codes "a load is `r1 = *(u32 *)(r2 + 0)`, with parentheses and an offset"
     else if has back (codes "(s") then codes "it is `r1 = (s8)r2`, also s16 and s32, or `w1 = (s8)w2`, also s16"
-    else if has back (codes "-r") || has back (codes "-w") || has back (codes "- r") || has back (codes "- w") then codes "it is `r1 = -r1`, where both are one register, or `r1 -= r2`"
+    else if has_negation back then codes "it is `r1 = -r1`, where both are one register, or `r1 -= r2`"
     else if has back (codes "+=") then codes "it is `r1 += r2` or `r1 += 4`: registers of one width, r or w"
     else if has back (codes "+") then codes "a statement has one operation: `r1 = r2`, and then `r1 += 4`"
     else codes "it is `r1 = r2`, `r1 = 5` or `w1 ^= w2`: registers of one width, r or w"
 
+-- a register past the last
+abbrev pub names_no_register : List ℕ → Bool
+names_no_register bytes =
+    has bytes (codes "r11") || has bytes (codes "r12") || has bytes (codes "r13") ||
+    has bytes (codes "r14") || has bytes (codes "r15") || has bytes (codes "w11") ||
+    has bytes (codes "w12")
+
+-- an action by its name
+abbrev pub names_action : List ℕ → Bool
+names_action bytes =
+    has bytes (codes "PASS") || has bytes (codes "DROP") || has bytes (codes "ABORTED") ||
+    has bytes (codes "= TX")
+
+-- a register
+abbrev pub begins_register : List ℕ → Bool
+begins_register bytes =
+    begins bytes (codes "r0") || begins bytes (codes "r1") || begins bytes (codes "r2") ||
+    begins bytes (codes "r3") || begins bytes (codes "r4") || begins bytes (codes "r5") ||
+    begins bytes (codes "r6") || begins bytes (codes "r7") || begins bytes (codes "r8") ||
+    begins bytes (codes "r9") || begins bytes (codes "w")
+
 -- of a statement that no form fits
 unfoldable pub no_form : List ℕ → List ℕ
 no_form back =
-    if has back (codes "r11") || has back (codes "r12") || has back (codes "r13") || has back (codes "r14") || has back (codes "r15") || has back (codes "w11") || has back (codes "w12") then codes "registers are r0 to r10, and their low halves w0 to w10"
-    else if has back (codes "PASS") || has back (codes "DROP") || has back (codes "ABORTED") || has back (codes "= TX") then codes "an action is a number: 0 ABORTED, 1 DROP, 2 PASS, 3 TX"
+    if names_no_register back then codes "registers are r0 to r10, and their low halves w0 to w10"
+    else if names_action back then codes "an action is a number: 0 ABORTED, 1 DROP, 2 PASS, 3 TX"
     else if begins back (codes "*") then codes "a store is `*(u32 *)(r10 - 4) = r1` or `= 5`, with parentheses and an offset"
-    else if begins back (codes "r0") || begins back (codes "r1") || begins back (codes "r2") || begins back (codes "r3") || begins back (codes "r4") || begins back (codes "r5") || begins back (codes "r6") || begins back (codes "r7") || begins back (codes "r8") || begins back (codes "r9") || begins back (codes "w") then no_assignment back
+    else if begins_register back then no_assignment back
     else no_jump back
 
 -- of a number that is out of range

@@ -1,7 +1,7 @@
 //! What helps where a text is refused: a sentence for each case.
 
 ghost use Rattle.std.specs.Prelude.{◌≡◌};
-ghost use Rattle.assembler.specs.Hints.{begins, has, unknown_byte, no_jump, no_assignment, no_form, out_of_range, not_defined, wrong_map, hint};
+ghost use Rattle.assembler.specs.Hints.{begins, has, begins_operator, names_byte_order, has_negation, names_no_register, names_action, begins_register, unknown_byte, no_jump, no_assignment, no_form, out_of_range, not_defined, wrong_map, hint};
 
 use super::errors::AsmErrorKind;
 
@@ -22,6 +22,17 @@ fn has(bytes: &[u8], part: &[u8]) -> bool
         }
     }
     false
+}
+
+// Whether bytes begin with a sign of arithmetic or of a test that has no = behind it.
+fn begins_operator(bytes: &[u8]) -> bool
+    ensures { result ≡ begins_operator bytes.now }
+{
+    begins(bytes, b"/")
+        || begins(bytes, b"%")
+        || begins(bytes, b"|")
+        || begins(bytes, b"^")
+        || begins(bytes, b"!")
 }
 
 // What helps of a byte that begins no token.
@@ -47,12 +58,7 @@ fn unknown_byte(front: &[u8], back: &[u8]) -> &'static str
         "there are no directives such as .section"
     } else if begins(back, b"[") || begins(back, b"]") {
         "memory has a size and parentheses: *(u32 *)(r1 + 4)"
-    } else if begins(back, b"/")
-        || begins(back, b"%")
-        || begins(back, b"|")
-        || begins(back, b"^")
-        || begins(back, b"!")
-    {
+    } else if begins_operator(back) {
         "the sign stands only with = behind it: r1 |= r2, if r1 != 3 goto +1"
     } else {
         "outside comments stand words, signs, and numbers with no letter behind them"
@@ -83,19 +89,32 @@ fn no_jump(back: &[u8]) -> &'static str
     }
 }
 
+// Whether an order of bytes is named.
+fn names_byte_order(bytes: &[u8]) -> bool
+    ensures { result ≡ names_byte_order bytes.now }
+{
+    has(bytes, b"be16")
+        || has(bytes, b"be32")
+        || has(bytes, b"be64")
+        || has(bytes, b"le16")
+        || has(bytes, b"le32")
+        || has(bytes, b"le64")
+        || has(bytes, b"bswap")
+}
+
+// Whether a minus stands before a register.
+fn has_negation(bytes: &[u8]) -> bool
+    ensures { result ≡ has_negation bytes.now }
+{
+    has(bytes, b"-r") || has(bytes, b"-w") || has(bytes, b"- r") || has(bytes, b"- w")
+}
+
 // What helps of a statement that begins with a register.
 #[tactic(auto, unfolding(crate::specs::Hints::no_assignment))]
 fn no_assignment(back: &[u8]) -> &'static str
     ensures { result.now ≡ no_assignment back.now }
 {
-    if has(back, b"be16")
-        || has(back, b"be32")
-        || has(back, b"be64")
-        || has(back, b"le16")
-        || has(back, b"le32")
-        || has(back, b"le64")
-        || has(back, b"bswap")
-    {
+    if names_byte_order(back) {
         "it is `r1 = be16 r1`: both are one register, of r0 to r10"
     } else if has(back, b"atomic_fetch") {
         "it is `r1 = atomic_fetch_add_64(r10 - 8, r1)`: both are one register"
@@ -111,7 +130,7 @@ fn no_assignment(back: &[u8]) -> &'static str
         "a load is `r1 = *(u32 *)(r2 + 0)`, with parentheses and an offset"
     } else if has(back, b"(s") {
         "it is `r1 = (s8)r2`, also s16 and s32, or `w1 = (s8)w2`, also s16"
-    } else if has(back, b"-r") || has(back, b"-w") || has(back, b"- r") || has(back, b"- w") {
+    } else if has_negation(back) {
         "it is `r1 = -r1`, where both are one register, or `r1 -= r2`"
     } else if has(back, b"+=") {
         "it is `r1 += r2` or `r1 += 4`: registers of one width, r or w"
@@ -122,40 +141,55 @@ fn no_assignment(back: &[u8]) -> &'static str
     }
 }
 
+// Whether a register past the last is named.
+fn names_no_register(bytes: &[u8]) -> bool
+    ensures { result ≡ names_no_register bytes.now }
+{
+    has(bytes, b"r11")
+        || has(bytes, b"r12")
+        || has(bytes, b"r13")
+        || has(bytes, b"r14")
+        || has(bytes, b"r15")
+        || has(bytes, b"w11")
+        || has(bytes, b"w12")
+}
+
+// Whether an action is named.
+fn names_action(bytes: &[u8]) -> bool
+    ensures { result ≡ names_action bytes.now }
+{
+    has(bytes, b"PASS") || has(bytes, b"DROP") || has(bytes, b"ABORTED") || has(bytes, b"= TX")
+}
+
+// Whether bytes begin with a register.
+fn begins_register(bytes: &[u8]) -> bool
+    ensures { result ≡ begins_register bytes.now }
+{
+    begins(bytes, b"r0")
+        || begins(bytes, b"r1")
+        || begins(bytes, b"r2")
+        || begins(bytes, b"r3")
+        || begins(bytes, b"r4")
+        || begins(bytes, b"r5")
+        || begins(bytes, b"r6")
+        || begins(bytes, b"r7")
+        || begins(bytes, b"r8")
+        || begins(bytes, b"r9")
+        || begins(bytes, b"w")
+}
+
 // What helps of a statement that no form fits.
 #[tactic(auto, unfolding(crate::specs::Hints::no_form))]
 fn no_form(back: &[u8]) -> &'static str
     ensures { result.now ≡ no_form back.now }
 {
-    if has(back, b"r11")
-        || has(back, b"r12")
-        || has(back, b"r13")
-        || has(back, b"r14")
-        || has(back, b"r15")
-        || has(back, b"w11")
-        || has(back, b"w12")
-    {
+    if names_no_register(back) {
         "registers are r0 to r10, and their low halves w0 to w10"
-    } else if has(back, b"PASS")
-        || has(back, b"DROP")
-        || has(back, b"ABORTED")
-        || has(back, b"= TX")
-    {
+    } else if names_action(back) {
         "an action is a number: 0 ABORTED, 1 DROP, 2 PASS, 3 TX"
     } else if begins(back, b"*") {
         "a store is `*(u32 *)(r10 - 4) = r1` or `= 5`, with parentheses and an offset"
-    } else if begins(back, b"r0")
-        || begins(back, b"r1")
-        || begins(back, b"r2")
-        || begins(back, b"r3")
-        || begins(back, b"r4")
-        || begins(back, b"r5")
-        || begins(back, b"r6")
-        || begins(back, b"r7")
-        || begins(back, b"r8")
-        || begins(back, b"r9")
-        || begins(back, b"w")
-    {
+    } else if begins_register(back) {
         no_assignment(back)
     } else {
         no_jump(back)
