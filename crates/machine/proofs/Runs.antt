@@ -17,9 +17,9 @@ use Rattle.word_machine.specs.declared.memory.Memory.{Memory}
 use Rattle.word_machine.specs.Words.{Words}
 use Rattle.word_machine.specs.Machine.{words_of}
 use Rattle.word_machine.specs.Runs.{EndsSafely, EndsInTime, Exits}
-use Rattle.word_relation.specs.Starting.{start_words, start_of}
-use Rattle.word_relation.specs.Answering.{IsStart, AnswersAsModel as WordAnswers}
-use Rattle.word_relation.proofs.AnsweringLaws.{start_Ends, start_Answers}
+use Rattle.machine.specs.Starting.{start_words, start_of}
+use Rattle.machine.specs.Answering.{IsStart, AnswersAsModel as WordAnswers}
+use Rattle.machine.proofs.AnsweringLaws.{start_Ends, start_Answers}
 use Rattle.machine.specs.Running.{RunsWithinBound, AnswersRun}
 use Rattle.machine.specs.Ready.{IsReady}
 

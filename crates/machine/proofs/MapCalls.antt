@@ -21,11 +21,10 @@ use Rattle.maps.proofs.UpdateLaws.{update_answer-places, delete_answer-places}
 use Rattle.maps.specs.Maps.{MapState, IsMap, map_at, content_in, Updated, Deleted}
 use Rattle.word_machine.specs.Addresses.{values_base}
 use Rattle.word_machine.specs.Words.{Words}
-use Rattle.word_relation.specs.Related.{Layout, IsLayout, Represents, by_serial, by_place, RepresentsMap, RepresentsMaps, Related}
-use Rattle.word_relation.proofs.Extending.{ExtendsLayout, with_value, put_at-there, ExtendsLayout-with_value, IsLayout-with_value, registers_old, frames_old, maps_old, content_old}
-use Rattle.word_relation.proofs.Contents.{changed-with_key, changed-without_key, find-placed, placed-remove, placed-put}
-use Rattle.word_relation.specs.Values.{contents_are}
-use Rattle.word_relation.proofs.ValuesLaws.{as_many, set_shown}
+use Rattle.machine.specs.Related.{Layout, IsLayout, Represents, by_serial, by_place, RepresentsMap, RepresentsMaps, Related}
+use Rattle.machine.proofs.Extending.{ExtendsLayout, with_value, put_at-there, ExtendsLayout-with_value, IsLayout-with_value, registers_old, frames_old, maps_old, content_old}
+use Rattle.machine.proofs.Contents.{changed-with_key, changed-without_key, find-placed, placed-remove, placed-put}
+use Rattle.machine.proofs.LiveValues.{contents_are, as_many, set_shown}
 
 -- what a map shows, and another of the same row
 same_shown : (b : Layout) (m : ℕ) (content : Content) (old new : MapState) → IsMap new → new.row ≡ old.row

@@ -14,7 +14,7 @@ use Rattle.map_indexes.specs.PlaceKeys.{Places}
 use Rattle.map_indexes.specs.PlaceKeyLaws.{is_key-equal}
 use Rattle.maps.specs.ContentLaws.{changed, find-changed, is_sorted-changed}
 use Rattle.maps.proofs.ContentLaws.{same_contents}
-use Rattle.word_relation.specs.Related.{by_place}
+use Rattle.machine.specs.Related.{by_place}
 
 -- ---- a value changed by a function, and a key put or removed
 

@@ -10,7 +10,6 @@ use Rattle.isa_model.specs.Running.Runs.{Outcome, HasOutcome}
 use Rattle.isa_model.specs.Running.Outcomes.{StartsEnd}
 use Rattle.maps.specs.Maps.{MapState, IsMap, rows_of, contents_of}
 use Rattle.word_machine.specs.Words.{Words}
-use Rattle.word_relation.specs.Values.{contents_are}
 
 -- ---- whole runs
 

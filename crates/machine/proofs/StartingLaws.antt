@@ -20,9 +20,9 @@ use Rattle.maps.specs.ContentLaws.{changed}
 use Rattle.maps.proofs.MapLaws.{length-rows_of}
 use Rattle.maps.specs.Maps.{MapState, IsMap, map_at, rows_of, content_in, contents_of}
 use Rattle.maps.proofs.ReportOrderLaws.{get_at}
-use Rattle.word_relation.specs.Related.{Layout, Represents, RepresentsFrame, by_place, Related}
-use Rattle.word_relation.proofs.Calling.{by_register, cells_unset}
-use Rattle.word_relation.specs.Starting.{start_of, start_words}
+use Rattle.machine.specs.Related.{Layout, Represents, RepresentsFrame, by_place, Related}
+use Rattle.machine.proofs.Calling.{by_register, cells_unset}
+use Rattle.machine.specs.Starting.{start_of, start_words}
 use Rattle.word_machine.specs.Addresses.{frames_size}
 
 abbrev pub place_of : MapState → ℕ → ℕ

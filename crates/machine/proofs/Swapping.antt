@@ -29,13 +29,13 @@ use Rattle.isa_model.specs.Machine.MachineStates.{IsValue, IsState}
 use Rattle.isa_model.proofs.StateLaws.{reg_fits}
 use Rattle.isa_model.proofs.AccessLaws.{store_number_keeps}
 use Rattle.word_machine.specs.Words.{Words, word_at, address_of, spot_of, IsInside, get, number_at, swaps, old_number, fetched_regs, put as put_bytes}
-use Rattle.word_relation.specs.Related.{Layout, region_start, moved, word, Represents, Related}
-use Rattle.word_relation.proofs.Addresses.{add_near}
-use Rattle.word_relation.proofs.Arithmetic.{far, OkShows}
-use Rattle.word_relation.proofs.Cells.{OkNumber, shows_number_in}
-use Rattle.word_relation.proofs.Loading.{OkRead, shows_read}
-use Rattle.word_relation.proofs.Storing.{OkStore, bytes_long, shows_store_number}
-use Rattle.word_relation.proofs.Registers.{set_related}
+use Rattle.machine.specs.Related.{Layout, region_start, moved, word, Represents, Related}
+use Rattle.machine.proofs.Addresses.{add_near}
+use Rattle.machine.proofs.Arithmetic.{far, OkShows}
+use Rattle.machine.proofs.Cells.{OkNumber, shows_number_in}
+use Rattle.machine.proofs.Loading.{OkRead, shows_read}
+use Rattle.machine.proofs.Storing.{OkStore, bytes_long, shows_store_number}
+use Rattle.machine.proofs.Registers.{set_related}
 
 module _ (p : Program) (a : Layout) (s : State) (w : Words) (R : Related p a s w) (K : IsState p s) where
   -- ---- numbers loaded

@@ -23,7 +23,7 @@ use Rattle.maps.specs.Maps.{MapState, map_at}
 use Rattle.word_machine.specs.Addresses.{packet_base, values_base, frame_end}
 use Rattle.word_machine.specs.declared.memory.Saved.{Saved}
 use Rattle.word_machine.specs.Words.{saved_at}
-use Rattle.word_relation.specs.Related.{Layout, IsLayout, moved, word, Represents, RepresentsCell, RepresentsCells, RepresentsRegisters, RepresentsFrame, RepresentsSaved, RepresentsFrames, by_serial, RepresentsMap, RepresentsMaps}
+use Rattle.machine.specs.Related.{Layout, IsLayout, moved, word, Represents, RepresentsCell, RepresentsCells, RepresentsRegisters, RepresentsFrame, RepresentsSaved, RepresentsFrames, by_serial, RepresentsMap, RepresentsMaps}
 
 -- what was there before a serial is where it was
 pub record ExtendsLayout (a b : Layout) (next : ℕ) : Type 0 where

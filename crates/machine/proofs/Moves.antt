@@ -40,15 +40,15 @@ use Rattle.word_machine.specs.Words.{Words, word_at, set_word, word_operand, at_
 use Rattle.word_machine.specs.Words as words
 use Rattle.word_machine.specs.Flows.{AccessesFit, WordStep}
 use Rattle.word_machine.specs.Runs.{IsLast}
-use Rattle.word_relation.specs.Related.{Layout, Represents, Related}
-use Rattle.word_relation.proofs.Registers.{set_related, go_related}
-use Rattle.word_relation.proofs.Arithmetic.{OkShows, shows_arithmetic, OkHolds, shows_compared, shows_compared_constant}
-use Rattle.word_relation.proofs.Loading.{OkLoad, shows_load}
-use Rattle.word_relation.proofs.Storing.{OkStore, bytes_long, shows_store}
-use Rattle.word_relation.proofs.Swapping.{shows_load_signed, swapped, shows_swap, with_number}
-use Rattle.word_relation.proofs.Calling.{entered, enter_related, leave_related}
-use Rattle.word_relation.proofs.MapLoads.{only_value}
-use Rattle.word_relation.proofs.HelperMoves.{OkHelp, helper_moves}
+use Rattle.machine.specs.Related.{Layout, Represents, Related}
+use Rattle.machine.proofs.Registers.{set_related, go_related}
+use Rattle.machine.proofs.Arithmetic.{OkShows, shows_arithmetic, OkHolds, shows_compared, shows_compared_constant}
+use Rattle.machine.proofs.Loading.{OkLoad, shows_load}
+use Rattle.machine.proofs.Storing.{OkStore, bytes_long, shows_store}
+use Rattle.machine.proofs.Swapping.{shows_load_signed, swapped, shows_swap, with_number}
+use Rattle.machine.proofs.Calling.{entered, enter_related, leave_related}
+use Rattle.machine.proofs.MapLoads.{only_value}
+use Rattle.machine.proofs.HelperMoves.{OkHelp, helper_moves}
 
 -- an inner frame's exit, and nothing else, needs a caller
 abbrev pub Going : Words → Insn → Type 0

@@ -1,6 +1,6 @@
-use Rattle.word_relation.proofs.RunningLaws.{related_Ends, related_Reaches, related_Exits}
-use Rattle.word_relation.proofs.AnsweringLaws.{start_Ends, start_Answers}
-use Rattle.word_relation.proofs.words_follow_states.Goals as goal
+use Rattle.machine.proofs.TrackingLaws.{related_Ends, related_Reaches, related_Exits}
+use Rattle.machine.proofs.AnsweringLaws.{start_Ends, start_Answers}
+use Rattle.machine.proofs.following.words_follow_states.Goals as goal
 
 pub returns-clause-ends : goal.returns-clause-ends
 returns-clause-ends c = related_Ends

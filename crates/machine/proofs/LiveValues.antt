@@ -1,4 +1,4 @@
--- Laws of the definitions in specs/Values.
+-- The values of maps in their blocks: where a live value's bytes are, and what a write into one leaves.
 use Rattle.std.proofs.Common.{◌≡◌, ℕ, zero, suc, ◌+◌, ◌*◌, ◌<◌, ◌≤◌, List, [], ◌∷◌, length, map, refl, sym, ap, subst, ◌∙◌, arith, Bool, true, false, Some, inl, inr, get_or-set_same, get_or-set_other, slice_set}
 use Rattle.std.specs.Prelude.{slice_index_or, T, ◌&&◌}
 use Rattle.std.specs.List.{splice}
@@ -7,17 +7,17 @@ use Rattle.std.specs.declared.cmp.Ordering.{Ordering}
 use Rattle.std.specs.declared.cmp.Ordering.TheVariants.{Less, Equal, Greater}
 use Rattle.std.specs.FinMap.{entries, entries_sorted, get, is_sorted}
 use Rattle.std.specs.FinMap.Entries.{below_all}
-use Rattle.std.proofs.lemmas.List.{map-set, get_or-map}
+use Rattle.std.proofs.lemmas.List.{map-set, get_or-map, length-map}
 use Rattle.std.proofs.lemmas.Bool.{cases_lt}
 use Rattle.std.proofs.lemmas.Option.{slice_get-get_or}
 use Rattle.flatmem.specs.Bytes.{bytes_at, with_bytes}
 use Rattle.flatmem.proofs.BytesLaws.{length-with_bytes}
 use Rattle.isa_model.specs.declared.map_defs.MapDef.{MapDef}
 use Rattle.isa_model.specs.Code.Instructions.{Program}
-use Rattle.isa_model.specs.Machine.States.{State, Stored, Content, content_of}
+use Rattle.isa_model.specs.Machine.States.{State, Stored, Content, Entries, content_of, entries_of}
 use Rattle.isa_model.specs.Machine.Memory.{entry_at}
 use Rattle.isa_model.specs.Machine.MapContents.{key_order}
-use Rattle.isa_model.specs.Machine.MachineStates.{AreBytes, IsState}
+use Rattle.isa_model.specs.Machine.MachineStates.{AreBytes, FitRows, IsState}
 use Rattle.isa_model.proofs.ValueLaws.{All-splice}
 use Rattle.map_indexes.specs.Rows.{row_at, with_row}
 use Rattle.map_indexes.specs.RowLaws.{row_end, length-row_at, splice_in_row, length-changed_row, row_at-with_row, row_at-other}
@@ -26,8 +26,17 @@ use Rattle.maps.specs.ContentLaws.{length-changed}
 use Rattle.maps.specs.Maps.{MapState, IsMap, map_at}
 use Rattle.maps.proofs.MapLaws.{length-rows_of, rows_of-set}
 use Rattle.maps.proofs.ReportOrderLaws.{above, get_at}
-use Rattle.word_relation.specs.Related.{Layout, by_serial, by_place, RepresentsMap, RepresentsMaps}
-use Rattle.word_relation.specs.Values.{contents_are}
+use Rattle.machine.specs.Related.{Layout, by_serial, by_place, RepresentsMap, RepresentsMaps}
+
+FitRows-length : (rows : List MapDef) (contents : List Entries) → FitRows rows contents → length rows ≡ length contents
+FitRows-length [] [] h = refl
+FitRows-length [] (c ∷ contents) h = absurd h
+FitRows-length (row ∷ rows) [] h = absurd h
+FitRows-length (row ∷ rows) (c ∷ contents) h = ap suc (FitRows-length rows contents h.1)
+
+-- a state has a content for each row
+pub contents_are : (p : Program) (s : State) → IsState p s → length s.maps ≡ length p.maps
+contents_are p s K = sym (FitRows-length p.maps (map entries_of s.maps) K.maps ∙ length-map s.maps entries_of)
 
 no_content : (contents : List Content) (m : ℕ) → length contents ≤ m → length (slice_index_or contents m []) ≡ 0
 no_content [] m h = refl

@@ -7,11 +7,11 @@ use Rattle.isa_model.specs.Machine.MachineStates.{IsProgram, IsClock, IsState}
 use Rattle.isa_model.specs.Running.Ends.{Ends as ModelEnds}
 use Rattle.word_machine.specs.Words.{Words}
 use Rattle.word_machine.specs.Runs.{EndsSafely, WordsReach, Exits}
-use Rattle.word_relation.specs.Related.{Layout, Related}
+use Rattle.machine.specs.Related.{Layout, Related}
 use Rattle.maps.specs.Maps.{MapState}
-use Rattle.word_relation.specs.Running.{Tracks, Finishes}
-use Rattle.word_relation.specs.Starting.{start_of}
-use Rattle.word_relation.specs.Answering.{IsStart, AnswersAsModel}
+use Rattle.machine.specs.Tracking.{Tracks, Finishes}
+use Rattle.machine.specs.Starting.{start_of}
+use Rattle.machine.specs.Answering.{IsStart, AnswersAsModel}
 
 -- what ends in the model within a count of steps ends in words within as many moves
 abbrev pub EndsInWords : Type 0

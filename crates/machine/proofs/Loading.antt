@@ -35,13 +35,13 @@ use Rattle.word_machine.proofs.FrameLaws.{spot_frame}
 use Rattle.word_machine.specs.Addresses.{region_size, context_base, packet_base, values_base, frame_end, packet_index, block_index, first_frame}
 use Rattle.word_machine.specs.Words.{Words, InPacket, InFrames, InBlock, spot_of, IsInside, get, in_context, word_from, CanLoad}
 use Rattle.maps.specs.Maps.{map_at}
-use Rattle.word_relation.specs.Related.{Layout, region_start, moved, word, Represents, RepresentsCells, Related}
-use Rattle.word_relation.proofs.ValuesLaws.{live_map, value_inside, value_at_block, value_long}
+use Rattle.machine.specs.Related.{Layout, region_start, moved, word, Represents, RepresentsCells, Related}
+use Rattle.machine.proofs.LiveValues.{live_map, value_inside, value_at_block, value_long}
 use Rattle.isa_model.proofs.AccessLaws.{load_fits}
 use Rattle.std.proofs.lemmas.Nat.{from_le_bytes-to_le_bytes_8}
-use Rattle.word_relation.proofs.Addresses.{add_near, word_far}
-use Rattle.word_relation.proofs.Arithmetic.{far}
-use Rattle.word_relation.proofs.Cells.{shows-take, shows-drop, shows-bytes, shows_number_in, shows_value_in, OkNumber, Spelled, OkSpelled}
+use Rattle.machine.proofs.Addresses.{add_near, word_far}
+use Rattle.machine.proofs.Arithmetic.{far}
+use Rattle.machine.proofs.Cells.{shows-take, shows-drop, shows-bytes, shows_number_in, shows_value_in, OkNumber, Spelled, OkSpelled}
 
 -- ---- which block an address leads to
 

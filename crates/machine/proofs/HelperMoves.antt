@@ -26,9 +26,9 @@ use Rattle.maps.specs.Maps.{map_at}
 use Rattle.maps.proofs.MapsLaws.{KeyFits-most}
 use Rattle.word_machine.specs.Words.{Words, word_at, spot_of, IsInside, area, index_of}
 use Rattle.word_machine.specs.Helping.{map_named, named, key_named, value_named, NamesKey, HasPlaces, CallFits, found_at, Calls}
-use Rattle.word_relation.specs.Related.{Layout, Represents, Related}
-use Rattle.word_relation.proofs.Arguments.{answered_related, maps_long, with_map, with_argument, with_number, with_bytes_at}
-use Rattle.word_relation.proofs.MapCalls.{address, lookup_shown, update_related, delete_related}
+use Rattle.machine.specs.Related.{Layout, Represents, Related}
+use Rattle.machine.proofs.Arguments.{answered_related, maps_long, with_map, with_argument, with_number, with_bytes_at}
+use Rattle.machine.proofs.MapCalls.{address, lookup_shown, update_related, delete_related}
 
 some_key : (kind : MapKind) (n : ℕ) → rows.KeyFits kind n → 0 < n
 some_key Hash n h = let g = h.0 in omega arith

@@ -15,12 +15,12 @@ use Rattle.maps.proofs.MapLaws.{length-rows_of}
 use Rattle.maps.specs.Maps.{MapState, map_at, rows_of, content_in, contents_of}
 use Rattle.word_machine.specs.Words.{Words}
 use Rattle.word_machine.specs.Runs.{EndsSafely, Exits}
-use Rattle.word_relation.specs.Related.{Layout, by_serial, by_place, RepresentsMap, Related}
-use Rattle.word_relation.proofs.RunningLaws.{related_Ends, related_Exits}
-use Rattle.word_relation.specs.Starting.{start_of}
-use Rattle.word_relation.proofs.StartingLaws.{start_layout, start_related}
-use Rattle.word_relation.specs.Values.{contents_are}
-use Rattle.word_relation.specs.Answering.{AnswersAsModel, IsStart}
+use Rattle.machine.specs.Related.{Layout, by_serial, by_place, RepresentsMap, Related}
+use Rattle.machine.proofs.TrackingLaws.{related_Ends, related_Exits}
+use Rattle.machine.specs.Starting.{start_of}
+use Rattle.machine.proofs.StartingLaws.{start_layout, start_related}
+use Rattle.machine.proofs.LiveValues.{contents_are}
+use Rattle.machine.specs.Answering.{AnswersAsModel, IsStart}
 
 changed-twice : {X Y Z : Type 0} (g : Y → Z) (f : X → Y) (es : List (List ℕ × X)) → changed g (changed f es) ≡ changed (λ x. g (f x)) es
 changed-twice g f [] = refl

@@ -10,7 +10,7 @@ use Rattle.isa_model.specs.Code.Registers.{reg_number}
 use Rattle.isa_model.specs.Code.Instructions.{Program}
 use Rattle.isa_model.specs.Machine.States.{State, value_at, set_reg, go_to}
 use Rattle.word_machine.specs.Words.{Words, set_word, at_slot}
-use Rattle.word_relation.specs.Related.{Layout, Represents, RepresentsRegisters, Related}
+use Rattle.machine.specs.Related.{Layout, Represents, RepresentsRegisters, Related}
 
 -- a value in place of another, and its word in place of that one's
 pub set_shown : (a : Layout) (regs : List Value) (words : List ℕ) (n : ℕ) (v : Value) (x : ℕ) → length regs ≡ 11 → RepresentsRegisters a regs words → Represents a v x

@@ -14,7 +14,7 @@ use Rattle.isa_model.specs.declared.ends.TrapReason.{TrapReason}
 use Rattle.isa_model.specs.declared.ends.TrapReason.TheVariants.{UnsetRead, BadAccess}
 use Rattle.isa_model.specs.Code.Numbers.{number_from}
 use Rattle.isa_model.specs.Machine.Memory.{is_unwritten, is_byte, byte_in, number_of, number_in, value_in, pointer_in, pieces, is_piece, are_pieces, same_region, same_int}
-use Rattle.word_relation.specs.Related.{Layout, word, RepresentsCell, RepresentsCells}
+use Rattle.machine.specs.Related.{Layout, word, RepresentsCell, RepresentsCells}
 
 both_true : (b c : Bool) → (b && c) ≡ true → (b ≡ true) × (c ≡ true)
 both_true true c e = (refl, e)

@@ -25,11 +25,11 @@ use Rattle.maps.proofs.MapLaws.{length-rows_of}
 use Rattle.word_machine.specs.Addresses.{region_of, map_base}
 use Rattle.word_machine.specs.Words.{Words, word_at, spot_of, IsInside, get}
 use Rattle.word_machine.specs.Helping.{map_named, named, answered as answered_words}
-use Rattle.word_relation.specs.Related.{Layout, region_start, moved, Represents, RepresentsCells, RepresentsRegisters, Related}
-use Rattle.word_relation.proofs.Addresses.{moved_is}
-use Rattle.word_relation.proofs.Arithmetic.{far}
-use Rattle.word_relation.proofs.Cells.{bytes-shown}
-use Rattle.word_relation.proofs.Loading.{OkRead, shows_read}
+use Rattle.machine.specs.Related.{Layout, region_start, moved, Represents, RepresentsCells, RepresentsRegisters, Related}
+use Rattle.machine.proofs.Addresses.{moved_is}
+use Rattle.machine.proofs.Arithmetic.{far}
+use Rattle.machine.proofs.Cells.{bytes-shown}
+use Rattle.machine.proofs.Loading.{OkRead, shows_read}
 
 -- ---- the answer in r0, and r1 to r5 unset
 

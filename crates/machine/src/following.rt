@@ -1,9 +1,8 @@
 //! How the machine of words runs the programs of the model: `specs/Related` says when words
 //! represent a state, `proofs/Moves` that a step of the state is a step of the words, and
-//! `specs/Running` the same of runs.
-#![tactic(auto)]
+//! `specs/Tracking` the same of runs.
 
-ghost use Rattle.word_relation.specs.Laws.{EndsInWords, MovesAreSteps, ExitsAgree, StartsEndInWords, ExitsAreOutcomes};
+ghost use Rattle.machine.specs.Following.{EndsInWords, MovesAreSteps, ExitsAgree, StartsEndInWords, ExitsAreOutcomes};
 
 /// The relation's laws: runs of words that begin related to a state end as the model's do, and
 /// each of their moves is a step; and from a start what they come to is the outcome.

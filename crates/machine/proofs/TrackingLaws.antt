@@ -1,4 +1,4 @@
--- Laws of the definitions in specs/Running.
+-- Laws of the definitions in specs/Tracking.
 use Rattle.std.proofs.Common.{◌≡◌, ℕ, zero, suc, ◌<◌, ◌≤◌, length, refl, sym, ap, subst, ◌∙◌, arith, add-one, Bool, true, false, Option, Some, None}
 use Rattle.std.specs.Prelude.{if◌then◌else◌}
 use Rattle.std.specs.List.{list_any}
@@ -18,9 +18,9 @@ use Rattle.isa_model.proofs.EndsLaws.{Reaches-then}
 use Rattle.word_machine.specs.Words.{Words}
 use Rattle.word_machine.specs.Flows.{AccessesFit}
 use Rattle.word_machine.specs.Runs.{CanStepTo, EndsSafely, WordsStepTo, WordsReach, Exits}
-use Rattle.word_relation.specs.Related.{Layout, Related}
-use Rattle.word_relation.proofs.Moves.{OkMove, not_last, moves}
-use Rattle.word_relation.specs.Running.{Finishes, Tracks}
+use Rattle.machine.specs.Related.{Layout, Related}
+use Rattle.machine.proofs.Moves.{OkMove, not_last, moves}
+use Rattle.machine.specs.Tracking.{Finishes, Tracks}
 
 -- a step that does not trap has an instruction
 fetched : (p : Program) (clock : ℕ → ℕ) (s : State) (P : State → Type 0) → After P (step p clock s) → (i : Insn) × (fetch p s.slot ≡ Some i)

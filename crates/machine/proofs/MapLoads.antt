@@ -18,10 +18,10 @@ use Rattle.map_indexes.proofs.ArrayLaws.{get_index}
 use Rattle.maps.specs.Maps.{MapState, map_at}
 use Rattle.word_machine.specs.Addresses.{values_base}
 use Rattle.word_machine.specs.Words.{Words}
-use Rattle.word_relation.specs.Related.{Layout, Represents, by_place, RepresentsMap, Related}
-use Rattle.word_relation.proofs.ValuesLaws.{value_starts, in_block, place_at}
-use Rattle.word_relation.proofs.Arguments.{row_of}
-use Rattle.word_relation.proofs.MapCalls.{found}
+use Rattle.machine.specs.Related.{Layout, Represents, by_place, RepresentsMap, Related}
+use Rattle.machine.proofs.LiveValues.{value_starts, in_block, place_at}
+use Rattle.machine.proofs.Arguments.{row_of}
+use Rattle.machine.proofs.MapCalls.{found}
 
 module _ (a : Layout) (m : ℕ) (state : MapState) where
   -- an array of one entry has that entry

@@ -36,15 +36,13 @@ use Rattle.isa_model.specs.Machine.MachineStates.{AreBytes, IsValue, IsState}
 use Rattle.isa_model.proofs.ValueLaws.{length-splice, bytes_of_fit}
 use Rattle.word_machine.specs.Addresses.{packet_base}
 use Rattle.word_machine.specs.Words.{Words, InPacket, InFrames, InBlock, spot_of, IsInside, saved_at, put as put_bytes}
-use Rattle.word_relation.specs.Related.{Layout, region_start, moved, word, Represents, RepresentsCells, RepresentsFrame, RepresentsSaved, RepresentsFrames, RepresentsMaps, Related}
-use Rattle.word_relation.specs.Values.{contents_are}
-use Rattle.word_relation.proofs.ValuesLaws.{written, written_shown}
-use Rattle.word_relation.proofs.ValuesLaws.{set_shown}
-use Rattle.word_relation.proofs.Addresses.{add_near}
-use Rattle.word_relation.proofs.Arithmetic.{far}
-use Rattle.word_relation.proofs.Cells.{shows-take, shows-drop, shows-append, shows-bytes, shows-length, shows-pieces}
+use Rattle.machine.specs.Related.{Layout, region_start, moved, word, Represents, RepresentsCells, RepresentsFrame, RepresentsSaved, RepresentsFrames, RepresentsMaps, Related}
+use Rattle.machine.proofs.LiveValues.{contents_are, written, written_shown, set_shown}
+use Rattle.machine.proofs.Addresses.{add_near}
+use Rattle.machine.proofs.Arithmetic.{far}
+use Rattle.machine.proofs.Cells.{shows-take, shows-drop, shows-append, shows-bytes, shows-length, shows-pieces}
 use Rattle.word_machine.proofs.FrameLaws.{spot_frame}
-use Rattle.word_relation.proofs.Loading.{spot_packet, spot_value, frame_whole, live_depth, live_value}
+use Rattle.machine.proofs.Loading.{spot_packet, spot_value, frame_whole, live_depth, live_value}
 
 -- a frame of a list in which one was replaced
 at_set : (fs : List CallFrame) (j k : ℕ) (g : CallFrame) (P : CallFrame → Type 0) → j < length fs → (k ≡ j → P g) → ((k ≡ j → ⊥) → P (frame_at fs k)) → P (frame_at (slice_set fs j g) k)

@@ -10,7 +10,7 @@ use Rattle.isa_model.specs.declared.values.Region.{Region}
 use Rattle.isa_model.specs.declared.values.Region.TheVariants as region
 use Rattle.isa_model.specs.Code.Numbers.{alu, signed, unsigned}
 use Rattle.isa_model.specs.Machine.MachineStates.{IsOffset, IsRegion}
-use Rattle.word_relation.specs.Related.{Layout, IsLayout, region_start, moved, word}
+use Rattle.machine.specs.Related.{Layout, IsLayout, region_start, moved, word}
 
 -- what an address is, where it cannot go below 0
 pub moved_is : (s : ℕ) (z : ℤ) → 4294967296 ≤ s → IsOffset z → pos (moved s z) ≡ pos s +ℤ z

@@ -18,8 +18,8 @@ use Rattle.isa_model.specs.Machine.MachineStates.{IsState}
 use Rattle.word_machine.specs.Addresses.{frame_end}
 use Rattle.word_machine.specs.declared.memory.Saved.{Saved}
 use Rattle.word_machine.specs.Words.{Words, saved_at, kept_words, regs_back, word_enter, word_leave}
-use Rattle.word_relation.specs.Related.{Layout, Represents, RepresentsCells, RepresentsRegisters, RepresentsFrame, RepresentsSaved, RepresentsFrames, Related}
-use Rattle.word_relation.proofs.Extending.{ExtendsLayout, put_at-there, with_depth, ExtendsLayout-with_depth, IsLayout-with_depth, register_old, frame_old, saved_old, maps_old}
+use Rattle.machine.specs.Related.{Layout, Represents, RepresentsCells, RepresentsRegisters, RepresentsFrame, RepresentsSaved, RepresentsFrames, Related}
+use Rattle.machine.proofs.Extending.{ExtendsLayout, put_at-there, with_depth, ExtendsLayout-with_depth, IsLayout-with_depth, register_old, frame_old, saved_old, maps_old}
 
 -- an element of a list with one more at its end
 get_push : {X : Type 0} (xs : List X) (x d : X) (k : ℕ) → k < length xs → slice_index_or (xs ++ x ∷ []) k d ≡ slice_index_or xs k d

@@ -19,8 +19,8 @@ use Rattle.isa_model.specs.Code.Limits.{offset_limit}
 use Rattle.isa_model.specs.Machine.Pointers.{pointer_at, can_move, moved_to, pointer_and_number, number_and_pointer, combined, arithmetic, compared, compared_constant, packet_order, pointer_order, null_test}
 use Rattle.isa_model.specs.Machine.Pointers as pointers
 use Rattle.isa_model.specs.Machine.MachineStates.{IsOffset, IsRegion, IsValue}
-use Rattle.word_relation.specs.Related.{Layout, IsLayout, region_start, moved, word, Represents}
-use Rattle.word_relation.proofs.Addresses.{add_moved, sub_moved, alu_add_swap, start_far, word_far}
+use Rattle.machine.specs.Related.{Layout, IsLayout, region_start, moved, word, Represents}
+use Rattle.machine.proofs.Addresses.{add_moved, sub_moved, alu_add_swap, start_far, word_far}
 use Rattle.word_machine.specs.Addresses.{packet_base}
 
 -- what holds of an answer

@@ -7,7 +7,7 @@ use Rattle.isa_model.specs.Machine.MachineStates.{IsState}
 use Rattle.isa_model.specs.Running.Runs.{Reaches as ModelReaches}
 use Rattle.isa_model.specs.Running.Ends.{Ends as ModelEnds}
 use Rattle.word_machine.specs.Words.{Words}
-use Rattle.word_relation.specs.Related.{Layout, Related}
+use Rattle.machine.specs.Related.{Layout, Related}
 
 -- the run in the model from s, which ends within n steps, is after k of them in a state that the
 -- words represent
