@@ -6,19 +6,19 @@ use Rattle.exact_io.specs.declared.buffering.PromptWriter.{PromptWriter}
 use Rattle.exact_io.specs.Waiting.{held}
 use Rattle.std.specs.declared.alloc.Global.{Global}
 use Rattle.isa_model.specs.{Program}
-use Rattle.tasks.specs.Requests.{TaskRequest, ProofFiles, Trace, Run, Verify, Prove, Recheck, Assemble, Disassemble}
+use Rattle.words.specs.Requests.{TaskRequest, ProofFiles, Trace, Run, Verify, Prove, Recheck, Assemble, Disassemble}
 use Rattle.host.specs.declared.errors.HostError.{HostError}
 use Rattle.host.specs.declared.stops.Stops.{Stops}
 use Rattle.host.specs.declared.traced.Traced.{Traced}
 use Rattle.host.specs.Stops.{noted_of}
-use Rattle.serving.specs.declared.outcomes.Outcome.{Outcome}
-use Rattle.serving.specs.declared.outcomes.Outcome.TheVariants.{Done, WrongWords, Refused, Faulted, CannotRead, CannotWrite, CannotReplace, NoMemory}
-use Rattle.serving.specs.declared.endings.Ending.{Ending}
-use Rattle.serving.specs.Known.{Tells, TellsTable, TellsText}
-use Rattle.serving.specs.Commands.{Serves, ShowsNone}
-use Rattle.serving.specs.HandingOn.{Flushes, IsFlushed, TellsFailure}
-use Rattle.serving.specs.Statuses.{is_silent}
-use Rattle.serving.specs.Stopped.{TellsStopsOf, at_end, stop_lines}
+use Rattle.commands.specs.declared.outcomes.Outcome.{Outcome}
+use Rattle.commands.specs.declared.outcomes.Outcome.TheVariants.{Done, WrongWords, Refused, Faulted, CannotRead, CannotWrite, CannotReplace, NoMemory}
+use Rattle.commands.specs.declared.endings.Ending.{Ending}
+use Rattle.commands.specs.Known.{Tells, TellsTable, TellsText}
+use Rattle.commands.specs.Commands.{Serves, ShowsNone}
+use Rattle.commands.specs.HandingOn.{Flushes, IsFlushed, TellsFailure}
+use Rattle.commands.specs.Statuses.{is_silent}
+use Rattle.commands.specs.Stopped.{TellsStopsOf, at_end, stop_lines}
 
 -- nothing, or what is known of some program, of some table of one, or of some text
 abbrev pub Knows : Outcome → Option (String Global) → Type 0

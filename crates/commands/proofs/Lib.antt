@@ -1,4 +1,9 @@
+mod Loading
+mod Written
+mod Refusing
+mod Delivered
+mod FirstBytes
 mod Knowing
-mod Endings
+mod StatusesLaws
 mod Silence
 mod Served

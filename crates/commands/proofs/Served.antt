@@ -5,16 +5,16 @@ use Rattle.std.specs.String.{string_bytes}
 use Rattle.exact_io.specs.declared.buffering.PromptWriter.{PromptWriter}
 use Rattle.exact_io.specs.Waiting.{held}
 use Rattle.std.proofs.KnownBytes.{Keeps-refl}
-use Rattle.tasks.specs.declared.WordsError.{WordsError}
-use Rattle.tasks.specs.declared.WordsError.TheVariants.{Wrong, Memory}
-use Rattle.tasks.specs.Requests.{TaskRequest}
+use Rattle.words.specs.declared.tasks.WordsError.{WordsError}
+use Rattle.words.specs.declared.tasks.WordsError.TheVariants.{Wrong, Memory}
+use Rattle.words.specs.Requests.{TaskRequest}
 use Rattle.words.specs.Asked.{AsksFor, asked}
-use Rattle.serving.specs.declared.outcomes.Outcome.{Outcome}
-use Rattle.serving.specs.declared.outcomes.Outcome.TheVariants.{Done, WrongWords, Refused, Faulted, CannotRead, CannotWrite, CannotReplace, NoMemory}
-use Rattle.serving.specs.declared.endings.Ending.{Ending}
-use Rattle.serving.specs.Statuses.{IsWordsEnd, SaysWrongWords, IsWrongWords, is_silent}
-use Rattle.serving.specs.Commands.{Serves}
-use Rattle.serving.specs.HandingOn.{Flushes}
+use Rattle.commands.specs.declared.outcomes.Outcome.{Outcome}
+use Rattle.commands.specs.declared.outcomes.Outcome.TheVariants.{Done, WrongWords, Refused, Faulted, CannotRead, CannotWrite, CannotReplace, NoMemory}
+use Rattle.commands.specs.declared.endings.Ending.{Ending}
+use Rattle.commands.specs.Statuses.{IsWordsEnd, SaysWrongWords, IsWrongWords, is_silent}
+use Rattle.commands.specs.Commands.{Serves}
+use Rattle.commands.specs.HandingOn.{Flushes}
 use Rattle.commands.specs.Executing.{Executes}
 
 -- standard output that was asked for nothing more

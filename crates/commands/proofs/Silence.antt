@@ -13,25 +13,25 @@ use Rattle.host.specs.declared.errors.HostError.TheVariants as failure
 use Rattle.host.specs.declared.tallies.Tally.{Tally}
 use Rattle.host.specs.declared.traced.Traced.{Traced}
 use Rattle.host.specs.Tallies.{tallied}
-use Rattle.tasks.specs.Requests.{TaskRequest, RunFiles, ProofFiles, Trace, Run, Verify, Prove, Recheck, Assemble, Disassemble}
-use Rattle.tasks.specs.declared.WordsError.{WordsError}
-use Rattle.tasks.specs.declared.WordsError.TheVariants.{Wrong, Memory}
+use Rattle.words.specs.Requests.{TaskRequest, RunFiles, ProofFiles, Trace, Run, Verify, Prove, Recheck, Assemble, Disassemble}
+use Rattle.words.specs.declared.tasks.WordsError.{WordsError}
+use Rattle.words.specs.declared.tasks.WordsError.TheVariants.{Wrong, Memory}
 use Rattle.proof_table.specs.declared.errors.WriteTableError.{WriteTableError}
 use Rattle.proof_table.specs.declared.errors.WriteTableError.TheVariants as unwritten
 use Rattle.proof_table.specs.Writing.{GainsTable, BeginsTable}
 use Rattle.rechecking.specs.declared.errors.TableError.{TableError}
 use Rattle.rechecking.specs.declared.errors.TableError.TheVariants as table
-use Rattle.serving.specs.declared.forms.FileForm.{FileForm}
-use Rattle.serving.specs.declared.outcomes.Outcome.{Outcome}
-use Rattle.serving.specs.declared.outcomes.Outcome.TheVariants as outcome
-use Rattle.serving.specs.declared.endings.Ending.{Ending}
-use Rattle.serving.specs.Statuses.{is_silent, status_of, IsWordsEnd, IsWriteFailure, IsWriteFailureBy}
-use Rattle.serving.specs.HandingOn.{Flushes, IsFlushed, TellsFailure}
-use Rattle.serving.specs.Saying.{Says}
-use Rattle.serving.specs.Judging.{Accepts, IsStoreFailure, RefusesImage, RefusesProgram, RefusesTable, RefusesText, SaysOfTable, Verifies, StoresImage}
-use Rattle.serving.specs.Streams.{EndsTask, EndsBy, FailsBy, IsBeginningOf, outcome_at}
-use Rattle.serving.specs.Proving.{EndsUnwritten, StoresTable}
-use Rattle.serving.specs.Commands.{LoadsNone, ShowsNone, OpensNone, RunsOn, TracesFile, RunsFile, RunsShown, VerifiesFile, ProvesFile, RechecksFile, DisassemblesFile, AssemblesFile, Serves}
+use Rattle.commands.specs.declared.forms.FileForm.{FileForm}
+use Rattle.commands.specs.declared.outcomes.Outcome.{Outcome}
+use Rattle.commands.specs.declared.outcomes.Outcome.TheVariants as outcome
+use Rattle.commands.specs.declared.endings.Ending.{Ending}
+use Rattle.commands.specs.Statuses.{is_silent, status_of, IsWordsEnd, IsWriteFailure, IsWriteFailureBy}
+use Rattle.commands.specs.HandingOn.{Flushes, IsFlushed, TellsFailure}
+use Rattle.commands.specs.Saying.{Says}
+use Rattle.commands.specs.Judging.{Accepts, IsStoreFailure, RefusesImage, RefusesProgram, RefusesTable, RefusesText, SaysOfTable, Verifies, StoresImage}
+use Rattle.commands.specs.Streams.{EndsTask, EndsBy, FailsBy, IsBeginningOf, outcome_at}
+use Rattle.commands.specs.Proving.{EndsUnwritten, StoresTable}
+use Rattle.commands.specs.Commands.{LoadsNone, ShowsNone, OpensNone, RunsOn, TracesFile, RunsFile, RunsShown, VerifiesFile, ProvesFile, RechecksFile, DisassemblesFile, AssemblesFile, Serves}
 
 -- ---- what is not silent
 

@@ -11,23 +11,23 @@ use Rattle.walks.specs.declared.refusals.Refusal.{Refusal}
 use Rattle.rechecking.specs.declared.errors.TableError.{TableError}
 use Rattle.explanations.specs.Reasons.{IsReason}
 use Rattle.explanations.specs.Entries.{IsEntryReason}
-use Rattle.tasks.specs.declared.WordsError.{WordsError}
-use Rattle.tasks.specs.Requests.{TaskRequest, RunFiles, Trace}
+use Rattle.words.specs.declared.tasks.WordsError.{WordsError}
+use Rattle.words.specs.Requests.{TaskRequest, RunFiles, Trace}
 use Rattle.host.specs.Stops.{Noted}
 use Rattle.words.specs.Asked.{asked}
-use Rattle.serving.specs.declared.outcomes.Outcome.{Outcome}
-use Rattle.serving.specs.declared.endings.Ending.{Ending}
-use Rattle.serving.specs.declared.rejections.Rejection.{Rejection}
-use Rattle.serving.specs.declared.rejections.Rejection.TheVariants as rejection
-use Rattle.serving.specs.declared.forms.FileForm.{FileForm}
-use Rattle.serving.specs.Faults.{fault_lines}
-use Rattle.serving.specs.Messages.{reason_of}
-use Rattle.serving.specs.Statuses.{IsWordsEnd, message_of, status_of}
-use Rattle.serving.specs.Stopped.{stop_lines}
-use Rattle.serving.specs.Saying.{AppendsPart, LacksMemory}
-use Rattle.serving.specs.Known.{Plainly, told_of}
-use Rattle.serving.specs.Commands.{Serves}
-use Rattle.serving.specs.HandingOn.{Flushes}
+use Rattle.commands.specs.declared.outcomes.Outcome.{Outcome}
+use Rattle.commands.specs.declared.endings.Ending.{Ending}
+use Rattle.commands.specs.declared.rejections.Rejection.{Rejection}
+use Rattle.commands.specs.declared.rejections.Rejection.TheVariants as rejection
+use Rattle.commands.specs.declared.forms.FileForm.{FileForm}
+use Rattle.commands.specs.Faults.{fault_lines}
+use Rattle.commands.specs.Messages.{reason_of}
+use Rattle.commands.specs.Statuses.{IsWordsEnd, message_of, status_of}
+use Rattle.commands.specs.Stopped.{stop_lines}
+use Rattle.commands.specs.Saying.{AppendsPart, LacksMemory}
+use Rattle.commands.specs.Known.{Plainly, told_of}
+use Rattle.commands.specs.Commands.{Serves}
+use Rattle.commands.specs.HandingOn.{Flushes}
 
 -- What is asked for was done, and how that ended; and then standard output was to hand on what it was given. Where it
 -- fails only at that, this is how the program ends.

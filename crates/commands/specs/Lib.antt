@@ -1,1 +1,15 @@
+pub mod Causes
+pub mod Faults
+pub mod Forms
+pub mod Messages
+pub mod Statuses
+pub mod Known
+pub mod HandingOn
+pub mod Lines
+pub mod Saying
+pub mod Judging
+pub mod Stopped
+pub mod Streams
+pub mod Proving
+pub mod Commands
 pub mod Executing

@@ -3,15 +3,15 @@
 ghost use Rattle.std.specs.Prelude.{◌≡◌, ◌≢◌, ◌≤◌, map, MatchResult};
 ghost use Rattle.std.specs.String.{string_bytes};
 ghost use Rattle.exact_io.specs.Waiting.{held};
-ghost use Rattle.serving.specs.HandingOn.{IsFlushed};
+ghost use Rattle.commands.specs.HandingOn.{IsFlushed};
 ghost use Rattle.commands.specs.Executing.{AnswersWords, AnswersError, IsTold, TellsDone, TellsFault};
 
+use super::outcomes::Outcome;
+use super::requests::serve;
 use exact_io::PromptWriter;
-use serving::{Outcome, serve};
 use std::io::Write;
 use std::rt::{Clock, Files};
-use tasks::WordsError;
-use words::read_words;
+use words::{WordsError, read_words};
 
 /// Does what the arguments ask for, and answers the program's status: 0 done, 1 invalid arguments,
 /// 2 refused, 3 the report ended in a fault, 4 a file or an output failed, 5 out of memory.
@@ -25,7 +25,7 @@ use words::read_words;
 /// and 5 it gets no byte; at 0 standard error gets none, but of a trace the frames whose runs ended
 /// without an action. At 2 it gets why something was refused and where, of a program also what is
 /// known there, and of a text its line and what helps; at 3 why the frame stream ended early.
-#[tactic(auto, using(crate::proofs::Endings::statuses))]
+#[tactic(auto, using(crate::proofs::StatusesLaws::statuses))]
 pub fn execute<R: Files + Clock + AllocGlobal, W1: Write + Drop, W2: Write>(
     rt: &R,
     words: &[String],

@@ -1,8 +1,35 @@
-//! The program, on any runtime and any outputs.
+//! What each command does with bytes, readers, writers and files, how it ends, and what the program
+//! does with its words.
 #![tactic(auto)]
 
 mod answering;
 mod buffering;
+mod causes;
+mod endings;
+mod faults;
+mod files;
+mod forms;
+mod fronts;
+mod names;
+mod outcomes;
+mod proving;
+mod reading;
+mod rechecks;
+mod rejections;
+mod requests;
+mod same;
+mod screens;
+mod searches;
+mod stopped;
+mod streams;
+mod tables;
+mod texts;
+mod verdicts;
 
 pub use answering::{answer, execute};
 pub use buffering::buffered;
+pub use endings::Ending;
+pub use forms::FileForm;
+pub use outcomes::Outcome;
+pub use rejections::Rejection;
+pub use requests::serve;

@@ -9,7 +9,7 @@ use exact_io::PromptWriter;
 use std::io::Write;
 use std::rt::{Clock, Files};
 use survey_words::{Asked, read_words};
-use tasks::WordsError;
+use words::WordsError;
 
 /// Does what is asked for, and answers the status.
 fn serve<R: Files + Clock + AllocGlobal + Clone + Drop, W1: Write, W2: Write>(

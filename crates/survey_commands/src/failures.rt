@@ -7,7 +7,7 @@ use std::alloc::{AllocError, Global};
 use std::io;
 use std::io::{ErrorKind, Write};
 use survey_rows::shown;
-use tasks::WordsError;
+use words::WordsError;
 
 const USAGE: &str = "usage: xdpvm_survey IMAGE|FOLDER .. | log IMAGE | dis IMAGE\n";
 

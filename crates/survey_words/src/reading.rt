@@ -6,7 +6,7 @@ use clap::ArgMatches;
 use clap::error::ErrorKind;
 use std::alloc::{AllocError, Global};
 use survey_rows::Column;
-use tasks::WordsError;
+use words::WordsError;
 
 // What is wrong with the words, where clap takes them and a survey does not.
 const NO_FORMAT: &str = "error: the value of --format is not table, csv or json\n";

@@ -4,7 +4,7 @@ use Rattle.std.proofs.Common.{refl}
 use Rattle.clap.proofs.OnLiterals.{clap_on_literals}
 use Rattle.isa_model.specs.Code.Limits.{max_steps}
 use Rattle.words.specs.CommandLine.{program, asm, dis, verify, run, trace, prove, recheck}
-use Rattle.tasks.specs.Requests.{Trace, Run, Verify, Prove, Recheck}
+use Rattle.words.specs.Requests.{Trace, Run, Verify, Prove, Recheck}
 use Rattle.words.specs.Asked.{asked}
 
 -- ---- the commands

@@ -9,7 +9,7 @@ use Rattle.clap.specs.Faults.{built_fault, check_fault, defaults_fault, level_fa
 use Rattle.clap.proofs.OnLiterals.{clap_on_literals}
 use Rattle.isa_model.specs.Code.Limits.{max_steps}
 use Rattle.words.specs.CommandLine.{program, asm, dis, verify, run, trace, prove, recheck}
-use Rattle.tasks.specs.Requests.{Assemble, Disassemble, Prove, Recheck, Run, Trace, Verify}
+use Rattle.words.specs.Requests.{Assemble, Disassemble, Prove, Recheck, Run, Trace, Verify}
 use Rattle.words.specs.Asked.{asked, limit_of, request_by, request_met, unless_faulty}
 use Rattle.words.proofs.WalkLaws.{walk_at, fault-command, met-command, walk_fault-none, walk_fault-plain, walked-plain}
 

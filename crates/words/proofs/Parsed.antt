@@ -9,11 +9,11 @@ use Rattle.clap.specs.declared.error.Error.{Error}
 use Rattle.clap.specs.declared.error.kind.ErrorKind.{ErrorKind}
 use Rattle.clap.specs.declared.error.kind.ErrorKind.TheVariants as kind
 use Rattle.clap.specs.declared.parser.matches.ArgMatches.{ArgMatches}
-use Rattle.tasks.specs.declared.Task.{Task}
-use Rattle.tasks.specs.declared.WordsError.{WordsError}
-use Rattle.tasks.specs.declared.WordsError.TheVariants.{Wrong, Memory}
+use Rattle.words.specs.declared.tasks.Task.{Task}
+use Rattle.words.specs.declared.tasks.WordsError.{WordsError}
+use Rattle.words.specs.declared.tasks.WordsError.TheVariants.{Wrong, Memory}
 use Rattle.words.specs.CommandLine.{program, asm, dis, verify, run, trace, prove, recheck}
-use Rattle.tasks.specs.Requests.{TaskRequest}
+use Rattle.words.specs.Requests.{TaskRequest}
 use Rattle.words.specs.Asked.{AsksFor, TellsOf, asked, request_by, request_met, unless_faulty}
 
 -- clap says of this command line what a parse finds, and how it fails

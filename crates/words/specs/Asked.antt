@@ -8,10 +8,10 @@ use Rattle.clap.specs.Kinds.{Kinds}
 use Rattle.clap.specs.Walk.{Row, first_of}
 use Rattle.clap.specs.Simple.{subcommand_of}
 use Rattle.clap.specs.Faults.{fault_of}
-use Rattle.tasks.specs.declared.Task.{Task}
-use Rattle.tasks.specs.declared.WordsError.{WordsError}
-use Rattle.tasks.specs.declared.WordsError.TheVariants.{Wrong, Memory}
-use Rattle.tasks.specs.Requests.{TaskRequest, RunFiles, ProofFiles, Trace, Run, Verify, Prove, Recheck, Assemble, Disassemble, request_of}
+use Rattle.words.specs.declared.tasks.Task.{Task}
+use Rattle.words.specs.declared.tasks.WordsError.{WordsError}
+use Rattle.words.specs.declared.tasks.WordsError.TheVariants.{Wrong, Memory}
+use Rattle.words.specs.Requests.{TaskRequest, RunFiles, ProofFiles, Trace, Run, Verify, Prove, Recheck, Assemble, Disassemble, request_of}
 use Rattle.isa_model.specs.Code.Limits.{max_steps}
 use Rattle.words.specs.CommandLine.{program}
 

@@ -5,15 +5,15 @@ ghost use Rattle.std.specs.List.{list_all};
 ghost use Rattle.std.specs.Char.{is_ascii_digit};
 ghost use Rattle.std.specs.String.{string_bytes};
 ghost use Rattle.clap.specs.Words.{first_of, found_of, kind_of, rows_of};
-ghost use Rattle.tasks.specs.Requests.{files_of, proof_files_of, request_of};
+ghost use Rattle.words.specs.Requests.{files_of, proof_files_of, request_of};
 ghost use Rattle.words.specs.Asked.{AsksFor, TellsOf, assembly_of, files_in, limit_in, limit_of, proof_in, request_by, run_of, trace_of};
 
 use super::command_line::program;
+use super::tasks::{Assembly, Paths, Proof, StepLimit, Task, WordsError};
 use clap::ArgMatches;
 use clap::error::ErrorKind;
 use isa_model::MAX_STEPS;
 use std::alloc::{AllocError, Global};
-use tasks::{Assembly, Paths, Proof, StepLimit, Task, WordsError};
 
 // What is wrong with the words, where clap takes them and a command does not.
 const NO_LIMIT: &str = "error: the value of --limit is not a number from 1 to 1000000\n";

@@ -4,11 +4,11 @@ ghost use Rattle.std.specs.Prelude.{◌≡◌, ◌≢◌};
 ghost use Rattle.std.specs.IoError.{error_kind};
 ghost use Rattle.words.specs.Asked.{IsWrong};
 
+use super::tasks::WordsError;
 use std::alloc::Global;
 use std::env::Env;
 use std::io;
 use std::io::ErrorKind;
-use tasks::WordsError;
 
 // Why the words could not be got.
 fn failure_of(alloc: Global, error: &io::Error) -> WordsError

@@ -1,9 +1,11 @@
-//! The words on the command line: what they are, and what they ask for.
+//! The words on the command line, what they ask for, and what the program can be asked to do.
 #![tactic(auto)]
 
 mod asked;
 mod command_line;
 mod given;
+mod tasks;
 
 pub use asked::read_words;
 pub use given::given_words;
+pub use tasks::{Assembly, Paths, Proof, StepLimit, Task, WordsError};

@@ -5,8 +5,7 @@
 #![tactic(auto)]
 
 pub use commands::execute;
-use commands::{answer, buffered};
-use serving::Outcome;
+use commands::{Outcome, answer, buffered};
 use std::fs;
 use std::process::ExitCode;
 use std::rt::Files;

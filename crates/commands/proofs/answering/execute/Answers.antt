@@ -1,8 +1,8 @@
 use Rattle.std.proofs.Common.{◌∙◌, ◌≤◌, None, subst, sym}
-use Rattle.tasks.specs.Requests.{request_of}
-use Rattle.serving.specs.declared.endings.Ending.{Ending}
+use Rattle.words.specs.Requests.{request_of}
+use Rattle.commands.specs.declared.endings.Ending.{Ending}
 use Rattle.commands.proofs.Knowing.{whole_knows}
-use Rattle.commands.proofs.Endings.{silent_words, silent_memory, done_by, done_plain, faulted_by, refused_by}
+use Rattle.commands.proofs.StatusesLaws.{silent_words, silent_memory, done_by, done_plain, faulted_by, refused_by}
 use Rattle.commands.proofs.Silence.{unasked_status, whole_handed_on, whole_silent}
 use Rattle.commands.proofs.Served.{asked-served, unasked}
 use Rattle.commands.proofs.answering.execute.Goals as goal

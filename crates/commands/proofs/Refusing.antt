@@ -1,0 +1,27 @@
+-- What is said of a program that is refused.
+use Rattle.std.proofs.Common.{◌≡◌, ℕ, List, Option, Some, None, subst, inl, inr}
+use Rattle.exact_io.specs.Transfers.{AppendsBeginning}
+use Rattle.exact_io.proofs.TransferLaws.{AppendsBeginning-first}
+use Rattle.isa_model.specs.declared.instructions.Insn.{Insn}
+use Rattle.isa_model.specs.{Program, fetch}
+use Rattle.walks.specs.declared.refusals.Refusal.{Refusal}
+use Rattle.walks.specs.Refused.{IsRefused}
+use Rattle.commands.specs.declared.rejections.Rejection.TheVariants as rejection
+use Rattle.commands.specs.declared.outcomes.Outcome.{Outcome}
+use Rattle.commands.specs.declared.outcomes.Outcome.TheVariants.{Refused}
+use Rattle.commands.specs.Lines.{verdict_line}
+use Rattle.commands.specs.Messages.{entry_place, insn_place, step_place}
+use Rattle.commands.specs.Saying.{Says}
+use Rattle.commands.specs.Judging.{RefusesProgram, SaysRefused}
+
+-- the instruction that is said is the one at the slot
+pub program_refused : (p : Program) (refusal : Refusal) (slot : ℕ) (insn : Option Insn) (old new : Option (List ℕ)) (r o : Outcome)
+    → IsRefused p refusal slot → insn ≡ fetch p slot → o ≡ r → SaysRefused refusal slot insn old new r → RefusesProgram p old new o
+program_refused p refusal slot insn old new r o is at e (inl lacks) = rw e (inl lacks)
+program_refused p refusal slot insn old new r o is at e (inr said) =
+    rw e (inr (refusal, slot, is, said.0, subst (λ (i : Option Insn). Says old new (verdict_line refusal slot) (Refused (rejection.Program refusal slot i)) r) at said.1))
+
+-- no message was written about an entry, and its place may be known
+pub step_failed : (old new : Option (List ℕ)) (index : ℕ) (place : Option (ℕ × Insn)) → AppendsBeginning old new (entry_place index) → AppendsBeginning old new (step_place index place)
+step_failed old new index None h = h
+step_failed old new index (Some (slot, insn)) h = AppendsBeginning-first old new (entry_place index) (insn_place slot insn) h

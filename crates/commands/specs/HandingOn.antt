@@ -1,0 +1,28 @@
+-- How a task ends that flushes standard output last.
+use Rattle.std.specs.Prelude.{◌≡◌, ℕ, true, false, List, [], Option, Some, None, ◌⊎◌}
+use Rattle.std.specs.Io.KnownBytes.{Keeps}
+use Rattle.std.specs.declared.io.ErrorKind.{ErrorKind}
+use Rattle.exact_io.specs.declared.buffering.PromptWriter.{PromptWriter}
+use Rattle.exact_io.specs.Waiting.{failure_of, held, waiting}
+use Rattle.commands.specs.declared.endings.Ending.{Ending}
+use Rattle.commands.specs.Statuses.{IsOutputFailureBy, is_silent}
+
+-- nothing waits any more, and nothing has failed
+pub record IsFlushed {W : Type 0} (out : PromptWriter W) : Type 0 where
+  pub all : waiting out ≡ []
+  pub sound : failure_of out ≡ None
+
+-- the output has failed, and the message says the reason that it keeps, and nothing else
+pub record TellsFailure {W : Type 0} (out : PromptWriter W) (result : Ending) : Type 0 where
+  pub kind : ErrorKind
+  pub failed : failure_of out ≡ Some kind
+  pub told : IsOutputFailureBy kind result.outcome
+  pub plain : result.why ≡ None
+
+-- A task ended so. Then standard output is flushed: its buffer was written in full, and the task
+-- ended as it had; or it failed, then or before, and so the task ended in that failure. If nothing
+-- was written to it, it is left as it is.
+pub record Flushes {W : Type 0} (contents : W → Option (List ℕ)) (given out : PromptWriter W) (ended result : Ending) : Type 0 where
+  pub kept : Keeps (held contents given) (held contents out)
+  pub silent : is_silent ended.outcome ≡ true → (out ≡ given) × (result ≡ ended)
+  pub ends : ((is_silent ended.outcome ≡ false → IsFlushed out) × (result ≡ ended)) ⊎ TellsFailure out result

@@ -1,0 +1,237 @@
+//! The files that the commands read and write.
+
+ghost use Rattle.std.specs.Prelude.{◌≡◌, ◌⊎◌, OnOk, IfOk, IfErr};
+ghost use Rattle.image.specs.Images.{IsImage};
+ghost use Rattle.commands.specs.Statuses.{IsReadFailure, IsMakeFailure};
+ghost use Rattle.words.specs.Requests.{files_of};
+ghost use Rattle.commands.specs.Commands.{LoadsNone, TracesFile, RunsFile, VerifiesFile, DisassemblesFile, Assembles, AssemblesFile};
+
+use super::endings::Ending;
+use super::forms::FileForm;
+use super::fronts::{Ahead, Watched, read_ahead};
+use super::outcomes::Outcome;
+use super::reading::{read_file, read_start};
+use super::same::is_same_file;
+use super::screens::Screen;
+use super::streams::{run_stream, store_image, trace_stream};
+use super::verdicts::{assembled, image_of, judge, say_text, say_verdict, size_line};
+use exact_io::PromptWriter;
+use image::Image;
+use isa_model::{MAX_MAPS, MAX_SLOTS};
+use std::alloc::Global;
+use std::fs;
+use std::io::{BufReader, Write};
+use std::rt::{Clock, Files};
+use words::{Assembly, Paths, StepLimit};
+
+// One byte more than the longest image has: its head, the rows of its maps and its slots. The rest
+// of a longer file changes nothing.
+const PAST_ANY_IMAGE: u64 = 8 + 12 * MAX_MAPS as u64 + 8 * MAX_SLOTS as u64 + 1;
+
+/// How many bytes go to or from a file of frames or a table at once.
+pub const BUFFER: usize = 64 * 1024;
+
+// The length of the magic, with which frames out begin. It is written through the buffer, so that a
+// file that cannot be written is found before the report begins.
+const MAGIC: usize = 4;
+
+/// A source of frames, what it is by its first bytes, and where the frames out go.
+pub type Streams<'b, R> = (
+    Ahead<BufReader<Watched<'b, R, <R as Files>::File>>>,
+    FileForm,
+    PromptWriter<<R as Files>::File>,
+);
+
+/// Makes a file to write to, unless it is one of those that are read.
+pub fn create_file<'a, R: Files>(
+    rt: &R,
+    path: &'a str,
+    read: &[&str],
+) -> Result<R::File, Outcome<'a>>
+    ensures { IfErr result (IsMakeFailure path.now) }
+{
+    for other in read {
+        if is_same_file(rt, path, *other) {
+            return Err(Outcome::CannotReplace(path));
+        }
+    }
+    match fs::create(rt, path) {
+        Ok(file) => Ok(file),
+        Err(error) => Err(Outcome::of_write(path, &error)),
+    }
+}
+
+/// The image in a file, or how the task ends without it.
+pub fn load_image<'a, R: Files, W: Write>(
+    rt: &R,
+    alloc: Global,
+    path: &'a str,
+    out: &mut W,
+) -> Result<Image, Outcome<'a>>
+    ensures ok { OnOk result (W.contents out.new ≡ W.contents out.old) }
+    ensures fits { IfOk result IsImage }
+    ensures none { IfErr result
+        (λ ended. LoadsNone path.now (W.contents out.old) (W.contents out.new) ended) }
+{
+    let bytes = match read_start(rt, alloc, path, PAST_ANY_IMAGE) {
+        Ok(bytes) => bytes,
+        Err(error) => return Err(Outcome::of_read(path, &error)),
+    };
+    image_of(alloc, bytes.as_slice(), out)
+}
+
+/// Opens the frames, and then the frames out, which are written over none of the files that are
+/// read. The buffer of each is made before any of its bytes is read or written; in the end the first
+/// bytes of the frames are read ahead.
+pub fn open_streams<'a, 'b, R: Files + Clock>(
+    rt: &'b R,
+    alloc: Global,
+    paths: Paths<'a>,
+    read: &[&str],
+) -> Result<Streams<'b, R>, Outcome<'a>>
+    ensures { IfErr result
+        (λ ended. IsReadFailure paths.entry.frames.now ended
+        ⊎ IsMakeFailure paths.entry.out.now ended) }
+{
+    let source = match fs::open(rt, paths.frames) {
+        Ok(source) => source,
+        Err(error) => return Err(Outcome::of_read(paths.frames, &error)),
+    };
+    let source = Watched::new(source, Screen::shared(rt, alloc));
+    let Ok(source) = BufReader::with_capacity(alloc, BUFFER, source) else {
+        return Err(Outcome::NoMemory);
+    };
+    let file = create_file(rt, paths.out, read)?;
+    let Ok(file) = PromptWriter::new(alloc, BUFFER, MAGIC, file) else {
+        return Err(Outcome::NoMemory);
+    };
+    let (source, form) = read_ahead(source);
+    Ok((source, form, file))
+}
+
+/// Runs a program on a frame stream with checks: the image is read and judged, then the frames are
+/// opened, then the frames out. The report goes to standard output as it comes.
+pub fn trace<'a, R: Files + Clock, W: Write>(
+    rt: &R,
+    alloc: Global,
+    paths: Paths<'a>,
+    limit: StepLimit,
+    out: &mut W,
+) -> Ending<'a>
+    ensures { TracesFile (files_of paths.entry) limit.steps (W.contents out.old)
+        (W.contents out.new) result }
+{
+    let image = match load_image(rt, alloc, paths.image, out) {
+        Ok(image) => image,
+        Err(outcome) => return Ending::plain(outcome),
+    };
+    match open_streams(rt, alloc, paths, &[paths.image, paths.frames]) {
+        Ok((source, form, mut file)) => {
+            trace_stream(alloc, image, limit, source, form, paths.out, out, &mut file)
+        }
+        Err(outcome) => Ending::plain(outcome),
+    }
+}
+
+/// Verifies a program and runs it on a frame stream: the image is read and judged, then the frames
+/// are opened, then the frames out. The report goes to standard output as it comes.
+pub fn run_verified<'a, R: Files + Clock, W: Write>(
+    rt: &R,
+    alloc: Global,
+    paths: Paths<'a>,
+    out: &mut W,
+) -> Ending<'a>
+    ensures { RunsFile (files_of paths.entry) (W.contents out.old) (W.contents out.new) result }
+{
+    let image = match load_image(rt, alloc, paths.image, out) {
+        Ok(image) => image,
+        Err(outcome) => return Ending::plain(outcome),
+    };
+    let verified = match judge(rt, alloc, image, out) {
+        Ok(verified) => verified,
+        Err(ending) => return ending,
+    };
+    match open_streams(rt, alloc, paths, &[paths.image, paths.frames]) {
+        Ok((source, form, mut file)) => {
+            let outcome = run_stream(alloc, verified, source, form, paths.out, out, &mut file);
+            Ending::plain(outcome)
+        }
+        Err(outcome) => Ending::plain(outcome),
+    }
+}
+
+/// Verifies a program: its image is read and judged, and standard output says the most steps of a
+/// run.
+pub fn verify_file<'a, R: Files + Clock, W: Write>(
+    rt: &R,
+    alloc: Global,
+    path: &'a str,
+    out: &mut W,
+) -> Ending<'a>
+    ensures { VerifiesFile path.now (W.contents out.old) (W.contents out.new) result }
+{
+    let image = match load_image(rt, alloc, path, out) {
+        Ok(image) => image,
+        Err(outcome) => return Ending::plain(outcome),
+    };
+    say_verdict(rt, alloc, image, out)
+}
+
+/// Writes the text of an image: it is read and judged, and then the text goes to standard output.
+pub fn disassemble_file<'a, R: Files, W: Write>(
+    rt: &R,
+    alloc: Global,
+    path: &'a str,
+    out: &mut W,
+) -> Outcome<'a>
+    ensures { DisassemblesFile path.now (W.contents out.old) (W.contents out.new) result }
+{
+    let image = match load_image(rt, alloc, path, out) {
+        Ok(image) => image,
+        Err(outcome) => return outcome,
+    };
+    say_text(&image, out)
+}
+
+// Makes the image of a text that was read.
+fn assemble_text<'a, R: Files, W: Write>(
+    rt: &R,
+    alloc: Global,
+    text: &[u8],
+    paths: Assembly<'a>,
+    out: &mut W,
+) -> Outcome<'a>
+    ensures { Assembles text.now paths.entry.image.now (W.contents out.old) (W.contents out.new)
+        result }
+{
+    let image = match assembled(alloc, text, out) {
+        Ok(image) => image,
+        Err(outcome) => return outcome,
+    };
+    let Ok(line) = size_line(alloc, &image) else {
+        return Outcome::NoMemory;
+    };
+    match create_file(rt, paths.image, &[paths.text]) {
+        Ok(mut file) => store_image(&image, line.as_str(), paths.image, out, &mut file),
+        Err(outcome) => outcome,
+    }
+}
+
+/// Makes the image of a text: the text is read and judged, then the image is written, and then
+/// standard output says how large it is. Where memory runs out no file is opened for the image.
+pub fn assemble_file<'a, R: Files, W: Write>(
+    rt: &R,
+    alloc: Global,
+    paths: Assembly<'a>,
+    out: &mut W,
+) -> Ending<'a>
+    ensures { AssemblesFile paths.entry.text.now paths.entry.image.now (W.contents out.old)
+        (W.contents out.new) result }
+{
+    let text = match read_file(rt, alloc, paths.text) {
+        Ok(text) => text,
+        Err(error) => return Ending::plain(Outcome::of_read(paths.text, &error)),
+    };
+    let source = text.as_slice();
+    Ending::of_text(alloc, source, assemble_text(rt, alloc, source, paths, out))
+}

@@ -1,0 +1,156 @@
+//! How a task ended, and what is said of it.
+
+ghost use Rattle.std.specs.Prelude.{◌≡◌, ◌≢◌, true, OnOk, OnErr};
+ghost use Rattle.std.specs.Io.KnownBytes.{Appends};
+ghost use Rattle.std.specs.IoError.{error_kind};
+ghost use Rattle.exact_io.specs.Transfers.{AppendsBeginning};
+ghost use Rattle.commands.specs.Statuses.{status_of, is_silent, is_unsaid, message_of, IsWordsEnd, IsReadFailure, IsMakeFailure};
+ghost use Rattle.commands.specs.Saying.{AppendsPart};
+ghost use Rattle.commands.specs.Judging.{IsStoreFailure};
+
+use super::causes::{cause_line, line_after};
+use super::faults::say_fault;
+use super::forms::FileForm;
+use super::rejections::Rejection;
+use super::texts::write_texts;
+use exact_io::write_bytes;
+use isa_model::Fault;
+use std::io;
+use std::io::{ErrorKind, Write};
+use words::WordsError;
+
+/// How messages name standard output.
+pub const STANDARD_OUTPUT: &str = "standard output";
+
+const USAGE: &str = "usage: xdpvm asm|dis|verify|run|trace|prove|recheck\n";
+
+/// How a task ended. A file or output that failed is named.
+#[derive(Clone, Copy)]
+pub enum Outcome<'a> {
+    Done,
+    /// The words ask for nothing. The text says why, or is the help.
+    WrongWords(&'a str),
+    /// The image, the program, the table or the text was refused, which standard output says.
+    Refused(Rejection),
+    /// The report ended in this fault, and the stream begins as such a file does.
+    Faulted(Fault, FileForm),
+    /// The file at the path cannot be read.
+    CannotRead(&'a str, ErrorKind),
+    /// The file or output of this name cannot be written. If standard output failed in a run, the
+    /// reason is known when it is flushed.
+    CannotWrite(&'a str, Option<ErrorKind>),
+    /// The file that was to be written is one of those that are read. It was left as it is.
+    CannotReplace(&'a str),
+    NoMemory,
+}
+
+impl<'a> Outcome<'a> {
+    /// The words ask for nothing, or memory ran out before that was known.
+    pub fn of_words(error: &'a WordsError) -> Self
+        ensures { IsWordsEnd error.now result }
+    {
+        match error {
+            WordsError::Wrong(text) => Outcome::WrongWords(text.as_str()),
+            WordsError::Memory => Outcome::NoMemory,
+        }
+    }
+
+    /// A read of the file failed.
+    pub fn of_read(path: &'a str, error: &io::Error) -> Self
+        ensures memory { error_kind error.now ≡ ErrorKind.OutOfMemory → result ≡ Outcome.NoMemory }
+        ensures file { error_kind error.now ≢ ErrorKind.OutOfMemory
+            → result ≡ Outcome.CannotRead path.entry (error_kind error.now) }
+        ensures failed { IsReadFailure path.now result }
+    {
+        match error.kind() {
+            ErrorKind::OutOfMemory => Outcome::NoMemory,
+            kind => Outcome::CannotRead(path, kind),
+        }
+    }
+
+    /// A write to the file failed, or it could not be made.
+    pub fn of_write(path: &'a str, error: &io::Error) -> Self
+        ensures memory { error_kind error.now ≡ ErrorKind.OutOfMemory → result ≡ Outcome.NoMemory }
+        ensures file { error_kind error.now ≢ ErrorKind.OutOfMemory
+            → result ≡ Outcome.CannotWrite path.entry (Some (error_kind error.now)) }
+        ensures unmade { IsMakeFailure path.now result }
+        ensures unstored { IsStoreFailure path.now result }
+    {
+        match error.kind() {
+            ErrorKind::OutOfMemory => Outcome::NoMemory,
+            kind => Outcome::CannotWrite(path, Some(kind)),
+        }
+    }
+
+    /// Whether standard output was given nothing.
+    pub(crate) fn is_silent(&self) -> bool
+        ensures { result ≡ is_silent self.now }
+    {
+        match self {
+            Outcome::Done
+            | Outcome::Refused(_)
+            | Outcome::Faulted(_, _)
+            | Outcome::CannotWrite(_, _) => false,
+            Outcome::WrongWords(_)
+            | Outcome::CannotRead(_, _)
+            | Outcome::CannotReplace(_)
+            | Outcome::NoMemory => true,
+        }
+    }
+
+    /// The program's status.
+    pub(crate) fn status(self) -> u8
+        ensures { result ≡ status_of self.entry }
+    {
+        match self {
+            Outcome::Done => 0,
+            Outcome::WrongWords(_) => 1,
+            Outcome::Refused(_) => 2,
+            Outcome::Faulted(_, _) => 3,
+            Outcome::CannotRead(_, _) | Outcome::CannotWrite(_, _) | Outcome::CannotReplace(_) => 4,
+            Outcome::NoMemory => 5,
+        }
+    }
+
+    /// Says what went wrong.
+    pub(crate) fn say<W: Write>(self, err: &mut W) -> io::Result<()>
+        ensures ok { OnOk result
+            (Appends (W.contents err.old) (W.contents err.new) (message_of self.entry)) }
+        ensures err { OnErr result
+            (AppendsBeginning (W.contents err.old) (W.contents err.new) (message_of self.entry)) }
+        ensures unsaid { is_unsaid self.entry ≡ true → W.contents err.new ≡ W.contents err.old }
+    {
+        match self {
+            Outcome::Done => Ok(()),
+            Outcome::Faulted(fault, form) => say_fault(err, fault, form),
+            Outcome::Refused(rejection) => rejection.say(err),
+            Outcome::WrongWords(text) => {
+                write_bytes(err, text.as_bytes())?;
+                write_bytes(err, USAGE.as_bytes())
+            }
+            Outcome::CannotRead(path, kind) => {
+                write_texts(err, "cannot read ", path, cause_line(kind))
+            }
+            Outcome::CannotWrite(path, cause) => {
+                write_texts(err, "cannot write ", path, line_after(cause))
+            }
+            Outcome::CannotReplace(path) => {
+                let why = "\nit is one of the files that are read\n";
+                write_texts(err, "cannot write ", path, why)
+            }
+            Outcome::NoMemory => write_bytes(err, b"out of memory\n"),
+        }
+    }
+
+    /// Says on standard error what went wrong, and answers the program's status. Nothing can be
+    /// said of a failure of standard error.
+    pub fn tell<W: Write>(self, err: &mut W) -> u8
+        ensures status { result ≡ status_of self.entry }
+        ensures said { AppendsPart (W.contents err.old) (W.contents err.new)
+            (message_of self.entry) }
+        ensures unsaid { is_unsaid self.entry ≡ true → W.contents err.new ≡ W.contents err.old }
+    {
+        let _ = self.say(err);
+        self.status()
+    }
+}

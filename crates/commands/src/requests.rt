@@ -1,0 +1,54 @@
+//! What is done where something is asked for.
+
+ghost use Rattle.std.specs.Prelude.{Some, option_map};
+ghost use Rattle.words.specs.Requests.{Run, files_of, request_of};
+ghost use Rattle.commands.specs.Commands.{Serves};
+
+use super::endings::Ending;
+use super::files::{assemble_file, disassemble_file, run_verified, trace, verify_file};
+use super::tables::{prove_file, recheck_file, run_shown};
+use std::alloc::Global;
+use std::io::Write;
+use std::rt::{Clock, Files};
+use words::{Paths, Task};
+
+// Runs a program after verifying it, or after testing its table if one is given.
+fn run<'a, R: Files + Clock, W: Write>(
+    rt: &R,
+    alloc: Global,
+    paths: Paths<'a>,
+    table: Option<&'a str>,
+    out: &mut W,
+) -> Ending<'a>
+    ensures { Serves (Some (Run (files_of paths.entry) (option_map (λ path. path.now) table.entry)))
+        (W.contents out.old) (W.contents out.new) result }
+{
+    match table {
+        None => run_verified(rt, alloc, paths, out),
+        Some(table) => run_shown(rt, alloc, paths, table, out),
+    }
+}
+
+/// Does what is asked for. Files are opened by their paths, and `out` is standard output.
+pub fn serve<'a, R: Files + Clock, W: Write>(
+    rt: &R,
+    alloc: Global,
+    task: Task<'a>,
+    out: &mut W,
+) -> Ending<'a>
+    ensures { Serves (Some (request_of task.entry))
+        (W.contents out.old) (W.contents out.new) result }
+{
+    match task {
+        Task::Trace(paths, limit) => trace(rt, alloc, paths, limit, out),
+        Task::Run(paths, table) => run(rt, alloc, paths, table, out),
+        Task::Verify(path) => verify_file(rt, alloc, path, out),
+        Task::Prove(proof) => prove_file(rt, alloc, proof, out),
+        Task::Recheck(proof) => recheck_file(rt, alloc, proof, out),
+        Task::Assemble(paths) => assemble_file(rt, alloc, paths, out),
+        Task::Disassemble(path) => Ending {
+            outcome: disassemble_file(rt, alloc, path, out),
+            why: None,
+        },
+    }
+}

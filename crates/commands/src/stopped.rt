@@ -1,0 +1,160 @@
+//! The message about frames whose runs ended without an action.
+
+ghost use Rattle.std.specs.Prelude.{◌≡◌, None, IfOk, IfSome};
+ghost use Rattle.std.specs.String.{string_bytes};
+ghost use Rattle.isa_model.specs.Text.CanonicalText as canonical;
+ghost use Rattle.host.specs.Stops.{noted_of};
+ghost use Rattle.commands.specs.Stopped.{insn_lines, trap_line, end_line, stop_line, first_lines, more_line, stop_lines, TellsStopsOf, at_end};
+
+use super::outcomes::Outcome;
+use disassembler::write_insn;
+use explanations::value_lines;
+use host::{FrameStop, HostError, Stops, Traced};
+use isa_model::{End, Insn, TrapReason, Value};
+use std::alloc::{AllocError, Global};
+
+// The text of an instruction.
+fn insn_text(alloc: Global, insn: &Insn) -> Result<String, AllocError>
+    ensures { IfOk result (λ text. string_bytes text ≡ canonical.line_of insn.now) }
+{
+    let mut bytes = Vec::new(alloc);
+    match write_insn(&mut bytes, insn) {
+        Ok(()) => match String::from_utf8(bytes) {
+            Ok(text) => Ok(text),
+            Err(_) => Err(AllocError),
+        },
+        Err(_) => Err(AllocError),
+    }
+}
+
+// The instruction at a stop, and what the registers held that it reads.
+fn insn_lines(
+    alloc: Global,
+    insn: Option<Insn>,
+    registers: &[Value; 11],
+) -> Result<String, AllocError>
+    ensures { IfOk result (λ text. string_bytes text ≡ insn_lines insn registers.now) }
+{
+    match insn {
+        None => String::from_str(alloc, "no instruction begins there\n"),
+        Some(insn) => {
+            let line = insn_text(alloc, &insn)?;
+            let values = value_lines(alloc, registers, &insn)?;
+            format!(in alloc; "{line}{values}")
+        }
+    }
+}
+
+// Why a run trapped, and what helps.
+fn trap_line(reason: TrapReason) -> &'static str
+    ensures { result.now ≡ trap_line reason }
+{
+    match reason {
+        TrapReason::NoCode => "end each path by exit, and jump to where an instruction begins\n",
+        TrapReason::UnsetRead =>
+            "a register or a stack byte is read that was not written: write it first\n",
+        TrapReason::ReadOnly =>
+            "r10 is written, and it is read-only: copy it and change the copy\n",
+        TrapReason::BadPointer =>
+            "stack, packet and value pointers move by += and -= of a number, at 64 bits\n",
+        TrapReason::OutOfRange => "a pointer moves by at most 536870912 bytes\n",
+        TrapReason::BadAccess => "bytes are not there: test the packet's length or a look-up's r0, \
+             or correct the offset\n",
+        TrapReason::BadCompare =>
+            "compare a packet pointer with the packet end, a value pointer with 0, at 64 bits\n",
+        TrapReason::BadHelper =>
+            "there are helpers 1, 2, 3 and 5; r1 is a map, r2 points to a key, r3 to a value\n",
+        TrapReason::TooManyFrames =>
+            "8 functions are running: write this one's instructions in place of the call\n",
+        TrapReason::NoResult => "r0 has to be a number: 0 ABORTED, 1 DROP, 2 PASS, 3 TX\n",
+        TrapReason::BadAction =>
+            "the low half of r0 has to be 0 to 4: mask it (r0 &= 3) or test it\n",
+    }
+}
+
+// Why a run stopped, and what helps.
+fn end_line(end: End) -> &'static str
+    ensures { result.now ≡ end_line end }
+{
+    match end {
+        End::Exit(_, _) => "r0 names no action: 0 ABORTED, 1 DROP, 2 PASS, 3 TX, 4 REDIRECT\n",
+        End::Trap(reason, _) => trap_line(reason),
+        End::Limit => "the limit of instructions is reached: give more by --limit, or end a loop\n",
+    }
+}
+
+// The lines of a frame.
+fn stop_line(alloc: Global, found: &FrameStop) -> Result<String, AllocError>
+    ensures { IfOk result (λ text. string_bytes text ≡ stop_line found.now) }
+{
+    let frame = found.frame;
+    let slot = found.stop.slot;
+    let lines = insn_lines(alloc, found.stop.insn, &found.stop.registers)?;
+    let end = end_line(found.stop.end);
+    format!(in alloc; "frame {frame}, slot {slot}: {lines}{end}")
+}
+
+// The lines of some frames.
+fn first_lines(alloc: Global, first: &[FrameStop]) -> Result<String, AllocError>
+    ensures { IfOk result (λ text. string_bytes text ≡ first_lines first.now) }
+{
+    let mut text = String::new(alloc);
+    for index in 0..first.len() {
+        let line = stop_line(alloc, &first[index])?;
+        text = format!(in alloc; "{text}{line}")?;
+    }
+    Ok(text)
+}
+
+// How many frames there are beside the first ones.
+fn more_line(alloc: Global, more: u64) -> Result<String, AllocError>
+    ensures { IfOk result (λ text. string_bytes text ≡ more_line more) }
+{
+    if more == 0 {
+        return Ok(String::new(alloc));
+    }
+    format!(in alloc; "and {more} more frames that ended without an action\n")
+}
+
+// The lines of the first frames, and how many more there are.
+fn stop_lines(alloc: Global, stops: &Stops) -> Result<String, AllocError>
+    ensures { IfOk result (λ text. string_bytes text ≡ stop_lines (noted_of stops.now)) }
+{
+    let first = stops.first.as_slice();
+    let more = u64::from(stops.count).saturating_sub(first.len() as u64);
+    let lines = first_lines(alloc, first)?;
+    let rest = more_line(alloc, more)?;
+    format!(in alloc; "{lines}{rest}")
+}
+
+// The lines of the first frames, and how many more there are. None: no frame is noted, or memory
+// ran out.
+fn known_of(alloc: Global, stops: &Stops) -> Option<String>
+    ensures none { stops.now.count ≡ 0 → result ≡ None }
+    ensures told { IfSome result (λ text. string_bytes text ≡ stop_lines (noted_of stops.now)) }
+{
+    if stops.count == 0 {
+        return None;
+    }
+    stop_lines(alloc, stops).ok()
+}
+
+/// The message about the frames of a run with checks, if the run came to its last line.
+pub fn lines_of_stops(alloc: Global, ended: &Result<Traced, HostError>) -> Option<String>
+    ensures { TellsStopsOf ended.now result }
+{
+    match ended {
+        Ok(traced) => known_of(alloc, &traced.stops),
+        Err(_) => None,
+    }
+}
+
+/// It is written if all of the run's output was flushed.
+pub fn at_end(outcome: Outcome<'_>, why: Option<String>) -> Option<String>
+    ensures { result ≡ at_end outcome.entry why }
+{
+    match outcome {
+        Outcome::Done | Outcome::Faulted(_, _) => why,
+        _ => None,
+    }
+}

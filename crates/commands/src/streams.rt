@@ -1,0 +1,110 @@
+//! Runs over streams, and images that are written.
+
+ghost use Rattle.commands.specs.Judging.{StoresImage};
+ghost use Rattle.commands.specs.Streams.{EndsTask, Traces, RunsAccepted};
+ghost use Rattle.exact_io.specs.Waiting.{behind, failure_of, held};
+
+use super::endings::Ending;
+use super::forms::FileForm;
+use super::outcomes::{Outcome, STANDARD_OUTPUT};
+use super::stopped::{at_end, lines_of_stops};
+use super::verdicts::say_line;
+use exact_io::PromptWriter;
+use explorer::Verified;
+use host::{HostError, Tally, run, run_checked, tally_in};
+use image::Image;
+use std::alloc::Global;
+use std::io::{Read, Write};
+use words::StepLimit;
+
+// How a task ended whose run over a stream ended so, the frames out going to the file at the path.
+// The rest of the buffer is written to the file, unless the file has failed before. A failure of
+// standard output is reported when it is flushed.
+fn outcome_of<'a, W: Write + Drop>(
+    path: &'a str,
+    form: FileForm,
+    ended: Result<Tally, HostError>,
+    file: &mut PromptWriter<W>,
+) -> Outcome<'a>
+    ensures { EndsTask path.now (failure_of file.new) form ended
+        (held W.contents file.old) (W.contents (behind file.new)) result }
+{
+    match ended {
+        Ok(tally) => match file.flush() {
+            Ok(()) => match tally.fault {
+                None => Outcome::Done,
+                Some((fault, _)) => Outcome::Faulted(fault, form),
+            },
+            Err(error) => Outcome::CannotWrite(path, Some(error.kind())),
+        },
+        Err(HostError::Memory) => Outcome::NoMemory,
+        Err(HostError::Report) => {
+            let _ = file.flush();
+            Outcome::CannotWrite(STANDARD_OUTPUT, None)
+        }
+        Err(HostError::Frames) => Outcome::CannotWrite(path, file.failure()),
+    }
+}
+
+/// Runs a program on a frame stream that begins so, with checks. The report goes to `out` as it
+/// comes, and the frames out to a file that was opened by this path, behind a buffer. Where the run
+/// came to its end, it is known where the runs of its first frames stopped that ended without an
+/// action.
+pub fn trace_stream<'a, R: Read + Drop, W1: Write, W2: Write + Drop>(
+    alloc: Global,
+    image: Image,
+    limit: StepLimit,
+    source: R,
+    form: FileForm,
+    path: &'a str,
+    out: &mut W1,
+    file: &mut PromptWriter<W2>,
+) -> Ending<'a>
+    ensures { Traces image limit.steps (R.remaining source) form path.now (failure_of file.new)
+        record { report = W1.contents out.old; frames = held W2.contents file.old }
+        record { report = W1.contents out.new; frames = W2.contents (behind file.new) } result }
+{
+    let ended = run_checked(alloc, image, limit.steps, source, out, file);
+    let lines = lines_of_stops(alloc, &ended);
+    let outcome = outcome_of(path, form, tally_in(ended), file);
+    Ending {
+        outcome,
+        why: at_end(outcome, lines),
+    }
+}
+
+/// Runs an accepted program on a frame stream that begins so. The report goes to `out` as it comes,
+/// and the frames out to a file that was opened by this path, behind a buffer.
+pub fn run_stream<'a, R: Read + Drop, W1: Write, W2: Write + Drop>(
+    alloc: Global,
+    verified: Verified,
+    source: R,
+    form: FileForm,
+    path: &'a str,
+    out: &mut W1,
+    file: &mut PromptWriter<W2>,
+) -> Outcome<'a>
+    ensures { RunsAccepted verified (R.remaining source) form path.now (failure_of file.new)
+        record { report = W1.contents out.old; frames = held W2.contents file.old }
+        record { report = W1.contents out.new; frames = W2.contents (behind file.new) } result }
+{
+    let ended = run(alloc, verified, source, out, file);
+    outcome_of(path, form, ended, file)
+}
+
+/// Writes an image to a file that was opened by this path, and then says a line.
+pub fn store_image<'a, W1: Write, W2: Write>(
+    image: &Image,
+    line: &str,
+    path: &'a str,
+    out: &mut W1,
+    file: &mut W2,
+) -> Outcome<'a>
+    ensures { StoresImage image.now line.now path.now (W2.contents file.old) (W2.contents file.new)
+        (W1.contents out.old) (W1.contents out.new) result }
+{
+    match image.write(file) {
+        Ok(()) => say_line(line, Outcome::Done, out),
+        Err(error) => Outcome::of_write(path, &error),
+    }
+}

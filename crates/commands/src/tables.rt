@@ -1,0 +1,135 @@
+//! The proof tables that the commands read and write.
+
+ghost use Rattle.std.specs.Prelude.{◌≡◌, IfOk, IfErr, OnOk};
+ghost use Rattle.bounds.specs.Bounds.{IsVerified};
+ghost use Rattle.words.specs.Requests.{files_of, proof_files_of};
+ghost use Rattle.commands.specs.Commands.{ShowsNone, IsShown, RechecksFile, RunsShown, ProvesFile};
+ghost use Rattle.commands.specs.Statuses.{IsMakeFailure};
+
+use super::endings::Ending;
+use super::files::{BUFFER, create_file, load_image, open_streams};
+use super::outcomes::Outcome;
+use super::proving::store_table;
+use super::reading::read_file;
+use super::rechecks::shown;
+use super::streams::run_stream;
+use super::verdicts::{accepted, bound_line, judge};
+use exact_io::PromptWriter;
+use explorer::Verified;
+use std::alloc::Global;
+use std::io::Write;
+use std::rt::{Clock, Files};
+use words::{Paths, Proof};
+
+// The program of an image with the bound that a table shows, or how the task ends without: the
+// image is read and judged, then the table.
+fn load_shown<'a, R: Files, W: Write>(
+    rt: &R,
+    alloc: Global,
+    proof: Proof<'a>,
+    out: &mut W,
+) -> Result<Verified, Ending<'a>>
+    ensures ok { OnOk result (W.contents out.new ≡ W.contents out.old) }
+    ensures shown { IfOk result IsShown }
+    ensures none { IfErr result (λ ended. ShowsNone (proof_files_of proof.entry)
+        (W.contents out.old) (W.contents out.new) ended) }
+{
+    let image = match load_image(rt, alloc, proof.image, out) {
+        Ok(image) => image,
+        Err(outcome) => return Err(Ending::plain(outcome)),
+    };
+    match read_file(rt, alloc, proof.table) {
+        Ok(bytes) => shown(alloc, image, bytes.as_slice(), out),
+        Err(error) => Err(Ending::plain(Outcome::of_read(proof.table, &error))),
+    }
+}
+
+/// Tests a proof table: the image is read and judged, then the table, and standard output says the
+/// most steps of a run.
+pub fn recheck_file<'a, R: Files, W: Write>(
+    rt: &R,
+    alloc: Global,
+    proof: Proof<'a>,
+    out: &mut W,
+) -> Ending<'a>
+    ensures { RechecksFile (proof_files_of proof.entry)
+        (W.contents out.old) (W.contents out.new) result }
+{
+    match load_shown(rt, alloc, proof, out) {
+        Ok(verified) => Ending::plain(accepted(alloc, &verified, out)),
+        Err(ending) => ending,
+    }
+}
+
+/// Runs a program on a frame stream after testing a proof table, in place of verifying the program:
+/// the image is read and judged, then the table, then the frames are opened, then the frames out.
+/// The report goes to standard output as it comes.
+pub fn run_shown<'a, R: Files + Clock, W: Write>(
+    rt: &R,
+    alloc: Global,
+    paths: Paths<'a>,
+    table: &'a str,
+    out: &mut W,
+) -> Ending<'a>
+    ensures { RunsShown (files_of paths.entry) table.now
+        (W.contents out.old) (W.contents out.new) result }
+{
+    let image = paths.image;
+    let verified = match load_shown(rt, alloc, Proof { image, table }, out) {
+        Ok(verified) => verified,
+        Err(ending) => return ending,
+    };
+    match open_streams(rt, alloc, paths, &[image, paths.frames, table]) {
+        Ok((source, form, mut file)) => {
+            let outcome = run_stream(alloc, verified, source, form, paths.out, out, &mut file);
+            Ending::plain(outcome)
+        }
+        Err(outcome) => Ending::plain(outcome),
+    }
+}
+
+// Makes the file of a table, with a buffer in front of it.
+fn create_table<'a, R: Files>(
+    rt: &R,
+    alloc: Global,
+    proof: Proof<'a>,
+) -> Result<PromptWriter<R::File>, Outcome<'a>>
+    ensures { IfErr result (IsMakeFailure proof.entry.table.now) }
+{
+    let file = create_file(rt, proof.table, &[proof.image])?;
+    match PromptWriter::new(alloc, BUFFER, 0, file) {
+        Ok(file) => Ok(file),
+        Err(_) => Err(Outcome::NoMemory),
+    }
+}
+
+/// Proves a program: its image is read and judged, then the table is written, and then standard
+/// output says the most steps of a run. Where the program is refused no file is made for the table.
+pub fn prove_file<'a, R: Files + Clock, W: Write>(
+    rt: &R,
+    alloc: Global,
+    proof: Proof<'a>,
+    out: &mut W,
+) -> Ending<'a>
+    ensures { ProvesFile (proof_files_of proof.entry)
+        (W.contents out.old) (W.contents out.new) result }
+{
+    let image = match load_image(rt, alloc, proof.image, out) {
+        Ok(image) => image,
+        Err(outcome) => return Ending::plain(outcome),
+    };
+    let verified = match judge(rt, alloc, image, out) {
+        Ok(verified) => verified,
+        Err(ending) => return ending,
+    };
+    let Ok(line) = bound_line(alloc, &verified) else {
+        return Ending::plain(Outcome::NoMemory);
+    };
+    match create_table(rt, alloc, proof) {
+        Ok(mut file) => {
+            let outcome = store_table(alloc, &verified, line.as_str(), proof.table, out, &mut file);
+            Ending::plain(outcome)
+        }
+        Err(outcome) => Ending::plain(outcome),
+    }
+}

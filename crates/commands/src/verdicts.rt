@@ -1,0 +1,224 @@
+//! What standard output says of an image, a program or a text that was judged.
+
+ghost use Rattle.std.specs.Prelude.{◌≡◌, false, true, Ok, IfOk, IfErr, OnOk, MatchResult};
+ghost use Rattle.std.specs.String.{string_bytes};
+ghost use Rattle.isa_model.specs.{Program};
+ghost use Rattle.isa_model.specs.Text.CanonicalText.{canonical_text};
+ghost use Rattle.image.specs.Images.{IsImage, image_bytes};
+ghost use Rattle.bounds.specs.Bounds.{IsVerified};
+ghost use Rattle.stack_state.specs.Starts.{start};
+ghost use Rattle.walks.specs.Accepting.{BoundsAll};
+ghost use Rattle.walks.specs.Counts.{HasNumber};
+ghost use Rattle.assembler.specs.Assembling as spells;
+ghost use Rattle.commands.specs.Statuses.{is_silent};
+ghost use Rattle.commands.specs.Lines.{bound_line, size_line};
+ghost use Rattle.commands.specs.Saying.{Says, LacksMemory};
+ghost use Rattle.commands.specs.Judging.{RefusesImage, RefusesProgram, Accepts, Verifies, RefusesText, SaysRefused};
+ghost use Rattle.commands.specs.Known.{IsKnownOfProgram};
+
+use super::endings::Ending;
+use super::forms::form_of;
+use super::names::{image_line, text_line, verdict_line};
+use super::outcomes::{Outcome, STANDARD_OUTPUT};
+use super::rejections::Rejection;
+use super::searches::verify_shown;
+use assembler::{AsmError, AsmErrorKind, assemble};
+use control_flow::FlowError;
+use disassembler::disassemble;
+use exact_io::write_bytes;
+use explorer::{Refusal, Verified};
+use image::{Image, ImageError};
+use isa_model::Insn;
+use std::alloc::{AllocError, Global};
+use std::io::Write;
+use std::rt::{Clock, Files};
+
+/// Says a line, after which the task has ended so.
+pub fn say_line<'a, W: Write>(line: &str, ended: Outcome<'a>, out: &mut W) -> Outcome<'a>
+    requires { is_silent ended ≡ false }
+    ensures loud { is_silent result ≡ false }
+    ensures said { Says (W.contents out.old) (W.contents out.new) line.now ended.entry result }
+{
+    match write_bytes(out, line.as_bytes()) {
+        Ok(()) => ended,
+        Err(error) => Outcome::CannotWrite(STANDARD_OUTPUT, Some(error.kind())),
+    }
+}
+
+/// Says a line for which there was memory, after which the task has ended so.
+pub fn say_made<'a, W: Write>(
+    line: Result<String, AllocError>,
+    ended: Outcome<'a>,
+    out: &mut W,
+) -> Outcome<'a>
+    requires { is_silent ended ≡ false }
+    ensures { MatchResult line
+        (λ text. Says (W.contents out.old) (W.contents out.new)
+        (string_bytes text) ended.entry result)
+        (λ _. LacksMemory (W.contents out.old) (W.contents out.new) result) }
+{
+    match line {
+        Ok(line) => say_line(line.as_str(), ended, out),
+        Err(_) => Outcome::NoMemory,
+    }
+}
+
+/// The image that bytes are, or how the task ends without it: a refusal is said.
+pub fn image_of<'a, W: Write>(
+    alloc: Global,
+    bytes: &[u8],
+    out: &mut W,
+) -> Result<Image, Outcome<'a>>
+    ensures ok { OnOk result (W.contents out.new ≡ W.contents out.old) }
+    ensures found { IfOk result (λ image. bytes.now ≡ image_bytes image) }
+    ensures fits { IfOk result IsImage }
+    ensures only { (p : Program) → IsImage p → bytes.now ≡ image_bytes p
+        → MatchResult result (λ image. image ≡ p) (λ ended. ended ≡ Outcome.NoMemory) }
+    ensures refused { IfErr result
+        (λ ended. RefusesImage bytes.now (W.contents out.old) (W.contents out.new) ended) }
+{
+    match Image::parse(alloc, bytes) {
+        Ok(image) => Ok(image),
+        Err(ImageError::Memory) => Err(Outcome::NoMemory),
+        Err(error) => Err(say_made(
+            image_line(alloc, error),
+            Outcome::Refused(Rejection::Image(error, form_of(bytes))),
+            out,
+        )),
+    }
+}
+
+/// Says that a program is refused at a slot, where this instruction begins.
+pub fn say_refused<'a, W: Write>(
+    alloc: Global,
+    refusal: Refusal,
+    slot: usize,
+    insn: Option<Insn>,
+    out: &mut W,
+) -> Outcome<'a>
+    ensures { SaysRefused refusal slot insn (W.contents out.old) (W.contents out.new) result }
+{
+    match refusal {
+        Refusal::Memory | Refusal::Flow(FlowError::Memory) => Outcome::NoMemory,
+        _ => say_made(
+            verdict_line(alloc, refusal, slot),
+            Outcome::Refused(Rejection::Program(refusal, slot, insn)),
+            out,
+        ),
+    }
+}
+
+/// The verifier's answer, or how the task ends without one: a refusal is said, with its slot and
+/// instruction, and what is known there is looked for.
+pub fn judge<'a, R: Files + Clock, W: Write>(
+    rt: &R,
+    alloc: Global,
+    image: Image,
+    out: &mut W,
+) -> Result<Verified, Ending<'a>>
+    ensures ok { OnOk result (W.contents out.new ≡ W.contents out.old) }
+    ensures program { IfOk result (λ verified. verified.program ≡ image) }
+    ensures verified { IfOk result IsVerified }
+    ensures number { IfOk result (λ verified. HasNumber image start verified.bound) }
+    ensures bounds { IfOk result (λ verified. BoundsAll image verified.bound) }
+    ensures refused { IfErr result
+        (λ ended. RefusesProgram image (W.contents out.old) (W.contents out.new) ended.outcome) }
+    ensures known { IfErr result (IsKnownOfProgram image) }
+{
+    // A copy, since the verifier takes the image, and after a refusal its instruction is shown, and
+    // what is known there is looked for. To read it again from the image's bytes would keep those
+    // as long, and could run out of memory after the program was judged.
+    let Ok(copy) = image.copy(alloc) else {
+        return Err(Ending::plain(Outcome::NoMemory));
+    };
+    match verify_shown(rt, alloc, image) {
+        Ok(verified) => Ok(verified),
+        Err((refusal, slot)) => {
+            let insn = copy.at(slot).copied();
+            let outcome = say_refused(alloc, refusal, slot, insn, out);
+            Err(Ending::of_program(alloc, &copy, outcome))
+        }
+    }
+}
+
+/// The line that says the most steps of a run.
+pub fn bound_line(alloc: Global, verified: &Verified) -> Result<String, AllocError>
+    ensures { IfOk result (λ line. string_bytes line ≡ bound_line verified.now.bound) }
+{
+    let bound = verified.bound();
+    format!(in alloc; "ok bound {bound}\n")
+}
+
+/// Says the most steps of a run.
+pub fn accepted<'a, W: Write>(alloc: Global, verified: &Verified, out: &mut W) -> Outcome<'a>
+    ensures { Accepts verified.now (W.contents out.old) (W.contents out.new) result }
+{
+    say_made(bound_line(alloc, verified), Outcome::Done, out)
+}
+
+/// Verifies a program: standard output says the most steps of a run, or the refusal.
+pub fn say_verdict<'a, R: Files + Clock, W: Write>(
+    rt: &R,
+    alloc: Global,
+    image: Image,
+    out: &mut W,
+) -> Ending<'a>
+    ensures verifies { Verifies image (W.contents out.old) (W.contents out.new) result.outcome }
+    ensures known { IsKnownOfProgram image result }
+{
+    match judge(rt, alloc, image, out) {
+        Ok(verified) => Ending::plain(accepted(alloc, &verified, out)),
+        Err(ending) => ending,
+    }
+}
+
+/// Writes the text of an image.
+pub fn say_text<'a, W: Write>(image: &Image, out: &mut W) -> Outcome<'a>
+    ensures { Says (W.contents out.old) (W.contents out.new)
+        (canonical_text image.now) Outcome.Done result }
+{
+    match disassemble(image, out) {
+        Ok(()) => Outcome::Done,
+        Err(error) => Outcome::CannotWrite(STANDARD_OUTPUT, Some(error.kind())),
+    }
+}
+
+/// The image of a text, or how the task ends without it: a refusal is said, with its line and
+/// column.
+pub fn assembled<'a, W: Write>(
+    alloc: Global,
+    text: &[u8],
+    out: &mut W,
+) -> Result<Image, Outcome<'a>>
+    ensures ok { OnOk result (W.contents out.new ≡ W.contents out.old) }
+    ensures round_trip { (p : Program) → IsImage p → text.now ≡ canonical_text p
+        → MatchResult result (λ image. image ≡ p) (λ ended. ended ≡ Outcome.NoMemory) }
+    ensures found { IfOk result (λ image. spells.assembled text.now ≡ Ok image) }
+    ensures refused { IfErr result
+        (λ ended. RefusesText text.now (W.contents out.old) (W.contents out.new) ended) }
+{
+    match assemble(alloc, text) {
+        Ok(image) => Ok(image),
+        Err(
+            AsmError {
+                kind: AsmErrorKind::Memory,
+                ..
+            },
+        ) => Err(Outcome::NoMemory),
+        Err(error) => Err(say_made(
+            text_line(alloc, error),
+            Outcome::Refused(Rejection::Text(error)),
+            out,
+        )),
+    }
+}
+
+/// The line that says how large an image is.
+pub fn size_line(alloc: Global, image: &Image) -> Result<String, AllocError>
+    ensures line { IfOk result (λ line. string_bytes line ≡ size_line image.now) }
+    ensures fits { IsImage image.now }
+{
+    let maps = image.maps().len();
+    let slots = image.slots();
+    format!(in alloc; "ok maps {maps} slots {slots}\n")
+}

@@ -1,5 +1,0 @@
-mod Loading
-mod Written
-mod Refusing
-mod Delivered
-mod FirstBytes

@@ -1,6 +1,0 @@
-use Rattle.std.proofs.Common.{rules, refl}
-use Rattle.serving.proofs.FirstBytes.{form_whole}
-use Rattle.serving.proofs.fronts.read_front.Goals as goal
-
-pub returns-in-Whole : goal.returns-in-Whole
-returns-in-Whole g c = form_whole _ _ _ c.fill.new.buffer c.form_of.result c.form_of.ensures refl (search rules) c.in-Whole.ensures

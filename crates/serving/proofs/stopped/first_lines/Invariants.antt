@@ -1,7 +1,0 @@
-use Rattle.std.proofs.Common.{◌≡◌, ◌++◌, drop}
-use Rattle.std.specs.String.{string_bytes}
-use Rattle.serving.specs.Stopped.{first_lines}
-use Rattle.serving.proofs.stopped.first_lines.Given as goal
-
-abbrev pub invariant-loop-index : goal.invariant-loop-index
-invariant-loop-index l = string_bytes l.text ++ first_lines (drop l.index l.first) ≡ first_lines l.first

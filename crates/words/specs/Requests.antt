@@ -1,0 +1,46 @@
+-- The parts of a request, and its task.
+use Rattle.std.specs.Prelude.{ℕ, List, Option, option_map}
+use Rattle.words.specs.declared.tasks.Paths.{Paths}
+use Rattle.words.specs.declared.tasks.Proof.{Proof}
+use Rattle.words.specs.declared.tasks.Task.{Task}
+use Rattle.words.specs.declared.tasks.Task.TheVariants as task
+
+-- the files of a run, by their paths
+pub record RunFiles : Type 0 where
+  pub image : List ℕ
+  pub frames : List ℕ
+  pub out : List ℕ
+
+-- the files of a proof, by their paths
+pub record ProofFiles : Type 0 where
+  pub image : List ℕ
+  pub table : List ℕ
+
+-- what is asked for, on files by their paths
+pub data TaskRequest : Type 0 where
+  Trace : RunFiles → ℕ → TaskRequest
+  -- where a proof table is given, that is tested in place of verifying the program
+  Run : RunFiles → Option (List ℕ) → TaskRequest
+  Verify : List ℕ → TaskRequest
+  Prove : ProofFiles → TaskRequest
+  Recheck : ProofFiles → TaskRequest
+  -- of a text, an image
+  Assemble : List ℕ → List ℕ → TaskRequest
+  Disassemble : List ℕ → TaskRequest
+
+-- ---- what a task is of
+
+abbrev pub files_of : Paths → RunFiles
+files_of paths = record { image = paths.image.now; frames = paths.frames.now; out = paths.out.now }
+
+abbrev pub proof_files_of : Proof → ProofFiles
+proof_files_of proof = record { image = proof.image.now; table = proof.table.now }
+
+abbrev pub request_of : Task → TaskRequest
+request_of (task.Trace paths limit) = Trace (files_of paths) limit.steps
+request_of (task.Run paths table) = Run (files_of paths) (option_map (λ path. path.now) table)
+request_of (task.Verify path) = Verify path.now
+request_of (task.Prove proof) = Prove (proof_files_of proof)
+request_of (task.Recheck proof) = Recheck (proof_files_of proof)
+request_of (task.Assemble paths) = Assemble paths.text.now paths.image.now
+request_of (task.Disassemble path) = Disassemble path.now

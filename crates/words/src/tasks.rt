@@ -1,0 +1,76 @@
+//! What the program is to do, and why words ask for nothing. Nothing here speaks of the command
+//! line's form.
+
+ghost use Rattle.std.specs.Prelude.{◌≤◌};
+ghost use Rattle.isa_model.specs.Code.Limits.{max_steps};
+
+use std::alloc::AllocError;
+
+/// What is to be done, and on which files.
+#[derive(Clone, Copy)]
+pub enum Task<'a> {
+    /// Run a program with checks.
+    Trace(Paths<'a>, StepLimit),
+    /// Verify a program and run it. Where a proof table is given, that is tested instead.
+    Run(Paths<'a>, Option<&'a str>),
+    /// Verify a program.
+    Verify(&'a str),
+    /// Verify a program and write a proof table of it.
+    Prove(Proof<'a>),
+    /// Test a proof table of a program.
+    Recheck(Proof<'a>),
+    /// Make an image of the text in a file.
+    Assemble(Assembly<'a>),
+    /// Write the text of the image in a file.
+    Disassemble(&'a str),
+}
+
+/// The most steps of a run on one frame: from 1 to 1,000,000.
+#[derive(Clone, Copy)]
+pub struct StepLimit {
+    pub steps: u32,
+    ghost some: { 1 ≤ steps },
+    ghost most: { steps ≤ max_steps },
+}
+
+/// The files of a run: the image and the frames that are read, and the frames out.
+#[derive(Clone, Copy)]
+pub struct Paths<'a> {
+    pub image: &'a str,
+    pub frames: &'a str,
+    pub out: &'a str,
+}
+
+/// The files of an assembly: the text, and the image that is made.
+#[derive(Clone, Copy)]
+pub struct Assembly<'a> {
+    pub text: &'a str,
+    pub image: &'a str,
+}
+
+/// The files of a proof: the image, and the proof table of its program.
+#[derive(Clone, Copy)]
+pub struct Proof<'a> {
+    pub image: &'a str,
+    pub table: &'a str,
+}
+
+/// Why the words ask for nothing.
+#[derive(Drop)]
+pub enum WordsError {
+    /// The arguments are invalid, or not UTF-8, or they ask for help or the version. The text is
+    /// the message or the help, in whole lines, and may be empty.
+    Wrong(String),
+    Memory,
+}
+
+impl From<AllocError> for WordsError {
+    ghost use Rattle.std.specs.Prelude.{◌≡◌};
+    ghost use Rattle.words.specs.declared.tasks.WordsError.TheVariants.{Memory};
+
+    ghost from_gives = { λ _ e. e ≡ Memory };
+
+    fn from(_error: AllocError) -> WordsError {
+        WordsError::Memory
+    }
+}
