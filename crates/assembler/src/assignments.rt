@@ -8,7 +8,8 @@ use super::operands::{
     again_at, argument_at, memory_at, operand_at, register_at, same_register, wide_within,
 };
 use super::parts::{
-    as_narrow, expect_at, extension_of, is_full, number_at, op_of, sign_at, token_at, word_at,
+    as_narrow, expect_at, extension_of, is_full, number_at, op_of, sign_at, token_at, token_in,
+    word_at,
 };
 use super::readings::Reading;
 use super::wrong::Wrong;
@@ -37,7 +38,7 @@ fn arithmetic(op: AluOp, width: Width, register: Reg, tokens: &[Token]) -> Resul
 fn wide_at(tokens: &[Token], i: usize) -> bool
     ensures { result ≡ wide_at tokens.now i }
 {
-    match tokens.get(i).copied() {
+    match token_in(tokens, i) {
         Some(Token::Named(Word::Wide)) => true,
         _ => false,
     }

@@ -1,6 +1,6 @@
 //! A program while its text is read.
 
-ghost use Rattle.std.specs.Prelude.{◌≡◌, ◌≤◌, length, map, drop, slice_get, IfErr, OnOk};
+ghost use Rattle.std.specs.Prelude.{◌≡◌, ◌==◌, ◌≤◌, if◌then◌else◌, length, map, drop, slice_get, Ok, IfErr, OnOk};
 ghost use Rattle.lexer.specs.declared.tokens.Lexeme.TheVariants as Lexeme;
 ghost use Rattle.assembler.specs.declared.errors.AsmErrorKind.TheVariants as AsmErrorKind;
 ghost use Rattle.assembler.specs.declared.readings.Statement.TheVariants as Statement;
@@ -14,7 +14,7 @@ use super::errors::AsmErrorKind;
 use super::map_tests::objection;
 use super::names::{Labels, Use, define};
 use super::operands::is_name;
-use super::parts::zeroed;
+use super::parts::{token_in, zeroed};
 use super::readings::{Reading, Statement};
 use super::refusals::Refusal;
 use super::statements::{fits_form, spelled_behind};
@@ -112,9 +112,7 @@ impl<'a> Draft<'a> {
         if let Some(objection) = objection(first, &code.insns, &self.maps, statement) {
             return Err(self.refused_by(objection, label));
         }
-        if label > 0 {
-            self.define_label()?;
-        }
+        self.define_before(label)?;
         self.end(statement, label)
     }
 
@@ -230,10 +228,22 @@ impl<'a> Draft<'a> {
         ensures exact { result ≡ label_length self.now.tokens.items }
         ensures within { result ≤ length self.now.tokens.items }
     {
-        if is_label(self.tokens.get(0).copied(), self.tokens.get(1).copied()) {
+        if is_label(token_in(&self.tokens, 0), token_in(&self.tokens, 1)) {
             2
         } else {
             0
+        }
+    }
+
+    // Defines the label of the statement, which has `label` tokens, if it has one.
+    fn define_before(&mut self, label: usize) -> Result<(), Refusal>
+        ensures { Answers (λ _. progress_of self.new) result
+            (if label == 0 then Ok (progress_of self.old) else named (progress_of self.old)) }
+    {
+        if label > 0 {
+            self.define_label()
+        } else {
+            Ok(())
         }
     }
 

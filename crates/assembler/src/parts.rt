@@ -1,6 +1,6 @@
 //! Single tokens of a statement.
 
-ghost use Rattle.std.specs.Prelude.{◌≡◌};
+ghost use Rattle.std.specs.Prelude.{◌≡◌, slice_get};
 ghost use Rattle.assembler.specs.Operands.{token_at, sign_at, number_at, word_at, is_sign, expect_at, is_minus, op_of, atomic_op_of, comparison_of, width_of, extension_of, as_size, as_narrow, as_kind, is_by_index};
 ghost use Rattle.assembler.specs.Statements.{is_full};
 ghost use Rattle.assembler.specs.Labelled.{zeroed};
@@ -9,11 +9,18 @@ use super::wrong::Wrong;
 use isa_model::{AluOp, AtomicOp, Comparison, Extension, MapKind, Narrow, Size, Width};
 use lexer::{Sign, Token, Word};
 
+/// The token at the index, if there is one.
+pub fn token_in(tokens: &[Token], i: usize) -> Option<Token>
+    ensures { result ≡ slice_get tokens.now i }
+{
+    tokens.get(i).copied()
+}
+
 /// The token at the index.
 pub fn token_at(tokens: &[Token], i: usize) -> Result<Token, Wrong>
     ensures { result ≡ token_at tokens.now i }
 {
-    match tokens.get(i).copied() {
+    match token_in(tokens, i) {
         Some(token) => Ok(token),
         None => Err(Wrong::Form),
     }
@@ -22,7 +29,7 @@ pub fn token_at(tokens: &[Token], i: usize) -> Result<Token, Wrong>
 pub fn sign_at(tokens: &[Token], i: usize) -> Result<Sign, Wrong>
     ensures { result ≡ sign_at tokens.now i }
 {
-    match tokens.get(i).copied() {
+    match token_in(tokens, i) {
         Some(Token::Signed(sign)) => Ok(sign),
         Some(Token::Named(_)) => Err(Wrong::Form),
         Some(Token::Number(_)) => Err(Wrong::Form),
@@ -33,7 +40,7 @@ pub fn sign_at(tokens: &[Token], i: usize) -> Result<Sign, Wrong>
 pub fn number_at(tokens: &[Token], i: usize) -> Result<u128, Wrong>
     ensures { result ≡ number_at tokens.now i }
 {
-    match tokens.get(i).copied() {
+    match token_in(tokens, i) {
         Some(Token::Number(n)) => Ok(n),
         Some(Token::Named(_)) => Err(Wrong::Form),
         Some(Token::Signed(_)) => Err(Wrong::Form),
@@ -44,7 +51,7 @@ pub fn number_at(tokens: &[Token], i: usize) -> Result<u128, Wrong>
 pub fn word_at(tokens: &[Token], i: usize) -> Result<Word, Wrong>
     ensures { result ≡ word_at tokens.now i }
 {
-    match tokens.get(i).copied() {
+    match token_in(tokens, i) {
         Some(Token::Named(word)) => Ok(word),
         Some(Token::Number(_)) => Err(Wrong::Form),
         Some(Token::Signed(_)) => Err(Wrong::Form),

@@ -11,8 +11,8 @@ use super::operands::{
     signed_imm,
 };
 use super::parts::{
-    as_size, atomic_op_of, comparison_of, expect_at, number_at, sign_at, token_at, width_of,
-    word_at,
+    as_size, atomic_op_of, comparison_of, expect_at, number_at, sign_at, token_at, token_in,
+    width_of, word_at,
 };
 use super::readings::{Reading, Statement};
 use super::wrong::Wrong;
@@ -242,7 +242,7 @@ fn version_line(tokens: &[Token]) -> Result<Statement, Wrong>
 pub fn fits_form(tokens: &[Token]) -> bool
     ensures { result ≡ fits_form tokens.now }
 {
-    (begins_version_line(tokens.get(0).copied()) && version_number(tokens).is_ok())
+    (begins_version_line(token_in(tokens, 0)) && version_number(tokens).is_ok())
         || statement_of(tokens).is_ok()
 }
 
@@ -250,7 +250,7 @@ pub fn fits_form(tokens: &[Token]) -> bool
 pub fn spelled_behind(label: usize, tokens: &[Token]) -> Result<Statement, Wrong>
     ensures { result ≡ spelled_behind label tokens.now }
 {
-    if begins_version_line(tokens.get(0).copied()) {
+    if begins_version_line(token_in(tokens, 0)) {
         if label == 0 {
             version_line(tokens)
         } else {
@@ -268,7 +268,7 @@ pub fn spelled(tokens: &[Token]) -> Result<Statement, Wrong>
     if tokens.is_empty() {
         return Ok(Statement::Empty);
     }
-    if begins_map_line(tokens.get(0).copied()) {
+    if begins_map_line(token_in(tokens, 0)) {
         Ok(Statement::Row(map_line(tokens)?))
     } else {
         Ok(Statement::Instruction(statement_of(tokens)?))
