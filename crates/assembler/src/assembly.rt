@@ -32,11 +32,11 @@ fn after(bytes: &[u8], count: usize) -> &[u8]
     }
 }
 
-// Reads the whole text.
-fn read<'a>(alloc: Global, text: &'a [u8]) -> Result<Draft<'a>, Refusal>
-    ensures { Answers (λ draft. progress_of draft) result (read_on text.now 0 0 start) }
+// Reads the whole text into the draft.
+fn read_into<'a>(draft: &mut Draft<'a>, text: &'a [u8]) -> Result<(), Refusal>
+    ensures { Answers (λ _. progress_of draft.new) result
+        (read_on text.now 0 0 (progress_of draft.old)) }
 {
-    let mut draft = Draft::new(alloc);
     let mut rest = text;
     while !rest.is_empty() {
         let offset = text.len().saturating_sub(rest.len());
@@ -56,7 +56,15 @@ fn read<'a>(alloc: Global, text: &'a [u8]) -> Result<Draft<'a>, Refusal>
         }
         rest = after(rest, len);
     }
-    match draft.close() {
+    draft.close()
+}
+
+// Reads the whole text.
+fn read<'a>(alloc: Global, text: &'a [u8]) -> Result<Draft<'a>, Refusal>
+    ensures { Answers (λ draft. progress_of draft) result (read_on text.now 0 0 start) }
+{
+    let mut draft = Draft::new(alloc);
+    match read_into(&mut draft, text) {
         Ok(()) => Ok(draft),
         Err(refusal) => Err(refusal),
     }

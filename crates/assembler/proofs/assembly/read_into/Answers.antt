@@ -1,13 +1,13 @@
-use Rattle.std.proofs.Common.{◌≡◌, ◌+◌, ◌<◌, ◌≤◌, ◌-◌, ◌^◌, ℕ, List, ap, ap₂, ◌∙◌, sym, length, take, rules, Some, None, Ok, Err, arith, inl, inr}
+use Rattle.std.proofs.Common.{◌≡◌, ◌+◌, ◌<◌, ◌≤◌, ◌-◌, ◌^◌, ℕ, List, ap, ap₂, ◌∙◌, sym, length, take, rules, Some, None, Result, Ok, Err, arith, inr, subst}
 use Rattle.std.proofs.lemmas.List.{take_min}
 use Rattle.lexer.specs.Lexing.{lexeme_at, fault_at}
 use Rattle.lexer.proofs.LexingLaws.{fault_at-within}
 use Rattle.assembler.specs.declared.errors.AsmErrorKind.TheVariants.{UnknownByte}
 use Rattle.assembler.specs.declared.refusals.Refusal.{Refusal}
-use Rattle.assembler.specs.Assembling.{accept, read_on}
+use Rattle.assembler.specs.Assembling.{ReadSoFar, Answers, accept, read_on}
 use Rattle.assembler.specs.Drafts.{progress_of}
 use Rattle.assembler.proofs.TextTurns.{turn-none, turn-taken, turn-end}
-use Rattle.assembler.proofs.assembly.read.Goals as goal
+use Rattle.assembler.proofs.assembly.read_into.Goals as goal
 
 pub loop-rest-preserved : goal.loop-rest-preserved
 loop-rest-preserved c =
@@ -43,7 +43,5 @@ returns-in-Err c =
 pub returns : goal.returns
 returns c =
     let none : length c.loop-rest.rest.now ≡ 0 = search rules in
-    elim c.in-Err-close.ensures [
-      | inl memory ↦ inl memory
-      | inr e ↦ inr (c.loop-rest.invariant.0 ∙ turn-end c.loop-rest.rest.now (length c.args.text.now - length c.loop-rest.rest.now) (progress_of c.loop-rest.draft) none ∙ e)
-    ]
+    let same = c.loop-rest.invariant.0 ∙ turn-end c.loop-rest.rest.now (length c.args.text.now - length c.loop-rest.rest.now) (progress_of c.loop-rest.draft) none in
+    subst (λ (wanted : Result ReadSoFar Refusal). Answers (λ done. progress_of c.close.new.self) c.close.result wanted) (sym same) c.close.ensures
