@@ -42,6 +42,10 @@ returns-in-Err c =
 
 pub returns : goal.returns
 returns c =
-    let none : length c.loop-rest.rest.now ≡ 0 = search rules in
-    let same = c.loop-rest.invariant.0 ∙ turn-end c.loop-rest.rest.now (length c.args.text.now - length c.loop-rest.rest.now) (progress_of c.loop-rest.draft) none in
-    subst (λ (wanted : Result ReadSoFar Refusal). Answers (λ done. progress_of c.close.new.self) c.close.result wanted) (sym same) c.close.ensures
+    let rest = c.loop-rest.rest.now in
+    let none : length rest ≡ 0 = search rules in
+    let same = c.loop-rest.invariant.0
+    ∙ turn-end rest (length c.args.text.now - length rest) (progress_of c.loop-rest.draft) none in
+    subst (λ (wanted : Result ReadSoFar Refusal).
+    Answers (λ done. progress_of c.close.new.self) c.close.result wanted)
+    (sym same) c.close.ensures

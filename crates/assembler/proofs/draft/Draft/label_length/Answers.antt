@@ -20,6 +20,9 @@ two_tokens (t ∷ u ∷ ts) is = omega arith
 pub returns-then-is_label-clause-within : goal.returns-then-is_label-clause-within
 returns-then-is_label-clause-within c =
     let ts = c.args.self.now.tokens.items in
-    let first : c.token_in.result ≡ slice_get ts 0 = c.token_in.ensures ∙ ap (λ (us : List Token). slice_get us 0) c.deref.ensures.value in
-    let second : c.token_in-2.result ≡ slice_get ts 1 = c.token_in-2.ensures ∙ ap (λ (us : List Token). slice_get us 1) c.deref-2.ensures.value in
-    two_tokens ts (ap₂ is_label (sym first) (sym second) ∙ (sym c.is_label.ensures ∙ c.if-is_label.true))
+    let first : c.token_in.result ≡ slice_get ts 0 =
+    c.token_in.ensures ∙ ap (λ (us : List Token). slice_get us 0) c.deref.ensures.value in
+    let second : c.token_in-2.result ≡ slice_get ts 1 =
+    c.token_in-2.ensures ∙ ap (λ (us : List Token). slice_get us 1) c.deref-2.ensures.value in
+    let both = ap₂ is_label (sym first) (sym second) in
+    two_tokens ts (both ∙ (sym c.is_label.ensures ∙ c.if-is_label.true))
