@@ -1,8 +1,8 @@
 //! What reads and writes streams, and the runs between two streams.
 
 mod buffers;
+mod cases;
 mod failures;
-mod map_reports;
 mod reasons;
 mod records;
 mod streams;

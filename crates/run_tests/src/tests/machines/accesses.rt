@@ -1,7 +1,8 @@
 //! Worked examples of memory, pointers and atomic instructions: what the checked machine does with
 //! short texts.
 
-use super::runs::ends_are;
+use super::runs::{Part, all_end};
+use isa_model::End;
 use isa_model::End::{Exit, Trap};
 use isa_model::TrapReason::{BadAccess, BadCompare, BadPointer, OutOfRange, UnsetRead};
 use std::test::Fail;
@@ -10,29 +11,29 @@ const MINUS_1: u64 = 0xffff_ffff_ffff_ffff;
 
 const MINUS_2: u64 = 0xffff_ffff_ffff_fffe;
 
-#[test]
-fn stored_bytes_are_loaded(rt: HostRuntime) -> Result<(), Fail> {
-    for base in ["r2 = r10; r2 += -8", "r2 = *(u32 *)(r1 + 0); r2 += 0"] {
-        let first = format!(in rt.alloc();
-            "{base}; r3 = 0x8877665544332211 ll; *(u64 *)(r2 + 0) = r3"
-        )?;
-        ends_are(
-            &rt,
-            first.as_str(),
-            &[
-                ("r0 = *(u8 *)(r2 + 0); exit", Exit(0x11, 6)),
-                ("r0 = *(u8 *)(r2 + 7); exit", Exit(0x88, 6)),
-                ("r0 = *(u16 *)(r2 + 6); exit", Exit(0x8877, 6)),
-                ("r0 = *(u32 *)(r2 + 2); exit", Exit(0x6655_4433, 6)),
-                (
-                    "r0 = *(u64 *)(r2 + 0); exit",
-                    Exit(0x8877_6655_4433_2211, 6),
-                ),
-            ],
-        )?;
-    }
-    ends_are(
-        &rt,
+/// Loads of the eight bytes that were stored.
+const LOADS: &[(&str, End)] = &[
+    ("r0 = *(u8 *)(r2 + 0); exit", Exit(0x11, 6)),
+    ("r0 = *(u8 *)(r2 + 7); exit", Exit(0x88, 6)),
+    ("r0 = *(u16 *)(r2 + 6); exit", Exit(0x8877, 6)),
+    ("r0 = *(u32 *)(r2 + 2); exit", Exit(0x6655_4433, 6)),
+    (
+        "r0 = *(u64 *)(r2 + 0); exit",
+        Exit(0x8877_6655_4433_2211, 6),
+    ),
+];
+
+const PARTS: [Part; 11] = [
+    // stored bytes are loaded
+    (
+        "r2 = r10; r2 += -8; r3 = 0x8877665544332211 ll; *(u64 *)(r2 + 0) = r3",
+        LOADS,
+    ),
+    (
+        "r2 = *(u32 *)(r1 + 0); r2 += 0; r3 = 0x8877665544332211 ll; *(u64 *)(r2 + 0) = r3",
+        LOADS,
+    ),
+    (
         "",
         &[
             // an 8-byte -2 read back as one signed byte
@@ -46,13 +47,9 @@ fn stored_bytes_are_loaded(rt: HostRuntime) -> Result<(), Fail> {
                 Trap(UnsetRead, 1),
             ),
         ],
-    )
-}
-
-#[test]
-fn accesses_stay_within_their_region(rt: HostRuntime) -> Result<(), Fail> {
-    ends_are(
-        &rt,
+    ),
+    // accesses stay within their region
+    (
         "r0 = 0; r2 = *(u32 *)(r1 + 0); r3 = 64",
         &[
             ("*(u64 *)(r10 - 512) = 0; exit", Exit(0, 5)),
@@ -65,17 +62,18 @@ fn accesses_stay_within_their_region(rt: HostRuntime) -> Result<(), Fail> {
             ("*(u32 *)(r1 + 0) = 0", Trap(BadAccess, 3)),
             ("*(u8 *)(r3 + 0) = 0", Trap(BadAccess, 3)),
         ],
-    )?;
+    ),
     // the frame of a call that has ended
-    let left = "r1 = r10; call inner; r2 = *(u64 *)(r10 - 8); *(u64 *)(r2 - 8) = 0
-        inner: *(u64 *)(r1 - 8) = r10; r0 = 0; exit";
-    ends_are(&rt, "", &[(left, Trap(BadAccess, 6))])
-}
-
-#[test]
-fn a_spilled_pointer_comes_back_whole(rt: HostRuntime) -> Result<(), Fail> {
-    ends_are(
-        &rt,
+    (
+        "",
+        &[(
+            "r1 = r10; call inner; r2 = *(u64 *)(r10 - 8); *(u64 *)(r2 - 8) = 0
+        inner: *(u64 *)(r1 - 8) = r10; r0 = 0; exit",
+            Trap(BadAccess, 6),
+        )],
+    ),
+    // a spilled pointer comes back whole
+    (
         "r2 = r10; r2 += -16; *(u64 *)(r10 - 8) = r2",
         &[
             (
@@ -100,13 +98,9 @@ fn a_spilled_pointer_comes_back_whole(rt: HostRuntime) -> Result<(), Fail> {
                 Exit(7, 6),
             ),
         ],
-    )
-}
-
-#[test]
-fn the_context_answers_its_four_fields(rt: HostRuntime) -> Result<(), Fail> {
-    ends_are(
-        &rt,
+    ),
+    // the context answers its four fields
+    (
         "r0 = 1",
         &[
             (
@@ -126,14 +120,10 @@ fn the_context_answers_its_four_fields(rt: HostRuntime) -> Result<(), Fail> {
             ("r0 = *(u32 *)(r1 - 4)", Trap(BadAccess, 1)),
             ("r0 = *(s32 *)(r1 + 12)", Trap(BadAccess, 1)),
         ],
-    )
-}
-
-/// r0 is the bytes that are left, moved by eight bits, and what the instruction answers.
-#[test]
-fn atomic_instructions_change_numbers(rt: HostRuntime) -> Result<(), Fail> {
-    ends_are(
-        &rt,
+    ),
+    // atomic instructions change numbers
+    // r0 is the bytes that are left, moved by eight bits, and what the instruction answers.
+    (
         "r2 = *(u32 *)(r1 + 0); *(u64 *)(r2 + 0) = 3; r5 = 1",
         &[
             (
@@ -152,10 +142,9 @@ fn atomic_instructions_change_numbers(rt: HostRuntime) -> Result<(), Fail> {
             // a pointer is no operand
             ("r5 = r10; lock *(u64 *)(r2 + 0) += r5", Trap(BadPointer, 4)),
         ],
-    )?;
+    ),
     // 32 bits of r0 take part, and the old number comes back zero-extended
-    ends_are(
-        &rt,
+    (
         "*(u32 *)(r10 - 8) = 5; r0 = 0x100000005 ll; r1 = 9; \
          r0 = cmpxchg_32(r10 - 8, r0, r1); r1 = 7",
         &[
@@ -174,13 +163,9 @@ fn atomic_instructions_change_numbers(rt: HostRuntime) -> Result<(), Fail> {
                 Exit(0x709, 11),
             ),
         ],
-    )
-}
-
-#[test]
-fn values_compute_by_their_kinds(rt: HostRuntime) -> Result<(), Fail> {
-    ends_are(
-        &rt,
+    ),
+    // values compute by their kinds
+    (
         "r0 = 1; r2 = *(u32 *)(r1 + 0); r3 = r10; r4 = 0x100000002 ll",
         &[
             (
@@ -214,15 +199,11 @@ fn values_compute_by_their_kinds(rt: HostRuntime) -> Result<(), Fail> {
                 Exit(2055, 7),
             ),
         ],
-    )
-}
-
-/// Pointers to a map's values, which no image has yet, are compared in the worked examples of the
-/// definitions.
-#[test]
-fn pointers_compare_with_the_packet_end_and_with_null(rt: HostRuntime) -> Result<(), Fail> {
-    ends_are(
-        &rt,
+    ),
+    // pointers compare with the packet end and with null
+    // Pointers to a map's values, which no image has yet, are compared in the worked examples of
+    // the definitions.
+    (
         "r0 = 1; r2 = *(u32 *)(r1 + 0); r3 = *(u32 *)(r1 + 4); r2 += 14; r4 = -1; r5 = 0",
         &[
             ("if r2 > r3 goto +1; exit", Exit(1, 8)),
@@ -239,5 +220,10 @@ fn pointers_compare_with_the_packet_end_and_with_null(rt: HostRuntime) -> Result
             ("if r4 == -1 goto +1; r0 = 0; exit", Exit(1, 8)),
             ("if r6 == 0 goto +0", Trap(UnsetRead, 6)),
         ],
-    )
+    ),
+];
+
+#[test]
+fn accesses(rt: HostRuntime) -> Result<(), Fail> {
+    all_end(&rt, &PARTS)
 }

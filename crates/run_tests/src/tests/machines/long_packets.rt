@@ -6,6 +6,7 @@ use assembler::assemble;
 use checked_vm::Checked;
 use isa_model::{End, FrameHead, MAX_PACKET, TrapReason};
 use machine::Exit;
+use std::alloc::Global;
 use std::test::Fail;
 
 const HEAD: FrameHead = FrameHead {
@@ -25,52 +26,53 @@ fn longest() -> [u8; 9216] {
     packet
 }
 
+/// How a verified program's run ends, and the last byte after it.
+fn exit_of(alloc: Global, text: &str) -> Result<(Exit, u8), Fail> {
+    let mut machine = machine_of(alloc, text)?;
+    let mut packet = longest();
+    let exit = machine.run(HEAD, &mut packet, &mut Stopped);
+    Ok((exit, packet[9215]))
+}
+
+/// The same of a run with every access tested.
+fn end_of(alloc: Global, text: &str) -> Result<(End, u8), Fail> {
+    let image = assemble(alloc, text.as_bytes())?;
+    let mut checked = Checked::new(alloc, image)?;
+    let mut packet = longest();
+    let end = checked.run(HEAD, &mut packet, &mut Stopped, 100);
+    Ok((end, packet[9215]))
+}
+
 #[test]
 fn the_last_byte_is_read_and_written(rt: HostRuntime) -> Result<(), Fail> {
-    let mut packet = longest();
-    let mut machine = machine_of(rt.alloc(), LAST)?;
-    assert_eq!(rt;
-        machine.run(HEAD, &mut packet, &mut Stopped),
-        Exit { r0: 5, steps: 8 }
-    );
-    assert_eq!(rt; packet[9215], 7);
-    let mut packet = longest();
-    let mut checked = Checked::new(rt.alloc(), assemble(rt.alloc(), LAST.as_bytes())?)?;
-    assert_eq!(rt;
-        checked.run(HEAD, &mut packet, &mut Stopped, 100),
-        End::Exit(5, 8)
-    );
-    assert_eq!(rt; packet[9215], 7);
+    assert_eq!(rt; exit_of(rt.alloc(), LAST)?, (Exit { r0: 5, steps: 8 }, 7));
     Ok(())
 }
 
-/// Accesses one byte past the end, and how their runs end.
-const PAST: [(&str, End); 3] = [
+/// Programs that access the last byte, and one past the end; how their runs end, and the last byte.
+const ENDS: [(&str, End, u8); 4] = [
+    (LAST, End::Exit(5, 8), 7),
     (
         "r2 = *(u32 *)(r1 + 0); r0 = *(u8 *)(r2 + 9216); exit",
         End::Trap(TrapReason::BadAccess, 1),
+        5,
     ),
     (
         "r2 = *(u32 *)(r1 + 0); *(u8 *)(r2 + 9216) = 7; exit",
         End::Trap(TrapReason::BadAccess, 1),
+        5,
     ),
     (
         "r2 = *(u32 *)(r1 + 0); r0 = *(u16 *)(r2 + 9215); exit",
         End::Trap(TrapReason::BadAccess, 1),
+        5,
     ),
 ];
 
 #[test]
 fn nothing_stands_past_the_end(rt: HostRuntime) -> Result<(), Fail> {
-    for (text, end) in PAST.iter() {
-        let mut packet = longest();
-        let mut checked = Checked::new(rt.alloc(), assemble(rt.alloc(), text.as_bytes())?)?;
-        assert_eq!(rt;
-            checked.run(HEAD, &mut packet, &mut Stopped, 100),
-            *end,
-            "{text}"
-        );
-        assert_eq!(rt; packet[9215], 5, "{text}");
+    for (text, end, last) in ENDS.iter() {
+        assert_eq!(rt; end_of(rt.alloc(), *text)?, (*end, *last), "{text}");
     }
     Ok(())
 }

@@ -7,6 +7,7 @@ use isa_model::FrameHead;
 use machine::{Exit, Machine};
 use maps::Maps;
 use std::alloc::Global;
+use std::process::Abort;
 use std::test::Fail;
 
 /// The machine of a program.
@@ -21,63 +22,71 @@ pub fn machine_of(alloc: Global, text: &str) -> Result<Machine, Fail> {
     }
 }
 
-/// An interface, and r0 and the steps of the run on a frame from it.
-const RUNS: [(u32, u64, u32); 3] = [(5, 5, 3), (6, 2, 4), (5, 5, 3)];
+/// A run on an empty frame: its interface, and r0 and the steps.
+type Run = (u32, u64, u32);
 
-#[test]
-fn runs_differ_by_interface(rt: HostRuntime) -> Result<(), Fail> {
-    let text = "r0 = *(u32 *)(r1 + 12); if r0 == 5 goto +1; r0 = 2; exit";
-    let mut machine = machine_of(rt.alloc(), text)?;
-    assert_eq!(rt; machine.bound(), 4);
-    for (interface, r0, steps) in RUNS.iter() {
-        let head = FrameHead {
-            time: 0,
-            interface: *interface,
-            queue: 7,
-        };
-        let exit = Exit {
-            r0: *r0,
-            steps: *steps,
-        };
-        assert_eq!(rt; machine.run(head, &mut [], &mut Stopped), exit);
-    }
-    Ok(())
-}
-
-/// Programs with functions of their own: the bound, and r0 and the steps of a run.
-const FUNCTIONS: [(&str, u32, u64, u32); 3] = [
-    ("r1 = 5; call pc+1; exit; r0 = r1; r0 -= 3; exit", 6, 2, 6),
+/// A program, its bound, and runs one after the other.
+const ROWS: [(&str, u32, &[Run]); 4] = [
+    (
+        "r0 = *(u32 *)(r1 + 12); if r0 == 5 goto +1; r0 = 2; exit",
+        4,
+        &[(5, 5, 3), (6, 2, 4), (5, 5, 3)],
+    ),
+    // functions of their own
+    (
+        "r1 = 5; call pc+1; exit; r0 = r1; r0 -= 3; exit",
+        6,
+        &[(5, 2, 6)],
+    ),
     (
         "*(u64 *)(r10 - 8) = 2; r1 = r10; r1 += -8; call pc+1; exit; r0 = *(u64 *)(r1 + 0); exit",
         7,
-        2,
-        7,
+        &[(5, 2, 7)],
     ),
     // a function that sees interface 5 answers at once
     (
         "r1 = *(u32 *)(r1 + 12); r6 = r1; call pc+2; r0 += r6; exit
          r0 = 2; if r1 == 5 goto +1; r0 = 1; exit",
         9,
-        7,
-        8,
+        &[(5, 7, 8)],
     ),
 ];
 
-#[test]
-fn functions_run_within_their_bounds(rt: HostRuntime) -> Result<(), Fail> {
-    for (text, bound, r0, steps) in FUNCTIONS.iter() {
-        let mut machine = machine_of(rt.alloc(), *text)?;
-        assert_eq!(rt; machine.bound(), *bound, "{text}");
-        let head = FrameHead {
-            time: 0,
-            interface: 5,
-            queue: 7,
-        };
-        let exit = Exit {
+fn exit_of(machine: &mut Machine, interface: u32) -> Exit {
+    let head = FrameHead {
+        time: 0,
+        interface,
+        queue: 7,
+    };
+    machine.run(head, &mut [], &mut Stopped)
+}
+
+fn bound_of(machine: &Machine) -> u32 {
+    machine.bound()
+}
+
+fn runs_so(
+    rt: &(impl Abort + AllocGlobal),
+    text: &str,
+    bound: u32,
+    runs: &[Run],
+) -> Result<(), Fail> {
+    let mut machine = machine_of(rt.alloc(), text)?;
+    assert_eq!(rt; bound_of(&machine), bound, "{text}");
+    for (interface, r0, steps) in runs {
+        let wanted = Exit {
             r0: *r0,
             steps: *steps,
         };
-        assert_eq!(rt; machine.run(head, &mut [], &mut Stopped), exit, "{text}");
+        assert_eq!(rt; exit_of(&mut machine, *interface), wanted, "{text}");
+    }
+    Ok(())
+}
+
+#[test]
+fn programs_run_within_their_bounds(rt: HostRuntime) -> Result<(), Fail> {
+    for (text, bound, runs) in ROWS.iter() {
+        runs_so(&rt, *text, *bound, *runs)?;
     }
     Ok(())
 }

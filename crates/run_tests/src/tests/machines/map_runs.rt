@@ -1,13 +1,14 @@
 //! Worked examples of maps and helpers in the checked machine.
 
 use super::clocks::{Last, Stopped};
-use super::runs::ends_are;
+use super::runs::{Part, all_end};
 use assembler::assemble;
 use checked_vm::Checked;
 use isa_model::End::{Exit, Trap};
 use isa_model::TrapReason::{BadAccess, BadHelper, UnsetRead};
 use isa_model::{End, FrameHead};
 use maps::Maps;
+use std::alloc::Global;
 use std::test::Fail;
 
 const HEAD: FrameHead = FrameHead {
@@ -16,18 +17,9 @@ const HEAD: FrameHead = FrameHead {
     queue: 0,
 };
 
-const KEY_9: &str = "*(u8 *)(r10 - 1) = 9; *(u8 *)(r10 - 2) = 7";
-
-const UPDATE: &str = "r1 = map_by_idx(0); r2 = r10; r2 += -1; r3 = r10; r3 += -2; r4 = 0; call 2";
-
-const LOOKUP: &str = "r1 = map_by_idx(0); r2 = r10; r2 += -1; call 1; r6 = r0";
-
-const DELETE: &str = "r1 = map_by_idx(0); r2 = r10; r2 += -1; call 3";
-
-#[test]
-fn kinds_are_tested_before_bytes(rt: HostRuntime) -> Result<(), Fail> {
-    ends_are(
-        &rt,
+const PARTS: [Part; 5] = [
+    // kinds are tested before bytes
+    (
         "map hash 4 8 1\nr3 = 0",
         &[
             ("call 1; exit", Trap(UnsetRead, 1)),
@@ -48,57 +40,46 @@ fn kinds_are_tested_before_bytes(rt: HostRuntime) -> Result<(), Fail> {
             ),
             ("r1 = map_by_idx(0); r2 = r10; call 1", Trap(BadAccess, 3)),
         ],
-    )
-}
-
-#[test]
-fn pointers_to_deleted_values_stay_dead(rt: HostRuntime) -> Result<(), Fail> {
-    let first = format!(in rt.alloc(); "map hash 1 1 1\n{KEY_9}; {UPDATE}; {LOOKUP}")?;
-    let again = format!(in rt.alloc(); "{DELETE}; {UPDATE}; r0 = *(u8 *)(r6 + 0); exit")?;
-    ends_are(
-        &rt,
-        first.as_str(),
+    ),
+    // pointers to deleted values stay dead
+    (
+        "map hash 1 1 1\n*(u8 *)(r10 - 1) = 9; *(u8 *)(r10 - 2) = 7;
+r1 = map_by_idx(0); r2 = r10; r2 += -1; r3 = r10; r3 += -2; r4 = 0; call 2;
+r1 = map_by_idx(0); r2 = r10; r2 += -1; call 1; r6 = r0",
         &[
             ("r0 = *(u8 *)(r6 + 0); exit", Exit(7, 16)),
             (
                 "*(u8 *)(r6 + 0) = 5; r0 = *(u8 *)(r6 + 0); exit",
                 Exit(5, 17),
             ),
-            (again.as_str(), Trap(BadAccess, 25)),
+            (
+                "r1 = map_by_idx(0); r2 = r10; r2 += -1; call 3;
+r1 = map_by_idx(0); r2 = r10; r2 += -1; r3 = r10; r3 += -2; r4 = 0; call 2;
+r0 = *(u8 *)(r6 + 0); exit",
+                Trap(BadAccess, 25),
+            ),
         ],
-    )
-}
-
-#[test]
-fn arguments_are_unset_after_a_helper(rt: HostRuntime) -> Result<(), Fail> {
-    ends_are(
-        &rt,
+    ),
+    // arguments are unset after a helper
+    (
         "r1 = 1; r2 = 2; r3 = 3; r4 = 4; r5 = 5; r6 = 6; call 5; r0 = r6",
         &[
             ("exit", Exit(6, 9)),
             ("r0 = r1; exit", Trap(UnsetRead, 8)),
             ("r0 = r5; exit", Trap(UnsetRead, 8)),
         ],
-    )
-}
-
-/// A key that the map does not have.
-#[test]
-fn look_ups_answer_null(rt: HostRuntime) -> Result<(), Fail> {
-    ends_are(
-        &rt,
+    ),
+    // look ups answer null
+    // A key that the map does not have.
+    (
         "map hash 4 8 4\n*(u32 *)(r10 - 4) = 1; r1 = map_by_idx(0); r2 = r10; r2 += -4; call 1
          *(u64 *)(r10 - 16) = r0; if r0 == 0 goto +3; r3 = *(u64 *)(r10 - 16)
          r0 = *(u64 *)(r3 + 0)",
         &[("exit; r0 = 1; exit", Exit(1, 9))],
-    )
-}
-
-/// Errors are negative, in 64 bits.
-#[test]
-fn updates_answer_errors(rt: HostRuntime) -> Result<(), Fail> {
-    ends_are(
-        &rt,
+    ),
+    // updates answer errors
+    // Errors are negative, in 64 bits.
+    (
         "map array 4 8 1\n*(u32 *)(r10 - 4) = 1; *(u64 *)(r10 - 16) = 0; r1 = map_by_idx(0)
          r2 = r10; r2 += -4; r3 = r10; r3 += -16",
         &[
@@ -107,7 +88,12 @@ fn updates_answer_errors(rt: HostRuntime) -> Result<(), Fail> {
             // flags come first
             ("r4 = 9; call 2; r0 += 24; exit", Exit(2, 11)),
         ],
-    )
+    ),
+];
+
+#[test]
+fn maps_and_helpers(rt: HostRuntime) -> Result<(), Fail> {
+    all_end(&rt, &PARTS)
 }
 
 /// The eight bytes of a key's value in the first map.
@@ -127,16 +113,19 @@ const COUNTER: &str =
     "map array 4 8 1\n*(u32 *)(r10 - 4) = 0; r1 = map_by_idx(0); r2 = r10; r2 += -4
     call 1; if r0 == 0 goto +3; r1 = 1; lock *(u64 *)(r0 + 0) += r1; r0 = 2; exit";
 
+/// How two runs of a program end, and what the key 0 of its map has then.
+fn counted(alloc: Global, text: &str) -> Result<(End, End, Option<u64>), Fail> {
+    let image = assemble(alloc, text.as_bytes())?;
+    let mut checked = Checked::new(alloc, image)?;
+    let first = checked.run(HEAD, &mut [], &mut Stopped, 100);
+    let second = checked.run(HEAD, &mut [], &mut Stopped, 100);
+    Ok((first, second, value_of(&checked.into_maps(), &[0; 4])))
+}
+
 #[test]
 fn values_stay_from_run_to_run(rt: HostRuntime) -> Result<(), Fail> {
-    let image = assemble(rt.alloc(), COUNTER.as_bytes())?;
-    let mut checked = Checked::new(rt.alloc(), image)?;
-    for _ in 0..2 {
-        let end = checked.run(HEAD, &mut [], &mut Stopped, 100);
-        assert_eq!(rt; end, Exit(2, 10));
-    }
-    let maps = checked.into_maps();
-    assert_eq!(rt; value_of(&maps, &[0; 4]), Some(2));
+    let found = counted(rt.alloc(), COUNTER)?;
+    assert_eq!(rt; found, (Exit(2, 10), Exit(2, 10), Some(2)));
     Ok(())
 }
 
@@ -190,11 +179,15 @@ fn values_are_found_as_keys_come_and_go(rt: HostRuntime) -> Result<(), Fail> {
     Ok(())
 }
 
+/// How a run ends at the last time that there is.
+fn last_end(alloc: Global, text: &str) -> Result<End, Fail> {
+    let image = assemble(alloc, text.as_bytes())?;
+    let mut checked = Checked::new(alloc, image)?;
+    Ok(checked.run(HEAD, &mut [], &mut Last, 100))
+}
+
 #[test]
 fn the_clock_answers_in_64_bits(rt: HostRuntime) -> Result<(), Fail> {
-    let image = assemble(rt.alloc(), b"call 5; r0 &= 3; exit")?;
-    let mut checked = Checked::new(rt.alloc(), image)?;
-    let end = checked.run(HEAD, &mut [], &mut Last, 100);
-    assert_eq!(rt; end, Exit(3, 3));
+    assert_eq!(rt; last_end(rt.alloc(), "call 5; r0 &= 3; exit")?, Exit(3, 3));
     Ok(())
 }

@@ -29,7 +29,7 @@ pub fn end_of(alloc: Global, text: &str, packet: &mut [u8; 14], limit: u32) -> R
 }
 
 /// Each text, with some instructions before it, ends so within 100 steps.
-pub fn ends_are(
+fn ends_are(
     rt: &(impl Abort + AllocGlobal),
     first: &str,
     rows: &[(&str, End)],
@@ -42,10 +42,19 @@ pub fn ends_are(
     Ok(())
 }
 
-#[test]
-fn runs_end_by_exit_trap_or_limit(rt: HostRuntime) -> Result<(), Fail> {
-    ends_are(
-        &rt,
+/// What texts begin with, and how they go on and end.
+pub type Part = (&'static str, &'static [(&'static str, End)]);
+
+pub fn all_end(rt: &(impl Abort + AllocGlobal), parts: &[Part]) -> Result<(), Fail> {
+    for (first, rows) in parts {
+        ends_are(rt, *first, *rows)?;
+    }
+    Ok(())
+}
+
+const PARTS: [Part; 2] = [
+    // runs end by exit trap or limit
+    (
         "",
         &[
             (
@@ -59,13 +68,9 @@ fn runs_end_by_exit_trap_or_limit(rt: HostRuntime) -> Result<(), Fail> {
             ("r10 = 0", Trap(ReadOnly, 0)),
             ("r10 = r2", Trap(UnsetRead, 0)),
         ],
-    )
-}
-
-#[test]
-fn frames_are_called_left_and_written(rt: HostRuntime) -> Result<(), Fail> {
-    ends_are(
-        &rt,
+    ),
+    // frames are called left and written
+    (
         "",
         &[
             (
@@ -87,7 +92,12 @@ fn frames_are_called_left_and_written(rt: HostRuntime) -> Result<(), Fail> {
                 Trap(UnsetRead, 1),
             ),
         ],
-    )
+    ),
+];
+
+#[test]
+fn runs(rt: HostRuntime) -> Result<(), Fail> {
+    all_end(&rt, &PARTS)
 }
 
 /// A program of 4,096 instructions.

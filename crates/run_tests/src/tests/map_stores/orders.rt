@@ -4,6 +4,7 @@ use super::answers::WRONG_SIZE;
 use isa_model::{MapDef, MapKind};
 use maps::{MapError, Maps};
 use std::alloc::Global;
+use std::process::Abort;
 use std::test::Fail;
 
 /// Hash maps with keys of some sizes, and an array, all with values of one byte.
@@ -98,37 +99,59 @@ fn key_of(size: usize, ends: (u8, u8)) -> [u8; 64] {
     key
 }
 
+/// Each key is put with its last byte as its value.
+fn put_all(rt: &impl Abort, maps: &mut Maps, map: usize, size: usize, keys: &[(u8, u8)]) {
+    for ends in keys {
+        let key = key_of(size, *ends);
+        assert_eq!(rt; put(maps, map, key.get(..size).unwrap_or(&[]), ends.1), 0);
+    }
+}
+
+/// The map's entries are these keys with their values, in this order.
+fn entries_are(rt: &impl Abort, maps: &mut Maps, map: usize, size: usize, keys: &[(u8, u8)]) {
+    for (k, ends) in keys.iter().enumerate() {
+        let wanted = (ends.1, key_of(size, *ends));
+        assert_eq!(rt; entry(maps, map, k), Some(wanted), "{map} {k}");
+    }
+    assert_eq!(rt; entry(maps, map, keys.len()), None, "{map}");
+}
+
+/// The bytes of the hash maps' keys.
+const SIZES: [usize; 4] = [1, 2, 64, 5];
+
 #[test]
 fn hash_maps_go_by_key_bytes(rt: HostRuntime) -> Result<(), Fail> {
     let mut maps = made(rt.alloc())?;
     for (map, (keys, ordered)) in KEYS.iter().enumerate() {
-        let size = usize::from(ROWS[map].key_size);
-        for ends in keys.iter() {
-            let key = key_of(size, *ends);
-            assert_eq!(rt; put(&mut maps, map, &key[..size], ends.1), 0);
-        }
-        for (k, ends) in ordered.iter().enumerate() {
-            let want = (ends.1, key_of(size, *ends));
-            assert_eq!(rt; entry(&mut maps, map, k), Some(want), "{map} {k}");
-        }
-        assert_eq!(rt; entry(&mut maps, map, ordered.len()), None, "{map}");
+        put_all(&rt, &mut maps, map, SIZES[map], *keys);
+        entries_are(&rt, &mut maps, map, SIZES[map], *ordered);
     }
     Ok(())
+}
+
+/// An index of the array, as a key.
+fn index_key(index: u16) -> [u8; 4] {
+    let [low, high] = index.to_le_bytes();
+    [low, high, 0, 0]
+}
+
+/// The entry of an index, whose value is its low byte.
+fn entry_of(index: u16) -> (u8, [u8; 64]) {
+    let mut key = [7; 64];
+    key[..4].copy_from_slice(&index_key(index));
+    (key[0], key)
 }
 
 #[test]
 fn arrays_go_by_index(rt: HostRuntime) -> Result<(), Fail> {
     let mut maps = made(rt.alloc())?;
     for index in 0..300u16 {
-        let [low, high] = index.to_le_bytes();
-        assert_eq!(rt; put(&mut maps, ARRAY, &[low, high, 0, 0], low), 0);
+        let key = index_key(index);
+        assert_eq!(rt; put(&mut maps, ARRAY, &key, key[0]), 0);
     }
     for index in 0..300u16 {
-        let [low, high] = index.to_le_bytes();
-        let mut key = [7; 64];
-        key[..4].copy_from_slice(&[low, high, 0, 0]);
-        let got = entry(&mut maps, ARRAY, usize::from(index));
-        assert_eq!(rt; got, Some((low, key)), "{index}");
+        let found = entry(&mut maps, ARRAY, usize::from(index));
+        assert_eq!(rt; found, Some(entry_of(index)), "{index}");
     }
     assert_eq!(rt; entry(&mut maps, ARRAY, 300), None);
     Ok(())

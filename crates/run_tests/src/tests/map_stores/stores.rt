@@ -1,87 +1,103 @@
 //! The stores, each by itself and next to others.
 
 use super::answers::{E2BIG, EEXIST, EINVAL, ENOENT, answer, value_of};
-use maps::{ArrayMap, HashMapChain, HashMapScan};
+use maps::{ArrayMap, HashMapChain, HashMapScan, MapStore};
+use std::alloc::Global;
+use std::process::Abort;
 use std::test::Fail;
+
+/// A key, the flags of an update or none of a delete, and the answer.
+type Command = (&'static [u8], Option<u64>, u64);
+
+/// The store answers the commands so, one after the other, where updates write this value.
+fn answers_so<S: MapStore>(rt: &impl Abort, store: &mut S, value: &[u8], rows: &[Command]) {
+    for (key, flags, wanted) in rows {
+        let found = answer(store, *key, value, *flags);
+        assert_eq!(rt; found, *wanted, "{key:?} {flags:?}");
+    }
+}
+
+const TEN: [Command; 10] = [
+    (&[1], None, ENOENT),
+    (&[1], Some(2), ENOENT),
+    (&[1], Some(0), 0),
+    (&[1], Some(1), EEXIST),
+    (&[2], Some(0), E2BIG),
+    (&[2], Some(2), ENOENT),
+    (&[2], Some(3), EINVAL),
+    (&[1], Some(2), 0),
+    (&[1], None, 0),
+    (&[2], Some(1), 0),
+];
 
 #[test]
 fn one_entry_takes_ten_commands(rt: HostRuntime) -> Result<(), Fail> {
     let mut chain = HashMapChain::new(rt.alloc(), 1, 1, 1)?;
+    answers_so(&rt, &mut chain, &[7], &TEN);
     let mut scan = HashMapScan::new(rt.alloc(), 1, 1, 1)?;
-    for (key, flags, want) in [
-        (1, None, ENOENT),
-        (1, Some(2), ENOENT),
-        (1, Some(0), 0),
-        (1, Some(1), EEXIST),
-        (2, Some(0), E2BIG),
-        (2, Some(2), ENOENT),
-        (2, Some(3), EINVAL),
-        (1, Some(2), 0),
-        (1, None, 0),
-        (2, Some(1), 0),
-    ] {
-        assert_eq!(rt;
-            answer(&mut chain, &[key], &[7], flags),
-            want,
-            "{key} {flags:?}"
-        );
-        assert_eq!(rt;
-            answer(&mut scan, &[key], &[7], flags),
-            want,
-            "{key} {flags:?}"
-        );
-    }
+    answers_so(&rt, &mut scan, &[7], &TEN);
     Ok(())
+}
+
+const OF_AN_ARRAY: [Command; 7] = [
+    (&[2, 0, 0, 0], Some(1), E2BIG),
+    (&[2, 0, 0, 0], Some(9), EINVAL),
+    (&[1, 0, 0, 0], Some(0), 0),
+    (&[1, 0, 0, 0], Some(1), EEXIST),
+    (&[1, 0, 0, 0], Some(2), 0),
+    (&[1, 0, 0, 0], Some(3), EINVAL),
+    (&[1, 0, 0, 0], None, EINVAL),
+];
+
+/// The value of an index, of 8 bytes.
+fn eight_of(array: &ArrayMap, index: u8) -> Option<[u8; 8]> {
+    match value_of(array, &[index, 0, 0, 0]) {
+        Some([a, b, c, d, e, f, g, h]) => Some([*a, *b, *c, *d, *e, *f, *g, *h]),
+        _ => None,
+    }
 }
 
 #[test]
 fn array_has_all_its_indexes(rt: HostRuntime) -> Result<(), Fail> {
     let mut array = ArrayMap::new(rt.alloc(), 8, 2)?;
-    assert_eq!(rt; value_of(&array, &[1, 0, 0, 0]), Some(&[0u8; 8][..]));
-    for (index, flags, want) in [
-        (2, Some(1), E2BIG),
-        (2, Some(9), EINVAL),
-        (1, Some(0), 0),
-        (1, Some(1), EEXIST),
-        (1, Some(2), 0),
-        (1, Some(3), EINVAL),
-        (1, None, EINVAL),
-    ] {
-        let key = [index, 0, 0, 0];
-        assert_eq!(rt;
-            answer(&mut array, &key, &[9; 8], flags),
-            want,
-            "{index} {flags:?}"
-        );
-    }
-    assert_eq!(rt; value_of(&array, &[0; 4]), Some(&[0u8; 8][..]));
-    assert_eq!(rt; value_of(&array, &[1, 0, 0, 0]), Some(&[9u8; 8][..]));
-    assert_eq!(rt; value_of(&array, &[2, 0, 0, 0]), None);
+    assert_eq!(rt; eight_of(&array, 1), Some([0; 8]));
+    answers_so(&rt, &mut array, &[9; 8], &OF_AN_ARRAY);
+    let values = [
+        eight_of(&array, 0),
+        eight_of(&array, 1),
+        eight_of(&array, 2),
+    ];
+    assert_eq!(rt; values, [Some([0; 8]), Some([9; 8]), None]);
     Ok(())
+}
+
+/// The answer where a number gets itself as its value.
+fn put(chain: &mut HashMapChain, number: u32) -> u64 {
+    let value = u64::from(number).to_le_bytes();
+    answer(chain, &number.to_be_bytes(), &value, Some(0))
+}
+
+/// Whether a number has that value, the answer to its delete, and whether it has no value then.
+fn deleted(chain: &mut HashMapChain, number: u32) -> (bool, u64, bool) {
+    let key = number.to_be_bytes();
+    let value = u64::from(number).to_le_bytes();
+    let is_there = value_of(chain, &key) == Some(value.as_slice());
+    let found = answer(chain, &key, &value, None);
+    (is_there, found, value_of(chain, &key).is_none())
 }
 
 #[test]
 fn full_map_takes_a_key_once_all_are_gone(rt: HostRuntime) -> Result<(), Fail> {
     let mut chain = HashMapChain::new(rt.alloc(), 4, 8, 65_536)?;
-    for n in 0..65_536u32 {
-        let value = u64::from(n).to_le_bytes();
-        assert_eq!(rt;
-            answer(&mut chain, &n.to_be_bytes(), &value, Some(0)),
-            0,
-            "{n}"
-        );
+    for number in 0..65_536u32 {
+        assert_eq!(rt; put(&mut chain, number), 0, "{number}");
     }
-    let late = 65_536u32.to_be_bytes();
-    assert_eq!(rt; answer(&mut chain, &late, &[1; 8], Some(0)), E2BIG);
-    for n in 0..65_536u32 {
-        let value = u64::from(n).to_le_bytes();
-        let key = n.to_be_bytes();
-        assert_eq!(rt; value_of(&chain, &key), Some(&value[..]), "{n}");
-        assert_eq!(rt; answer(&mut chain, &key, &value, None), 0, "{n}");
-        assert_eq!(rt; value_of(&chain, &key), None, "{n}");
+    assert_eq!(rt; put(&mut chain, 65_536), E2BIG);
+    for number in 0..65_536u32 {
+        assert_eq!(rt; deleted(&mut chain, number), (true, 0, true), "{number}");
     }
-    assert_eq!(rt; answer(&mut chain, &late, &[1; 8], Some(0)), 0);
-    assert_eq!(rt; value_of(&chain, &late), Some(&[1u8; 8][..]));
+    let late = (put(&mut chain, 65_536), deleted(&mut chain, 65_536));
+    assert_eq!(rt; late, (0, (true, 0, true)));
     Ok(())
 }
 
@@ -92,6 +108,26 @@ fn next(number: u64) -> u64 {
         .wrapping_add(1_442_695_040_888_963_407)
 }
 
+/// The answer to an update with these flags, or to a delete, and the value of 4 bytes then.
+fn done<S: MapStore>(
+    store: &mut S,
+    key: &[u8],
+    turn: u32,
+    flags: Option<u64>,
+) -> (u64, Option<[u8; 4]>) {
+    let found = answer(store, key, &turn.to_le_bytes(), flags);
+    match value_of(store, key) {
+        Some([a, b, c, d]) => (found, Some([*a, *b, *c, *d])),
+        _ => (found, None),
+    }
+}
+
+/// The flags that a number of the list asks for.
+fn flags_of(number: u64) -> Option<u64> {
+    let part = number >> 40 & 7;
+    if part < 5 { Some(part & 3) } else { None }
+}
+
 #[test]
 fn stores_agree_over_a_long_list(rt: HostRuntime) -> Result<(), Fail> {
     let mut chain = HashMapChain::new(rt.alloc(), 2, 4, 40)?;
@@ -100,36 +136,35 @@ fn stores_agree_over_a_long_list(rt: HostRuntime) -> Result<(), Fail> {
     for turn in 0..20_000u32 {
         number = next(number);
         let key = [(number >> 58) as u8, 5];
-        let flags = match number >> 40 & 7 {
-            flags @ 0..=3 => Some(flags),
-            4 => Some(0),
-            _ => None,
-        };
-        let value = turn.to_le_bytes();
-        let want = answer(&mut scan, &key, &value, flags);
-        assert_eq!(rt; answer(&mut chain, &key, &value, flags), want, "{turn}");
-        assert_eq!(rt; value_of(&chain, &key), value_of(&scan, &key), "{turn}");
+        let flags = flags_of(number);
+        let wanted = done(&mut scan, &key, turn, flags);
+        assert_eq!(rt; done(&mut chain, &key, turn, flags), wanted, "{turn}");
     }
     Ok(())
 }
 
+/// A map that has the keys 0 to 39.
+fn full_chain(alloc: Global) -> Result<Option<HashMapChain>, Fail> {
+    let mut chain = HashMapChain::new(alloc, 4, 4, 40)?;
+    for index in 0..40u32 {
+        if answer(&mut chain, &index.to_le_bytes(), &[0; 4], Some(1)) != 0 {
+            return Ok(None);
+        }
+    }
+    Ok(Some(chain))
+}
+
 #[test]
 fn array_agrees_with_a_full_hash_map(rt: HostRuntime) -> Result<(), Fail> {
+    let mut chain = full_chain(rt.alloc())?.ok_or("a key is refused")?;
     let mut array = ArrayMap::new(rt.alloc(), 4, 40)?;
-    let mut chain = HashMapChain::new(rt.alloc(), 4, 4, 40)?;
-    for index in 0..40u32 {
-        let key = index.to_le_bytes();
-        assert_eq!(rt; answer(&mut chain, &key, &[0; 4], Some(1)), 0, "{index}");
-    }
     let mut number = 1;
     for turn in 0..2_000u32 {
         number = next(number);
         let key = [(number >> 58) as u8, 0, 0, 0];
-        let flags = Some(if number >> 40 & 1 == 0 { 0 } else { 1 });
-        let value = turn.to_le_bytes();
-        let want = answer(&mut chain, &key, &value, flags);
-        assert_eq!(rt; answer(&mut array, &key, &value, flags), want, "{turn}");
-        assert_eq!(rt; value_of(&array, &key), value_of(&chain, &key), "{turn}");
+        let flags = Some(number >> 40 & 1);
+        let wanted = done(&mut chain, &key, turn, flags);
+        assert_eq!(rt; done(&mut array, &key, turn, flags), wanted, "{turn}");
     }
     Ok(())
 }

@@ -1,30 +1,45 @@
 //! Writers whose first bytes go through at once.
 
 use exact_io::{PromptWriter, write_bytes};
-use failing_io::{FAILURES, Writer};
+use failing_io::{FAILURES, Failure, Writer};
+use std::alloc::Global;
 use std::io::Write;
 use std::test::Fail;
 
 const TEXT: &[u8; 7] = b"letters";
+
+/// What is written of the text, with a flush or without one.
+fn taken_of(alloc: Global, step: usize, is_flushed: bool) -> Result<Vec<u8>, Fail> {
+    let mut writer = Writer::new(alloc, step, 0, None);
+    let mut prompt = PromptWriter::new(alloc, 16, 3, &mut writer)?;
+    write_bytes(&mut prompt, TEXT)?;
+    if is_flushed {
+        prompt.flush()?;
+    }
+    drop(prompt);
+    Ok(writer.taken)
+}
 
 /// Three bytes go through at once, also in pieces; the others wait for a flush, and are not written
 /// without one.
 #[test]
 fn waits(rt: HostRuntime) -> Result<(), Fail> {
     for step in [1, 2, 3, 7usize] {
-        for is_flushed in [false, true] {
-            let mut writer = Writer::new(rt.alloc(), step, 0, None);
-            let mut prompt = PromptWriter::new(rt.alloc(), 16, 3, &mut writer)?;
-            write_bytes(&mut prompt, TEXT)?;
-            if is_flushed {
-                prompt.flush()?;
-            }
-            drop(prompt);
-            let count = if is_flushed { 7 } else { 3 };
-            assert_eq!(rt; writer.taken.as_slice(), &TEXT[..count]);
+        for (is_flushed, count) in [(false, 3usize), (true, 7)] {
+            let taken = taken_of(rt.alloc(), step, is_flushed)?;
+            assert_eq!(rt; Some(taken.as_slice()), TEXT.get(..count));
         }
     }
     Ok(())
+}
+
+/// Whether the text is written to a writer that fails after some bytes, and what that took.
+fn written_to(alloc: Global, room: usize, failing: Failure) -> Result<(bool, Vec<u8>), Fail> {
+    let mut writer = Writer::new(alloc, 7, room, Some(failing));
+    let mut prompt = PromptWriter::new(alloc, 16, 3, &mut writer)?;
+    let is_written = write_bytes(&mut prompt, TEXT).is_ok();
+    drop(prompt);
+    Ok((is_written, writer.taken))
 }
 
 /// A writer that fails at once is found by the first write, and one that fails later by the flush;
@@ -32,13 +47,13 @@ fn waits(rt: HostRuntime) -> Result<(), Fail> {
 #[test]
 fn fails(rt: HostRuntime) -> Result<(), Fail> {
     for room in 0..7usize {
-        for failing in FAILURES {
-            let mut writer = Writer::new(rt.alloc(), 7, room, Some(failing));
-            let mut prompt = PromptWriter::new(rt.alloc(), 16, 3, &mut writer)?;
-            let written = write_bytes(&mut prompt, TEXT);
-            assert_eq!(rt; written.is_ok(), room >= 3, "after {room}");
-            drop(prompt);
-            assert_eq!(rt; writer.taken.as_slice(), &TEXT[..room.min(3)]);
+        for failing in FAILURES.iter() {
+            let (is_written, taken) = written_to(rt.alloc(), room, *failing)?;
+            assert_eq!(rt;
+                (is_written, Some(taken.as_slice())),
+                (room >= 3, TEXT.get(..room.min(3))),
+                "after {room}"
+            );
         }
     }
     Ok(())

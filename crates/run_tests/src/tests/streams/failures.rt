@@ -1,70 +1,191 @@
-//! Runs of an accepted program into outputs that fail after each of their bytes.
+//! Runs into outputs that fail after each of their bytes.
 
-use super::streams::{MAGIC, make_writer};
-use crate::tests::programs::image_of;
-use explorer::verify;
+use super::cases::{Case, ENDLESS, MAGIC, ONE, PASSES, TWO, TWO_WITH_REASONS, ends_so};
 use failing_io::{FAILURES, Failure};
-use host::{HostError, run};
+use host::{HostError, Tally};
 use std::process::Abort;
 use std::test::Fail;
 
-// The magic and an empty record.
-const ONE: &[u8] = b"XPF1\0\0\0\0\0\0\0\0\0\0\0\0\0\0\0\0\0\0\0\0";
-
-const LINES: &[u8] = b"0 PASS 0 2\nend 1\n";
-
-// How much the report and the frames out take and how they fail, which of them is reported to have
-// failed, and what both have.
-#[derive(Drop)]
-struct Case<'a> {
-    report: (usize, Option<Failure>),
-    out: (usize, Option<Failure>),
-    error: HostError,
-    lines: &'a [u8],
-    sent: &'a [u8],
+// A run of which one output fails.
+struct Whole {
+    text: &'static str,
+    limit: Option<u32>,
+    given: &'static [u8],
+    frames: u32,
+    lines: &'static [u8],
+    sent: &'static [u8],
+    // from which byte of the report on how many bytes of the frames out come before it
+    sent_before: &'static [(usize, usize)],
+    // and the other way round
+    lines_before: &'static [(usize, usize)],
 }
 
-fn fails_so(rt: &(impl AllocGlobal + Abort), case: &Case<'_>) -> Result<(), Fail> {
-    let alloc = rt.alloc();
-    let program = verify(alloc, image_of(alloc, "r0 = 2; exit")?)?;
-    let mut report = make_writer(alloc, case.report.0, case.report.1);
-    let mut out = make_writer(alloc, case.out.0, case.out.1);
-    let answer = run(alloc, program, ONE, &mut report, &mut out);
-    assert_eq!(rt; answer, Err(case.error));
-    assert_eq!(rt; report.taken.as_slice(), case.lines);
-    assert_eq!(rt; out.taken.as_slice(), case.sent);
-    Ok(())
-}
+// Counts frames, adds the keys 254 and 16, and traps.
+const COUNTS: &str = "
+    map hash 1 2 3; map array 4 8 1
+    r1 = map_val(map_by_idx(1)) + 0; r2 = 1; lock *(u64 *)(r1 + 0) += r2
+    *(u16 *)(r10 - 4) = 513
+    *(u8 *)(r10 - 1) = 254; r2 = r10; r2 += -1; r3 = r10; r3 += -4; call put
+    *(u8 *)(r10 - 1) = 16; r2 = r10; r2 += -1; r3 = r10; r3 += -4; call put
+    r0 = *(u8 *)(r10 + 0); exit
+    put: r1 = map_by_idx(0); r4 = 0; call 2; exit";
 
-#[test]
-fn accepted_report_fails(rt: HostRuntime) -> Result<(), Fail> {
-    for failing in FAILURES.iter() {
-        for room in 0..17usize {
-            let case = Case {
-                report: (room, Some(*failing)),
-                out: (0, None),
-                error: HostError::Report,
-                lines: &LINES[..room],
-                sent: if room < 11 { MAGIC } else { ONE },
-            };
-            fails_so(&rt, &case)?;
+// What two frames leave: a trap takes nothing back, and the second frame finds what the first left.
+// The entries come after the frames, in the order of their keys.
+const COUNTED: &[u8] = b"0 TRAP access 0 24\n1 TRAP access 0 24\nmap 0 10 0102\nmap 0 fe 0102\n\
+map 1 00000000 0200000000000000\nend 2\n";
+
+const ONE_LINE: &[u8] = b"0 PASS 0 2\nend 1\n";
+
+const SENT_BEFORE_ONE: &[(usize, usize)] = &[(0, 4), (11, 24)];
+
+const LINES_BEFORE_ONE: &[(usize, usize)] = &[(0, 0), (4, 11), (24, 17)];
+
+const WHOLES: [Whole; 5] = [
+    Whole {
+        text: PASSES,
+        limit: Some(100),
+        given: ONE,
+        frames: 1,
+        lines: ONE_LINE,
+        sent: ONE,
+        sent_before: SENT_BEFORE_ONE,
+        lines_before: LINES_BEFORE_ONE,
+    },
+    Whole {
+        text: PASSES,
+        limit: None,
+        given: ONE,
+        frames: 1,
+        lines: ONE_LINE,
+        sent: ONE,
+        sent_before: SENT_BEFORE_ONE,
+        lines_before: LINES_BEFORE_ONE,
+    },
+    Whole {
+        text: PASSES,
+        limit: None,
+        given: TWO,
+        frames: 2,
+        lines: b"0 PASS 0 2\n1 PASS 0 2\nend 2\n",
+        sent: TWO,
+        sent_before: &[(0, 4), (11, 24), (22, 44)],
+        lines_before: &[(0, 0), (4, 11), (24, 22), (44, 28)],
+    },
+    Whole {
+        text: PASSES,
+        limit: Some(100),
+        given: TWO_WITH_REASONS,
+        frames: 2,
+        lines: b"0 PASS 0 2 0\n1 PASS 0 2 0\nend 2\n",
+        sent: TWO_WITH_REASONS,
+        sent_before: &[(0, 4), (13, 28), (26, 52)],
+        lines_before: &[(0, 0), (4, 13), (28, 26), (52, 32)],
+    },
+    // a report that fails among the entries is a beginning
+    Whole {
+        text: COUNTS,
+        limit: Some(100),
+        given: TWO,
+        frames: 2,
+        lines: COUNTED,
+        sent: MAGIC,
+        sent_before: &[(0, 4)],
+        lines_before: &[(0, 0), (4, 104)],
+    },
+];
+
+// The second number of the last row whose first one is not past the place.
+fn count_at(rows: &[(usize, usize)], place: usize) -> usize {
+    let mut count = 0;
+    for (from, there) in rows {
+        if *from <= place {
+            count = *there;
         }
+    }
+    count
+}
+
+fn front(bytes: &'static [u8], count: usize) -> &'static [u8] {
+    bytes.get(..count).unwrap_or(bytes)
+}
+
+// The answer where an output that is to have some bytes fails after some of them.
+fn answer_of(
+    whole: &Whole,
+    room: usize,
+    size: usize,
+    error: HostError,
+) -> Result<Tally, HostError> {
+    if room < size {
+        return Err(error);
+    }
+    Ok(Tally {
+        frames: whole.frames,
+        fault: None,
+    })
+}
+
+fn report_fails(
+    rt: &(impl AllocGlobal + Abort),
+    whole: &Whole,
+    failing: Failure,
+    room: usize,
+) -> Result<(), Fail> {
+    let case = Case {
+        text: whole.text,
+        limit: whole.limit,
+        given: whole.given,
+        is_broken: false,
+        report: (room, Some(failing)),
+        out: ENDLESS,
+        answer: answer_of(whole, room, whole.lines.len(), HostError::Report),
+        lines: front(whole.lines, room),
+        sent: front(whole.sent, count_at(whole.sent_before, room)),
+    };
+    ends_so(rt, &case)
+}
+
+fn frames_fail(
+    rt: &(impl AllocGlobal + Abort),
+    whole: &Whole,
+    failing: Failure,
+    room: usize,
+) -> Result<(), Fail> {
+    let case = Case {
+        text: whole.text,
+        limit: whole.limit,
+        given: whole.given,
+        is_broken: false,
+        report: ENDLESS,
+        out: (room, Some(failing)),
+        answer: answer_of(whole, room, whole.sent.len(), HostError::Frames),
+        lines: front(whole.lines, count_at(whole.lines_before, room)),
+        sent: front(whole.sent, room),
+    };
+    ends_so(rt, &case)
+}
+
+fn outputs_fail(
+    rt: &(impl AllocGlobal + Abort),
+    whole: &Whole,
+    failing: Failure,
+) -> Result<(), Fail> {
+    for room in 0..=whole.lines.len() {
+        report_fails(rt, whole, failing, room)?;
+    }
+    for room in 0..=whole.sent.len() {
+        frames_fail(rt, whole, failing, room)?;
     }
     Ok(())
 }
 
+// Also where they do not, since they have room for all.
 #[test]
-fn accepted_frames_fail(rt: HostRuntime) -> Result<(), Fail> {
-    for failing in FAILURES.iter() {
-        for room in 0..24usize {
-            let case = Case {
-                report: (0, None),
-                out: (room, Some(*failing)),
-                error: HostError::Frames,
-                lines: if room < 4 { b"" } else { b"0 PASS 0 2\n" },
-                sent: &ONE[..room],
-            };
-            fails_so(&rt, &case)?;
+fn outputs_that_fail(rt: HostRuntime) -> Result<(), Fail> {
+    for whole in WHOLES.iter() {
+        for failing in FAILURES.iter() {
+            outputs_fail(&rt, whole, *failing)?;
         }
     }
     Ok(())

@@ -4,7 +4,7 @@ use failing_io::{FAILURES, Failure, Reader, Writer};
 use frames::{FrameReader, Next, write_frame};
 use isa_model::{Fault, FrameHead};
 use std::alloc::Global;
-use std::io::{ErrorKind, Read};
+use std::io::ErrorKind;
 use std::process::Abort;
 use std::test::Fail;
 
@@ -21,14 +21,14 @@ const HEAD: FrameHead = FrameHead {
 };
 
 // The head's three numbers.
-const HEAD_BYTES: [u8; 16] = [1, 2, 3, 4, 5, 6, 7, 8, 9, 10, 11, 12, 13, 14, 15, 16];
+const HEAD_BYTES: &[u8] = &[1, 2, 3, 4, 5, 6, 7, 8, 9, 10, 11, 12, 13, 14, 15, 16];
 
 // The magic, and a record of five bytes.
 const RECORD: [u8; 29] =
     *b"XPF1\x01\x02\x03\x04\x05\x06\x07\x08\x09\x0a\x0b\x0c\x0d\x0e\x0f\x10\x05\0\0\0hello";
 
 // How many records come before the stop, the stop, and the answer of the call after it.
-fn stop_of<R: Read + Drop>(source: R) -> (u32, Next, Next) {
+fn stop_of(source: Reader<'_>) -> (u32, Next, Next) {
     let mut reader = FrameReader::new(source);
     let mut buffer = [0; 9216];
     for count in 0..3u32 {
@@ -40,61 +40,87 @@ fn stop_of<R: Read + Drop>(source: R) -> (u32, Next, Next) {
     (3, Next::End, Next::End)
 }
 
-// A reader of some bytes that fails after some of them.
-fn reader(left: &[u8], step: usize, room: usize, failing: Option<Failure>) -> Reader<'_> {
-    Reader {
-        left,
-        step,
-        room,
-        failing,
-    }
-}
-
 // How many bytes move at a call.
 const STEPS: [usize; 4] = [1, 2, 3, 7];
 
-// How many of the two records are read where the stream is cut, and how it stops.
-fn stop_of_cut(length: usize) -> (u32, Next) {
-    match length {
-        0..4 => (0, Next::Fault(Fault::BadMagic, 0)),
-        4 => (0, Next::End),
-        24 => (1, Next::End),
-        44 => (2, Next::End),
-        5..24 => (0, Next::Fault(Fault::TruncatedHead, 4)),
-        _ => (1, Next::Fault(Fault::TruncatedHead, 24)),
+// From which length or room on: how many records are read, and how the stream stops.
+type Stop = (usize, u32, Next);
+
+// The last of the stops that is not past the place.
+fn stop_at(stops: &[Stop], place: usize) -> (u32, Next) {
+    let mut found = (3, Next::End);
+    for (from, count, stop) in stops {
+        if *from <= place {
+            found = (*count, *stop);
+        }
+    }
+    found
+}
+
+// The bytes stop so at each size of the steps.
+fn stops_so(
+    rt: &impl Abort,
+    left: &[u8],
+    room: usize,
+    failing: Option<Failure>,
+    (count, stop): (u32, Next),
+) {
+    for step in STEPS.iter() {
+        let source = Reader {
+            left,
+            step: *step,
+            room,
+            failing,
+        };
+        assert_eq!(rt; stop_of(source), (count, stop, stop), "{room} bytes");
     }
 }
 
+const CUT_HEAD: Fault = Fault::TruncatedHead;
+
+#[rattlefmt::skip]
+const CUT: [Stop; 6] = [
+    (0, 0, Next::Fault(Fault::BadMagic, 0)),
+    (4, 0, Next::End),
+    (5, 0, Next::Fault(CUT_HEAD, 4)),
+    (24, 1, Next::End),
+    (25, 1, Next::Fault(CUT_HEAD, 24)),
+    (44, 2, Next::End),
+];
+
+const CUT_BODY: [Stop; 1] = [(24, 0, Next::Fault(Fault::TruncatedBody, 4))];
+
+// Streams, from which length on they are cut and before which, and how they stop.
+const FRONTS: [(&[u8], usize, usize, &[Stop]); 2] = [
+    (&TWO, 0, 45, &CUT),
+    (&RECORD, 24, 29, &CUT_BODY),
+];
+
 #[test]
 fn cut(rt: HostRuntime) {
-    for step in STEPS.iter() {
-        for length in 0..45usize {
-            let (count, stop) = stop_of_cut(length);
-            let source = reader(&TWO[..length], *step, 0, None);
-            assert_eq!(rt; stop_of(source), (count, stop, stop), "{length} bytes");
+    for (stream, from, to, stops) in FRONTS.iter() {
+        for length in *from..*to {
+            let front = stream.get(..length).unwrap_or(*stream);
+            stops_so(&rt, front, length, None, stop_at(*stops, length));
         }
     }
 }
 
-#[test]
-fn cut_bodies(rt: HostRuntime) {
-    let stop = Next::Fault(Fault::TruncatedBody, 4);
-    for length in 24..29usize {
-        let found = stop_of(&RECORD[..length]);
-        assert_eq!(rt; found, (0, stop, stop), "{length} bytes");
-    }
-}
+#[rattlefmt::skip]
+const BROKEN: [Stop; 4] = [
+    (0, 0, Next::Fault(Fault::ReadFailed, 0)),
+    (4, 0, Next::Fault(Fault::ReadFailed, 4)),
+    (24, 1, Next::Fault(Fault::ReadFailed, 24)),
+    (44, 2, Next::Fault(Fault::ReadFailed, 44)),
+];
 
-// How many of the two records are read before a read fails, and where the next one begins.
-fn stop_of_failure(length: usize) -> (u32, Next) {
-    let (count, offset) = match length {
-        0..4 => (0, 0),
-        4..24 => (0, 4),
-        24..44 => (1, 24),
-        _ => (2, 44),
-    };
-    (count, Next::Fault(Fault::ReadFailed, offset))
-}
+const BROKEN_BODY: [Stop; 1] = [(24, 0, Next::Fault(Fault::ReadFailed, 4))];
+
+// Streams, after which bytes a read fails, and how they stop.
+const FAILING: [(&[u8], usize, usize, &[Stop]); 2] = [
+    (&TWO, 0, 45, &BROKEN),
+    (&RECORD, 24, 29, &BROKEN_BODY),
+];
 
 // The failures that are errors.
 const ERRORS: [Failure; 2] = [
@@ -104,25 +130,10 @@ const ERRORS: [Failure; 2] = [
 
 #[test]
 fn broken(rt: HostRuntime) {
-    for error in ERRORS.iter() {
-        for step in STEPS.iter() {
-            for room in 0..45usize {
-                let (count, stop) = stop_of_failure(room);
-                let source = reader(&TWO, *step, room, Some(*error));
-                assert_eq!(rt; stop_of(source), (count, stop, stop), "{room} bytes");
-            }
-        }
-    }
-}
-
-#[test]
-fn broken_bodies(rt: HostRuntime) {
-    let stop = Next::Fault(Fault::ReadFailed, 4);
-    for error in ERRORS.iter() {
-        for step in STEPS.iter() {
-            for room in 24..29usize {
-                let source = reader(&RECORD, *step, room, Some(*error));
-                assert_eq!(rt; stop_of(source), (0, stop, stop), "{room} bytes");
+    for (stream, from, to, stops) in FAILING.iter() {
+        for room in *from..*to {
+            for error in ERRORS.iter() {
+                stops_so(&rt, *stream, room, Some(*error), stop_at(*stops, room));
             }
         }
     }
@@ -155,9 +166,7 @@ fn with_bytes(changes: &[(usize, u8)]) -> [u8; 44] {
 #[test]
 fn damaged(rt: HostRuntime) {
     for (changes, count, stop) in DAMAGED.iter() {
-        let bytes = with_bytes(*changes);
-        let found = stop_of(bytes.as_slice());
-        assert_eq!(rt; found, (*count, *stop, *stop), "{changes:?}");
+        stops_so(&rt, &with_bytes(*changes), 0, None, (*count, *stop));
     }
 }
 
@@ -185,36 +194,49 @@ fn full_body() -> [u8; 4096] {
     body
 }
 
+// The lengths of the two.
+const FULL: &[u8] = &[0, 16, 0, 0];
+
+const EMPTY: &[u8] = &[0, 0, 0, 0];
+
+// The same two, byte by byte.
+fn wanted_bytes(alloc: Global, body: &[u8]) -> Result<Vec<u8>, Fail> {
+    let mut bytes = b"XPF1".to_vec(alloc)?;
+    for part in [HEAD_BYTES, FULL, body, HEAD_BYTES, EMPTY] {
+        bytes.extend_from_slice(part)?;
+    }
+    Ok(bytes)
+}
+
 #[test]
 fn writes_records(rt: HostRuntime) -> Result<(), Fail> {
     let body = full_body();
     let bytes = full_and_empty(rt.alloc(), &body)?;
-    let mut wanted = b"XPF1".to_vec(rt.alloc())?;
-    wanted.extend_from_slice(&HEAD_BYTES)?;
-    wanted.extend_from_slice(&[0, 16, 0, 0])?;
-    wanted.extend_from_slice(&body)?;
-    wanted.extend_from_slice(&HEAD_BYTES)?;
-    wanted.extend_from_slice(&[0, 0, 0, 0])?;
+    let wanted = wanted_bytes(rt.alloc(), &body)?;
     assert_eq!(rt; bytes.as_slice(), wanted.as_slice());
     Ok(())
 }
 
-fn next_of<R: Read + Drop>(reader: &mut FrameReader<R>, buffer: &mut [u8; 9216]) -> Next {
-    reader.next(buffer)
+// Every record of a stream, and what the buffer holds after the first.
+fn next_are(rt: &impl Abort, bytes: &[u8], wanted: &[Next], body: &[u8]) {
+    let mut source = FrameReader::new(bytes);
+    let mut buffer = [0; 9216];
+    for (index, next) in wanted.iter().enumerate() {
+        let found = source.next(&mut buffer);
+        assert_eq!(rt; found, *next, "record {index}");
+        if index == 0 {
+            assert_eq!(rt; buffer.get(..body.len()), Some(body));
+        }
+    }
 }
 
 #[test]
 fn reads_records(rt: HostRuntime) -> Result<(), Fail> {
     let body = full_body();
     let bytes = full_and_empty(rt.alloc(), &body)?;
-    let mut source = FrameReader::new(reader(&bytes, 7, 0, None));
-    let mut buffer = [0; 9216];
-    let first = next_of(&mut source, &mut buffer);
-    assert_eq!(rt; first, Next::Frame(HEAD, 4096, 0));
-    assert_eq!(rt; buffer.get(..4096), Some(body.as_slice()));
-    for wanted in [Next::Frame(HEAD, 0, 0), Next::End, Next::End] {
-        assert_eq!(rt; next_of(&mut source, &mut buffer), wanted);
-    }
+    let first = Next::Frame(HEAD, 4096, 0);
+    let wanted = [first, Next::Frame(HEAD, 0, 0), Next::End, Next::End];
+    next_are(&rt, &bytes, &wanted, &body);
     Ok(())
 }
 
@@ -229,18 +251,22 @@ fn many(alloc: Global) -> Result<Vec<u8>, Fail> {
     Ok(bytes)
 }
 
+// They, and the fault after them.
+fn many_wanted(alloc: Global) -> Result<Vec<Next>, Fail> {
+    let mut wanted = Vec::new(alloc);
+    for time in 0..300u64 {
+        let head = FrameHead { time, ..HEAD };
+        wanted.push(Next::Frame(head, time as usize % 6, 0))?;
+    }
+    wanted.push(Next::Fault(CUT_HEAD, 4 + 300 * 20 + 750))?;
+    Ok(wanted)
+}
+
 #[test]
 fn many_records(rt: HostRuntime) -> Result<(), Fail> {
     let bytes = many(rt.alloc())?;
-    let mut source = FrameReader::new(bytes.as_slice());
-    let mut buffer = [0; 9216];
-    for time in 0..300u64 {
-        let head = FrameHead { time, ..HEAD };
-        let wanted = Next::Frame(head, time as usize % 6, 0);
-        assert_eq!(rt; next_of(&mut source, &mut buffer), wanted, "record {time}");
-    }
-    let stop = Next::Fault(Fault::TruncatedHead, 4 + 300 * 20 + 750);
-    assert_eq!(rt; next_of(&mut source, &mut buffer), stop);
+    let wanted = many_wanted(rt.alloc())?;
+    next_are(&rt, &bytes, &wanted, &[]);
     Ok(())
 }
 
@@ -252,17 +278,21 @@ fn failure_of_writing(writer: &mut Writer) -> Option<ErrorKind> {
     }
 }
 
+// How a failure is told, if the record is longer than that many bytes.
+fn told(room: usize, failing: Failure) -> Option<ErrorKind> {
+    match failing {
+        _ if room >= 25 => None,
+        Failure::Error(kind) => Some(kind),
+        Failure::Nothing => Some(ErrorKind::WriteZero),
+    }
+}
+
 fn fails_in_writing(rt: &(impl AllocGlobal + Abort), step: usize, room: usize, failing: Failure) {
-    let told = match failing {
-        Failure::Error(kind) => kind,
-        Failure::Nothing => ErrorKind::WriteZero,
-    };
-    let wanted = if room < 25 { Some(told) } else { None };
     let mut writer = Writer::new(rt.alloc(), step, room, Some(failing));
-    assert_eq!(rt; failure_of_writing(&mut writer), wanted, "{room} bytes");
+    let failure = failure_of_writing(&mut writer);
     assert_eq!(rt;
-        Some(writer.taken.as_slice()),
-        RECORD[4..].get(..room),
+        (failure, Some(writer.taken.as_slice())),
+        (told(room, failing), RECORD[4..].get(..room)),
         "{room} bytes"
     );
 }
@@ -323,23 +353,25 @@ const BEGUN: [(&[u8], Begun, Next, Begun); 7] = [
     ),
 ];
 
-// The magic is read once, whether `begin` or `next` comes first.
-fn begins_so(rt: &impl Abort, row: &(&[u8], Begun, Next, Begun), times: u32) {
-    let (given, begun, next, after) = *row;
+// What the calls answer: begin that many times, next, and begin twice more.
+fn calls_of(given: &[u8], times: u32) -> (Begun, Next, Begun, Begun) {
     let mut reader = FrameReader::new(given);
     let mut buffer = [0; 9216];
+    let mut begun = Ok(0);
     for _ in 0..times {
-        assert_eq!(rt; reader.begin(), begun);
+        begun = reader.begin();
     }
-    assert_eq!(rt; reader.next(&mut buffer), next);
-    assert_eq!(rt; (reader.begin(), reader.begin()), (after, after));
+    let next = reader.next(&mut buffer);
+    (begun, next, reader.begin(), reader.begin())
 }
 
+// The magic is read once, whether `begin` or `next` comes first.
 #[test]
 fn magic_is_read_once(rt: HostRuntime) {
-    for row in BEGUN.iter() {
+    for (given, first, next, after) in BEGUN.iter() {
         for times in 0..3u32 {
-            begins_so(&rt, row, times);
+            let first = if times == 0 { Ok(0) } else { *first };
+            assert_eq!(rt; calls_of(*given, times), (first, *next, *after, *after));
         }
     }
 }

@@ -18,24 +18,23 @@ fn failure_of_writing(writer: &mut Writer, bytes: &[u8]) -> Option<ErrorKind> {
     }
 }
 
-/// How a failure after some of the bytes is reported.
-fn told(failing: Failure) -> ErrorKind {
+/// How a failure after that many bytes is reported, if there are more.
+fn told(room: usize, failing: Failure) -> Option<ErrorKind> {
     match failing {
-        Failure::Error(kind) => kind,
-        Failure::Nothing => ErrorKind::WriteZero,
+        _ if room >= 7 => None,
+        Failure::Error(kind) => Some(kind),
+        Failure::Nothing => Some(ErrorKind::WriteZero),
     }
 }
 
 fn fails_in_writing(rt: &(impl AllocGlobal + Abort), step: usize, room: usize, failing: Failure) {
     let mut writer = Writer::new(rt.alloc(), step, room, Some(failing));
     let failure = failure_of_writing(&mut writer, TEXT);
-    let wanted = if room < TEXT.len() {
-        Some(told(failing))
-    } else {
-        None
-    };
-    assert_eq!(rt; failure, wanted, "at {room}");
-    assert_eq!(rt; Some(writer.taken.as_slice()), TEXT.get(..room));
+    assert_eq!(rt;
+        (failure, Some(writer.taken.as_slice())),
+        (told(room, failing), TEXT.get(..room)),
+        "at {room}"
+    );
 }
 
 #[test]
@@ -66,9 +65,11 @@ fn fails_in_filling(rt: &impl Abort, step: usize, room: usize, failing: Failure)
         (_, Failure::Error(_)) => Filled::Failed(room),
         (_, Failure::Nothing) => Filled::Ended(room),
     };
-    assert_eq!(rt; filled(&mut reader, &mut buffer), wanted);
-    assert_eq!(rt; buffer.get(..room), TEXT.get(..room));
-    assert_eq!(rt; Some(reader.left), TEXT.get(room..));
+    let found = filled(&mut reader, &mut buffer);
+    assert_eq!(rt;
+        (found, buffer.get(..room), Some(reader.left)),
+        (wanted, TEXT.get(..room), TEXT.get(room..))
+    );
 }
 
 #[test]
@@ -92,15 +93,21 @@ fn is_written_to_none(bytes: &[u8]) -> bool {
     write_bytes(&mut writer, bytes).is_ok()
 }
 
+/// What filling a buffer from a slice answers, and how many bytes are left.
+fn filled_from(bytes: &[u8], buffer: &mut [u8]) -> (Filled, usize) {
+    let mut left = bytes;
+    let found = filled_of_slice(&mut left, buffer);
+    (found, left.len())
+}
+
 #[test]
 fn empty(rt: HostRuntime) {
-    let mut source = TEXT.as_slice();
-    assert_eq!(rt; filled_of_slice(&mut source, &mut []), Filled::Whole);
-    assert_eq!(rt; source.len(), 7);
-    let mut none: &[u8] = &[];
-    assert_eq!(rt; filled_of_slice(&mut none, &mut [0; 5]), Filled::Ended(0));
-    assert_eq!(rt;
-        (is_written_to_none(b""), is_written_to_none(b"x")),
-        (true, false)
+    let found = (
+        filled_from(TEXT, &mut []),
+        filled_from(b"", &mut [0; 5]),
+        is_written_to_none(b""),
+        is_written_to_none(b"x"),
     );
+    let wanted = ((Filled::Whole, 7), (Filled::Ended(0), 0), true, false);
+    assert_eq!(rt; found, wanted);
 }

@@ -1,0 +1,140 @@
+//! Runs of small programs on streams, and what they answer and write.
+
+use crate::tests::programs::image_of;
+use explorer::verify;
+use failing_io::{Failure, Reader, Writer};
+use host::{HostError, Tally, run, run_checked, tally_in};
+use image::Image;
+use isa_model::Fault;
+use std::alloc::Global;
+use std::io::ErrorKind;
+use std::process::Abort;
+use std::test::Fail;
+
+/// Passes each frame.
+pub const PASSES: &str = "r0 = 2; exit";
+
+/// The magic and two empty records.
+pub const TWO: &[u8] = b"XPF1\
+    \0\0\0\0\0\0\0\0\0\0\0\0\0\0\0\0\0\0\0\0\
+    \0\0\0\0\0\0\0\0\0\0\0\0\0\0\0\0\0\0\0\0";
+
+/// The magic and one of them.
+pub const ONE: &[u8] = b"XPF1\0\0\0\0\0\0\0\0\0\0\0\0\0\0\0\0\0\0\0\0";
+
+/// Two such records with reasons.
+pub const TWO_WITH_REASONS: &[u8] = b"XPF2\
+    \0\0\0\0\0\0\0\0\0\0\0\0\0\0\0\0\0\0\0\0\0\0\0\0\
+    \0\0\0\0\0\0\0\0\0\0\0\0\0\0\0\0\0\0\0\0\0\0\0\0";
+
+pub const MAGIC: &[u8] = b"XPF1";
+
+/// How much an output takes, and how it fails then, if it does.
+pub type Room = (usize, Option<Failure>);
+
+/// An output that takes all.
+pub const ENDLESS: Room = (0, None);
+
+/// A program's run on a stream, and what it answers and writes.
+#[derive(Drop)]
+pub struct Case<'a> {
+    pub text: &'a str,
+    /// The most steps on a frame where every access is tested. Without one the program is verified.
+    pub limit: Option<u32>,
+    pub given: &'a [u8],
+    /// Whether a read fails after the last byte.
+    pub is_broken: bool,
+    pub report: Room,
+    pub out: Room,
+    pub answer: Result<Tally, HostError>,
+    pub lines: &'a [u8],
+    pub sent: &'a [u8],
+}
+
+/// The answer of a run, the report and the frames out.
+type Written = (Result<Tally, HostError>, Vec<u8>, Vec<u8>);
+
+// A writer that takes at most 5 bytes at a call.
+fn writer_of(alloc: Global, room: Room) -> Writer {
+    Writer::new(alloc, 5, room.0, room.1)
+}
+
+// Gives at most 3 bytes at a call, and an error after the last; or all at once.
+fn reader_of<'a>(case: &Case<'a>) -> Reader<'a> {
+    Reader {
+        left: case.given,
+        step: if case.is_broken { 3 } else { usize::MAX },
+        room: case.given.len(),
+        failing: if case.is_broken {
+            Some(Failure::Error(ErrorKind::BrokenPipe))
+        } else {
+            None
+        },
+    }
+}
+
+fn checked(alloc: Global, image: Image, limit: u32, case: &Case<'_>) -> Result<Written, Fail> {
+    if limit < 1 || limit > 1_000_000 {
+        return Err("no limit".into());
+    }
+    let mut report = writer_of(alloc, case.report);
+    let mut out = writer_of(alloc, case.out);
+    let ended = run_checked(alloc, image, limit, reader_of(case), &mut report, &mut out);
+    Ok((tally_in(ended), report.taken, out.taken))
+}
+
+fn verified(alloc: Global, image: Image, case: &Case<'_>) -> Result<Written, Fail> {
+    let program = verify(alloc, image)?;
+    let mut report = writer_of(alloc, case.report);
+    let mut out = writer_of(alloc, case.out);
+    let answer = run(alloc, program, reader_of(case), &mut report, &mut out);
+    Ok((answer, report.taken, out.taken))
+}
+
+fn written(alloc: Global, case: &Case<'_>) -> Result<Written, Fail> {
+    let image = image_of(alloc, case.text)?;
+    match case.limit {
+        Some(limit) => checked(alloc, image, limit, case),
+        None => verified(alloc, image, case),
+    }
+}
+
+/// The run answers and writes what the case says.
+pub fn ends_so(rt: &(impl AllocGlobal + Abort), case: &Case<'_>) -> Result<(), Fail> {
+    let (answer, lines, sent) = written(rt.alloc(), case)?;
+    let text = case.text;
+    assert_eq!(rt;
+        (answer, lines.as_slice(), sent.as_slice()),
+        (case.answer, case.lines, case.sent),
+        "{text}"
+    );
+    Ok(())
+}
+
+/// A program, the most steps where every access is tested, the frames, how many they are and the
+/// fault that ends them, the report and the frames out.
+pub type Row<'a> = (
+    &'a str,
+    Option<u32>,
+    &'a [u8],
+    (u32, Option<(Fault, u64)>),
+    &'a [u8],
+    &'a [u8],
+);
+
+/// A run into outputs that take all.
+pub fn is_run(rt: &(impl AllocGlobal + Abort), row: &Row<'_>) -> Result<(), Fail> {
+    let (text, limit, given, (frames, fault), lines, sent) = *row;
+    let case = Case {
+        text,
+        limit,
+        given,
+        is_broken: false,
+        report: ENDLESS,
+        out: ENDLESS,
+        answer: Ok(Tally { frames, fault }),
+        lines,
+        sent,
+    };
+    ends_so(rt, &case)
+}
