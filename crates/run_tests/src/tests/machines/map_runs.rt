@@ -1,7 +1,7 @@
 //! Worked examples of maps and helpers in the checked machine.
 
 use super::clocks::{Last, Stopped};
-use super::runs::{Part, all_end};
+use super::runs::{Part, all_end, end_of};
 use assembler::assemble;
 use checked_vm::Checked;
 use isa_model::End::{Exit, Trap};
@@ -179,15 +179,9 @@ fn values_are_found_as_keys_come_and_go(rt: HostRuntime) -> Result<(), Fail> {
     Ok(())
 }
 
-/// How a run ends at the last time that there is.
-fn last_end(alloc: Global, text: &str) -> Result<End, Fail> {
-    let image = assemble(alloc, text.as_bytes())?;
-    let mut checked = Checked::new(alloc, image)?;
-    Ok(checked.run(HEAD, &mut [], &mut Last, 100))
-}
-
 #[test]
 fn the_clock_answers_in_64_bits(rt: HostRuntime) -> Result<(), Fail> {
-    assert_eq!(rt; last_end(rt.alloc(), "call 5; r0 &= 3; exit")?, Exit(3, 3));
+    let end = end_of(rt.alloc(), "call 5; r0 &= 3; exit", &mut Last, 100)?;
+    assert_eq!(rt; end, Exit(3, 3));
     Ok(())
 }

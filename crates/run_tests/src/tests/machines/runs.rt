@@ -7,7 +7,7 @@ use assembler::assemble;
 use checked_vm::Checked;
 use isa_model::End::{Exit, Limit, Trap};
 use isa_model::TrapReason::{BadAccess, NoCode, NoResult, ReadOnly, TooManyFrames, UnsetRead};
-use isa_model::{End, FrameHead};
+use isa_model::{Clock, End, FrameHead};
 use std::alloc::Global;
 use std::process::Abort;
 use std::test::Fail;
@@ -18,14 +18,14 @@ const HEAD: FrameHead = FrameHead {
     queue: 6,
 };
 
-/// How a program's run on a packet ends within a number of steps.
-pub fn end_of(alloc: Global, text: &str, packet: &mut [u8; 14], limit: u32) -> Result<End, Fail>
+/// How a program's run on a packet of 14 bytes ends by a clock within a number of steps.
+pub fn end_of<C: Clock>(alloc: Global, text: &str, clock: &mut C, limit: u32) -> Result<End, Fail>
     requires some { 1 ≤ limit }
     requires most { limit ≤ 1000000 }
 {
     let image = assemble(alloc, text.as_bytes())?;
     let mut checked = Checked::new(alloc, image)?;
-    Ok(checked.run(HEAD, packet, &mut Stopped, limit))
+    Ok(checked.run(HEAD, &mut [0; 14], clock, limit))
 }
 
 /// Each text, with some instructions before it, ends so within 100 steps.
@@ -36,7 +36,7 @@ fn ends_are(
 ) -> Result<(), Fail> {
     for (text, end) in rows {
         let whole = format!(in rt.alloc(); "{first}; {text}")?;
-        let found = end_of(rt.alloc(), whole.as_str(), &mut [0; 14], 100)?;
+        let found = end_of(rt.alloc(), whole.as_str(), &mut Stopped, 100)?;
         assert_eq!(rt; found, *end, "{whole}");
     }
     Ok(())
@@ -115,7 +115,7 @@ fn longest(alloc: Global) -> Result<String, Fail> {
 fn the_longest_program_runs(rt: HostRuntime) -> Result<(), Fail> {
     let text = longest(rt.alloc())?;
     for (limit, want) in [(4095, Limit), (4096, Exit(4094, 4096))] {
-        let end = end_of(rt.alloc(), text.as_str(), &mut [0; 14], limit)?;
+        let end = end_of(rt.alloc(), text.as_str(), &mut Stopped, limit)?;
         assert_eq!(rt; end, want, "at most {limit} steps");
     }
     Ok(())

@@ -2,7 +2,6 @@
 
 use super::answers::{E2BIG, EEXIST, EINVAL, ENOENT, answer, value_of};
 use maps::{ArrayMap, HashMapChain, HashMapScan, MapStore};
-use std::alloc::Global;
 use std::process::Abort;
 use std::test::Fail;
 
@@ -86,18 +85,22 @@ fn deleted(chain: &mut HashMapChain, number: u32) -> (bool, u64, bool) {
     (is_there, found, value_of(chain, &key).is_none())
 }
 
+fn fills_and_empties(rt: &impl Abort, chain: &mut HashMapChain) {
+    for number in 0..65_536u32 {
+        assert_eq!(rt; put(chain, number), 0, "{number}");
+    }
+    assert_eq!(rt; put(chain, 65_536), E2BIG);
+    for number in 0..65_536u32 {
+        assert_eq!(rt; deleted(chain, number), (true, 0, true), "{number}");
+    }
+    let late = (put(chain, 65_536), deleted(chain, 65_536));
+    assert_eq!(rt; late, (0, (true, 0, true)));
+}
+
 #[test]
 fn full_map_takes_a_key_once_all_are_gone(rt: HostRuntime) -> Result<(), Fail> {
     let mut chain = HashMapChain::new(rt.alloc(), 4, 8, 65_536)?;
-    for number in 0..65_536u32 {
-        assert_eq!(rt; put(&mut chain, number), 0, "{number}");
-    }
-    assert_eq!(rt; put(&mut chain, 65_536), E2BIG);
-    for number in 0..65_536u32 {
-        assert_eq!(rt; deleted(&mut chain, number), (true, 0, true), "{number}");
-    }
-    let late = (put(&mut chain, 65_536), deleted(&mut chain, 65_536));
-    assert_eq!(rt; late, (0, (true, 0, true)));
+    fills_and_empties(&rt, &mut chain);
     Ok(())
 }
 
@@ -128,43 +131,53 @@ fn flags_of(number: u64) -> Option<u64> {
     if part < 5 { Some(part & 3) } else { None }
 }
 
-#[test]
-fn stores_agree_over_a_long_list(rt: HostRuntime) -> Result<(), Fail> {
-    let mut chain = HashMapChain::new(rt.alloc(), 2, 4, 40)?;
-    let mut scan = HashMapScan::new(rt.alloc(), 2, 4, 40)?;
+/// Both stores answer the same over a long list of commands.
+fn agree(rt: &impl Abort, chain: &mut HashMapChain, scan: &mut HashMapScan) {
     let mut number = 1;
     for turn in 0..20_000u32 {
         number = next(number);
         let key = [(number >> 58) as u8, 5];
         let flags = flags_of(number);
-        let wanted = done(&mut scan, &key, turn, flags);
-        assert_eq!(rt; done(&mut chain, &key, turn, flags), wanted, "{turn}");
+        let wanted = done(scan, &key, turn, flags);
+        assert_eq!(rt; done(chain, &key, turn, flags), wanted, "{turn}");
     }
-    Ok(())
-}
-
-/// A map that has the keys 0 to 39.
-fn full_chain(alloc: Global) -> Result<Option<HashMapChain>, Fail> {
-    let mut chain = HashMapChain::new(alloc, 4, 4, 40)?;
-    for index in 0..40u32 {
-        if answer(&mut chain, &index.to_le_bytes(), &[0; 4], Some(1)) != 0 {
-            return Ok(None);
-        }
-    }
-    Ok(Some(chain))
 }
 
 #[test]
-fn array_agrees_with_a_full_hash_map(rt: HostRuntime) -> Result<(), Fail> {
-    let mut chain = full_chain(rt.alloc())?.ok_or("a key is refused")?;
-    let mut array = ArrayMap::new(rt.alloc(), 4, 40)?;
+fn stores_agree_over_a_long_list(rt: HostRuntime) -> Result<(), Fail> {
+    let mut chain = HashMapChain::new(rt.alloc(), 2, 4, 40)?;
+    let mut scan = HashMapScan::new(rt.alloc(), 2, 4, 40)?;
+    agree(&rt, &mut chain, &mut scan);
+    Ok(())
+}
+
+/// Gives the keys 0 to 39 values, and says whether each was taken.
+fn is_filled(chain: &mut HashMapChain) -> bool {
+    let mut is_taken = true;
+    for index in 0..40u32 {
+        let found = answer(chain, &index.to_le_bytes(), &[0; 4], Some(1));
+        is_taken = is_taken && found == 0;
+    }
+    is_taken
+}
+
+/// An array and a hash map that has all its keys answer the same over a list of updates.
+fn array_agrees(rt: &impl Abort, array: &mut ArrayMap, chain: &mut HashMapChain) {
+    assert!(rt; is_filled(chain));
     let mut number = 1;
     for turn in 0..2_000u32 {
         number = next(number);
         let key = [(number >> 58) as u8, 0, 0, 0];
         let flags = Some(number >> 40 & 1);
-        let wanted = done(&mut chain, &key, turn, flags);
-        assert_eq!(rt; done(&mut array, &key, turn, flags), wanted, "{turn}");
+        let wanted = done(chain, &key, turn, flags);
+        assert_eq!(rt; done(array, &key, turn, flags), wanted, "{turn}");
     }
+}
+
+#[test]
+fn array_agrees_with_a_full_hash_map(rt: HostRuntime) -> Result<(), Fail> {
+    let mut array = ArrayMap::new(rt.alloc(), 4, 40)?;
+    let mut chain = HashMapChain::new(rt.alloc(), 4, 4, 40)?;
+    array_agrees(&rt, &mut array, &mut chain);
     Ok(())
 }
