@@ -43,7 +43,7 @@ shown_line column bs =
     if (length bs == 0) || nat_lt 160 (length bs) then []
     else map shown_byte bs ++ (codes "\n" ++ (map padding_byte (before column bs) ++ codes "^\n"))
 
--- after the sentence and the place: the line with the caret, and what helps
+-- after the sentence with line and column: the line with the caret, and what helps
 abbrev pub shown : List ℕ → AsmError → List ℕ
 shown text error =
     let bs = line_of error.line text in

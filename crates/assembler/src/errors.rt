@@ -25,7 +25,7 @@ pub enum AsmErrorKind {
     MapLine,
     /// An index that no map line has.
     NoMap,
-    /// A pointer into the value of a map that is not an array of one entry.
+    /// A pointer into the value of a map that is not an array of one key.
     NotOneValue,
     /// An offset that is not below the size of the map's values.
     PastValue,
@@ -100,7 +100,7 @@ pub struct AsmError {
     pub column: usize,
 }
 
-/// Writes the sentence, and the place after it.
+/// Writes the sentence, and the line and the column after it.
 impl fmt::Display for AsmError {
     ghost use Rattle.std.specs.Prelude.{◌++◌, codes, decimal};
 

@@ -115,8 +115,8 @@ fn shown_line(alloc: Global, line: &[u8], column: usize) -> Result<String, Alloc
     format!(in alloc; "{shown}\n{padding}^\n")
 }
 
-/// The message about a text that is refused, after the sentence and the place: the line with a
-/// caret under the column, and a hint.
+/// The message about a text that is refused, after the sentence with line and column: the
+/// line with a caret under the column, and a hint.
 pub fn shown(alloc: Global, text: &[u8], error: AsmError) -> Result<String, AllocError>
     ensures { IfOk result (λ told. string_bytes told ≡ shown text.now error) }
 {

@@ -26,15 +26,15 @@ pub performs_apart : {A : Type 0} (slots : ℕ) (i j : Insn) (r : Result A TrapR
 performs_apart slots i j (Ok done) old new packet e h = λ p clock count. rw e (h packet p clock)
 performs_apart slots i j (Err reason) old new packet e h = (λ p clock count. rw e (h.0 packet p clock), h.1, refl)
 
--- a call below the last frame enters
+-- a call below the last call frame enters
 pub calls_enter : (s : State) (p : Program) (by : ℤ) (slots to : ℕ) → length p.insns ≡ slots → to ≡ unwrap_or (target s.slot by) slots → (length s.frames ≡ max_call_frames → ⊥) → calls s p by ≡ Next (enter s to)
 calls_enter s p by slots to count leads few = rw (leads, count) (grind (arith, nat_tests))
 
--- an exit of an inner frame leaves it
+-- an exit of an inner call frame leaves it
 pub exits_leave : (version : Version) (s : State) → (length s.frames ≡ 1 → ⊥) → exits version s ≡ Next (leave s)
 exits_leave version s inner = grind (arith, nat_tests)
 
--- a form that keeps the frames leaves the machine running
+-- a form that keeps the call frames leaves the machine running
 pub stays_running : (old new : Core) → KeepsFrames old new → IsRunning old → StaysRunning old new
 stays_running old new kept running = record {
   running = record { some = omega arith; few = omega arith; room = omega arith };

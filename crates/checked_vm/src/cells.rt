@@ -188,7 +188,7 @@ pub fn byte_cells(n: u64) -> [Cell; 8]
     ]
 }
 
-/// Writes new cells from a place on.
+/// Writes new cells from an index on.
 pub fn put_cells(cells: &mut [Cell], at: usize, new: &[Cell])
     requires { at + length new.now ≤ length cells.old }
     ensures { cells.new ≡ splice cells.old at (at + length new.now) new.now }

@@ -195,7 +195,7 @@ impl Core {
 
     // ---- stores
 
-    /// Writes cells at a place of a frame.
+    /// Writes cells at a place of a call frame.
     fn write_frame(
         &mut self,
         serial: u64,
@@ -280,7 +280,7 @@ impl Core {
         }
     }
 
-    /// Writes a pointer, as eight pieces, into a frame.
+    /// Writes a pointer, as eight pieces, into a call frame.
     fn store_pointer(
         &mut self,
         size: Size,

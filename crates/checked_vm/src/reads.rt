@@ -52,7 +52,7 @@ fn bytes_at(bytes: &[u8], at: Option<usize>, n: usize) -> Result<&[u8], TrapReas
 }
 
 impl Core {
-    /// Where n cells of a live frame are: the frame's index and the first cell's.
+    /// Where n cells of a live call frame are: the call frame's index and the first cell's.
     pub fn place_in_frame(
         &self,
         serial: u64,
@@ -79,7 +79,7 @@ impl Core {
         }
     }
 
-    /// The cells of a frame at a place.
+    /// The cells of a call frame at a place.
     pub fn read_frame(
         &self,
         serial: u64,

@@ -119,8 +119,8 @@ impl Core {
         }
     }
 
-    /// EXIT in a program of this version: the first frame's ends the run, an inner one's leads back
-    /// to the caller.
+    /// EXIT in a program of this version: the first call frame's ends the run, an inner one's leads
+    /// back to the caller.
     #[tactic(auto, unfolding(isa_model::specs::Machine::Steps::act))]
     fn exit(&mut self, version: Version) -> Stepped
         requires { IsRunning self.old }

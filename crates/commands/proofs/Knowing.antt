@@ -36,7 +36,7 @@ IsAtEnd Done = Unit {0}
 IsAtEnd (Faulted fault form) = Unit {0}
 IsAtEnd o = ⊥
 
--- the frames of a trace that came to its end
+-- the packet frames of a trace that came to its end
 abbrev pub KnowsStops : Outcome → Option (String Global) → Type 0
 KnowsStops o why = IsAtEnd o × ((stops : Stops) × IfSome why (λ text. string_bytes text ≡ stop_lines (noted_of stops)))
 

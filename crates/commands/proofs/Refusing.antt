@@ -21,7 +21,7 @@ program_refused p refusal slot insn old new r o is at e (inl lacks) = rw e (inl 
 program_refused p refusal slot insn old new r o is at e (inr said) =
     rw e (inr (refusal, slot, is, said.0, subst (λ (i : Option Insn). Says old new (verdict_line refusal slot) (Refused (rejection.Program refusal slot i)) r) at said.1))
 
--- no message was written about an entry, and its place may be known
+-- no message was written about an entry, and its slot may be known
 pub step_failed : (old new : Option (List ℕ)) (index : ℕ) (place : Option (ℕ × Insn)) → AppendsBeginning old new (entry_place index) → AppendsBeginning old new (step_place index place)
 step_failed old new index None h = h
 step_failed old new index (Some (slot, insn)) h = AppendsBeginning-first old new (entry_place index) (insn_place slot insn) h

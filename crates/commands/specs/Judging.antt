@@ -35,7 +35,8 @@ RefusesImage bytes old new result =
     LacksMemory old new result
     ⊎ ((error : ImageError) × (refusal_of bytes ≡ Some error) × Says old new (image_line error) (Refused (rejection.Image error (form_of bytes))) result)
 
--- standard output says that a program is refused at a slot, where this instruction begins; or memory ran out
+-- standard output says that a program is refused at a slot, where this instruction begins;
+-- or memory ran out
 abbrev pub SaysRefused : Refusal → ℕ → Option Insn → Option (List ℕ) → Option (List ℕ) → Outcome → Type 0
 SaysRefused refusal slot insn old new result =
     LacksMemory old new result
@@ -52,7 +53,8 @@ RefusesProgram p old new result =
 abbrev pub Accepts : Bounded → Option (List ℕ) → Option (List ℕ) → Outcome → Type 0
 Accepts v old new result = LacksMemory old new result ⊎ Says old new (bound_line v.bound) Done result
 
--- the bound of an accepted program: every run exits within it; it is the number of the start state; and it is small
+-- the bound of an accepted program: every run exits within it;
+-- it is the number of the start state; and it is small
 -- enough, or the very one, where that is known of a program that must be accepted
 pub record IsBoundOf (p : Program) (bound : ℕ) : Type 0 where
   pub verified : IsVerified (record { program = p; bound = bound })
@@ -74,7 +76,7 @@ pub record IsBoundShown (p : Program) (bytes : List ℕ) (bound : ℕ) : Type 0 
   pub verified : IsVerified (record { program = p; bound = bound })
   pub shows : ShowsBound p bytes bound
 
--- standard output says that a table is refused; the place of an entry whose step was tested may be
+-- standard output says that a table is refused; the slot of an entry whose step was tested may be
 -- known. Or memory ran out
 abbrev pub SaysTable : TableError → Option (ℕ × Insn) → Option (List ℕ) → Option (List ℕ) → Outcome → Type 0
 SaysTable error place old new result =
@@ -106,7 +108,8 @@ RefusesText source old new result =
 abbrev pub IsStoreFailure : List ℕ → Outcome → Type 0
 IsStoreFailure name result = (result ≡ NoMemory) ⊎ IsWriteFailure name result
 
--- an image was written, and then standard output says the line; or a beginning of it, and standard output got nothing
+-- an image was written, and then standard output says the line;
+-- or a beginning of it, and standard output got nothing
 abbrev pub StoresImage : Program → List ℕ → List ℕ → Option (List ℕ) → Option (List ℕ) → Option (List ℕ) → Option (List ℕ) → Outcome → Type 0
 StoresImage p line name before after old new result =
     (Appends before after (image_bytes p) × Says old new line Done result)

@@ -29,7 +29,7 @@ sentence_of (Table error place) = rechecking.sentence_of error
 sentence_of Explored = proof_table.sentence_of unwritten.Explored
 sentence_of (Text error) = assembler.sentence_of error.kind
 
--- ---- places, each a line
+-- ---- where it is, each a line
 
 -- a slot, and the instruction that begins there
 abbrev pub insn_place : ℕ → Insn → List ℕ
@@ -45,7 +45,7 @@ text_place line column =
 
 -- ---- what helps
 
--- where bytes are no instruction; where there is a place its line ends first
+-- where bytes are no instruction; where it is known at which one, its line ends first
 abbrev pub codec_cure : CodecError → List ℕ
 codec_cure codec.Short = codes "\nthe file was cut: make it again\n"
 codec_cure UnknownOpcode =
@@ -118,6 +118,6 @@ place_of (Table error place) = table_place error place
 place_of Explored = []
 place_of (Text error) = text_place error.line error.column
 
--- the sentence in a line, and then the place
+-- the sentence in a line, and then where it is
 abbrev pub reason_of : Rejection → List ℕ
 reason_of rejection = (sentence_of rejection ++ codes "\n") ++ place_of rejection

@@ -1,4 +1,4 @@
--- The message on standard error about frames whose runs ended without an action.
+-- The message on standard error about packet frames whose runs ended without an action.
 use Rattle.std.specs.Prelude.{◌≡◌, ℕ, ◌-◌, ◌==◌, List, [], ◌∷◌, ◌++◌, length, Option, Some, None, String, Result, Ok, Err, IfSome, codes, decimal, if◌then◌else◌}
 use Rattle.std.specs.declared.alloc.Global.{Global}
 use Rattle.std.specs.String.{string_bytes}

@@ -24,7 +24,7 @@ pub struct Ending<'a> {
     pub outcome: Outcome<'a>,
     /// The registers and stack slots that concern the refused instruction, and the last jumps on
     /// the way there; or the line of a text that was refused, and what helps; or of a trace, where
-    /// frames stopped; in lines.
+    /// packet frames stopped; in lines.
     pub why: Option<String>,
 }
 

@@ -28,7 +28,7 @@ use words::{Assembly, Paths, StepLimit};
 // of a longer file changes nothing.
 const PAST_ANY_IMAGE: u64 = 8 + 12 * MAX_MAPS as u64 + 8 * MAX_SLOTS as u64 + 1;
 
-/// How many bytes go to or from a file of frames or a table at once.
+/// How many bytes go to or from a file of packet frames or a table at once.
 pub const BUFFER: usize = 64 * 1024;
 
 // The length of the magic, with which frames out begin. It is written through the buffer, so that a
@@ -81,7 +81,8 @@ pub fn load_image<'a, R: Files, W: Write>(
 }
 
 /// Opens the frames, and then the frames out, which are written over none of the files that are
-/// read. The buffer of each is made before any of its bytes is read or written; in the end the first
+/// read. The buffer of each is made before any of its bytes is read or written;
+/// in the end the first
 /// bytes of the frames are read ahead.
 pub fn open_streams<'a, 'b, R: Files + Clock>(
     rt: &'b R,

@@ -13,8 +13,8 @@ use std::rt::{Clock, Files};
 /// How many bytes are read ahead.
 const FRONT: usize = 4;
 
-/// A source of frames. Where reading it failed, each later read fails too. A terminal is shown how
-/// much was read.
+/// A source of packet frames. Where reading it failed, each later read fails too. A terminal is
+/// shown how much was read.
 #[derive(Drop)]
 pub struct Watched<'a, R: Files + Clock, S> {
     source: S,

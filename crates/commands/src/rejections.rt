@@ -73,7 +73,7 @@ impl Rejection {
         }
     }
 
-    /// Writes the sentence, and in the next line the place.
+    /// Writes the sentence, and in the next line where it is.
     pub fn say<W: Write>(self, err: &mut W) -> io::Result<()>
         ensures ok { OnOk result
             (Appends (W.contents err.old) (W.contents err.new) (reason_of self)) }
@@ -95,7 +95,7 @@ fn say_form<W: Write>(err: &mut W, form: FileForm) -> io::Result<()>
     write_bytes(err, form.line().as_bytes())
 }
 
-// What helps where bytes are no instruction; the line of the place ends first.
+// What helps where bytes are no instruction; the line that says where ends first.
 fn codec_cure(error: CodecError) -> &'static str
     ensures { result.now ≡ codec_cure error }
 {
@@ -114,7 +114,7 @@ fn codec_cure(error: CodecError) -> &'static str
     }
 }
 
-// What helps where bytes are no image; the line of the place ends first, if there is one.
+// What helps where bytes are no image; the line that says where ends first, if there is one.
 fn image_cure(error: ImageError) -> &'static str
     ensures { result.now ≡ image_cure error }
 {

@@ -1,4 +1,4 @@
-//! The message about frames whose runs ended without an action.
+//! The message about packet frames whose runs ended without an action.
 
 ghost use Rattle.std.specs.Prelude.{◌≡◌, None, IfOk, IfSome};
 ghost use Rattle.std.specs.String.{string_bytes};

@@ -1,4 +1,4 @@
--- What is said of a program whose control flow is refused, beside the sentence and the place.
+-- What is said of a program whose control flow is refused, beside the sentence and the slot.
 use Rattle.std.specs.Prelude.{ℕ, zero, suc, ◌+◌, ◌-◌, ◌==◌, nat_le, max, ℤ, pos, ◌+ℤ◌, List, [], ◌++◌, length, Option, Some, None, codes, decimal, if◌then◌else◌}
 use Rattle.std.specs.Fmt.{signed_decimal}
 use Rattle.std.specs.Option.{option_map, option_and_then}

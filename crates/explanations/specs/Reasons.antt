@@ -1,4 +1,4 @@
--- What is said of a refusal beside its sentence and its place.
+-- What is said of a refusal beside its sentence and its slot.
 use Rattle.std.specs.Prelude.{◌≡◌, ℕ, Bool, if◌then◌else◌, List, ◌++◌, Some, codes}
 use Rattle.isa_model.specs.declared.instructions.Insn.{Insn}
 use Rattle.isa_model.specs.Code.Instructions.{Program, fetch}

@@ -106,7 +106,7 @@ fn first_slot(entry: &State, state: &State, frame: usize) -> Option<usize>
     None
 }
 
-/// The first place of a frame that is not covered.
+/// The first register or stack slot of a frame that is not covered.
 fn first_place(entry: &State, state: &State, frame: usize) -> Option<Mismatch>
     requires entry { frame < depth entry.now }
     requires state { frame < depth state.now }

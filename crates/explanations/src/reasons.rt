@@ -1,4 +1,4 @@
-//! What is said of a refusal beside its sentence and its place.
+//! What is said of a refusal beside its sentence and its slot.
 
 ghost use Rattle.std.specs.Prelude.{◌≡◌, IfOk, IfSome};
 ghost use Rattle.std.specs.String.{string_bytes};

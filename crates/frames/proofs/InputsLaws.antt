@@ -16,8 +16,8 @@ use Rattle.frames.specs.Readers.{Position, Fresh, At, Done}
 use Rattle.frames.specs.Reading.{ReadsMagic, MayOpen, OpensStream, position_opened, begun_at, Found, Stopped, StopsReading, FindsNext, IsOpen, CanStop, next_position, Finds}
 use Rattle.frames.specs.Inputs.{AreReadFrom, IsBegunBy, IsBegunVersion}
 
--- Frames of a stream of this version were found by a reader that was fresh at first. Its source had
--- the bytes `old` then, and has `known` now.
+-- Packet frames of a stream of this version were found by a reader that was fresh at first. Its
+-- source had the bytes `old` then, and has `known` now.
 pub record HasFound (v : Version) (frames : List Frame) (old known : Option (List ℕ)) (position : Position) : Type 0 where
   pub stands : position ≡ At v (length frames) (offset_after v frames)
   pub are_open : AreOpen v frames
@@ -176,7 +176,8 @@ pub HasFound-begins : (v : Version) (frames : List Frame) (old known : Option (L
 HasFound-begins v frames None known p s = tt
 HasFound-begins v frames (Some bytes) known p s = let (rest, is_known, split) = left_of v frames bytes known s.lost in (rest, split)
 
--- No magic could be read: the stream counts as one of the first version, it has no frames, and the reader is done.
+-- No magic could be read: the stream counts as one of the first version, it has no frames, and the
+-- reader is done.
 pub record IsUnopened (v : Version) (frames : List Frame) (old : Option (List ℕ)) (position : Position) : Type 0 where
   pub fault : Fault
   pub first : v ≡ One

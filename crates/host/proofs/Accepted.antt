@@ -49,7 +49,7 @@ turn-AnswersRun r head packet clock exit after left coming h =
 
 -- ---- from what a machine writes to the reports
 
--- However a stream goes on after these frames, its checked report begins with their pieces.
+-- However a stream goes on after these packet frames, its checked report begins with their pieces.
 front_goes_on : (limit : ℕ) (program : Version) (rows : List MapDef) (rule : Rule) (contents : List Entries) (v : Version) (frames more : List Frame) (finish : Finish)
     → (rest : List Piece) × (report_of limit program rows rule contents (stream_with v (frames ++ more, finish)) ≡ front_in (record { limit = limit; program = program; stream = v }) rule contents frames ++ rest)
 front_goes_on limit program rows rule contents v frames more finish =
@@ -155,7 +155,8 @@ ReportsBy-tallied source limit program rows rule contents notes noted old new re
 })
 ReportsBy-tallied source limit program rows rule contents notes noted old new result (inr (error, is, r)) = inr (error, ap tallied is, r)
 
--- the same of the machine that was made of the program and its maps as they start, with its bound as the limit
+-- the same of the machine that was made of the program and its maps as they start, with its bound
+-- as the limit
 pub ReportsRun-machine : (a : Bounded) (source : Option (List ℕ)) (old new : Outputs) (result : Result Traced HostError) (limit : ℕ) (program : Version) (contents : List Entries) (m : Running) (notes : Noting) (noted : Noted) → IsVerified a
     → limit ≡ a.bound → program ≡ a.program.version → contents ≡ starting_contents a.program.maps → m ≡ record { program = a.program; bound = a.bound; contents = contents }
     → ReportsBy source limit program m.program.maps (checked_rule m.program m.bound) m.contents (TellsNoted notes (checked_rule m.program m.bound) noted m.contents) old new result

@@ -1,4 +1,5 @@
--- The report of a stream begins with the pieces of the stream's first frames, whatever follows them.
+-- The report of a stream begins with the pieces of the stream's first packet frames, whatever
+-- follows them.
 use Rattle.std.proofs.Common.{◌≡◌, ℕ, ◌+◌, ◌==◌, if◌then◌else◌, Bool, true, false, List, [], ◌∷◌, ◌++◌, length, Option, Some, None, refl, sym, ap, ◌∙◌, subst, append_assoc}
 use Rattle.isa_model.specs.declared.streams.Finish.{Finish}
 use Rattle.isa_model.specs.declared.versions.Version.{Version}

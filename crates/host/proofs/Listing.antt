@@ -1,4 +1,4 @@
--- Lines of entries written one after another, and lines of maps.
+-- Lines of keys and values written one after another, and lines of maps.
 use Rattle.std.proofs.Common.{◌≡◌, ℕ, zero, suc, ◌+◌, ◌<◌, ◌≤◌, List, [], ◌∷◌, ◌++◌, map, length, take, drop, get_or, Option, Some, None, true, false, cond, refl, sym, ap, ◌∙◌, subst, arith, append_assoc, append-nil, add-zero}
 use Rattle.std.specs.Prelude.{All}
 use Rattle.std.specs.List.{slice_get, filter_map, cons_option, range_with_len}
@@ -50,14 +50,14 @@ pub failed_later : (r s t : Option (List ℕ)) (ps qs rest : List Piece) (e : Ho
 failed_later r s t ps qs rest e v w frames =
     WroteBefore-append _ _ _ ps (qs ++ rest) e (v frames) (WroteBefore-more _ _ qs rest e (w frames))
 
--- ---- entries
+-- ---- keys
 
 module _ (line : List ℕ × List ℕ → Piece) (es : Entries) where
   pub no_line : (r : Option (List ℕ)) → WroteReport r r (map line (take 0 es))
   no_line r = no_piece r
 
   module _ (k : ℕ) (e : List ℕ × List ℕ) (there : slice_get es k ≡ Some e) where
-    -- the lines up to an entry, and that entry's
+    -- the lines up to a key, and that key's
     lines_up_to : map line (take (k + 1) es) ≡ map line (take k es) ++ line e ∷ []
     lines_up_to =
         ap (map line) (take_more es k e (slice_get_within es k e there) ∙ ap (λ (x : List ℕ × List ℕ). take k es ++ x ∷ []) (get_or_from_slice_get es k e e there))
@@ -76,17 +76,17 @@ module _ (line : List ℕ × List ℕ → Piece) (es : Entries) where
         subst (λ (l : List Piece). FailedReport r t l error) (sym lines_around)
         (failed_later r s t (map line (take k es)) (line e ∷ []) (map line (drop (k + 1) es)) error v w)
 
-  -- past the last entry all lines were written
+  -- past the last key all lines were written
   pub all_lines : (k : ℕ) (r s : Option (List ℕ)) → length es ≤ k → WroteReport r s (map line (take k es)) → WroteReport r s (map line es)
   all_lines k r s past v = subst (λ (l : Entries). WroteReport r s (map line l)) (take_all k es past) v
 
--- if no entry is found, there is none
+-- if no key is found, there is none
 pub none_past : (es : Entries) (k : ℕ) → None ≡ option_map (λ e. e.1) (slice_get es k) → length es ≤ k
 none_past [] k e = omega arith
 none_past (x ∷ es) zero e = absurd (cc)
 none_past (x ∷ es) (suc k) e = let h = none_past es k e in omega arith
 
--- the entry whose value was found
+-- the key whose value was found
 pub entry_of : (es : Entries) (k : ℕ) (value : List ℕ) → Some value ≡ option_map (λ e. e.1) (slice_get es k)
     → (e : List ℕ × List ℕ) × (slice_get es k ≡ Some e) × (e.1 ≡ value)
 entry_of [] k value e = absurd (cc)
@@ -104,7 +104,7 @@ value_short row es k value listed found =
     let (e, there, is) = entry_of es k value found in
     subst (λ (v : List ℕ). length v ≤ max_value_size) is (sizes_of row es k e listed there).1
 
--- the line of the entry that was found
+-- the line of the key that was found
 module _ (index : ℕ) (row : MapDef) (es : Entries) (k : ℕ) (old new value : List ℕ) (listed : AreListed row es)
     (found : Some value ≡ option_map (λ e. e.1) (slice_get es k)) (put : new ≡ with_key_of (slice_get es k) old) where
   abbrev line_at : List ℕ × List ℕ → Piece
@@ -179,7 +179,7 @@ listed_by Array row es k h fits =
       sizes = subst (λ (n : ℕ). All (λ (e : List ℕ × List ℕ). (length e.0 ≡ n) × (length e.1 ≤ max_value_size)) (in_report_order Array row.entries es)) (sym four) all;
     }
 
--- the entries of a map of an image, as they are listed
+-- the keys and values of a map of an image, as they are listed
 pub AreListed-map_at : (ms : List MapState) (i : ℕ) → i < length ms → All IsMap ms → AreListed (map_at ms i).row (ordered_in (map_at ms i))
 AreListed-map_at ms i l all =
     let m = map_at ms i in
@@ -234,7 +234,7 @@ module _ (ms : List MapState) (i : ℕ) (inside : i < length ms) where
       ∙ ap (λ (l : List Piece). l ++ rest) maps_up_to ∙ append_assoc (lines_of 0 (take i ms)) here rest in
       subst (λ (l : List Piece). FailedReport r t l e) (sym around) (failed_later r s t (lines_of 0 (take i ms)) here rest e v w)
 
--- the entries of one map more were written, or failed
+-- the keys and values of one map more were written, or failed
 module _ (ms now : List MapState) (i : ℕ) (inside : i < length ms) (es : Entries) (listed : es ≡ ordered_in (map_at now i)) (same : now ≡ ms) where
   lines_here : map (λ e. ToReport (map_line i e)) es ≡ map_pieces i (map_at ms i).row (content_in (map_at ms i))
   lines_here = ap (map (λ e. ToReport (map_line i e))) (listed ∙ ap (λ (m : List MapState). ordered_in (map_at m i)) same)

@@ -1,4 +1,4 @@
--- What is noted of the frames so far, and of one more.
+-- What is noted of the packet frames so far, and of one more.
 use Rattle.std.proofs.Common.{◌≡◌, ℕ, suc, ◌+◌, List, [], ◌∷◌, ◌++◌, length, sym, ap, ◌∙◌, add-zero, zero-add, arith}
 use Rattle.isa_model.specs.Machine.States.{Entries}
 use Rattle.isa_model.specs.Reporting.Streams.{Frame}

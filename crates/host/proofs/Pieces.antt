@@ -92,7 +92,7 @@ frames_failed r f g bytes rest p = record {
   frames = p.2;
 }
 
--- ---- a frame's pieces, where its run ended by e and left these bytes
+-- ---- a packet frame's pieces, where its run ended by e and left these bytes
 
 module _ (form : ReportForm) (number : ℕ) (frame : Frame) (t : Turn) (e : End)
     (ended : e ≡ t.ends) where

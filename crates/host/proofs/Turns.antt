@@ -1,4 +1,4 @@
--- One turn more, and the ends of a run over a stream.
+-- One turn of the loop over a stream more, and how the loop ends.
 use Rattle.std.proofs.Common.{◌≡◌, ℕ, suc, ◌+◌, ◌<◌, ◌≤◌, List, [], ◌∷◌, ◌++◌, length, Option, Result, Ok, Err, IfOk, refl, sym, ap, ◌∙◌, subst, append_assoc, append-nil, length-append, add-zero, zero-add, arith, inl, inr}
 use Rattle.std.specs.Io.KnownBytes.{Appends}
 use Rattle.exact_io.specs.Transfers.{AppendsBeginning}
@@ -40,7 +40,7 @@ begin_opens v source old new p after answer fresh same opens answers is =
     (subst (λ (k : Option (List ℕ)). OpensStream Fresh k new after) same (subst (λ (x : Position). OpensStream x old new after) fresh opens))
     (subst (λ (a : Result ℕ (Fault × ℕ)). IsBegunVersion a v) answers is)
 
--- ---- frames in a row
+-- ---- packet frames in a row
 
 -- the pieces of frames, and of those after them
 pub turns_pieces-append : (form : ReportForm) (rule : Rule) (n : ℕ) (c : List Entries) (fs gs : List Frame)
@@ -72,7 +72,7 @@ module _ (form : ReportForm) (rule : Rule) (start : List Entries) (source : Opti
       ∙ ap (λ l. so_far ++ l) (sym (append-nil _))
       ∙ sym (turns_pieces-append form rule 0 start frames (f ∷ [])))
 
-  -- before the first turn, once the magic is written
+  -- before the first turn of the loop, once the magic is written
   pub no_turn : (known : Option (List ℕ)) (p : Position) (r f g : Option (List ℕ)) → HasBegun form.stream [] source known p → before ≡ record { report = r; frames = f }
       → Appends f g (stream_magic form.stream) → WrittenSoFar form rule start source before [] known p 0 start (record { report = r; frames = g })
   no_turn known p r f g begun is w = record {
@@ -104,7 +104,7 @@ module _ (form : ReportForm) (rule : Rule) (start : List Entries) (source : Opti
             carried = c ∙ ap (λ (x : List Entries). contents_left x (turn_on rule x f)) so.carried ∙ sym (contents_after-append rule start frames (f ∷ []));
           }
 
--- ---- the ends of a run
+-- ---- how the loop ends
 
 -- pieces after pieces, where one of the later ones may have failed
 WritesEach-append : (a b c : Outputs) (front more : List Piece) (result : Result Traced HostError) → Wrote a b front → WritesEach b c result more → WritesEach a c result (front ++ more)
@@ -160,7 +160,8 @@ module _ (limit : ℕ) (program : Version) (rows : List MapDef) (rule : Rule) (s
           },
         )
 
-    -- the stream stopped, and the lines of maps and the last line were written, or one of them failed
+    -- the stream stopped, and the lines of maps and the last line were written, or one of them
+    -- failed
     pub run_ended : (r s g : Option (List ℕ)) (stop : Finish) (result : Result Traced HostError) (noted : Noted)
         → WrittenSoFar (form_on v) rule start source before frames known p number contents (record { report = r; frames = g }) → Finds p known new q (Stopped stop)
         → WritesEach (record { report = r; frames = g }) (record { report = s; frames = g }) result (maps_pieces 0 rows contents ++ ToReport (last_line number stop) ∷ [])

@@ -1,4 +1,4 @@
--- What holds while the frames of a stream are run.
+-- What holds while the packet frames of a stream are run.
 use Rattle.std.proofs.Common.{◌≡◌, ℕ, List, length, Option}
 use Rattle.isa_model.specs.Machine.States.{Entries}
 use Rattle.isa_model.specs.Reporting.Streams.{Frame}

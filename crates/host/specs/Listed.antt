@@ -1,10 +1,11 @@
--- The entries of a map as they are listed in the report.
+-- The keys and values of a map as they are listed in the report.
 use Rattle.std.specs.Prelude.{◌≡◌, ◌≤◌, length, All}
 use Rattle.isa_model.specs.declared.map_defs.MapDef.{MapDef}
 use Rattle.isa_model.specs.Code.Limits.{max_key_size, max_value_size}
 use Rattle.isa_model.specs.Machine.States.{Entries}
 
--- no more entries than the row has room for, each with a key of the row's size and a value that is not too long
+-- no more keys than the row has room for, each of the row's size and with a value that is not too
+-- long
 pub record AreListed (row : MapDef) (es : Entries) : Type 0 where
   pub short_keys : row.key_size ≤ max_key_size
   pub room : length es ≤ row.entries

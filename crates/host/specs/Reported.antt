@@ -11,9 +11,10 @@ use Rattle.frames.specs.Inputs.{AreReadFrom, IsBegunBy}
 use Rattle.host.specs.declared.errors.HostError.{HostError}
 use Rattle.host.specs.Writing.{Outputs, WritesEach, WroteBefore}
 
--- The stream was read to its end, or to a fault: it is the stream of the source's bytes, where they are known. The heads,
--- the lengths of the bodies and the reasons fit, and the bodies are bytes. The stream's pieces were written, all of them
--- or those before one that failed, and what the run answers tells of the stream what it is to tell.
+-- The stream was read to its end, or to a fault: it is the stream of the source's bytes, where they
+-- are known. The heads, the lengths of the bodies and the reasons fit, and the bodies are bytes.
+-- The stream's pieces were written, all of them or those before one that failed, and what the run
+-- answers tells of the stream what it is to tell.
 pub record ReportsWhole {X : Type 0} (source : Option (List ℕ)) (pieces : Stream → List Piece) (Tells : Stream → X → Type 0) (old new : Outputs) (result : Result X HostError) : Type 0 where
   pub found : Stream
   pub are_open : AreOpen found.version found.frames
@@ -21,8 +22,9 @@ pub record ReportsWhole {X : Type 0} (source : Option (List ℕ)) (pieces : Stre
   pub writes : WritesEach old new result (pieces found)
   pub tells : IfOk result (Tells found)
 
--- An output failed at the magic or at a frame, and no more was read: the source begins with these frames, where its bytes
--- are known. However its stream goes on and ends, the outputs hold a beginning of that stream's report.
+-- An output failed at the magic or at a packet frame, and no more was read: the source begins with
+-- these frames, where its bytes are known. However its stream goes on and ends, the outputs hold a
+-- beginning of that stream's report.
 pub record ReportsFront (source : Option (List ℕ)) (pieces : Stream → List Piece) (old new : Outputs) (error : HostError) : Type 0 where
   pub version : Version
   pub frames : List Frame
@@ -30,8 +32,10 @@ pub record ReportsFront (source : Option (List ℕ)) (pieces : Stream → List P
   pub begun : IsBegunBy source version frames
   pub writes : (more : List Frame) (finish : Finish) → WroteBefore old new (pieces (stream_with version (frames ++ more, finish))) error
 
--- What was written is the report of the source's stream. After a failed output it is a beginning of that report; only
--- where the failed piece is the magic or one of a frame was the stream not read to its end or fault.
+-- What was written is the report of the source's stream.
+-- After a failed output it is a beginning of that report; only
+-- where the failed piece is the magic or one of a frame was the stream not read to its end or
+-- fault.
 abbrev pub Reports : {X : Type 0} → Option (List ℕ) → (Stream → List Piece) → (Stream → X → Type 0) → Outputs → Outputs → Result X HostError → Type 0
 Reports source pieces Tells old new result =
     ReportsWhole source pieces Tells old new result ⊎ ((error : HostError) × (result ≡ Err error) × ReportsFront source pieces old new error)

@@ -1,4 +1,4 @@
--- What is noted of the frames whose runs end without an action.
+-- What is noted of the packet frames whose runs end without an action.
 use Rattle.std.specs.Prelude.{◌≡◌, ℕ, ◌+◌, ◌-◌, ◌^◌, ◌==◌, nat_lt, min, Bool, true, false, if◌then◌else◌, List, [], ◌∷◌, ◌++◌, length}
 use Rattle.isa_model.specs.declared.frames.Action.{Action}
 use Rattle.isa_model.specs.declared.frames.Action.TheVariants as action
@@ -33,7 +33,8 @@ abbrev pub is_invalid : Action → Bool
 is_invalid action.Invalid = true
 is_invalid other = false
 
--- whether a run ended without an action: it trapped, was stopped at the limit, or answered another number
+-- whether a run ended without an action: it trapped, was stopped at the limit, or answered another
+-- number
 abbrev pub is_noted : End → Bool
 is_noted (Exit value steps) = is_invalid (action_of value)
 is_noted (Trap reason steps) = true

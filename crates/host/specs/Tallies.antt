@@ -13,7 +13,7 @@ abbrev pub fault_of : Finish → Option (Fault × ℕ)
 fault_of finish.End = None
 fault_of (finish.Fault fault offset) = Some (fault, offset)
 
--- what the last line shows, by the number of frames and how the stream ended
+-- what the last line shows, by the number of packet frames and how the stream ended
 abbrev pub tally_of : ℕ → Finish → Tally
 tally_of number stop = record { frames = number; fault = fault_of stop }
 

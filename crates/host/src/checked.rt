@@ -19,7 +19,8 @@ use maps::Maps;
 use std::alloc::Global;
 use std::io::{Read, Write};
 
-// A checked machine, the most steps of a run on one frame, and what was noted of the frames so far.
+// A checked machine, the most steps of a run on one packet frame, and what was noted of the frames
+// so far.
 #[derive(Drop)]
 struct CheckedRunner {
     machine: Checked,

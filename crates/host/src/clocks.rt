@@ -1,4 +1,4 @@
-//! The clock of a frame's run.
+//! The clock of a packet frame's run.
 ghost use Rattle.std.specs.Prelude.{◌<◌, ◌^◌};
 
 use isa_model::Clock;

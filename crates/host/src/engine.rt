@@ -1,4 +1,4 @@
-//! The run over all frames of a stream, written once for every machine. It takes no memory.
+//! The loop over all packet frames of a stream, written once for every machine. It takes no memory.
 ghost use Rattle.std.specs.Prelude.{◌≡◌, ◌≢◌, ◌≤◌, [], ◌∷◌, ◌++◌, length, IfOk};
 ghost use Rattle.isa_model.specs.Code.Limits.{max_body};
 ghost use Rattle.isa_model.specs.Reporting.Reports.{ToReport, maps_pieces, last_line, frame_pieces, skip_pieces, turn_pieces, turn_on, contents_left};

@@ -1,4 +1,4 @@
-//! The lines of maps' entries, made in a buffer of fixed size.
+//! The lines of maps' keys and values, made in a buffer of fixed size.
 ghost use Rattle.std.specs.Prelude.{◌≡◌, ◌+◌, ◌*◌, ◌≤◌, ◌++◌, length, decimal};
 ghost use Rattle.arrayvec.specs.ArrayVec.{array_vec_len};
 ghost use Rattle.hex.specs.Hex.{encode_lower};
@@ -8,7 +8,7 @@ ghost use Rattle.isa_model.specs.Reporting.Reports.{map_line};
 use arrayvec::ArrayVec;
 use itoa::Buffer;
 
-/// A line of an entry; none has more than 8,347 bytes.
+/// A line of a key and its value; none has more than 8,347 bytes.
 pub type EntryLine = ArrayVec<u8, 8448>;
 
 // Appends bytes.
@@ -43,7 +43,7 @@ fn push_hex(line: &mut EntryLine, bytes: &[u8])
     }
 }
 
-/// Makes the line of an entry, by the map's index.
+/// Makes the line of a key and its value, by the map's index.
 #[tactic(auto, unfolding(isa_model::specs::Reporting::Reports::map_line))]
 pub fn put_entry(line: &mut EntryLine, map: usize, key: &[u8], value: &[u8])
     requires key { length key.now ≤ max_key_size }

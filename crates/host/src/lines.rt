@@ -46,7 +46,8 @@ fn push_digits(line: &mut Line, number: u64)
     line.push_str(buffer.format(number));
 }
 
-// Appends a number in decimal. Most have one digit, or are the number and the length of a frame.
+// Appends a number in decimal. Most have one digit, or are the number and the length of a packet
+// frame.
 #[inline(always)]
 fn push_number(line: &mut Line, number: u64)
     requires { array_string_len line.old + 20 ≤ 96 }

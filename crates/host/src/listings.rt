@@ -1,4 +1,4 @@
-//! The lines of maps, written entry by entry and map by map. It takes no memory.
+//! The lines of maps, written key by key and map by map. It takes no memory.
 ghost use Rattle.std.specs.Prelude.{◌≡◌, ◌≢◌, ◌≤◌, [], ◌∷◌, length, map, take};
 ghost use Rattle.isa_model.specs.Code.Limits.{max_key_size, max_value_size};
 ghost use Rattle.isa_model.specs.Reporting.Reports.{ToReport, map_line, maps_pieces};
@@ -14,7 +14,7 @@ use isa_model::MapDef;
 use maps::{KEY_ROOM, Maps, Ordered};
 use std::io::Write;
 
-// Writes the line of an entry, whose key is the front of this size.
+// Writes the line of a key, which is the front of this size, and its value.
 fn write_entry<W1: Write>(
     line: &mut EntryLine,
     index: usize,
@@ -36,7 +36,7 @@ fn write_entry<W1: Write>(
     }
 }
 
-// Writes the lines of a map's entries.
+// Writes the lines of a map's keys and values.
 fn write_entries<W1: Write>(
     index: usize,
     row: MapDef,

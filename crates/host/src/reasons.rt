@@ -1,4 +1,4 @@
-//! Which frames are written out, and with what reason.
+//! Which packet frames are written out, and with what reason.
 ghost use Rattle.std.specs.Prelude.{◌≡◌};
 ghost use Rattle.isa_model.specs.Reporting.Reports.{is_sent, reason_of, end_reason};
 

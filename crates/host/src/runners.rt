@@ -1,4 +1,4 @@
-//! What runs frames.
+//! What runs packet frames.
 ghost use Rattle.std.specs.Prelude.{◌≡◌, ◌≤◌, length, List};
 ghost use Rattle.isa_model.specs.declared.map_defs.MapDef.{MapDef};
 ghost use Rattle.isa_model.specs.{Entries, max_packet};

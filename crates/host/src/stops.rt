@@ -1,4 +1,4 @@
-//! The frames whose runs ended without an action.
+//! The packet frames whose runs ended without an action.
 
 ghost use Rattle.std.specs.Prelude.{◌≡◌, [], ◌∷◌, ◌++◌};
 ghost use Rattle.host.specs.Stops.{nothing_noted, is_noted, with_first, note, noted_of};

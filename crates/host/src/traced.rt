@@ -7,7 +7,7 @@ use super::errors::HostError;
 use super::stops::Stops;
 use super::tallies::Tally;
 
-/// What the report's last line shows, and the frames whose runs ended without an action.
+/// What the report's last line shows, and the packet frames whose runs ended without an action.
 #[derive(Drop)]
 pub struct Traced {
     pub tally: Tally,

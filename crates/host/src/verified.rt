@@ -49,8 +49,8 @@ impl Runner for MachineRunner {
     }
 }
 
-/// Runs an accepted program on the frames of the stream that a source gives. The report goes to one
-/// writer, and the frames that are sent on to the other.
+/// Runs an accepted program on the packet frames of the stream that a source gives. The report goes
+/// to one writer, and the frames that are sent on to the other.
 ///
 /// What is written is exactly the report of the program and those frames; in every frame's run the
 /// step by step meaning of the program meets no trap, and it exits within the bound. Nothing is

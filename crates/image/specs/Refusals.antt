@@ -126,7 +126,7 @@ abbrev pub is_array : MapKind → Bool
 is_array Hash = false
 is_array Array = true
 
--- whether the map is an array of one entry, and the offset is within its value
+-- whether the map is an array of one key, and the offset is within its value
 abbrev pub holds_offset : ℕ → MapDef → Bool
 holds_offset offset row = is_array row.kind && row.entries == 1 && nat_lt offset row.value_size
 

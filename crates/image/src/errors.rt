@@ -22,7 +22,7 @@ pub enum ImageError {
     /// More map rows than `MAX_MAPS`.
     TooManyMaps,
     /// The map row of an index has another type than a hash or an array, or a size or a count of
-    /// entries that is out of its limits.
+    /// keys that is out of its limits.
     MapRow(usize),
     /// No slots, or more than `MAX_SLOTS`.
     SlotCount,
@@ -33,7 +33,7 @@ pub enum ImageError {
     /// The instruction that begins at a slot names a map that has no row.
     UnknownMap(usize),
     /// The instruction that begins at a slot points into the value of a map that is no array of one
-    /// entry, or past its value.
+    /// key, or past its value.
     ValuePointer(usize),
     /// Out of memory.
     Memory,

@@ -6,7 +6,7 @@ ghost use Rattle.image.specs.Refusals.{holds_offset, map_refusal, maps_refusal};
 use crate::errors::ImageError;
 use isa_model::{Insn, MapDef, MapKind};
 
-// Whether the map is an array of one entry, and the offset is within its value.
+// Whether the map is an array of one key, and the offset is within its value.
 fn holds_offset(offset: u32, row: &MapDef) -> bool
     ensures { result ≡ holds_offset offset row.now }
 {

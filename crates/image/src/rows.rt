@@ -28,7 +28,7 @@ fn key_fits(kind: MapKind, size: u16) -> bool
 }
 
 /// Whether a map row is within its limits: key sizes from 1 to 64 and for arrays 4, value sizes
-/// from 1 to 4,096, and 1 to 65,536 entries.
+/// from 1 to 4,096, and 1 to 65,536 keys.
 pub fn row_fits(row: &MapDef) -> bool
     ensures { result ≡ row_fits row.now }
 {

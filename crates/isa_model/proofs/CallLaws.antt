@@ -19,9 +19,9 @@ use Rattle.isa_model.specs.Machine.MachineStates.{IsValue, IsCell, IsCallFrame, 
 use Rattle.isa_model.proofs.ValueLaws.{IsValue-more, IsCell-more}
 use Rattle.isa_model.proofs.StateLaws.{serial_of, value_at_fits}
 
--- ---- a frame pushed
+-- ---- a call frame pushed
 
--- a frame's facts with more serials given
+-- a call frame's facts with more serials given
 pub IsCallFrame-more : (p : Program) (next more : ℕ) (f : CallFrame) → next ≤ more → IsCallFrame p next f → IsCallFrame p more f
 IsCallFrame-more p next more f le h = record {
   whole = h.whole;
@@ -42,7 +42,7 @@ new_frame_fits p next serial slot saved returns four fit = record {
   saved = fit;
 }
 
--- of all live serials, those of the frames come last
+-- of all live serials, those of the call frames come last
 frame_serials_given : (p : Program) (s : State) → IsState p s → All (λ n. n < s.next_serial) (map serial_of s.frames)
 frame_serials_given p s k =
     let values = flat_map value_serials s.maps in
@@ -50,7 +50,7 @@ frame_serials_given p s k =
     subst (All (λ n. n < s.next_serial)) (drop-append_seam values (map serial_of s.frames))
     (All-drop (λ n. n < s.next_serial) (length values) (live_serials s) all)
 
--- a live frame's serial was given
+-- a live call frame's serial was given
 pub frame_serial_given : (p : Program) (s : State) (j : ℕ) → IsState p s → j < length s.frames → (frame_at s.frames j).serial < s.next_serial
 frame_serial_given p s j k here =
     let d : CallFrame = new_frame 0 0 [] in
@@ -59,7 +59,7 @@ frame_serial_given p s j k here =
     subst (λ n. n < s.next_serial) found
     (All-get_or (λ n. n < s.next_serial) (map serial_of s.frames) j (serial_of d) (omega arith) (frame_serials_given p s k))
 
--- the serial that a call gives is not the serial of a live frame
+-- the serial that a call gives is not the serial of a live call frame
 serials_push : (xs : List ℕ) (next : ℕ) → All (λ n. n < next) xs → AllPairs (λ m n. m ≢ n) xs
     → All (λ n. n < next + 1) (xs ++ next ∷ []) × AllPairs (λ m n. m ≢ n) (xs ++ next ∷ [])
 serials_push xs next given once = (
@@ -107,7 +107,7 @@ IsState-enter p s target go back room k =
       once = rw serials pushed.1;
     }
 
--- ---- a frame popped
+-- ---- a call frame popped
 
 AllPairs-take : {X : Type 0} (R : X → X → Type 0) (n : ℕ) (xs : List X) → n ≤ length xs → AllPairs R xs → AllPairs R (take n xs)
 AllPairs-take R n xs le h i j d before within =

@@ -248,7 +248,7 @@ delete_answer_fits row content key = by row.kind (has_key key content)
 
 -- ---- serials
 
--- a content in order, by its entries without serials
+-- a content in order, by its keys and values without serials
 pub is_sorted-entries_of : (row : MapDef) (content : Content) → FitsRow row (entries_of content)
     → T (is_sorted key_order content)
 is_sorted-entries_of row content h =

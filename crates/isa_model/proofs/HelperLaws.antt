@@ -59,7 +59,7 @@ content_fits p s m row e k =
 pub map_pointer_fits : (rows next m : ℕ) → m < rows → IsValue rows next (map_pointer m)
 map_pointer_fits rows next m h = (h, omega arith)
 
--- an array of one entry has that entry
+-- an array of one key has its value
 pub has_entry : (kind : MapKind) (entries : ℕ) (keys : List (List ℕ)) → kind ≡ Array → entries ≡ 1
     → KeysFit kind entries keys → 0 < length keys
 has_entry kind entries keys array one h =

@@ -112,11 +112,12 @@ FitRows-put (r ∷ rows) (c ∷ contents) zero row es e fits h =
     (subst (λ x. FitsRow x es) same fits, h.1)
 FitRows-put (r ∷ rows) (c ∷ contents) (suc m) row es e fits h = (h.0, FitRows-put rows contents m row es e fits h.1)
 
--- the serials of the live values and frames, with another content of a map
+-- the serials of the live values and call frames, with another content of a map
 abbrev serials_with : State → ℕ → Content → List ℕ
 serials_with s m content = flat_map value_serials (slice_set s.maps m content) ++ map serial_of s.frames
 
--- a content that fits its row takes a map's place, where the live serials stay apart and below the next one
+-- a content that fits its row takes a map's place, where the live serials stay apart and below the
+-- next one
 IsState-with_content : (p : Program) (s : State) (m : ℕ) (row : MapDef) (content : Content) (next : ℕ)
     → slice_get p.maps m ≡ Some row → s.next_serial ≤ next → FitsRow row (entries_of content)
     → AreSerials next (serials_with s m content) → IsState p s

@@ -1,4 +1,5 @@
--- What contents are after a value is put: what holds of their entries, their order, which keys they have.
+-- What contents are after a value is put: what holds of their keys and values, their order, which
+-- keys they have.
 use Rattle.std.specs.Prelude.{◌≡◌, ℕ, ◌+◌, ◌≤◌, ◌&&◌, Bool, true, false, cond, T, List, [], ◌∷◌, map, length, is_some, All, Contains, Some, refl}
 use Rattle.std.specs.List.{AllByRecursion}
 use Rattle.std.specs.List.Sorted.{IsStrictlySortedBy}
@@ -14,7 +15,8 @@ use Rattle.std.proofs.lemmas.List.Elements.{All-nil, All-cons, All-head, All-tai
 use Rattle.std.proofs.lemmas.Map.Views.{Contains-from_any}
 use Rattle.isa_model.specs.Machine.MapContents.{key_order, is_key, at_key, has_key, with_key}
 
--- what holds of each entry holds of each after a value is put, if it holds of the new entry and is no matter of values
+-- what holds of each key with its value holds of each after a value is put, if it holds of the new
+-- one and is no matter of values
 pub All-with_key : {X : Type 0} (P : List ℕ × X → Type 0) (k : List ℕ) (v : X) (es : List (List ℕ × X)) → P (k, v)
     → ((j : List ℕ) (w : X) → P (j, w) → P (j, v)) → All P es → All P (with_key k v es)
 All-with_key P k v [] new changed h = All-cons P (k, v) [] new (All-nil P)
@@ -78,7 +80,7 @@ has_key-after_with_key q k v es h =
     ap is_some (find-put key_order nat_list_cmp_total q k v es)
     ∙ elim (is_key q k) as (λ b. is_some (cond b (Some v) (at_key q es)) ≡ true) [ true ↦ refl | false ↦ h ]
 
--- at most one entry more
+-- at most one key more
 pub length-with_key : {X : Type 0} (k : List ℕ) (v : X) (es : List (List ℕ × X)) → T (is_sorted key_order es)
     → length (with_key k v es) ≤ length es + 1
 length-with_key k v es h =

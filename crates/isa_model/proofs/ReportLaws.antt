@@ -27,7 +27,7 @@ reason_fits : (v : Version) (bytes : List ℕ) → AreBytes bytes → ReasonFits
 reason_fits One bytes h = refl
 reason_fits Two bytes h = little_from-lt 20 4 bytes (slice_index_fits bytes h)
 
--- the record at the front of bytes is a frame, if its body is no longer than it may be
+-- the record at the front of bytes is a packet frame, if its body is no longer than it may be
 IsFrame-frame_of : (v : Version) (bytes : List ℕ) → AreBytes bytes → length_field bytes ≤ max_body v → IsFrame v (frame_of v bytes)
 IsFrame-frame_of v bytes h short = record {
   short = let cut = length-take (length_field bytes) (drop (head_size v) bytes) in omega arith;
@@ -138,8 +138,8 @@ runs_on p n form number contents v (f ∷ frames) program h fits each =
     let (all, rest) = runs_on p n form (number + 1) next v frames program h left (All-tail (IsFrame v) f frames each) in
     ((next, exits, all), (turn_pieces (with_limit n form) number f t, turns_pieces (with_limit n form) (checked_rule p n) (number + 1) next frames, next, reports, refl, rest))
 
--- Where every run of the program exits within n steps, the checked report with that limit is the report, and every
--- frame's run exits within n steps.
+-- Where every run of the program exits within n steps, the checked report with that limit is the
+-- report, and every frame's run exits within n steps.
 pub IsReport-checked : (p : Program) (n : ℕ) (found : Stream) → IsProgram p → StartsEnd p n → FitRows p.maps (starting_contents p.maps)
     → AreFrames found
     → IsReport p found (checked_report p n found) × AllExit p n (starting_contents p.maps) found.frames

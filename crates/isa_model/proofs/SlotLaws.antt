@@ -1,4 +1,4 @@
--- Slots of 8 bytes in the only call frame, and the numbers that are known to be there.
+-- Stack slots of the only call frame, and the numbers that are known to be there.
 use Rattle.std.proofs.Common.{◌≡◌, ◌≤◌, ◌+◌, ◌-◌, ◌*◌, ◌^◌, ◌<◌, ◌∷◌, ◌++◌, [], ℕ, zero, suc, Some, Ok, Err, true, List, length, map, take, drop, arith, refl, sym, ap, ◌∙◌, subst, inl, inr, ◌⊎◌}
 use Rattle.std.specs.Prelude.{◌≢◌, ℤ, pos, ◌+ℤ◌, ◌==◌, nat_le}
 use Rattle.std.specs.List.{list_any, splice}
@@ -35,7 +35,7 @@ use Rattle.isa_model.specs.Code.Limits.{frame_size}
 abbrev pub slot_cells : List Cell → ℕ → List Cell
 slot_cells cells j = take 8 (drop (8 * j) cells)
 
--- each slot is unwritten, or has the bytes of a number that is known as a constant
+-- each stack slot is unwritten, or has the bytes of a number that is known as a constant
 pub record HasKnownSlots (holds : ℕ → ℕ → Type 0) (t : State) : Type 0 where
   pub frame : CallFrame
   pub only : t.frames ≡ frame ∷ []
@@ -80,7 +80,7 @@ splice_other xs new i j n inside here (inr behind) =
     let whole : i + length new + m ≡ j = omega (arith, behind) in
     ap (take n) (past ∙ drop-drop m (i + length new) xs ∙ ap (λ k. drop k xs) whole)
 
--- ---- the machine: `frame_index` finds the only frame, `index_at` gives 8 * j, `place_in` fits by `wide`
+-- ---- the machine: `frame_index` finds the call frame, `index_at` gives 8 * j, `place_in` fits by `wide`
 
 slot_index : (n j : ℕ) → index_at (region.Frame n) (pos 0 +ℤ slot_offset j) ≡ Some (8 * j)
 slot_index n j = let at : (pos 0 +ℤ slot_offset j) +ℤ pos frame_size ≡ pos (8 * j) = omega (arith, ints) in ap index_from at
@@ -163,7 +163,7 @@ HasKnownSlots-store old known t h j y below fits there others =
     other h j y k new inside here apart (inr known) keeps =
         inr (known.0, known.1, splice_other h.frame.cells new (8 * j) (8 * k) 8 inside here apart ∙ known.2, keeps known.0 known.3)
 
--- a step that does not change the frame
+-- a step that does not change the call frame
 pub HasKnownSlots-keep : (old new : ℕ → ℕ → Type 0) (t v : State) → HasKnownSlots old t → v.frames ≡ t.frames → reg v R10 ≡ reg t R10 → ((k z : ℕ) → old k z → new k z)
     → HasKnownSlots new v
 HasKnownSlots-keep old new t v h frames pointer keeps = record {
@@ -176,7 +176,7 @@ HasKnownSlots-keep old new t v h frames pointer keeps = record {
 
 -- ---- what the instructions do
 
--- a load of a slot by a run that does not trap finds a number that is known
+-- a load of a stack slot by a run that does not trap finds a number that is known
 pub load_acts : (holds : ℕ → ℕ → Type 0) (p : Program) (clock : ℕ → ℕ) (t : State) (d : Reg) (j : ℕ) → HasKnownSlots holds t → j < 64
     → ((e : TrapReason) → act p clock t (Load U64 d (slot_place j)) ≡ Trapped e → ⊥)
     → (y : ℕ) × holds j y × (act p clock t (Load U64 d (slot_place j)) ≡ sets t (Load U64 d (slot_place j)) d (Ok (Num y)))

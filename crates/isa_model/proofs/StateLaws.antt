@@ -1,4 +1,5 @@
--- What keeps a state a state: another slot, a register set, cells written. Of call frames, see CallLaws.
+-- What keeps a state a state: another slot, a register set, cells written. Of call frames, see
+-- CallLaws.
 use Rattle.std.specs.Prelude.{◌≡◌, ℕ, zero, suc, ◌+◌, ◌<◌, ◌≤◌, ◌==◌, nat_le, List, [], ◌∷◌, ◌++◌, map, length, slice_set, slice_index_or, All, Option, Some, None, Ok, Err, IfOk, refl}
 use Rattle.std.specs.List.{flat_map, splice}
 use Rattle.std.specs.Option.{option_map}
@@ -86,7 +87,7 @@ place_in_room None o n = tt
 abbrev pub serial_of : CallFrame → ℕ
 serial_of f = f.serial
 
--- a frame with other cells in a place
+-- a call frame with other cells in a place
 put_cells_fit : (p : Program) (next : ℕ) (f : CallFrame) (i : ℕ) (new : List Cell) → i + length new ≤ length f.cells → All (IsCell (length p.maps) next) new
     → IsCallFrame p next f → IsCallFrame p next (record f { cells = splice f.cells i (i + length new) new })
 put_cells_fit p next f i new room fit h = record {
@@ -97,7 +98,8 @@ put_cells_fit p next f i new room fit h = record {
   saved = h.saved;
 }
 
--- the frames with cells put into one of them: they are frames, as many, with the same serials
+-- the call frames with cells put into one of them: they are call frames, as many, with the same
+-- serials
 pub put_frame_fits : (p : Program) (next : ℕ) (fs : List CallFrame) (o : Option ℕ) (i : ℕ) (new : List Cell)
     → ((j : ℕ) → o ≡ Some j → j < length fs) → HasCells (option_map (λ j. (frame_at fs j).cells) o) i (length new)
     → All (IsCell (length p.maps) next) new → All (IsCallFrame p next) fs
@@ -169,7 +171,7 @@ put_value_fits row content (Some j) i new within bytes h =
     let same : entries_of (slice_set content j f) ≡ slice_set es j x = map-set (λ e. (e.0, e.1.bytes)) content j f in
     rw same fits
 
--- an entry that a serial finds is there, and so is the place in its value
+-- a key whose value a serial finds is there, and so is the place in its value
 pub entry_room : (content : Content) (n i len : ℕ) (o : Option ℕ) → entry_index content n ≡ o
     → HasCells (option_map (λ j. map Byte (entry_at content j).1.bytes) o) i len
     → (j : ℕ) → o ≡ Some j → (j < length content) × (i + len ≤ length (entry_at content j).1.bytes)
@@ -180,7 +182,7 @@ entry_room content n i len (Some k) e room j h =
     let long = length-map (entry_at content k).1.bytes Byte in
     rw (← same) (place.0, omega arith)
 
--- a frame that a serial finds is there
+-- a call frame that a serial finds is there
 pub frame_room : (fs : List CallFrame) (n : ℕ) (j : ℕ) → frame_index fs n ≡ Some j → j < length fs
 frame_room fs n j e = (position-Some (λ f. f.serial == n) fs j (new_frame 0 0 []) e).0
 

@@ -155,7 +155,7 @@ frames_from-frame_bytes (suc fuel) more v number offset f rest e early ok a b =
 pub AreOpen-nil : (v : Version) → AreOpen v []
 AreOpen-nil v = record { few = omega arith; fit = All-nil (IsFrame v) }
 
--- one more frame is allowed there, while there are not too many
+-- one more packet frame is allowed there, while there are not too many
 pub AreOpen-push : (v : Version) (frames : List Frame) (f : Frame) → AreOpen v frames → length frames < max_frames → IsFrame v f → AreOpen v (frames ++ f ∷ [])
 AreOpen-push v frames f h more ok = record {
   few = omega (arith, length-append frames (f ∷ []));
@@ -211,7 +211,8 @@ stream_of-magic v rest e =
 abbrev pub offset_after : Version → List Frame → ℕ
 offset_after v frames = 4 + length (records_bytes v frames)
 
--- The stream of an input that begins with records in a row has these records, and then those after them.
+-- The stream of an input that begins with records in a row has these records, and then those after
+-- them.
 pub stream_of-records : (v : Version) (fs : List Frame) (rest : List ℕ) (e : InputEnding)
     → AreOpen v fs
     → stream_of (record { bytes = stream_magic v ++ (records_bytes v fs ++ rest); ending = e })

@@ -105,7 +105,7 @@ pub enum Insn {
     LoadNumber(Reg, u64),
     /// A wide load: destination = the map of an index. It fills two slots.
     LoadMap(Reg, u32),
-    /// A wide load: destination = a pointer into the one value of an array of one entry: the map's
+    /// A wide load: destination = a pointer into the one value of an array of one key: the map's
     /// index, and an offset in bytes. It fills two slots.
     LoadMapValue(Reg, u32, u32),
     /// LDX MEM: destination = the bytes, zero-extended.

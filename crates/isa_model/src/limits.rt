@@ -13,10 +13,10 @@ pub const MAX_KEY_SIZE: u16 = 64;
 /// The most bytes of a map's value.
 pub const MAX_VALUE_SIZE: u32 = 4096;
 
-/// The most entries of a map.
+/// The most keys of a map.
 pub const MAX_MAP_ENTRIES: u32 = 65_536;
 
-/// The most bytes of all keys and values together, each map with as many entries as it can have.
+/// The most bytes of all keys and values together, each map with as many keys as it can have.
 pub const MAX_MAP_ROOM: u64 = 16_777_216;
 
 /// The bytes of stack of a call frame. Linux, `MAX_BPF_STACK`.

@@ -7,7 +7,7 @@ pub enum MapKind {
     Array,
 }
 
-/// A map row: the type, the sizes in bytes of a key and of a value, and the most entries.
+/// A map row: the type, the sizes in bytes of a key and of a value, and the most keys.
 #[derive(Clone, Copy, PartialEq, Eq, Debug)]
 pub struct MapDef {
     pub kind: MapKind,

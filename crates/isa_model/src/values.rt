@@ -43,8 +43,8 @@ pub enum Cell {
 pub struct CallFrame {
     pub serial: u64,
     pub cells: [Cell; FRAME_SIZE],
-    /// The slot to which it returns; 0 in the first frame.
+    /// The slot to which it returns; 0 in the first call frame.
     pub return_slot: usize,
-    /// The caller's r6 to r9; unset in the first frame.
+    /// The caller's r6 to r9; unset in the first call frame.
     pub saved: [Value; 4],
 }

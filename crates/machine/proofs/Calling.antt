@@ -1,4 +1,4 @@
--- Frames pushed and popped.
+-- Call frames pushed and popped.
 use Rattle.std.proofs.Common.{◌≡◌, ℕ, zero, suc, ◌+◌, ◌-◌, ◌*◌, ◌<◌, ◌≤◌, List, [], ◌∷◌, ◌++◌, length, length-append, take, replicate, refl, sym, ap, subst, ◌∙◌, arith, add-zero, inl, inr, slice_set, get_or-set_same, get_or-set_other, length-set}
 use Rattle.std.proofs.lemmas.Bool.{cases_lt}
 use Rattle.std.proofs.lemmas.List.{length-take-le, get_or-take, get_or_past}
@@ -110,7 +110,7 @@ module _ (regs kept : List ℕ) (top : ℕ) (long : length regs ≡ 11) where
   back_10 = get_or-set_same R9 10 top 0 (omega (arith, l9))
 
 module _ (p : Program) (a : Layout) (s : State) (w : Words) (R : Related p a s w) (K : IsState p s) where
-  -- ---- a frame pushed
+  -- ---- a call frame pushed
 
   abbrev n : ℕ
   n = length s.frames
@@ -118,7 +118,7 @@ module _ (p : Program) (a : Layout) (s : State) (w : Words) (R : Related p a s w
   abbrev next : ℕ
   next = s.next_serial
 
-  -- the new frame's serial is at the depth of the frames before it
+  -- the new call frame's serial is at the depth of the call frames before it
   abbrev b : Layout
   b = with_depth a next n
 
@@ -221,7 +221,7 @@ module _ (p : Program) (a : Layout) (s : State) (w : Words) (R : Related p a s w
     calls = R.calls;
   }
 
-  -- ---- a frame popped
+  -- ---- a call frame popped
 
   pub leave_related : 0 < length w.saved → Related p a (leave s) (word_leave w)
   leave_related called =

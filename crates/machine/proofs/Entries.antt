@@ -178,7 +178,7 @@ entry_of [] k value e = absurd (cc)
 entry_of (x ∷ es) zero value e = (x, refl, cc)
 entry_of (x ∷ es) (suc k) value e = entry_of es k value e
 
--- the entry that is found at k is copied
+-- the key and the value that are found at k are copied
 module _ (row : MapDef) (es : Entries) (k : ℕ) (value : List ℕ) (are : All (IsSized row) es) (is : Some value ≡ option_map (λ e. e.1) (slice_get es k)) where
   sizes_of : (e : List ℕ × List ℕ) → slice_get es k ≡ Some e → IsSized row e
   sizes_of e there =

@@ -1,4 +1,5 @@
--- The values of maps in their blocks: where a live value's bytes are, and what a write into one leaves.
+-- The values of maps in their blocks: where a live value's bytes are, and what a write into one
+-- leaves.
 use Rattle.std.proofs.Common.{◌≡◌, ℕ, zero, suc, ◌+◌, ◌*◌, ◌<◌, ◌≤◌, List, [], ◌∷◌, length, map, refl, sym, ap, subst, ◌∙◌, arith, Bool, true, false, Some, inl, inr, get_or-set_same, get_or-set_other, slice_set}
 use Rattle.std.specs.Prelude.{slice_index_or, T, ◌&&◌}
 use Rattle.std.specs.List.{splice}
@@ -43,7 +44,7 @@ no_content [] m h = refl
 no_content (c ∷ contents) zero h = absurd (omega arith)
 no_content (c ∷ contents) (suc m) h = no_content contents m (omega arith)
 
--- only a map of the program has entries
+-- only a map of the program has keys
 pub live_map : (p : Program) (s : State) (m j : ℕ) → IsState p s → j < length (content_of s m) → m < length p.maps
 live_map p s m j K h = elim (cases_lt m (length p.maps)) [
   | inl l ↦ l
@@ -110,7 +111,7 @@ module _ (a : Layout) (m : ℕ) (content : Content) (state : MapState) (shown : 
   as_many =
       sym (length-changed (by_serial a m) content) ∙ ap length shown.same ∙ length-changed (by_place size state.block) listed
 
-  -- an entry is that of a place
+  -- a key is that of a place
   pub at_place : (j : ℕ) → j < length content
       → ◌≡◌ {A = List ℕ × (ℕ × List ℕ)} ((entry_at content j).0, by_serial a m (entry_at content j).1)
       ((place_at j).0, by_place size state.block (place_at j).1)

@@ -103,7 +103,7 @@ module _ (p : Program) (a : Layout) (s : State) (w : Words) (R : Related p a s w
       let far : 8589934592 ≤ x = omega arith in
       rw spot (omega arith, cells, far))
 
-  -- the frame at a depth
+  -- the call frame at a depth
   pub frame_whole : (j : ℕ) → j < length s.frames → length (frame_at s.frames j).cells ≡ frame_size
   frame_whole j h = (All-get_or (IsCallFrame p s.next_serial) s.frames j (new_frame 0 0 []) h K.frames).whole
 
@@ -121,7 +121,7 @@ module _ (p : Program) (a : Layout) (s : State) (w : Words) (R : Related p a s w
       let far : 8589934592 ≤ x = omega arith in
       rw spot (omega arith, cells, far))
 
-  -- the depth of a live frame's serial is its place
+  -- the depth of a live call frame's serial is its place
   pub live_depth : (n j : ℕ) → frame_index_of s.frames n ≡ Some j → (j < length s.frames) × (a.depth n ≡ j)
   live_depth n j e =
       let (here, same, first) = position-Some (λ f. f.serial == n) s.frames j (new_frame 0 0 []) e in

@@ -24,7 +24,7 @@ use Rattle.machine.proofs.Arguments.{row_of}
 use Rattle.machine.proofs.MapCalls.{found}
 
 module _ (a : Layout) (m : ℕ) (state : MapState) where
-  -- an array of one entry has that entry
+  -- an array of one key has its value
   has_entry : (content : Content) → RepresentsMap a m content state → state.row.kind ≡ Array → state.row.entries ≡ 1 → 0 < length content
   has_entry [] shown array one =
       let here : get state.places (little_bytes 4 0) ≡ Some 0 =

@@ -44,7 +44,7 @@ use Rattle.machine.proofs.Cells.{shows-take, shows-drop, shows-append, shows-byt
 use Rattle.word_machine.proofs.FrameLaws.{spot_frame}
 use Rattle.machine.proofs.Loading.{spot_packet, spot_value, frame_whole, live_depth, live_value}
 
--- a frame of a list in which one was replaced
+-- a call frame of a list in which one was replaced
 at_set : (fs : List CallFrame) (j k : ℕ) (g : CallFrame) (P : CallFrame → Type 0) → j < length fs → (k ≡ j → P g) → ((k ≡ j → ⊥) → P (frame_at fs k)) → P (frame_at (slice_set fs j g) k)
 at_set fs j k g P here same other =
     let d : CallFrame = new_frame 0 0 [] in

@@ -13,7 +13,8 @@ use Rattle.word_machine.specs.Words.{Words}
 
 -- ---- whole runs
 
--- what a run is given: a program all of whose runs end within n steps, with no more maps than `max_maps`
+-- what a run is given: a program all of whose runs end within n steps, with no more maps than
+-- `max_maps`
 pub record IsStart (p : Program) (clock : ℕ → ℕ) (n : ℕ) (head : FrameHead) (packet frames : List ℕ) (maps : List MapState) : Type 0 where
   pub program : IsProgram p
   pub ends : StartsEnd p n
@@ -24,7 +25,8 @@ pub record IsStart (p : Program) (clock : ℕ → ℕ) (n : ℕ) (head : FrameHe
   pub are_maps : All IsMap maps
   pub rows : rows_of maps ≡ p.maps
 
--- the number, the steps and what is left are those of the run's outcome, which has at most n steps; the first frame
+-- the number, the steps and what is left are those of the run's outcome,
+-- which has at most n steps; the first call frame
 -- is the only one again, and the maps are still those of the rows
 pub record AnswersAsModel (p : Program) (clock : ℕ → ℕ) (n : ℕ) (head : FrameHead) (packet : List ℕ) (maps : List MapState) (number steps : ℕ) (v : Words) : Type 0 where
   pub outcome : Outcome

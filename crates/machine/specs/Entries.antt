@@ -18,11 +18,11 @@ content_at r m = slice_index_or r.contents m []
 abbrev pub with_content : Running → ℕ → Entries → Running
 with_content r m content = record r { contents = slice_set r.contents m content }
 
--- the entries of a map in the order of the report
+-- the keys and values of a map in the order of the report
 abbrev pub ordered_at : Running → ℕ → Entries
 ordered_at r m = in_report_order (row_at r m).kind (row_at r m).entries (content_at r m)
 
--- the key or the value of an entry, if there is one
+-- a key or its value, if there is one
 abbrev pub key_or : Option (List ℕ × List ℕ) → List ℕ → List ℕ
 key_or None bytes = bytes
 key_or (Some entry) bytes = entry.0
@@ -41,7 +41,7 @@ pub record AnswersDelete (m : ℕ) (key : List ℕ) (result : ℕ) (old new : Ru
   pub answer : result ≡ delete_answer (row_at old m) (content_at old m) key
   pub machine : new ≡ with_content old m (after_delete (row_at old m) (content_at old m) key)
 
--- an entry, if there is one, is copied to where a key and a value have room
+-- a key and its value, if there is one, are copied to where both have room
 pub record CopiesEntry (found : Option (List ℕ × List ℕ)) (answer : Bool) (old_key new_key old_value new_value : List ℕ) : Type 0 where
   pub answer_is : answer ≡ is_some found
   pub key_is : new_key ≡ key_or found old_key

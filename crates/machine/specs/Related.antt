@@ -1,5 +1,5 @@
--- How words represent a state, under one layout: which depth each frame's serial has, and where in
--- its map's block each value's serial begins. What is gone keeps its place.
+-- How words represent a state, under one layout: which depth each call frame's serial has, and
+-- where in its map's block each value's serial begins. What is gone keeps its place.
 use Rattle.std.specs.Prelude.{◌≡◌, ℕ, suc, ◌+◌, ◌-◌, ◌*◌, ◌<◌, ◌≤◌, ℤ, pos, negsuc, List, [], ◌∷◌, length, slice_index, slice_index_or}
 use Rattle.std.specs.FinMap.{entries}
 use Rattle.std.specs.Int.{byte_at}
@@ -22,7 +22,8 @@ use Rattle.word_machine.specs.Addresses.{context_base, packet_base, map_base, va
 use Rattle.word_machine.specs.declared.memory.Saved.{Saved}
 use Rattle.word_machine.specs.Words.{Words, saved_at}
 
--- one total assignment: `depth` of a frame's serial, `value` of a map and a value's serial; `end` is the packet's length
+-- one total assignment: `depth` of a call frame's serial, `value` of a map and a value's serial;
+-- `end` is the packet's length
 pub record Layout : Type 0 where
   pub depth : ℕ → ℕ
   pub value : ℕ → ℕ → ℕ
@@ -77,9 +78,9 @@ pub record RepresentsRegisters (a : Layout) (regs : List Value) (words : List �
   pub count : length words ≡ 11
   pub shown : (k : ℕ) → Represents a (value_at regs k) (slice_index words k)
 
--- ---- frames
+-- ---- call frames
 
--- the frame at depth j has its bytes from j * frame_size on
+-- the call frame at depth j has its bytes from j * frame_size on
 pub record RepresentsFrame (a : Layout) (f : CallFrame) (j : ℕ) (frames : List ℕ) : Type 0 where
   pub depth : a.depth f.serial ≡ j
   pub cells : RepresentsCells a f.cells (bytes_at frames (j * frame_size) frame_size)
@@ -89,7 +90,7 @@ pub record RepresentsSaved (a : Layout) (f : CallFrame) (s : Saved) : Type 0 whe
   pub back : s.back ≡ f.return_slot
   pub kept : (k : ℕ) → Represents a (value_at f.saved k) (slice_index s.kept k)
 
--- each frame but the first has a caller
+-- each call frame but the first has a caller
 pub record RepresentsFrames (a : Layout) (fs : List CallFrame) (block : List ℕ) (callers : List Saved) : Type 0 where
   pub whole : length block ≡ frames_size
   pub depth : length fs ≡ length callers + 1

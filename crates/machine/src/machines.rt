@@ -138,8 +138,8 @@ impl Machine {
         self.memory.maps.lookup(map, key)
     }
 
-    /// Writes the value of a key between runs, or adds the key. The answer is 0, or the error of the
-    /// first test that fails, and then the machine stays as it is.
+    /// Writes the value of a key between runs, or adds the key. The answer is 0, or the error of
+    /// the first test that fails, and then the machine stays as it is.
     pub fn update(&mut self, map: usize, key: &[u8], value: &[u8], flags: u64) -> u64
         requires map { map < length self.old.program.maps }
         requires key_size { length key.now ≡ (row_at self.old map).key_size }
@@ -152,7 +152,8 @@ impl Machine {
         answer
     }
 
-    /// Removes a key between runs. The answer is 0, or an error, and then the machine stays as it is.
+    /// Removes a key between runs. The answer is 0, or an error, and then the machine stays as it
+    /// is.
     pub fn delete(&mut self, map: usize, key: &[u8]) -> u64
         requires map { map < length self.old.program.maps }
         requires key_size { length key.now ≡ (row_at self.old map).key_size }
@@ -164,8 +165,8 @@ impl Machine {
         answer
     }
 
-    /// Copies the k-th entry of a map between runs, from 0, in the order of the report, and answers
-    /// whether there is one. It takes no memory, but goes through all entries.
+    /// Copies the k-th key of a map with its value between runs, from 0, in the order of the
+    /// report, and answers whether there is one. It takes no memory, but goes through all keys.
     pub fn copy_entry(&mut self, map: usize, k: usize, key: &mut [u8], value: &mut [u8]) -> bool
         requires map { map < length self.old.program.maps }
         requires key_size { length key.old ≡ (row_at self.old map).key_size }

@@ -36,7 +36,7 @@ frame_of a j = slice_index_or (frames_of a) j no_frame
 abbrev pub kinds_of : State → ℕ → List Kind
 kinds_of a j = (frame_of a j).registers
 
--- and its slots
+-- and its stack slots
 abbrev pub slots_of : State → ℕ → List Slot
 slots_of a j = (frame_of a j).stack.slots
 
@@ -68,7 +68,7 @@ pub record MeansBy (p : Program) (e : Assigned) (a : State) (s : Machine.State) 
   -- the registers that a call saved for the frame are in the frame that it pushed
   pub kept : (j k : ℕ) → suc j < depth a → k < 4
       → Allows e (kind_at (kinds_of a j) (6 + k)) (value_at (frame_at s.frames (suc j)).saved k)
-  -- each live frame's slots mean its cells
+  -- each live frame's stack slots mean its cells
   pub stacks : (j : ℕ) → j < depth a → StackMeans e (slots_of a j) (frame_at s.frames j).cells
 
 -- one assignment is used for the whole state

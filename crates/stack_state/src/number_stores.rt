@@ -1,4 +1,4 @@
-//! Bytes of a number that are written into a slot.
+//! Bytes of a number that are written into a stack slot.
 
 ghost use Rattle.std.specs.Prelude.{◌≡◌, ◌+◌, ◌*◌, ◌/◌, ◌%◌, ◌<◌, ◌≤◌, IsTrue, slice_set};
 ghost use Rattle.isa_model.specs.Code.Limits.{frame_size};

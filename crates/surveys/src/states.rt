@@ -34,7 +34,7 @@ fn put_registers(alloc: Global, state: &State, text: &mut String) -> Result<(), 
     Ok(())
 }
 
-/// Whether something is known of a slot of a call frame.
+/// Whether something is known of a stack slot.
 fn is_known(state: &State, frame: u8, slot: usize) -> bool {
     match state.stack_of(frame) {
         Some(stack) => match stack.slots.get(slot) {
@@ -45,7 +45,7 @@ fn is_known(state: &State, frame: u8, slot: usize) -> bool {
     }
 }
 
-/// Adds a line for each slot of a call frame's stack about which something is known.
+/// Adds a line for each stack slot of a call frame about which something is known.
 fn put_frame(alloc: Global, state: &State, frame: u8, text: &mut String) -> Result<(), AllocError> {
     for slot in 0..FRAME_SIZE / 8 {
         if is_known(state, frame, slot) {

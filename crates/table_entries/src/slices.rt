@@ -14,7 +14,7 @@ pub fn skip(bytes: &[u8], count: usize) -> &[u8]
     &bytes[count..]
 }
 
-/// The number in the two bytes at a place, the lowest first.
+/// The number in the two bytes at an index, the lowest first.
 #[inline(always)]
 pub fn u16_at(bytes: &[u8], at: usize) -> u16
     requires { at + 2 ≤ length bytes.now }
@@ -23,7 +23,7 @@ pub fn u16_at(bytes: &[u8], at: usize) -> u16
     get16(bytes, at)
 }
 
-/// The number in the four bytes at a place, the lowest first.
+/// The number in the four bytes at an index, the lowest first.
 #[inline(always)]
 pub fn u32_at(bytes: &[u8], at: usize) -> u32
     requires { at + 4 ≤ length bytes.now }
@@ -32,7 +32,7 @@ pub fn u32_at(bytes: &[u8], at: usize) -> u32
     get32(bytes, at)
 }
 
-/// The number in the eight bytes at a place, the lowest first.
+/// The number in the eight bytes at an index, the lowest first.
 #[inline(always)]
 pub fn u64_at(bytes: &[u8], at: usize) -> u64
     requires { at + 8 ≤ length bytes.now }

@@ -1,4 +1,5 @@
--- Through pointers to map values: what the machine loads, stores and moves is allowed by what is given for it.
+-- Through pointers to map values: what the machine loads, stores and moves is allowed by what is
+-- given for it.
 use Rattle.std.specs.Prelude.{◌≡◌, ℕ, ◌+◌, ◌-◌, ◌*◌, ◌^◌, ◌<◌, ◌≤◌, ◌==◌, ℤ, pos, ◌+ℤ◌, ◌-ℤ◌, ◌≤ℤ◌, if◌then◌else◌, nat_le, nat_lt, Bool, true, false, cond, List, [], ◌∷◌, map, take, drop, length, slice_get, slice_set, slice_index_or, Contains, All, Option, Some, None, IsSomeAnd, Result, Ok, IfOk, refl}
 use Rattle.std.specs.List.{position_or_len}
 use Rattle.std.proofs.Common.{inl, inr, sym, ap, ◌∙◌, subst, arith}
@@ -73,7 +74,7 @@ first_there p xs k d within passes =
       | inr past ↦ let fails : p (slice_index_or xs k d) ≡ false = fails_before_first p xs k d (omega arith) in absurd (cc)
     ]
 
--- the entry of a live value is found by its serial
+-- the key of a live value is found by its serial
 live_entry : (content : Content) (n : ℕ) → Contains (value_serials content) n
     → (j : ℕ) × (j < length content) × (entry_index content n ≡ Some j)
 live_entry content n live =

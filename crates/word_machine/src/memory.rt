@@ -1,4 +1,4 @@
-//! The machine's memory: the block of frames, the blocks of maps, and what callers left.
+//! The machine's memory: the block of call frames, the blocks of maps, and what callers left.
 
 ghost use Rattle.std.specs.Prelude.{◌≡◌, ◌+◌, ◌-◌, ◌*◌, ◌/◌, ◌%◌, ◌<◌, ◌≤◌, ℕ, List, [], length, vec_capacity, IfOk};
 ghost use Rattle.isa_model.specs.Code.Limits.{max_packet, max_call_frames, max_value_size};
@@ -39,7 +39,8 @@ pub struct Memory {
 }
 
 impl Memory {
-    /// Frames of zeros beside these maps, and no caller. All room that a run fills is made here.
+    /// Call frames of zeros beside these maps, and no caller. All room that a run fills is made
+    /// here.
     pub fn new(alloc: Global, maps: Maps) -> Result<Self, AllocError>
         ensures frames { IfOk result (λ memory. length memory.frames.items ≡ frames_size) }
         ensures saved { IfOk result (λ memory. memory.saved.items ≡ []) }

@@ -43,7 +43,7 @@ impl Core {
         ];
     }
 
-    /// Leaves the innermost frame, which is not the first.
+    /// Leaves the innermost call frame, which is not the first.
     pub fn leave(&mut self)
         requires { 2 ≤ vec_len self.old.frames }
         ensures state { (packet : List ℕ)

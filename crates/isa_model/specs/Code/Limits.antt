@@ -1,4 +1,5 @@
--- The limits of programs, maps, packets and runs, each once. docs/FORMATS.md, docs/MEANING.md; Linux's where it is named.
+-- The limits of programs, maps, packets and runs, each once. docs/FORMATS.md, docs/MEANING.md;
+-- Linux's where it is named.
 use Rattle.std.specs.Prelude.{ℕ, ◌^◌}
 use Rattle.isa_model.specs.declared.versions.Version.{Version}
 use Rattle.isa_model.specs.declared.versions.Version.TheVariants.{One, Two}
@@ -27,11 +28,11 @@ max_key_size = 64
 abbrev pub max_value_size : ℕ
 max_value_size = 4096
 
--- entries of a map
+-- keys of a map
 abbrev pub max_map_entries : ℕ
 max_map_entries = 65536
 
--- bytes of all keys and values together, each map with as many entries as it can have
+-- bytes of all keys and values together, each map with as many keys as it can have
 abbrev pub max_map_room : ℕ
 max_map_room = 16777216
 

@@ -1,4 +1,5 @@
--- Map rows: their limits, and the rows that an instruction names. bpf(2), BPF_MAP_CREATE; the limits are this project's
+-- Map rows: their limits, and the rows that an instruction names. bpf(2), BPF_MAP_CREATE;
+-- the limits are this project's
 -- own.
 use Rattle.std.specs.Prelude.{◌≡◌, ℕ, ◌<◌, ◌≤◌, List, length, slice_get, IsSomeAnd}
 use Rattle.isa_model.specs.declared.instructions.Insn.{Insn}
@@ -21,13 +22,14 @@ pub record IsRow (row : MapDef) : Type 0 where
   pub some_entries : 1 ≤ row.entries
   pub few_entries : row.entries ≤ max_map_entries
 
--- the map is an array of one entry, and the offset is within its value
+-- the map is an array of one key, and the offset is within its value
 pub record HoldsOffset (offset : ℕ) (row : MapDef) : Type 0 where
   pub array : row.kind ≡ Array
   pub one : row.entries ≡ 1
   pub within : offset < row.value_size
 
--- the map that a wide load names has a row, and the value that it points into is the only one of its map
+-- the map that a wide load names has a row, and the value that it points into is the only one of
+-- its map
 abbrev pub NamesRows : List MapDef → Insn → Type 0
 NamesRows rows (LoadMap d m) = m < length rows
 NamesRows rows (LoadMapValue d m offset) = IsSomeAnd (slice_get rows m) (HoldsOffset offset)

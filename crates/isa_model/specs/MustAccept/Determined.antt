@@ -16,7 +16,7 @@ use Rattle.isa_model.specs.MustAccept.Paths.{IsPlainForm, Each, IsOneOf, IsWhole
 
 -- ---- forms
 
--- from a frame's end, slot j of 8 bytes, counted from the lowest address on
+-- from a call frame's end, stack slot j, counted from the lowest address on
 abbrev pub slot_offset : ℕ → ℤ
 slot_offset j = pos (8 * j) -ℤ pos frame_size
 

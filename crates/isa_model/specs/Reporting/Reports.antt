@@ -1,4 +1,5 @@
--- What running a program over a frame stream writes: the report and the frames out, as pieces in their order. docs/FORMATS.md.
+-- What running a program over a frame stream writes: the report and the frames out, as pieces in
+-- their order. docs/FORMATS.md.
 use Rattle.std.specs.Prelude.{◌≡◌, ℕ, ◌+◌, ◌/◌, ◌^◌, ◌==◌, if◌then◌else◌, Bool, true, false, List, [], ◌∷◌, ◌++◌, length, map, fold, replicate, codes, decimal, Option, Some, None}
 use Rattle.std.specs.List.{flat_map, filter_map, range_with_len}
 use Rattle.std.specs.Option.{option_map}
@@ -71,7 +72,8 @@ reason_of program value = if is_forwarded (action_of value) then 0 else told_rea
 
 -- ---- lines, each ended by one line feed
 
--- what the lines depend on beside the runs: the limit of steps, and the versions of the program and of the stream
+-- what the lines depend on beside the runs: the limit of steps, and the versions of the program and
+-- of the stream
 pub record ReportForm : Type 0 where
   pub limit : ℕ
   pub program : Version
@@ -96,7 +98,7 @@ frame_line form number Limit size =
 unfoldable pub skip_line : ℕ → ℕ → ℕ → List ℕ
 skip_line number size reason = decimal number ++ codes " SKIP " ++ decimal size ++ codes " 0 " ++ decimal reason ++ codes "\n"
 
--- an entry's line, by the map's index, in lower-case hexadecimal
+-- the line of a key and its value, by the map's index, in lower-case hexadecimal
 unfoldable pub map_line : ℕ → (List ℕ × List ℕ) → List ℕ
 map_line index e =
     codes "map " ++ decimal index ++ codes " " ++ encode_lower e.0 ++ codes " " ++ encode_lower e.1 ++ codes "\n"
@@ -231,7 +233,8 @@ checked_report p limit found = report_of limit p.version p.maps (checked_rule p 
 abbrev pub turn_by : Outcome → Turn
 turn_by o = record { ends = Exit o.number o.steps; packet = o.packet; contents = o.contents; clock_calls = o.clock_calls }
 
--- a frame without a reason has the pieces of its run's outcome, which leaves the contents; every other one is skipped
+-- a frame without a reason has the pieces of its run's outcome, which leaves the contents;
+-- every other one is skipped
 abbrev pub ReportsFrame : ReportForm → Program → ℕ → List Entries → Frame → Bool → List Piece → List Entries → Type 0
 ReportsFrame form p number contents f true pieces next =
     (o : Outcome) × HasOutcome p f.head f.body contents (λ k. f.head.time) o

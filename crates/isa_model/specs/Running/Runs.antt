@@ -26,13 +26,13 @@ abbrev pub count_values : List Entries → ℕ
 count_values [] = 0
 count_values (m ∷ ms) = length m + count_values ms
 
--- r1 points to the context and r10 to the end of the first frame
+-- r1 points to the context and r10 to the end of the first call frame
 abbrev pub start_regs : ℕ → List Value
 start_regs serial =
     Unset ∷ Ptr region.Context (pos 0) ∷ Unset ∷ Unset ∷ Unset ∷ Unset ∷ Unset ∷ Unset ∷ Unset ∷ Unset
     ∷ frame_pointer serial ∷ []
 
--- the values have the serials 0, 1, .. and the first frame the next one
+-- the values have the serials 0, 1, .. and the first call frame the next one
 unfoldable pub start_state : FrameHead → List ℕ → List Entries → State
 start_state head packet contents =
     record {
@@ -80,7 +80,8 @@ Runs p clock s (suc n) a = (t : State) × Reaches p clock s n t × (step p clock
 
 -- ---- outcomes
 
--- what a run that exits gives: r0, the packet and the map contents as they are then, its steps, and how often it asked the clock
+-- what a run that exits gives: r0, the packet and the map contents as they are then, its steps, and
+-- how often it asked the clock
 pub record Outcome : Type 0 where
   pub number : ℕ
   pub packet : List ℕ
@@ -115,6 +116,6 @@ abbrev pub turn_of : Progress → Turn
 turn_of (GoesOn s) = left Limit s
 turn_of (Ended e s) = left e s
 
--- one run on a frame, stopped at the limit
+-- one run on a packet frame, stopped at the limit
 unfoldable pub turn : Program → ℕ → (ℕ → ℕ) → FrameHead → List ℕ → List Entries → Turn
 turn p limit clock head packet contents = turn_of (progress p clock limit (start_state head packet contents))

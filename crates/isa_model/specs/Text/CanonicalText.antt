@@ -1,6 +1,6 @@
--- Canonical text: the one text of a program, a line for its version where it is not the first, one for each map row and
--- then for each instruction. docs/FORMATS.md.
--- Numbers are decimal, those of wide loads hexadecimal. Jump distances count slots from the one after the instruction.
+-- Canonical text: the one text of a program, a line for its version where it is not the first, one
+-- for each map row and then for each instruction. docs/FORMATS.md. Numbers are decimal, those of
+-- wide loads hexadecimal. Jump distances count slots from the one after the instruction.
 --
 -- Signs and words have no spaces: each space is written out in the definition of its line.
 use Rattle.std.specs.Prelude.{ℕ, suc, ℤ, pos, negsuc, true, false, List, [], ◌∷◌, ◌++◌, Option, Some, None, codes, decimal}
@@ -212,7 +212,7 @@ abbrev pub kind_text : MapKind → List ℕ
 kind_text Hash = codes "hash"
 kind_text Array = codes "array"
 
--- a map row's line: the type, the key's size, the value's size and the most entries
+-- a map row's line: the type, the key's size, the value's size and the most keys
 unfoldable pub row_line : MapDef → List ℕ
 row_line row =
     codes "map " ++ kind_text row.kind ++ codes " " ++ decimal row.key_size ++ codes " " ++ decimal row.value_size

@@ -1,4 +1,5 @@
--- Worked examples of jumps, local calls and exits, and of the order of traps, computed from the definitions.
+-- Worked examples of jumps, local calls and exits, and of the order of traps, computed from the
+-- definitions.
 use Rattle.std.specs.Prelude.{◌≡◌, ℤ, pos, negsuc, List, [], ◌∷◌, ◌++◌, map, replicate, refl}
 use Rattle.isa_model.specs.declared.registers.Reg.{Reg}
 use Rattle.isa_model.specs.declared.registers.Reg.TheVariants.{R0, R1, R2, R3, R4, R5, R6, R7, R8, R9, R10}
@@ -151,8 +152,9 @@ pub frames_of_their_own : map with_frames_of_their_own (insn.StoreConstant U64 (
 unfolding turn progress start_state new_frame step act alu holds sign_extended reordered
 frames_of_their_own = refl
 
--- call pc+3; r1 = r0; call pc+3; exit; r0 = r10; exit; *(u64 *)(r10 - 8) = 1; r0 = *(u64 *)(r1 - 8); exit:
--- the frame of the first call is gone for ever, also while another one lives at its depth
+-- call pc+3; r1 = r0; call pc+3; exit; r0 = r10; exit; *(u64 *)(r10 - 8) = 1;
+-- r0 = *(u64 *)(r1 - 8); exit:
+-- the call frame of the first call is gone for ever, also while another one lives at its depth
 pub pointer_into_a_frame_that_is_gone : end_on (insn.CallLocal (pos 3) ∷ copy R1 R0 ∷ insn.CallLocal (pos 3) ∷ insn.Exit ∷ copy R0 R10 ∷ insn.Exit
     ∷ insn.StoreConstant U64 (below R10 8) (pos 1) ∷ insn.Load U64 R0 (below R1 8) ∷ insn.Exit ∷ []) [] 100
     ≡ Trap BadAccess 6
@@ -164,7 +166,7 @@ abbrev pub deep : ℤ → End
 deep n =
     end_on (set R1 n ∷ if_constant Equal R1 (pos 0) (pos 2) ∷ add R1 (negsuc 0) ∷ insn.CallLocal (negsuc 2) ∷ set R0 (pos 4) ∷ insn.Exit ∷ []) [] 100
 
--- seven calls in one another make eight frames, and the eighth call a ninth
+-- seven calls in one another make eight call frames, and the eighth call a ninth
 pub eight_frames : map deep (pos 7 ∷ pos 8 ∷ []) ≡ Exit 4 39 ∷ Trap TooManyFrames 24 ∷ []
 unfolding turn progress start_state new_frame step act alu holds sign_extended reordered
 eight_frames = refl

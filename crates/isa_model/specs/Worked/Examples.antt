@@ -1,5 +1,6 @@
 -- Worked examples: what small programs do, computed from the definitions only.
--- An end names its step, so `Exit a n` says that step n is the exit and that the n - 1 before it go on;
+-- An end names its step, so `Exit a n` says that step n is the exit and that the n - 1 before it go
+-- on;
 -- `Trap e n` says that n steps go on and the next one traps.
 use Rattle.std.specs.Prelude.{◌≡◌, ℕ, zero, suc, false, ℤ, pos, negsuc, List, [], ◌∷◌, refl, replicate}
 use Rattle.isa_model.specs.declared.registers.Reg.{Reg}
@@ -30,11 +31,11 @@ use Rattle.isa_model.specs.declared.versions.Version.TheVariants.{One}
 
 -- ---- short forms
 
--- the head of a frame that came in by an interface
+-- the head of a packet frame that came in by an interface
 abbrev pub head_by : ℕ → FrameHead
 head_by interface = record { time = 0; interface = interface; queue = 0 }
 
--- a run on a frame, with no maps and a clock that answers 0
+-- a run on a packet frame, with no maps and a clock that answers 0
 abbrev pub turn_on : List Insn → FrameHead → List ℕ → ℕ → Turn
 turn_on code head packet limit =
     turn (record { insns = slots code; maps = []; version = One }) limit (λ k. 0) head packet []
@@ -230,8 +231,10 @@ atomic_add_in_the_packet = refl
 
 -- ---- the stack
 
--- r8 = *(u32 *)(r1 + 12); r2 = 0; *(u64 *)(r10 - 16) = r2; r3 = r10; r3 += -16; *(u64 *)(r10 - 8) = r8;
--- if r8 == 7 goto +1; *(u64 *)(r10 - 8) = r3; r8 = 0; r4 = *(u64 *)(r10 - 8); r0 = *(u64 *)(r4 + 0); exit
+-- r8 = *(u32 *)(r1 + 12); r2 = 0; *(u64 *)(r10 - 16) = r2; r3 = r10; r3 += -16;
+-- *(u64 *)(r10 - 8) = r8;
+-- if r8 == 7 goto +1; *(u64 *)(r10 - 8) = r3; r8 = 0; r4 = *(u64 *)(r10 - 8);
+-- r0 = *(u64 *)(r4 + 0); exit
 abbrev pub spills_by_interface : List Insn
 spills_by_interface =
     insn.Load U32 R8 (above R1 12) ∷ set R2 (pos 0) ∷ insn.Store U64 (below R10 16) R2 ∷ copy R3 R10 ∷ add R3 (minus 16)
@@ -272,7 +275,8 @@ pub compare_exchange_of_a_word : end_on (insn.StoreConstant U32 (below R10 8) (p
 unfolding turn progress start_state new_frame step act alu holds sign_extended reordered
 compare_exchange_of_a_word = refl
 
--- r6 = 0; *(u64 *)(r10 - 512) = r6; r7 = *(u64 *)(r10 - 512); r7 += 3; *(u64 *)(r10 - 512) = r7; if r7 != 300 goto -4;
+-- r6 = 0; *(u64 *)(r10 - 512) = r6; r7 = *(u64 *)(r10 - 512); r7 += 3; *(u64 *)(r10 - 512) = r7;
+-- if r7 != 300 goto -4;
 -- r0 = r7; r0 -= 298; exit
 abbrev pub counts_on_the_stack : List Insn
 counts_on_the_stack =

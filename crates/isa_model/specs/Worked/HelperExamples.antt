@@ -18,7 +18,7 @@ use Rattle.isa_model.specs.Worked.Examples.{head_by, end_on, set, copy, add, abo
 use Rattle.isa_model.specs.Worked.MapExamples.{one_entry, one_index, index, value, zero_filled}
 use Rattle.isa_model.specs.declared.versions.Version.TheVariants.{One}
 
--- a run on a frame of no bytes, with one map, and a clock that answers 7, 8, ..
+-- a run on a packet frame of no bytes, with one map, and a clock that answers 7, 8, ..
 abbrev pub turn_with : MapDef → Entries → List Insn → Turn
 turn_with row content code =
     turn (record { insns = slots code; maps = row ∷ []; version = One }) 100 (λ k. k + 7) (head_by 0) [] (content ∷ [])
@@ -65,7 +65,8 @@ update_bytes = map_and_key 1 ++ stack R3 2 ++ set R4 (pos 0) ∷ update ∷ []
 -- ---- arrays
 
 -- map array 4 8 1:
--- *(u32 *)(r10 - 4) = 1; *(u64 *)(r10 - 16) = 0; r1 = map_by_idx(0); r2 = r10; r2 += -4; r3 = r10; r3 += -16;
+-- *(u32 *)(r10 - 4) = 1; *(u64 *)(r10 - 16) = 0; r1 = map_by_idx(0); r2 = r10; r2 += -4; r3 = r10;
+-- r3 += -16;
 -- r4 = flags; call 2; r0 += more; exit
 abbrev pub update_past_the_end : ℤ → ℤ → Turn
 update_past_the_end flags more =
@@ -85,14 +86,15 @@ updates_past_the_end = refl
 abbrev pub two_entries : MapDef
 two_entries = record one_entry { entries = 2 }
 
--- key 9 is put with 7, and key 3 with 7; the entries are in the order of the keys
+-- key 9 is put with 7, and key 3 with 7; the keys are in order
 pub two_keys : turn_with two_entries []
     (put_byte 1 9 ∷ put_byte 2 7 ∷ update_bytes ++ put_byte 1 3 ∷ update_bytes ++ set R0 (pos 2) ∷ insn.Exit ∷ [])
     ≡ left (Exit 2 19) ((3 ∷ [], 7 ∷ []) ∷ (9 ∷ [], 7 ∷ []) ∷ [])
 unfolding turn progress start_state new_frame step act alu
 two_keys = refl
 
--- map hash 1 1 1: key 9 is put with 7 and looked up into r6; is; it is put again; r0 = *(u8 *)(r6 + 0); exit
+-- map hash 1 1 1: key 9 is put with 7 and looked up into r6; is; it is put again;
+-- r0 = *(u8 *)(r6 + 0); exit
 abbrev pub put_again_after : List Insn → Turn
 put_again_after is =
     turn_with one_entry []
@@ -123,7 +125,8 @@ absent_key = refl
 
 -- ---- the order of the tests
 
--- an unset argument before everything, and an unknown helper reads none: call 1; exit, call 4; exit, and with r3 unset
+-- an unset argument before everything, and an unknown helper reads none: call 1; exit, call 4;
+-- exit, and with r3 unset
 pub unset_arguments : end_on (lookup ∷ insn.Exit ∷ []) [] 9 ∷ end_on (insn.CallHelper (pos 4) ∷ insn.Exit ∷ []) [] 9
     ∷ end_with one_entry [] (map_and_key 1 ++ set R4 (pos 0) ∷ update ∷ insn.Exit ∷ []) ∷ []
     ≡ Trap UnsetRead 0 ∷ Trap BadHelper 0 ∷ Trap UnsetRead 4 ∷ []
@@ -143,13 +146,15 @@ pub kinds_of_arguments : map (update_by (set R0 (pos 0)))
 unfolding turn progress start_state new_frame step act alu
 kinds_of_arguments = refl
 
--- the key is unset and the value past the frame, the key is past the frame and the value unset: the key comes first
+-- the key is unset and the value past the call frame, the key is past the call frame and the value
+-- unset: the key comes first
 pub key_before_value : update_by (set R0 (pos 0)) (copy R3 R10) ∷ update_by (set R0 (pos 0)) (copy R2 R10) ∷ []
     ≡ Trap UnsetRead 8 ∷ Trap BadAccess 8 ∷ []
 unfolding turn progress start_state new_frame step act alu
 key_before_value = refl
 
--- the key is there. The value is past the frame, and it is unset where the flags are over 2: the value comes first
+-- the key is there. The value is past the call frame, and it is unset where the flags are over 2:
+-- the value comes first
 pub value_before_flags : update_by (put_byte 1 9) (copy R3 R10) ∷ update_by (put_byte 1 9) (set R4 (pos 3)) ∷ []
     ≡ Trap BadAccess 8 ∷ Trap UnsetRead 8 ∷ []
 unfolding turn progress start_state new_frame step act alu

@@ -18,7 +18,7 @@ use Rattle.isa_model.specs.MustAccept.Determined.{IsSlotPlace, IsDeterminedForm,
 use Rattle.isa_model.specs.Worked.Examples.{set, copy, add, subtract, below, if_constant, head_by}
 use Rattle.isa_model.specs.Worked.WorkedLaws.{of_each, IsWhole-tested, names, is_not_one_of, never_named, never_written}
 
--- the lowest and the highest slot of the frame
+-- the lowest and the highest stack slot of the call frame
 lowest : IsSlotPlace (below R10 512)
 lowest = (0, omega arith, refl)
 
@@ -30,7 +30,8 @@ start = start_state (head_by 0) [] []
 
 -- ---- counting by threes to 300
 
--- r6 = 0; *(u64 *)(r10 - 512) = r6; r7 = *(u64 *)(r10 - 512); r7 += 3; *(u64 *)(r10 - 512) = r7; if r7 != 300 goto -4;
+-- r6 = 0; *(u64 *)(r10 - 512) = r6; r7 = *(u64 *)(r10 - 512); r7 += 3; *(u64 *)(r10 - 512) = r7;
+-- if r7 != 300 goto -4;
 -- r0 = r7; r0 -= 298; exit
 abbrev pub by_threes : Program
 by_threes = record {
@@ -74,7 +75,8 @@ by_threes_is_determined = record {
 
 -- ---- counting by ones to 4, in r1
 
--- *(u64 *)(r10 - 8) = 0; r1 = *(u64 *)(r10 - 8); r1 += 1; *(u64 *)(r10 - 8) = r1; if r1 < 4 goto -4; r0 = 2; exit
+-- *(u64 *)(r10 - 8) = 0; r1 = *(u64 *)(r10 - 8); r1 += 1; *(u64 *)(r10 - 8) = r1;
+-- if r1 < 4 goto -4; r0 = 2; exit
 abbrev pub by_ones : Program
 by_ones = record {
   insns = Some (insn.StoreConstant U64 (below R10 8) (pos 0))

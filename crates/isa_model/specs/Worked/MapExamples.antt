@@ -46,12 +46,12 @@ update_m flags = Update (2 ∷ []) (8 ∷ []) flags
 abbrev pub delete_k : MapChange
 delete_k = Delete (1 ∷ [])
 
--- two keys on a map of one entry: -2, -2, 0, -17, -7, -2, -22, 0, 0, 0
+-- two keys on a map with room for one: -2, -2, 0, -17, -7, -2, -22, 0, 0, 0
 pub ten_commands : answers one_entry [] (delete_k ∷ update_k 2 ∷ update_k 0 ∷ update_k 1 ∷ update_m 0 ∷ update_m 2 ∷ update_m 3 ∷ update_k 2 ∷ delete_k ∷ update_m 1 ∷ [])
     ≡ 0xfffffffffffffffe ∷ 0xfffffffffffffffe ∷ 0 ∷ 0xffffffffffffffef ∷ 0xfffffffffffffff9 ∷ 0xfffffffffffffffe ∷ 0xffffffffffffffea ∷ 0 ∷ 0 ∷ 0 ∷ []
 ten_commands = refl
 
--- entries are in the order of their keys' bytes, and the value of a key that is there is
+-- keys are in the order of their bytes, and the value of a key that is there is
 -- overwritten
 pub entries_in_order : left_by (record one_entry { key_size = 2; entries = 9 }) []
     (Update (1 ∷ 0 ∷ []) (5 ∷ []) 0 ∷ Update (0 ∷ 2 ∷ []) (6 ∷ []) 1 ∷ Update (0 ∷ 9 ∷ []) (7 ∷ []) 0 ∷ Update (0 ∷ 2 ∷ []) (8 ∷ []) 2 ∷ Delete (0 ∷ 9 ∷ []) ∷ [])
@@ -72,7 +72,8 @@ value n = replicate 8 n
 abbrev pub zero_filled : Entries
 zero_filled = (index 0, value 0) ∷ []
 
--- past the end -7, with wrong flags -22 before that; index 0 by flags 0, 1, 2 and 3; nothing is deleted
+-- past the end -7, with wrong flags -22 before that; index 0 by flags 0, 1, 2 and 3;
+-- nothing is deleted
 pub array_commands : answers one_index zero_filled
     (Update (index 1) (value 9) 1 ∷ Update (index 1) (value 9) 9 ∷ Update (index 0) (value 9) 0 ∷ Update (index 0) (value 9) 1 ∷ Update (index 0) (value 9) 2
     ∷ Update (index 0) (value 9) 3 ∷ Delete (index 0) ∷ Delete (index 1) ∷ [])
@@ -120,7 +121,8 @@ pub next_serials : (found_first.state).next_serial ∷ (map_update_elem one_entr
 unfolding start_state new_frame
 next_serials = refl
 
--- an update that answers an error changes nothing: map array 4 8 1, past its end and with wrong flags
+-- an update that answers an error changes nothing: map array 4 8 1, past its end and with wrong
+-- flags
 pub refused_updates_change_nothing : (map_update_elem one_index (before zero_filled) 0 (index 1) (value 9) 1)
     ∷ (map_update_elem one_index (before zero_filled) 0 (index 1) (value 9) 9) ∷ []
     ≡ record { answer = Num 0xfffffffffffffff9; state = before zero_filled } ∷ record { answer = Num 0xffffffffffffffea; state = before zero_filled } ∷ []

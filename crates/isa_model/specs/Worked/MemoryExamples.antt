@@ -1,4 +1,5 @@
--- Worked examples of loads and stores: stack, packet, context and map values, computed from the definitions.
+-- Worked examples of loads and stores: stack, packet, context and map values, computed from the
+-- definitions.
 use Rattle.std.specs.Prelude.{◌≡◌, ℕ, ℤ, pos, negsuc, false, List, [], ◌∷◌, ◌++◌, map, replicate, take, drop, Result, Ok, Err, refl}
 use Rattle.isa_model.specs.declared.registers.Reg.TheVariants.{R0, R1, R2, R3, R10}
 use Rattle.isa_model.specs.declared.sizes.Width.TheVariants.{Low32, Full64}
@@ -121,7 +122,8 @@ pub whole_pointers : after_two_stores (insn.Store U64 (below R10 12) R10) 12 ∷
 unfolding turn progress start_state new_frame step act alu holds sign_extended reordered
 whole_pointers = refl
 
--- pieces 0 to 3 of a pointer and 4 to 7 of another: of another frame, another offset, and another value
+-- pieces 0 to 3 of a pointer and 4 to 7 of another: of another call frame, another offset, and
+-- another value
 abbrev pub first_half_and : Value → Value → Result Value TrapReason
 first_half_and (Ptr r z) (Ptr q y) = value_in (take 4 (pieces r z) ++ drop 4 (pieces q y))
 first_half_and v w = Ok v
@@ -205,7 +207,8 @@ pub atomic_context_accesses : map (λ i. end_on (set R0 (pos 1) ∷ i ∷ insn.E
 unfolding turn progress start_state new_frame step act alu holds sign_extended reordered
 atomic_context_accesses = refl
 
--- r2 = *(u32 *)(r1 + 0); r3 = *(u32 *)(r1 + 4); r2 += k; if r2 > r3 goto +2; r0 = 2; exit; r0 = 1; exit
+-- r2 = *(u32 *)(r1 + 0); r3 = *(u32 *)(r1 + 4); r2 += k; if r2 > r3 goto +2; r0 = 2; exit; r0 = 1;
+-- exit
 abbrev pub longer_than : ℤ → End
 longer_than k =
     end_on (insn.Load U32 R2 (above R1 0) ∷ insn.Load U32 R3 (above R1 4) ∷ add R2 k ∷ if_register Greater R2 R3 (pos 2)
@@ -234,7 +237,7 @@ contents = ((1 ∷ [], 0xf0 ∷ 0xe0 ∷ []) ∷ (2 ∷ [], 7 ∷ 9 ∷ []) ∷ 
 abbrev pub state : State
 state = start_state head [] contents
 
--- the values have the serials 0 and 1 in the first map and 2 in the second; the frame has 3
+-- the values have the serials 0 and 1 in the first map and 2 in the second; the call frame has 3
 abbrev pub value : ℕ → ℕ → ℤ → Value
 value m n z = Ptr (region.MapValue m n) z
 
