@@ -1,6 +1,8 @@
--- What a condition compares, by the kinds of its operands: two numbers, a packet pointer and the packet end, or null and
+-- What a condition compares, by the kinds of its operands:
+-- two numbers, a packet pointer and the packet end, or null and
 -- what may point to a map's value. No other comparison has an outcome.
--- Linux, Documentation/bpf/verifier.rst (direct packet access; null tests of what a lookup answered).
+-- Linux, Documentation/bpf/verifier.rst (direct packet access;
+-- null tests of what a lookup answered).
 use Rattle.std.specs.Prelude.{ℕ, ◌==◌, ℤ, pos, negsuc, ◌+ℤ◌, Bool, true, false, not, if◌then◌else◌}
 use Rattle.isa_model.specs.declared.sizes.Width.{Width}
 use Rattle.isa_model.specs.declared.sizes.Width.TheVariants.{Low32, Full64}
@@ -25,10 +27,12 @@ abbrev pub bytes_before : ℤ → ℕ
 bytes_before (pos n) = n
 bytes_before (negsuc n) = 0
 
--- the pointer on the left: one outcome says that it is at or before the end, or that it is before the end
+-- the pointer on the left: one outcome says that it is at or before the end, or that it is before
+-- the end
 abbrev pub packet_by : Comparison → ℕ → ℤ → Compared
 packet_by Greater identity fixed = compared.Packet identity false (bytes_before fixed)
-packet_by GreaterEqual identity fixed = compared.Packet identity false (bytes_before (fixed +ℤ pos 1))
+packet_by GreaterEqual identity fixed =
+    compared.Packet identity false (bytes_before (fixed +ℤ pos 1))
 packet_by Less identity fixed = compared.Packet identity true (bytes_before (fixed +ℤ pos 1))
 packet_by LessEqual identity fixed = compared.Packet identity true (bytes_before fixed)
 packet_by c identity fixed = Undefined
@@ -79,7 +83,8 @@ constant_by c w k n = Undefined
 
 abbrev pub operand_by : State → Cond → Operand → Compared
 operand_by a cond (Constant n) = constant_by cond.comparison cond.width (kind_of a cond.register) n
-operand_by a cond (Register r) = registers_by cond.comparison cond.width (kind_of a cond.register) (kind_of a r)
+operand_by a cond (Register r) =
+    registers_by cond.comparison cond.width (kind_of a cond.register) (kind_of a r)
 
 abbrev pub compared_by : State → Cond → Compared
 compared_by a cond = operand_by a cond cond.operand

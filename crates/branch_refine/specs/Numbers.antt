@@ -18,7 +18,8 @@ numbers_in k = None
 
 -- the numbers of an operand; a constant is only one
 abbrev pub AreNumbersOf : State → Width → Operand → Option Scalar → Type 0
-AreNumbersOf a w (Constant k) (Some numbers) = Has numbers (unsigned w k) × IsConstant numbers (unsigned w k)
+AreNumbersOf a w (Constant k) (Some numbers) =
+    Has numbers (unsigned w k) × IsConstant numbers (unsigned w k)
 AreNumbersOf a w (Constant k) None = ⊥
 AreNumbersOf a w (Register r) numbers = numbers ≡ numbers_in (kind_of a r)
 
@@ -29,4 +30,5 @@ with_operand a (Register r) numbers = with_register a r (Number numbers)
 
 -- other numbers for the two that are compared
 abbrev pub with_compared : State → Cond → Scalar → Scalar → State
-with_compared a cond left right = with_operand (with_register a cond.register (Number left)) cond.operand right
+with_compared a cond left right =
+    with_operand (with_register a cond.register (Number left)) cond.operand right

@@ -71,7 +71,8 @@ pub record Narrows (a b : State) : Type 0 where
   pub callers : b.callers ≡ a.callers
   pub returns : b.innermost.return_slot ≡ a.innermost.return_slot
   pub stack : b.innermost.stack ≡ a.innermost.stack
-  pub registers : (e : Assigned) (r : Reg) (v : Value) → Allows e (kind_of b r) v → Allows e (kind_of a r) v
+  pub registers : (e : Assigned) (r : Reg) (v : Value) → Allows e (kind_of b r) v
+      → Allows e (kind_of a r) v
   pub constants : (r : Reg) (x : ℕ) → IsJust (kind_of a r) x → IsJust (kind_of b r) x
 
 -- registers that the condition does not name have the kinds that they had
@@ -93,15 +94,18 @@ pub record Refined (cond : Cond) (taken : Bool) (a b : State) : Type 0 where
 
 -- every copy of the identity is the number 0, or none is
 abbrev pub IsTested : ℕ → Bool → State → State → Type 0
-IsTested identity null a b = (zero : Scalar) × Has zero 0 × IsConstant zero 0 × (b ≡ map_kinds (tested_kind identity null zero) a)
+IsTested identity null a b = (zero : Scalar) × Has zero 0 × IsConstant zero 0
+    × (b ≡ map_kinds (tested_kind identity null zero) a)
 
--- what is known of every copy of an identity once the test comes out this way; where the outcome shows nothing, the state
+-- what is known of every copy of an identity once the test comes out this way;
+-- where the outcome shows nothing, the state
 -- stays as it is
 abbrev pub LearnsOf : Compared → Bool → State → Bool → State → Type 0
 LearnsOf Numbers taken a some b = Unit {0}
 LearnsOf (Packet identity shows bytes) taken a some b =
     IsTrue some × (b ≡ (if same taken shows then map_kinds (proved_kind identity bytes) a else a))
-LearnsOf (OrNull identity null) taken a some b = IsTrue some × IsTested identity (same taken null) a b
+LearnsOf (OrNull identity null) taken a some b =
+    IsTrue some × IsTested identity (same taken null) a b
 LearnsOf (Live null) taken a some b = (some ≡ not (same taken null)) × (b ≡ a)
 LearnsOf Undefined taken a some b = IsTrue some × (b ≡ a)
 
@@ -113,9 +117,11 @@ pub record Refines (cond : Cond) (taken : Bool) (a : State) (some : Bool) (b : S
   pub others : AreCompared a cond → KeepsOtherRegisters cond a b
   pub shown : AreCompared a cond → IsTrue some → Refined cond taken a b
   -- two constants go one way only
-  pub constants : (x y : ℕ) → IsJust (kind_of a cond.register) x → IsJustOperand a cond.width cond.operand y
+  pub constants : (x y : ℕ) → IsJust (kind_of a cond.register) x
+      → IsJustOperand a cond.width cond.operand y
       → holds cond.comparison cond.width x y ≢ taken → some ≡ false
-  pub constants_go : (x y : ℕ) → IsJust (kind_of a cond.register) x → IsJustOperand a cond.width cond.operand y
+  pub constants_go : (x y : ℕ) → IsJust (kind_of a cond.register) x
+      → IsJustOperand a cond.width cond.operand y
       → holds cond.comparison cond.width x y ≡ taken → IsTrue some
   -- no numbers
   pub pointers : LearnsOf (compared_by a cond) taken a some b

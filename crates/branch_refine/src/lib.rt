@@ -127,7 +127,8 @@ fn numbers_outcome(cond: Cond, taken: bool, state: &State) -> Outcome
 
 // What the comparison leaves of two numbers.
 fn narrowed(cond: Cond, taken: bool, left: Scalar, right: Scalar) -> Option<(Scalar, Scalar)>
-    ensures shows { IfSome result (λ p. NarrowsBoth cond.comparison cond.width taken left right p.0 p.1) }
+    ensures shows { IfSome result
+        (λ p. NarrowsBoth cond.comparison cond.width taken left right p.0 p.1) }
     ensures none { result ≡ None → (x y : ℕ) → Has left x → Has right y
         → holds cond.comparison cond.width x y ≢ taken }
     ensures stays { (x y : ℕ) → x < 2 ^ 64 → y < 2 ^ 64 → IsConstant left x → IsConstant right y

@@ -8,8 +8,10 @@ use Rattle.exact_io.specs.declared.reading.Filled.TheVariants.{Whole, Ended, Fai
 abbrev pub AppendsBeginning : Option (List ℕ) → Option (List ℕ) → List ℕ → Type 0
 AppendsBeginning old new bs = (n : ℕ) × (n < length bs) × Appends old new (take n bs)
 
--- the buffer, or the front of it that was filled, is what the known bytes lost; at an end none is left
+-- the buffer, or the front of it that was filled, is what the known bytes lost;
+-- at an end none is left
 abbrev pub Fills : Option (List ℕ) → Option (List ℕ) → Filled → List ℕ → Type 0
 Fills old new Whole buffer = Consumes old new buffer
-Fills old new (Ended n) buffer = (n < length buffer) × Consumes old new (take n buffer) × IsAtEnd new
+Fills old new (Ended n) buffer =
+    (n < length buffer) × Consumes old new (take n buffer) × IsAtEnd new
 Fills old new (Failed n) buffer = (n < length buffer) × Consumes old new (take n buffer)

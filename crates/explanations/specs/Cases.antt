@@ -35,7 +35,8 @@ access (CompareExchange w place r) = Some (width_size w, place)
 access i = None
 
 abbrev pub needs_words : (first last : ℤ) → List ℕ
-needs_words first last = codes "needs bytes " ++ (signed_decimal first ++ (codes " to " ++ signed_decimal last))
+needs_words first last =
+    codes "needs bytes " ++ (signed_decimal first ++ (codes " to " ++ signed_decimal last))
 
 -- the last byte of an access by an offset, where its base is at this one
 abbrev pub last_byte : ℤ → ℤ → Size → ℤ
@@ -60,7 +61,8 @@ row_size rows m = size_in (slice_get rows m)
 -- which bytes are needed, and what there is: of a frame, of the packet, of a value
 abbrev pub frame_line : (span : List ℕ) → (bytes : ℕ) → List ℕ
 frame_line span bytes =
-    span ++ (codes ", and the first at a multiple of " ++ (decimal bytes ++ codes "; a frame has bytes -512 to -1\n"))
+    span ++ (codes ", and the first at a multiple of "
+    ++ (decimal bytes ++ codes "; a frame has bytes -512 to -1\n"))
 
 abbrev pub packet_line : (span behind : List ℕ) → (proved : ℕ) → List ℕ
 packet_line span behind proved =
@@ -117,7 +119,9 @@ argument_line a KtimeGetNs = codes "helper 5, the time, has no arguments\n"
 
 -- which helpers there are, or which argument is wrong
 abbrev pub numbered_line : State → ℤ → Option Helper → List ℕ
-numbered_line a number None = codes "helper " ++ (signed_decimal number ++ codes " is not known: there are 1 look-up, 2 update, 3 delete and 5 time\n")
+numbered_line a number None = codes "helper "
+    ++ (signed_decimal number
+    ++ codes " is not known: there are 1 look-up, 2 update, 3 delete and 5 time\n")
 numbered_line a number (Some helper) = argument_line a helper
 
 abbrev pub helper_line : State → Insn → List ℕ
@@ -152,13 +156,19 @@ exit_line callers =
 abbrev pub cure_line : StepRefusal → List ℕ
 cure_line UnsetRegister = codes "set it on every path that leads here\n"
 cure_line ReadOnlyRegister = codes "copy it and change the copy: r2 = r10\n"
-cure_line PointerOperand = codes "stack, packet and value pointers move by += and -= of a number, at 64 bits\n"
-cure_line PointerOffset = codes "a frame pointer moves by constants, any pointer by at most 536870912 bytes\n"
-cure_line NotMemory = codes "memory is reached by r1 of the start, r10, a packet or a value pointer\n"
+cure_line PointerOperand =
+    codes "stack, packet and value pointers move by += and -= of a number, at 64 bits\n"
+cure_line PointerOffset =
+    codes "a frame pointer moves by constants, any pointer by at most 536870912 bytes\n"
+cure_line NotMemory =
+    codes "memory is reached by r1 of the start, r10, a packet or a value pointer\n"
 cure_line StackBytes = codes "write the bytes first; a stored pointer is read whole, with 8 bytes\n"
-cure_line NullNotTested = codes "test it first, as by if r0 == 0 goto .., and use it where it is not 0\n"
-cure_line PointerStored = codes "store it with 8 bytes into the function's own stack: *(u64 *)(r10 - 8) = r1\n"
-cure_line Comparison = codes "compare a packet pointer with the packet end, a value pointer with 0, at 64 bits\n"
+cure_line NullNotTested =
+    codes "test it first, as by if r0 == 0 goto .., and use it where it is not 0\n"
+cure_line PointerStored =
+    codes "store it with 8 bytes into the function's own stack: *(u64 *)(r10 - 8) = r1\n"
+cure_line Comparison =
+    codes "compare a packet pointer with the packet end, a value pointer with 0, at 64 bits\n"
 cure_line TooManyFrames = codes "write the function's instructions in place of the call\n"
 cure_line PacketAtomic = codes "load, compute and store instead\n"
 cure_line refusal = []

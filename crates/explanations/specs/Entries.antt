@@ -20,7 +20,8 @@ use Rattle.explanations.specs.Mismatches.{IsMismatch, mismatch_lines}
 
 -- if the step of an entry is refused, the registers and stack slots that concern its instruction
 abbrev pub step_lines : List MapDef → State → Insn → transfer.Refusal → List ℕ
-step_lines rows a i r = register_lines a i ++ (answer_line a (refusal.Step r) ++ stack_lines rows a i)
+step_lines rows a i r =
+    register_lines a i ++ (answer_line a (refusal.Step r) ++ stack_lines rows a i)
 
 -- the successors of a step, the fall-through first
 abbrev pub states_of : Ways → State → State → List State
@@ -36,17 +37,20 @@ ways_in ways.Two = 2
 -- how many successors there are, and how many entries are named
 abbrev pub count_line : ℕ → ℕ → List ℕ
 count_line successors named =
-    codes "successors: " ++ (decimal successors ++ (codes "; entries named: " ++ (decimal named ++ codes "\n")))
+    codes "successors: "
+    ++ (decimal successors ++ (codes "; entries named: " ++ (decimal named ++ codes "\n")))
 
 -- why the entry with this index does not pass for the nth state
-pub record TellsNamed (t : EntryAt) (number nth index : ℕ) (state : State) (text : List ℕ) : Type 0 where
+pub record TellsNamed (t : EntryAt) (number nth index : ℕ) (state : State)
+    (text : List ℕ) : Type 0 where
   pub other : State
   pub mismatch : Mismatch
   pub is : IsMismatch t number index other state mismatch
   pub text_is : text ≡ mismatch_lines number nth index other state mismatch
 
 -- one of the states, and the entry that is named for it
-pub record TellsOne (t : EntryAt) (number : ℕ) (named : List ℕ) (states : List State) (text : List ℕ) : Type 0 where
+pub record TellsOne (t : EntryAt) (number : ℕ) (named : List ℕ) (states : List State)
+    (text : List ℕ) : Type 0 where
   pub nth : ℕ
   pub index : ℕ
   pub state : State
@@ -63,7 +67,8 @@ TellsSuccessors t number named states text =
 -- what is said of the entry, whose step is of this instruction
 abbrev pub SaysOfEntry : Program → EntryAt → TableError → Insn → Entry → List ℕ → Type 0
 SaysOfEntry p t (Step k r) i e text = text ≡ step_lines p.maps e.state i r
-SaysOfEntry p t (Successor k) i e text = (w : Ways) × (a : State) × (b : State) × StepsToWays p e.state i w a b × TellsSuccessors t e.number e.successors (states_of w a b) text
+SaysOfEntry p t (Successor k) i e text = (w : Ways) × (a : State) × (b : State)
+    × StepsToWays p e.state i w a b × TellsSuccessors t e.number e.successors (states_of w a b) text
 SaysOfEntry p t error i e text = ⊥
 
 -- the entry that is refused
@@ -73,7 +78,8 @@ IsIndexOf (Successor k) index = k ≡ index
 IsIndexOf error index = ⊥
 
 -- the entry is at this slot, where this instruction begins, and the text says that
-pub record IsReasonAt (p : Program) (t : EntryAt) (error : TableError) (slot : ℕ) (i : Insn) (text : List ℕ) : Type 0 where
+pub record IsReasonAt (p : Program) (t : EntryAt) (error : TableError) (slot : ℕ) (i : Insn)
+    (text : List ℕ) : Type 0 where
   pub index : ℕ
   pub of : IsIndexOf error index
   pub entry : Entry
@@ -84,4 +90,5 @@ pub record IsReasonAt (p : Program) (t : EntryAt) (error : TableError) (slot : �
 
 -- the text is the reason of an entry of the table that these bytes spell
 abbrev pub IsEntryReason : Program → List ℕ → TableError → ℕ → Insn → List ℕ → Type 0
-IsEntryReason p bytes error slot i text = (entries : List Entry) × (table_read p bytes ≡ Ok entries) × IsReasonAt p (slice_get entries) error slot i text
+IsEntryReason p bytes error slot i text = (entries : List Entry) × (table_read p bytes ≡ Ok entries)
+    × IsReasonAt p (slice_get entries) error slot i text

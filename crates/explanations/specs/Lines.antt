@@ -35,7 +35,8 @@ concerned i = reads i
 
 abbrev pub register_line : State → Reg → List ℕ
 register_line a r =
-    codes "r" ++ (decimal (reg_number r) ++ (codes ": " ++ (kind_words (length a.callers.items) (kind_of a r) ++ codes "\n")))
+    codes "r" ++ (decimal (reg_number r)
+    ++ (codes ": " ++ (kind_words (length a.callers.items) (kind_of a r) ++ codes "\n")))
 
 abbrev pub register_lines : State → Insn → List ℕ
 register_lines a i = flat_map (register_line a) (concerned i)
@@ -45,7 +46,8 @@ register_lines a i = flat_map (register_line a) (concerned i)
 -- the low half of a number that has to name an action, and the cure
 abbrev pub half_line : Kind → List ℕ
 half_line (Number numbers) =
-    codes "low half of r0: " ++ (half_words numbers ++ codes "; actions are 0 to 4: mask it (r0 &= 3) or test it\n")
+    codes "low half of r0: "
+    ++ (half_words numbers ++ codes "; actions are 0 to 4: mask it (r0 &= 3) or test it\n")
 half_line k = []
 
 -- of r0, where an exit is not shown to answer with an action
@@ -70,7 +72,9 @@ open_line a frame (Some slot) = slot_line a frame slot
 
 abbrev pub bytes_from : State → ℕ → Option ℕ → ℕ → List ℕ
 bytes_from a frame None count = []
-bytes_from a frame (Some at) count = open_line a frame (first_open (slots_of a frame) (at / 8) (min ((at % 8 + count + 7) / 8) (frame_slots - at / 8)))
+bytes_from a frame (Some at) count =
+    open_line a frame
+    (first_open (slots_of a frame) (at / 8) (min ((at % 8 + count + 7) / 8) (frame_slots - at / 8)))
 
 abbrev pub bytes_line : State → Kind → ℕ → List ℕ
 bytes_line a (Stack frame offset) count = bytes_from a frame (byte_at offset) count
@@ -91,7 +95,8 @@ value_line a (Some row) = bytes_line a (kind_of a R3) row.value_size
 -- the bytes of its key and of its value
 abbrev pub helper_lines : List MapDef → State → Option Helper → List ℕ
 helper_lines rows a (Some MapLookupElem) = key_line a (called_row rows (kind_of a R1))
-helper_lines rows a (Some MapUpdateElem) = key_line a (called_row rows (kind_of a R1)) ++ value_line a (called_row rows (kind_of a R1))
+helper_lines rows a (Some MapUpdateElem) =
+    key_line a (called_row rows (kind_of a R1)) ++ value_line a (called_row rows (kind_of a R1))
 helper_lines rows a (Some MapDeleteElem) = key_line a (called_row rows (kind_of a R1))
 helper_lines rows a helper = []
 
@@ -109,9 +114,11 @@ stack_lines rows a i = []
 -- the jumps after the first
 abbrev pub more_jumps : List Jump → List ℕ
 more_jumps [] = []
-more_jumps (j ∷ js) = codes ", " ++ (decimal j.from ++ (codes " -> " ++ (decimal j.to ++ more_jumps js)))
+more_jumps (j ∷ js) =
+    codes ", " ++ (decimal j.from ++ (codes " -> " ++ (decimal j.to ++ more_jumps js)))
 
 -- the jumps in their order, if there is one
 abbrev pub way_line : List Jump → List ℕ
 way_line [] = []
-way_line (j ∷ js) = codes "way: " ++ (decimal j.from ++ (codes " -> " ++ (decimal j.to ++ (more_jumps js ++ codes "\n"))))
+way_line (j ∷ js) = codes "way: "
+    ++ (decimal j.from ++ (codes " -> " ++ (decimal j.to ++ (more_jumps js ++ codes "\n"))))

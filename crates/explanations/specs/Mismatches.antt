@@ -56,20 +56,24 @@ IsMismatch t number index e a m = IsThere t number index e a m
 abbrev pub difference_lines : ℕ → ℕ → List ℕ → List ℕ → List ℕ → List ℕ
 difference_lines nth index what after entry =
     codes "successor " ++ (decimal nth ++ (codes ": entry " ++ (decimal index ++ (codes " " ++ (what
-    ++ (codes "\nafter the step: " ++ (after ++ (codes "\nin the entry: " ++ (entry ++ codes "\n")))))))))
+    ++ (codes "\nafter the step: "
+    ++ (after ++ (codes "\nin the entry: " ++ (entry ++ codes "\n")))))))))
 
 -- how many calls up from the innermost frame this one is
 abbrev pub up_words : State → ℕ → List ℕ
 up_words a frame = calls_up (length a.callers.items - frame)
 
 abbrev pub register_words : State → ℕ → ℕ → List ℕ
-register_words a frame register = kind_words (length a.callers.items) (kind_at (kinds_of a frame) register)
+register_words a frame register =
+    kind_words (length a.callers.items) (kind_at (kinds_of a frame) register)
 
 abbrev pub stack_words : State → ℕ → ℕ → List ℕ
-stack_words a frame slot = slot_words (length a.callers.items) slot (slot_at (slots_of a frame) slot)
+stack_words a frame slot =
+    slot_words (length a.callers.items) slot (slot_at (slots_of a frame) slot)
 
 abbrev pub stack_difference : State → ℕ → ℕ → List ℕ
-stack_difference a frame slot = codes "does not cover stack " ++ (signed_decimal (place_of slot 0) ++ up_words a frame)
+stack_difference a frame slot =
+    codes "does not cover stack " ++ (signed_decimal (place_of slot 0) ++ up_words a frame)
 
 abbrev pub returns_words : State → ℕ → List ℕ
 returns_words a frame = codes "slot " ++ decimal (frame_of a frame).return_slot
@@ -78,17 +82,25 @@ returns_words a frame = codes "slot " ++ decimal (frame_of a frame).return_slot
 -- the state e is named
 abbrev pub mismatch_lines : ℕ → ℕ → ℕ → State → State → Mismatch → List ℕ
 mismatch_lines number nth index e a Missing =
-    codes "successor " ++ (decimal nth ++ (codes ": there is no entry " ++ (decimal index ++ codes "\n")))
+    codes "successor "
+    ++ (decimal nth ++ (codes ": there is no entry " ++ (decimal index ++ codes "\n")))
 mismatch_lines number nth index e a (NotSmaller other) =
-    codes "successor " ++ (decimal nth ++ (codes ": entry " ++ (decimal index ++ (codes " has number " ++ (decimal other
+    codes "successor "
+    ++ (decimal nth
+    ++ (codes ": entry " ++ (decimal index ++ (codes " has number " ++ (decimal other
     ++ (codes ", not smaller than " ++ (decimal number ++ codes "\n")))))))
 mismatch_lines number nth index e a Slot =
-    difference_lines nth index (codes "is at another slot") (codes "slot " ++ decimal a.slot) (codes "slot " ++ decimal e.slot)
+    difference_lines nth index (codes "is at another slot") (codes "slot " ++ decimal a.slot)
+    (codes "slot " ++ decimal e.slot)
 mismatch_lines number nth index e a Frames =
-    difference_lines nth index (codes "has another number of frames") (decimal (depth a)) (decimal (depth e))
+    difference_lines nth index (codes "has another number of frames") (decimal (depth a))
+    (decimal (depth e))
 mismatch_lines number nth index e a (Returns frame) =
-    difference_lines nth index (codes "returns to another slot" ++ up_words a frame) (returns_words a frame) (returns_words e frame)
+    difference_lines nth index (codes "returns to another slot" ++ up_words a frame)
+    (returns_words a frame) (returns_words e frame)
 mismatch_lines number nth index e a (Register frame register) =
-    difference_lines nth index (codes "does not cover r" ++ (decimal register ++ up_words a frame)) (register_words a frame register) (register_words e frame register)
+    difference_lines nth index (codes "does not cover r" ++ (decimal register ++ up_words a frame))
+    (register_words a frame register) (register_words e frame register)
 mismatch_lines number nth index e a (Stack frame slot) =
-    difference_lines nth index (stack_difference a frame slot) (stack_words a frame slot) (stack_words e frame slot)
+    difference_lines nth index (stack_difference a frame slot) (stack_words a frame slot)
+    (stack_words e frame slot)

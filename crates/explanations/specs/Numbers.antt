@@ -16,9 +16,12 @@ says_more r =
 abbrev pub limit_words : Scalar → List ℕ
 limit_words numbers =
     if says_more numbers.range.wide then
-    codes "number " ++ (signed_decimal numbers.range.wide.signed_least ++ (codes " to " ++ signed_decimal numbers.range.wide.signed_greatest))
-    else if numbers.range.wide.least == 0 && numbers.range.wide.greatest == 2 ^ 64 - 1 then codes "any number"
-    else codes "number " ++ (decimal numbers.range.wide.least ++ (codes " to " ++ decimal numbers.range.wide.greatest))
+    codes "number " ++ (signed_decimal numbers.range.wide.signed_least
+    ++ (codes " to " ++ signed_decimal numbers.range.wide.signed_greatest))
+    else if numbers.range.wide.least == 0 && numbers.range.wide.greatest == 2 ^ 64 - 1
+    then codes "any number"
+    else codes "number "
+    ++ (decimal numbers.range.wide.least ++ (codes " to " ++ decimal numbers.range.wide.greatest))
 
 -- ---- low halves
 
@@ -27,7 +30,9 @@ abbrev pub low_least : Scalar → ℕ
 low_least numbers = max (numbers.bits.value % 2 ^ 32) numbers.range.low.least
 
 abbrev pub low_greatest : Scalar → ℕ
-low_greatest numbers = min (min (greatest_of numbers.bits % 2 ^ 32) numbers.range.low.greatest) numbers.range.wide.greatest
+low_greatest numbers =
+    min (min (greatest_of numbers.bits % 2 ^ 32) numbers.range.low.greatest)
+    numbers.range.wide.greatest
 
 abbrev pub half_words : Scalar → List ℕ
 half_words numbers =
@@ -41,12 +46,14 @@ is_half_known numbers = not (low_least numbers == 0 && low_greatest numbers == 2
 -- the low half, where that is known and the limits at 64 bits do not show it
 abbrev pub low_part : Scalar → List ℕ
 low_part numbers =
-    if nat_le (2 ^ 32) numbers.range.wide.greatest && is_half_known numbers then codes ", low half " ++ half_words numbers else []
+    if nat_le (2 ^ 32) numbers.range.wide.greatest && is_half_known numbers
+    then codes ", low half " ++ half_words numbers else []
 
 -- ---- numbers
 
 -- a constant as a signed number, or the limits; other known bits are not written
 abbrev pub number_words : Scalar → List ℕ
 number_words numbers =
-    if numbers.range.wide.least == numbers.range.wide.greatest then codes "number " ++ signed_decimal (cast_signed w64 numbers.range.wide.least)
+    if numbers.range.wide.least == numbers.range.wide.greatest
+    then codes "number " ++ signed_decimal (cast_signed w64 numbers.range.wide.least)
     else limit_words numbers ++ low_part numbers

@@ -16,7 +16,9 @@ use Rattle.explanations.specs.Lines.{register_lines, answer_line, stack_lines, w
 -- that the search had reached its limit of similar states, and explored each as a new one from then
 -- on
 abbrev pub cut_line : Bool → List ℕ
-cut_line cut = if cut then codes "states could not be told apart any more: too many that are alike were stored\n" else codes ""
+cut_line cut = if cut
+    then codes "states could not be told apart any more: too many that are alike were stored\n"
+    else codes ""
 
 -- the registers, what is needed, a loop with what differs from turn to turn, an answer's low half
 -- and the stack slots that concern the instruction, in the state in which it is refused so, the

@@ -16,7 +16,8 @@ place_of slot byte = pos (8 * slot + byte) -ℤ pos frame_size
 
 -- the byte's place, if it is a written number byte
 abbrev pub byte_word : ℕ → ℕ → ℕ → List ℕ
-byte_word slot marks byte = if bit_at marks byte == 1 then codes " " ++ signed_decimal (place_of slot byte) else []
+byte_word slot marks byte =
+    if bit_at marks byte == 1 then codes " " ++ signed_decimal (place_of slot byte) else []
 
 -- the places of those among this count of its last bytes
 abbrev pub written_words : ℕ → ℕ → ℕ → List ℕ
@@ -34,8 +35,10 @@ slot_words innermost slot (Spilled k) = kind_words innermost k
 -- a slot of a frame: where it begins, counted from the end of the frame, and what is known of it
 abbrev pub slot_line : State → ℕ → ℕ → List ℕ
 slot_line a frame slot =
-    codes "stack " ++ (signed_decimal (place_of slot 0) ++ (calls_up (length a.callers.items - frame)
-    ++ (codes ": " ++ (slot_words (length a.callers.items) slot (slot_at (slots_of a frame) slot) ++ codes "\n"))))
+    codes "stack " ++ (signed_decimal (place_of slot 0)
+    ++ (calls_up (length a.callers.items - frame)
+    ++ (codes ": "
+    ++ (slot_words (length a.callers.items) slot (slot_at (slots_of a frame) slot) ++ codes "\n"))))
 
 -- the byte of a frame at that distance from its end
 abbrev pub in_frame : ℤ → Option ℕ
@@ -53,4 +56,5 @@ byte_line a frame (Some at) = slot_line a frame (at / 8)
 -- the first slot among this count of them, not all of whose bytes are written number bytes
 abbrev pub first_open : List Slot → ℕ → ℕ → Option ℕ
 first_open slots slot zero = None
-first_open slots slot (suc n) = if marks_of (slot_at slots slot) == 255 then first_open slots (slot + 1) n else Some slot
+first_open slots slot (suc n) =
+    if marks_of (slot_at slots slot) == 255 then first_open slots (slot + 1) n else Some slot

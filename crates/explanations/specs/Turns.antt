@@ -11,14 +11,16 @@ use Rattle.explanations.specs.Mismatches.{register_words, stack_words}
 abbrev pub turn_line : (place before now : List ℕ) → List ℕ
 turn_line place before now =
     if bytes_eq before now then []
-    else place ++ (codes " from turn to turn: " ++ (before ++ (codes ", then " ++ (now ++ codes "\n"))))
+    else place ++ (codes " from turn to turn: "
+    ++ (before ++ (codes ", then " ++ (now ++ codes "\n"))))
 
 -- ---- the innermost frame of the earlier state e and of the state a
 
 abbrev pub register_turn : State → State → ℕ → List ℕ
 register_turn e a register =
     turn_line (codes "r" ++ decimal register)
-    (register_words e (length e.callers.items) register) (register_words a (length a.callers.items) register)
+    (register_words e (length e.callers.items) register)
+    (register_words a (length a.callers.items) register)
 
 -- the last registers, this count of them
 abbrev pub register_turns : State → State → ℕ → List ℕ

@@ -16,7 +16,8 @@ use Rattle.explanations.specs.Lines.{concerned}
 
 -- a frame pointer, where r10 holds this: of the function that runs, or of another call
 abbrev pub owner_of : ℕ → Value → List ℕ
-owner_of serial (Ptr (Frame own) offset) = if serial == own then codes "" else codes " of another call"
+owner_of serial (Ptr (Frame own) offset) =
+    if serial == own then codes "" else codes " of another call"
 owner_of serial value = codes " of another call"
 
 -- a pointer, where r10 holds this; offsets into a call frame count from its end
@@ -25,8 +26,10 @@ region_words own Context offset = codes "context pointer at " ++ offset
 region_words own Packet offset = codes "packet pointer at " ++ offset
 region_words own PacketEnd offset = codes "packet end at " ++ offset
 region_words own (Map m) offset = codes "map " ++ decimal m
-region_words own (Frame serial) offset = codes "frame pointer at " ++ (offset ++ owner_of serial own)
-region_words own (MapValue m serial) offset = codes "value of map " ++ (decimal m ++ (codes " at " ++ offset))
+region_words own (Frame serial) offset =
+    codes "frame pointer at " ++ (offset ++ owner_of serial own)
+region_words own (MapValue m serial) offset =
+    codes "value of map " ++ (decimal m ++ (codes " at " ++ offset))
 
 abbrev pub value_words : Value → Value → List ℕ
 value_words own Unset = codes "unset"
@@ -35,7 +38,10 @@ value_words own (Ptr region offset) = region_words own region (signed_decimal of
 
 abbrev pub value_line : List Value → Reg → List ℕ
 value_line regs r =
-    codes "r" ++ (decimal (reg_number r) ++ (codes ": " ++ (value_words (value_at regs (reg_number R10)) (value_at regs (reg_number r)) ++ codes "\n")))
+    codes "r" ++ (decimal (reg_number r)
+    ++ (codes ": "
+    ++ (value_words (value_at regs (reg_number R10)) (value_at regs (reg_number r))
+    ++ codes "\n")))
 
 -- the registers that concern an instruction, a line each
 unfoldable pub value_lines : List Value → Insn → List ℕ

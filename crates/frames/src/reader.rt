@@ -113,7 +113,8 @@ impl<R: Read> FrameReader<R> {
 #[inline(always)]
 fn stage_begun<R: Read>(source: &mut R, stage: Stage) -> Stage
     requires within { FitsRecord stage }
-    ensures opens { OpensStream (position_of stage) (R.remaining source.old) (R.remaining source.new)
+    ensures opens { OpensStream (position_of stage)
+        (R.remaining source.old) (R.remaining source.new)
         (position_of result) }
     ensures within { FitsRecord result }
     ensures begun { position_of result ≢ Fresh }

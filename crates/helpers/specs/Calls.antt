@@ -17,7 +17,8 @@ pub record TakesKey (maps : List MapState) (m : ℕ) (key : List ℕ) : Type 0 w
 
 abbrev pub FitsAt : Helper → List MapState → (map : ℕ) → (key value : List ℕ) → Type 0
 FitsAt MapLookupElem maps m key value = TakesKey maps m key
-FitsAt MapUpdateElem maps m key value = TakesKey maps m key × (length value ≡ (map_at maps m).row.value_size)
+FitsAt MapUpdateElem maps m key value =
+    TakesKey maps m key × (length value ≡ (map_at maps m).row.value_size)
 FitsAt MapDeleteElem maps m key value = TakesKey maps m key
 FitsAt KtimeGetNs maps m key value = Unit {0}
 
@@ -41,17 +42,23 @@ IsNumberAnswer (Number n) P = P n
 IsNumberAnswer (Value place) P = ⊥
 
 -- A look-up and the time leave the maps as they are. An update and a delete change only their map.
-abbrev pub AnswersAt : (clock : ℕ → ℕ) → Helper → (map : ℕ) → (key value : List ℕ) → (flags : ℕ) → (old : List MapState) → Answer → (new : List MapState) → Type 0
-AnswersAt clock MapLookupElem m key value flags old answer new = (answer ≡ found (get (map_at old m).places key)) × (new ≡ old)
+abbrev pub AnswersAt : (clock : ℕ → ℕ) → Helper → (map : ℕ) → (key value : List ℕ) → (flags : ℕ)
+    → (old : List MapState) → Answer → (new : List MapState) → Type 0
+AnswersAt clock MapLookupElem m key value flags old answer new =
+    (answer ≡ found (get (map_at old m).places key)) × (new ≡ old)
 AnswersAt clock MapUpdateElem m key value flags old answer new =
-    IsNumberAnswer answer (λ n. Updated key value flags n (map_at old m) (map_at new m)) × ChangesOne m old new
+    IsNumberAnswer answer (λ n. Updated key value flags n (map_at old m) (map_at new m))
+    × ChangesOne m old new
 AnswersAt clock MapDeleteElem m key value flags old answer new =
     IsNumberAnswer answer (λ n. Deleted key n (map_at old m) (map_at new m)) × ChangesOne m old new
-AnswersAt clock KtimeGetNs m key value flags old answer new = (answer ≡ Number (clock 0)) × (new ≡ old)
+AnswersAt clock KtimeGetNs m key value flags old answer new =
+    (answer ≡ Number (clock 0)) × (new ≡ old)
 
-abbrev pub AnswersRequest : (clock : ℕ → ℕ) → Request → (old : List MapState) → Answer → (new : List MapState) → Type 0
+abbrev pub AnswersRequest : (clock : ℕ → ℕ) → Request → (old : List MapState) → Answer
+    → (new : List MapState) → Type 0
 AnswersRequest clock request old answer new =
-    AnswersAt clock request.helper request.map request.key.now request.value.now request.flags old answer new
+    AnswersAt clock request.helper request.map request.key.now request.value.now request.flags old
+    answer new
 
 -- how often the clock is asked
 abbrev pub asks : Helper → ℕ

@@ -18,7 +18,8 @@ use Rattle.host.specs.Writing.{Outputs, WritesEach, WroteBefore}
 -- The report of that stream was written, whole or up to a piece that failed: in the run of each
 -- packet frame without a reason the meaning of the program meets no trap, and it exits within the
 -- bound. The tally is what the last line shows.
-pub record RunsWhole (a : Bounded) (source : Option (List ℕ)) (old new : Outputs) (result : Result Tally HostError) : Type 0 where
+pub record RunsWhole (a : Bounded) (source : Option (List ℕ)) (old new : Outputs)
+    (result : Result Tally HostError) : Type 0 where
   pub found : Stream
   pub pieces : List Piece
   pub are_open : AreOpen found.version found.frames
@@ -31,20 +32,25 @@ pub record RunsWhole (a : Bounded) (source : Option (List ℕ)) (old new : Outpu
 -- An output failed at the magic or at a frame, and no more was read: the source begins with these
 -- frames, where its bytes are known, and the runs of these exit. However its stream goes on and
 -- ends, the outputs hold a beginning of that stream's report.
-pub record RunsFront (a : Bounded) (source : Option (List ℕ)) (old new : Outputs) (error : HostError) : Type 0 where
+pub record RunsFront (a : Bounded) (source : Option (List ℕ)) (old new : Outputs)
+    (error : HostError) : Type 0 where
   pub version : Version
   pub frames : List Frame
   pub are_open : AreOpen version frames
   pub begun : IsBegunBy source version frames
   pub exits : AllExit a.program a.bound (starting_contents a.program.maps) frames
-  pub writes : (more : List Frame) (finish : Finish) (pieces : List Piece) → IsReport a.program (stream_with version (frames ++ more, finish)) pieces → WroteBefore old new pieces error
+  pub writes : (more : List Frame) (finish : Finish) (pieces : List Piece)
+      → IsReport a.program (stream_with version (frames ++ more, finish)) pieces
+      → WroteBefore old new pieces error
 
 -- The bound is from 1 to 1,000,000. What was written is the report of the program and the source's
 -- stream; after a failed
 -- output it is a beginning of that report, and only where the failed piece is the magic or one of a
 -- frame was the
 -- stream not read to its end or fault.
-pub record ReportsRun (a : Bounded) (source : Option (List ℕ)) (old new : Outputs) (result : Result Tally HostError) : Type 0 where
+pub record ReportsRun (a : Bounded) (source : Option (List ℕ)) (old new : Outputs)
+    (result : Result Tally HostError) : Type 0 where
   pub some : 1 ≤ a.bound
   pub most : a.bound ≤ max_steps
-  pub reports : RunsWhole a source old new result ⊎ ((error : HostError) × (result ≡ Err error) × RunsFront a source old new error)
+  pub reports : RunsWhole a source old new result
+      ⊎ ((error : HostError) × (result ≡ Err error) × RunsFront a source old new error)

@@ -15,7 +15,8 @@ use Rattle.host.specs.Writing.{Outputs, WritesEach, WroteBefore}
 -- are known. The heads, the lengths of the bodies and the reasons fit, and the bodies are bytes.
 -- The stream's pieces were written, all of them or those before one that failed, and what the run
 -- answers tells of the stream what it is to tell.
-pub record ReportsWhole {X : Type 0} (source : Option (List ℕ)) (pieces : Stream → List Piece) (Tells : Stream → X → Type 0) (old new : Outputs) (result : Result X HostError) : Type 0 where
+pub record ReportsWhole {X : Type 0} (source : Option (List ℕ)) (pieces : Stream → List Piece)
+    (Tells : Stream → X → Type 0) (old new : Outputs) (result : Result X HostError) : Type 0 where
   pub found : Stream
   pub are_open : AreOpen found.version found.frames
   pub read : AreReadFrom source found
@@ -25,36 +26,47 @@ pub record ReportsWhole {X : Type 0} (source : Option (List ℕ)) (pieces : Stre
 -- An output failed at the magic or at a packet frame, and no more was read: the source begins with
 -- these frames, where its bytes are known. However its stream goes on and ends, the outputs hold a
 -- beginning of that stream's report.
-pub record ReportsFront (source : Option (List ℕ)) (pieces : Stream → List Piece) (old new : Outputs) (error : HostError) : Type 0 where
+pub record ReportsFront (source : Option (List ℕ)) (pieces : Stream → List Piece)
+    (old new : Outputs) (error : HostError) : Type 0 where
   pub version : Version
   pub frames : List Frame
   pub are_open : AreOpen version frames
   pub begun : IsBegunBy source version frames
-  pub writes : (more : List Frame) (finish : Finish) → WroteBefore old new (pieces (stream_with version (frames ++ more, finish))) error
+  pub writes : (more : List Frame) (finish : Finish)
+      → WroteBefore old new (pieces (stream_with version (frames ++ more, finish))) error
 
 -- What was written is the report of the source's stream.
 -- After a failed output it is a beginning of that report; only
 -- where the failed piece is the magic or one of a frame was the stream not read to its end or
 -- fault.
-abbrev pub Reports : {X : Type 0} → Option (List ℕ) → (Stream → List Piece) → (Stream → X → Type 0) → Outputs → Outputs → Result X HostError → Type 0
+abbrev pub Reports : {X : Type 0} → Option (List ℕ) → (Stream → List Piece) → (Stream → X → Type 0)
+    → Outputs → Outputs → Result X HostError → Type 0
 Reports source pieces Tells old new result =
-    ReportsWhole source pieces Tells old new result ⊎ ((error : HostError) × (result ≡ Err error) × ReportsFront source pieces old new error)
+    ReportsWhole source pieces Tells old new result
+    ⊎ ((error : HostError) × (result ≡ Err error) × ReportsFront source pieces old new error)
 
 -- ---- the same of a machine, which runs frames by a rule
 
 -- the magic and the frames' pieces
 abbrev pub front_in : ReportForm → Rule → List Entries → List Frame → List Piece
-front_in form rule contents frames = ToFrames (stream_magic form.stream) ∷ turns_pieces form rule 0 contents frames
+front_in form rule contents frames =
+    ToFrames (stream_magic form.stream) ∷ turns_pieces form rule 0 contents frames
 
 -- An output failed at one of the magic and these frames' pieces, and no more was read.
-pub record StopsAtFrame (source : Option (List ℕ)) (limit : ℕ) (program : Version) (rule : Rule) (contents : List Entries) (old new : Outputs) (error : HostError) : Type 0 where
+pub record StopsAtFrame (source : Option (List ℕ)) (limit : ℕ) (program : Version) (rule : Rule)
+    (contents : List Entries) (old new : Outputs) (error : HostError) : Type 0 where
   pub version : Version
   pub frames : List Frame
   pub are_open : AreOpen version frames
   pub begun : IsBegunBy source version frames
-  pub writes : WroteBefore old new (front_in (record { limit = limit; program = program; stream = version }) rule contents frames) error
+  pub writes : WroteBefore old new
+      (front_in (record { limit = limit; program = program; stream = version }) rule contents
+      frames) error
 
-abbrev pub ReportsBy : {X : Type 0} → Option (List ℕ) → ℕ → Version → List MapDef → Rule → List Entries → (Stream → X → Type 0) → Outputs → Outputs → Result X HostError → Type 0
+abbrev pub ReportsBy : {X : Type 0} → Option (List ℕ) → ℕ → Version → List MapDef → Rule
+    → List Entries → (Stream → X → Type 0) → Outputs → Outputs → Result X HostError → Type 0
 ReportsBy source limit program rows rule contents Tells old new result =
-    ReportsWhole source (λ found. report_of limit program rows rule contents found) Tells old new result
-    ⊎ ((error : HostError) × (result ≡ Err error) × StopsAtFrame source limit program rule contents old new error)
+    ReportsWhole source
+    (λ found. report_of limit program rows rule contents found) Tells old new result
+    ⊎ ((error : HostError) × (result ≡ Err error)
+    × StopsAtFrame source limit program rule contents old new error)

@@ -47,7 +47,10 @@ with_first first stop = if nat_lt (length first) MOST_STOPS then first ++ stop �
 abbrev pub note : Noted → ℕ → Stop → Noted
 note noted number stop =
     if is_noted stop.end
-    then record { first = with_first noted.first (record { frame = number; stop = stop }); count = min (noted.count + 1) (2 ^ 32 - 1) }
+    then record {
+      first = with_first noted.first (record { frame = number; stop = stop });
+      count = min (noted.count + 1) (2 ^ 32 - 1);
+    }
     else noted
 
 -- ---- frames in a row
@@ -58,17 +61,20 @@ Noting = Noted → ℕ → FrameHead → List ℕ → List Entries → Noted
 
 -- a frame that is not run is not noted
 abbrev pub noted_on : Noting → Noted → ℕ → List Entries → Frame → Noted
-noted_on notes noted number contents f = if f.reason == 0 then notes noted number f.head f.body contents else noted
+noted_on notes noted number contents f =
+    if f.reason == 0 then notes noted number f.head f.body contents else noted
 
 -- frames by their numbers, the maps' contents carried along
 abbrev pub noted_after : Noting → Rule → Noted → ℕ → List Entries → List Frame → Noted
 noted_after notes rule noted number contents [] = noted
 noted_after notes rule noted number contents (f ∷ frames) =
-    noted_after notes rule (noted_on notes noted number contents f) (number + 1) (contents_left contents (turn_on rule contents f)) frames
+    noted_after notes rule (noted_on notes noted number contents f) (number + 1)
+    (contents_left contents (turn_on rule contents f)) frames
 
 -- where each run with checks stopped; every answer of the clock is the frame's time
 abbrev pub checked_notes : Program → ℕ → Noting
-checked_notes p limit noted number head body contents = note noted number (stop_of p limit (λ k. head.time) head body contents)
+checked_notes p limit noted number head body contents =
+    note noted number (stop_of p limit (λ k. head.time) head body contents)
 
 -- nothing is noted
 abbrev pub no_notes : Noting
@@ -79,9 +85,11 @@ no_notes noted number head body contents = noted
 -- what the last line shows, and what is noted of the stream's frames
 abbrev pub TellsNoted : Noting → Rule → Noted → List Entries → Stream → Traced → Type 0
 TellsNoted notes rule noted contents found traced =
-    (traced.tally ≡ tally_of (length found.frames) found.finish) × (noted_of traced.stops ≡ noted_after notes rule noted 0 contents found.frames)
+    (traced.tally ≡ tally_of (length found.frames) found.finish)
+    × (noted_of traced.stops ≡ noted_after notes rule noted 0 contents found.frames)
 
 -- the same of a run with checks
 abbrev pub TellsTraced : Program → ℕ → Stream → Traced → Type 0
 TellsTraced p limit found traced =
-    TellsNoted (checked_notes p limit) (checked_rule p limit) nothing_noted (starting_contents p.maps) found traced
+    TellsNoted (checked_notes p limit) (checked_rule p limit) nothing_noted
+    (starting_contents p.maps) found traced

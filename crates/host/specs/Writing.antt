@@ -1,4 +1,5 @@
--- What two outputs hold after the pieces of a report were written to them in order, also where one of them failed.
+-- What two outputs hold after the pieces of a report were written to them in order, also where one
+-- of them failed.
 use Rattle.std.specs.Prelude.{◌≡◌, ℕ, ◌<◌, List, ◌∷◌, ◌++◌, length, take, Option, Result, MatchResult}
 use Rattle.std.specs.Io.KnownBytes.{Appends}
 use Rattle.isa_model.specs.Reporting.Reports.{Piece, ToReport, ToFrames, report_part, frames_part, report_bytes, frames_out}
@@ -24,7 +25,8 @@ abbrev pub failure_of : Piece → HostError
 failure_of (ToReport bytes) = failure.Report
 failure_of (ToFrames bytes) = failure.Frames
 
--- The outputs grew by the pieces before one that failed, and of that one by a beginning that is shorter than it;
+-- The outputs grew by the pieces before one that failed,
+-- and of that one by a beginning that is shorter than it;
 -- neither output has anything more.
 pub record WroteBefore (old new : Outputs) (pieces : List Piece) (error : HostError) : Type 0 where
   pub before : List Piece
@@ -34,14 +36,19 @@ pub record WroteBefore (old new : Outputs) (pieces : List Piece) (error : HostEr
   pub split : pieces ≡ before ++ failed ∷ rest
   pub kind : error ≡ failure_of failed
   pub short : count < length (piece_bytes failed)
-  pub report : Appends old.report new.report (report_bytes before ++ take count (report_part failed))
+  pub report : Appends old.report new.report
+      (report_bytes before ++ take count (report_part failed))
   pub frames : Appends old.frames new.frames (frames_out before ++ take count (frames_part failed))
 
 -- all of the pieces were written, or those before one that failed
 abbrev pub WritesEach : {X : Type 0} → Outputs → Outputs → Result X HostError → List Piece → Type 0
-WritesEach old new result pieces = MatchResult result (λ _. Wrote old new pieces) (λ error. WroteBefore old new pieces error)
+WritesEach old new result pieces =
+    MatchResult result (λ _. Wrote old new pieces) (λ error. WroteBefore old new pieces error)
 
 -- the same of pieces for the report only, whatever the frames out have
-abbrev pub WritesReport : {X : Type 0} → Option (List ℕ) → Option (List ℕ) → Result X HostError → List Piece → Type 0
+abbrev pub WritesReport : {X : Type 0} → Option (List ℕ) → Option (List ℕ) → Result X HostError
+    → List Piece → Type 0
 WritesReport old new result pieces =
-    (frames : Option (List ℕ)) → WritesEach (record { report = old; frames = frames }) (record { report = new; frames = frames }) result pieces
+    (frames : Option (List ℕ))
+    → WritesEach (record { report = old; frames = frames })
+    (record { report = new; frames = frames }) result pieces

@@ -41,12 +41,14 @@ abbrev pub op_selected : AluCode → ℕ → Option AluOp
 op_selected codes.Add f = Some ops.Add
 op_selected codes.Sub f = Some ops.Sub
 op_selected codes.Mul f = Some ops.Mul
-op_selected codes.Div f = if f == 0 then Some ops.Div else if f == 1 then Some ops.SignedDiv else None
+op_selected codes.Div f =
+    if f == 0 then Some ops.Div else if f == 1 then Some ops.SignedDiv else None
 op_selected codes.Or f = Some ops.Or
 op_selected codes.And f = Some ops.And
 op_selected codes.Lsh f = Some ops.Lsh
 op_selected codes.Rsh f = Some ops.Rsh
-op_selected codes.Mod f = if f == 0 then Some ops.Mod else if f == 1 then Some ops.SignedMod else None
+op_selected codes.Mod f =
+    if f == 0 then Some ops.Mod else if f == 1 then Some ops.SignedMod else None
 op_selected codes.Xor f = Some ops.Xor
 op_selected codes.Mov f = Some ops.Mov
 op_selected codes.Arsh f = Some ops.Arsh
@@ -54,10 +56,12 @@ op_selected codes.Arsh f = Some ops.Arsh
 abbrev pub extension_selected : Width → ℕ → Option Extension
 extension_selected Low32 f = if f == 8 then Some Low8 else if f == 16 then Some Low16 else None
 extension_selected Full64 f =
-    if f == 8 then Some Full8 else if f == 16 then Some Full16 else if f == 32 then Some Full32 else None
+    if f == 8 then Some Full8 else if f == 16 then Some Full16 else if f == 32 then Some Full32
+    else None
 
 abbrev pub span_selected : ℕ → Option Span
-span_selected k = if k == 16 then Some B16 else if k == 32 then Some B32 else if k == 64 then Some B64 else None
+span_selected k =
+    if k == 16 then Some B16 else if k == 32 then Some B32 else if k == 64 then Some B64 else None
 
 abbrev pub selected : Option Insn → Result Insn CodecError
 selected i = ok_or i UnknownSelector
@@ -113,10 +117,12 @@ abbrev pub with_next : Result ℕ CodecError → (ℕ → Result Insn CodecError
 with_next (Ok next) f = f next
 with_next (Err e) f = Err e
 
--- a number, whose upper half is next_imm; a map, by its index; a pointer into a map's value, at the offset next_imm
+-- a number, whose upper half is next_imm; a map, by its index;
+-- a pointer into a map's value, at the offset next_imm
 abbrev pub wide_by : Reg → Fields → Result ℕ CodecError → Result Insn CodecError
 wide_by R0 t second = with_next second (λ next. Ok (LoadNumber t.dst (t.imm + next * 2 ^ 32)))
-wide_by R5 t second = with_next second (λ next. if next == 0 then Ok (LoadMap t.dst t.imm) else Err SecondSlot)
+wide_by R5 t second =
+    with_next second (λ next. if next == 0 then Ok (LoadMap t.dst t.imm) else Err SecondSlot)
 wide_by R6 t second = with_next second (λ next. Ok (LoadMapValue t.dst t.imm next))
 wide_by r t second = Err UnknownSelector
 
@@ -132,7 +138,8 @@ abbrev pub called : Fields → Result Insn CodecError
 called t = called_by t.src t
 
 abbrev pub jump_if : Width → Comparison → Fields → Operand → Insn
-jump_if w c t x = JumpIf (record { width = w; comparison = c; register = t.dst; operand = x }) (distance_in t)
+jump_if w c t x =
+    JumpIf (record { width = w; comparison = c; register = t.dst; operand = x }) (distance_in t)
 
 -- ---- all forms, with the bytes after the first slot
 
@@ -145,7 +152,8 @@ meaning (form.ByteSwap order) t rest = swapped order t
 meaning form.WideLoad t rest = wide t rest
 meaning (form.Load size) t rest = Ok (Load size t.dst (place_in t t.src))
 meaning (form.LoadSx size) t rest = Ok (LoadSx size t.dst (place_in t t.src))
-meaning (form.StoreConstant size) t rest = Ok (StoreConstant size (place_in t t.dst) (constant_in t))
+meaning (form.StoreConstant size) t rest =
+    Ok (StoreConstant size (place_in t t.dst) (constant_in t))
 meaning (form.Store size) t rest = Ok (Store size (place_in t t.dst) t.src)
 meaning (form.Atomic w) t rest = atomic w t
 meaning form.Jump t rest = Ok (Jump (distance_in t))
@@ -162,7 +170,8 @@ with_fields f t rest = if zero_unused (uses f) t then meaning f t rest else Err 
 
 abbrev pub with_src : Form → Slot → Reg → Option Reg → List ℕ → Result Insn CodecError
 with_src f s d None rest = Err UnknownRegister
-with_src f s d (Some r) rest = with_fields f (record { dst = d; src = r; offset = s.offset; imm = s.imm }) rest
+with_src f s d (Some r) rest =
+    with_fields f (record { dst = d; src = r; offset = s.offset; imm = s.imm }) rest
 
 abbrev pub with_dst : Form → Slot → Option Reg → List ℕ → Result Insn CodecError
 with_dst f s None rest = Err UnknownRegister
@@ -188,7 +197,8 @@ slot_at bytes = record {
 
 -- the instruction that a front of the bytes spells, or the first test that fails
 unfoldable pub decoded : List ℕ → Result Insn CodecError
-decoded bytes = if nat_lt (length bytes) 8 then Err Short else slot_meaning (slot_at (take 8 bytes)) (drop 8 bytes)
+decoded bytes = if nat_lt (length bytes) 8 then Err Short
+    else slot_meaning (slot_at (take 8 bytes)) (drop 8 bytes)
 
 -- with the number of bytes that it takes
 abbrev pub sized : Result Insn CodecError → Result (Insn × ℕ) CodecError

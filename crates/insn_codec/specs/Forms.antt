@@ -171,4 +171,5 @@ is_r0 r = false
 
 abbrev pub zero_unused : Uses → Fields → Bool
 zero_unused u t =
-    (u.dst || is_r0 t.dst) && (u.src || is_r0 t.src) && (u.offset || t.offset == 0) && (u.imm || t.imm == 0)
+    (u.dst || is_r0 t.dst) && (u.src || is_r0 t.src) && (u.offset || t.offset == 0)
+    && (u.imm || t.imm == 0)

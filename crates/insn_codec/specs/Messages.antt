@@ -17,4 +17,5 @@ sentence_of UnknownOpcode = codes "the opcode is unknown"
 sentence_of UnknownRegister = codes "a register number is over 10"
 sentence_of UnusedField = codes "a field that the instruction does not use is not 0"
 sentence_of UnknownSelector = codes "the selector is unknown"
-sentence_of SecondSlot = codes "the second slot of the wide load is missing, or a field that it does not use is not 0"
+sentence_of SecondSlot =
+    codes "the second slot of the wide load is missing, or a field that it does not use is not 0"

@@ -30,11 +30,13 @@ number_after base skip bs n =
     else Some (Solid (Number (digits_number base 0 (take n (drop skip bs)))), skip + n)
 
 abbrev pub number_at : ℕ → ℕ → List ℕ → Option (Lexeme × ℕ)
-number_at base skip bs = number_after base skip bs (prefix_len (λ c. is_digit c base) (drop skip bs))
+number_at base skip bs =
+    number_after base skip bs (prefix_len (λ c. is_digit c base) (drop skip bs))
 
 -- hexadecimal digits after 0x, or decimal ones
 abbrev pub number_from : List ℕ → Option (Lexeme × ℕ)
-number_from bs = if (slice_index bs 0 == 48) && (slice_index bs 1 == 120) then number_at 16 2 bs else number_at 10 0 bs
+number_from bs = if (slice_index bs 0 == 48) && (slice_index bs 1 == 120) then number_at 16 2 bs
+    else number_at 10 0 bs
 
 -- the offset at which a number with n digits after the skipped bytes is wrong; `0x` without a digit
 -- is the number 0 with an x after it
@@ -45,7 +47,8 @@ abbrev pub number_fault_at : ℕ → ℕ → List ℕ → ℕ
 number_fault_at base skip bs = number_fault skip (prefix_len (λ c. is_digit c base) (drop skip bs))
 
 abbrev pub number_fault_from : List ℕ → ℕ
-number_fault_from bs = if (slice_index bs 0 == 48) && (slice_index bs 1 == 120) then number_fault_at 16 2 bs else number_fault_at 10 0 bs
+number_fault_from bs = if (slice_index bs 0 == 48) && (slice_index bs 1 == 120)
+    then number_fault_at 16 2 bs else number_fault_at 10 0 bs
 
 -- ---- words, blanks and signs
 
@@ -71,11 +74,14 @@ blank_or_sign bs b =
 abbrev pub word_or_sign : List ℕ → ℕ → Option (Lexeme × ℕ)
 word_or_sign bs b =
     if is_word_byte b
-    then (if b == 115 then or_else (signed_sign (slice_index bs 1) (slice_index bs 2) (slice_index bs 3)) (word_at bs) else word_at bs)
+    then (if b == 115
+    then or_else (signed_sign (slice_index bs 1) (slice_index bs 2) (slice_index bs 3)) (word_at bs)
+    else word_at bs)
     else blank_or_sign bs b
 
 abbrev pub lexeme_at : List ℕ → Option (Lexeme × ℕ)
-lexeme_at bs = let b = slice_index bs 0 in if is_digit b 10 then number_from bs else word_or_sign bs b
+lexeme_at bs =
+    let b = slice_index bs 0 in if is_digit b 10 then number_from bs else word_or_sign bs b
 
 -- where there is no lexeme: the offset of the first byte that begins no token
 abbrev pub fault_at : List ℕ → ℕ

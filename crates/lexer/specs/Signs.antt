@@ -33,14 +33,19 @@ sign_of a b c =
     else if a == 124 then only_equals b 1 sign.OrAssign
     else if a == 94 then only_equals b 1 sign.XorAssign
     else if a == 33 then only_equals b 1 sign.NotEqual
-    else if a == 60 then (if (b == 60) && (c == 61) then found sign.LshAssign 3 else with_equals b 1 sign.LessEqual sign.Less)
-    else if a == 62 then (if (b == 62) && (c == 61) then found sign.RshAssign 3 else with_equals b 1 sign.GreaterEqual sign.Greater)
+    else if a == 60
+    then (if (b == 60) && (c == 61) then found sign.LshAssign 3
+    else with_equals b 1 sign.LessEqual sign.Less)
+    else if a == 62
+    then (if (b == 62) && (c == 61) then found sign.RshAssign 3
+    else with_equals b 1 sign.GreaterEqual sign.Greater)
     else None
 
 -- the longest sign that is an s and these bytes
 abbrev pub signed_sign : ℕ → ℕ → ℕ → Option (Lexeme × ℕ)
 signed_sign b c d =
-    if b == 62 then (if (c == 62) && (d == 61) then found sign.ArshAssign 4 else with_equals c 2 sign.SignedGreaterEqual sign.SignedGreater)
+    if b == 62 then (if (c == 62) && (d == 61) then found sign.ArshAssign 4
+    else with_equals c 2 sign.SignedGreaterEqual sign.SignedGreater)
     else if b == 60 then with_equals c 2 sign.SignedLessEqual sign.SignedLess
     else if b == 47 then only_equals c 2 sign.SignedDivAssign
     else if b == 37 then only_equals c 2 sign.SignedModAssign

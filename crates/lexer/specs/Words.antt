@@ -18,8 +18,10 @@ use Rattle.lexer.specs.declared.tokens.Word.TheVariants as word
 abbrev pub reg_of : List ℕ → Option Reg
 reg_of [] = None
 reg_of (c ∷ []) =
-    if c == 48 then Some R0 else if c == 49 then Some R1 else if c == 50 then Some R2 else if c == 51 then Some R3
-    else if c == 52 then Some R4 else if c == 53 then Some R5 else if c == 54 then Some R6 else if c == 55 then Some R7
+    if c == 48 then Some R0 else if c == 49 then Some R1 else if c == 50 then Some R2
+    else if c == 51 then Some R3
+    else if c == 52 then Some R4 else if c == 53 then Some R5 else if c == 54 then Some R6
+    else if c == 55 then Some R7
     else if c == 56 then Some R8 else if c == 57 then Some R9 else None
 reg_of (c ∷ d ∷ []) = if c == 49 then (if d == 48 then Some R10 else None) else None
 reg_of (c ∷ d ∷ e ∷ cs) = None

@@ -15,8 +15,10 @@ use Rattle.stack_state.specs.Slots.{frame_slots}
 use Rattle.table_entries.specs.Frames.{frame_allowed}
 use Rattle.table_entries.specs.Entries.{Entry, head_allowed}
 
--- ---- numbers; their types say the rest: that no bit of the mask is set in the value, and that limits are in order
+-- ---- numbers
 
+-- their types say the rest: that no bit of the mask is set in the value, and that limits are in
+-- order
 pub record WideFits (w : Wide) : Type 0 where
   pub least : w.least < 2 ^ 64
   pub greatest : w.greatest < 2 ^ 64
@@ -75,7 +77,8 @@ KindFits rows holder Unset = Unit {0}
 KindFits rows holder (Number s) = ScalarFits s
 KindFits rows holder Context = Unit {0}
 KindFits rows holder (Stack frame offset) = StackFits holder frame offset
-KindFits rows holder (Packet fixed identity least greatest proved) = PacketFits fixed identity least greatest proved
+KindFits rows holder (Packet fixed identity least greatest proved) =
+    PacketFits fixed identity least greatest proved
 KindFits rows holder PacketEnd = Unit {0}
 KindFits rows holder (Map index) = MapFits rows index
 KindFits rows holder (MapValue index least greatest) = ValueFits rows index least greatest
@@ -100,7 +103,8 @@ pub record EntryFits (p : Program) (e : Entry) : Type 0 where
   pub allowed : head_allowed p e.number e.state.slot ≡ true
   pub slot : e.state.slot < 2 ^ 16
   pub few : length e.state.callers.items < max_call_frames
-  pub callers : (k : ℕ) (d : AbstractFrame) → k < length e.state.callers.items → FrameFits (length p.maps) k true (get_or e.state.callers.items k d)
+  pub callers : (k : ℕ) (d : AbstractFrame) → k < length e.state.callers.items
+      → FrameFits (length p.maps) k true (get_or e.state.callers.items k d)
   pub innermost : FrameFits (length p.maps) (length e.state.callers.items) false e.state.innermost
   pub named : length e.successors ≤ 2
   pub indexes : All (λ i. i < 2 ^ 32) e.successors

@@ -1,4 +1,5 @@
--- Proof tables as bytes: the magic XPT1, a u32 count, and the entries; the lowest byte of a number comes first.
+-- Proof tables as bytes: the magic XPT1, a u32 count, and the entries;
+-- the lowest byte of a number comes first.
 use Rattle.std.specs.Prelude.{ℕ, suc, ℤ, List, [], ◌∷◌, ◌++◌, codes, length}
 use Rattle.std.specs.List.{flat_map}
 use Rattle.std.specs.Int.{w32, w64, cast_unsigned}
@@ -28,11 +29,13 @@ bits_bytes b = little_bytes 8 b.value ++ little_bytes 8 b.mask
 
 -- the limits at 64 bits, unsigned and then signed
 unfoldable pub wide_bytes : Wide → List ℕ
-wide_bytes w = little_bytes 8 w.least ++ (little_bytes 8 w.greatest ++ (signed_8 w.signed_least ++ signed_8 w.signed_greatest))
+wide_bytes w = little_bytes 8 w.least
+    ++ (little_bytes 8 w.greatest ++ (signed_8 w.signed_least ++ signed_8 w.signed_greatest))
 
 -- those of the low halves
 unfoldable pub low_bytes : Low → List ℕ
-low_bytes l = little_bytes 4 l.least ++ (little_bytes 4 l.greatest ++ (signed_4 l.signed_least ++ signed_4 l.signed_greatest))
+low_bytes l = little_bytes 4 l.least
+    ++ (little_bytes 4 l.greatest ++ (signed_4 l.signed_least ++ signed_4 l.signed_greatest))
 
 abbrev pub scalar_bytes : Scalar → List ℕ
 scalar_bytes s = bits_bytes s.bits ++ (wide_bytes s.range.wide ++ low_bytes s.range.low)
@@ -44,7 +47,9 @@ stack_bytes frame offset = 3 ∷ (frame ∷ signed_4 offset)
 
 unfoldable pub packet_bytes : ℤ → ℕ → ℤ → ℤ → ℕ → List ℕ
 packet_bytes fixed identity least greatest proved =
-    4 ∷ (signed_4 fixed ++ (little_bytes 4 identity ++ (signed_4 least ++ (signed_4 greatest ++ little_bytes 4 proved))))
+    4 ∷ (signed_4 fixed
+    ++ (little_bytes 4 identity
+    ++ (signed_4 least ++ (signed_4 greatest ++ little_bytes 4 proved))))
 
 unfoldable pub value_bytes : ℕ → ℤ → ℤ → List ℕ
 value_bytes index least greatest = 7 ∷ (index ∷ (signed_4 least ++ signed_4 greatest))
@@ -57,7 +62,8 @@ kind_bytes Unset = 0 ∷ []
 kind_bytes (Number s) = 1 ∷ scalar_bytes s
 kind_bytes Context = 2 ∷ []
 kind_bytes (Stack frame offset) = stack_bytes frame offset
-kind_bytes (Packet fixed identity least greatest proved) = packet_bytes fixed identity least greatest proved
+kind_bytes (Packet fixed identity least greatest proved) =
+    packet_bytes fixed identity least greatest proved
 kind_bytes PacketEnd = 5 ∷ []
 kind_bytes (Map index) = 6 ∷ (index ∷ [])
 kind_bytes (MapValue index least greatest) = value_bytes index least greatest
@@ -74,11 +80,13 @@ slot_bytes (Spilled kind) = 1 ∷ kind_bytes kind
 
 -- the slot of its caller, ten values, 64 stack slots
 unfoldable pub frame_bytes : AbstractFrame → List ℕ
-frame_bytes f = little_bytes 2 f.return_slot ++ (flat_map kind_bytes f.registers ++ flat_map slot_bytes f.stack.slots)
+frame_bytes f = little_bytes 2 f.return_slot
+    ++ (flat_map kind_bytes f.registers ++ flat_map slot_bytes f.stack.slots)
 
 -- the frames, the outermost first, after their count
 abbrev pub frames_bytes : List AbstractFrame → AbstractFrame → List ℕ
-frames_bytes callers innermost = suc (length callers) ∷ (flat_map frame_bytes callers ++ frame_bytes innermost)
+frames_bytes callers innermost =
+    suc (length callers) ∷ (flat_map frame_bytes callers ++ frame_bytes innermost)
 
 -- the indexes of the entries that are named, after their count
 abbrev pub named_bytes : List ℕ → List ℕ
@@ -88,7 +96,8 @@ named_bytes successors = length successors ∷ flat_map (little_bytes 4) success
 unfoldable pub entry_bytes : Entry → List ℕ
 entry_bytes e =
     little_bytes 4 e.number
-    ++ (little_bytes 2 e.state.slot ++ (frames_bytes e.state.callers.items e.state.innermost ++ named_bytes e.successors))
+    ++ (little_bytes 2 e.state.slot
+    ++ (frames_bytes e.state.callers.items e.state.innermost ++ named_bytes e.successors))
 
 -- ---- tables
 

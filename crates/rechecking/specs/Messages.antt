@@ -34,4 +34,5 @@ sentence_of (Flow error slot) = flow.sentence_of error
 sentence_of (Fault error) = fault_sentence error
 sentence_of Start = codes "the first entry does not cover the start of a run"
 sentence_of (Step k refusal) = codes "the step of the entry is refused"
-sentence_of (Successor k) = codes "the named entries do not cover its successors, or their numbers are not smaller"
+sentence_of (Successor k) =
+    codes "the named entries do not cover its successors, or their numbers are not smaller"

@@ -24,7 +24,8 @@ pub record ShowsBound (p : Program) (bytes : List ℕ) (number : ℕ) : Type 0 w
 
 -- the first entry does not clearly cover the start state
 abbrev pub LacksStart : Program → List ℕ → Type 0
-LacksStart p bytes = (entries : List Entry) × AreEntries p bytes entries × (StartsClearly (slice_get entries) → ⊥)
+LacksStart p bytes =
+    (entries : List Entry) × AreEntries p bytes entries × (StartsClearly (slice_get entries) → ⊥)
 
 -- it does, and an entry is the first that does not pass
 abbrev pub HasFault : Program → List ℕ → TableError → Type 0

@@ -1,4 +1,5 @@
--- Closed tables: tables of abstract states that show by themselves that every run of a program ends.
+-- Closed tables: tables of abstract states that show by themselves that every run of a program
+-- ends.
 use Rattle.std.specs.Prelude.{◌≡◌, ℕ, ◌<◌, ◌≤◌, List, Contains, Option, Some}
 use Rattle.isa_model.specs.declared.frames.FrameHead.{FrameHead}
 use Rattle.isa_model.specs.Code.Instructions.{Program}
@@ -30,7 +31,8 @@ pub record EntersSmaller (p : Program) (t : EntryAt) (e : Entry) (s : Machine.St
 pub record IsClosedEntry (p : Program) (t : EntryAt) (e : Entry) : Type 0 where
   pub some : 1 ≤ e.number
   pub most : e.number ≤ MAX_STEPS
-  pub steps : (clock : ℕ → ℕ) → IsClock clock → (s : Machine.State) → Means p e.state s → After (EntersSmaller p t e) (step p clock s)
+  pub steps : (clock : ℕ → ℕ) → IsClock clock → (s : Machine.State) → Means p e.state s
+      → After (EntersSmaller p t e) (step p clock s)
 
 -- every state in which a run begins is one of the abstract state
 abbrev pub MeansStarts : Program → State → Type 0

@@ -145,7 +145,8 @@ fn next_follows(
     requires { MayGrow image.now growing.old }
     ensures grows { Grows image.now growing.old growing.new }
     ensures yes { IfSome result
-        (λ _. (other : State) → FollowsBy (Enters (entry_at image.now growing.new.table) head.number)
+        (λ _. (other : State) → FollowsBy
+        (Enters (entry_at image.now growing.new.table) head.number)
         (list_of head.named) ways state.now other) }
     ensures known { IfSome result (λ known. (room : State)
         → IsKnownEntry image.now (entry_at image.now growing.new.table) state.now room known) }
@@ -192,7 +193,8 @@ fn test_standing(
     room: &mut State,
 ) -> Result<Known, TableError>
     requires may { MayGrow image.now growing.old }
-    requires there { HasEntry image.now (entry_at image.now growing.old.table) index head state.old }
+    requires there { HasEntry image.now (entry_at image.now growing.old.table)
+        index head state.old }
     ensures grows { Grows image.now growing.old growing.new }
     ensures fine { IfOk result (λ _. (e : Entry)
         → entry_at image.now growing.new.table index ≡ Some e

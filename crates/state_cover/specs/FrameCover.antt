@@ -1,4 +1,5 @@
--- When a frame covers another, under maps of identities; and when a test by registers and slots has to find that a state
+-- When a frame covers another, under maps of identities;
+-- and when a test by registers and slots has to find that a state
 -- does.
 use Rattle.std.specs.Prelude.{◌≡◌, ℕ, ◌<◌, List, map}
 use Rattle.std.specs.Int.{bit_at}
@@ -17,7 +18,8 @@ use Rattle.stack_state.specs.declared.states.State.{State}
 abbrev pub AreAmong : ℕ → ℕ → Type 0
 AreAmong marks others = (i : ℕ) → i < 8 → bit_at marks i ≡ 1 → bit_at others i ≡ 1
 
--- the bytes that are known to be written in a are in b, where a spilled number is eight written bytes; a spilled value
+-- the bytes that are known to be written in a are in b,
+-- where a spilled number is eight written bytes; a spilled value
 -- covers a spilled one
 abbrev pub SlotCovers : (ℕ → ℕ) → (ℕ → ℕ) → Slot → Slot → Type 0
 SlotCovers packet null (Written marks) b = AreAmong marks (marks_of b)
@@ -38,7 +40,8 @@ KindsCover packet null xs ys = (k : ℕ) → KindCovers packet null (kind_at xs 
 
 -- of each slot
 abbrev pub SlotsCover : (ℕ → ℕ) → (ℕ → ℕ) → List Slot → List Slot → Type 0
-SlotsCover packet null xs ys = (k : ℕ) → k < frame_slots → SlotCovers packet null (slot_at xs k) (slot_at ys k)
+SlotsCover packet null xs ys =
+    (k : ℕ) → k < frame_slots → SlotCovers packet null (slot_at xs k) (slot_at ys k)
 
 pub record FrameCovers (packet null : ℕ → ℕ) (f g : AbstractFrame) : Type 0 where
   pub returns : f.return_slot ≡ g.return_slot

@@ -29,7 +29,8 @@ spilled_kinds slots = map kind_in slots
 
 -- the kinds of two frames, place by place: registers, then slots
 abbrev pub frame_places : AbstractFrame → AbstractFrame → List (Kind × Kind)
-frame_places f g = zip f.registers g.registers ++ zip (spilled_kinds f.stack.slots) (spilled_kinds g.stack.slots)
+frame_places f g =
+    zip f.registers g.registers ++ zip (spilled_kinds f.stack.slots) (spilled_kinds g.stack.slots)
 
 -- the same of two lists of frames
 abbrev pub places : List AbstractFrame → List AbstractFrame → List (Kind × Kind)

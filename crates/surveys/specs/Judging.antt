@@ -45,9 +45,11 @@ slot_of (error.UnknownMap slot) = Some slot
 slot_of (error.ValuePointer slot) = Some slot
 slot_of _ = None
 
--- what a row says of bytes that are no image: the code of what is wrong, at its slot; or that memory ran out
+-- what a row says of bytes that are no image: the code of what is wrong, at its slot;
+-- or that memory ran out
 abbrev pub SaysMalformed : ImageError → Verdict → Counts → Type 0
 SaysMalformed wrong verdict.Accepted counts = ⊥
-SaysMalformed wrong (verdict.Refused code) counts = (code.now ≡ image_code_of wrong) × (counts.slot ≡ slot_of wrong)
+SaysMalformed wrong (verdict.Refused code) counts =
+    (code.now ≡ image_code_of wrong) × (counts.slot ≡ slot_of wrong)
 SaysMalformed wrong verdict.Unreadable counts = ⊥
 SaysMalformed wrong verdict.NoMemory counts = Unit {0}

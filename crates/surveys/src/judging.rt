@@ -94,7 +94,8 @@ fn counted(tally: Tally, counts: Counts) -> Counts
 
 /// A program that is refused.
 fn refused(refusal: Refusal, slot: usize, counts: Counts) -> Judged
-    ensures { (p : Program) → IsRefused p refusal slot → SaysVerdict p result.verdict result.counts }
+    ensures { (p : Program) → IsRefused p refusal slot
+        → SaysVerdict p result.verdict result.counts }
 {
     match refusal {
         Refusal::Memory | Refusal::Flow(FlowError::Memory) => unjudged(counts),

@@ -139,7 +139,8 @@ impl<W: Write + Drop> Listener for Log<'_, W> {
 
 /// Writes what the search explores of a program as it goes, all or at one slot: each instruction
 /// with the state that it is reached in, and where a stored state covers one; at the end how much
-/// was explored. Of a program that is refused this is all up to the refusal, which is then answered.
+/// was explored. Of a program that is refused this is all up to the refusal, which is then
+/// answered.
 pub fn write_log<W: Write>(
     alloc: Global,
     image: &Image,

@@ -35,7 +35,8 @@ named_in [] = Err Short
 named_in (count ∷ bytes) =
     if count == 0 then Ok (Some [], bytes)
     else if count == 1 then sized 4 (λ b. Some (little_number 4 b ∷ [])) bytes
-    else if count == 2 then sized 8 (λ b. Some (little_number 4 b ∷ (little_number 4 (drop 4 b) ∷ []))) bytes
+    else if count == 2
+    then sized 8 (λ b. Some (little_number 4 b ∷ (little_number 4 (drop 4 b) ∷ []))) bytes
     else Err Form
 
 -- a number from 1 to the greatest bound, and a slot where an instruction begins
@@ -46,12 +47,18 @@ pub record IsAllowed (p : Program) (number slot : ℕ) : Type 0 where
 
 -- the same as a test
 abbrev pub head_allowed : Program → ℕ → ℕ → Bool
-head_allowed p number slot = (not (number == 0) && not (nat_lt MAX_STEPS number)) && is_some (fetch p slot)
+head_allowed p number slot =
+    (not (number == 0) && not (nat_lt MAX_STEPS number)) && is_some (fetch p slot)
 
-abbrev pub entry_with : Program → ℕ → ℕ → Option (List AbstractFrame) → Option AbstractFrame → Option (List ℕ) → Option Entry
+abbrev pub entry_with : Program → ℕ → ℕ → Option (List AbstractFrame) → Option AbstractFrame
+    → Option (List ℕ) → Option Entry
 entry_with p number slot (Some callers) (Some innermost) (Some successors) =
     if head_allowed p number slot then
-    Some (record { number = number; state = record { slot = slot; callers = record { items = callers }; innermost = innermost }; successors = successors })
+    Some (record {
+      number = number;
+      state = record { slot = slot; callers = record { items = callers }; innermost = innermost };
+      successors = successors;
+    })
     else None
 entry_with p number slot callers innermost successors = None
 
@@ -69,4 +76,5 @@ entry_in p bytes =
     if nat_lt (length bytes) 7 then Err Short
     else let count = little_number 1 (drop 6 bytes) in
     if count == 0 || nat_lt max_call_frames count then Err Form
-    else rest_in p (little_number 4 bytes) (little_number 2 (drop 4 bytes)) (count - 1) (drop 7 bytes)
+    else rest_in p (little_number 4 bytes) (little_number 2 (drop 4 bytes)) (count - 1)
+    (drop 7 bytes)

@@ -1,4 +1,5 @@
--- Call frames, as the bytes of a table have them. `rows` is how many map rows the program has, `holder` which frame it is, the outermost first.
+-- Call frames, as the bytes of a table have them. `rows` is how many map rows the program has,
+-- `holder` which frame it is, the outermost first.
 use Rattle.std.specs.Prelude.{ℕ, nat_lt, ◌==◌, ◌&&◌, ◌||◌, not, Bool, true, false, if◌then◌else◌, List, length, drop, Option, Some, None, Ok, Err}
 use Rattle.byteorder.specs.Endian.{little_number}
 use Rattle.reg_state.specs.declared.kinds.Kind.{Kind}
@@ -18,16 +19,23 @@ is_unset k = false
 -- r0 to r5
 abbrev pub are_unset : List Kind → Bool
 are_unset kinds =
-    is_unset (kind_at kinds 0) && (is_unset (kind_at kinds 1) && (is_unset (kind_at kinds 2) && (is_unset (kind_at kinds 3)
+    is_unset (kind_at kinds 0)
+    && (is_unset (kind_at kinds 1) && (is_unset (kind_at kinds 2) && (is_unset (kind_at kinds 3)
     && (is_unset (kind_at kinds 4) && is_unset (kind_at kinds 5)))))
 
 -- the outermost call frame returns to slot 0; of an outer one, r0 to r5 are unset
 abbrev pub frame_allowed : ℕ → Bool → ℕ → List Kind → Bool
-frame_allowed holder outer slot kinds = (not (holder == 0) || slot == 0) && (not outer || are_unset kinds)
+frame_allowed holder outer slot kinds =
+    (not (holder == 0) || slot == 0) && (not outer || are_unset kinds)
 
 abbrev pub frame_of : ℕ → Bool → ℕ → Option (List Kind) → Option (List Slot) → Option AbstractFrame
 frame_of holder outer slot (Some kinds) (Some slots) =
-    if frame_allowed holder outer slot kinds then Some (record { return_slot = slot; registers = kinds; stack = record { slots = slots } }) else None
+    if frame_allowed holder outer slot kinds
+    then Some (record {
+      return_slot = slot;
+      registers = kinds;
+      stack = record { slots = slots };
+    }) else None
 frame_of holder outer slot kinds slots = None
 
 -- u16 return slot, ten values, the stack slots

@@ -5,14 +5,16 @@ use Rattle.table_entries.specs.declared.faults.TableFault.{TableFault}
 use Rattle.table_entries.specs.Entries.{Entry}
 use Rattle.table_entries.specs.Tables.{TableView, count_of, count_in, entries_in, entry_at, entry_from, first_none}
 
--- the entries that are placed, the bytes after them, and how many entries the table says that it has
+-- the entries that are placed, the bytes after them, and how many entries the table says that it
+-- has
 pub record Grown : Type 0 where
   pub table : TableView
   pub rest : List ℕ
   pub count : ℕ
 
 -- what was read before, and what is still read
-abbrev pub with_entries : List (Option Entry) → Result (List (Option Entry) × List ℕ) TableFault → Result (List (Option Entry) × List ℕ) TableFault
+abbrev pub with_entries : List (Option Entry) → Result (List (Option Entry) × List ℕ) TableFault
+    → Result (List (Option Entry) × List ℕ) TableFault
 with_entries front (Ok x) = Ok (front ++ x.0, x.1)
 with_entries front (Err e) = Err e
 
@@ -23,7 +25,8 @@ IsEnd bytes rest = (n : ℕ) × (rest ≡ drop n bytes)
 -- the entries that are placed are the first of the table, and are allowed
 pub record IsBegun (p : Program) (g : Grown) : Type 0 where
   pub counted : count_in g.table.bytes ≡ Ok g.count
-  pub so_far : with_entries (map (entry_from p g.table.bytes) g.table.places) (entries_in p (g.count - count_of g.table) (count_of g.table) g.rest)
+  pub so_far : with_entries (map (entry_from p g.table.bytes) g.table.places)
+      (entries_in p (g.count - count_of g.table) (count_of g.table) g.rest)
       ≡ entries_in p g.count 0 (drop 8 g.table.bytes)
   pub fine : first_none 0 (map (entry_from p g.table.bytes) g.table.places) ≡ None
   pub few : count_of g.table ≤ g.count

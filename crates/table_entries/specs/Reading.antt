@@ -25,7 +25,8 @@ seen (Err stop) = Err stop
 
 -- fields of n bytes
 abbrev pub sized : {X : Type 0} → ℕ → (List ℕ → Option X) → List ℕ → Read X
-sized n fields bytes = if nat_lt (length bytes) n then Err Short else Ok (fields bytes, drop n bytes)
+sized n fields bytes =
+    if nat_lt (length bytes) n then Err Short else Ok (fields bytes, drop n bytes)
 
 -- what is read next
 abbrev pub then_read : {X Y : Type 0} → Read X → (Option X → List ℕ → Read Y) → Read Y
@@ -39,7 +40,10 @@ joined x xs = None
 -- n of them, from the k-th on, one after the other: all are read. None: one of them is None
 unfoldable pub many : {X : Type 0} → (ℕ → List ℕ → Read X) → ℕ → ℕ → List ℕ → Read (List X)
 many one zero k bytes = Ok (Some [], bytes)
-many one (suc n) k bytes = then_read (one k bytes) (λ first rest. then_read (many one n (k + 1) rest) (λ others after. Ok (joined first others, after)))
+many one (suc n) k bytes =
+    then_read (one k bytes)
+    (λ first rest. then_read (many one n (k + 1) rest)
+    (λ others after. Ok (joined first others, after)))
 
 -- what is read, if it is allowed
 abbrev pub allowed : {X : Type 0} → Read X → Option X

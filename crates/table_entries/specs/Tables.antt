@@ -17,22 +17,28 @@ abbrev pub fault_of : Stop → ℕ → TableFault
 fault_of Short k = fault.Short
 fault_of Form k = fault.Entry k
 
-abbrev pub before : Option Entry → Result (List (Option Entry) × List ℕ) TableFault → Result (List (Option Entry) × List ℕ) TableFault
+abbrev pub before : Option Entry → Result (List (Option Entry) × List ℕ) TableFault
+    → Result (List (Option Entry) × List ℕ) TableFault
 before first (Ok x) = Ok (first ∷ x.0, x.1)
 before first (Err e) = Err e
 
 -- the entry of index k, and what is read after it
-abbrev pub then_entries : ℕ → Read Entry → (List ℕ → Result (List (Option Entry) × List ℕ) TableFault) → Result (List (Option Entry) × List ℕ) TableFault
+abbrev pub then_entries : ℕ → Read Entry
+    → (List ℕ → Result (List (Option Entry) × List ℕ) TableFault)
+    → Result (List (Option Entry) × List ℕ) TableFault
 then_entries k (Err stop) others = Err (fault_of stop k)
 then_entries k (Ok x) others = before x.0 (others x.1)
 
 -- n entries, from index k on
-unfoldable pub entries_in : Program → ℕ → ℕ → List ℕ → Result (List (Option Entry) × List ℕ) TableFault
+unfoldable pub entries_in : Program → ℕ → ℕ → List ℕ
+    → Result (List (Option Entry) × List ℕ) TableFault
 entries_in p zero k bytes = Ok ([], bytes)
-entries_in p (suc n) k bytes = then_entries k (entry_in p bytes) (λ rest. entries_in p n (k + 1) rest)
+entries_in p (suc n) k bytes =
+    then_entries k (entry_in p bytes) (λ rest. entries_in p n (k + 1) rest)
 
 -- no bytes are left over
-abbrev pub to_the_end : Result (List (Option Entry) × List ℕ) TableFault → Result (List (Option Entry)) TableFault
+abbrev pub to_the_end : Result (List (Option Entry) × List ℕ) TableFault
+    → Result (List (Option Entry)) TableFault
 to_the_end (Ok x) = if length x.1 == 0 then Ok x.0 else Err fault.Long
 to_the_end (Err e) = Err e
 
@@ -48,7 +54,8 @@ count_in bytes =
 abbrev pub body_in : Program → List ℕ → ℕ → Result (List (Option Entry)) TableFault
 body_in p bytes count = to_the_end (entries_in p count 0 (drop 8 bytes))
 
-abbrev pub with_count : Program → List ℕ → Result ℕ TableFault → Result (List (Option Entry)) TableFault
+abbrev pub with_count : Program → List ℕ → Result ℕ TableFault
+    → Result (List (Option Entry)) TableFault
 with_count p bytes (Ok count) = body_in p bytes count
 with_count p bytes (Err e) = Err e
 
@@ -104,7 +111,8 @@ pub record KeepsEntries (p : Program) (t : TableView) (entries : List Entry) : T
   pub each : (k : ℕ) → entry_at p t k ≡ slice_get entries k
 
 -- this number of entries begin at the places; `first` is the first of them that is not allowed
-pub record ArePlaced (p : Program) (bytes : List ℕ) (count : ℕ) (places : List ℕ) (first : Option ℕ) : Type 0 where
+pub record ArePlaced (p : Program) (bytes : List ℕ) (count : ℕ) (places : List ℕ)
+    (first : Option ℕ) : Type 0 where
   pub body : body_in p bytes count ≡ Ok (map (entry_from p bytes) places)
   pub first_is : first ≡ first_none 0 (map (entry_from p bytes) places)
 

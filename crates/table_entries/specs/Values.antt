@@ -1,4 +1,5 @@
--- The values of registers and stack slots, as the bytes of a table have them; the lowest byte of a number comes first.
+-- The values of registers and stack slots, as the bytes of a table have them;
+-- the lowest byte of a number comes first.
 use Rattle.std.specs.Prelude.{◌≡◌, ℕ, ◌^◌, ◌<◌, ◌≤◌, nat_lt, ℤ, ◌≤ℤ◌, ◌⊎◌, ◌==◌, ◌&&◌, Bool, not, if◌then◌else◌, List, [], ◌∷◌, drop, Option, Some, None, Ok, Err, bit_and}
 use Rattle.std.specs.Option.{option_map}
 use Rattle.std.specs.Int.{w32, w64, cast_signed}
@@ -28,8 +29,10 @@ abbrev pub signed_64 : List ℕ → ℤ
 signed_64 bytes = cast_signed w64 (little_number 8 bytes)
 
 -- the bits, unless the value has one of the mask; masks have 64 bits
-abbrev pub bits_when : (v m : ℕ) → (bit_and v m ≡ 0) ⊎ (bit_and v m ≡ 0 → ⊥) → (m < 2 ^ 64) ⊎ (m < 2 ^ 64 → ⊥) → Option Bits
-bits_when v m (inl apart) (inl fits) = Some (record { value = v; mask = m; apart = apart; fits = fits })
+abbrev pub bits_when : (v m : ℕ) → (bit_and v m ≡ 0) ⊎ (bit_and v m ≡ 0 → ⊥)
+    → (m < 2 ^ 64) ⊎ (m < 2 ^ 64 → ⊥) → Option Bits
+bits_when v m (inl apart) (inl fits) =
+    Some (record { value = v; mask = m; apart = apart; fits = fits })
 bits_when v m a b = None
 
 unfoldable pub bits_of : ℕ → ℕ → Option Bits
@@ -43,14 +46,28 @@ ordered_when l g s t make a b = None
 
 abbrev pub wide_with : (l g : ℕ) (s t : ℤ) → l ≤ g → s ≤ℤ t → Wide
 wide_with l g s t o p =
-    record { least = l; greatest = g; signed_least = s; signed_greatest = t; ordered = o; signed_ordered = p }
+    record {
+      least = l;
+      greatest = g;
+      signed_least = s;
+      signed_greatest = t;
+      ordered = o;
+      signed_ordered = p;
+    }
 
 unfoldable pub wide_of : ℕ → ℕ → ℤ → ℤ → Option Wide
 wide_of l g s t = ordered_when l g s t (wide_with l g s t) (decide l g) (decide_z s t)
 
 abbrev pub low_with : (l g : ℕ) (s t : ℤ) → l ≤ g → s ≤ℤ t → Low
 low_with l g s t o p =
-    record { least = l; greatest = g; signed_least = s; signed_greatest = t; ordered = o; signed_ordered = p }
+    record {
+      least = l;
+      greatest = g;
+      signed_least = s;
+      signed_greatest = t;
+      ordered = o;
+      signed_ordered = p;
+    }
 
 unfoldable pub low_of : ℕ → ℕ → ℤ → ℤ → Option Low
 low_of l g s t = ordered_when l g s t (low_with l g s t) (decide l g) (decide_z s t)
@@ -69,15 +86,20 @@ bits_in bytes = bits_of (little_number 8 bytes) (little_number 8 (drop 8 bytes))
 
 -- the limits at 64 bits: 32 bytes
 abbrev pub wide_in : List ℕ → Option Wide
-wide_in bytes = wide_of (little_number 8 bytes) (little_number 8 (drop 8 bytes)) (signed_64 (drop 16 bytes)) (signed_64 (drop 24 bytes))
+wide_in bytes =
+    wide_of (little_number 8 bytes) (little_number 8 (drop 8 bytes)) (signed_64 (drop 16 bytes))
+    (signed_64 (drop 24 bytes))
 
 -- those of the low halves: 16 bytes
 abbrev pub low_in : List ℕ → Option Low
-low_in bytes = low_of (little_number 4 bytes) (little_number 4 (drop 4 bytes)) (signed_32 (drop 8 bytes)) (signed_32 (drop 12 bytes))
+low_in bytes =
+    low_of (little_number 4 bytes) (little_number 4 (drop 4 bytes)) (signed_32 (drop 8 bytes))
+    (signed_32 (drop 12 bytes))
 
 -- all of them: 64 bytes
 unfoldable pub scalar_in : List ℕ → Option Scalar
-scalar_in bytes = scalar_of (bits_in bytes) (range_of (wide_in (drop 16 bytes)) (low_in (drop 48 bytes)))
+scalar_in bytes =
+    scalar_of (bits_in bytes) (range_of (wide_in (drop 16 bytes)) (low_in (drop 48 bytes)))
 
 -- ---- pointers; there are `rows` map rows, and `holder` is the call frame that holds the value
 
@@ -102,22 +124,26 @@ lacks_identity bytes = little_number 4 (drop 4 bytes) == 0 && not (has_no_part (
 
 abbrev pub packet_of : ℤ → ℕ → Option (ℤ × ℤ) → ℕ → Option Kind
 packet_of fixed identity None proved = None
-packet_of fixed identity (Some limits) proved = Some (Packet fixed identity limits.0 limits.1 proved)
+packet_of fixed identity (Some limits) proved =
+    Some (Packet fixed identity limits.0 limits.1 proved)
 
 -- fixed part, identity, limits of the variable part, and proved length: 20 bytes
 unfoldable pub packet_in : List ℕ → Option Kind
 packet_in bytes =
     if lacks_identity bytes then None
-    else packet_of (signed_32 bytes) (little_number 4 (drop 4 bytes)) (limits_in (drop 8 bytes)) (little_number 4 (drop 16 bytes))
+    else packet_of (signed_32 bytes) (little_number 4 (drop 4 bytes)) (limits_in (drop 8 bytes))
+    (little_number 4 (drop 16 bytes))
 
 -- a call frame up to the one that holds the value, and an offset: 5 bytes
 unfoldable pub stack_in : ℕ → List ℕ → Option Kind
 stack_in holder bytes =
-    if nat_lt holder (little_number 1 bytes) then None else Some (Stack (little_number 1 bytes) (signed_32 (drop 1 bytes)))
+    if nat_lt holder (little_number 1 bytes) then None
+    else Some (Stack (little_number 1 bytes) (signed_32 (drop 1 bytes)))
 
 -- a map that has a row: 1 byte
 unfoldable pub map_in : ℕ → List ℕ → Option Kind
-map_in rows bytes = if nat_lt (little_number 1 bytes) rows then Some (Map (little_number 1 bytes)) else None
+map_in rows bytes =
+    if nat_lt (little_number 1 bytes) rows then Some (Map (little_number 1 bytes)) else None
 
 abbrev pub value_of : ℕ → Option (ℤ × ℤ) → Option Kind
 value_of m None = None
@@ -125,12 +151,15 @@ value_of m (Some limits) = Some (MapValue m limits.0 limits.1)
 
 -- a map that has a row, and the limits of the offset: 9 bytes
 unfoldable pub value_in : ℕ → List ℕ → Option Kind
-value_in rows bytes = if nat_lt (little_number 1 bytes) rows then value_of (little_number 1 bytes) (limits_in (drop 1 bytes)) else None
+value_in rows bytes = if nat_lt (little_number 1 bytes) rows
+    then value_of (little_number 1 bytes) (limits_in (drop 1 bytes)) else None
 
 -- a map that has a row, and an identity: 5 bytes
 unfoldable pub null_in : ℕ → List ℕ → Option Kind
 null_in rows bytes =
-    if nat_lt (little_number 1 bytes) rows then Some (MapValueOrNull (little_number 1 bytes) (little_number 4 (drop 1 bytes))) else None
+    if nat_lt (little_number 1 bytes) rows
+    then Some (MapValueOrNull (little_number 1 bytes) (little_number 4 (drop 1 bytes)))
+    else None
 
 -- ---- values
 

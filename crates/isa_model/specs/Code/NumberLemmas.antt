@@ -1,4 +1,5 @@
--- Lemmas about numbers of 32 and 64 bits: how large results are, and 32-bit results by way of 64 bits.
+-- Lemmas about numbers of 32 and 64 bits: how large results are, and 32-bit results by way of 64
+-- bits.
 use Rattle.std.proofs.Common.{inl, inr, ◌≡◌, ℕ, ◌+◌, ◌*◌, ◌/◌, ◌^◌, ◌<◌, arith, w64}
 use Rattle.std.specs.Int.{cast_signed}
 use borrow.Author.Differences.{up, down}
@@ -17,7 +18,8 @@ low_same w n h = mod-eq_of_lt h
 -- ---- signed readings
 
 -- one linear equation between a number and its signed reading: the quotient by the half is 0 or 1
-pub signed_equation : (x : ℕ) → x < 2 ^ 64 → up (cast_signed w64 x) + 2 ^ 64 * (x / 2 ^ 63) ≡ x + down (cast_signed w64 x)
+pub signed_equation : (x : ℕ) → x < 2 ^ 64
+    → up (cast_signed w64 x) + 2 ^ 64 * (x / 2 ^ 63) ≡ x + down (cast_signed w64 x)
 signed_equation x h =
     elim (cases_lt x (2 ^ 63)) [
       | inl lt ↦ rw (lt-ltb x (2 ^ 63) lt) (omega arith)

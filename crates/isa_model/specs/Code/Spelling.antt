@@ -1,5 +1,7 @@
--- How instructions are spelled. RFC 9669, sections 3.1 (basic encoding), 3.2 (wide encoding) and 4 to 5.4 (the tables).
--- Each form gives the fields of its first slot, in the order opcode, dst_reg, src_reg, offset, imm; unused fields are 0.
+-- How instructions are spelled. RFC 9669, sections 3.1 (basic encoding),
+-- 3.2 (wide encoding) and 4 to 5.4 (the tables).
+-- Each form gives the fields of its first slot, in the order opcode, dst_reg, src_reg, offset,
+-- imm; unused fields are 0.
 use Rattle.std.specs.Prelude.{ℕ, ◌+◌, ◌*◌, ◌/◌, ◌%◌, ◌^◌, ◌<◌, Bool, true, false, ℤ, List, [], ◌∷◌, ◌++◌, Option, Some, None}
 use Rattle.std.specs.Int.{w16, w32, cast_unsigned}
 use Rattle.std.specs.Int.RustNames.{FitsSigned}
@@ -138,7 +140,8 @@ fetch_bit true = 0x01
 -- ---- the slots
 
 abbrev pub slot : ℕ → ℕ → ℕ → ℕ → ℕ → Slot
-slot opcode dst src offset imm = record { opcode = opcode; dst = dst; src = src; offset = offset; imm = imm }
+slot opcode dst src offset imm =
+    record { opcode = opcode; dst = dst; src = src; offset = offset; imm = imm }
 
 -- an offset of 16 bits, and an imm of 32, by two's complement
 abbrev pub offset16 : ℤ → ℕ
@@ -149,21 +152,30 @@ imm32 z = cast_unsigned w32 z
 
 abbrev pub first_slot : Insn → Slot
 first_slot (Alu w op d x) =
-    slot (alu_code op + operand_bit x + alu_class w) (reg_number d) (operand_src x) (alu_offset op) (operand_imm x)
+    slot (alu_code op + operand_bit x + alu_class w) (reg_number d) (operand_src x) (alu_offset op)
+    (operand_imm x)
 first_slot (Neg w d) = slot (0x80 + alu_class w) (reg_number d) 0 0 0
-first_slot (MovSx e d s) = slot (0xb8 + extension_class e) (reg_number d) (reg_number s) (extension_bits e) 0
+first_slot (MovSx e d s) =
+    slot (0xb8 + extension_class e) (reg_number d) (reg_number s) (extension_bits e) 0
 first_slot (ByteSwap order span d) = slot (order_opcode order) (reg_number d) 0 0 (span_bits span)
 first_slot (LoadNumber d n) = slot 0x18 (reg_number d) 0 0 (n % 2 ^ 32)
 first_slot (LoadMap d m) = slot 0x18 (reg_number d) 5 0 m
 first_slot (LoadMapValue d m offset) = slot 0x18 (reg_number d) 6 0 m
-first_slot (Load size d p) = slot (0x61 + size_code size) (reg_number d) (reg_number p.base) (offset16 p.offset) 0
-first_slot (LoadSx size d p) = slot (0x81 + narrow_code size) (reg_number d) (reg_number p.base) (offset16 p.offset) 0
-first_slot (StoreConstant size p k) = slot (0x62 + size_code size) (reg_number p.base) 0 (offset16 p.offset) (imm32 k)
-first_slot (Store size p s) = slot (0x63 + size_code size) (reg_number p.base) (reg_number s) (offset16 p.offset) 0
+first_slot (Load size d p) =
+    slot (0x61 + size_code size) (reg_number d) (reg_number p.base) (offset16 p.offset) 0
+first_slot (LoadSx size d p) =
+    slot (0x81 + narrow_code size) (reg_number d) (reg_number p.base) (offset16 p.offset) 0
+first_slot (StoreConstant size p k) =
+    slot (0x62 + size_code size) (reg_number p.base) 0 (offset16 p.offset) (imm32 k)
+first_slot (Store size p s) =
+    slot (0x63 + size_code size) (reg_number p.base) (reg_number s) (offset16 p.offset) 0
 first_slot (Atomic w op fetch p s) =
-    slot (atomic_opcode w) (reg_number p.base) (reg_number s) (offset16 p.offset) (atomic_code op + fetch_bit fetch)
-first_slot (Exchange w p s) = slot (atomic_opcode w) (reg_number p.base) (reg_number s) (offset16 p.offset) 0xe1
-first_slot (CompareExchange w p s) = slot (atomic_opcode w) (reg_number p.base) (reg_number s) (offset16 p.offset) 0xf1
+    slot (atomic_opcode w) (reg_number p.base) (reg_number s) (offset16 p.offset)
+    (atomic_code op + fetch_bit fetch)
+first_slot (Exchange w p s) =
+    slot (atomic_opcode w) (reg_number p.base) (reg_number s) (offset16 p.offset) 0xe1
+first_slot (CompareExchange w p s) =
+    slot (atomic_opcode w) (reg_number p.base) (reg_number s) (offset16 p.offset) 0xf1
 first_slot (Jump by) = slot 0x05 0 0 (offset16 by) 0
 first_slot (JumpLong by) = slot 0x06 0 0 0 (imm32 by)
 first_slot (JumpIf c by) =

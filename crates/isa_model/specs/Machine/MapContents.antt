@@ -95,9 +95,11 @@ delete_answer row content key = delete_answer_by row.kind (has_key key content)
 
 -- ---- what they leave: the change is made where the answer is 0
 
-abbrev pub after_update : {X : Type 0} → MapDef → List (List ℕ × X) → List ℕ → X → ℕ → List (List ℕ × X)
+abbrev pub after_update : {X : Type 0} → MapDef → List (List ℕ × X) → List ℕ → X → ℕ
+    → List (List ℕ × X)
 after_update row content key x flags =
     if update_answer row content key flags == 0 then with_key key x content else content
 
 abbrev pub after_delete : {X : Type 0} → MapDef → List (List ℕ × X) → List ℕ → List (List ℕ × X)
-after_delete row content key = if delete_answer row content key == 0 then without_key key content else content
+after_delete row content key =
+    if delete_answer row content key == 0 then without_key key content else content

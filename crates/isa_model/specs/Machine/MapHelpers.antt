@@ -1,5 +1,6 @@
 -- The helpers on maps, in the machine's state. bpf(2); serials are this project's own.
--- The map's row, its index, and the bytes of key and value are given: the kinds of the arguments are tested, and the
+-- The map's row, its index, and the bytes of key and value are given:
+-- the kinds of the arguments are tested, and the
 -- bytes read, before.
 use Rattle.std.specs.Prelude.{ℕ, suc, ◌==◌, pos, if◌then◌else◌, List, slice_set, Option, Some, None}
 use Rattle.isa_model.specs.declared.map_defs.MapDef.{MapDef}
@@ -36,7 +37,10 @@ put_bytes s m key bytes =
     let content = content_of s m in
     let old = at_key key content in
     let new : Stored = record { serial = serial_given s.next_serial old; bytes = bytes } in
-    record s { maps = slice_set s.maps m (with_key key new content); next_serial = serial_after s.next_serial old }
+    record s {
+      maps = slice_set s.maps m (with_key key new content);
+      next_serial = serial_after s.next_serial old;
+    }
 
 -- the key is gone, and with it the serial of its value
 abbrev pub remove_key : State → ℕ → List ℕ → State
@@ -50,7 +54,8 @@ pointer_or_zero m None = Num 0
 
 -- map_lookup_elem: a pointer to the key's value, or 0
 abbrev pub map_lookup_elem : State → ℕ → List ℕ → Helped
-map_lookup_elem s m key = record { answer = pointer_or_zero m (at_key key (content_of s m)); state = s }
+map_lookup_elem s m key =
+    record { answer = pointer_or_zero m (at_key key (content_of s m)); state = s }
 
 -- map_update_elem: 0 or an error
 abbrev pub map_update_elem : MapDef → State → ℕ → List ℕ → List ℕ → ℕ → Helped

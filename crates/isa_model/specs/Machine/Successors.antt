@@ -27,4 +27,5 @@ JumpsTo p slot i next = (by : ℤ) × (jump_distance i ≡ Some by) × (next ≡
 
 -- control goes from the instruction at a slot to another slot, by falling through or by a jump
 abbrev pub Follows : Program → ℕ → ℕ → Type 0
-Follows p slot next = (i : Insn) × (fetch p slot ≡ Some i) × (FallsTo slot i next ⊎ JumpsTo p slot i next)
+Follows p slot next =
+    (i : Insn) × (fetch p slot ≡ Some i) × (FallsTo slot i next ⊎ JumpsTo p slot i next)

@@ -62,8 +62,10 @@ pub record HasRun (p : Program) (steps : ℕ) : Type 0 where
   pub given : IsGiven p head packet contents
   pub number : ℕ
   pub runs : Runs p clock (start_state head packet contents) steps number
-  pub argument : (n : ℕ) (t : State) (i : Insn) → Reaches p clock (start_state head packet contents) n t
-      → fetch p t.slot ≡ Some i → IsOneOf (reads i) R1 → WritesIn p clock (start_state head packet contents) n R1
+  pub argument : (n : ℕ) (t : State) (i : Insn)
+      → Reaches p clock (start_state head packet contents) n t
+      → fetch p t.slot ≡ Some i → IsOneOf (reads i) R1
+      → WritesIn p clock (start_state head packet contents) n R1
 
 -- r10 is used as the base of a stack slot only, and the run is known
 pub record IsDetermined (p : Program) (steps : ℕ) : Type 0 where

@@ -34,7 +34,8 @@ IsFreeOperand (Register r) = IsFree r
 
 -- a load of size bytes at a constant offset from r2, which ends before the length
 abbrev pub IsLoadBefore : ℕ → ℕ → Reg → Place → Type 0
-IsLoadBefore size len d place = IsFree d × (place.base ≡ R2) × ((at : ℕ) × (place.offset ≡ pos at) × (at + size ≤ len))
+IsLoadBefore size len d place =
+    IsFree d × (place.base ≡ R2) × ((at : ℕ) × (place.offset ≡ pos at) × (at + size ≤ len))
 
 abbrev pub IsBodyForm : ℕ → Insn → Type 0
 IsBodyForm len (Alu w op d source) = IsFree d × IsFreeOperand source
@@ -52,7 +53,8 @@ IsBodyForm len i = ⊥
 
 -- ---- the program
 
--- r2 = the packet; r3 = its end; r4 = r2; r4 += len; if r4 > r3 goto tail; the body; tail: r0 = answer; exit
+-- r2 = the packet; r3 = its end; r4 = r2; r4 += len; if r4 > r3 goto tail; the body; tail:
+-- r0 = answer; exit
 pub record IsGuarded (p : Program) (len : ℕ) : Type 0 where
   pub some : 1 ≤ len
   pub most : len ≤ max_guarded_length
@@ -61,7 +63,9 @@ pub record IsGuarded (p : Program) (len : ℕ) : Type 0 where
   pub copy : fetch p 2 ≡ Some (Alu Full64 Mov R4 (Register R2))
   pub ahead : fetch p 3 ≡ Some (Alu Full64 Add R4 (Constant (pos len)))
   pub by : ℤ
-  pub test : fetch p 4 ≡ Some (JumpIf (record { width = Full64; comparison = Greater; register = R4; operand = Register R3 }) by)
+  pub test : fetch p 4
+      ≡ Some (JumpIf
+      (record { width = Full64; comparison = Greater; register = R4; operand = Register R3 }) by)
   pub tail : ℕ
   pub behind : 5 ≤ tail
   pub to_tail : destination p 4 by ≡ tail
@@ -69,7 +73,8 @@ pub record IsGuarded (p : Program) (len : ℕ) : Type 0 where
   pub answers : fetch p tail ≡ Some (Alu Full64 Mov R0 (Constant answer))
   pub exits : fetch p (tail + 1) ≡ Some Exit
   pub ends : length p.insns ≡ tail + 2
-  pub body : (slot : ℕ) (i : Insn) → 5 ≤ slot → slot < tail → fetch p slot ≡ Some i → IsBodyForm len i
+  pub body : (slot : ℕ) (i : Insn) → 5 ≤ slot → slot < tail → fetch p slot ≡ Some i
+      → IsBodyForm len i
   pub whole : IsWhole p
   pub forward : IsForward p
   pub written : AreWritten p (R1 ∷ [])

@@ -60,12 +60,15 @@ PathTo p (suc n) slot written =
 pub record IsWhole (p : Program) : Type 0 where
   pub jumps : (slot : ℕ) (i : Insn) (by : ℤ) → fetch p slot ≡ Some i → jump_distance i ≡ Some by
       → IsSome (fetch p (destination p slot by))
-  pub falls : (slot : ℕ) (i : Insn) → fetch p slot ≡ Some i → falls_through i ≡ true → IsSome (fetch p (slot + slots_of i))
-  pub reached : (slot : ℕ) → IsSome (fetch p slot) → (n : ℕ) × (written : List Reg) × PathTo p n slot written
+  pub falls : (slot : ℕ) (i : Insn) → fetch p slot ≡ Some i → falls_through i ≡ true
+      → IsSome (fetch p (slot + slots_of i))
+  pub reached : (slot : ℕ) → IsSome (fetch p slot)
+      → (n : ℕ) × (written : List Reg) × PathTo p n slot written
 
 -- jumps lead forward, and there are few enough of them that may or may not be taken
 pub record IsForward (p : Program) : Type 0 where
-  pub forward : (slot : ℕ) (i : Insn) (by : ℤ) → fetch p slot ≡ Some i → jump_distance i ≡ Some by → slot < destination p slot by
+  pub forward : (slot : ℕ) (i : Insn) (by : ℤ) → fetch p slot ≡ Some i → jump_distance i ≡ Some by
+      → slot < destination p slot by
   pub few : length p.insns * 2 ^ count_by is_conditional p.insns ≤ max_explored
 
 -- each register that an instruction needs is one of those given, or was written on each path to it

@@ -87,26 +87,32 @@ reason_text Two reason = codes " " ++ decimal reason
 -- a frame's line, by its number, how its run ended, and the length of its body
 unfoldable pub frame_line : ReportForm → ℕ → End → ℕ → List ℕ
 frame_line form number (Exit value steps) size =
-    decimal number ++ codes " " ++ action_name (action_of value) ++ codes " " ++ decimal size ++ codes " " ++ decimal steps
+    decimal number ++ codes " " ++ action_name (action_of value) ++ codes " " ++ decimal size
+    ++ codes " " ++ decimal steps
     ++ reason_text form.stream (reason_of form.program value) ++ codes "\n"
 frame_line form number (Trap reason steps) size =
-    decimal number ++ codes " TRAP " ++ reason_name reason ++ codes " " ++ decimal size ++ codes " " ++ decimal steps ++ codes "\n"
+    decimal number ++ codes " TRAP " ++ reason_name reason ++ codes " " ++ decimal size ++ codes " "
+    ++ decimal steps ++ codes "\n"
 frame_line form number Limit size =
-    decimal number ++ codes " LIMIT " ++ decimal size ++ codes " " ++ decimal form.limit ++ codes "\n"
+    decimal number ++ codes " LIMIT " ++ decimal size ++ codes " " ++ decimal form.limit
+    ++ codes "\n"
 
 -- the line of a frame that has a reason already, and is not run
 unfoldable pub skip_line : ℕ → ℕ → ℕ → List ℕ
-skip_line number size reason = decimal number ++ codes " SKIP " ++ decimal size ++ codes " 0 " ++ decimal reason ++ codes "\n"
+skip_line number size reason =
+    decimal number ++ codes " SKIP " ++ decimal size ++ codes " 0 " ++ decimal reason ++ codes "\n"
 
 -- the line of a key and its value, by the map's index, in lower-case hexadecimal
 unfoldable pub map_line : ℕ → (List ℕ × List ℕ) → List ℕ
 map_line index e =
-    codes "map " ++ decimal index ++ codes " " ++ encode_lower e.0 ++ codes " " ++ encode_lower e.1 ++ codes "\n"
+    codes "map " ++ decimal index ++ codes " " ++ encode_lower e.0 ++ codes " " ++ encode_lower e.1
+    ++ codes "\n"
 
 -- the last line, by the number of frames and how the stream ended
 unfoldable pub last_line : ℕ → Finish → List ℕ
 last_line number finish.End = codes "end " ++ decimal number ++ codes "\n"
-last_line number (finish.Fault f offset) = codes "fault " ++ code_of f ++ codes " at " ++ decimal offset ++ codes "\n"
+last_line number (finish.Fault f offset) =
+    codes "fault " ++ code_of f ++ codes " at " ++ decimal offset ++ codes "\n"
 
 -- ---- pieces: each is written whole, or a beginning of it is the last that is written
 
@@ -145,16 +151,20 @@ end_reason program end = 0
 abbrev pub record_pieces : ReportForm → FrameHead → Turn → List Piece
 record_pieces form head t =
     if is_sent form.stream t.ends
-    then ToFrames (frame_bytes form.stream (record { head = head; body = t.packet; reason = end_reason form.program t.ends })) ∷ []
+    then ToFrames
+    (frame_bytes form.stream
+    (record { head = head; body = t.packet; reason = end_reason form.program t.ends })) ∷ []
     else []
 
 -- a frame's line, and then its record if it has one
 unfoldable pub frame_pieces : ReportForm → ℕ → Frame → Turn → List Piece
-frame_pieces form number f t = ToReport (frame_line form number t.ends (length f.body)) ∷ record_pieces form f.head t
+frame_pieces form number f t =
+    ToReport (frame_line form number t.ends (length f.body)) ∷ record_pieces form f.head t
 
 -- a frame that is not run goes out as it came
 unfoldable pub skip_pieces : ReportForm → ℕ → Frame → List Piece
-skip_pieces form number f = ToReport (skip_line number (length f.body) f.reason) ∷ ToFrames (frame_bytes form.stream f) ∷ []
+skip_pieces form number f =
+    ToReport (skip_line number (length f.body) f.reason) ∷ ToFrames (frame_bytes form.stream f) ∷ []
 
 -- what running a frame on map contents gives
 abbrev pub Rule : Type 0
@@ -177,17 +187,20 @@ abbrev pub turns_pieces : ReportForm → Rule → ℕ → List Entries → List 
 turns_pieces form rule number contents [] = []
 turns_pieces form rule number contents (f ∷ frames) =
     let t = turn_on rule contents f in
-    turn_pieces form number f t ++ turns_pieces form rule (number + 1) (contents_left contents t) frames
+    turn_pieces form number f t
+    ++ turns_pieces form rule (number + 1) (contents_left contents t) frames
 
 abbrev pub contents_after : Rule → List Entries → List Frame → List Entries
 contents_after rule contents [] = contents
-contents_after rule contents (f ∷ frames) = contents_after rule (contents_left contents (turn_on rule contents f)) frames
+contents_after rule contents (f ∷ frames) =
+    contents_after rule (contents_left contents (turn_on rule contents f)) frames
 
 -- ---- maps
 
 -- an array's value by its index
 abbrev pub entry_by_index : Entries → ℕ → Option (List ℕ × List ℕ)
-entry_by_index es i = option_map (λ value. (little_bytes 4 i, value)) (find (slice_cmp nat_cmp) (little_bytes 4 i) es)
+entry_by_index es i =
+    option_map (λ value. (little_bytes 4 i, value)) (find (slice_cmp nat_cmp) (little_bytes 4 i) es)
 
 -- hash maps in the order of key bytes, arrays by rising index
 abbrev pub in_report_order : MapKind → ℕ → Entries → Entries
@@ -195,19 +208,22 @@ in_report_order Hash entries es = es
 in_report_order Array entries es = filter_map (entry_by_index es) (range_with_len 0 entries)
 
 abbrev pub map_pieces : ℕ → MapDef → Entries → List Piece
-map_pieces index row es = map (λ e. ToReport (map_line index e)) (in_report_order row.kind row.entries es)
+map_pieces index row es =
+    map (λ e. ToReport (map_line index e)) (in_report_order row.kind row.entries es)
 
 -- the maps' lines, map by map
 abbrev pub maps_pieces : ℕ → List MapDef → List Entries → List Piece
 maps_pieces index [] contents = []
 maps_pieces index (row ∷ rows) [] = []
-maps_pieces index (row ∷ rows) (es ∷ contents) = map_pieces index row es ++ maps_pieces (index + 1) rows contents
+maps_pieces index (row ∷ rows) (es ∷ contents) =
+    map_pieces index row es ++ maps_pieces (index + 1) rows contents
 
 -- an array's values exist from the start, zero-filled; a hash map starts empty
 abbrev pub starting_entries : MapKind → MapDef → Entries
 starting_entries Hash row = []
 starting_entries Array row =
-    fold (λ es i. put_entry (slice_cmp nat_cmp) (little_bytes 4 i) (replicate row.value_size 0) es) [] (range_with_len 0 row.entries)
+    fold (λ es i. put_entry (slice_cmp nat_cmp) (little_bytes 4 i) (replicate row.value_size 0) es)
+    [] (range_with_len 0 row.entries)
 
 abbrev pub starting_contents : List MapDef → List Entries
 starting_contents rows = map (λ row. starting_entries row.kind row) rows
@@ -219,7 +235,8 @@ abbrev pub report_of : ℕ → Version → List MapDef → Rule → List Entries
 report_of limit program rows rule contents found =
     let form : ReportForm = record { limit = limit; program = program; stream = found.version } in
     (ToFrames (stream_magic found.version) ∷ turns_pieces form rule 0 contents found.frames)
-    ++ (maps_pieces 0 rows (contents_after rule contents found.frames) ++ ToReport (last_line (length found.frames) found.finish) ∷ [])
+    ++ (maps_pieces 0 rows (contents_after rule contents found.frames)
+    ++ ToReport (last_line (length found.frames) found.finish) ∷ [])
 
 -- a run with checks, stopped at the limit; every answer of the clock is the frame's time
 abbrev pub checked_rule : Program → ℕ → Rule
@@ -227,22 +244,32 @@ checked_rule p limit head body contents = turn p limit (λ k. head.time) head bo
 
 -- the checked report of a program, a limit, and a stream
 abbrev pub checked_report : Program → ℕ → Stream → List Piece
-checked_report p limit found = report_of limit p.version p.maps (checked_rule p limit) (starting_contents p.maps) found
+checked_report p limit found =
+    report_of limit p.version p.maps (checked_rule p limit) (starting_contents p.maps) found
 
 -- the turn of a run that has this outcome
 abbrev pub turn_by : Outcome → Turn
-turn_by o = record { ends = Exit o.number o.steps; packet = o.packet; contents = o.contents; clock_calls = o.clock_calls }
+turn_by o =
+    record {
+      ends = Exit o.number o.steps;
+      packet = o.packet;
+      contents = o.contents;
+      clock_calls = o.clock_calls;
+    }
 
 -- a frame without a reason has the pieces of its run's outcome, which leaves the contents;
 -- every other one is skipped
-abbrev pub ReportsFrame : ReportForm → Program → ℕ → List Entries → Frame → Bool → List Piece → List Entries → Type 0
+abbrev pub ReportsFrame : ReportForm → Program → ℕ → List Entries → Frame → Bool → List Piece
+    → List Entries → Type 0
 ReportsFrame form p number contents f true pieces next =
     (o : Outcome) × HasOutcome p f.head f.body contents (λ k. f.head.time) o
     × (pieces ≡ frame_pieces form number f (turn_by o)) × (next ≡ o.contents)
-ReportsFrame form p number contents f false pieces next = (pieces ≡ skip_pieces form number f) × (next ≡ contents)
+ReportsFrame form p number contents f false pieces next =
+    (pieces ≡ skip_pieces form number f) × (next ≡ contents)
 
 -- the frames' pieces by the outcomes of their runs, and the contents that the last one leaves
-abbrev pub ReportsFrames : ReportForm → Program → ℕ → List Entries → List Frame → List Piece → List Entries → Type 0
+abbrev pub ReportsFrames : ReportForm → Program → ℕ → List Entries → List Frame → List Piece
+    → List Entries → Type 0
 ReportsFrames form p number contents [] pieces last = (pieces ≡ []) × (last ≡ contents)
 ReportsFrames form p number contents (f ∷ frames) pieces last =
     (front : List Piece) × (rest : List Piece) × (next : List Entries)
@@ -257,6 +284,7 @@ form_of p found = record { limit = max_steps; program = p.version; stream = foun
 pub record IsReport (p : Program) (found : Stream) (pieces : List Piece) : Type 0 where
   pub turns : List Piece
   pub last : List Entries
-  pub frames : ReportsFrames (form_of p found) p 0 (starting_contents p.maps) found.frames turns last
+  pub frames : ReportsFrames (form_of p found) p 0
+      (starting_contents p.maps) found.frames turns last
   pub whole : pieces ≡ (ToFrames (stream_magic found.version) ∷ turns)
       ++ (maps_pieces 0 p.maps last ++ ToReport (last_line (length found.frames) found.finish) ∷ [])

@@ -1,5 +1,7 @@
--- The stream of packet frames: the magic `XPF1` or `XPF2`, and then records of a head and a body. docs/FORMATS.md.
--- A head is: u64 time in nanoseconds, u32 interface, u32 queue, u32 length of the body, and in `XPF2` u32 reason; the
+-- The stream of packet frames: the magic `XPF1` or `XPF2`, and then records of a head and a body.
+-- docs/FORMATS.md.
+-- A head is: u64 time in nanoseconds, u32 interface, u32 queue, u32 length of the body,
+-- and in `XPF2` u32 reason; the
 -- lowest byte first.
 use Rattle.std.specs.Prelude.{◌≡◌, ℕ, zero, suc, ◌+◌, ◌^◌, ◌<◌, ◌≤◌, List, [], ◌∷◌, ◌++◌, length, take, drop, nat_lt, nat_eq, ◌==◌, if◌then◌else◌, All, Option, Some, None, Result, Ok, Err}
 use Rattle.std.specs.List.{starts_with, flat_map}
@@ -30,7 +32,8 @@ reason_bytes Two reason = little_bytes 4 reason
 unfoldable pub head_bytes : Version → FrameHead → ℕ → ℕ → List ℕ
 head_bytes version head n reason =
     little_bytes 8 head.time
-    ++ (little_bytes 4 head.interface ++ (little_bytes 4 head.queue ++ (little_bytes 4 n ++ reason_bytes version reason)))
+    ++ (little_bytes 4 head.interface
+    ++ (little_bytes 4 head.queue ++ (little_bytes 4 n ++ reason_bytes version reason)))
 
 -- a record
 abbrev pub frame_bytes : Version → Frame → List ℕ
@@ -98,15 +101,22 @@ stop_at version number offset [] ByError = Some (finish.Fault ReadFailed offset)
 stop_at version number offset (b ∷ bytes) ending =
     let all = b ∷ bytes in
     if number == max_frames then Some (finish.Fault TooManyRecords offset)
-    else if nat_lt (length all) (head_size version) then Some (finish.Fault (cut_by ending TruncatedHead) offset)
+    else if nat_lt (length all) (head_size version)
+    then Some (finish.Fault (cut_by ending TruncatedHead) offset)
     else if nat_lt (max_body version) (length_field all) then Some (finish.Fault TooLong offset)
-    else if nat_lt (length all) (head_size version + length_field all) then Some (finish.Fault (cut_by ending TruncatedBody) offset)
+    else if nat_lt (length all) (head_size version + length_field all)
+    then Some (finish.Fault (cut_by ending TruncatedBody) offset)
     else None
 
 -- the record at the front of the bytes
 abbrev pub frame_of : Version → List ℕ → Frame
 frame_of version bytes = record {
-  head = record { time = little_from 0 8 bytes; interface = little_from 8 4 bytes; queue = little_from 12 4 bytes };
+  head =
+      record {
+        time = little_from 0 8 bytes;
+        interface = little_from 8 4 bytes;
+        queue = little_from 12 4 bytes;
+      };
   body = take (length_field bytes) (drop (head_size version) bytes);
   reason = reason_field version bytes;
 }
@@ -125,7 +135,8 @@ frames_from (suc fuel) version number offset bytes ending =
       | None ↦
           let f = frame_of version bytes in
           let size = record_size version f in
-          let more = frames_from fuel version (number + 1) (offset + size) (drop size bytes) ending in
+          let more = frames_from fuel version (number + 1) (offset + size)
+          (drop size bytes) ending in
           (f ∷ more.0, more.1)
     ]
 
@@ -140,10 +151,12 @@ pub record Stream : Type 0 where
 abbrev pub stream_with : Version → List Frame × Finish → Stream
 stream_with version found = record { version = version; frames = found.0; finish = found.1 }
 
--- the records after the magic; where no magic can be read the stream counts as one of the first version
+-- the records after the magic; where no magic can be read the stream counts as one of the first
+-- version
 abbrev pub stream_opened : Input → Result Version Fault → Stream
 stream_opened input (Ok version) =
-    stream_with version (frames_from (suc (length input.bytes)) version 0 4 (drop 4 input.bytes) input.ending)
+    stream_with version
+    (frames_from (suc (length input.bytes)) version 0 4 (drop 4 input.bytes) input.ending)
 stream_opened input (Err fault) = stream_with One ([], finish.Fault fault 0)
 
 -- the stream of an input

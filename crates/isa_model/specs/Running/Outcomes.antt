@@ -12,13 +12,15 @@ use Rattle.isa_model.specs.Machine.MachineStates.{IsClock, IsGiven}
 -- contents it is given, and with every clock
 unfoldable pub StartsEnd : Program → ℕ → Type 0
 StartsEnd p n = (clock : ℕ → ℕ) (head : FrameHead) (packet : List ℕ) (contents : List Entries)
-    → IsClock clock → IsGiven p head packet contents → Ends p clock (start_state head packet contents) n
+    → IsClock clock → IsGiven p head packet contents
+    → Ends p clock (start_state head packet contents) n
 
 -- a packet frame without a reason has a run that exits within n steps and leaves the contents;
 -- every other one leaves them as they were
 abbrev pub ExitsOn : Program → ℕ → List Entries → Frame → Bool → List Entries → Type 0
 ExitsOn p n contents f true next =
-    (o : Outcome) × HasOutcome p f.head f.body contents (λ k. f.head.time) o × (o.steps ≤ n) × (next ≡ o.contents)
+    (o : Outcome) × HasOutcome p f.head f.body contents (λ k. f.head.time) o × (o.steps ≤ n)
+    × (next ≡ o.contents)
 ExitsOn p n contents f false next = next ≡ contents
 
 -- every run on frames that come one after the other exits within n steps, the maps' contents

@@ -29,7 +29,8 @@ count_values (m ∷ ms) = length m + count_values ms
 -- r1 points to the context and r10 to the end of the first call frame
 abbrev pub start_regs : ℕ → List Value
 start_regs serial =
-    Unset ∷ Ptr region.Context (pos 0) ∷ Unset ∷ Unset ∷ Unset ∷ Unset ∷ Unset ∷ Unset ∷ Unset ∷ Unset
+    Unset ∷ Ptr region.Context (pos 0) ∷ Unset ∷ Unset ∷ Unset ∷ Unset ∷ Unset ∷ Unset ∷ Unset
+    ∷ Unset
     ∷ frame_pointer serial ∷ []
 
 -- the values have the serials 0, 1, .. and the first call frame the next one
@@ -90,7 +91,8 @@ pub record Outcome : Type 0 where
   pub clock_calls : ℕ
 
 -- a run from the start state has this outcome
-pub record HasOutcome (p : Program) (head : FrameHead) (packet : List ℕ) (contents : List Entries) (clock : ℕ → ℕ) (o : Outcome) : Type 0 where
+pub record HasOutcome (p : Program) (head : FrameHead) (packet : List ℕ) (contents : List Entries)
+    (clock : ℕ → ℕ) (o : Outcome) : Type 0 where
   pub before : ℕ
   pub last : State
   pub reached : Reaches p clock (start_state head packet contents) before last
@@ -110,7 +112,13 @@ pub record Turn : Type 0 where
   pub clock_calls : ℕ
 
 abbrev pub left : End → State → Turn
-left e s = record { ends = e; packet = s.packet; contents = map entries_of s.maps; clock_calls = s.clock_calls }
+left e s =
+    record {
+      ends = e;
+      packet = s.packet;
+      contents = map entries_of s.maps;
+      clock_calls = s.clock_calls;
+    }
 
 abbrev pub turn_of : Progress → Turn
 turn_of (GoesOn s) = left Limit s
@@ -118,4 +126,5 @@ turn_of (Ended e s) = left e s
 
 -- one run on a packet frame, stopped at the limit
 unfoldable pub turn : Program → ℕ → (ℕ → ℕ) → FrameHead → List ℕ → List Entries → Turn
-turn p limit clock head packet contents = turn_of (progress p clock limit (start_state head packet contents))
+turn p limit clock head packet contents =
+    turn_of (progress p clock limit (start_state head packet contents))

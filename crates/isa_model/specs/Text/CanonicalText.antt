@@ -173,36 +173,49 @@ distance_text (negsuc n) = codes "-" ++ decimal (suc n)
 
 -- an instruction's line
 unfoldable pub line_of : Insn → List ℕ
-line_of (Alu w op d x) = reg_text w d ++ codes " " ++ op_text op ++ codes " " ++ operand_text w x ++ codes "\n"
+line_of (Alu w op d x) =
+    reg_text w d ++ codes " " ++ op_text op ++ codes " " ++ operand_text w x ++ codes "\n"
 line_of (Neg w d) = reg_text w d ++ codes " = -" ++ reg_text w d ++ codes "\n"
 line_of (MovSx e d s) =
-    reg_text (extension_width e) d ++ codes " = (" ++ extension_text e ++ codes ")" ++ reg_text (extension_width e) s ++ codes "\n"
+    reg_text (extension_width e) d ++ codes " = (" ++ extension_text e ++ codes ")"
+    ++ reg_text (extension_width e) s ++ codes "\n"
 line_of (ByteSwap order span d) =
-    reg_text Full64 d ++ codes " = " ++ order_text order ++ span_text span ++ codes " " ++ reg_text Full64 d ++ codes "\n"
+    reg_text Full64 d ++ codes " = " ++ order_text order ++ span_text span ++ codes " "
+    ++ reg_text Full64 d ++ codes "\n"
 line_of (LoadNumber d n) = reg_text Full64 d ++ codes " = 0x" ++ digits 16 false n ++ codes " ll\n"
 line_of (LoadMap d m) = reg_text Full64 d ++ codes " = map_by_idx(" ++ decimal m ++ codes ")\n"
 line_of (LoadMapValue d m offset) =
-    reg_text Full64 d ++ codes " = map_val(map_by_idx(" ++ decimal m ++ codes ")) + " ++ decimal offset ++ codes "\n"
-line_of (Load size d p) = reg_text Full64 d ++ codes " = *(" ++ size_text size ++ codes " *)(" ++ place_text p ++ codes ")\n"
-line_of (LoadSx size d p) = reg_text Full64 d ++ codes " = *(" ++ narrow_text size ++ codes " *)(" ++ place_text p ++ codes ")\n"
+    reg_text Full64 d ++ codes " = map_val(map_by_idx(" ++ decimal m ++ codes ")) + "
+    ++ decimal offset ++ codes "\n"
+line_of (Load size d p) = reg_text Full64 d ++ codes " = *(" ++ size_text size ++ codes " *)("
+    ++ place_text p ++ codes ")\n"
+line_of (LoadSx size d p) = reg_text Full64 d ++ codes " = *(" ++ narrow_text size ++ codes " *)("
+    ++ place_text p ++ codes ")\n"
 line_of (StoreConstant size p k) =
-    codes "*(" ++ size_text size ++ codes " *)(" ++ place_text p ++ codes ") = " ++ signed_decimal k ++ codes "\n"
+    codes "*(" ++ size_text size ++ codes " *)(" ++ place_text p ++ codes ") = " ++ signed_decimal k
+    ++ codes "\n"
 line_of (Store size p s) =
-    codes "*(" ++ size_text size ++ codes " *)(" ++ place_text p ++ codes ") = " ++ reg_text Full64 s ++ codes "\n"
+    codes "*(" ++ size_text size ++ codes " *)(" ++ place_text p ++ codes ") = "
+    ++ reg_text Full64 s ++ codes "\n"
 line_of (Atomic w op false p s) =
-    codes "lock *(" ++ size_text (width_size w) ++ codes " *)(" ++ place_text p ++ codes ") " ++ atomic_text op
+    codes "lock *(" ++ size_text (width_size w) ++ codes " *)(" ++ place_text p ++ codes ") "
+    ++ atomic_text op
     ++ codes " " ++ reg_text Full64 s ++ codes "\n"
 line_of (Atomic w op true p s) =
-    reg_text Full64 s ++ codes " = " ++ fetch_text op ++ width_text w ++ codes "(" ++ place_text p ++ codes ", "
+    reg_text Full64 s ++ codes " = " ++ fetch_text op ++ width_text w ++ codes "(" ++ place_text p
+    ++ codes ", "
     ++ reg_text Full64 s ++ codes ")\n"
 line_of (Exchange w p s) =
-    reg_text Full64 s ++ codes " = xchg_" ++ width_text w ++ codes "(" ++ place_text p ++ codes ", " ++ reg_text Full64 s ++ codes ")\n"
+    reg_text Full64 s ++ codes " = xchg_" ++ width_text w ++ codes "(" ++ place_text p ++ codes ", "
+    ++ reg_text Full64 s ++ codes ")\n"
 line_of (CompareExchange w p s) =
-    codes "r0 = cmpxchg_" ++ width_text w ++ codes "(" ++ place_text p ++ codes ", r0, " ++ reg_text Full64 s ++ codes ")\n"
+    codes "r0 = cmpxchg_" ++ width_text w ++ codes "(" ++ place_text p ++ codes ", r0, "
+    ++ reg_text Full64 s ++ codes ")\n"
 line_of (Jump by) = codes "goto " ++ distance_text by ++ codes "\n"
 line_of (JumpLong by) = codes "gotol " ++ distance_text by ++ codes "\n"
 line_of (JumpIf c by) =
-    codes "if " ++ reg_text c.width c.register ++ codes " " ++ comparison_text c.comparison ++ codes " "
+    codes "if " ++ reg_text c.width c.register ++ codes " " ++ comparison_text c.comparison
+    ++ codes " "
     ++ operand_text c.width c.operand ++ codes " goto " ++ distance_text by ++ codes "\n"
 line_of (CallHelper number) = codes "call " ++ signed_decimal number ++ codes "\n"
 line_of (CallLocal by) = codes "call pc" ++ distance_text by ++ codes "\n"
@@ -215,7 +228,8 @@ kind_text Array = codes "array"
 -- a map row's line: the type, the key's size, the value's size and the most keys
 unfoldable pub row_line : MapDef → List ℕ
 row_line row =
-    codes "map " ++ kind_text row.kind ++ codes " " ++ decimal row.key_size ++ codes " " ++ decimal row.value_size
+    codes "map " ++ kind_text row.kind ++ codes " " ++ decimal row.key_size ++ codes " "
+    ++ decimal row.value_size
     ++ codes " " ++ decimal row.entries ++ codes "\n"
 
 -- ---- programs

@@ -1,7 +1,6 @@
 -- Worked examples: what small programs do, computed from the definitions only.
 -- An end names its step, so `Exit a n` says that step n is the exit and that the n - 1 before it go
--- on;
--- `Trap e n` says that n steps go on and the next one traps.
+-- on; `Trap e n` says that n steps go on and the next one traps.
 use Rattle.std.specs.Prelude.{◌≡◌, ℕ, zero, suc, false, ℤ, pos, negsuc, List, [], ◌∷◌, refl, replicate}
 use Rattle.isa_model.specs.declared.registers.Reg.{Reg}
 use Rattle.isa_model.specs.declared.registers.Reg.TheVariants.{R0, R1, R2, R3, R4, R5, R6, R7, R8, R10}
@@ -70,10 +69,12 @@ below r n = record { base = r; offset = minus n }
 
 -- if r c k goto by, with 64 bits
 abbrev pub if_constant : Comparison → Reg → ℤ → ℤ → Insn
-if_constant c r k by = insn.JumpIf (record { width = Full64; comparison = c; register = r; operand = Constant k }) by
+if_constant c r k by =
+    insn.JumpIf (record { width = Full64; comparison = c; register = r; operand = Constant k }) by
 
 abbrev pub if_register : Comparison → Reg → Reg → ℤ → Insn
-if_register c r q by = insn.JumpIf (record { width = Full64; comparison = c; register = r; operand = Register q }) by
+if_register c r q by =
+    insn.JumpIf (record { width = Full64; comparison = c; register = r; operand = Register q }) by
 
 -- ---- arithmetic
 
@@ -83,44 +84,58 @@ unfolding turn progress start_state new_frame step act alu holds sign_extended r
 returns_a_constant = refl
 
 -- r0 = 0x100000002 ll; w1 = 0; w0 %= w1; exit
-pub modulo_by_zero_clears_the_upper_half : end_on (insn.LoadNumber R0 0x100000002 ∷ insn.Alu Low32 Mov R1 (Constant (pos 0)) ∷ insn.Alu Low32 Mod R0 (Register R1)
+pub modulo_by_zero_clears_the_upper_half : end_on
+    (insn.LoadNumber R0 0x100000002 ∷ insn.Alu Low32 Mov R1 (Constant (pos 0))
+    ∷ insn.Alu Low32 Mod R0 (Register R1)
     ∷ insn.Exit ∷ []) [] 4 ≡ Exit 2 4
 unfolding turn progress start_state new_frame step act alu holds sign_extended reordered
 modulo_by_zero_clears_the_upper_half = refl
 
 -- r0 = -1; r1 = 0; w0 %= w1; r0 >>= 31; exit
-pub modulo_by_zero_of_minus_one : end_on (set R0 (minus 1) ∷ set R1 (pos 0) ∷ insn.Alu Low32 Mod R0 (Register R1) ∷ insn.Alu Full64 Rsh R0 (Constant (pos 31))
+pub modulo_by_zero_of_minus_one : end_on
+    (set R0 (minus 1) ∷ set R1 (pos 0) ∷ insn.Alu Low32 Mod R0 (Register R1)
+    ∷ insn.Alu Full64 Rsh R0 (Constant (pos 31))
     ∷ insn.Exit ∷ []) [] 5 ≡ Exit 1 5
 unfolding turn progress start_state new_frame step act alu holds sign_extended reordered
 modulo_by_zero_of_minus_one = refl
 
 -- r0 = -1; r1 = 0; w0 s%= w1; r0 >>= 31; exit
-pub signed_modulo_by_zero_of_minus_one : end_on (set R0 (minus 1) ∷ set R1 (pos 0) ∷ insn.Alu Low32 SignedMod R0 (Register R1) ∷ insn.Alu Full64 Rsh R0 (Constant (pos 31))
+pub signed_modulo_by_zero_of_minus_one : end_on
+    (set R0 (minus 1) ∷ set R1 (pos 0) ∷ insn.Alu Low32 SignedMod R0 (Register R1)
+    ∷ insn.Alu Full64 Rsh R0 (Constant (pos 31))
     ∷ insn.Exit ∷ []) [] 5 ≡ Exit 1 5
 unfolding turn progress start_state new_frame step act alu holds sign_extended reordered
 signed_modulo_by_zero_of_minus_one = refl
 
 -- r0 = 0x8000000000000000 ll; r1 = -1; r0 s/= r1; r0 >>= 62; exit
-pub least_value_by_minus_one : end_on (insn.LoadNumber R0 0x8000000000000000 ∷ set R1 (minus 1) ∷ insn.Alu Full64 SignedDiv R0 (Register R1)
+pub least_value_by_minus_one : end_on
+    (insn.LoadNumber R0 0x8000000000000000 ∷ set R1 (minus 1)
+    ∷ insn.Alu Full64 SignedDiv R0 (Register R1)
     ∷ insn.Alu Full64 Rsh R0 (Constant (pos 62)) ∷ insn.Exit ∷ []) [] 5 ≡ Exit 2 5
 unfolding turn progress start_state new_frame step act alu holds sign_extended reordered
 least_value_by_minus_one = refl
 
 -- r0 = -13; r0 s%= 3; r0 += 3; exit
-pub signed_modulo_cuts_toward_zero : end_on (set R0 (minus 13) ∷ insn.Alu Full64 SignedMod R0 (Constant (pos 3)) ∷ add R0 (pos 3) ∷ insn.Exit ∷ []) [] 4
+pub signed_modulo_cuts_toward_zero : end_on
+    (set R0 (minus 13) ∷ insn.Alu Full64 SignedMod R0 (Constant (pos 3)) ∷ add R0 (pos 3)
+    ∷ insn.Exit ∷ []) [] 4
     ≡ Exit 2 4
 unfolding turn progress start_state new_frame step act alu holds sign_extended reordered
 signed_modulo_cuts_toward_zero = refl
 
 -- r0 = 0x102030405060708 ll; r0 = be16 r0; exit
-pub big_endian_half_word : end_on (insn.LoadNumber R0 0x102030405060708 ∷ insn.ByteSwap Big B16 R0 ∷ insn.Exit ∷ []) [] 3 ≡ Exit 2055 3
+pub big_endian_half_word : end_on
+    (insn.LoadNumber R0 0x102030405060708 ∷ insn.ByteSwap Big B16 R0 ∷ insn.Exit ∷ []) [] 3
+    ≡ Exit 2055 3
 unfolding turn progress start_state new_frame step act alu holds sign_extended reordered
 big_endian_half_word = refl
 
 -- ---- jumps and loops
 
 -- r1 = 0; r1 += 1; if r1 < 10 goto -2; r0 = 2; exit
-pub counts_to_ten : end_on (set R1 (pos 0) ∷ add R1 (pos 1) ∷ if_constant Less R1 (pos 10) (minus 2) ∷ set R0 (pos 2) ∷ insn.Exit ∷ []) [] 23
+pub counts_to_ten : end_on
+    (set R1 (pos 0) ∷ add R1 (pos 1) ∷ if_constant Less R1 (pos 10) (minus 2) ∷ set R0 (pos 2)
+    ∷ insn.Exit ∷ []) [] 23
     ≡ Exit 2 23
 unfolding turn progress start_state new_frame step act alu holds sign_extended reordered
 counts_to_ten = refl
@@ -131,7 +146,8 @@ unfolding turn progress start_state new_frame step act alu holds sign_extended r
 endless_loop_meets_the_limit = refl
 
 -- r0 = 0x1 ll; goto -2
-pub jump_into_a_second_half : end_on (insn.LoadNumber R0 1 ∷ insn.Jump (minus 2) ∷ []) [] 100 ≡ Trap NoCode 2
+pub jump_into_a_second_half : end_on (insn.LoadNumber R0 1 ∷ insn.Jump (minus 2) ∷ []) [] 100
+    ≡ Trap NoCode 2
 unfolding turn progress start_state new_frame step act alu holds sign_extended reordered
 jump_into_a_second_half = refl
 
@@ -163,7 +179,8 @@ exits_with_a_pointer = refl
 -- r0 = *(u8 *)(r2 + n); r0 = 2; exit; r0 = 1; exit
 abbrev pub guarded_load : Comparison → ℕ → List Insn
 guarded_load c n =
-    insn.Load U32 R2 (above R1 0) ∷ insn.Load U32 R3 (above R1 4) ∷ copy R4 R2 ∷ add R4 (pos 14) ∷ if_register c R4 R3 (pos 3)
+    insn.Load U32 R2 (above R1 0) ∷ insn.Load U32 R3 (above R1 4) ∷ copy R4 R2 ∷ add R4 (pos 14)
+    ∷ if_register c R4 R3 (pos 3)
     ∷ insn.Load U8 R0 (above R2 n) ∷ set R0 (pos 2) ∷ insn.Exit ∷ set R0 (pos 1) ∷ insn.Exit ∷ []
 
 -- a packet of n zero bytes
@@ -186,12 +203,14 @@ unfolding turn progress start_state new_frame step act alu holds sign_extended r
 guarded_load_past_the_guard = refl
 
 -- the 15th byte, after a guard that wants more than 14
-pub strict_guard_turns_its_own_length_away : end_on (guarded_load GreaterEqual 14) (zeros 14) 7 ≡ Exit 1 7
+pub strict_guard_turns_its_own_length_away : end_on (guarded_load GreaterEqual 14) (zeros 14) 7
+    ≡ Exit 1 7
 unfolding turn progress start_state new_frame step act alu holds sign_extended reordered
 strict_guard_turns_its_own_length_away = refl
 
 -- and on a packet of 15
-pub strict_guard_lets_one_byte_more_through : end_on (guarded_load GreaterEqual 14) (zeros 15) 8 ≡ Exit 2 8
+pub strict_guard_lets_one_byte_more_through : end_on (guarded_load GreaterEqual 14) (zeros 15) 8
+    ≡ Exit 2 8
 unfolding turn progress start_state new_frame step act alu holds sign_extended reordered
 strict_guard_lets_one_byte_more_through = refl
 
@@ -210,7 +229,9 @@ unfolding turn progress start_state new_frame step act alu holds sign_extended r
 offset_past_its_limit = refl
 
 -- r2 = *(u32 *)(r1 + 0); r3 = 0x100000000 ll; r2 += r3; r0 = 1; exit
-pub offset_does_not_wrap : end_on (insn.Load U32 R2 (above R1 0) ∷ insn.LoadNumber R3 0x100000000 ∷ insn.Alu Full64 Add R2 (Register R3)
+pub offset_does_not_wrap : end_on
+    (insn.Load U32 R2 (above R1 0) ∷ insn.LoadNumber R3 0x100000000
+    ∷ insn.Alu Full64 Add R2 (Register R3)
     ∷ set R0 (pos 1) ∷ insn.Exit ∷ []) [] 100 ≡ Trap OutOfRange 2
 unfolding turn progress start_state new_frame step act alu holds sign_extended reordered
 offset_does_not_wrap = refl
@@ -219,8 +240,10 @@ offset_does_not_wrap = refl
 -- lock *(u64 *)(r2 + 0) += r5; r0 = 2; exit; r0 = 1; exit
 abbrev pub counts_in_the_packet : List Insn
 counts_in_the_packet =
-    insn.Load U32 R2 (above R1 0) ∷ insn.Load U32 R3 (above R1 4) ∷ copy R4 R2 ∷ add R4 (pos 8) ∷ if_register Greater R4 R3 (pos 4)
-    ∷ set R5 (pos 1) ∷ insn.Atomic Full64 atomic.Add false (above R2 0) R5 ∷ set R0 (pos 2) ∷ insn.Exit
+    insn.Load U32 R2 (above R1 0) ∷ insn.Load U32 R3 (above R1 4) ∷ copy R4 R2 ∷ add R4 (pos 8)
+    ∷ if_register Greater R4 R3 (pos 4)
+    ∷ set R5 (pos 1) ∷ insn.Atomic Full64 atomic.Add false (above R2 0) R5 ∷ set R0 (pos 2)
+    ∷ insn.Exit
     ∷ set R0 (pos 1) ∷ insn.Exit ∷ []
 
 -- the packet is left with the sum
@@ -237,40 +260,51 @@ atomic_add_in_the_packet = refl
 -- r0 = *(u64 *)(r4 + 0); exit
 abbrev pub spills_by_interface : List Insn
 spills_by_interface =
-    insn.Load U32 R8 (above R1 12) ∷ set R2 (pos 0) ∷ insn.Store U64 (below R10 16) R2 ∷ copy R3 R10 ∷ add R3 (minus 16)
-    ∷ insn.Store U64 (below R10 8) R8 ∷ if_constant Equal R8 (pos 7) (pos 1) ∷ insn.Store U64 (below R10 8) R3 ∷ set R8 (pos 0)
+    insn.Load U32 R8 (above R1 12) ∷ set R2 (pos 0) ∷ insn.Store U64 (below R10 16) R2 ∷ copy R3 R10
+    ∷ add R3 (minus 16)
+    ∷ insn.Store U64 (below R10 8) R8 ∷ if_constant Equal R8 (pos 7) (pos 1)
+    ∷ insn.Store U64 (below R10 8) R3 ∷ set R8 (pos 0)
     ∷ insn.Load U64 R4 (below R10 8) ∷ insn.Load U64 R0 (above R4 0) ∷ insn.Exit ∷ []
 
 -- on interface 5 the pointer is spilled
-pub spilled_pointer_is_loaded_whole : (turn_on spills_by_interface (head_by 5) [] 12).ends ≡ Exit 0 12
+pub spilled_pointer_is_loaded_whole : (turn_on spills_by_interface (head_by 5) [] 12).ends
+    ≡ Exit 0 12
 unfolding turn progress start_state new_frame step act alu holds sign_extended reordered
 spilled_pointer_is_loaded_whole = refl
 
 -- on interface 7 the number 7 is
-pub spilled_number_is_no_pointer : (turn_on spills_by_interface (head_by 7) [] 100).ends ≡ Trap BadAccess 9
+pub spilled_number_is_no_pointer : (turn_on spills_by_interface (head_by 7) [] 100).ends
+    ≡ Trap BadAccess 9
 unfolding turn progress start_state new_frame step act alu holds sign_extended reordered
 spilled_number_is_no_pointer = refl
 
 -- *(u64 *)(r10 - 8) = r10; *(u8 *)(r10 - 8) = 0; r4 = *(u64 *)(r10 - 8); r0 = 0; exit
-pub overwritten_spill_is_no_pointer : end_on (insn.Store U64 (below R10 8) R10 ∷ insn.StoreConstant U8 (below R10 8) (pos 0) ∷ insn.Load U64 R4 (below R10 8)
+pub overwritten_spill_is_no_pointer : end_on
+    (insn.Store U64 (below R10 8) R10 ∷ insn.StoreConstant U8 (below R10 8) (pos 0)
+    ∷ insn.Load U64 R4 (below R10 8)
     ∷ set R0 (pos 0) ∷ insn.Exit ∷ []) [] 100 ≡ Trap BadAccess 2
 unfolding turn progress start_state new_frame step act alu holds sign_extended reordered
 overwritten_spill_is_no_pointer = refl
 
 -- *(u32 *)(r10 - 8) = 5; r0 = *(u64 *)(r10 - 8); exit
-pub load_of_unwritten_bytes : end_on (insn.StoreConstant U32 (below R10 8) (pos 5) ∷ insn.Load U64 R0 (below R10 8) ∷ insn.Exit ∷ []) [] 100
+pub load_of_unwritten_bytes : end_on
+    (insn.StoreConstant U32 (below R10 8) (pos 5) ∷ insn.Load U64 R0 (below R10 8) ∷ insn.Exit ∷ [])
+    [] 100
     ≡ Trap UnsetRead 1
 unfolding turn progress start_state new_frame step act alu holds sign_extended reordered
 load_of_unwritten_bytes = refl
 
 -- *(u64 *)(r10 - 8) = -2; r0 = *(s8 *)(r10 - 8); r0 += 4; exit
-pub sign_extending_load : end_on (insn.StoreConstant U64 (below R10 8) (minus 2) ∷ insn.LoadSx S8 R0 (below R10 8) ∷ add R0 (pos 4) ∷ insn.Exit ∷ []) [] 4
+pub sign_extending_load : end_on
+    (insn.StoreConstant U64 (below R10 8) (minus 2) ∷ insn.LoadSx S8 R0 (below R10 8)
+    ∷ add R0 (pos 4) ∷ insn.Exit ∷ []) [] 4
     ≡ Exit 2 4
 unfolding turn progress start_state new_frame step act alu holds sign_extended reordered
 sign_extending_load = refl
 
 -- *(u32 *)(r10 - 8) = 5; r0 = 0x100000005 ll; r1 = 9; r0 = cmpxchg_32(r10 - 8, r0, r1); exit
-pub compare_exchange_of_a_word : end_on (insn.StoreConstant U32 (below R10 8) (pos 5) ∷ insn.LoadNumber R0 0x100000005 ∷ set R1 (pos 9)
+pub compare_exchange_of_a_word : end_on
+    (insn.StoreConstant U32 (below R10 8) (pos 5) ∷ insn.LoadNumber R0 0x100000005 ∷ set R1 (pos 9)
     ∷ insn.CompareExchange Low32 (below R10 8) R1 ∷ insn.Exit ∷ []) [] 5 ≡ Exit 5 5
 unfolding turn progress start_state new_frame step act alu holds sign_extended reordered
 compare_exchange_of_a_word = refl
@@ -280,8 +314,10 @@ compare_exchange_of_a_word = refl
 -- r0 = r7; r0 -= 298; exit
 abbrev pub counts_on_the_stack : List Insn
 counts_on_the_stack =
-    set R6 (pos 0) ∷ insn.Store U64 (below R10 512) R6 ∷ insn.Load U64 R7 (below R10 512) ∷ add R7 (pos 3)
-    ∷ insn.Store U64 (below R10 512) R7 ∷ if_constant NotEqual R7 (pos 300) (minus 4) ∷ copy R0 R7 ∷ subtract R0 (pos 298)
+    set R6 (pos 0) ∷ insn.Store U64 (below R10 512) R6 ∷ insn.Load U64 R7 (below R10 512)
+    ∷ add R7 (pos 3)
+    ∷ insn.Store U64 (below R10 512) R7 ∷ if_constant NotEqual R7 (pos 300) (minus 4) ∷ copy R0 R7
+    ∷ subtract R0 (pos 298)
     ∷ insn.Exit ∷ []
 
 -- a loop of 100 turns
@@ -292,7 +328,9 @@ counts_at_the_frames_first_byte = refl
 -- ---- local calls
 
 -- r1 = 5; call pc+1; exit; r0 = r1; r0 -= 3; exit
-pub arguments_are_handed_over : end_on (set R1 (pos 5) ∷ insn.CallLocal (pos 1) ∷ insn.Exit ∷ copy R0 R1 ∷ subtract R0 (pos 3) ∷ insn.Exit ∷ []) [] 6
+pub arguments_are_handed_over : end_on
+    (set R1 (pos 5) ∷ insn.CallLocal (pos 1) ∷ insn.Exit ∷ copy R0 R1 ∷ subtract R0 (pos 3)
+    ∷ insn.Exit ∷ []) [] 6
     ≡ Exit 2 6
 unfolding turn progress start_state new_frame step act alu holds sign_extended reordered
 arguments_are_handed_over = refl
@@ -303,12 +341,15 @@ unfolding turn progress start_state new_frame step act alu holds sign_extended r
 ninth_frame = refl
 
 -- call pc+1; exit; r0 = r10; exit
-pub pointer_into_a_frame_that_has_ended : end_on (insn.CallLocal (pos 1) ∷ insn.Exit ∷ copy R0 R10 ∷ insn.Exit ∷ []) [] 100 ≡ Trap NoResult 3
+pub pointer_into_a_frame_that_has_ended : end_on
+    (insn.CallLocal (pos 1) ∷ insn.Exit ∷ copy R0 R10 ∷ insn.Exit ∷ []) [] 100 ≡ Trap NoResult 3
 unfolding turn progress start_state new_frame step act alu holds sign_extended reordered
 pointer_into_a_frame_that_has_ended = refl
 
 -- r1 = r10; r1 += -8; call pc+1; exit; *(u64 *)(r1 + 0) = r10; r0 = 0; exit
-pub frame_pointer_stored_in_the_callers_frame : end_on (copy R1 R10 ∷ add R1 (minus 8) ∷ insn.CallLocal (pos 1) ∷ insn.Exit ∷ insn.Store U64 (above R1 0) R10
+pub frame_pointer_stored_in_the_callers_frame : end_on
+    (copy R1 R10 ∷ add R1 (minus 8) ∷ insn.CallLocal (pos 1) ∷ insn.Exit
+    ∷ insn.Store U64 (above R1 0) R10
     ∷ set R0 (pos 0) ∷ insn.Exit ∷ []) [] 7 ≡ Exit 0 7
 unfolding turn progress start_state new_frame step act alu holds sign_extended reordered
 frame_pointer_stored_in_the_callers_frame = refl

@@ -21,7 +21,8 @@ use Rattle.isa_model.specs.declared.versions.Version.TheVariants.{One}
 -- a run on a packet frame of no bytes, with one map, and a clock that answers 7, 8, ..
 abbrev pub turn_with : MapDef → Entries → List Insn → Turn
 turn_with row content code =
-    turn (record { insns = slots code; maps = row ∷ []; version = One }) 100 (λ k. k + 7) (head_by 0) [] (content ∷ [])
+    turn (record { insns = slots code; maps = row ∷ []; version = One }) 100 (λ k. k + 7)
+    (head_by 0) [] (content ∷ [])
 
 -- the map's content that it leaves, where it did not ask the clock
 abbrev pub left : End → Entries → Turn
@@ -75,7 +76,8 @@ update_past_the_end flags more =
     ∷ map_and_key 4 ++ stack R3 16 ++ set R4 flags ∷ update ∷ add R0 more ∷ insn.Exit ∷ [])
 
 -- past the end it is -7, and with flags over 2 it is -22 before that; nothing is written
-pub updates_past_the_end : update_past_the_end (pos 1) (pos 9) ∷ update_past_the_end (pos 9) (pos 24) ∷ []
+pub updates_past_the_end : update_past_the_end (pos 1) (pos 9)
+    ∷ update_past_the_end (pos 9) (pos 24) ∷ []
     ≡ replicate 2 (left (Exit 2 11) zero_filled)
 unfolding turn progress start_state new_frame step act alu
 updates_past_the_end = refl
@@ -88,7 +90,8 @@ two_entries = record one_entry { entries = 2 }
 
 -- key 9 is put with 7, and key 3 with 7; the keys are in order
 pub two_keys : turn_with two_entries []
-    (put_byte 1 9 ∷ put_byte 2 7 ∷ update_bytes ++ put_byte 1 3 ∷ update_bytes ++ set R0 (pos 2) ∷ insn.Exit ∷ [])
+    (put_byte 1 9 ∷ put_byte 2 7 ∷ update_bytes ++ put_byte 1 3 ∷ update_bytes
+    ++ set R0 (pos 2) ∷ insn.Exit ∷ [])
     ≡ left (Exit 2 19) ((3 ∷ [], 7 ∷ []) ∷ (9 ∷ [], 7 ∷ []) ∷ [])
 unfolding turn progress start_state new_frame step act alu
 two_keys = refl
@@ -98,7 +101,8 @@ two_keys = refl
 abbrev pub put_again_after : List Insn → Turn
 put_again_after is =
     turn_with one_entry []
-    (put_byte 1 9 ∷ put_byte 2 7 ∷ update_bytes ++ map_and_key 1 ++ lookup ∷ copy R6 R0 ∷ is ++ update_bytes
+    (put_byte 1 9 ∷ put_byte 2 7 ∷ update_bytes ++ map_and_key 1 ++ lookup ∷ copy R6 R0 ∷ is
+    ++ update_bytes
     ++ insn.Load U8 R0 (above R6 0) ∷ insn.Exit ∷ [])
 
 -- deleted in between: what r6 points to is gone for ever, though the map has the key again
@@ -115,7 +119,8 @@ pointer_to_a_kept_value = refl
 
 -- *(u8 *)(r10 - 1) = 9; r1 = map_by_idx(0); r2 = r10; r2 += -1; i; r0 += 2; exit
 abbrev pub on_an_absent_key : Insn → End
-on_an_absent_key i = end_with one_entry [] (put_byte 1 9 ∷ map_and_key 1 ++ i ∷ add R0 (pos 2) ∷ insn.Exit ∷ [])
+on_an_absent_key i =
+    end_with one_entry [] (put_byte 1 9 ∷ map_and_key 1 ++ i ∷ add R0 (pos 2) ∷ insn.Exit ∷ [])
 
 -- a look-up gives 0, and a delete -2
 pub absent_key : map on_an_absent_key (lookup ∷ delete ∷ [])
@@ -127,7 +132,8 @@ absent_key = refl
 
 -- an unset argument before everything, and an unknown helper reads none: call 1; exit, call 4;
 -- exit, and with r3 unset
-pub unset_arguments : end_on (lookup ∷ insn.Exit ∷ []) [] 9 ∷ end_on (insn.CallHelper (pos 4) ∷ insn.Exit ∷ []) [] 9
+pub unset_arguments : end_on (lookup ∷ insn.Exit ∷ []) [] 9
+    ∷ end_on (insn.CallHelper (pos 4) ∷ insn.Exit ∷ []) [] 9
     ∷ end_with one_entry [] (map_and_key 1 ++ set R4 (pos 0) ∷ update ∷ insn.Exit ∷ []) ∷ []
     ≡ Trap UnsetRead 0 ∷ Trap BadHelper 0 ∷ Trap UnsetRead 4 ∷ []
 unfolding turn progress start_state new_frame step act alu
@@ -137,25 +143,29 @@ unset_arguments = refl
 -- the byte of the key is at r10 - 1, and that of the value at r10 - 2
 abbrev pub update_by : Insn → Insn → End
 update_by j i =
-    end_with one_entry [] (j ∷ map_and_key 1 ++ stack R3 2 ++ set R4 (pos 0) ∷ i ∷ update ∷ insn.Exit ∷ [])
+    end_with one_entry []
+    (j ∷ map_and_key 1 ++ stack R3 2 ++ set R4 (pos 0) ∷ i ∷ update ∷ insn.Exit ∷ [])
 
 -- the kind of each argument comes before the key, which is unset
 pub kinds_of_arguments : map (update_by (set R0 (pos 0)))
-    (set R1 (pos 0) ∷ copy R1 R10 ∷ set R2 (pos 0) ∷ copy R2 R1 ∷ set R3 (pos 0) ∷ copy R3 R1 ∷ copy R4 R10 ∷ [])
+    (set R1 (pos 0) ∷ copy R1 R10 ∷ set R2 (pos 0) ∷ copy R2 R1 ∷ set R3 (pos 0) ∷ copy R3 R1
+    ∷ copy R4 R10 ∷ [])
     ≡ replicate 7 (Trap BadHelper 8)
 unfolding turn progress start_state new_frame step act alu
 kinds_of_arguments = refl
 
 -- the key is unset and the value past the call frame, the key is past the call frame and the value
 -- unset: the key comes first
-pub key_before_value : update_by (set R0 (pos 0)) (copy R3 R10) ∷ update_by (set R0 (pos 0)) (copy R2 R10) ∷ []
+pub key_before_value : update_by (set R0 (pos 0)) (copy R3 R10)
+    ∷ update_by (set R0 (pos 0)) (copy R2 R10) ∷ []
     ≡ Trap UnsetRead 8 ∷ Trap BadAccess 8 ∷ []
 unfolding turn progress start_state new_frame step act alu
 key_before_value = refl
 
 -- the key is there. The value is past the call frame, and it is unset where the flags are over 2:
 -- the value comes first
-pub value_before_flags : update_by (put_byte 1 9) (copy R3 R10) ∷ update_by (put_byte 1 9) (set R4 (pos 3)) ∷ []
+pub value_before_flags : update_by (put_byte 1 9) (copy R3 R10)
+    ∷ update_by (put_byte 1 9) (set R4 (pos 3)) ∷ []
     ≡ Trap BadAccess 8 ∷ Trap UnsetRead 8 ∷ []
 unfolding turn progress start_state new_frame step act alu
 value_before_flags = refl
@@ -171,7 +181,8 @@ key_of_pieces = refl
 abbrev pub after_ktime : Reg → End
 after_ktime r =
     end_with one_entry []
-    (map (λ q. set q (pos 1)) (R1 ∷ R2 ∷ R3 ∷ R4 ∷ R5 ∷ R6 ∷ []) ++ ktime ∷ copy R0 r ∷ insn.Exit ∷ [])
+    (map (λ q. set q (pos 1)) (R1 ∷ R2 ∷ R3 ∷ R4 ∷ R5 ∷ R6 ∷ [])
+    ++ ktime ∷ copy R0 r ∷ insn.Exit ∷ [])
 
 -- r1 to r5 are unset, and r0 and r6 are not
 pub registers_after_a_helper : map after_ktime (R1 ∷ R2 ∷ R3 ∷ R4 ∷ R5 ∷ R6 ∷ R0 ∷ [])
@@ -190,7 +201,8 @@ answers_of_the_clock = refl
 -- map array 4 8 1 with the value 1 1 1 1 1 1 1 1:
 -- r1 = map_val(map_by_idx(0)) + 7; r0 = *(u8 *)(r1 + 0); *(u8 *)(r1 - 7) = 5; exit
 pub value_pointer_of_an_array : turn_with one_index ((index 0, value 1) ∷ [])
-    (insn.LoadMapValue R1 0 7 ∷ insn.Load U8 R0 (above R1 0) ∷ insn.StoreConstant U8 (below R1 7) (pos 5)
+    (insn.LoadMapValue R1 0 7 ∷ insn.Load U8 R0 (above R1 0)
+    ∷ insn.StoreConstant U8 (below R1 7) (pos 5)
     ∷ insn.Exit ∷ [])
     ≡ left (Exit 1 4) ((index 0, 5 ∷ replicate 7 1) ∷ [])
 unfolding turn progress start_state new_frame step act alu
@@ -204,7 +216,8 @@ unfolding turn progress start_state new_frame step act alu
 past_a_value = refl
 
 -- a map itself is not read: r1 = map_by_idx(0); r0 = *(u8 *)(r1 + 0)
-pub read_of_a_map : end_with one_index zero_filled (insn.LoadMap R1 0 ∷ insn.Load U8 R0 (above R1 0) ∷ insn.Exit ∷ [])
+pub read_of_a_map : end_with one_index zero_filled
+    (insn.LoadMap R1 0 ∷ insn.Load U8 R0 (above R1 0) ∷ insn.Exit ∷ [])
     ≡ Trap BadAccess 1
 unfolding turn progress start_state new_frame step act alu
 read_of_a_map = refl

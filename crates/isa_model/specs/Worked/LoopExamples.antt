@@ -36,17 +36,28 @@ start = start_state (head_by 0) [] []
 abbrev pub by_threes : Program
 by_threes = record {
   insns = Some (set R6 (pos 0)) ∷ Some (insn.Store U64 (below R10 512) R6)
-      ∷ Some (insn.Load U64 R7 (below R10 512)) ∷ Some (add R7 (pos 3)) ∷ Some (insn.Store U64 (below R10 512) R7) ∷ Some (if_constant NotEqual R7 (pos 300) (negsuc 3))
+      ∷ Some (insn.Load U64 R7 (below R10 512)) ∷ Some (add R7 (pos 3))
+      ∷ Some (insn.Store U64 (below R10 512) R7)
+      ∷ Some (if_constant NotEqual R7 (pos 300) (negsuc 3))
       ∷ Some (copy R0 R7) ∷ Some (subtract R0 (pos 298)) ∷ Some insn.Exit ∷ [];
   maps = [];
   version = One;
 }
 
 threes_given : IsGiven by_threes (head_by 0) [] []
-threes_given = record { short = omega arith; bytes = λ k d h. absurd (omega (arith, h)); interface = omega arith; queue = omega arith; maps = tt }
+threes_given =
+    record {
+      short = omega arith;
+      bytes = λ k d h. absurd (omega (arith, h));
+      interface = omega arith;
+      queue = omega arith;
+      maps = tt;
+    }
 
 without_r1 : (slot : ℕ) (i : Insn) → fetch by_threes slot ≡ Some i → names (reads i) R1 ≡ false
-without_r1 = of_each by_threes (λ slot i. names (reads i) R1 ≡ false) (refl, (refl, (refl, (refl, (refl, (refl, (refl, (refl, (refl, tt)))))))))
+without_r1 =
+    of_each by_threes (λ slot i. names (reads i) R1 ≡ false)
+    (refl, (refl, (refl, (refl, (refl, (refl, (refl, (refl, (refl, tt)))))))))
 
 -- two steps, a hundred times the four of the loop, and three
 threes_run : HasRun by_threes 405
@@ -60,12 +71,16 @@ threes_run = record {
   given = threes_given;
   number = 2;
   runs = (_, refl, refl);
-  argument = λ n t i reached here among. absurd (is_not_one_of R1 (reads i) (without_r1 t.slot i here) among);
+  argument =
+      λ n t i reached here among. absurd
+      (is_not_one_of R1 (reads i) (without_r1 t.slot i here) among);
 }
 
 pub by_threes_is_determined : IsDetermined by_threes 405
 by_threes_is_determined = record {
-  forms = of_each by_threes (λ slot i. IsDeterminedForm i) (tt, (lowest, (lowest, (tt, (lowest, (tt, (tt, (tt, (tt, tt)))))))));
+  forms =
+      of_each by_threes (λ slot i. IsDeterminedForm i)
+      (tt, (lowest, (lowest, (tt, (lowest, (tt, (tt, (tt, (tt, tt)))))))));
   whole = IsWhole-tested by_threes (0 ∷ 0 ∷ 1 ∷ 2 ∷ 3 ∷ 4 ∷ 5 ∷ 6 ∷ 7 ∷ []) refl refl;
   unnamed = never_named by_threes R10 operands refl;
   own = never_written by_threes refl;
@@ -80,21 +95,30 @@ by_threes_is_determined = record {
 abbrev pub by_ones : Program
 by_ones = record {
   insns = Some (insn.StoreConstant U64 (below R10 8) (pos 0))
-      ∷ Some (insn.Load U64 R1 (below R10 8)) ∷ Some (add R1 (pos 1)) ∷ Some (insn.Store U64 (below R10 8) R1) ∷ Some (if_constant Less R1 (pos 4) (negsuc 3))
+      ∷ Some (insn.Load U64 R1 (below R10 8)) ∷ Some (add R1 (pos 1))
+      ∷ Some (insn.Store U64 (below R10 8) R1) ∷ Some (if_constant Less R1 (pos 4) (negsuc 3))
       ∷ Some (set R0 (pos 2)) ∷ Some insn.Exit ∷ [];
   maps = [];
   version = One;
 }
 
 ones_given : IsGiven by_ones (head_by 0) [] []
-ones_given = record { short = omega arith; bytes = λ k d h. absurd (omega (arith, h)); interface = omega arith; queue = omega arith; maps = tt }
+ones_given =
+    record {
+      short = omega arith;
+      bytes = λ k d h. absurd (omega (arith, h));
+      interface = omega arith;
+      queue = omega arith;
+      maps = tt;
+    }
 
 abbrev slot_after : Progress → ℕ
 slot_after (GoesOn s) = s.slot
 slot_after (Ended e s) = s.slot
 
 -- the first two instructions do not read r1, and the second one writes it
-reads_r1_late : (n : ℕ) (t : State) (i : Insn) → Reaches by_ones (λ k. 0) start n t → fetch by_ones t.slot ≡ Some i → IsOneOf (reads i) R1 → WritesIn by_ones (λ k. 0) start n R1
+reads_r1_late : (n : ℕ) (t : State) (i : Insn) → Reaches by_ones (λ k. 0) start n t
+    → fetch by_ones t.slot ≡ Some i → IsOneOf (reads i) R1 → WritesIn by_ones (λ k. 0) start n R1
 unfolding progress start_state new_frame step act alu holds sign_extended reordered
 reads_r1_late zero t i reached here among =
     let at : t.slot ≡ 0 = sym (ap slot_after reached) in
@@ -107,7 +131,15 @@ reads_r1_late (suc zero) t i reached here among =
     let is : insn.Load U64 R1 (below R10 8) ≡ i = cc second in
     absurd (is_not_one_of R1 (reads i) (ap (λ (x : Insn). names (reads x) R1) (sym is)) among)
 reads_r1_late (suc (suc n)) t i reached here among =
-    record { step = 1; before = omega arith; state = _; reached = refl; insn = _; here = refl; writes_it = refl }
+    record {
+      step = 1;
+      before = omega arith;
+      state = _;
+      reached = refl;
+      insn = _;
+      here = refl;
+      writes_it = refl;
+    }
 
 -- a step, four times the four of the loop, and two
 ones_run : HasRun by_ones 19
@@ -126,7 +158,9 @@ ones_run = record {
 
 pub by_ones_is_determined : IsDetermined by_ones 19
 by_ones_is_determined = record {
-  forms = of_each by_ones (λ slot i. IsDeterminedForm i) (highest, (highest, (tt, (highest, (tt, (tt, (tt, tt)))))));
+  forms =
+      of_each by_ones (λ slot i. IsDeterminedForm i)
+      (highest, (highest, (tt, (highest, (tt, (tt, (tt, tt)))))));
   whole = IsWhole-tested by_ones (0 ∷ 0 ∷ 1 ∷ 2 ∷ 3 ∷ 4 ∷ 5 ∷ []) refl refl;
   unnamed = never_named by_ones R10 operands refl;
   own = never_written by_ones refl;

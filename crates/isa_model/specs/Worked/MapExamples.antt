@@ -47,14 +47,19 @@ abbrev pub delete_k : MapChange
 delete_k = Delete (1 ∷ [])
 
 -- two keys on a map with room for one: -2, -2, 0, -17, -7, -2, -22, 0, 0, 0
-pub ten_commands : answers one_entry [] (delete_k ∷ update_k 2 ∷ update_k 0 ∷ update_k 1 ∷ update_m 0 ∷ update_m 2 ∷ update_m 3 ∷ update_k 2 ∷ delete_k ∷ update_m 1 ∷ [])
-    ≡ 0xfffffffffffffffe ∷ 0xfffffffffffffffe ∷ 0 ∷ 0xffffffffffffffef ∷ 0xfffffffffffffff9 ∷ 0xfffffffffffffffe ∷ 0xffffffffffffffea ∷ 0 ∷ 0 ∷ 0 ∷ []
+pub ten_commands : answers one_entry []
+    (delete_k ∷ update_k 2 ∷ update_k 0 ∷ update_k 1 ∷ update_m 0 ∷ update_m 2 ∷ update_m 3
+    ∷ update_k 2 ∷ delete_k ∷ update_m 1 ∷ [])
+    ≡ 0xfffffffffffffffe ∷ 0xfffffffffffffffe ∷ 0 ∷ 0xffffffffffffffef ∷ 0xfffffffffffffff9
+    ∷ 0xfffffffffffffffe ∷ 0xffffffffffffffea ∷ 0 ∷ 0 ∷ 0 ∷ []
 ten_commands = refl
 
 -- keys are in the order of their bytes, and the value of a key that is there is
 -- overwritten
 pub entries_in_order : left_by (record one_entry { key_size = 2; entries = 9 }) []
-    (Update (1 ∷ 0 ∷ []) (5 ∷ []) 0 ∷ Update (0 ∷ 2 ∷ []) (6 ∷ []) 1 ∷ Update (0 ∷ 9 ∷ []) (7 ∷ []) 0 ∷ Update (0 ∷ 2 ∷ []) (8 ∷ []) 2 ∷ Delete (0 ∷ 9 ∷ []) ∷ [])
+    (Update (1 ∷ 0 ∷ []) (5 ∷ []) 0 ∷ Update (0 ∷ 2 ∷ []) (6 ∷ []) 1
+    ∷ Update (0 ∷ 9 ∷ []) (7 ∷ []) 0 ∷ Update (0 ∷ 2 ∷ []) (8 ∷ []) 2 ∷ Delete (0 ∷ 9 ∷ [])
+    ∷ [])
     ≡ (0 ∷ 2 ∷ [], 8 ∷ []) ∷ (1 ∷ 0 ∷ [], 5 ∷ []) ∷ []
 entries_in_order = refl
 
@@ -75,9 +80,11 @@ zero_filled = (index 0, value 0) ∷ []
 -- past the end -7, with wrong flags -22 before that; index 0 by flags 0, 1, 2 and 3;
 -- nothing is deleted
 pub array_commands : answers one_index zero_filled
-    (Update (index 1) (value 9) 1 ∷ Update (index 1) (value 9) 9 ∷ Update (index 0) (value 9) 0 ∷ Update (index 0) (value 9) 1 ∷ Update (index 0) (value 9) 2
+    (Update (index 1) (value 9) 1 ∷ Update (index 1) (value 9) 9 ∷ Update (index 0) (value 9) 0
+    ∷ Update (index 0) (value 9) 1 ∷ Update (index 0) (value 9) 2
     ∷ Update (index 0) (value 9) 3 ∷ Delete (index 0) ∷ Delete (index 1) ∷ [])
-    ≡ 0xfffffffffffffff9 ∷ 0xffffffffffffffea ∷ 0 ∷ 0xffffffffffffffef ∷ 0 ∷ 0xffffffffffffffea ∷ 0xffffffffffffffea ∷ 0xffffffffffffffea ∷ []
+    ≡ 0xfffffffffffffff9 ∷ 0xffffffffffffffea ∷ 0 ∷ 0xffffffffffffffef ∷ 0 ∷ 0xffffffffffffffea
+    ∷ 0xffffffffffffffea ∷ 0xffffffffffffffea ∷ []
 array_commands = refl
 
 -- ---- serials
@@ -89,42 +96,53 @@ before es = start_state (record { time = 0; interface = 0; queue = 0 }) [] (es �
 
 -- key 1 has the value 7, is deleted, and is put again with 8
 abbrev pub found_first : Helped
-found_first = map_lookup_elem (map_update_elem one_entry (before []) 0 (1 ∷ []) (7 ∷ []) 0).state 0 (1 ∷ [])
+found_first =
+    map_lookup_elem (map_update_elem one_entry (before []) 0 (1 ∷ []) (7 ∷ []) 0).state 0 (1 ∷ [])
 
 abbrev pub deleted : Helped
 deleted = map_delete_elem one_entry found_first.state 0 (1 ∷ [])
 
 abbrev pub found_again : Helped
-found_again = map_lookup_elem (map_update_elem one_entry deleted.state 0 (1 ∷ []) (8 ∷ []) 0).state 0 (1 ∷ [])
+found_again =
+    map_lookup_elem (map_update_elem one_entry deleted.state 0 (1 ∷ []) (8 ∷ []) 0).state 0 (1 ∷ [])
 
 -- a look-up gives a pointer to the value, or 0
-pub look_ups : found_first.answer ∷ (map_lookup_elem deleted.state 0 (1 ∷ [])).answer ∷ found_again.answer ∷ []
+pub look_ups : found_first.answer ∷ (map_lookup_elem deleted.state 0 (1 ∷ [])).answer
+    ∷ found_again.answer ∷ []
     ≡ Ptr (region.MapValue 0 1) (pos 0) ∷ Num 0 ∷ Ptr (region.MapValue 0 2) (pos 0) ∷ []
 unfolding start_state new_frame
 look_ups = refl
 
 -- the value that was deleted is gone, also once its key is there again
-pub deleted_value_stays_dead : region_cells found_first.state (region.MapValue 0 1) ∷ region_cells deleted.state (region.MapValue 0 1)
-    ∷ region_cells found_again.state (region.MapValue 0 1) ∷ region_cells found_again.state (region.MapValue 0 2) ∷ []
+pub deleted_value_stays_dead : region_cells found_first.state (region.MapValue 0 1)
+    ∷ region_cells deleted.state (region.MapValue 0 1)
+    ∷ region_cells found_again.state (region.MapValue 0 1)
+    ∷ region_cells found_again.state (region.MapValue 0 2) ∷ []
     ≡ Some (Byte 7 ∷ []) ∷ None ∷ None ∷ Some (Byte 8 ∷ []) ∷ []
 unfolding start_state new_frame
 deleted_value_stays_dead = refl
 
 -- a present key keeps its value's serial, and no serial is given
-pub serial_kept_over_an_update : (map_lookup_elem (map_update_elem one_entry found_first.state 0 (1 ∷ []) (9 ∷ []) 2).state 0 (1 ∷ [])).answer ∷ []
+pub serial_kept_over_an_update : (map_lookup_elem
+    (map_update_elem one_entry found_first.state 0 (1 ∷ []) (9 ∷ []) 2).state 0 (1 ∷ [])).answer
+    ∷ []
     ≡ Ptr (region.MapValue 0 1) (pos 0) ∷ []
 unfolding start_state new_frame
 serial_kept_over_an_update = refl
 
-pub next_serials : (found_first.state).next_serial ∷ (map_update_elem one_entry found_first.state 0 (1 ∷ []) (9 ∷ []) 2).state.next_serial ∷ found_again.state.next_serial ∷ []
+pub next_serials : (found_first.state).next_serial
+    ∷ (map_update_elem one_entry found_first.state 0 (1 ∷ []) (9 ∷ []) 2).state.next_serial
+    ∷ found_again.state.next_serial ∷ []
     ≡ 2 ∷ 2 ∷ 3 ∷ []
 unfolding start_state new_frame
 next_serials = refl
 
 -- an update that answers an error changes nothing: map array 4 8 1, past its end and with wrong
 -- flags
-pub refused_updates_change_nothing : (map_update_elem one_index (before zero_filled) 0 (index 1) (value 9) 1)
+pub refused_updates_change_nothing : (map_update_elem one_index (before zero_filled) 0 (index 1)
+    (value 9) 1)
     ∷ (map_update_elem one_index (before zero_filled) 0 (index 1) (value 9) 9) ∷ []
-    ≡ record { answer = Num 0xfffffffffffffff9; state = before zero_filled } ∷ record { answer = Num 0xffffffffffffffea; state = before zero_filled } ∷ []
+    ≡ record { answer = Num 0xfffffffffffffff9; state = before zero_filled }
+    ∷ record { answer = Num 0xffffffffffffffea; state = before zero_filled } ∷ []
 unfolding start_state new_frame
 refused_updates_change_nothing = refl

@@ -28,20 +28,26 @@ use Rattle.isa_model.specs.Worked.Examples.{turn_on, end_on, head_by, set, add, 
 
 -- r1 = n ll; *(u64 *)(r10 - 8) = r1; i; exit
 abbrev pub with_stored : ℕ → Insn → End
-with_stored n i = end_on (insn.LoadNumber R1 n ∷ insn.Store U64 (below R10 8) R1 ∷ i ∷ insn.Exit ∷ []) [] 4
+with_stored n i =
+    end_on (insn.LoadNumber R1 n ∷ insn.Store U64 (below R10 8) R1 ∷ i ∷ insn.Exit ∷ []) [] 4
 
-pub loads_by_size : map (with_stored 0x8090a0b0c0d0e0f0) (insn.Load U8 R0 (below R10 8) ∷ insn.Load U8 R0 (below R10 1) ∷ insn.Load U16 R0 (below R10 7)
+pub loads_by_size : map (with_stored 0x8090a0b0c0d0e0f0)
+    (insn.Load U8 R0 (below R10 8) ∷ insn.Load U8 R0 (below R10 1) ∷ insn.Load U16 R0 (below R10 7)
     ∷ insn.Load U32 R0 (below R10 4) ∷ insn.Load U64 R0 (below R10 8) ∷ [])
     ≡ Exit 0xf0 4 ∷ Exit 0x80 4 ∷ Exit 0xd0e0 4 ∷ Exit 0x8090a0b0 4 ∷ Exit 0x8090a0b0c0d0e0f0 4 ∷ []
 unfolding turn progress start_state new_frame step act alu holds sign_extended reordered
 loads_by_size = refl
 
-pub sign_extending_loads : map (with_stored 0x8090a0b0c0d0e0f0) (insn.LoadSx S8 R0 (below R10 8) ∷ insn.LoadSx S16 R0 (below R10 8) ∷ insn.LoadSx S32 R0 (below R10 8) ∷ [])
+pub sign_extending_loads : map (with_stored 0x8090a0b0c0d0e0f0)
+    (insn.LoadSx S8 R0 (below R10 8) ∷ insn.LoadSx S16 R0 (below R10 8)
+    ∷ insn.LoadSx S32 R0 (below R10 8) ∷ [])
     ≡ Exit 0xfffffffffffffff0 4 ∷ Exit 0xffffffffffffe0f0 4 ∷ Exit 0xffffffffc0d0e0f0 4 ∷ []
 unfolding turn progress start_state new_frame step act alu holds sign_extended reordered
 sign_extending_loads = refl
 
-pub sign_extending_loads_of_positive_numbers : map (with_stored 0x7f6f5f4f3f2f1f0f) (insn.LoadSx S8 R0 (below R10 8) ∷ insn.LoadSx S16 R0 (below R10 8) ∷ insn.LoadSx S32 R0 (below R10 8) ∷ [])
+pub sign_extending_loads_of_positive_numbers : map (with_stored 0x7f6f5f4f3f2f1f0f)
+    (insn.LoadSx S8 R0 (below R10 8) ∷ insn.LoadSx S16 R0 (below R10 8)
+    ∷ insn.LoadSx S32 R0 (below R10 8) ∷ [])
     ≡ Exit 0x0f 4 ∷ Exit 0x1f0f 4 ∷ Exit 0x3f2f1f0f 4 ∷ []
 unfolding turn progress start_state new_frame step act alu holds sign_extended reordered
 sign_extending_loads_of_positive_numbers = refl
@@ -49,17 +55,23 @@ sign_extending_loads_of_positive_numbers = refl
 -- *(u64 *)(r10 - 8) = 0; r1 = 0x8090a0b0c0d0e0f0 ll; i; r0 = *(u64 *)(r10 - 8); exit
 abbrev pub over_zeros : Insn → End
 over_zeros i =
-    end_on (insn.StoreConstant U64 (below R10 8) (pos 0) ∷ insn.LoadNumber R1 0x8090a0b0c0d0e0f0 ∷ i ∷ insn.Load U64 R0 (below R10 8) ∷ insn.Exit ∷ []) [] 5
+    end_on (insn.StoreConstant U64 (below R10 8) (pos 0) ∷ insn.LoadNumber R1 0x8090a0b0c0d0e0f0 ∷ i
+    ∷ insn.Load U64 R0 (below R10 8) ∷ insn.Exit ∷ []) [] 5
 
 -- the low bytes are written, and no others
-pub stores_by_size : map over_zeros (insn.Store U8 (below R10 7) R1 ∷ insn.Store U16 (below R10 7) R1 ∷ insn.Store U32 (below R10 7) R1 ∷ insn.Store U64 (below R10 8) R1 ∷ [])
+pub stores_by_size : map over_zeros
+    (insn.Store U8 (below R10 7) R1 ∷ insn.Store U16 (below R10 7) R1
+    ∷ insn.Store U32 (below R10 7) R1 ∷ insn.Store U64 (below R10 8) R1 ∷ [])
     ≡ Exit 0xf000 5 ∷ Exit 0xe0f000 5 ∷ Exit 0xc0d0e0f000 5 ∷ Exit 0x8090a0b0c0d0e0f0 5 ∷ []
 unfolding turn progress start_state new_frame step act alu holds sign_extended reordered
 stores_by_size = refl
 
 -- the constant -2; with 8 bytes it is sign-extended
-pub stores_of_a_constant : map over_zeros (insn.StoreConstant U8 (below R10 8) (negsuc 1) ∷ insn.StoreConstant U16 (below R10 8) (negsuc 1)
-    ∷ insn.StoreConstant U32 (below R10 8) (negsuc 1) ∷ insn.StoreConstant U64 (below R10 8) (negsuc 1) ∷ [])
+pub stores_of_a_constant : map over_zeros
+    (insn.StoreConstant U8 (below R10 8) (negsuc 1)
+    ∷ insn.StoreConstant U16 (below R10 8) (negsuc 1)
+    ∷ insn.StoreConstant U32 (below R10 8) (negsuc 1)
+    ∷ insn.StoreConstant U64 (below R10 8) (negsuc 1) ∷ [])
     ≡ Exit 0xfe 5 ∷ Exit 0xfffe 5 ∷ Exit 0xfffffffe 5 ∷ Exit 0xfffffffffffffffe 5 ∷ []
 unfolding turn progress start_state new_frame step act alu holds sign_extended reordered
 stores_of_a_constant = refl
@@ -70,20 +82,26 @@ stores_of_a_constant = refl
 abbrev pub alone : Insn → End
 alone i = end_on (i ∷ set R0 (pos 0) ∷ insn.Exit ∷ []) [] 3
 
-pub stores_at_the_edges : map alone (insn.StoreConstant U8 (below R10 512) (pos 1) ∷ insn.StoreConstant U64 (below R10 512) (pos 1)
-    ∷ insn.StoreConstant U8 (below R10 1) (pos 1) ∷ insn.StoreConstant U64 (below R10 8) (pos 1) ∷ [])
+pub stores_at_the_edges : map alone
+    (insn.StoreConstant U8 (below R10 512) (pos 1) ∷ insn.StoreConstant U64 (below R10 512) (pos 1)
+    ∷ insn.StoreConstant U8 (below R10 1) (pos 1) ∷ insn.StoreConstant U64 (below R10 8) (pos 1)
+    ∷ [])
     ≡ replicate 4 (Exit 0 3)
 unfolding turn progress start_state new_frame step act alu holds sign_extended reordered
 stores_at_the_edges = refl
 
-pub stores_past_the_edges : map alone (insn.StoreConstant U8 (below R10 513) (pos 1) ∷ insn.StoreConstant U64 (below R10 513) (pos 1)
-    ∷ insn.StoreConstant U8 (above R10 0) (pos 1) ∷ insn.StoreConstant U64 (below R10 7) (pos 1) ∷ insn.Store U64 (below R10 7) R10 ∷ [])
+pub stores_past_the_edges : map alone
+    (insn.StoreConstant U8 (below R10 513) (pos 1) ∷ insn.StoreConstant U64 (below R10 513) (pos 1)
+    ∷ insn.StoreConstant U8 (above R10 0) (pos 1) ∷ insn.StoreConstant U64 (below R10 7) (pos 1)
+    ∷ insn.Store U64 (below R10 7) R10 ∷ [])
     ≡ replicate 5 (Trap BadAccess 0)
 unfolding turn progress start_state new_frame step act alu holds sign_extended reordered
 stores_past_the_edges = refl
 
 -- the place counts before unset bytes
-pub loads_past_the_edges : map alone (insn.Load U8 R0 (below R10 513) ∷ insn.Load U64 R0 (below R10 7) ∷ insn.Load U8 R0 (below R10 1) ∷ [])
+pub loads_past_the_edges : map alone
+    (insn.Load U8 R0 (below R10 513) ∷ insn.Load U64 R0 (below R10 7)
+    ∷ insn.Load U8 R0 (below R10 1) ∷ [])
     ≡ Trap BadAccess 0 ∷ Trap BadAccess 0 ∷ Trap UnsetRead 0 ∷ []
 unfolding turn progress start_state new_frame step act alu holds sign_extended reordered
 loads_past_the_edges = refl
@@ -92,10 +110,13 @@ loads_past_the_edges = refl
 
 -- *(u64 *)(r10 - 16) = r10; i; r0 = 0; exit
 abbrev pub after_a_spill : Insn → End
-after_a_spill i = end_on (insn.Store U64 (below R10 16) R10 ∷ i ∷ set R0 (pos 0) ∷ insn.Exit ∷ []) [] 4
+after_a_spill i =
+    end_on (insn.Store U64 (below R10 16) R10 ∷ i ∷ set R0 (pos 0) ∷ insn.Exit ∷ []) [] 4
 
 -- it is read whole, by 8 bytes and without sign
-pub loads_of_a_pointer : map after_a_spill (insn.Load U64 R0 (below R10 16) ∷ insn.Load U32 R0 (below R10 16) ∷ insn.Load U8 R0 (below R10 16) ∷ insn.LoadSx S32 R0 (below R10 16) ∷ [])
+pub loads_of_a_pointer : map after_a_spill
+    (insn.Load U64 R0 (below R10 16) ∷ insn.Load U32 R0 (below R10 16)
+    ∷ insn.Load U8 R0 (below R10 16) ∷ insn.LoadSx S32 R0 (below R10 16) ∷ [])
     ≡ Exit 0 4 ∷ Trap BadAccess 1 ∷ Trap BadAccess 1 ∷ Trap BadAccess 1 ∷ []
 unfolding turn progress start_state new_frame step act alu holds sign_extended reordered
 loads_of_a_pointer = refl
@@ -107,17 +128,22 @@ pieces_and_unset_bytes = refl
 
 -- *(u64 *)(r10 - 16) = r10; i; r0 = *(u64 *)(r10 - k); r0 = 0; exit
 abbrev pub after_two_stores : Insn → ℕ → End
-after_two_stores i k = end_on (insn.Store U64 (below R10 16) R10 ∷ i ∷ insn.Load U64 R0 (below R10 k) ∷ set R0 (pos 0) ∷ insn.Exit ∷ []) [] 5
+after_two_stores i k =
+    end_on (insn.Store U64 (below R10 16) R10 ∷ i ∷ insn.Load U64 R0 (below R10 k) ∷ set R0 (pos 0)
+    ∷ insn.Exit ∷ []) [] 5
 
 -- pieces and bytes; pieces 4 to 7 and 0 to 3 of one pointer; pieces 0 to 3 twice
-pub mixed_pieces : after_two_stores (insn.StoreConstant U64 (below R10 8) (pos 0)) 12 ∷ after_two_stores (insn.Store U64 (below R10 8) R10) 12
+pub mixed_pieces : after_two_stores (insn.StoreConstant U64 (below R10 8) (pos 0)) 12
+    ∷ after_two_stores (insn.Store U64 (below R10 8) R10) 12
     ∷ after_two_stores (insn.Store U64 (below R10 12) R10) 16 ∷ []
     ≡ replicate 3 (Trap BadAccess 2)
 unfolding turn progress start_state new_frame step act alu holds sign_extended reordered
 mixed_pieces = refl
 
 -- the second pointer is whole, at a place that is no multiple of 8 too
-pub whole_pointers : after_two_stores (insn.Store U64 (below R10 12) R10) 12 ∷ after_two_stores (insn.Store U64 (below R10 8) R1) 8 ∷ after_two_stores (insn.Store U64 (below R10 8) R1) 16 ∷ []
+pub whole_pointers : after_two_stores (insn.Store U64 (below R10 12) R10) 12
+    ∷ after_two_stores (insn.Store U64 (below R10 8) R1) 8
+    ∷ after_two_stores (insn.Store U64 (below R10 8) R1) 16 ∷ []
     ≡ replicate 3 (Exit 0 5)
 unfolding turn progress start_state new_frame step act alu holds sign_extended reordered
 whole_pointers = refl
@@ -128,19 +154,28 @@ abbrev pub first_half_and : Value → Value → Result Value TrapReason
 first_half_and (Ptr r z) (Ptr q y) = value_in (take 4 (pieces r z) ++ drop 4 (pieces q y))
 first_half_and v w = Ok v
 
-pub pieces_of_two_pointers : first_half_and (Ptr (region.Frame 3) (pos 0)) (Ptr (region.Frame 4) (pos 0)) ∷ first_half_and (Ptr region.Packet (pos 1)) (Ptr region.Packet (pos 2))
-    ∷ first_half_and (Ptr region.Packet (pos 0)) (Ptr region.Packet (negsuc 0)) ∷ first_half_and (Ptr (region.MapValue 0 1) (pos 0)) (Ptr (region.MapValue 0 2) (pos 0))
-    ∷ first_half_and (Ptr (region.MapValue 0 1) (pos 0)) (Ptr (region.MapValue 1 1) (pos 0)) ∷ first_half_and (Ptr region.Packet (pos 0)) (Ptr region.Context (pos 0)) ∷ []
+pub pieces_of_two_pointers : first_half_and (Ptr (region.Frame 3) (pos 0))
+    (Ptr (region.Frame 4) (pos 0))
+    ∷ first_half_and (Ptr region.Packet (pos 1)) (Ptr region.Packet (pos 2))
+    ∷ first_half_and (Ptr region.Packet (pos 0)) (Ptr region.Packet (negsuc 0))
+    ∷ first_half_and (Ptr (region.MapValue 0 1) (pos 0)) (Ptr (region.MapValue 0 2) (pos 0))
+    ∷ first_half_and (Ptr (region.MapValue 0 1) (pos 0)) (Ptr (region.MapValue 1 1) (pos 0))
+    ∷ first_half_and (Ptr region.Packet (pos 0)) (Ptr region.Context (pos 0)) ∷ []
     ≡ replicate 6 (Err BadAccess)
 pieces_of_two_pointers = refl
 
-pub pieces_of_one_pointer : first_half_and (Ptr (region.MapValue 0 1) (negsuc 3)) (Ptr (region.MapValue 0 1) (negsuc 3)) ∷ first_half_and (Ptr region.PacketEnd (pos 0)) (Ptr region.PacketEnd (pos 0))
+pub pieces_of_one_pointer : first_half_and (Ptr (region.MapValue 0 1) (negsuc 3))
+    (Ptr (region.MapValue 0 1) (negsuc 3))
+    ∷ first_half_and (Ptr region.PacketEnd (pos 0)) (Ptr region.PacketEnd (pos 0))
     ∷ first_half_and (Ptr (region.Map 2) (pos 0)) (Ptr (region.Map 2) (pos 0)) ∷ []
-    ≡ Ok (Ptr (region.MapValue 0 1) (negsuc 3)) ∷ Ok (Ptr region.PacketEnd (pos 0)) ∷ Ok (Ptr (region.Map 2) (pos 0)) ∷ []
+    ≡ Ok (Ptr (region.MapValue 0 1) (negsuc 3)) ∷ Ok (Ptr region.PacketEnd (pos 0))
+    ∷ Ok (Ptr (region.Map 2) (pos 0)) ∷ []
 pieces_of_one_pointer = refl
 
 -- by fewer than 8 bytes no pointer is stored
-pub narrow_stores_of_a_pointer : map alone (insn.Store U32 (below R10 8) R10 ∷ insn.Store U16 (below R10 8) R10 ∷ insn.Store U8 (below R10 8) R10 ∷ [])
+pub narrow_stores_of_a_pointer : map alone
+    (insn.Store U32 (below R10 8) R10 ∷ insn.Store U16 (below R10 8) R10
+    ∷ insn.Store U8 (below R10 8) R10 ∷ [])
     ≡ replicate 3 (Trap BadAccess 0)
 unfolding turn progress start_state new_frame step act alu holds sign_extended reordered
 narrow_stores_of_a_pointer = refl
@@ -149,15 +184,21 @@ narrow_stores_of_a_pointer = refl
 
 -- r2 = *(u32 *)(r1 + 0); r3 = *(u32 *)(r1 + 4); i; exit, on the bytes 0x80, 0x90, 0xa0
 abbrev pub on_three_bytes : Insn → End
-on_three_bytes i = end_on (insn.Load U32 R2 (above R1 0) ∷ insn.Load U32 R3 (above R1 4) ∷ i ∷ insn.Exit ∷ []) (0x80 ∷ 0x90 ∷ 0xa0 ∷ []) 4
+on_three_bytes i =
+    end_on (insn.Load U32 R2 (above R1 0) ∷ insn.Load U32 R3 (above R1 4) ∷ i ∷ insn.Exit ∷ [])
+    (0x80 ∷ 0x90 ∷ 0xa0 ∷ []) 4
 
-pub packet_loads : map on_three_bytes (insn.Load U8 R0 (above R2 0) ∷ insn.Load U8 R0 (above R2 2) ∷ insn.Load U16 R0 (above R2 1) ∷ insn.LoadSx S16 R0 (above R2 0) ∷ [])
+pub packet_loads : map on_three_bytes
+    (insn.Load U8 R0 (above R2 0) ∷ insn.Load U8 R0 (above R2 2) ∷ insn.Load U16 R0 (above R2 1)
+    ∷ insn.LoadSx S16 R0 (above R2 0) ∷ [])
     ≡ Exit 0x80 4 ∷ Exit 0xa0 4 ∷ Exit 0xa090 4 ∷ Exit 0xffffffffffff9080 4 ∷ []
 unfolding turn progress start_state new_frame step act alu holds sign_extended reordered
 packet_loads = refl
 
 -- before the first byte, across the last, through the packet end, and a store of a pointer
-pub packet_accesses_past_the_edges : map on_three_bytes (insn.Load U8 R0 (below R2 1) ∷ insn.Load U8 R0 (above R2 3) ∷ insn.Load U16 R0 (above R2 2) ∷ insn.Load U8 R0 (below R3 1)
+pub packet_accesses_past_the_edges : map on_three_bytes
+    (insn.Load U8 R0 (below R2 1) ∷ insn.Load U8 R0 (above R2 3) ∷ insn.Load U16 R0 (above R2 2)
+    ∷ insn.Load U8 R0 (below R3 1)
     ∷ insn.Store U32 (above R2 0) R10 ∷ insn.StoreConstant U32 (above R2 0) (pos 0) ∷ [])
     ≡ replicate 6 (Trap BadAccess 2)
 unfolding turn progress start_state new_frame step act alu holds sign_extended reordered
@@ -165,9 +206,14 @@ packet_accesses_past_the_edges = refl
 
 -- r2 = *(u32 *)(r1 + 0); i; r0 = 2; exit: the bytes that are left of eight zeros
 abbrev pub left_of_zeros : Insn → List ℕ
-left_of_zeros i = (turn_on (insn.Load U32 R2 (above R1 0) ∷ i ∷ set R0 (pos 2) ∷ insn.Exit ∷ []) (head_by 0) (zeros 8) 4).packet
+left_of_zeros i =
+    (turn_on (insn.Load U32 R2 (above R1 0) ∷ i ∷ set R0 (pos 2) ∷ insn.Exit ∷ []) (head_by 0)
+    (zeros 8) 4).packet
 
-pub packet_stores : map left_of_zeros (insn.StoreConstant U16 (above R2 1) (pos 0x0708) ∷ insn.StoreConstant U32 (above R2 4) (pos 0x05060708) ∷ insn.StoreConstant U8 (above R2 7) (pos 0x1ff) ∷ [])
+pub packet_stores : map left_of_zeros
+    (insn.StoreConstant U16 (above R2 1) (pos 0x0708)
+    ∷ insn.StoreConstant U32 (above R2 4) (pos 0x05060708)
+    ∷ insn.StoreConstant U8 (above R2 7) (pos 0x1ff) ∷ [])
     ≡ (0 ∷ 8 ∷ 7 ∷ zeros 5) ∷ (zeros 4 ++ 8 ∷ 7 ∷ 6 ∷ 5 ∷ []) ∷ (zeros 7 ++ 0xff ∷ []) ∷ []
 unfolding turn progress start_state new_frame step act alu holds sign_extended reordered
 packet_stores = refl
@@ -187,7 +233,9 @@ abbrev pub on_the_context : Insn → End
 on_the_context i = (turn_on (i ∷ insn.Exit ∷ []) head (zeros 3) 2).ends
 
 -- ingress_ifindex and rx_queue_index
-pub context_numbers : map on_the_context (insn.Load U32 R0 (above R1 12) ∷ insn.Load U32 R0 (above R1 16) ∷ []) ≡ Exit 5 2 ∷ Exit 7 2 ∷ []
+pub context_numbers : map on_the_context
+    (insn.Load U32 R0 (above R1 12) ∷ insn.Load U32 R0 (above R1 16) ∷ [])
+    ≡ Exit 5 2 ∷ Exit 7 2 ∷ []
 unfolding turn progress start_state new_frame step act alu holds sign_extended reordered
 context_numbers = refl
 
@@ -195,14 +243,17 @@ context_numbers = refl
 pub other_context_accesses : map on_the_context (
     map (λ n. insn.Load U32 R0 (above R1 n)) (1 ∷ 8 ∷ 14 ∷ 20 ∷ [])
     ++ map (λ size. insn.Load size R0 (above R1 12)) (U8 ∷ U16 ∷ U64 ∷ [])
-    ++ insn.Load U32 R0 (below R1 4) ∷ insn.LoadSx S32 R0 (above R1 12) ∷ insn.StoreConstant U32 (above R1 12) (pos 0) ∷ insn.Store U64 (above R1 0) R10
+    ++ insn.Load U32 R0 (below R1 4) ∷ insn.LoadSx S32 R0 (above R1 12)
+    ∷ insn.StoreConstant U32 (above R1 12) (pos 0) ∷ insn.Store U64 (above R1 0) R10
     ∷ [])
     ≡ replicate 11 (Trap BadAccess 0)
 unfolding turn progress start_state new_frame step act alu holds sign_extended reordered
 other_context_accesses = refl
 
 -- r0 = 1; i; exit
-pub atomic_context_accesses : map (λ i. end_on (set R0 (pos 1) ∷ i ∷ insn.Exit ∷ []) [] 3) (insn.Atomic Low32 atomic.Add false (above R1 12) R0 ∷ insn.Exchange Low32 (above R1 12) R0 ∷ [])
+pub atomic_context_accesses : map (λ i. end_on (set R0 (pos 1) ∷ i ∷ insn.Exit ∷ []) [] 3)
+    (insn.Atomic Low32 atomic.Add false (above R1 12) R0 ∷ insn.Exchange Low32 (above R1 12) R0
+    ∷ [])
     ≡ replicate 2 (Trap BadAccess 1)
 unfolding turn progress start_state new_frame step act alu holds sign_extended reordered
 atomic_context_accesses = refl
@@ -211,7 +262,8 @@ atomic_context_accesses = refl
 -- exit
 abbrev pub longer_than : ℤ → End
 longer_than k =
-    end_on (insn.Load U32 R2 (above R1 0) ∷ insn.Load U32 R3 (above R1 4) ∷ add R2 k ∷ if_register Greater R2 R3 (pos 2)
+    end_on (insn.Load U32 R2 (above R1 0) ∷ insn.Load U32 R3 (above R1 4) ∷ add R2 k
+    ∷ if_register Greater R2 R3 (pos 2)
     ∷ set R0 (pos 2) ∷ insn.Exit ∷ set R0 (pos 1) ∷ insn.Exit ∷ []) (zeros 3) 6
 
 -- the end lies after the packet's three bytes
@@ -222,8 +274,10 @@ data_and_data_end = refl
 -- ---- numbers are no places
 
 -- r0 = 0; i; exit
-pub accesses_through_a_number : map (λ i. end_on (set R0 (pos 0) ∷ i ∷ insn.Exit ∷ []) [] 3) (insn.Load U8 R0 (above R0 0) ∷ insn.LoadSx S8 R0 (above R0 0)
-    ∷ insn.StoreConstant U8 (above R0 0) (pos 1) ∷ insn.Store U64 (above R0 0) R10 ∷ insn.Atomic Full64 atomic.Add false (above R0 0) R0 ∷ [])
+pub accesses_through_a_number : map (λ i. end_on (set R0 (pos 0) ∷ i ∷ insn.Exit ∷ []) [] 3)
+    (insn.Load U8 R0 (above R0 0) ∷ insn.LoadSx S8 R0 (above R0 0)
+    ∷ insn.StoreConstant U8 (above R0 0) (pos 1) ∷ insn.Store U64 (above R0 0) R10
+    ∷ insn.Atomic Full64 atomic.Add false (above R0 0) R0 ∷ [])
     ≡ replicate 5 (Trap BadAccess 1)
 unfolding turn progress start_state new_frame step act alu holds sign_extended reordered
 accesses_through_a_number = refl
@@ -241,15 +295,18 @@ state = start_state head [] contents
 abbrev pub value : ℕ → ℕ → ℤ → Value
 value m n z = Ptr (region.MapValue m n) z
 
-pub value_loads : load state U8 (value 0 1 (pos 1)) (pos 0) ∷ load state U16 (value 0 0 (pos 4)) (negsuc 3) ∷ load state U8 (value 1 2 (pos 0)) (pos 0)
+pub value_loads : load state U8 (value 0 1 (pos 1)) (pos 0)
+    ∷ load state U16 (value 0 0 (pos 4)) (negsuc 3) ∷ load state U8 (value 1 2 (pos 0)) (pos 0)
     ∷ load_signed state S16 (value 0 0 (pos 0)) (pos 0) ∷ []
     ≡ Ok (Num 9) ∷ Ok (Num 0xe0f0) ∷ Ok (Num 5) ∷ Ok (Num 0xffffffffffffe0f0) ∷ []
 unfolding start_state new_frame sign_extended
 value_loads = refl
 
 -- before a value, past its end, of a serial that is gone or another map's, and of a map itself
-pub other_value_loads : load state U8 (value 0 1 (pos 0)) (negsuc 0) ∷ load state U8 (value 0 0 (pos 2)) (pos 0) ∷ load state U16 (value 1 2 (pos 0)) (pos 0)
-    ∷ load state U8 (value 0 4 (pos 0)) (pos 0) ∷ load state U8 (value 0 2 (pos 0)) (pos 0) ∷ load state U8 (value 2 0 (pos 0)) (pos 0)
+pub other_value_loads : load state U8 (value 0 1 (pos 0)) (negsuc 0)
+    ∷ load state U8 (value 0 0 (pos 2)) (pos 0) ∷ load state U16 (value 1 2 (pos 0)) (pos 0)
+    ∷ load state U8 (value 0 4 (pos 0)) (pos 0) ∷ load state U8 (value 0 2 (pos 0)) (pos 0)
+    ∷ load state U8 (value 2 0 (pos 0)) (pos 0)
     ∷ load state U8 (Ptr (region.Map 0) (pos 0)) (pos 0) ∷ []
     ≡ replicate 7 (Err BadAccess)
 unfolding start_state new_frame
@@ -261,23 +318,28 @@ contents_then (Ok s) = Ok (map entries_of s.maps)
 contents_then (Err e) = Err e
 
 pub value_store : contents_then (store state U8 (value 0 1 (pos 0)) (pos 1) (Num 0x1ff))
-    ≡ Ok (((1 ∷ [], 0xf0 ∷ 0xe0 ∷ []) ∷ (2 ∷ [], 7 ∷ 0xff ∷ []) ∷ []) ∷ ((3 ∷ [], 5 ∷ []) ∷ []) ∷ [])
+    ≡ Ok (((1 ∷ [], 0xf0 ∷ 0xe0 ∷ []) ∷ (2 ∷ [], 7 ∷ 0xff ∷ []) ∷ []) ∷ ((3 ∷ [], 5 ∷ []) ∷ [])
+    ∷ [])
 unfolding start_state new_frame
 value_store = refl
 
-pub value_store_in_the_second_map : contents_then (store state U8 (value 1 2 (pos 0)) (pos 0) (Num 6))
+pub value_store_in_the_second_map : contents_then
+    (store state U8 (value 1 2 (pos 0)) (pos 0) (Num 6))
     ≡ Ok (((1 ∷ [], 0xf0 ∷ 0xe0 ∷ []) ∷ (2 ∷ [], 7 ∷ 9 ∷ []) ∷ []) ∷ ((3 ∷ [], 6 ∷ []) ∷ []) ∷ [])
 unfolding start_state new_frame
 value_store_in_the_second_map = refl
 
 -- past the end, of a serial that is gone, and a pointer
-pub other_value_stores : contents_then (store state U16 (value 0 1 (pos 1)) (pos 0) (Num 1)) ∷ contents_then (store state U8 (value 0 3 (pos 0)) (pos 0) (Num 1))
+pub other_value_stores : contents_then (store state U16 (value 0 1 (pos 1)) (pos 0) (Num 1))
+    ∷ contents_then (store state U8 (value 0 3 (pos 0)) (pos 0) (Num 1))
     ∷ contents_then (store state U64 (value 0 1 (pos 0)) (pos 0) (value 0 1 (pos 0))) ∷ []
     ≡ replicate 3 (Err BadAccess)
 unfolding start_state new_frame
 other_value_stores = refl
 
 -- a value that is 8 bytes long takes no pointer either
-pub pointer_stored_in_a_value : contents_then (store (start_state head [] (((1 ∷ [], zeros 8) ∷ []) ∷ [])) U64 (value 0 0 (pos 0)) (pos 0) (value 0 0 (pos 0))) ≡ Err BadAccess
+pub pointer_stored_in_a_value : contents_then
+    (store (start_state head [] (((1 ∷ [], zeros 8) ∷ []) ∷ [])) U64 (value 0 0 (pos 0)) (pos 0)
+    (value 0 0 (pos 0))) ≡ Err BadAccess
 unfolding start_state new_frame
 pointer_stored_in_a_value = refl

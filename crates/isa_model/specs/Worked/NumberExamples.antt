@@ -1,5 +1,5 @@
--- Worked examples of arithmetic, comparisons, sign extension and byte order, computed from the definitions.
--- The numbers wanted are worked out by hand from RFC 9669, sections 4.1 to 4.3.
+-- Worked examples of arithmetic, comparisons, sign extension and byte order, computed from the
+-- definitions. The numbers wanted are worked out by hand from RFC 9669, sections 4.1 to 4.3.
 use Rattle.std.specs.Prelude.{◌≡◌, ℕ, pos, negsuc, Bool, true, false, List, [], ◌∷◌, map, refl}
 use Rattle.isa_model.specs.declared.sizes.Width.TheVariants.{Low32, Full64}
 use Rattle.isa_model.specs.declared.sizes.Size.TheVariants.{U8, U16, U32, U64}
@@ -39,7 +39,8 @@ unfolding alu
 sums_wrap = refl
 
 pub differences_wrap : both Sub 1 2 ∷ both Sub least 1 ∷ both Sub 0 0 ∷ both Sub word_end 1 ∷ []
-    ≡ (minus_one, 0xffffffff) ∷ (0x7fffffffffffffff, 0xffffffff) ∷ (0, 0) ∷ (0xffffffff, 0xffffffff) ∷ []
+    ≡ (minus_one, 0xffffffff) ∷ (0x7fffffffffffffff, 0xffffffff) ∷ (0, 0) ∷ (0xffffffff, 0xffffffff)
+    ∷ []
 unfolding alu
 differences_wrap = refl
 
@@ -49,19 +50,22 @@ unfolding alu
 products_wrap = refl
 
 -- the operands are unsigned, and a division by zero gives 0
-pub quotients : both Div minus_one 2 ∷ both Div 7 minus_one ∷ both Div 7 0 ∷ both Div 0x900000009 word_end ∷ []
+pub quotients : both Div minus_one 2 ∷ both Div 7 minus_one ∷ both Div 7 0
+    ∷ both Div 0x900000009 word_end ∷ []
     ≡ (0x7fffffffffffffff, 0x7fffffff) ∷ (0, 0) ∷ (0, 0) ∷ (9, 0) ∷ []
 unfolding alu
 quotients = refl
 
 -- -7 by 2, 7 by -2, and -7 by -2 are cut toward zero
-pub signed_quotients : both SignedDiv 0xfffffffffffffff9 2 ∷ both SignedDiv 7 0xfffffffffffffffe ∷ both SignedDiv 0xfffffffffffffff9 0xfffffffffffffffe ∷ []
+pub signed_quotients : both SignedDiv 0xfffffffffffffff9 2 ∷ both SignedDiv 7 0xfffffffffffffffe
+    ∷ both SignedDiv 0xfffffffffffffff9 0xfffffffffffffffe ∷ []
     ≡ (0xfffffffffffffffd, 0xfffffffd) ∷ (0xfffffffffffffffd, 0xfffffffd) ∷ (3, 3) ∷ []
 unfolding alu
 signed_quotients = refl
 
 -- by zero, and the least numbers of 64 and of 32 bits by -1
-pub signed_quotients_at_the_edge : both SignedDiv 7 0 ∷ both SignedDiv least minus_one ∷ both SignedDiv word_least minus_one ∷ []
+pub signed_quotients_at_the_edge : both SignedDiv 7 0 ∷ both SignedDiv least minus_one
+    ∷ both SignedDiv word_least minus_one ∷ []
     ≡ (0, 0) ∷ (least, 0) ∷ (0xffffffff80000000, word_least) ∷ []
 unfolding alu
 signed_quotients_at_the_edge = refl
@@ -73,12 +77,14 @@ unfolding alu
 remainders = refl
 
 -- the remainder has the dividend's sign: of -13 by 3, 13 by -3 and -13 by -3
-pub signed_remainders : both SignedMod 0xfffffffffffffff3 3 ∷ both SignedMod 13 0xfffffffffffffffd ∷ both SignedMod 0xfffffffffffffff3 0xfffffffffffffffd ∷ []
+pub signed_remainders : both SignedMod 0xfffffffffffffff3 3 ∷ both SignedMod 13 0xfffffffffffffffd
+    ∷ both SignedMod 0xfffffffffffffff3 0xfffffffffffffffd ∷ []
     ≡ (minus_one, 0xffffffff) ∷ (1, 1) ∷ (minus_one, 0xffffffff) ∷ []
 unfolding alu
 signed_remainders = refl
 
-pub signed_remainders_at_the_edge : both SignedMod minus_one 0 ∷ both SignedMod least minus_one ∷ both SignedMod word_least minus_one ∷ []
+pub signed_remainders_at_the_edge : both SignedMod minus_one 0 ∷ both SignedMod least minus_one
+    ∷ both SignedMod word_least minus_one ∷ []
     ≡ (minus_one, 0xffffffff) ∷ (0, 0) ∷ (0, 0) ∷ []
 unfolding alu
 signed_remainders_at_the_edge = refl
@@ -89,7 +95,8 @@ pub bits : both Or 12 10 ∷ both And 12 10 ∷ both Xor 12 10 ∷ []
 unfolding alu
 bits = refl
 
-pub high_bits : both Or word_end 1 ∷ both And minus_one 0x300000003 ∷ both Xor minus_one word_end ∷ []
+pub high_bits : both Or word_end 1 ∷ both And minus_one 0x300000003 ∷ both Xor minus_one word_end
+    ∷ []
     ≡ (0x100000001, 1) ∷ (0x300000003, 3) ∷ (0xfffffffeffffffff, 0xffffffff) ∷ []
 unfolding alu
 high_bits = refl
@@ -116,34 +123,41 @@ pub moves : both Mov 5 0x900000007 ≡ (0x900000007, 7)
 unfolding alu
 moves = refl
 
-pub negations : negated Full64 1 ∷ negated Low32 1 ∷ negated Full64 least ∷ negated Low32 word_least ∷ negated Low32 word_end ∷ negated Full64 0 ∷ []
+pub negations : negated Full64 1 ∷ negated Low32 1 ∷ negated Full64 least ∷ negated Low32 word_least
+    ∷ negated Low32 word_end ∷ negated Full64 0 ∷ []
     ≡ minus_one ∷ 0xffffffff ∷ least ∷ word_least ∷ 0 ∷ 0 ∷ []
 unfolding alu
 negations = refl
 
-pub atomic_operations : map (λ op. alu (atomic_alu op) Full64 12 10) (atomic.Add ∷ atomic.Or ∷ atomic.And ∷ atomic.Xor ∷ [])
+pub atomic_operations : map (λ op. alu (atomic_alu op) Full64 12 10)
+    (atomic.Add ∷ atomic.Or ∷ atomic.And ∷ atomic.Xor ∷ [])
     ≡ 22 ∷ 14 ∷ 8 ∷ 6 ∷ []
 unfolding alu
 atomic_operations = refl
 
 -- ---- two's complement
 
-pub signs : signed Full64 minus_one ∷ signed Full64 least ∷ signed Low32 0x7fffffff ∷ signed Low32 word_least ∷ []
+pub signs : signed Full64 minus_one ∷ signed Full64 least ∷ signed Low32 0x7fffffff
+    ∷ signed Low32 word_least ∷ []
     ≡ negsuc 0 ∷ negsuc 0x7fffffffffffffff ∷ pos 0x7fffffff ∷ negsuc 0x7fffffff ∷ []
 signs = refl
 
 -- `imm` as the right operand
-pub constants : unsigned Full64 (negsuc 1) ∷ unsigned Low32 (negsuc 1) ∷ unsigned Full64 (pos 7) ∷ []
+pub constants : unsigned Full64 (negsuc 1) ∷ unsigned Low32 (negsuc 1) ∷ unsigned Full64 (pos 7)
+    ∷ []
     ≡ 0xfffffffffffffffe ∷ 0xfffffffe ∷ 7 ∷ []
 constants = refl
 
--- from the low 8, 16 and 32 bits, what is above them aside; a 32-bit result has an upper half of zeros
-pub extensions_of_negative_numbers : map (λ e. sign_extended e 0x5080f080) (Low8 ∷ Full8 ∷ Low16 ∷ Full16 ∷ [])
+-- from the low 8, 16 and 32 bits, what is above them aside;
+-- a 32-bit result has an upper half of zeros
+pub extensions_of_negative_numbers : map (λ e. sign_extended e 0x5080f080)
+    (Low8 ∷ Full8 ∷ Low16 ∷ Full16 ∷ [])
     ≡ 0xffffff80 ∷ 0xffffffffffffff80 ∷ 0xfffff080 ∷ 0xfffffffffffff080 ∷ []
 unfolding sign_extended
 extensions_of_negative_numbers = refl
 
-pub extensions_of_positive_numbers : map (λ e. sign_extended e 0xffff70807f7f) (Low8 ∷ Full8 ∷ Low16 ∷ Full16 ∷ Full32 ∷ [])
+pub extensions_of_positive_numbers : map (λ e. sign_extended e 0xffff70807f7f)
+    (Low8 ∷ Full8 ∷ Low16 ∷ Full16 ∷ Full32 ∷ [])
     ≡ 0x7f ∷ 0x7f ∷ 0x7f7f ∷ 0x7f7f ∷ 0x70807f7f ∷ []
 unfolding sign_extended
 extensions_of_positive_numbers = refl
@@ -173,7 +187,8 @@ pub bytes_of_a_number : map (λ size. bytes_of size 0x0102030405060708) (U8 ∷ 
     ≡ (8 ∷ []) ∷ (8 ∷ 7 ∷ []) ∷ (8 ∷ 7 ∷ 6 ∷ 5 ∷ []) ∷ (8 ∷ 7 ∷ 6 ∷ 5 ∷ 4 ∷ 3 ∷ 2 ∷ 1 ∷ []) ∷ []
 bytes_of_a_number = refl
 
-pub number_of_bytes : map number_from ((8 ∷ []) ∷ (8 ∷ 7 ∷ []) ∷ (8 ∷ 7 ∷ 6 ∷ 5 ∷ []) ∷ (8 ∷ 7 ∷ 6 ∷ 5 ∷ 4 ∷ 3 ∷ 2 ∷ 1 ∷ []) ∷ [])
+pub number_of_bytes : map number_from
+    ((8 ∷ []) ∷ (8 ∷ 7 ∷ []) ∷ (8 ∷ 7 ∷ 6 ∷ 5 ∷ []) ∷ (8 ∷ 7 ∷ 6 ∷ 5 ∷ 4 ∷ 3 ∷ 2 ∷ 1 ∷ []) ∷ [])
     ≡ 8 ∷ 0x0708 ∷ 0x05060708 ∷ 0x0102030405060708 ∷ []
 number_of_bytes = refl
 
@@ -191,7 +206,8 @@ signed_comparisons = SignedGreater ∷ SignedGreaterEqual ∷ SignedLess ∷ Sig
 
 -- 6 and 6: equal, and with bits in common
 pub equal_numbers : map (both_hold 6 6) unsigned_comparisons
-    ≡ (true, true) ∷ (false, false) ∷ (false, false) ∷ (true, true) ∷ (false, false) ∷ (true, true) ∷ (true, true) ∷ []
+    ≡ (true, true) ∷ (false, false) ∷ (false, false) ∷ (true, true) ∷ (false, false) ∷ (true, true)
+    ∷ (true, true) ∷ []
 unfolding holds
 equal_numbers = refl
 
@@ -202,7 +218,8 @@ equal_numbers_with_signs = refl
 
 -- -1 and 0: above without signs, below with them, and no bit in common
 pub minus_one_and_zero : map (both_hold minus_one 0) unsigned_comparisons
-    ≡ (false, false) ∷ (true, true) ∷ (true, true) ∷ (true, true) ∷ (false, false) ∷ (false, false) ∷ (false, false) ∷ []
+    ≡ (false, false) ∷ (true, true) ∷ (true, true) ∷ (true, true) ∷ (false, false) ∷ (false, false)
+    ∷ (false, false) ∷ []
 unfolding holds
 minus_one_and_zero = refl
 
@@ -213,12 +230,14 @@ minus_one_and_zero_with_signs = refl
 
 -- 2^32 and 1: above at 64 bits, below at 32
 pub halves_differ : map (both_hold word_end 1) unsigned_comparisons
-    ≡ (false, false) ∷ (true, true) ∷ (true, false) ∷ (true, false) ∷ (false, true) ∷ (false, true) ∷ (false, false) ∷ []
+    ≡ (false, false) ∷ (true, true) ∷ (true, false) ∷ (true, false) ∷ (false, true) ∷ (false, true)
+    ∷ (false, false) ∷ []
 unfolding holds
 halves_differ = refl
 
 -- 2^32 and 0 are equal at 32 bits, and 2^32 has a bit in common with itself at 64 only
-pub low_halves_are_equal : holds Equal Low32 word_end 0 ∷ holds NotEqual Low32 word_end 0 ∷ holds AnyBit Full64 word_end word_end ∷ holds AnyBit Low32 word_end word_end ∷ []
+pub low_halves_are_equal : holds Equal Low32 word_end 0 ∷ holds NotEqual Low32 word_end 0
+    ∷ holds AnyBit Full64 word_end word_end ∷ holds AnyBit Low32 word_end word_end ∷ []
     ≡ true ∷ false ∷ true ∷ false ∷ []
 unfolding holds
 low_halves_are_equal = refl

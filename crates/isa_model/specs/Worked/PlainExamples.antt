@@ -20,7 +20,9 @@ use Rattle.isa_model.specs.Worked.WorkedLaws.{of_each, ahead, IsWhole-tested, Ar
 -- r0 = 0x100000002 ll; w1 = 0; w0 %= w1; exit
 abbrev pub modulo_by_zero : Program
 modulo_by_zero = record {
-  insns = slots (insn.LoadNumber R0 0x100000002 ∷ insn.Alu Low32 Mov R1 (Constant (pos 0)) ∷ insn.Alu Low32 Mod R0 (Register R1) ∷ insn.Exit ∷ []);
+  insns =
+      slots (insn.LoadNumber R0 0x100000002 ∷ insn.Alu Low32 Mov R1 (Constant (pos 0))
+      ∷ insn.Alu Low32 Mod R0 (Register R1) ∷ insn.Exit ∷ []);
   maps = [];
   version = One;
 }
@@ -31,19 +33,31 @@ modulo_by_zero_is_plain = record {
   whole = IsWhole-tested modulo_by_zero (0 ∷ 0 ∷ 0 ∷ 2 ∷ 3 ∷ []) refl refl;
   forward = record { forward = ahead modulo_by_zero refl; few = omega arith };
   own = never_written modulo_by_zero refl;
-  written = AreWritten-tested modulo_by_zero [] ([] ∷ [] ∷ (R0 ∷ []) ∷ (R0 ∷ R1 ∷ []) ∷ (R0 ∷ R1 ∷ []) ∷ []) refl refl refl;
+  written =
+      AreWritten-tested modulo_by_zero []
+      ([] ∷ [] ∷ (R0 ∷ []) ∷ (R0 ∷ R1 ∷ []) ∷ (R0 ∷ R1 ∷ []) ∷ []) refl refl refl;
 }
 
 -- ---- two ways that meet
 
 -- if w2 != 7 goto +3
 abbrev pub other_way : Insn
-other_way = insn.JumpIf (record { width = Low32; comparison = NotEqual; register = R2; operand = Constant (pos 7) }) (pos 3)
+other_way =
+    insn.JumpIf (record {
+      width = Low32;
+      comparison = NotEqual;
+      register = R2;
+      operand = Constant
+          (pos 7);
+    }) (pos 3)
 
--- r2 = 7; if w2 != 7 goto +3; r0 = 0x100000002 ll; gotol +1; r0 = 2; if r0 > 9 goto +1; r0 = 3; exit
+-- r2 = 7; if w2 != 7 goto +3; r0 = 0x100000002 ll; gotol +1; r0 = 2; if r0 > 9 goto +1; r0 = 3;
+-- exit
 abbrev pub two_ways : Program
 two_ways = record {
-  insns = slots (set R2 (pos 7) ∷ other_way ∷ insn.LoadNumber R0 0x100000002 ∷ insn.JumpLong (pos 1) ∷ set R0 (pos 2) ∷ if_constant Greater R0 (pos 9) (pos 1) ∷ set R0 (pos 3) ∷ insn.Exit ∷ []);
+  insns =
+      slots (set R2 (pos 7) ∷ other_way ∷ insn.LoadNumber R0 0x100000002 ∷ insn.JumpLong (pos 1)
+      ∷ set R0 (pos 2) ∷ if_constant Greater R0 (pos 9) (pos 1) ∷ set R0 (pos 3) ∷ insn.Exit ∷ []);
   maps = [];
   version = One;
 }
@@ -51,9 +65,13 @@ two_ways = record {
 -- the ways part at slot 1 and meet at slot 6
 pub two_ways_is_plain : IsPlain two_ways
 two_ways_is_plain = record {
-  forms = of_each two_ways (λ slot i. IsPlainForm i) (tt, (tt, (tt, (tt, (tt, (tt, (tt, (tt, tt))))))));
+  forms =
+      of_each two_ways (λ slot i. IsPlainForm i) (tt, (tt, (tt, (tt, (tt, (tt, (tt, (tt, tt))))))));
   whole = IsWhole-tested two_ways (0 ∷ 0 ∷ 1 ∷ 0 ∷ 2 ∷ 1 ∷ 4 ∷ 6 ∷ 6 ∷ []) refl refl;
   forward = record { forward = ahead two_ways refl; few = omega arith };
   own = never_written two_ways refl;
-  written = AreWritten-tested two_ways [] ([] ∷ (R2 ∷ []) ∷ [] ∷ [] ∷ (R0 ∷ []) ∷ [] ∷ (R0 ∷ []) ∷ (R0 ∷ []) ∷ (R0 ∷ []) ∷ []) refl refl refl;
+  written =
+      AreWritten-tested two_ways []
+      ([] ∷ (R2 ∷ []) ∷ [] ∷ [] ∷ (R0 ∷ []) ∷ [] ∷ (R0 ∷ []) ∷ (R0 ∷ []) ∷ (R0 ∷ []) ∷ []) refl refl
+      refl;
 }

@@ -34,20 +34,37 @@ half_in_body : IsBodyForm 14 half_loaded
 half_in_body = (tt, refl, (0, refl, omega arith))
 
 -- r2 = *(u32 *)(r1 + 0); r3 = *(u32 *)(r1 + 4); r4 = r2; r4 += 14; if r4 > r3 goto +5;
--- r5 = *(s32 *)(r2 + 10); r0 = *(s8 *)(r2 + 13); if r0 s> r5 goto +1; r0 = *(s16 *)(r2 + 0); exit; r0 = 1; exit
+-- r5 = *(s32 *)(r2 + 10); r0 = *(s8 *)(r2 + 13); if r0 s> r5 goto +1; r0 = *(s16 *)(r2 + 0); exit;
+-- r0 = 1; exit
 abbrev pub signed_loads : Program
 signed_loads = record {
-  insns = slots (insn.Load U32 R2 (above R1 0) ∷ insn.Load U32 R3 (above R1 4) ∷ copy R4 R2 ∷ add R4 (pos 14) ∷ if_register Greater R4 R3 (pos 5)
-      ∷ word_loaded ∷ byte_loaded ∷ if_register SignedGreater R0 R5 (pos 1) ∷ half_loaded ∷ insn.Exit
+  insns =
+      slots (insn.Load U32 R2 (above R1 0) ∷ insn.Load U32 R3 (above R1 4) ∷ copy R4 R2
+      ∷ add R4 (pos 14) ∷ if_register Greater R4 R3 (pos 5)
+      ∷ word_loaded ∷ byte_loaded ∷ if_register SignedGreater R0 R5 (pos 1) ∷ half_loaded
+      ∷ insn.Exit
       ∷ set R0 (pos 1) ∷ insn.Exit ∷ []);
   maps = [];
   version = One;
 }
 
 -- the instructions of the slots from 5 to 9
-in_body : (slot : ℕ) (i : Insn) → fetch signed_loads slot ≡ Some i → Where (nat_le 5 slot && nat_lt slot 10) (IsBodyForm 14 i)
-in_body = of_each signed_loads (λ slot i. Where (nat_le 5 slot && nat_lt slot 10) (IsBodyForm 14 i))
-    (tt, (tt, (tt, (tt, (tt, (word_in_body, (byte_in_body, ((tt, tt), (half_in_body, (tt, (tt, (tt, tt))))))))))))
+in_body : (slot : ℕ) (i : Insn) → fetch signed_loads slot ≡ Some i
+    → Where (nat_le 5 slot && nat_lt slot 10) (IsBodyForm 14 i)
+in_body = of_each signed_loads
+    (λ slot i. Where (nat_le 5 slot && nat_lt slot 10) (IsBodyForm 14 i)) (
+      tt,
+      (
+        tt,
+        (
+          tt,
+          (
+            tt,
+            (tt, (word_in_body, (byte_in_body, ((tt, tt), (half_in_body, (tt, (tt, (tt, tt)))))))),
+          ),
+        ),
+      ),
+    )
 
 between : (slot : ℕ) → 5 ≤ slot → slot < 10 → (nat_le 5 slot && nat_lt slot 10) ≡ true
 between slot behind before = grind (arith, nat_tests, behind, before)
@@ -69,10 +86,14 @@ signed_loads_is_guarded = record {
   answers = refl;
   exits = refl;
   ends = refl;
-  body = λ slot i behind before here. of_where (IsBodyForm 14 i) (nat_le 5 slot && nat_lt slot 10) (in_body slot i here) (between slot behind before);
-  whole = IsWhole-tested signed_loads (0 ∷ 0 ∷ 1 ∷ 2 ∷ 3 ∷ 4 ∷ 5 ∷ 6 ∷ 7 ∷ 8 ∷ 4 ∷ 10 ∷ []) refl refl;
+  body =
+      λ slot i behind before here. of_where (IsBodyForm 14 i) (nat_le 5 slot && nat_lt slot 10)
+      (in_body slot i here) (between slot behind before);
+  whole =
+      IsWhole-tested signed_loads (0 ∷ 0 ∷ 1 ∷ 2 ∷ 3 ∷ 4 ∷ 5 ∷ 6 ∷ 7 ∷ 8 ∷ 4 ∷ 10 ∷ []) refl refl;
   forward = record { forward = ahead signed_loads refl; few = omega arith };
   written = AreWritten-tested signed_loads (R1 ∷ [])
-      ([] ∷ (R2 ∷ []) ∷ (R2 ∷ R3 ∷ []) ∷ (R2 ∷ R3 ∷ R4 ∷ []) ∷ (R2 ∷ R3 ∷ R4 ∷ []) ∷ (R2 ∷ []) ∷ (R2 ∷ R5 ∷ []) ∷ (R2 ∷ R0 ∷ R5 ∷ []) ∷ (R2 ∷ []) ∷ (R0 ∷ []) ∷ [] ∷ (R0 ∷ []) ∷ [])
+      ([] ∷ (R2 ∷ []) ∷ (R2 ∷ R3 ∷ []) ∷ (R2 ∷ R3 ∷ R4 ∷ []) ∷ (R2 ∷ R3 ∷ R4 ∷ []) ∷ (R2 ∷ [])
+      ∷ (R2 ∷ R5 ∷ []) ∷ (R2 ∷ R0 ∷ R5 ∷ []) ∷ (R2 ∷ []) ∷ (R0 ∷ []) ∷ [] ∷ (R0 ∷ []) ∷ [])
       refl refl refl;
 }

@@ -1,4 +1,5 @@
--- Laws for worked examples: what holds of a whole program, by tests of each of its instructions that are computed.
+-- Laws for worked examples: what holds of a whole program, by tests of each of its instructions
+-- that are computed.
 use Rattle.std.specs.Prelude.{◌≡◌, ◌≢◌, ℕ, zero, suc, ◌+◌, ◌<◌, ◌⊎◌, ℤ, Bool, true, false, not, ◌||◌, ◌&&◌, ◌==◌, nat_lt, is_some, IsSome, Option, Some, None, List, [], ◌∷◌, ◌++◌, slice_get, slice_index_or, refl}
 use Rattle.std.specs.Option.{option_flatten}
 use Rattle.std.specs.List.{list_any}
@@ -25,18 +26,23 @@ EachFrom P n (Some i ∷ os) = P n i × EachFrom P (suc n) os
 abbrev pub EachInsn : Program → (ℕ → Insn → Type 0) → Type 0
 EachInsn p P = EachFrom P 0 p.insns
 
-from_each : (P : ℕ → Insn → Type 0) (n : ℕ) (os : List (Option Insn)) → EachFrom P n os → (slot : ℕ) (i : Insn) → option_flatten (slice_get os slot) ≡ Some i → P (n + slot) i
+from_each : (P : ℕ → Insn → Type 0) (n : ℕ) (os : List (Option Insn)) → EachFrom P n os
+    → (slot : ℕ) (i : Insn) → option_flatten (slice_get os slot) ≡ Some i → P (n + slot) i
 from_each P n [] h slot i here = absurd (cc)
 from_each P n (None ∷ os) h zero i here = absurd (cc)
-from_each P n (None ∷ os) h (suc slot) i here = let at : suc n + slot ≡ n + suc slot = omega arith in subst (λ f. P f i) at (from_each P (suc n) os h slot i here)
+from_each P n (None ∷ os) h (suc slot) i here = let at : suc n + slot
+    ≡ n + suc slot = omega arith in subst (λ f. P f i) at (from_each P (suc n) os h slot i here)
 from_each P n (Some j ∷ os) h zero i here =
     let same : j ≡ i = cc in
     let at : n ≡ n + 0 = omega arith in
     subst (λ f. P f i) at (subst (P n) same h.0)
-from_each P n (Some j ∷ os) h (suc slot) i here = let at : suc n + slot ≡ n + suc slot = omega arith in subst (λ f. P f i) at (from_each P (suc n) os h.1 slot i here)
+from_each P n (Some j ∷ os) h (suc slot) i here = let at : suc n + slot
+    ≡ n + suc slot = omega arith in subst (λ f. P f i) at (from_each P (suc n) os h.1 slot i here)
 
-pub of_each : (p : Program) (P : ℕ → Insn → Type 0) → EachInsn p P → (slot : ℕ) (i : Insn) → fetch p slot ≡ Some i → P slot i
-of_each p P h slot i here = let at : 0 + slot ≡ slot = omega arith in subst (λ f. P f i) at (from_each P 0 p.insns h slot i here)
+pub of_each : (p : Program) (P : ℕ → Insn → Type 0) → EachInsn p P → (slot : ℕ) (i : Insn)
+    → fetch p slot ≡ Some i → P slot i
+of_each p P h slot i here = let at : 0 + slot
+    ≡ slot = omega arith in subst (λ f. P f i) at (from_each P 0 p.insns h slot i here)
 
 -- the same by a test
 abbrev pub all_from : (ℕ → Insn → Bool) → ℕ → List (Option Insn) → Bool
@@ -47,14 +53,16 @@ all_from test n (Some i ∷ os) = test n i && all_from test (suc n) os
 abbrev pub all_insns : Program → (ℕ → Insn → Bool) → Bool
 all_insns p test = all_from test 0 p.insns
 
-each_from_all : (test : ℕ → Insn → Bool) (n : ℕ) (os : List (Option Insn)) → all_from test n os ≡ true → EachFrom (λ slot i. test slot i ≡ true) n os
+each_from_all : (test : ℕ → Insn → Bool) (n : ℕ) (os : List (Option Insn))
+    → all_from test n os ≡ true → EachFrom (λ slot i. test slot i ≡ true) n os
 each_from_all test n [] h = tt
 each_from_all test n (None ∷ os) h = each_from_all test (suc n) os h
 each_from_all test n (Some i ∷ os) h =
     let (here, rest) = and_parts (test n i) (all_from test (suc n) os) h in
     (here, each_from_all test (suc n) os rest)
 
-pub of_all : (p : Program) (test : ℕ → Insn → Bool) → all_insns p test ≡ true → (slot : ℕ) (i : Insn) → fetch p slot ≡ Some i → test slot i ≡ true
+pub of_all : (p : Program) (test : ℕ → Insn → Bool) → all_insns p test ≡ true
+    → (slot : ℕ) (i : Insn) → fetch p slot ≡ Some i → test slot i ≡ true
 of_all p test h = of_each p (λ slot i. test slot i ≡ true) (each_from_all test 0 p.insns h)
 
 -- of the instructions whose slots pass
@@ -78,31 +86,44 @@ jump_passes test p slot None = true
 jump_passes test p slot (Some by) = test (destination p slot by)
 
 abbrev pub next_passes : (ℕ → Bool) → Program → ℕ → Insn → Bool
-next_passes test p slot i = fall_passes test (falls_through i) (slot + slots_of i) && jump_passes test p slot (jump_distance i)
+next_passes test p slot i = fall_passes test (falls_through i) (slot + slots_of i)
+    && jump_passes test p slot (jump_distance i)
 
-on_fall : (test : ℕ → Bool) (falls : Bool) (next : ℕ) → fall_passes test falls next ≡ true → falls ≡ true → test next ≡ true
+on_fall : (test : ℕ → Bool) (falls : Bool) (next : ℕ) → fall_passes test falls next ≡ true
+    → falls ≡ true → test next ≡ true
 on_fall test true next h is = h
 on_fall test false next h is = absurd (cc)
 
-on_jump : (test : ℕ → Bool) (p : Program) (slot : ℕ) (distance : Option ℤ) (by : ℤ) → jump_passes test p slot distance ≡ true → distance ≡ Some by → test (destination p slot by) ≡ true
+on_jump : (test : ℕ → Bool) (p : Program) (slot : ℕ) (distance : Option ℤ) (by : ℤ)
+    → jump_passes test p slot distance ≡ true → distance ≡ Some by
+    → test (destination p slot by) ≡ true
 on_jump test p slot None by h is = absurd (cc)
-on_jump test p slot (Some z) by h is = let same : z ≡ by = cc in subst (λ d. test (destination p slot d) ≡ true) same h
+on_jump test p slot (Some z) by h is =
+    let same : z ≡ by = cc in subst (λ d. test (destination p slot d) ≡ true) same h
 
-on_next : (test : ℕ → Bool) (p : Program) (slot : ℕ) (i : Insn) (next : ℕ) → next_passes test p slot i ≡ true → FallsTo slot i next ⊎ JumpsTo p slot i next → test next ≡ true
+on_next : (test : ℕ → Bool) (p : Program) (slot : ℕ) (i : Insn) (next : ℕ)
+    → next_passes test p slot i ≡ true → FallsTo slot i next ⊎ JumpsTo p slot i next
+    → test next ≡ true
 on_next test p slot i next h (inl falls) =
-    let (fall, jump) = and_parts (fall_passes test (falls_through i) (slot + slots_of i)) (jump_passes test p slot (jump_distance i)) h in
+    let (fall, jump) = and_parts (fall_passes test (falls_through i) (slot + slots_of i))
+    (jump_passes test p slot (jump_distance i)) h in
     ap test falls.1 ∙ on_fall test (falls_through i) (slot + slots_of i) fall falls.0
 on_next test p slot i next h (inr jumps) =
-    let (fall, jump) = and_parts (fall_passes test (falls_through i) (slot + slots_of i)) (jump_passes test p slot (jump_distance i)) h in
+    let (fall, jump) = and_parts (fall_passes test (falls_through i) (slot + slots_of i))
+    (jump_passes test p slot (jump_distance i)) h in
     ap test jumps.2 ∙ on_jump test p slot (jump_distance i) jumps.0 jump jumps.1
 
 -- jumps lead ahead
 abbrev pub goes_ahead : Program → Bool
-goes_ahead p = all_insns p (λ slot i. jump_passes (λ next. nat_lt slot next) p slot (jump_distance i))
+goes_ahead p =
+    all_insns p (λ slot i. jump_passes (λ next. nat_lt slot next) p slot (jump_distance i))
 
-pub ahead : (p : Program) → goes_ahead p ≡ true → (slot : ℕ) (i : Insn) (by : ℤ) → fetch p slot ≡ Some i → jump_distance i ≡ Some by → slot < destination p slot by
+pub ahead : (p : Program) → goes_ahead p ≡ true → (slot : ℕ) (i : Insn) (by : ℤ)
+    → fetch p slot ≡ Some i → jump_distance i ≡ Some by → slot < destination p slot by
 ahead p h slot i by here jump =
-    let passes = on_jump (λ next. nat_lt slot next) p slot (jump_distance i) by (of_all p (λ f x. jump_passes (λ next. nat_lt f next) p f (jump_distance x)) h slot i here) jump in
+    let passes = on_jump (λ next. nat_lt slot next) p slot (jump_distance i) by
+    (of_all p (λ f x. jump_passes (λ next. nat_lt f next) p f (jump_distance x)) h slot i here)
+    jump in
     grind (arith, nat_tests, passes)
 
 -- ---- every instruction is reached
@@ -120,7 +141,9 @@ follows p from (Some i) slot = falls_to from i slot || jumps_to p from (jump_dis
 
 -- the first slot, or one that follows the earlier one of a list that has one for each slot
 abbrev pub is_entered : Program → List ℕ → ℕ → Bool
-is_entered p froms slot = (slot == 0) || (nat_lt (slice_index_or froms slot 0) slot && follows p (slice_index_or froms slot 0) (fetch p (slice_index_or froms slot 0)) slot)
+is_entered p froms slot = (slot == 0)
+    || (nat_lt (slice_index_or froms slot 0) slot
+    && follows p (slice_index_or froms slot 0) (fetch p (slice_index_or froms slot 0)) slot)
 
 either : (a b : Bool) → (a || b) ≡ true → (a ≡ true) ⊎ (b ≡ true)
 either true b h = inl refl
@@ -129,11 +152,14 @@ either false b h = inr h
 equal : (a b : ℕ) → (a == b) ≡ true → a ≡ b
 equal a b h = grind (arith, nat_tests, h)
 
-jumps : (p : Program) (from : ℕ) (distance : Option ℤ) (slot : ℕ) → jumps_to p from distance slot ≡ true → (by : ℤ) × (distance ≡ Some by) × (slot ≡ destination p from by)
+jumps : (p : Program) (from : ℕ) (distance : Option ℤ) (slot : ℕ)
+    → jumps_to p from distance slot ≡ true
+    → (by : ℤ) × (distance ≡ Some by) × (slot ≡ destination p from by)
 jumps p from None slot h = absurd (cc)
 jumps p from (Some by) slot h = (by, refl, equal slot (destination p from by) h)
 
-follows_by : (p : Program) (from : ℕ) (o : Option Insn) (slot : ℕ) → follows p from o slot ≡ true → (i : Insn) × (o ≡ Some i) × (FallsTo from i slot ⊎ JumpsTo p from i slot)
+follows_by : (p : Program) (from : ℕ) (o : Option Insn) (slot : ℕ) → follows p from o slot ≡ true
+    → (i : Insn) × (o ≡ Some i) × (FallsTo from i slot ⊎ JumpsTo p from i slot)
 follows_by p from None slot h = absurd (cc)
 follows_by p from (Some i) slot h =
     elim (either (falls_to from i slot) (jumps_to p from (jump_distance i) slot) h) [
@@ -147,30 +173,39 @@ some_insn : (o : Option Insn) → IsSome o → (i : Insn) × (o ≡ Some i)
 some_insn (Some i) h = (i, refl)
 some_insn None h = absurd (cc)
 
-path : (p : Program) (froms : List ℕ) → all_insns p (λ slot i. is_entered p froms slot) ≡ true → (limit slot : ℕ) → slot < limit → IsSome (fetch p slot)
+path : (p : Program) (froms : List ℕ) → all_insns p (λ slot i. is_entered p froms slot) ≡ true
+    → (limit slot : ℕ) → slot < limit → IsSome (fetch p slot)
     → (n : ℕ) × (written : List Reg) × PathTo p n slot written
 unfolding PathTo
 path p froms entered zero slot below begins = absurd (omega arith)
 path p froms entered (suc limit) slot below begins =
     let (i, here) = some_insn (fetch p slot) begins in
     let from = slice_index_or froms slot 0 in
-    elim (either (slot == 0) (nat_lt from slot && follows p from (fetch p from) slot) (of_all p (λ f x. is_entered p froms f) entered slot i here)) [
+    elim (either (slot == 0) (nat_lt from slot && follows p from (fetch p from) slot)
+    (of_all p (λ f x. is_entered p froms f) entered slot i here)) [
       | inl first ↦ (0, [], (equal slot 0 first, refl))
       | inr behind ↦
-          let (earlier, on) = and_parts (nat_lt from slot) (follows p from (fetch p from) slot) behind in
+          let (earlier, on) = and_parts (nat_lt from slot)
+          (follows p from (fetch p from) slot) behind in
           let before : from < slot = grind (arith, nat_tests, earlier) in
           let (j, there, leads) = follows_by p from (fetch p from) slot on in
-          let to = path p froms entered limit from (omega (arith, below, before)) (subst (λ (o : Option Insn). IsSome o) (sym there) refl) in
+          let to = path p froms entered limit from (omega (arith, below, before))
+          (subst (λ (o : Option Insn). IsSome o) (sym there) refl) in
           (suc to.0, written_too (writes j) to.1, (from, to.1, j, to.2, there, leads, refl))
     ]
 
 abbrev pub stays_inside : Program → Bool
 stays_inside p = all_insns p (next_passes (λ slot. is_some (fetch p slot)) p)
 
-pub IsWhole-tested : (p : Program) (froms : List ℕ) → stays_inside p ≡ true → all_insns p (λ slot i. is_entered p froms slot) ≡ true → IsWhole p
+pub IsWhole-tested : (p : Program) (froms : List ℕ) → stays_inside p ≡ true
+    → all_insns p (λ slot i. is_entered p froms slot) ≡ true → IsWhole p
 IsWhole-tested p froms inside entered = record {
-  jumps = λ slot i by here jump. on_next begins p slot i (destination p slot by) (of_all p (next_passes begins p) inside slot i here) (inr (by, jump, refl));
-  falls = λ slot i here falls. on_next begins p slot i (slot + slots_of i) (of_all p (next_passes begins p) inside slot i here) (inl (falls, refl));
+  jumps =
+      λ slot i by here jump. on_next begins p slot i (destination p slot by)
+      (of_all p (next_passes begins p) inside slot i here) (inr (by, jump, refl));
+  falls =
+      λ slot i here falls. on_next begins p slot i (slot + slots_of i)
+      (of_all p (next_passes begins p) inside slot i here) (inl (falls, refl));
   reached = λ slot begins. path p froms entered (suc slot) slot (omega arith) begins;
 } where
   begins : ℕ → Bool
@@ -208,7 +243,8 @@ names_each rs (q ∷ qs) = names rs q && names_each rs qs
 is_one_of : (rs : List Reg) (r : Reg) → names rs r ≡ true → IsOneOf rs r
 is_one_of [] r h = absurd (cc)
 is_one_of (q ∷ rs) r h =
-    elim (either (reg_number q == reg_number r) (names rs r) h) [ inl here ↦ inl (sym (same_reg q r here)) | inr rest ↦ inr (is_one_of rs r rest) ]
+    elim (either (reg_number q == reg_number r) (names rs r) h)
+    [ inl here ↦ inl (sym (same_reg q r here)) | inr rest ↦ inr (is_one_of rs r rest) ]
 
 are_of : (rs qs : List Reg) → names_each rs qs ≡ true → Each (IsOneOf rs) qs
 are_of rs [] h = tt
@@ -225,12 +261,14 @@ each_more : (P Q : Reg → Type 0) (rs : List Reg) → ((r : Reg) → P r → Q 
 each_more P Q [] f h = tt
 each_more P Q (r ∷ rs) f h = (f r h.0, each_more P Q rs f h.1)
 
-behind : (given xs ys : List Reg) (r : Reg) → Each (IsOneOf ys) xs → IsOneOf (given ++ xs) r → IsOneOf (given ++ ys) r
+behind : (given xs ys : List Reg) (r : Reg) → Each (IsOneOf ys) xs → IsOneOf (given ++ xs) r
+    → IsOneOf (given ++ ys) r
 behind [] xs ys r h one = among (IsOneOf ys) xs r h one
 behind (q ∷ given) xs ys r h (inl same) = inl same
 behind (q ∷ given) xs ys r h (inr rest) = inr (behind given xs ys r h rest)
 
-written_behind : (o : Option Reg) (xs ys : List Reg) (r : Reg) → Each (IsOneOf ys) xs → IsOneOf (written_too o xs) r → IsOneOf (written_too o ys) r
+written_behind : (o : Option Reg) (xs ys : List Reg) (r : Reg) → Each (IsOneOf ys) xs
+    → IsOneOf (written_too o xs) r → IsOneOf (written_too o ys) r
 written_behind None xs ys r h one = behind [] xs ys r h one
 written_behind (Some q) xs ys r h one = behind (q ∷ []) xs ys r h one
 
@@ -239,40 +277,54 @@ abbrev pub sure_at : List (List Reg) → ℕ → List Reg
 sure_at sure slot = slice_index_or sure slot []
 
 abbrev pub stays_sure : Program → List (List Reg) → ℕ → Insn → Bool
-stays_sure p sure slot i = next_passes (λ next. names_each (written_too (writes i) (sure_at sure slot)) (sure_at sure next)) p slot i
+stays_sure p sure slot i =
+    next_passes (λ next. names_each (written_too (writes i) (sure_at sure slot))
+    (sure_at sure next)) p slot i
 
-known_at : (p : Program) (sure : List (List Reg)) → sure_at sure 0 ≡ [] → all_insns p (stays_sure p sure) ≡ true → (n slot : ℕ) (written : List Reg) → PathTo p n slot written
+known_at : (p : Program) (sure : List (List Reg)) → sure_at sure 0 ≡ []
+    → all_insns p (stays_sure p sure) ≡ true → (n slot : ℕ) (written : List Reg)
+    → PathTo p n slot written
     → Each (IsOneOf written) (sure_at sure slot)
 unfolding PathTo
-known_at p sure none stays zero slot written h = subst (λ f. Each (IsOneOf written) (sure_at sure f)) (sym h.0) (subst (λ (rs : List Reg). Each (IsOneOf written) rs) (sym none) tt)
+known_at p sure none stays zero slot written h =
+    subst (λ f. Each (IsOneOf written) (sure_at sure f)) (sym h.0)
+    (subst (λ (rs : List Reg). Each (IsOneOf written) rs) (sym none) tt)
 known_at p sure none stays (suc n) slot written (from, before, i, path, here, on, is) =
     let after = written_too (writes i) (sure_at sure from) in
-    let step = on_next (λ next. names_each after (sure_at sure next)) p from i slot (of_all p (stays_sure p sure) stays from i here) on in
+    let step = on_next (λ next. names_each after (sure_at sure next)) p from i slot
+    (of_all p (stays_sure p sure) stays from i here) on in
     subst (λ (rs : List Reg). Each (IsOneOf rs) (sure_at sure slot)) (sym is)
     (each_more (IsOneOf after) (IsOneOf (written_too (writes i) before)) (sure_at sure slot)
-    (λ r. written_behind (writes i) (sure_at sure from) before r (known_at p sure none stays n from before path)) (are_of after (sure_at sure slot) step))
+    (λ r. written_behind (writes i) (sure_at sure from) before r
+    (known_at p sure none stays n from before path)) (are_of after (sure_at sure slot) step))
 
 abbrev pub has_needed : List Reg → List (List Reg) → ℕ → Insn → Bool
 has_needed given sure slot i = names_each (given ++ sure_at sure slot) (needs i)
 
-pub AreWritten-tested : (p : Program) (given : List Reg) (sure : List (List Reg)) → sure_at sure 0 ≡ [] → all_insns p (stays_sure p sure) ≡ true → all_insns p (has_needed given sure) ≡ true → AreWritten p given
+pub AreWritten-tested : (p : Program) (given : List Reg) (sure : List (List Reg))
+    → sure_at sure 0 ≡ [] → all_insns p (stays_sure p sure) ≡ true
+    → all_insns p (has_needed given sure) ≡ true → AreWritten p given
 AreWritten-tested p given sure none stays needed = λ n slot before i path here.
     each_more (IsOneOf (given ++ sure_at sure slot)) (IsOneOf (given ++ before)) (needs i)
     (λ r. behind given (sure_at sure slot) before r (known_at p sure none stays n slot before path))
-    (are_of (given ++ sure_at sure slot) (needs i) (of_all p (has_needed given sure) needed slot i here))
+    (are_of (given ++ sure_at sure slot) (needs i)
+    (of_all p (has_needed given sure) needed slot i here))
 
 -- ---- registers that are not named
 
 unequal : (q r : Reg) → (reg_number q == reg_number r) ≡ false → q ≢ r
 unequal q r h e =
     let same : (reg_number r == reg_number r) ≡ true = grind (arith, nat_tests) in
-    let other : (reg_number r == reg_number r) ≡ false = subst (λ (x : Reg). (reg_number x == reg_number r) ≡ false) e h in
+    let other : (reg_number r == reg_number r)
+    ≡ false = subst (λ (x : Reg). (reg_number x == reg_number r) ≡ false) e h in
     absurd (cc)
 
 pub is_not_one_of : (r : Reg) (rs : List Reg) → names rs r ≡ false → IsOneOf rs r → ⊥
 is_not_one_of r [] none one = absurd one
-is_not_one_of r (q ∷ rs) none (inl same) = unequal q r (or_parts (reg_number q == reg_number r) (names rs r) none).0 (sym same)
-is_not_one_of r (q ∷ rs) none (inr rest) = is_not_one_of r rs (or_parts (reg_number q == reg_number r) (names rs r) none).1 rest
+is_not_one_of r (q ∷ rs) none (inl same) =
+    unequal q r (or_parts (reg_number q == reg_number r) (names rs r) none).0 (sym same)
+is_not_one_of r (q ∷ rs) none (inr rest) =
+    is_not_one_of r rs (or_parts (reg_number q == reg_number r) (names rs r) none).1 rest
 
 are_others : (r : Reg) (rs : List Reg) → names rs r ≡ false → Each (λ q. q ≢ r) rs
 are_others r [] none = tt
@@ -284,11 +336,18 @@ is_no : (b : Bool) → not b ≡ true → b ≡ false
 is_no true h = absurd (cc)
 is_no false h = refl
 
-pub never_named : (p : Program) (r : Reg) (named : Insn → List Reg) → all_insns p (λ slot i. not (names (named i) r)) ≡ true → (slot : ℕ) (i : Insn) → fetch p slot ≡ Some i → Each (λ q. q ≢ r) (named i)
-never_named p r named h slot i here = are_others r (named i) (is_no (names (named i) r) (of_all p (λ f x. not (names (named x) r)) h slot i here))
+pub never_named : (p : Program) (r : Reg) (named : Insn → List Reg)
+    → all_insns p (λ slot i. not (names (named i) r)) ≡ true → (slot : ℕ) (i : Insn)
+    → fetch p slot ≡ Some i → Each (λ q. q ≢ r) (named i)
+never_named p r named h slot i here =
+    are_others r (named i)
+    (is_no (names (named i) r) (of_all p (λ f x. not (names (named x) r)) h slot i here))
 
-pub never_written : (p : Program) → all_insns p (λ slot i. not (is_frame_pointer (writes i))) ≡ true → (slot : ℕ) (i : Insn) → fetch p slot ≡ Some i → writes i ≢ Some R10
+pub never_written : (p : Program) → all_insns p (λ slot i. not (is_frame_pointer (writes i))) ≡ true
+    → (slot : ℕ) (i : Insn) → fetch p slot ≡ Some i → writes i ≢ Some R10
 never_written p h slot i here is =
-    let other = is_no (is_frame_pointer (writes i)) (of_all p (λ f x. not (is_frame_pointer (writes x))) h slot i here) in
-    let own : is_frame_pointer (Some R10) ≡ false = subst (λ (x : Option Reg). is_frame_pointer x ≡ false) is other in
+    let other = is_no (is_frame_pointer (writes i))
+    (of_all p (λ f x. not (is_frame_pointer (writes x))) h slot i here) in
+    let own : is_frame_pointer (Some R10)
+    ≡ false = subst (λ (x : Option Reg). is_frame_pointer x ≡ false) is other in
     absurd (cc)
