@@ -2,35 +2,75 @@
 """Attacks the verifier rule by rule: sums that wrap and signs mixed, tests of the packet before and after moves, what such
 moves leave proved, copies of a packet pointer that differ by fixed parts, bytes reversed, parts of spilled numbers, signed
 quotients and remainders, pointers overwritten in part, stack slots kept over joins, places that hold one kind of value
-along one way and another along the next, values that are gone, pointers into call frames that have ended, and answers that
-name no action.
+along one way and another along the next, values that are gone, pointers into call frames that have ended, answers that
+name no action, numbers that are what no limit may leave out, and loops that take long or never end.
 
 usage: python3 assurance/attacks.py [PROGRAM] [--programs N] [--seed S] [--jobs J] [--keep FOLDER] [--family NAME]
        [--seconds N] [--library FILE]
 
 N programs of each family are made, as texts. Reported is each that `verify` accepts and `trace` ends with a trap or after
 more steps than the bound, or that `run` and `trace` run differently, each that is refused for what its family does not do,
-and each that takes more than a minute; its text and frames are kept in FOLDER. A line for each family says how many were
-accepted, and why the others were refused. The exit status is 1 if anything was reported. --library is as for fuzz.py.
+each of `witnesses` whose witness `trace` ends without a trap, and each that takes more than a minute; its text and frames
+are kept in FOLDER. Many frames have an interface and a queue near the numbers of the text. A line for each family says how
+many were accepted, and why the others were refused. The exit status is 1 if anything was reported. --library is as for
+fuzz.py.
 """
 import argparse
 import collections
 import os
 import random
+import re
 import sys
 
-from attack_programs import CORNERS, EDGES, FAMILIES, NEVER
+import in_process
+from attack_programs import CORNERS, EDGES, NEVER
+from attack_programs import FAMILIES as RULES
+from attack_witnesses import loops, witness_of, witnesses
 from fuzz import REASONS, differs, record, spread, wait, words_of, written
 
 
-def frames(chance, version):
-    """Frames of many lengths, whose interface and queue are near the edges, small, or any."""
-    out = b"XPF%d" % version
+FAMILIES = {**RULES, "witnesses": witnesses, "loops": loops}
+
+
+def near(lines):
+    """Words near the numbers of a text, and near both halves of long ones."""
+    numbers = {int(number) for number in re.findall(r"(?<!\w)-?\d+", "\n".join(lines))}
+    return sorted({(half + by) % 2**32 for number in numbers for half in (number, number >> 32) for by in (-1, 0, 1)}) or [0]
+
+
+def frames(chance, version, lines):
+    """The witness of a program, if it names one, and frames of many lengths, whose interface and queue are near the edges or
+    the numbers of its text, small, or any."""
+    out, found, numbers = b"XPF%d" % version, witness_of(lines), near(lines)
+    if found:
+        out += record(version, found[0], 0, found[1])
     for length in [0, 1, 3, 4, 7, 8, 14, 15, 16, 22, 23, 24, 31, 40, 300] * 3:
-        some = lambda: [chance.choice(CORNERS), chance.choice(EDGES), chance.randrange(256), chance.randrange(2**32)]
+        some = lambda: [chance.choice(CORNERS), chance.choice(EDGES), chance.randrange(256), chance.randrange(2**32), *chance.choices(numbers, k=2)]
         words = [chance.choice(some()) for _ in range(2)]
         out += record(version, (chance.randrange(2**64), *words), chance.choice(REASONS), bytes(length))
     return out
+
+
+def unwitnessed(run, paths, lines):
+    """What is wrong with the traced run of a program on its witness, which has to end with a trap: None, or a text."""
+    head, body = witness_of(lines)
+    if isinstance(run, in_process.Runner):
+        told = run.library.trace(in_process.read(paths[0]), head, body)
+        return None if told[2] == 1 else f"no trap on the witness: {told}"
+    written(paths[1], b"XPF1" + record(1, head, 0, body))
+    told = run("trace", paths[0], paths[1], paths[2])
+    return None if told.stdout.startswith(b"0 TRAP ") else f"no trap on the witness: {told}"
+
+
+def limited(run, chance, path, verdict):
+    """What is wrong with a verdict within a limit of the caller's, which has to be that without one, if it is any: None, or a
+    text. Only a library takes such a limit."""
+    if not isinstance(run, in_process.Runner):
+        return None
+    limit = chance.choice([1, chance.randrange(1, 100), chance.randrange(1, 3_000)])
+    found = run.library.verify(in_process.read(path), limit)
+    told = found and in_process.told(*found)
+    return None if told in (None, (verdict.returncode, verdict.stdout, verdict.stderr)) else f"within {limit}: {told}, else {verdict}"
 
 
 def tried(run, family, seed, folder):
@@ -39,17 +79,22 @@ def tried(run, family, seed, folder):
     paths = [os.path.join(folder, name) for name in ("image", "frames", "sent", "resent")]
     text = os.path.join(folder, "text")
     second = family == "answers" or chance.random() < 0.5
-    written(text, ("\n".join(["version 2"] * second + FAMILIES[family](chance)) + "\n").encode())
+    lines = ["version 2"] * second + FAMILIES[family](chance)
+    written(text, ("\n".join(lines) + "\n").encode())
     made = run("asm", text, paths[0])
     if made.returncode != 0:
         return f"asm: {made}", "no image"
+    if family == "witnesses" and (wrong := unwitnessed(run, paths, lines)):
+        return wrong, "no trap"
     verdict = run("verify", paths[0])
+    if family == "loops" and (wrong := limited(run, chance, paths[0], verdict)):
+        return wrong, "another verdict"
     said = verdict.stdout.decode().split()
     if (verdict.returncode, said[:1]) == (2, ["refused"]):
         return (f"refused: {verdict.stderr}" if said[1] in NEVER.get(family, []) else None), said[1]
     if (verdict.returncode, said[:2]) != (0, ["ok", "bound"]):
         return f"verify: {verdict}", "no verdict"
-    written(paths[1], frames(chance, chance.choice([1, 2])))
+    written(paths[1], frames(chance, chance.choice([1, 2]), lines))
     return differs(paths, int(said[2]), run), "accepted"
 
 

@@ -92,6 +92,8 @@ def runs_of(folder):
                 yield ["recheck", f"{stem}.image", f"{stem}.table"]
             if os.path.exists(f"{stem}.frames"):
                 yield ["run", f"{stem}.image", f"{stem}.frames", "made"]
+                if os.path.exists(f"{stem}.table"):
+                    yield ["run", f"{stem}.image", f"{stem}.frames", "made", "--table", f"{stem}.table"]
                 yield ["trace", f"{stem}.image", f"{stem}.frames", "made"]
         elif kind == ".text":
             yield ["asm", f"{stem}.text", "made"]

@@ -1,12 +1,13 @@
 #!/usr/bin/env python3
 """Breaks xdpvm_survey from outside: makes each allocation, each read and each write of some command lines fail in turn.
 
-usage: python3 assurance/break_survey.py [PROGRAM]
+usage: python3 assurance/break_survey.py [PROGRAM [FOLDER]]
 
 PROGRAM is xdpvm_survey (the default: crates/xdpvm_survey/out/xdpvm_survey). Where an allocation fails the status is 5 and
 standard error says so, or a row says `memory`; or what is known of a refusal is left out. Where a read fails its file is
 named, with status 4 or more, and where a write fails the output is, or standard error got less. Never does it crash, and
-never is an image accepted that is not. It needs a C compiler (CC). The last line is 'N tried, M wrong'. In the gate.
+never is an image accepted that is not. With FOLDER it surveys each image there by itself, once with proof tables, and looks
+into it. It needs a C compiler (CC). The last line is 'N tried, M wrong'. Without FOLDER in the gate.
 """
 import os
 import re
@@ -62,6 +63,18 @@ def is_right(kind, answer, whole):
     return answer.status == 4 and b"cannot write" in answer.err or less_said
 
 
+def runs_of(folder):
+    """The command lines for the images of a folder."""
+    for name in sorted(os.listdir(folder)):
+        if name.endswith(".image"):
+            path = os.path.join(folder, name)
+            yield [path, "--format", "csv"]
+            yield [path, "--tables", "made"]
+            yield ["log", path, "--slot", "0"]
+            yield ["dis", path]
+            yield ["dis", "--dot", path]
+
+
 def prepare():
     os.symlink(os.path.join(TOP, "examples"), "examples")
     for name in ("few", "made"):
@@ -76,11 +89,12 @@ def prepare():
 
 def main():
     program = os.path.abspath(sys.argv[1] if len(sys.argv) > 1 else os.path.join(TOP, "crates/xdpvm_survey/out/xdpvm_survey"))
+    runs = list(runs_of(os.path.abspath(sys.argv[2]))) if len(sys.argv) > 2 else RUNS
     tried = wrong = 0
     with tempfile.TemporaryDirectory() as folder:
         os.chdir(folder)
         prepare()
-        for words in RUNS:
+        for words in runs:
             whole = Answer(program, words)
             for kind in ("alloc", "read", "write"):
                 call = 1

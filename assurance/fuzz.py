@@ -125,17 +125,19 @@ def misled(code, verdict, ways):
 
 def differs(paths, bound, run):
     """What is wrong with the runs of an accepted program: None, or a text. In this process a program with maps is
-    traced on maps as they start; one in eight runs in processes of its own too, where maps go from frame to frame."""
+    traced on maps as they start; one in eight runs in processes of its own too, where maps go from frame to frame. A
+    program whose trace is wrong is not run: that might not end, or end this process."""
     image = read(paths[0])
     if isinstance(run, in_process.Runner) and image[4:6] != b"\0\0":
         wrong = in_process.differs_alone(run.library, image, read(paths[1]), bound)
         if wrong or zlib.crc32(image) % 8:
             return wrong
-    traced, ran = run("trace", paths[0], paths[1], paths[2]), run("run", paths[0], paths[1], paths[3])
+    traced = run("trace", paths[0], paths[1], paths[2])
     rows = [line.split() for line in traced.stdout.decode().splitlines()]
     for row in rows:
         if row[0].isdigit() and (row[1] in ("TRAP", "LIMIT") or int(row[3]) > bound):
             return f"accepted with bound {bound}: {' '.join(row)}"
+    ran = run("run", paths[0], paths[1], paths[3])
     sent = [read(path) for path in paths[2:]]
     if (traced.returncode, traced.stdout, sent[0]) != (ran.returncode, ran.stdout, sent[1]) or traced.returncode != 0:
         return f"run and trace differ: {ran.stdout} {traced.stdout}"

@@ -9,6 +9,7 @@ import struct
 import subprocess
 
 MOST = 1_000_000                # instructions that are explored, and steps of a run
+UNDECIDED = 6                   # the status of a search that its caller's limit ended
 ROOM = 1 << 20
 ACTIONS = ["ABORTED", "DROP", "PASS", "TX", "REDIRECT", "INVALID"]
 HEADS = {1: struct.Struct("<QIII"), 2: struct.Struct("<QIIII")}
@@ -57,8 +58,8 @@ class Library:
             raise TooLong
         return ctypes.string_at(buffer, size)
 
-    def asked(self, status):
-        if status not in (0, 2):
+    def asked(self, status, *others):
+        if status not in (0, 2, *others):
             raise MemoryError(f"status {status}")
         return status
 
@@ -68,9 +69,12 @@ class Library:
         size, = struct.unpack_from("<Q", self.out.raw)
         return status, self.taken(self.two if status else self.one, size)
 
-    def verify(self, image):
-        """The status, the bound, and why there is none."""
-        status = self.asked(self.xdpvm_verify(image, len(image), MOST, self.one, ROOM, self.out))
+    def verify(self, image, limit=MOST):
+        """The status, the bound, and why there is none; or None where the limit of explored instructions came first."""
+        status = self.asked(self.xdpvm_verify(image, len(image), limit, self.one, ROOM, self.out), UNDECIDED)
+        if status == UNDECIDED and limit < MOST:
+            return None
+        self.asked(status)
         said, _, bound = struct.unpack_from("<QQI", self.out.raw)
         return status, bound, self.taken(self.one, said) if status else b""
 

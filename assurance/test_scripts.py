@@ -20,7 +20,8 @@ import in_process
 import laws
 import proofs
 import table
-from attack_programs import FAMILIES
+from attack_witnesses import witness_of
+from attacks import FAMILIES, near
 from definitions import TOP
 
 SPECS = """-- Some numbers.
@@ -194,6 +195,11 @@ class Attacks(unittest.TestCase):
             for seed in range(100):
                 text = family(random.Random(f"{name} {seed}"))
                 self.assertTrue(any("exit" in line for line in text), name)
+                self.assertEqual(witness_of(text) is not None, name in ("witnesses", "loops"))
+
+    def test_numbers_near_those_of_a_text(self):
+        words = near(["r2 = 4294967301 ll", "if w7 s> -2 goto +1", "r0 = *(u64 *)(r10 - 8)"])
+        self.assertEqual(words, [0, 1, 2, 4, 5, 6, 7, 8, 9, 2**32 - 3, 2**32 - 2, 2**32 - 1])
 
     def test_each_damage_of_a_table(self):
         """Each makes another table, or none; the entries that it was made of stay as they are."""
