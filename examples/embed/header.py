@@ -1,7 +1,7 @@
 #!/usr/bin/env python3
-"""Compares xdpvm.h and xdpvm.rs with the exports of crates/xdpvm_c/src: names, parameters in their order with their types,
-results, and structs with their fields; in the header also statuses, limits and the version. Nothing else does: a compiler
-sees only the declarations.
+"""Compares xdpvm.h and xdpvm.rs with the exports of crates/xdpvm_c/src, and with the structs of the crates below it: names,
+parameters in their order with their types, results, and structs with their fields; in the header also statuses, limits and
+the version. Nothing else does: a compiler sees only the declarations.
 
 usage: python3 examples/embed/header.py
 
@@ -13,6 +13,7 @@ import re
 import sys
 
 TOP = os.path.dirname(os.path.dirname(os.path.dirname(os.path.abspath(__file__))))
+CRATES = ("embedding", "held_machines", "xdpvm_c")
 NUMBERS = {"u8": "uint8_t", "u32": "uint32_t", "u64": "uint64_t", "usize": "size_t", "": "void"}
 
 
@@ -133,7 +134,7 @@ def differences(wanted, found):
 
 
 def main():
-    paths = sorted(glob.glob(os.path.join(TOP, "crates/xdpvm_c/src/*.rt")))
+    paths = sorted(path for crate in CRATES for path in glob.glob(os.path.join(TOP, f"crates/{crate}/src/*.rt")))
     source = re.sub(r"^ *//.*$", "", read(*paths), flags=re.M)
     functions, kinds, numbers = declared(read("examples/embed/xdpvm.h"))
     found = list(differences(dict(limits(source)), numbers))

@@ -44,6 +44,8 @@ int main(void) {
     struct xdpvm_session session = {0};
     struct xdpvm_changed changed;
     struct xdpvm_ended ended;
+    const size_t size = strlen(XDPVM_VERSION);
+    need(xdpvm_version(why, sizeof why) == size && memcmp(why, XDPVM_VERSION, size) == 0, "the version of the header");
     uint32_t status = xdpvm_assemble((const uint8_t *)TEXT, strlen(TEXT), image, sizeof image, why, sizeof why, &made);
     if (status == XDPVM_REFUSED) fwrite(why, 1, made.size < sizeof why ? made.size : sizeof why, stderr);
     need(status == XDPVM_OK && xdpvm_open(image, made.size, &session) == XDPVM_OK, "the program");

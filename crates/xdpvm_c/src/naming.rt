@@ -1,11 +1,10 @@
 //! The version, and the actions that answers name.
 
-ghost use Rattle.std.specs.Prelude.{◌≡◌, codes, length};
+ghost use Rattle.std.specs.Prelude.{◌≡◌, length};
 ghost use Rattle.isa_model.specs.Reporting.Frames.{action_of};
-ghost use Rattle.xdpvm_c.specs.Crossing.{action_number, filled, version};
+ghost use Rattle.embedding.specs.Crossing.{filled, version, action_number};
 
-use crate::filling::fill;
-use isa_model::Action;
+use embedding::naming::{number_of_action, write_version};
 
 /// Writes the version, such as `0.1.0`, and answers how many bytes it has.
 #[unsafe(no_mangle)]
@@ -13,7 +12,7 @@ pub extern "C" fn xdpvm_version(buffer: &mut [u8]) -> usize
     ensures size { result ≡ length version }
     ensures written { buffer.new ≡ filled buffer.old version }
 {
-    fill(buffer, b"0.1.0")
+    write_version(buffer)
 }
 
 /// The action that a program's answer names: 0 aborted, 1 drop, 2 pass, 3 tx, 4 redirect, and 5 for
@@ -22,12 +21,5 @@ pub extern "C" fn xdpvm_version(buffer: &mut [u8]) -> usize
 pub extern "C" fn xdpvm_action(r0: u64) -> u32
     ensures { result ≡ action_number (action_of r0) }
 {
-    match Action::of(r0) {
-        Action::Aborted => 0,
-        Action::Drop => 1,
-        Action::Pass => 2,
-        Action::Tx => 3,
-        Action::Redirect => 4,
-        Action::Invalid => 5,
-    }
+    number_of_action(r0)
 }

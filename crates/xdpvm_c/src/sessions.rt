@@ -1,86 +1,75 @@
-//! Sessions: what C holds of a program that stays open.
+//! Sessions opened, run and closed.
 
-ghost use Rattle.std.specs.Prelude.{◌≡◌, Option, None, Some};
-ghost use Rattle.std.specs.Option.{option_map};
-ghost use Rattle.machine.specs.Running.{Running};
-ghost use Rattle.xdpvm_c.specs.Ownership.{session_owns};
+ghost use Rattle.std.specs.Prelude.{◌≡◌, ◌≢◌, ◌↔◌, None, ◌<◌, ◌⊎◌, length};
+ghost use Rattle.isa_model.specs.{max_packet};
+ghost use Rattle.embedding.specs.Crossing.{IsStatus, IsChange};
+ghost use Rattle.embedding.specs.Verdicts.{IsRefusedImage};
+ghost use Rattle.embedding.specs.Sessions.{OpensSession, RunsSession};
+ghost use Rattle.embedding.specs.Tables.{IsRefusedTable};
 
-use crate::loose::Loose;
-use machine::Machine;
+use embedding::opening::{close_session, open_image, open_with_table, run_session};
+use embedding::running::{Ended, Head};
+use held_machines::Session;
 use std::alloc::Global;
-use std::marker::Model;
-use std::mem::replace;
-use std::ptr::null_mut;
 
-/// What is behind a session's pointer: nothing that C may read.
-#[repr(C)]
-pub struct Opaque {
-    unused: u8,
+/// Verifies an image, and opens a session on its program, with maps as they start. The session is
+/// closed before: all zero bytes, or what `xdpvm_close` left.
+#[unsafe(no_mangle)]
+pub extern "C" fn xdpvm_open(alloc: Global, image: &[u8], session: &mut Session) -> u32
+    ensures opened { result ≡ 0 → OpensSession image.now session.new.held }
+    ensures wrong { (result ≡ 1) ↔ (session.old.held ≢ None) }
+    ensures refused { result ≡ 2 → IsRefusedImage image.now }
+    ensures kept { result ≢ 0 → session.new.held ≡ session.old.held }
+    ensures status { IsStatus result }
+{
+    open_image(alloc, image, session)
 }
 
-/// A program that stays open, or nothing: then the pointer is null. Only the calls below change it,
-/// and a copy of it is not one more.
-///
-/// Contracts see the machine that it holds.
-#[repr(C)]
-#[derive(Drop)]
-pub struct Session {
-    at: *mut Opaque,
-    pub ghost held: { Option Running },
+/// The same, shown by a proof table of the image's program, whoever made it.
+#[unsafe(no_mangle)]
+pub extern "C" fn xdpvm_open_with_table(
+    alloc: Global,
+    image: &[u8],
+    table: &[u8],
+    session: &mut Session,
+) -> u32
+    ensures opened { result ≡ 0 → OpensSession image.now session.new.held }
+    ensures wrong { (result ≡ 1) ↔ (session.old.held ≢ None) }
+    ensures refused { result ≡ 2 → IsRefusedTable image.now table.now }
+    ensures kept { result ≢ 0 → session.new.held ≡ session.old.held }
+    ensures status { IsStatus result }
+{
+    open_with_table(alloc, image, table, session)
 }
 
-impl Model for Session {
-    ghost also_owns = { λ s. session_owns s.held s.at };
+/// Runs an open program on a packet, in place. Its maps go on from run to run.
+#[unsafe(no_mangle)]
+pub extern "C" fn xdpvm_run(
+    alloc: Global,
+    session: &mut Session,
+    head: &Head,
+    packet: &mut [u8],
+    out: &mut Ended,
+) -> u32
+    ensures ran { result ≡ 0 → RunsSession session.old.held session.new.held (record {
+      time = head.now.time;
+      interface = head.now.interface;
+      queue = head.now.queue;
+    }) packet.old (record { r0 = out.new.r0; steps = out.new.steps }) packet.new }
+    ensures wrong { (result ≡ 1)
+        ↔ ((session.old.held ≡ None) ⊎ (max_packet < length packet.old)) }
+    ensures session_kept { result ≢ 0 → session.new.held ≡ session.old.held }
+    ensures out_kept { result ≢ 0 → out.new ≡ out.old }
+    ensures packet_kept { result ≢ 0 → packet.new ≡ packet.old }
+    ensures status { IsChange result }
+{
+    run_session(alloc, session, head, packet, out)
 }
 
-unsafe impl Send for Session {}
-
-impl Session {
-    /// A session that holds nothing.
-    pub fn closed() -> Session
-        ensures { result.held ≡ None }
-    {
-        Session { at: null_mut() }
-    }
-
-    // A session that holds a machine.
-    fn of_loose(machine: Loose<Machine, Global>) -> Session
-        ensures { result.held ≡ Some machine.value }
-    {
-        let Loose { at, alloc: _ } = machine;
-        Session {
-            at: at as *mut Opaque,
-        }
-    }
-
-    // The machine that a session holds.
-    fn into_loose(self, alloc: Global) -> Option<Loose<Machine, Global>>
-        ensures { option_map (λ l. l.value) result ≡ self.held }
-    {
-        let Session { at } = self;
-        if at.is_null() {
-            None
-        } else {
-            Some(Loose {
-                at: at as *mut Machine,
-                alloc,
-            })
-        }
-    }
-
-    /// Takes the machine out, if there is one, and leaves the session closed.
-    pub fn take(&mut self, alloc: Global) -> Option<Box<Machine>>
-        ensures machine { option_map (λ b. b.value) result ≡ self.old.held }
-        ensures closed { self.new.held ≡ None }
-    {
-        let loose = replace(self, Session::closed()).into_loose(alloc)?;
-        Some(loose.into_box())
-    }
-
-    /// Puts a machine into a session. One that was there is lost.
-    pub fn put(&mut self, machine: Box<Machine>)
-        ensures { self.new.held ≡ Some machine.value }
-    {
-        *self = Session::of_loose(Loose::of(machine));
-    }
+/// Closes a session, and gives its memory back. A closed one stays as it is.
+#[unsafe(no_mangle)]
+pub extern "C" fn xdpvm_close(alloc: Global, session: &mut Session)
+    ensures { session.new.held ≡ None }
+{
+    close_session(alloc, session);
 }

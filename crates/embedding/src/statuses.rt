@@ -1,0 +1,28 @@
+//! What calls answer.
+
+/// Done.
+pub const OK: u32 = 0;
+
+/// An argument is outside its limits, and nothing was done.
+pub const WRONG: u32 = 1;
+
+/// The text, the image, the program or the table is refused.
+pub const REFUSED: u32 = 2;
+
+/// Out of memory.
+pub const MEMORY: u32 = 5;
+
+/// Neither accepted nor refused: the caller's limit on explored instructions came first.
+pub const UNDECIDED: u32 = 6;
+
+/// The map has no such key.
+pub const ABSENT: u32 = 7;
+
+/// Why there is no accepted program.
+#[derive(Clone, Copy)]
+pub enum Failure {
+    /// The bytes are no image, or its program is refused.
+    Refused,
+    /// Out of memory.
+    Memory,
+}

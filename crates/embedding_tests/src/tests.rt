@@ -1,0 +1,7 @@
+//! Each call made, on images of the documents and with each kind of bad argument.
+
+mod images;
+mod runs;
+mod sessions;
+mod tables;
+mod verdicts;

@@ -1,0 +1,26 @@
+//! The images that are tested, as docs/FORMATS.md and docs/REFUSALS.md show them.
+
+use embedding::running::Head;
+
+/// `r0 = 2; exit`.
+pub const PASS: [u8; 24] = *b"XBP1\0\0\x02\0\xb7\0\0\0\x02\0\0\0\x95\0\0\0\0\0\0\0";
+
+/// `r0 = *(u32 *)(r1 + 12); exit`: the interface.
+pub const INTERFACE: [u8; 24] = *b"XBP1\0\0\x02\0\x61\x10\x0c\0\0\0\0\0\x95\0\0\0\0\0\0\0";
+
+/// `r2 = *(u32 *)(r1 + 0); r0 = *(u8 *)(r2 + 13); r0 = 2; exit`.
+pub const UNGUARDED: [u8; 40] = *b"XBP1\0\0\x04\0\
+    \x61\x12\0\0\0\0\0\0\x71\x20\x0d\0\0\0\0\0\xb7\0\0\0\x02\0\0\0\x95\0\0\0\0\0\0\0";
+
+/// `r0 = 0; loop: goto loop`.
+pub const ENDLESS: [u8; 24] = *b"XBP1\0\0\x02\0\xb7\0\0\0\0\0\0\0\x05\0\xff\xff\0\0\0\0";
+
+/// No image.
+pub const OTHER: [u8; 8] = *b"XBP3\0\0\x02\0";
+
+/// Time 1000, interface 7, queue 2.
+pub const HEAD: Head = Head {
+    time: 1000,
+    interface: 7,
+    queue: 2,
+};

@@ -1,0 +1,165 @@
+//! The texts of a refusal.
+
+ghost use Rattle.std.specs.Prelude.{◌≡◌, ◌++◌, codes, decimal, IfOk, IfSome, OnOk};
+ghost use Rattle.std.specs.Option.{option_copied};
+ghost use Rattle.std.specs.String.{string_bytes};
+ghost use Rattle.explanations.specs.Reasons.{IsReason};
+ghost use Rattle.refusal_texts.specs.Texts.{told_at, slot_place, image_text, text_place, source_text, program_front, insn_end, TellsProgram};
+
+use assembler::AsmError;
+use disassembler::write_insn;
+use exact_io::write_bytes;
+use explanations::reason;
+use image::{Image, ImageError};
+use isa_model::Insn;
+use std::alloc::{AllocError, Global};
+use std::io;
+use walks::Refusal;
+
+/// A code and the sentence, a line each.
+pub fn told(alloc: Global, code: &str, why: &str) -> Result<String, AllocError>
+    ensures { IfOk result (λ text. string_bytes text
+        ≡ codes "refused " ++ (code.now ++ (codes "\n" ++ (why.now ++ codes "\n")))) }
+{
+    format!(in alloc; "refused {code}\n{why}\n")
+}
+
+/// The same with a place: what is counted, such as `slot` with a space, and its number.
+pub fn told_at(
+    alloc: Global,
+    code: &str,
+    word: &str,
+    number: usize,
+    why: &str,
+) -> Result<String, AllocError>
+    ensures { IfOk result (λ text. string_bytes text
+        ≡ codes "refused " ++ (code.now ++ (codes " " ++ (word.now ++ (decimal number
+        ++ (codes "\n" ++ (why.now ++ (codes "\n" ++ (word.now ++ (decimal number
+        ++ codes "\n")))))))))) }
+{
+    format!(in alloc; "refused {code} {word}{number}\n{why}\n{word}{number}\n")
+}
+
+/// The same with a place that is put together, and a second code.
+pub fn told_within(
+    alloc: Global,
+    code: &str,
+    place: &str,
+    inner: &str,
+    why: &str,
+) -> Result<String, AllocError>
+    ensures { IfOk result (λ text. string_bytes text
+        ≡ told_at code.now place.now (codes " " ++ inner.now) why.now) }
+{
+    format!(in alloc; "refused {code} {place} {inner}\n{why}\n{place}\n")
+}
+
+/// A slot by its number.
+pub fn slot_place(alloc: Global, slot: usize) -> Result<String, AllocError>
+    ensures { IfOk result (λ text. string_bytes text ≡ slot_place slot) }
+{
+    format!(in alloc; "slot {slot}")
+}
+
+/// Why bytes are no image, and where.
+pub fn image_text(alloc: Global, error: ImageError) -> Result<String, AllocError>
+    ensures { IfOk result (λ text. string_bytes text ≡ image_text error) }
+{
+    let code = error.code();
+    let why = error.sentence();
+    match error {
+        ImageError::Code(slot, error) => {
+            let place = slot_place(alloc, slot)?;
+            told_within(alloc, code, place.as_str(), error.code(), why)
+        }
+        ImageError::MapRow(index) => told_at(alloc, code, "map ", index, why),
+        ImageError::UnknownMap(slot) | ImageError::ValuePointer(slot) => {
+            told_at(alloc, code, "slot ", slot, why)
+        }
+        _ => told(alloc, code, why),
+    }
+}
+
+fn text_place(alloc: Global, line: usize, column: usize) -> Result<String, AllocError>
+    ensures { IfOk result (λ text. string_bytes text ≡ text_place line column) }
+{
+    format!(in alloc; "line {line} column {column}\n")
+}
+
+/// Why a text is no program, and where.
+pub fn source_text(alloc: Global, error: AsmError) -> Result<String, AllocError>
+    ensures { IfOk result (λ text. string_bytes text ≡ source_text error) }
+{
+    let code = error.kind.code();
+    let why = error.kind.sentence();
+    let place = text_place(alloc, error.line, error.column)?;
+    format!(in alloc; "refused {code} {place}{why}\n{place}")
+}
+
+/// Why a program is refused, and at which slot.
+pub fn program_front(alloc: Global, refusal: Refusal, slot: usize) -> Result<String, AllocError>
+    ensures { IfOk result (λ text. string_bytes text ≡ program_front refusal slot) }
+{
+    let code = refusal.code();
+    let why = refusal.sentence();
+    format!(in alloc; "refused {code} slot {slot}\n{why}\nslot {slot}")
+}
+
+/// Ends the line that names a slot: with the instruction that begins there, if one does.
+pub fn end_line(text: &mut Vec<u8>, insn: Option<&Insn>) -> io::Result<()>
+    ensures { OnOk result (text.new.items ≡ text.old.items ++ insn_end (option_copied insn.entry)) }
+{
+    match insn {
+        Some(insn) => {
+            write_bytes(text, b": ")?;
+            write_insn(text, insn)
+        }
+        None => write_bytes(text, b"\n"),
+    }
+}
+
+// What is known at the instruction, if that is asked for.
+fn known_of(
+    alloc: Global,
+    image: &Image,
+    refusal: Refusal,
+    slot: usize,
+    asked: bool,
+) -> Option<String>
+    ensures { IfSome result (λ text. IsReason image.now refusal slot (string_bytes text)) }
+{
+    if asked {
+        reason(alloc, image, refusal, slot)
+    } else {
+        None
+    }
+}
+
+/// Why a program is refused, at which slot and instruction, and where that is asked for, what is
+/// known there. None: memory ran out.
+pub fn program_text(
+    alloc: Global,
+    image: &Image,
+    refusal: Refusal,
+    slot: usize,
+    asked: bool,
+) -> Option<Vec<u8>>
+    ensures { IfSome result (λ text. TellsProgram image.now refusal slot text.items) }
+{
+    let known = known_of(alloc, image, refusal, slot, asked);
+    let Ok(front) = program_front(alloc, refusal, slot) else {
+        return None;
+    };
+    let mut text = front.into_bytes();
+    match end_line(&mut text, image.at(slot)) {
+        Ok(()) => {}
+        Err(_) => return None,
+    }
+    let Some(known) = known else {
+        return Some(text);
+    };
+    match text.extend_from_slice(known.as_bytes()) {
+        Ok(()) => Some(text),
+        Err(_) => None,
+    }
+}

@@ -1,2 +1,0 @@
-mod Telling
-pub mod Values

@@ -1,0 +1,86 @@
+//! Runs on one packet, and over streams.
+
+ghost use Rattle.std.specs.Prelude.{◌≡◌, ◌≢◌, ◌<◌, ◌↔◌, length, ◌⊎◌};
+ghost use Rattle.isa_model.specs.Code.Limits.{max_steps};
+ghost use Rattle.isa_model.specs.{max_packet};
+ghost use Rattle.embedding.specs.Crossing.{IsStatus, IsVerdict};
+ghost use Rattle.embedding.specs.Verdicts.{IsRefusedImage, RunsProgram, IsNoImage};
+ghost use Rattle.embedding.specs.Streams.{RunsStream};
+ghost use Rattle.embedding.specs.Traces.{AnswersTrace};
+
+use embedding::running::{Ended, Head, run_once};
+use embedding::streaming::{Streamed, run_stream};
+use embedding::tracing::{TracedEnd, trace_once};
+use std::alloc::Global;
+
+/// Verifies an image, and runs its program on a packet, on maps as they start. Why an image is
+/// refused `xdpvm_verify` says.
+#[unsafe(no_mangle)]
+pub extern "C" fn xdpvm_run_once(
+    alloc: Global,
+    image: &[u8],
+    head: &Head,
+    packet: &mut [u8],
+    out: &mut Ended,
+) -> u32
+    ensures ran { result ≡ 0 → RunsProgram image.now (record {
+      time = head.now.time;
+      interface = head.now.interface;
+      queue = head.now.queue;
+    }) packet.old (record { r0 = out.new.r0; steps = out.new.steps }) packet.new }
+    ensures wrong { (result ≡ 1) ↔ (max_packet < length packet.old) }
+    ensures refused { result ≡ 2 → IsRefusedImage image.now }
+    ensures out_kept { result ≢ 0 → out.new ≡ out.old }
+    ensures packet_kept { result ≢ 0 → packet.new ≡ packet.old }
+    ensures status { IsStatus result }
+{
+    run_once(alloc, image, head, packet, out)
+}
+
+/// Runs the program of an image on a packet, on maps as they start, at most `limit` steps (1 to
+/// 1,000,000), verified or not. After a trap or the limit the packet is as the last step left it.
+#[unsafe(no_mangle)]
+pub extern "C" fn xdpvm_trace_once(
+    alloc: Global,
+    image: &[u8],
+    head: &Head,
+    packet: &mut [u8],
+    limit: u32,
+    out: &mut TracedEnd,
+) -> u32
+    ensures traced { result ≡ 0 → AnswersTrace image.now (record {
+      time = head.now.time;
+      interface = head.now.interface;
+      queue = head.now.queue;
+    }) packet.old limit out.new packet.new }
+    ensures wrong { (result ≡ 1)
+        ↔ ((max_packet < length packet.old) ⊎ ((limit ≡ 0) ⊎ (max_steps < limit))) }
+    ensures refused { result ≡ 2 → IsNoImage image.now }
+    ensures out_kept { result ≢ 0 → out.new ≡ out.old }
+    ensures packet_kept { result ≢ 0 → packet.new ≡ packet.old }
+    ensures status { IsStatus result }
+{
+    trace_once(alloc, image, head, packet, limit, out)
+}
+
+/// Verifies an image, and runs its program on the frames of a stream. The report goes to `report`
+/// and the frames out to `sent`, as far as there is room; maps live on from frame to frame.
+#[unsafe(no_mangle)]
+pub extern "C" fn xdpvm_run_stream(
+    alloc: Global,
+    image: &[u8],
+    frames: &[u8],
+    report: &mut [u8],
+    sent: &mut [u8],
+    out: &mut Streamed,
+) -> u32
+    ensures ran { result ≡ 0 → RunsStream image.now frames.now
+        report.old sent.old report.new sent.new out.new }
+    ensures refused { result ≡ 2 → IsRefusedImage image.now }
+    ensures report_kept { result ≢ 0 → report.new ≡ report.old }
+    ensures sent_kept { result ≢ 0 → sent.new ≡ sent.old }
+    ensures out_kept { result ≢ 0 → out.new ≡ out.old }
+    ensures status { IsVerdict result }
+{
+    run_stream(alloc, image, frames, report, sent, out)
+}

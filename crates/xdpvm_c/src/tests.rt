@@ -1,7 +1,0 @@
-//! Each export called, on images of the documents and with each kind of bad argument.
-
-mod images;
-mod runs;
-mod sessions;
-mod tables;
-mod verdicts;

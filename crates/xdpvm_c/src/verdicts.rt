@@ -1,0 +1,78 @@
+//! Texts, images and proof tables.
+
+ghost use Rattle.std.specs.Prelude.{◌≡◌, ◌≢◌, ◌<◌, ◌↔◌, ◌⊎◌};
+ghost use Rattle.isa_model.specs.Code.Limits.{max_explored};
+ghost use Rattle.embedding.specs.Crossing.{IsVerdict, IsDecision};
+ghost use Rattle.embedding.specs.Verdicts.{FillsAssembledImage, FillsTextRefusal, IsAcceptedImage, FillsImageRefusal, IsUndecided};
+ghost use Rattle.embedding.specs.Tables.{FillsTableRefusal};
+
+use embedding::assembling::{Assembled, assemble_text};
+use embedding::judging::{Verdict, verify_image};
+use embedding::rechecks::{Rechecked, recheck_table};
+use std::alloc::Global;
+
+/// Assembles a text. The image goes to `image`, and why the text is refused to `why`, as far as
+/// there is room.
+#[unsafe(no_mangle)]
+pub extern "C" fn xdpvm_assemble(
+    alloc: Global,
+    text: &[u8],
+    image: &mut [u8],
+    why: &mut [u8],
+    out: &mut Assembled,
+) -> u32
+    ensures assembled { result ≡ 0 → FillsAssembledImage text.now image.old image.new out.new.size }
+    ensures refused { result ≡ 2 → FillsTextRefusal text.now why.old why.new out.new.size
+        out.new.line out.new.column }
+    ensures image_kept { result ≢ 0 → image.new ≡ image.old }
+    ensures why_kept { result ≢ 2 → why.new ≡ why.old }
+    ensures memory { result ≡ 5 → out.new ≡ out.old }
+    ensures status { IsVerdict result }
+{
+    assemble_text(alloc, text, image, why, out)
+}
+
+/// Verifies an image, exploring at most `limit` instructions (1 to 1,000,000). Why it is refused
+/// goes to `why`, as far as there is room; what is known at the refused instruction is looked for
+/// only if there is room.
+#[unsafe(no_mangle)]
+pub extern "C" fn xdpvm_verify(
+    alloc: Global,
+    image: &[u8],
+    limit: u32,
+    why: &mut [u8],
+    out: &mut Verdict,
+) -> u32
+    ensures accepted { result ≡ 0 → IsAcceptedImage image.now out.new.bound }
+    ensures wrong { (result ≡ 1) ↔ ((limit ≡ 0) ⊎ (max_explored < limit)) }
+    ensures refused { result ≡ 2
+        → FillsImageRefusal image.now out.new.slot why.old why.new out.new.said }
+    ensures undecided { result ≡ 6 → IsUndecided image.now limit }
+    ensures why_kept { result ≢ 2 → why.new ≡ why.old }
+    ensures out_kept { result ≢ 0 → result ≢ 2 → out.new ≡ out.old }
+    ensures status { (result ≡ 1) ⊎ IsDecision result }
+{
+    verify_image(alloc, image, limit, why, out)
+}
+
+/// Tests a proof table of an image's program, whoever made it: where it passes, the program is
+/// accepted as by `xdpvm_verify`, within the bound that the table shows. Why it is refused goes to
+/// `why`, as far as there is room; what is known of the entry is looked for only where there is
+/// some.
+#[unsafe(no_mangle)]
+pub extern "C" fn xdpvm_recheck(
+    alloc: Global,
+    image: &[u8],
+    table: &[u8],
+    why: &mut [u8],
+    out: &mut Rechecked,
+) -> u32
+    ensures accepted { result ≡ 0 → IsAcceptedImage image.now out.new.bound }
+    ensures refused { result ≡ 2
+        → FillsTableRefusal image.now table.now why.old why.new out.new }
+    ensures why_kept { result ≢ 2 → why.new ≡ why.old }
+    ensures memory { result ≡ 5 → out.new ≡ out.old }
+    ensures status { IsVerdict result }
+{
+    recheck_table(alloc, image, table, why, out)
+}
