@@ -1,12 +1,13 @@
 //! Abstract states, stored compactly.
 
 ghost use Rattle.std.specs.Prelude.{◌≡◌, IfOk, IsTrue};
-ghost use Rattle.state_index.specs.Parts.{AreBlank, AreParts};
+ghost use Rattle.state_index.specs.Parts.{AreBlankBeside, AreParts};
 
 use crate::kept_frames::{KeptFrame, are_frames, keep_all, restore_all};
+use control_flow::SlotMask;
 use isa_model::FRAME_SIZE;
 use stack_state::{AbstractFrame, State};
-use state_index::{Fingerprints, Key, Part, PlaceLimits, take_parts, take_register_parts};
+use state_index::{Fingerprints, Key, Part, PlaceLimits, take_parts, take_parts_in};
 use std::alloc::{AllocError, Global};
 use std::marker::Model;
 use std::rc::Rc;
@@ -94,21 +95,18 @@ impl Kept {
         Kept::of_parts(alloc, state, room, other)
     }
 
-    /// The same for a state whose innermost stack may be blank: nothing is known of it.
+    /// The same for a state of whose innermost stack nothing is known but of these slots.
     pub(crate) fn of_forgotten(
         alloc: Global,
         state: &State,
-        is_blank: bool,
+        known: SlotMask,
         room: &mut Vec<Part>,
         other: Option<&Kept>,
     ) -> Result<Self, AllocError>
-        requires { IsTrue is_blank → AreBlank state.now.innermost.stack.slots }
+        requires { AreBlankBeside known state.now.innermost.stack.slots }
         ensures { IfOk result (λ kept. kept ≡ state.now) }
     {
-        match is_blank {
-            true => take_register_parts(room, &state.innermost)?,
-            false => take_parts(room, &state.innermost)?,
-        }
+        take_parts_in(room, &state.innermost, known)?;
         Kept::of_parts(alloc, state, room, other)
     }
 

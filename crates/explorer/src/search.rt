@@ -25,7 +25,7 @@ use stack_state::State;
 use state_index::Part;
 use std::alloc::{AllocError, Global};
 use transfer::{Ways, step_in_place};
-use walks::{Refusal, forget_dead, forgets_stack};
+use walks::{Refusal, forget_dead, kept_slots};
 
 /// A search: the path from the start to the current state, and the states that were stored.
 #[derive(Drop)]
@@ -60,8 +60,8 @@ fn arrive(
     if !flow.is_join(state.slot) || stored.is_over {
         return Ok(Move::New(None));
     }
-    let is_blank = forgets_stack(flow, state.slot);
-    let Ok(()) = stored.turn_to(alloc, state, &kept, is_blank) else {
+    let known = kept_slots(flow, state.slot);
+    let Ok(()) = stored.turn_to(alloc, state, &kept, known) else {
         return Err(NO_MEMORY);
     };
     if let Some((place, number)) = stored.cover_of(state, scratch) {
@@ -173,8 +173,8 @@ impl Search {
             Ways::One => None,
             Ways::Two => {
                 forget_dead(flow, false, &mut self.scratch);
-                let blank = forgets_stack(flow, self.scratch.slot);
-                match Kept::of_forgotten(alloc, &self.scratch, blank, room, self.stored.last()) {
+                let known = kept_slots(flow, self.scratch.slot);
+                match Kept::of_forgotten(alloc, &self.scratch, known, room, self.stored.last()) {
                     Ok(other) => Some(other),
                     Err(_) => return Err(NO_MEMORY),
                 }

@@ -2,11 +2,12 @@
 
 ghost use Rattle.std.specs.Prelude.{◌≡◌, ℕ, ◌<◌, ◌++◌, ◌∷◌, [], Some, None, length, IsTrue, IfSome, IfOk, OnOk, OnErr};
 ghost use Rattle.stack_state.specs.declared.states.State.{State as TheState};
-ghost use Rattle.state_index.specs.Parts.{AreBlank, AreParts};
+ghost use Rattle.state_index.specs.Parts.{AreBlankBeside, AreParts};
 ghost use Rattle.state_index.specs.Rooms.{HasShapeRoom};
 ghost use Rattle.explorer.specs.StoredStates.{IsStored, IsCovered, IsRepeated, StoredAt, GetsNumber};
 
 use crate::kept::{Kept, PLACES};
+use control_flow::SlotMask;
 use stack_state::State;
 use state_cover::covers;
 use state_index::{Effort, Index, Key, LONG_SCAN, Rows, Spread, Tree};
@@ -123,23 +124,25 @@ impl StoredStates {
         Ok(rows)
     }
 
-    /// Takes a state to be looked up and stored next. It may have been kept already; `is_blank`
-    /// may say that nothing is known of its innermost stack.
+    /// Takes a state to be looked up and stored next. It may have been kept already; if not,
+    /// nothing is known of its innermost stack but of these slots.
     pub fn turn_to(
         &mut self,
         alloc: Global,
         state: &State,
         kept: &Option<Kept>,
-        is_blank: bool,
+        known: SlotMask,
     ) -> Result<(), AllocError>
-        requires { kept.now ≡ None → IsTrue is_blank → AreBlank state.now.innermost.stack.slots }
+        requires { kept.now ≡ None → AreBlankBeside known state.now.innermost.stack.slots }
         ensures same { self.new.entries.items ≡ self.old.entries.items }
         ensures drawn { OnOk result (kept.now ≡ None
             → AreParts self.new.key.parts.items state.now.innermost) }
     {
-        let Scan { known, count } = self.longest;
-        if count >= LONG_SCAN && self.index.note_scan(alloc, known, count)? {
-            self.add_tree(alloc, known)?;
+        let longest = self.longest;
+        if longest.count >= LONG_SCAN
+            && self.index.note_scan(alloc, longest.known, longest.count)?
+        {
+            self.add_tree(alloc, longest.known)?;
         }
         self.is_over = self.effort.is_over();
         self.key.is_sought = !self.is_over;
@@ -147,7 +150,7 @@ impl StoredStates {
         self.effort.spend(callers.saturating_mul(CALLER_READINGS));
         self.key.has_limits = self.index.has_trees();
         match kept {
-            None => self.key.take(state, is_blank),
+            None => self.key.take(state, known),
             Some(kept) => kept.put_key(&mut self.key),
         }
     }

@@ -14,7 +14,7 @@ use Rattle.stack_state.specs.Meaning.{kind_at}
 use Rattle.stack_state.specs.Slots.{slot_at, frame_slots}
 use Rattle.state_index.specs.declared.parts.Part.{Part}
 use Rattle.state_index.specs.declared.parts.Part.TheVariants.{InRegister, InSlot}
-use Rattle.state_index.specs.Parts.{register_part, slot_part, register_parts, slot_parts, parts_of, AreBlank, IsPartOf, unset_frame, written, all_written}
+use Rattle.state_index.specs.Parts.{register_part, slot_part, register_parts, slot_parts, parts_of, IsPartOf, unset_frame, written, all_written}
 
 -- ---- one part more
 
@@ -74,17 +74,13 @@ pub slot_parts-from : (now all : List Part) (ts : List Slot) (n m : ℕ) → m �
 slot_parts-from now all ts n m same before = ap (λ k. now ++ slot_parts k (drop k ts)) same ∙ before
 
 -- slots of which nothing is known have no parts
-slot_parts-blank : (ts : List Slot) (n : ℕ)
-    → ((j : ℕ) → j < length ts → get_or ts j (Written 0) ≡ Written 0) → slot_parts n ts ≡ []
+pub slot_parts-blank : (ts : List Slot) (n : ℕ)
+    → ((j : ℕ) → j < length ts → slot_at ts j ≡ Written 0) → slot_parts n ts ≡ []
 slot_parts-blank [] n blank = refl
 slot_parts-blank (t ∷ ts) n blank =
     let first : t ≡ Written 0 = blank zero (omega arith) in
     ap (λ (x : Slot). option_to_list (slot_part n x) ++ slot_parts (n + 1) ts) first
     ∙ slot_parts-blank ts (n + 1) (λ j below. blank (suc j) (omega arith))
-
-pub blank_parts : (f : AbstractFrame) → AreBlank f.stack.slots → slot_parts 0 f.stack.slots ≡ []
-blank_parts f blank =
-    slot_parts-blank f.stack.slots 0 (λ j below. blank.1 j (omega (arith, blank.0)))
 
 pub register_parts-all : (now all : List Part) (ks : List Kind) (n : ℕ) → length ks ≤ n → now ++ register_parts n (drop n ks) ≡ all → now ≡ all
 register_parts-all now all ks n over h = sym (append-nil now) ∙ ap (λ l. now ++ register_parts n l) (sym (drop_all n ks over)) ∙ h

@@ -8,6 +8,8 @@ use Rattle.stack_state.specs.declared.states.AbstractFrame.{AbstractFrame}
 use Rattle.stack_state.specs.Meaning.{kind_at}
 use Rattle.stack_state.specs.Places.{with_kind}
 use Rattle.stack_state.specs.Slots.{slot_at, frame_slots}
+use Rattle.control_flow.specs.declared.slot_masks.SlotMask.{SlotMask}
+use Rattle.control_flow.specs.Masks.{HasSlot}
 use Rattle.state_index.specs.declared.parts.Part.{Part}
 use Rattle.state_index.specs.declared.parts.Part.TheVariants.{InRegister, InSlot}
 
@@ -42,9 +44,9 @@ pub record AreParts (parts : List Part) (f : AbstractFrame) : Type 0 where
   pub ten : length f.registers ≡ 10
   pub wide : length f.stack.slots ≡ frame_slots
 
--- nothing is known of the slots of a stack
-abbrev pub AreBlank : List Slot → Type 0
-AreBlank slots = (length slots ≡ frame_slots) × ((j : ℕ) → j < 64 → slot_at slots j ≡ Written 0)
+-- nothing is known of the slots of a stack but these
+abbrev pub AreBlankBeside : SlotMask → List Slot → Type 0
+AreBlankBeside known slots = (j : ℕ) → j < 64 → (¬ HasSlot known j) → slot_at slots j ≡ Written 0
 
 -- what is known there in the frame
 abbrev pub IsPartOf : AbstractFrame → Part → Type 0

@@ -1,11 +1,12 @@
 //! What a state is looked up by.
 
-ghost use Rattle.std.specs.Prelude.{◌≡◌, OnOk, IsTrue};
-ghost use Rattle.state_index.specs.Parts.{AreBlank, AreParts};
+ghost use Rattle.std.specs.Prelude.{◌≡◌, OnOk};
+ghost use Rattle.state_index.specs.Parts.{AreBlankBeside, AreParts};
 
 use crate::fingerprints::Fingerprints;
 use crate::limits::{PlaceLimits, add_limits};
-use crate::parts::{Part, take_parts, take_register_parts};
+use crate::parts::{Part, take_parts, take_parts_in};
+use control_flow::SlotMask;
 use stack_state::{FRAME_SLOTS, State};
 use std::alloc::{AllocError, Global};
 
@@ -37,18 +38,15 @@ impl Key {
         })
     }
 
-    /// Becomes the key of the state, of whose innermost stack nothing may be known.
-    pub fn take(&mut self, state: &State, is_blank: bool) -> Result<(), AllocError>
-        requires { IsTrue is_blank → AreBlank state.now.innermost.stack.slots }
+    /// Becomes the key of the state. Nothing is known of its innermost stack but of these slots.
+    pub fn take(&mut self, state: &State, known: SlotMask) -> Result<(), AllocError>
+        requires { AreBlankBeside known state.now.innermost.stack.slots }
         ensures { OnOk result (AreParts self.new.parts.items state.now.innermost) }
     {
         if self.is_sought {
             self.take_callers(state)?;
         }
-        match is_blank {
-            true => take_register_parts(&mut self.parts, &state.innermost)?,
-            false => take_parts(&mut self.parts, &state.innermost)?,
-        }
+        take_parts_in(&mut self.parts, &state.innermost, known)?;
         if self.is_sought {
             self.add_innermost(state)?;
         }

@@ -27,7 +27,7 @@ pub use fingerprints::Fingerprints;
 pub use index::Index;
 pub use keys::Key;
 pub use limits::{PlaceLimits, add_limits};
-pub use parts::{Part, may_cover_place, take_parts, take_register_parts, write};
+pub use parts::{Part, may_cover_place, take_parts, take_parts_in, write};
 pub use rows::{Rows, Spread};
 pub use tree_sets::LONG_SCAN;
 pub use trees::Tree;

@@ -2,8 +2,9 @@
 
 ghost use Rattle.std.specs.Prelude.{◌≡◌, ℕ, ◌+◌, ◌*◌, ◌<◌, ◌≤◌, ◌++◌, OnOk, IsTrue, length, slice_set, option_to_list};
 ghost use Rattle.stack_state.specs.Slots.{frame_slots, slot_at};
-ghost use Rattle.state_index.specs.Parts.{register_part, slot_part, register_parts, slot_parts, AreParts, AreBlank, written, IsPartOf};
+ghost use Rattle.state_index.specs.Parts.{register_part, slot_part, register_parts, slot_parts, AreParts, AreBlankBeside, written, IsPartOf};
 
+use control_flow::SlotMask;
 use reg_state::{Domain, Kind};
 use stack_state::{AbstractFrame, FRAME_SLOTS, Slot};
 use std::alloc::AllocError;
@@ -57,13 +58,18 @@ fn push_registers(parts: &mut Vec<Part>, registers: &[Kind; 10]) -> Result<(), A
     Ok(())
 }
 
-/// Whether nothing is known of eight slots, from a multiple of eight on.
+/// Whether nothing is known of eight slots, from a multiple of eight on. Nothing is known of any
+/// that is not told.
 #[inline(always)]
-fn are_blank(slots: &[Slot; FRAME_SLOTS], block: usize) -> bool
-    requires { block < 8 }
+fn are_blank(slots: &[Slot; FRAME_SLOTS], known: SlotMask, block: usize) -> bool
+    requires inside { block < 8 }
+    requires blank { AreBlankBeside known slots.now }
     ensures { IsTrue result → (j : ℕ) → 8 * block ≤ j → j < 8 * block + 8
         → slot_at slots.now j ≡ Slot.Written 0 }
 {
+    if known.is_empty_in(block as u8) {
+        return true;
+    }
     for place in 0..8 {
         let Slot::Written(0) = &slots[8 * block + place] else {
             return false;
@@ -72,14 +78,22 @@ fn are_blank(slots: &[Slot; FRAME_SLOTS], block: usize) -> bool
     true
 }
 
-/// Appends the slots about which something is known. Most often nothing is known of
-/// eight in a row, which are skipped.
-fn push_slots(parts: &mut Vec<Part>, slots: &[Slot; FRAME_SLOTS]) -> Result<(), AllocError>
+/// Appends the slots about which something is known, none of which is outside those that are told.
+/// Most often nothing is known of eight in a row, which are skipped.
+fn push_slots(
+    parts: &mut Vec<Part>,
+    slots: &[Slot; FRAME_SLOTS],
+    known: SlotMask,
+) -> Result<(), AllocError>
+    requires { AreBlankBeside known slots.now }
     ensures pushed { OnOk result (parts.new.items ≡ parts.old.items ++ slot_parts 0 slots.now) }
     ensures wide { length slots.now ≡ frame_slots }
 {
+    if known.is_empty() {
+        return Ok(());
+    }
     for block in 0..FRAME_SLOTS / 8 {
-        if !are_blank(slots, block) {
+        if !are_blank(slots, known, block) {
             for place in 0..8 {
                 let index = 8 * block + place;
                 push_slot(parts, index as u8, &slots[index])?;
@@ -89,24 +103,26 @@ fn push_slots(parts: &mut Vec<Part>, slots: &[Slot; FRAME_SLOTS]) -> Result<(), 
     Ok(())
 }
 
+/// Becomes the parts of the frame. Nothing is known of its slots but those that are told.
+pub fn take_parts_in(
+    parts: &mut Vec<Part>,
+    frame: &AbstractFrame,
+    known: SlotMask,
+) -> Result<(), AllocError>
+    requires { AreBlankBeside known frame.now.stack.slots }
+    ensures { OnOk result (AreParts parts.new.items frame.now) }
+{
+    parts.clear();
+    push_registers(parts, &frame.registers)?;
+    push_slots(parts, &frame.stack.slots, known)?;
+    Ok(())
+}
+
 /// Becomes the parts of the frame.
 pub fn take_parts(parts: &mut Vec<Part>, frame: &AbstractFrame) -> Result<(), AllocError>
     ensures { OnOk result (AreParts parts.new.items frame.now) }
 {
-    parts.clear();
-    push_registers(parts, &frame.registers)?;
-    push_slots(parts, &frame.stack.slots)?;
-    Ok(())
-}
-
-/// The same of a frame of whose stack nothing is known.
-pub fn take_register_parts(parts: &mut Vec<Part>, frame: &AbstractFrame) -> Result<(), AllocError>
-    requires { AreBlank frame.now.stack.slots }
-    ensures { OnOk result (AreParts parts.new.items frame.now) }
-{
-    parts.clear();
-    push_registers(parts, &frame.registers)?;
-    Ok(())
+    take_parts_in(parts, frame, SlotMask::all())
 }
 
 // ---- into a frame

@@ -1,10 +1,11 @@
 //! What is forgotten of a state when a path reaches it.
 
-ghost use Rattle.std.specs.Prelude.{◌≡◌, ℕ, ◌<◌, IsTrue, replicate};
+ghost use Rattle.std.specs.Prelude.{◌≡◌, ℕ, ◌<◌, replicate};
 ghost use Rattle.stack_state.specs.Slots.{frame_slots};
+ghost use Rattle.control_flow.specs.Masks.{HasSlot};
 ghost use Rattle.walks.specs.Forgetting.{AreKept, AreSlotsLeft, AreSlotsKept, CallersForgotten, Forgets, IsSlotDeadAt};
 
-use control_flow::Flow;
+use control_flow::{Flow, SlotMask};
 use isa_model::Reg;
 use reg_state::Kind;
 use stack_state::{FRAME_SLOTS, Slot, State};
@@ -141,13 +142,13 @@ pub fn forget_dead(flow: &Flow<'_>, has_called: bool, state: &mut State)
     );
 }
 
-/// Whether all slots of the innermost frame's stack are forgotten where a path comes to a slot of
-/// the code.
-pub fn forgets_stack(flow: &Flow<'_>, slot: usize) -> bool
-    ensures { IsTrue result → (j : ℕ) → j < 64 → IsSlotDeadAt flow.now slot j }
+/// The slots of the innermost frame's stack of which something may be known where a path comes to a
+/// slot of the code: at a join those that are live.
+pub fn kept_slots(flow: &Flow<'_>, slot: usize) -> SlotMask
+    ensures { (j : ℕ) → j < 64 → ¬ HasSlot result j → IsSlotDeadAt flow.now slot j }
 {
     if !flow.is_join(slot) {
-        return false;
+        return SlotMask::all();
     }
-    flow.live_slots(slot).is_empty()
+    flow.live_slots(slot)
 }

@@ -9,5 +9,5 @@
 pub mod forgetting;
 pub mod refusals;
 
-pub use forgetting::{clear_slots, forget_dead, forgets_stack};
+pub use forgetting::{clear_slots, forget_dead, kept_slots};
 pub use refusals::Refusal;

@@ -1,5 +1,6 @@
-use Rattle.std.proofs.Common.{ℕ, ◌+◌, ◌*◌, arith}
-use Rattle.state_index.proofs.PartLaws.{slot_parts-more, slot_parts-all, slot_parts-from, slot_parts-skip_all}
+use Rattle.std.proofs.Common.{◌≡◌, ℕ, ◌+◌, ◌*◌, ◌++◌, length, arith, rules, sym, ap, ◌∙◌}
+use Rattle.std.proofs.lemmas.List.{append-nil}
+use Rattle.state_index.proofs.PartLaws.{slot_parts-more, slot_parts-all, slot_parts-from, slot_parts-skip_all, slot_parts-blank}
 use Rattle.state_index.proofs.parts.push_slots.Goals as goal
 use Rattle.state_index.proofs.parts.push_slots.Goals.{then-not-are_blank+else-loop-place-test, else-not-are_blank}
 
@@ -34,3 +35,11 @@ loop-block-preserved c =
           (slot_parts-from c.loop-block.parts.items _ ts (8 * b + 8) (8 * (b + 1)) (omega arith)
           (slot_parts-skip_all c.loop-block.parts.items _ ts (8 * b) 8 (omega arith) (c.are_blank.ensures w.if-not-are_blank.false) c.loop-block.invariant))
     ]
+
+pub returns-then-is_empty-clause-pushed : goal.returns-then-is_empty-clause-pushed
+returns-then-is_empty-clause-pushed c =
+    let items = c.args.parts.now.items in
+    let wide : length c.args.slots.now ≡ 64 = search rules in
+    let none = slot_parts-blank c.args.slots.now 0
+    (λ j below. c.requires j (omega (arith, below, wide)) (c.is_empty.ensures.none c.if-is_empty.true j)) in
+    sym (append-nil items) ∙ ap (λ l. items ++ l) (sym none)

@@ -102,9 +102,9 @@ come-requires-clause-comes c =
     (entered_of w) c.in-Ok-push.ensures.items
 
 pub of_forgotten-requires : goal.of_forgotten-requires
-of_forgotten-requires c = λ yes.
+of_forgotten-requires c = λ j below none.
     let forgotten = Forgets-forgotten c.args.flow.now c.step_in_place.new.other c.forget_dead.new.state c.forget_dead.ensures in
-    (forgotten.0, λ j below. forgotten.1 j below (c.forgets_stack-blank.ensures yes j below))
+    forgotten.1 j below (c.kept_slots-known.ensures j below none)
 
 pub come-requires-clause-forgotten : goal.come-requires-clause-forgotten
 come-requires-clause-forgotten c = λ new.
