@@ -2,7 +2,6 @@
 
 ghost use Rattle.std.specs.Prelude.{◌≡◌, ◌≢◌, ◌≤◌, Err, IfOk, IfErr};
 ghost use Rattle.isa_model.specs.Code.Limits.{max_explored};
-ghost use Rattle.isa_model.specs.Running.Outcomes.{StartsEnd};
 ghost use Rattle.bounds.specs.Bounds.{IsVerified};
 ghost use Rattle.walks.specs.Refused.{IsRefused};
 ghost use Rattle.walks.specs.Accepting.{AcceptsAll, BoundsAll};
@@ -12,12 +11,11 @@ ghost use Rattle.explorer.specs.Limited.{IfRefuses};
 ghost use Rattle.explorer.specs.declared.limited.Stop.TheVariants as Stop;
 
 use crate::kept::Kept;
+use crate::listened::verify_with;
 use crate::listening::Listener;
 use crate::moves::Halt;
-use crate::search::Search;
 use crate::verified::verify;
 use bounds::Verified;
-use control_flow::Flow;
 use image::Image;
 use isa_model::MAX_EXPLORED;
 use stack_state::State;
@@ -81,31 +79,6 @@ impl Listener for Countdown {
     fn refused(&mut self, _refusal: Refusal, _slot: usize) {}
 }
 
-// The bound of a program's runs, found within the limit.
-fn bound_within(alloc: Global, image: &Image, limit: u32) -> Result<u32, Stop>
-    ensures ends { IfOk result (StartsEnd image.now) }
-    ensures number { IfOk result (λ n. HasNumber image.now start n) }
-    ensures some { IfOk result (λ n. 1 ≤ n) }
-    ensures most { IfOk result (λ n. n ≤ MAX_EXPLORED) }
-    ensures refused { IfErr result (λ stop. IfRefuses stop (IsRefused image.now)) }
-{
-    let slots = image.slots();
-    let flow = match Flow::of(alloc, image) {
-        Ok(flow) => flow,
-        Err((error, slot)) => return Err(Stop::Refused(Refusal::Flow(error), slot)),
-    };
-    let Ok(mut search) = Search::new(alloc, slots) else {
-        return Err(Stop::Refused(Refusal::Memory, 0));
-    };
-    let mut room = Vec::new(alloc);
-    let mut countdown = Countdown { left: limit };
-    match search.explore(alloc, image, &flow, &mut room, &mut countdown) {
-        Ok(bound) => Ok(bound),
-        Err(Halt::Refused(refusal, slot)) => Err(Stop::Refused(refusal, slot)),
-        Err(Halt::Stopped(_)) => Err(Stop::Limit),
-    }
-}
-
 /// Verifies a program as `verify` does, but explores no more instructions than the limit. Within it
 /// the answer has each clause of `verify`'s, and with a limit of `MAX_EXPLORED` or more it is that
 /// one's.
@@ -124,9 +97,10 @@ pub fn verify_within(alloc: Global, image: Image, limit: u32) -> Result<Verified
             Err((refusal, slot)) => Err(Stop::Refused(refusal, slot)),
         };
     }
-    image.recall();
-    match bound_within(alloc, &image, limit) {
-        Ok(bound) => Ok(Verified::from_within(image, bound)),
-        Err(stop) => Err(stop),
+    let mut countdown = Countdown { left: limit };
+    match verify_with(alloc, image, &mut countdown) {
+        Ok(verified) => Ok(verified),
+        Err(Halt::Refused(refusal, slot)) => Err(Stop::Refused(refusal, slot)),
+        Err(Halt::Stopped(_)) => Err(Stop::Limit),
     }
 }

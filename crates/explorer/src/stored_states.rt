@@ -10,7 +10,7 @@ use crate::kept::{Kept, PLACES};
 use control_flow::SlotMask;
 use stack_state::State;
 use state_cover::covers;
-use state_index::{Effort, Index, Key, LONG_SCAN, Rows, Spread, Tree};
+use state_index::{Effort, Index, Key, LONG_SCAN, PlaceLimits, Rows, Spread, Tree};
 use std::alloc::{AllocError, Global};
 
 /// A state that was met at a join, with its number: 0 until it is finished.
@@ -104,23 +104,45 @@ impl StoredStates {
         self.index.add_tree(known, left, Tree::of(alloc, rows)?)
     }
 
-    /// The rows of entries for a tree.
-    fn rows_of(&self, alloc: Global, places: &[u32]) -> Result<Rows, AllocError> {
-        let mut limits = Vec::new(alloc);
+    /// How far the limits of entries lie apart.
+    fn spread_of(
+        &self,
+        alloc: Global,
+        places: &[u32],
+        limits: &mut Vec<PlaceLimits>,
+    ) -> Result<Spread, AllocError> {
         let mut spread = Spread::new(alloc);
         for place in places {
             if let Some(entry) = self.entries.get(*place as usize) {
-                entry.state.take_limits(&mut limits)?;
-                spread.add(&limits)?;
+                entry.state.take_limits(limits)?;
+                spread.add(limits.as_slice())?;
             }
         }
-        let mut rows = Rows::of(alloc, &spread)?;
+        Ok(spread)
+    }
+
+    /// Adds the rows of entries.
+    fn add_rows(
+        &self,
+        places: &[u32],
+        limits: &mut Vec<PlaceLimits>,
+        rows: &mut Rows,
+    ) -> Result<(), AllocError> {
         for place in places {
             if let Some(entry) = self.entries.get(*place as usize) {
-                entry.state.take_limits(&mut limits)?;
-                rows.add(*place, &limits)?;
+                entry.state.take_limits(limits)?;
+                rows.add(*place, limits.as_slice())?;
             }
         }
+        Ok(())
+    }
+
+    /// The rows of entries for a tree.
+    fn rows_of(&self, alloc: Global, places: &[u32]) -> Result<Rows, AllocError> {
+        let mut limits = Vec::new(alloc);
+        let spread = self.spread_of(alloc, places, &mut limits)?;
+        let mut rows = Rows::of(alloc, &spread)?;
+        self.add_rows(places, &mut limits, &mut rows)?;
         Ok(rows)
     }
 

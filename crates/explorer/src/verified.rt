@@ -1,46 +1,19 @@
 //! The search for a bound on the steps of every run.
 
-ghost use Rattle.std.specs.Prelude.{◌≡◌, ◌≤◌, IfOk, IfErr};
-ghost use Rattle.isa_model.specs.Running.Outcomes.{StartsEnd};
+ghost use Rattle.std.specs.Prelude.{◌≡◌, IfOk, IfErr};
 ghost use Rattle.bounds.specs.Bounds.{IsVerified};
 ghost use Rattle.walks.specs.Refused.{IsRefused};
 ghost use Rattle.walks.specs.Accepting.{AcceptsAll, BoundsAll};
 ghost use Rattle.walks.specs.Counts.{HasNumber};
 ghost use Rattle.stack_state.specs.Starts.{start};
 
+use crate::listened::verify_with;
 use crate::listening::Nobody;
 use crate::moves::Halt;
-use crate::search::Search;
 use bounds::Verified;
-use control_flow::Flow;
 use image::Image;
-use isa_model::MAX_EXPLORED;
 use std::alloc::Global;
 use walks::Refusal;
-
-/// The bound of a program's runs.
-fn bound_of(alloc: Global, image: &Image) -> Result<u32, (Refusal, usize)>
-    ensures ends { IfOk result (StartsEnd image.now) }
-    ensures number { IfOk result (λ n. HasNumber image.now start n) }
-    ensures some { IfOk result (λ n. 1 ≤ n) }
-    ensures most { IfOk result (λ n. n ≤ MAX_EXPLORED) }
-    ensures refused { IfErr result (λ r. IsRefused image.now r.0 r.1) }
-{
-    let slots = image.slots();
-    let flow = match Flow::of(alloc, image) {
-        Ok(flow) => flow,
-        Err((error, slot)) => return Err((Refusal::Flow(error), slot)),
-    };
-    let Ok(mut search) = Search::new(alloc, slots) else {
-        return Err((Refusal::Memory, 0));
-    };
-    let mut room = Vec::new(alloc);
-    match search.explore(alloc, image, &flow, &mut room, &mut Nobody) {
-        Ok(bound) => Ok(bound),
-        Err(Halt::Refused(refusal, slot)) => Err((refusal, slot)),
-        Err(Halt::Stopped(never)) => match never {},
-    }
-}
 
 /// Looks for a bound on the steps of each run, or refuses, with the slot at which it does.
 ///
@@ -59,7 +32,9 @@ pub fn verify(alloc: Global, image: Image) -> Result<Verified, (Refusal, usize)>
     ensures accepts { IfErr result (λ r. AcceptsAll image r.0) }
     ensures bounds { IfOk result (λ verified. BoundsAll image verified.bound) }
 {
-    image.recall();
-    let bound = bound_of(alloc, &image)?;
-    Ok(Verified::from_within(image, bound))
+    match verify_with(alloc, image, &mut Nobody) {
+        Ok(verified) => Ok(verified),
+        Err(Halt::Refused(refusal, slot)) => Err((refusal, slot)),
+        Err(Halt::Stopped(never)) => match never {},
+    }
 }

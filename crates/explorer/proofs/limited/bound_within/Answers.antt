@@ -1,5 +1,0 @@
-use Rattle.explorer.proofs.Steps.{starts_end}
-use Rattle.explorer.proofs.limited.bound_within.Goals as goal
-
-pub returns-in-Ok-explore-clause-ends : goal.returns-in-Ok-explore-clause-ends
-returns-in-Ok-explore-clause-ends c = starts_end c.in-Ok.flow c.args.image.now c.in-Ok-explore.bound c.in-Ok.ensures.found c.slots-slots.ensures.fits c.in-Ok-explore.ensures.within
