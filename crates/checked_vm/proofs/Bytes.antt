@@ -12,7 +12,7 @@ use Rattle.isa_model.specs.declared.ends.TrapReason.{TrapReason}
 use Rattle.isa_model.specs.Code.Numbers.{number_from}
 use Rattle.isa_model.specs.declared.values.Value.TheVariants.{Num}
 use Rattle.isa_model.specs.Machine.States.{State, content_of}
-use Rattle.isa_model.specs.Machine.Memory.{and_then, region_cells, entry_index, put_value, place_in, number_in, value_in, index_at, read, write}
+use Rattle.isa_model.specs.Machine.Memory.{and_then, region_cells, index_of_serial, put_value, place_in, number_in, value_in, index_at, read, write}
 use Rattle.isa_model.specs.Machine.HelperCalls.{bytes_in, bytes_at}
 use Rattle.isa_model.proofs.ByteCells.{list_any-is_unwritten-Byte, list_all-is_byte-Byte, map-byte_in-Byte, number_in-Byte, value_in-Byte, take-drop-Byte}
 use Rattle.live_maps.specs.Live.{value_bytes}
@@ -56,7 +56,7 @@ bytes_at_part s r q z n at bytes new region place found same =
 
 -- a write to a live value puts the bytes there
 pub write_value_part : (s : State) (m n : ℕ) (at : Option ℕ) (new value : List ℕ) (i : ℕ) → value_bytes (content_of s m) n ≡ Some value → place_in (Some (map Byte value)) at (length new) ≡ Ok i
-    → write s (MapValue m n) at (map Byte new) ≡ Ok (record s { maps = slice_set s.maps m (put_value (content_of s m) (entry_index (content_of s m) n) i new) })
+    → write s (MapValue m n) at (map Byte new) ≡ Ok (record s { maps = slice_set s.maps m (put_value (content_of s m) (index_of_serial (content_of s m) n) i new) })
 write_value_part s m n at new value i found place =
     let cells : region_cells s (MapValue m n) ≡ Some (map Byte value) = value_cells (content_of s m) n ∙ ap (option_map (map Byte)) found in
     let count : length (map Byte new) ≡ length new = length-map new Byte in

@@ -6,16 +6,16 @@ use Rattle.isa_model.specs.declared.values.Region.TheVariants.{MapValue}
 use Rattle.isa_model.specs.declared.values.Cell.{Cell}
 use Rattle.isa_model.specs.declared.values.Cell.TheVariants.{Byte}
 use Rattle.isa_model.specs.Machine.States.{Content, State, content_of}
-use Rattle.isa_model.specs.Machine.Memory.{read, entry_index, entry_at}
+use Rattle.isa_model.specs.Machine.Memory.{read, index_of_serial, key_value_at}
 use Rattle.live_maps.specs.Live.{value_bytes}
 use Rattle.checked_vm.specs.Reads.{read_cells}
 
 -- the cells of a map's value are its bytes
 pub value_cells : (content : Content) (n : ℕ)
-    → option_map (λ j. map Byte (entry_at content j).1.bytes) (entry_index content n) ≡ option_map (map Byte) (value_bytes content n)
-value_cells content n = by (entry_index content n)
+    → option_map (λ j. map Byte (key_value_at content j).1.bytes) (index_of_serial content n) ≡ option_map (map Byte) (value_bytes content n)
+value_cells content n = by (index_of_serial content n)
   where
-    by : (o : Option ℕ) → option_map (λ j. map Byte (entry_at content j).1.bytes) o ≡ option_map (map Byte) (option_map (λ j. (entry_at content j).1.bytes) o)
+    by : (o : Option ℕ) → option_map (λ j. map Byte (key_value_at content j).1.bytes) o ≡ option_map (map Byte) (option_map (λ j. (key_value_at content j).1.bytes) o)
     by None = refl
     by (Some j) = refl
 

@@ -2,13 +2,13 @@
 use Rattle.std.specs.Prelude.{ℕ, List}
 use Rattle.isa_model.specs.declared.frames.FrameHead.{FrameHead}
 use Rattle.isa_model.specs.Code.Instructions.{Program}
-use Rattle.isa_model.specs.Machine.States.{Entries}
+use Rattle.isa_model.specs.Machine.States.{KeyValues}
 use Rattle.isa_model.specs.Running.Runs.{Turn, turn}
 
 -- its program, and the maps' contents between runs
 pub record LoadedProgram : Type 0 where
   pub program : Program
-  pub contents : List Entries
+  pub contents : List KeyValues
 
 -- one run of its program on a packet, stopped at the limit
 abbrev pub turn_from : LoadedProgram → ℕ → (ℕ → ℕ) → FrameHead → List ℕ → Turn

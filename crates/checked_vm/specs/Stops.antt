@@ -3,7 +3,7 @@ use Rattle.std.specs.Prelude.{ℕ, List}
 use Rattle.isa_model.specs.declared.frames.FrameHead.{FrameHead}
 use Rattle.isa_model.specs.declared.ends.End.{End}
 use Rattle.isa_model.specs.Code.Instructions.{Program, fetch}
-use Rattle.isa_model.specs.Machine.States.{State, Entries}
+use Rattle.isa_model.specs.Machine.States.{State, KeyValues}
 use Rattle.isa_model.specs.Running.Runs.{Progress, GoesOn, Ended, progress, start_state, turn}
 use Rattle.checked_vm.specs.declared.stops.Stop.{Stop}
 
@@ -17,6 +17,6 @@ abbrev pub stop_in : Program → End → State → Stop
 stop_in p e s = record { end = e; slot = s.slot; insn = fetch p s.slot; registers = s.regs }
 
 -- where a run within a limit stopped
-unfoldable pub stop_of : Program → ℕ → (ℕ → ℕ) → FrameHead → List ℕ → List Entries → Stop
+unfoldable pub stop_of : Program → ℕ → (ℕ → ℕ) → FrameHead → List ℕ → List KeyValues → Stop
 stop_of p limit clock head packet contents =
     stop_in p (turn p limit clock head packet contents).ends (state_at (progress p clock limit (start_state head packet contents)))

@@ -29,7 +29,7 @@ pub struct Checked {
 
 impl Model for Checked {
     ghost use Rattle.isa_model.specs.Code.Limits.{max_call_frames};
-    ghost use Rattle.isa_model.specs.Machine.States.{entries_of};
+    ghost use Rattle.isa_model.specs.Machine.States.{key_values_of};
     ghost use Rattle.std.specs.Prelude.{◌≡◌, ◌≤◌, map, vec_capacity};
     ghost use Rattle.checked_vm.specs.Machines.{LoadedProgram};
 
@@ -37,7 +37,7 @@ impl Model for Checked {
 
     ghost view = { λ machine. record {
       program = machine.image;
-      contents = map entries_of machine.core.maps.contents;
+      contents = map key_values_of machine.core.maps.contents;
     } };
 
     ghost invariant = { λ machine. (vec_capacity machine.core.frames ≡ max_call_frames)

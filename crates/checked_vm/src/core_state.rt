@@ -2,7 +2,7 @@
 
 ghost use Rattle.std.specs.Prelude.{◌≡◌, ◌≤◌, ◌^◌, ℕ, List, length, map, slice_set, IfOk, vec_len, vec_capacity};
 ghost use Rattle.isa_model.specs.Code.Registers.{reg_number};
-ghost use Rattle.isa_model.specs.Machine.States.{entries_of, value_at, new_frame};
+ghost use Rattle.isa_model.specs.Machine.States.{key_values_of, value_at, new_frame};
 ghost use Rattle.isa_model.specs.Machine.Memory.{frame_index};
 ghost use Rattle.isa_model.specs.Code.Limits.{max_call_frames};
 ghost use Rattle.isa_model.specs.Running.Runs.{start_state};
@@ -65,7 +65,7 @@ impl Core {
     pub fn start(&mut self, head: FrameHead)
         requires room { max_call_frames ≤ vec_capacity self.old.frames }
         ensures state { (packet : List ℕ) → state_of self.new packet
-            ≡ start_state head packet (map entries_of self.old.maps.contents) }
+            ≡ start_state head packet (map key_values_of self.old.maps.contents) }
         ensures frames { vec_len self.new.frames ≡ 1 }
         ensures room { vec_capacity self.new.frames ≡ vec_capacity self.old.frames }
         ensures rows { self.new.maps.rows ≡ self.old.maps.rows }

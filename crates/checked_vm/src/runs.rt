@@ -2,7 +2,7 @@
 
 ghost use Rattle.std.specs.Prelude.{◌≡◌, ◌≢◌, ◌+◌, ◌<◌, ◌≤◌, ◌^◌, ℕ, List, map, vec_capacity};
 ghost use Rattle.isa_model.specs.Code.Instructions.{Program};
-ghost use Rattle.isa_model.specs.Machine.States.{entries_of};
+ghost use Rattle.isa_model.specs.Machine.States.{key_values_of};
 ghost use Rattle.isa_model.specs.Code.Limits.{max_call_frames};
 ghost use Rattle.isa_model.specs.Machine.Steps.{step};
 ghost use Rattle.isa_model.specs.Running.Runs.{progress, turn_of, left, turn, start_state};
@@ -119,17 +119,17 @@ impl Core {
         requires named { NamesAllRows self.old.maps.rows insns.now }
         ensures turn { (p : Program) → p.insns ≡ insns.now → p.maps ≡ self.old.maps.rows
             → p.version ≡ version →
-            turn p limit (C.at clock.old) head packet.old (map entries_of self.old.maps.contents)
+            turn p limit (C.at clock.old) head packet.old (map key_values_of self.old.maps.contents)
             ≡ record {
               ends = result;
               packet = packet.new;
-              contents = map entries_of self.new.maps.contents;
+              contents = map key_values_of self.new.maps.contents;
               clock_calls = self.new.clock_calls;
             } }
         ensures stop { (p : Program) → p.insns ≡ insns.now → p.maps ≡ self.old.maps.rows
             → p.version ≡ version →
             state_at (progress p (C.at clock.old) limit
-            (start_state head packet.old (map entries_of self.old.maps.contents)))
+            (start_state head packet.old (map key_values_of self.old.maps.contents)))
             ≡ state_of self.new packet.new }
         ensures clock { (k : ℕ) → C.at clock.new k ≡ C.at clock.old (self.new.clock_calls + k) }
         ensures room { vec_capacity self.new.frames ≡ max_call_frames }

@@ -1,11 +1,11 @@
 -- What calls on sessions answer.
 use Rattle.std.specs.Prelude.{◌≡◌, ℕ, ◌<◌, List, length, Option, Some}
 use Rattle.isa_model.specs.declared.frames.FrameHead.{FrameHead}
-use Rattle.isa_model.specs.Machine.States.{Entries}
+use Rattle.isa_model.specs.Machine.States.{KeyValues}
 use Rattle.isa_model.specs.Reporting.Reports.{starting_contents}
 use Rattle.machine.specs.declared.machines.Exit.{Exit}
 use Rattle.machine.specs.Running.{Running, AnswersRun}
-use Rattle.machine.specs.Entries.{row_at}
+use Rattle.machine.specs.BetweenRuns.{row_at}
 use Rattle.embedding.specs.Verdicts.{IsAcceptedImage}
 
 -- a session is open, and this is so of its machine
@@ -31,7 +31,7 @@ pub record OpensSession (bytes : List ℕ) (held : Option Running) : Type 0 wher
 -- the run of the open program on this packet has this exit, and leaves this packet; program and bound stay, and the maps go on
 pub record RunsSession (old new : Option Running) (head : FrameHead) (packet : List ℕ) (exit : Exit) (after : List ℕ) : Type 0 where
   pub machine : Running
-  pub left : List Entries
+  pub left : List KeyValues
   pub coming : ℕ → ℕ
   pub was : old ≡ Some machine
   pub is : new ≡ Some (record machine { contents = left })

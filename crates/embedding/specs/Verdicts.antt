@@ -3,7 +3,7 @@ use Rattle.std.specs.Prelude.{◌≡◌, ◌≢◌, ◌<◌, ℕ, false, List, l
 use Rattle.isa_model.specs.Code.Instructions.{Program}
 use Rattle.isa_model.specs.Code.Limits.{max_explored}
 use Rattle.isa_model.specs.declared.frames.FrameHead.{FrameHead}
-use Rattle.isa_model.specs.Machine.States.{Entries}
+use Rattle.isa_model.specs.Machine.States.{KeyValues}
 use Rattle.isa_model.specs.Reporting.Reports.{starting_contents}
 use Rattle.image.specs.declared.errors.ImageError.{ImageError}
 use Rattle.image.specs.Images.{image_bytes}
@@ -76,7 +76,7 @@ FillsTextRefusal source old new size line column =
 pub record RunsProgram (bytes : List ℕ) (head : FrameHead) (packet : List ℕ) (exit : Exit) (after : List ℕ) : Type 0 where
   pub bound : ℕ
   pub accepts : IsAcceptedImage bytes bound
-  pub left : List Entries
+  pub left : List KeyValues
   pub coming : ℕ → ℕ
   pub answers : AnswersRun (record { program = accepts.program; bound = bound; contents = starting_contents accepts.program.maps })
       head packet (λ _. head.time) exit after left coming

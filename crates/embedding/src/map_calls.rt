@@ -3,7 +3,7 @@
 ghost use Rattle.std.specs.Prelude.{◌≡◌, ◌≢◌, ◌↔◌, length, true, None, Some};
 ghost use Rattle.std.specs.List.{slice_get};
 ghost use Rattle.isa_model.specs.Machine.MapContents.{at_key};
-ghost use Rattle.machine.specs.Entries.{content_at, ordered_at, AnswersUpdate, AnswersDelete, CopiesEntry};
+ghost use Rattle.machine.specs.BetweenRuns.{content_at, ordered_at, AnswersUpdate, AnswersDelete, CopiesKeyValue};
 ghost use Rattle.embedding.specs.Crossing.{IsLookUp, IsChange};
 ghost use Rattle.embedding.specs.Sessions.{HoldsOpen, StaysOpen, FitsKey, FitsMap};
 
@@ -156,7 +156,7 @@ fn copy(machine: &mut Machine, map: usize, rank: usize, key: &mut [u8], value: &
     if !fits_map(machine, map, key.len(), value.len()) {
         return WRONG;
     }
-    if machine.copy_entry(map, rank, key, value) {
+    if machine.copy_key_value(map, rank, key, value) {
         OK
     } else {
         ABSENT

@@ -7,12 +7,12 @@ use crate::kept_frames::{KeptFrame, are_frames, keep_all, restore_all};
 use control_flow::SlotMask;
 use isa_model::FRAME_SIZE;
 use stack_state::{AbstractFrame, State};
-use state_index::{Fingerprints, Key, Part, PlaceLimits, take_parts, take_parts_in};
+use state_index::{Fingerprints, Key, Part, PartLimits, take_parts, take_parts_in};
 use std::alloc::{AllocError, Global};
 use std::marker::Model;
 use std::rc::Rc;
 
-/// How many places a frame has: its registers and its slots.
+/// How many parts a frame has: its registers and its slots.
 pub const PLACES: usize = 10 + FRAME_SIZE / 8;
 
 /// How many words a state takes beside its frames.
@@ -163,7 +163,7 @@ impl Kept {
     }
 
     /// Becomes the limits of all frames.
-    pub(crate) fn take_limits(&self, limits: &mut Vec<PlaceLimits>) -> Result<(), AllocError> {
+    pub(crate) fn take_limits(&self, limits: &mut Vec<PartLimits>) -> Result<(), AllocError> {
         limits.clear();
         let mut level = 0;
         for frame in self.callers.as_ref().as_slice() {
@@ -173,9 +173,9 @@ impl Kept {
         self.innermost.put_limits(limits, level)
     }
 
-    /// How many places are compared at most when the state is compared with another one: those of
+    /// How many parts are compared at most when the state is compared with another one: those of
     /// all frames, and once more for each identity that it uses.
-    pub(crate) fn places(&self) -> usize {
+    pub(crate) fn part_count(&self) -> usize {
         let mut named = self.innermost.named();
         for frame in self.callers.as_ref().as_slice() {
             named = named.saturating_add(frame.named());

@@ -9,7 +9,7 @@ use crate::pieces::{FEW, KeptParts, Rest, may_cover_all, words_of, write_all};
 use arrayvec::ArrayVec;
 use reg_state::Kind;
 use stack_state::{AbstractFrame, FRAME_SLOTS, MAX_CALLERS, Slot};
-use state_index::{Fingerprints, Part, PlaceLimits, add_limits, take_parts};
+use state_index::{Fingerprints, Part, PartLimits, add_limits, take_parts};
 use std::alloc::{AllocError, Global};
 use std::marker::Model;
 
@@ -126,7 +126,7 @@ impl KeptFrame {
     }
 
     /// Puts its limits after those of the frames around it.
-    pub fn put_limits(&self, limits: &mut Vec<PlaceLimits>, level: u32) -> Result<(), AllocError> {
+    pub fn put_limits(&self, limits: &mut Vec<PartLimits>, level: u32) -> Result<(), AllocError> {
         add_limits(limits, level, self.parts.few())?;
         for piece in self.parts.pieces() {
             add_limits(limits, level, piece.parts())?;

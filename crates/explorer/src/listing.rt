@@ -36,7 +36,7 @@ pub struct ExploredInsn {
 /// The explored instructions of a program, in the order in which they were explored. The start's
 /// is the first.
 ///
-/// Contracts see the entries.
+/// Contracts see the explored instructions.
 #[derive(Drop)]
 pub struct Explored {
     entries: Vec<ExploredInsn>,
@@ -67,14 +67,14 @@ impl Explored {
     }
 }
 
-/// Makes an entry of each explored instruction.
+/// Lists each explored instruction.
 #[derive(Drop)]
 struct Lister {
     alloc: Global,
     entries: Vec<ExploredInsn>,
-    /// The entries of the stored states.
+    /// Where the instructions of the stored states are in the list.
     stored: Vec<u32>,
-    /// The entries of the path's states.
+    /// Where those of the path's states are.
     path: Vec<u32>,
     /// For the parts of a frame.
     room: Vec<Part>,
@@ -99,7 +99,7 @@ impl Lister {
         }
     }
 
-    /// The entry is a successor of the path's last state.
+    /// The instruction at this index is a successor of the path's last state.
     fn lead_to(&mut self, place: u32) {
         let Some(last) = self.path.last() else {
             return;
@@ -130,7 +130,7 @@ impl Lister {
         )
     }
 
-    /// The entries of stored states get those states, which are not needed any more where they
+    /// The instructions of stored states get those states, which are not needed any more where they
     /// are stored.
     fn take_stored(&mut self, states: &mut [StoredState]) {
         for place in 0..states.len() {

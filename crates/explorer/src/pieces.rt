@@ -7,7 +7,7 @@ ghost use Rattle.explorer.specs.Pieces.{whole, few_of, pieces_of};
 
 use reg_state::Kind;
 use stack_state::{AbstractFrame, Slot};
-use state_index::{Part, are_same, may_cover_place, write};
+use state_index::{Part, are_same, may_cover_part, write};
 use std::alloc::{AllocError, Global};
 use std::marker::Model;
 use std::rc::Rc;
@@ -83,7 +83,7 @@ impl Piece {
     }
 }
 
-/// The key of a piece: the places of its registers or slots.
+/// The key of a piece: the numbers of its registers or slots.
 fn group_of(part: &Part) -> u8 {
     match part {
         Part::InRegister(place, _) => *place / REGISTERS,
@@ -301,13 +301,13 @@ pub fn write_all(frame: &mut AbstractFrame, parts: &[Part])
     }
 }
 
-/// Whether what is known of places may cover what a frame knows of them: false means that it does
+/// Whether what is known of parts may cover what a frame knows of them: false means that it does
 /// not.
 pub fn may_cover_all(parts: &[Part], frame: &AbstractFrame) -> bool
     ensures { All (IsPartOf frame.now) parts.now → IsTrue result }
 {
     for index in 0..parts.len() {
-        if !may_cover_place(&parts[index], frame) {
+        if !may_cover_part(&parts[index], frame) {
             return false;
         }
     }

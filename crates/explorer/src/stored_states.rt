@@ -10,7 +10,7 @@ use crate::kept::{Kept, PLACES};
 use control_flow::SlotMask;
 use stack_state::State;
 use state_cover::covers;
-use state_index::{Effort, Index, Key, LONG_SCAN, PlaceLimits, Rows, Spread, Tree};
+use state_index::{Effort, Index, Key, LONG_SCAN, PartLimits, Rows, Spread, Tree};
 use std::alloc::{AllocError, Global};
 
 /// A state that was met at a join, with its number: 0 until it is finished.
@@ -33,7 +33,7 @@ const MOST_WORDS: u64 = 15_000_000;
 /// How many words a state takes in a tree.
 const TREE_WORDS: u32 = 43;
 
-/// How often the places of callers are read where a state is looked up and stored.
+/// How often the parts of callers are read where a state is looked up and stored.
 const CALLER_READINGS: usize = 3;
 
 /// The stored states, in the order in which they were met.
@@ -95,25 +95,26 @@ impl StoredStates {
     fn add_tree(&mut self, alloc: Global, known: u64) -> Result<(), AllocError>
         ensures { self.new.entries.items ≡ self.old.entries.items }
     {
-        let (places, left) = self.index.tree_candidates(alloc, known, &mut self.effort)?;
-        self.effort.spend_tree(places.len(), self.key.limits.len());
+        let (positions, left) = self.index.tree_candidates(alloc, known, &mut self.effort)?;
+        self.effort
+            .spend_tree(positions.len(), self.key.limits.len());
         if self.effort.is_over() {
             return Ok(());
         }
-        let rows = self.rows_of(alloc, &places)?;
+        let rows = self.rows_of(alloc, &positions)?;
         self.index.add_tree(known, left, Tree::of(alloc, rows)?)
     }
 
-    /// How far the limits of entries lie apart.
+    /// How far the limits of stored states lie apart.
     fn spread_of(
         &self,
         alloc: Global,
-        places: &[u32],
-        limits: &mut Vec<PlaceLimits>,
+        positions: &[u32],
+        limits: &mut Vec<PartLimits>,
     ) -> Result<Spread, AllocError> {
         let mut spread = Spread::new(alloc);
-        for place in places {
-            if let Some(entry) = self.entries.get(*place as usize) {
+        for position in positions {
+            if let Some(entry) = self.entries.get(*position as usize) {
                 entry.state.take_limits(limits)?;
                 spread.add(limits.as_slice())?;
             }
@@ -121,28 +122,28 @@ impl StoredStates {
         Ok(spread)
     }
 
-    /// Adds the rows of entries.
+    /// Adds the rows of stored states.
     fn add_rows(
         &self,
-        places: &[u32],
-        limits: &mut Vec<PlaceLimits>,
+        positions: &[u32],
+        limits: &mut Vec<PartLimits>,
         rows: &mut Rows,
     ) -> Result<(), AllocError> {
-        for place in places {
-            if let Some(entry) = self.entries.get(*place as usize) {
+        for position in positions {
+            if let Some(entry) = self.entries.get(*position as usize) {
                 entry.state.take_limits(limits)?;
-                rows.add(*place, limits.as_slice())?;
+                rows.add(*position, limits.as_slice())?;
             }
         }
         Ok(())
     }
 
-    /// The rows of entries for a tree.
-    fn rows_of(&self, alloc: Global, places: &[u32]) -> Result<Rows, AllocError> {
+    /// The rows of stored states for a tree.
+    fn rows_of(&self, alloc: Global, positions: &[u32]) -> Result<Rows, AllocError> {
         let mut limits = Vec::new(alloc);
-        let spread = self.spread_of(alloc, places, &mut limits)?;
+        let spread = self.spread_of(alloc, positions, &mut limits)?;
         let mut rows = Rows::of(alloc, &spread)?;
-        self.add_rows(places, &mut limits, &mut rows)?;
+        self.add_rows(positions, &mut limits, &mut rows)?;
         Ok(rows)
     }
 
@@ -177,7 +178,7 @@ impl StoredStates {
         }
     }
 
-    /// The number of an entry, if it is finished and covers the state.
+    /// The number of a stored state, if it is finished and covers the state.
     fn covering(
         &self,
         index: usize,
@@ -193,7 +194,7 @@ impl StoredStates {
         if entry.number == 0 || !entry.state.may_cover(state) {
             return None;
         }
-        effort.spend(entry.state.places());
+        effort.spend(entry.state.part_count());
         entry.state.restore(scratch);
         if !covers(scratch, state) {
             return None;
@@ -278,7 +279,7 @@ impl StoredStates {
         first
     }
 
-    /// Whether an entry is unfinished and equal to the state.
+    /// Whether a stored state is unfinished and equal to the state.
     fn is_equal(
         &self,
         index: usize,
@@ -295,7 +296,7 @@ impl StoredStates {
         if entry.number != 0 {
             return false;
         }
-        effort.spend(entry.state.places());
+        effort.spend(entry.state.part_count());
         entry.state.restore(scratch);
         if !covers(scratch, state) {
             return false;

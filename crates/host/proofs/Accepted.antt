@@ -8,7 +8,7 @@ use Rattle.isa_model.specs.declared.streams.Finish.TheVariants as finish
 use Rattle.isa_model.specs.declared.versions.Version.{Version}
 use Rattle.isa_model.specs.Code.Instructions.{Program}
 use Rattle.isa_model.specs.Code.Versions.{stream_magic}
-use Rattle.isa_model.specs.Machine.States.{Entries}
+use Rattle.isa_model.specs.Machine.States.{KeyValues}
 use Rattle.isa_model.specs.Reporting.Streams.{Frame, Stream, stream_with, AreOpen}
 use Rattle.isa_model.specs.Running.Runs.{Turn, turn}
 use Rattle.isa_model.proofs.RunLaws.{turn-outcome}
@@ -33,7 +33,7 @@ use Rattle.host.proofs.Turns.{turns_pieces-append}
 use Rattle.host.proofs.Fronts.{first_pieces}
 
 -- a machine's answer is the turn of its program
-pub turn-AnswersRun : (r : Running) (head : FrameHead) (packet : List ℕ) (clock : ℕ → ℕ) (exit : TheExit) (after : List ℕ) (left : List Entries) (coming : ℕ → ℕ)
+pub turn-AnswersRun : (r : Running) (head : FrameHead) (packet : List ℕ) (clock : ℕ → ℕ) (exit : TheExit) (after : List ℕ) (left : List KeyValues) (coming : ℕ → ℕ)
     → AnswersRun r head packet clock exit after left coming
     → ((turn r.program r.bound clock head packet r.contents).ends ≡ Exit exit.r0 exit.steps)
     × ((turn r.program r.bound clock head packet r.contents).packet ≡ after)
@@ -50,7 +50,7 @@ turn-AnswersRun r head packet clock exit after left coming h =
 -- ---- from what a machine writes to the reports
 
 -- However a stream goes on after these packet frames, its checked report begins with their pieces.
-front_goes_on : (limit : ℕ) (program : Version) (rows : List MapDef) (rule : Rule) (contents : List Entries) (v : Version) (frames more : List Frame) (finish : Finish)
+front_goes_on : (limit : ℕ) (program : Version) (rows : List MapDef) (rule : Rule) (contents : List KeyValues) (v : Version) (frames more : List Frame) (finish : Finish)
     → (rest : List Piece) × (report_of limit program rows rule contents (stream_with v (frames ++ more, finish)) ≡ front_in (record { limit = limit; program = program; stream = v }) rule contents frames ++ rest)
 front_goes_on limit program rows rule contents v frames more finish =
     let form : ReportForm = record { limit = limit; program = program; stream = v } in
@@ -139,12 +139,12 @@ WritesEach-tallied : (old new : Outputs) (result : Result Traced HostError) (pie
 WritesEach-tallied old new (Ok traced) pieces w = w
 WritesEach-tallied old new (Err e) pieces w = w
 
-tells-tallied : (notes : Noting) (rule : Rule) (noted : Noted) (contents : List Entries) (found : Stream) (result : Result Traced HostError)
+tells-tallied : (notes : Noting) (rule : Rule) (noted : Noted) (contents : List KeyValues) (found : Stream) (result : Result Traced HostError)
     → IfOk result (TellsNoted notes rule noted contents found) → IfOk (tallied result) (TellsTally found)
 tells-tallied notes rule noted contents found (Ok traced) h = h.0
 tells-tallied notes rule noted contents found (Err e) h = tt
 
-ReportsBy-tallied : (source : Option (List ℕ)) (limit : ℕ) (program : Version) (rows : List MapDef) (rule : Rule) (contents : List Entries) (notes : Noting) (noted : Noted) (old new : Outputs) (result : Result Traced HostError)
+ReportsBy-tallied : (source : Option (List ℕ)) (limit : ℕ) (program : Version) (rows : List MapDef) (rule : Rule) (contents : List KeyValues) (notes : Noting) (noted : Noted) (old new : Outputs) (result : Result Traced HostError)
     → ReportsBy source limit program rows rule contents (TellsNoted notes rule noted contents) old new result → ReportsBy source limit program rows rule contents TellsTally old new (tallied result)
 ReportsBy-tallied source limit program rows rule contents notes noted old new result (inl r) = inl (record {
   found = r.found;
@@ -157,7 +157,7 @@ ReportsBy-tallied source limit program rows rule contents notes noted old new re
 
 -- the same of the machine that was made of the program and its maps as they start, with its bound
 -- as the limit
-pub ReportsRun-machine : (a : Bounded) (source : Option (List ℕ)) (old new : Outputs) (result : Result Traced HostError) (limit : ℕ) (program : Version) (contents : List Entries) (m : Running) (notes : Noting) (noted : Noted) → IsVerified a
+pub ReportsRun-machine : (a : Bounded) (source : Option (List ℕ)) (old new : Outputs) (result : Result Traced HostError) (limit : ℕ) (program : Version) (contents : List KeyValues) (m : Running) (notes : Noting) (noted : Noted) → IsVerified a
     → limit ≡ a.bound → program ≡ a.program.version → contents ≡ starting_contents a.program.maps → m ≡ record { program = a.program; bound = a.bound; contents = contents }
     → ReportsBy source limit program m.program.maps (checked_rule m.program m.bound) m.contents (TellsNoted notes (checked_rule m.program m.bound) noted m.contents) old new result
     → ReportsRun a source old new (tallied result)
@@ -167,4 +167,4 @@ ReportsRun-machine a source old new result limit program contents m notes noted 
     let versioned = subst (λ (v : Version). ReportsBy source a.bound v m.program.maps (checked_rule m.program m.bound) m.contents TellsTally old new (tallied result)) version bounded in
     let by_program = subst (λ (q : Running). ReportsBy source a.bound a.program.version q.program.maps (checked_rule q.program q.bound) q.contents TellsTally old new (tallied result)) made versioned in
     ReportsRun-By a source old new (tallied result) h
-    (subst (λ (c : List Entries). ReportsBy source a.bound a.program.version a.program.maps (checked_rule a.program a.bound) c TellsTally old new (tallied result)) start by_program)
+    (subst (λ (c : List KeyValues). ReportsBy source a.bound a.program.version a.program.maps (checked_rule a.program a.bound) c TellsTally old new (tallied result)) start by_program)

@@ -5,7 +5,7 @@ use Rattle.isa_model.specs.declared.streams.Finish.{Finish}
 use Rattle.isa_model.specs.declared.versions.Version.{Version}
 use Rattle.isa_model.specs.Code.Instructions.{Program}
 use Rattle.isa_model.specs.Code.Versions.{stream_magic}
-use Rattle.isa_model.specs.Machine.States.{Entries}
+use Rattle.isa_model.specs.Machine.States.{KeyValues}
 use Rattle.isa_model.specs.Running.Runs.{Outcome, Turn}
 use Rattle.isa_model.proofs.RunLaws.{turn-outcome, HasOutcome-same}
 use Rattle.isa_model.specs.Reporting.Streams.{Frame, stream_with}
@@ -18,10 +18,10 @@ module _ (p : Program) (n : ℕ) where
   abbrev limited : ReportForm → ReportForm
   limited form = record form { limit = n }
 
-  abbrev turn_if : List Entries → Frame → Bool → Option Turn
+  abbrev turn_if : List KeyValues → Frame → Bool → Option Turn
   turn_if contents f runs = if runs then Some (checked_rule p n f.head f.body contents) else None
 
-  module _ (form : ReportForm) (number : ℕ) (contents : List Entries) (f : Frame) where
+  module _ (form : ReportForm) (number : ℕ) (contents : List KeyValues) (f : Frame) where
     exit_pieces : (o : Outcome) → frame_pieces form number f (turn_by o) ≡ frame_pieces (limited form) number f (turn_by o)
     unfolding frame_pieces frame_line
     exit_pieces o = refl
@@ -31,7 +31,7 @@ module _ (p : Program) (n : ℕ) where
     kept_pieces = refl
 
     -- one frame's pieces, and what it leaves
-    one_frame : (runs : Bool) (pieces : List Piece) (next after : List Entries) → ExitsOn p n contents f runs next → ReportsFrame form p number contents f runs pieces after
+    one_frame : (runs : Bool) (pieces : List Piece) (next after : List KeyValues) → ExitsOn p n contents f runs next → ReportsFrame form p number contents f runs pieces after
         → (pieces ≡ turn_pieces (limited form) number f (turn_if contents f runs)) × (after ≡ contents_left contents (turn_if contents f runs)) × (next ≡ contents_left contents (turn_if contents f runs))
     one_frame false pieces next after on h = (h.0 ∙ kept_pieces, h.1, on)
     one_frame true pieces next after on h =
@@ -45,7 +45,7 @@ module _ (p : Program) (n : ℕ) where
         )
 
   -- the pieces of frames whose runs exit, from any number on
-  first_frames : (form : ReportForm) (number : ℕ) (contents : List Entries) (fs gs : List Frame) (turns : List Piece) (last : List Entries) → AllExit p n contents fs
+  first_frames : (form : ReportForm) (number : ℕ) (contents : List KeyValues) (fs gs : List Frame) (turns : List Piece) (last : List KeyValues) → AllExit p n contents fs
       → ReportsFrames form p number contents (fs ++ gs) turns last → (rest : List Piece) × (turns ≡ turns_pieces (limited form) (checked_rule p n) number contents fs ++ rest)
   first_frames form number contents [] gs turns last exits h = (turns, refl)
   first_frames form number contents (f ∷ fs) gs turns last exits h =
@@ -54,8 +54,8 @@ module _ (p : Program) (n : ℕ) where
       let rule = checked_rule p n in
       let t = turn_on rule contents f in
       let (is, leaves, exits_to) = one_frame form number contents f (f.reason == 0) front next after on one in
-      let all_left = subst (λ (c : List Entries). AllExit p n c fs) exits_to all in
-      let more_left = subst (λ (c : List Entries). ReportsFrames form p (number + 1) c (fs ++ gs) behind last) leaves more in
+      let all_left = subst (λ (c : List KeyValues). AllExit p n c fs) exits_to all in
+      let more_left = subst (λ (c : List KeyValues). ReportsFrames form p (number + 1) c (fs ++ gs) behind last) leaves more in
       let (rest, same) = first_frames form (number + 1) (contents_left contents t) fs gs behind last all_left more_left in
       let here = turn_pieces (limited form) number f t in
       let later = turns_pieces (limited form) rule (number + 1) (contents_left contents t) fs in (

@@ -19,9 +19,9 @@ use Rattle.isa_model.specs.declared.map_defs.MapDef.{MapDef}
 use Rattle.isa_model.specs.Code.Limits.{max_value_size}
 use Rattle.isa_model.specs.Code.MapRows.{KeyFits, IsRow}
 use Rattle.isa_model.specs.Machine.MapContents.{key_order, is_key}
-use Rattle.isa_model.specs.Machine.MachineStates.{IsEntry, FitsRow}
-use Rattle.isa_model.specs.Machine.States.{Entries}
-use Rattle.isa_model.specs.Reporting.Reports.{Piece, ToReport, map_line, map_pieces, maps_pieces, entry_by_index, in_report_order}
+use Rattle.isa_model.specs.Machine.MachineStates.{IsKeyValue, FitsRow}
+use Rattle.isa_model.specs.Machine.States.{KeyValues}
+use Rattle.isa_model.specs.Reporting.Reports.{Piece, ToReport, map_line, map_pieces, maps_pieces, key_value_by_index, in_report_order}
 use Rattle.maps.specs.Maps.{MapState, IsMap, map_at, content_in, ordered_in, rows_of, contents_of}
 use Rattle.maps.proofs.MapsLaws.{KeyFits-most}
 use Rattle.maps.proofs.MapLaws.{FitsRow-IsMap}
@@ -52,7 +52,7 @@ failed_later r s t ps qs rest e v w frames =
 
 -- ---- keys
 
-module _ (line : List ℕ × List ℕ → Piece) (es : Entries) where
+module _ (line : List ℕ × List ℕ → Piece) (es : KeyValues) where
   pub no_line : (r : Option (List ℕ)) → WroteReport r r (map line (take 0 es))
   no_line r = no_piece r
 
@@ -78,34 +78,34 @@ module _ (line : List ℕ × List ℕ → Piece) (es : Entries) where
 
   -- past the last key all lines were written
   pub all_lines : (k : ℕ) (r s : Option (List ℕ)) → length es ≤ k → WroteReport r s (map line (take k es)) → WroteReport r s (map line es)
-  all_lines k r s past v = subst (λ (l : Entries). WroteReport r s (map line l)) (take_all k es past) v
+  all_lines k r s past v = subst (λ (l : KeyValues). WroteReport r s (map line l)) (take_all k es past) v
 
 -- if no key is found, there is none
-pub none_past : (es : Entries) (k : ℕ) → None ≡ option_map (λ e. e.1) (slice_get es k) → length es ≤ k
+pub none_past : (es : KeyValues) (k : ℕ) → None ≡ option_map (λ e. e.1) (slice_get es k) → length es ≤ k
 none_past [] k e = omega arith
 none_past (x ∷ es) zero e = absurd (cc)
 none_past (x ∷ es) (suc k) e = let h = none_past es k e in omega arith
 
 -- the key whose value was found
-pub entry_of : (es : Entries) (k : ℕ) (value : List ℕ) → Some value ≡ option_map (λ e. e.1) (slice_get es k)
+pub entry_of : (es : KeyValues) (k : ℕ) (value : List ℕ) → Some value ≡ option_map (λ e. e.1) (slice_get es k)
     → (e : List ℕ × List ℕ) × (slice_get es k ≡ Some e) × (e.1 ≡ value)
 entry_of [] k value e = absurd (cc)
 entry_of (x ∷ es) zero value e = (x, refl, cc)
 entry_of (x ∷ es) (suc k) value e = entry_of es k value e
 
 -- its sizes
-pub sizes_of : (row : MapDef) (es : Entries) (k : ℕ) (e : List ℕ × List ℕ) → AreListed row es → slice_get es k ≡ Some e → (length e.0 ≡ row.key_size) × (length e.1 ≤ max_value_size)
+pub sizes_of : (row : MapDef) (es : KeyValues) (k : ℕ) (e : List ℕ × List ℕ) → AreListed row es → slice_get es k ≡ Some e → (length e.0 ≡ row.key_size) × (length e.1 ≤ max_value_size)
 sizes_of row es k e listed there =
     subst (λ (x : List ℕ × List ℕ). (length x.0 ≡ row.key_size) × (length x.1 ≤ max_value_size)) (get_or_from_slice_get es k e e there)
     (All-get_or (λ (x : List ℕ × List ℕ). (length x.0 ≡ row.key_size) × (length x.1 ≤ max_value_size)) es k e (slice_get_within es k e there) listed.sizes)
 
-pub value_short : (row : MapDef) (es : Entries) (k : ℕ) (value : List ℕ) → AreListed row es → Some value ≡ option_map (λ e. e.1) (slice_get es k) → length value ≤ max_value_size
+pub value_short : (row : MapDef) (es : KeyValues) (k : ℕ) (value : List ℕ) → AreListed row es → Some value ≡ option_map (λ e. e.1) (slice_get es k) → length value ≤ max_value_size
 value_short row es k value listed found =
     let (e, there, is) = entry_of es k value found in
     subst (λ (v : List ℕ). length v ≤ max_value_size) is (sizes_of row es k e listed there).1
 
 -- the line of the key that was found
-module _ (index : ℕ) (row : MapDef) (es : Entries) (k : ℕ) (old new value : List ℕ) (listed : AreListed row es)
+module _ (index : ℕ) (row : MapDef) (es : KeyValues) (k : ℕ) (old new value : List ℕ) (listed : AreListed row es)
     (found : Some value ≡ option_map (λ e. e.1) (slice_get es k)) (put : new ≡ with_key_of (slice_get es k) old) where
   abbrev line_at : List ℕ × List ℕ → Piece
   line_at e = ToReport (map_line index e)
@@ -147,14 +147,14 @@ module _ {X Y : Type 0} (P : Y → Type 0) (h : X → Option Y) (each : (x : X) 
         | Some y ↦ λ e. (All-cons P y (filter_map h xs) (each x y e) all, omega arith)
       ] refl
 
-found : (P : List ℕ → Type 0) (q : List ℕ) (es : Entries) (v : List ℕ) → All (λ e. P e.1) es → find key_order q es ≡ Some v → P v
+found : (P : List ℕ → Type 0) (q : List ℕ) (es : KeyValues) (v : List ℕ) → All (λ e. P e.1) es → find key_order q es ≡ Some v → P v
 found P q [] v all f = absurd (cc)
 found P q (x ∷ es) v all f = elim (is_key q x.0) as (λ b. cond b (Some x.1) (find key_order q es) ≡ Some v → P v) [
   | true ↦ λ g. let same : x.1 ≡ v = cc in subst P same (All-head (λ e. P e.1) x es all)
   | false ↦ λ g. found P q es v (All-tail (λ e. P e.1) x es all) g
 ] f
 
-by_index : (es : Entries) (i : ℕ) (e : List ℕ × List ℕ) → All (λ x. length x.1 ≤ max_value_size) es → entry_by_index es i ≡ Some e → (length e.0 ≡ 4) × (length e.1 ≤ max_value_size)
+by_index : (es : KeyValues) (i : ℕ) (e : List ℕ × List ℕ) → All (λ x. length x.1 ≤ max_value_size) es → key_value_by_index es i ≡ Some e → (length e.0 ≡ 4) × (length e.1 ≤ max_value_size)
 by_index es i e all f = elim (find key_order (little_bytes 4 i) es) as (λ o. find key_order (little_bytes 4 i) es ≡ o
     → option_map (λ value. (little_bytes 4 i, value)) o ≡ Some e → (length e.0 ≡ 4) × (length e.1 ≤ max_value_size)) [
       | None ↦ λ g h. absurd (cc)
@@ -163,16 +163,16 @@ by_index es i e all f = elim (find key_order (little_bytes 4 i) es) as (λ o. fi
           subst (λ (x : List ℕ × List ℕ). (length x.0 ≡ 4) × (length x.1 ≤ max_value_size)) same (length-bytes_low_first 0 4 i, found (λ x. length x ≤ max_value_size) (little_bytes 4 i) es v all g)
     ] refl f
 
-listed_by : (kind : MapKind) (row : MapDef) (es : Entries) → row.kind ≡ kind → IsRow row → FitsRow row es → AreListed row (in_report_order kind row.entries es)
+listed_by : (kind : MapKind) (row : MapDef) (es : KeyValues) → row.kind ≡ kind → IsRow row → FitsRow row es → AreListed row (in_report_order kind row.entries es)
 listed_by Hash row es k h fits = record {
   short_keys = KeyFits-most row.kind row.key_size h.key;
   room = fits.room;
-  sizes = All-weaker (IsEntry row) (λ e. (length e.0 ≡ row.key_size) × (length e.1 ≤ max_value_size)) (λ e m. (m.key_size, let a = m.value_size in let b = h.short_value in omega arith)) es fits.entries;
+  sizes = All-weaker (IsKeyValue row) (λ e. (length e.0 ≡ row.key_size) × (length e.1 ≤ max_value_size)) (λ e m. (m.key_size, let a = m.value_size in let b = h.short_value in omega arith)) es fits.entries;
 }
 listed_by Array row es k h fits =
-    let short = All-weaker (IsEntry row) (λ e. length e.1 ≤ max_value_size) (λ e m. let a = m.value_size in let b = h.short_value in omega arith) es fits.entries in
+    let short = All-weaker (IsKeyValue row) (λ e. length e.1 ≤ max_value_size) (λ e m. let a = m.value_size in let b = h.short_value in omega arith) es fits.entries in
     let four : row.key_size ≡ 4 = subst (λ (x : MapKind). KeyFits x row.key_size) k h.key in
-    let (all, few) = filtered (λ (e : List ℕ × List ℕ). (length e.0 ≡ 4) × (length e.1 ≤ max_value_size)) (entry_by_index es) (λ i e f. by_index es i e short f) (range_with_len 0 row.entries) in
+    let (all, few) = filtered (λ (e : List ℕ × List ℕ). (length e.0 ≡ 4) × (length e.1 ≤ max_value_size)) (key_value_by_index es) (λ i e f. by_index es i e short f) (range_with_len 0 row.entries) in
     record {
       short_keys = omega arith;
       room = let n = length-range_with_len 0 row.entries in omega arith;
@@ -235,7 +235,7 @@ module _ (ms : List MapState) (i : ℕ) (inside : i < length ms) where
       subst (λ (l : List Piece). FailedReport r t l e) (sym around) (failed_later r s t (lines_of 0 (take i ms)) here rest e v w)
 
 -- the keys and values of one map more were written, or failed
-module _ (ms now : List MapState) (i : ℕ) (inside : i < length ms) (es : Entries) (listed : es ≡ ordered_in (map_at now i)) (same : now ≡ ms) where
+module _ (ms now : List MapState) (i : ℕ) (inside : i < length ms) (es : KeyValues) (listed : es ≡ ordered_in (map_at now i)) (same : now ≡ ms) where
   lines_here : map (λ e. ToReport (map_line i e)) es ≡ map_pieces i (map_at ms i).row (content_in (map_at ms i))
   lines_here = ap (map (λ e. ToReport (map_line i e))) (listed ∙ ap (λ (m : List MapState). ordered_in (map_at m i)) same)
 
@@ -252,7 +252,7 @@ maps_whole ms i r s past v = subst (λ (l : List MapState). WroteReport r s (lin
 
 -- ---- the last line, after the lines of maps
 
-module _ (r s : Option (List ℕ)) (ms : List MapState) (rows : List MapDef) (contents : List Entries) (same : rows_of ms ≡ rows) (kept : contents_of ms ≡ contents) where
+module _ (r s : Option (List ℕ)) (ms : List MapState) (rows : List MapDef) (contents : List KeyValues) (same : rows_of ms ≡ rows) (kept : contents_of ms ≡ contents) where
   lines_are : lines_of 0 ms ≡ maps_pieces 0 rows contents
   lines_are = λ i. maps_pieces 0 (same i) (kept i)
 

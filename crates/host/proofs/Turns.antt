@@ -9,7 +9,7 @@ use Rattle.isa_model.specs.declared.versions.Version.{Version}
 use Rattle.isa_model.specs.declared.versions.Version.TheVariants.{One, Two}
 use Rattle.isa_model.specs.Code.Versions.{stream_magic}
 use Rattle.isa_model.specs.Code.Limits.{max_body, max_packet}
-use Rattle.isa_model.specs.Machine.States.{Entries}
+use Rattle.isa_model.specs.Machine.States.{KeyValues}
 use Rattle.isa_model.specs.Reporting.Streams.{Frame, Stream, max_frames, stream_with}
 use Rattle.isa_model.proofs.StreamLaws.{AreOpen-nil}
 use Rattle.isa_model.specs.Reporting.Reports.{Piece, Rule, ReportForm, ToReport, ToFrames, turns_pieces, contents_after, turn_on, turn_pieces, contents_left, maps_pieces, last_line}
@@ -43,7 +43,7 @@ begin_opens v source old new p after answer fresh same opens answers is =
 -- ---- packet frames in a row
 
 -- the pieces of frames, and of those after them
-pub turns_pieces-append : (form : ReportForm) (rule : Rule) (n : ℕ) (c : List Entries) (fs gs : List Frame)
+pub turns_pieces-append : (form : ReportForm) (rule : Rule) (n : ℕ) (c : List KeyValues) (fs gs : List Frame)
     → turns_pieces form rule n c (fs ++ gs) ≡ turns_pieces form rule n c fs ++ turns_pieces form rule (n + length fs) (contents_after rule c fs) gs
 turns_pieces-append form rule n c [] gs = ap (λ m. turns_pieces form rule m c gs) (sym (add-zero n))
 turns_pieces-append form rule n c (f ∷ fs) gs =
@@ -54,20 +54,20 @@ turns_pieces-append form rule n c (f ∷ fs) gs =
     ∙ sym (append_assoc front (turns_pieces form rule (n + 1) next fs) (turns_pieces form rule (n + suc (length fs)) (contents_after rule next fs) gs))
 
 -- the contents after frames and those after them
-contents_after-append : (rule : Rule) (c : List Entries) (fs gs : List Frame) → contents_after rule c (fs ++ gs) ≡ contents_after rule (contents_after rule c fs) gs
+contents_after-append : (rule : Rule) (c : List KeyValues) (fs gs : List Frame) → contents_after rule c (fs ++ gs) ≡ contents_after rule (contents_after rule c fs) gs
 contents_after-append rule c [] gs = refl
 contents_after-append rule c (f ∷ fs) gs = contents_after-append rule (contents_left c (turn_on rule c f)) fs gs
 
 -- ---- a run of frames from these contents on, over this source
 
-module _ (form : ReportForm) (rule : Rule) (start : List Entries) (source : Option (List ℕ)) (before : Outputs) where
+module _ (form : ReportForm) (rule : Rule) (start : List KeyValues) (source : Option (List ℕ)) (before : Outputs) where
   -- the pieces so far and those of one more frame
-  front_more : (frames : List Frame) (f : Frame) (number : ℕ) (contents : List Entries) → number ≡ length frames → contents ≡ contents_after rule start frames
+  front_more : (frames : List Frame) (f : Frame) (number : ℕ) (contents : List KeyValues) → number ≡ length frames → contents ≡ contents_after rule start frames
       → front_in form rule start frames ++ turn_pieces form number f (turn_on rule contents f) ≡ front_in form rule start (frames ++ f ∷ [])
   front_more frames f number contents n m =
       let so_far = turns_pieces form rule 0 start frames in
       ap (λ l. ToFrames (stream_magic form.stream) ∷ l) (
-      ap (λ (x : List Entries). so_far ++ turn_pieces form number f (turn_on rule x f)) m
+      ap (λ (x : List KeyValues). so_far ++ turn_pieces form number f (turn_on rule x f)) m
       ∙ ap (λ k. so_far ++ turn_pieces form k f (turn_on rule (contents_after rule start frames) f)) (n ∙ sym (zero-add (length frames)))
       ∙ ap (λ l. so_far ++ l) (sym (append-nil _))
       ∙ sym (turns_pieces-append form rule 0 start frames (f ∷ [])))
@@ -82,7 +82,7 @@ module _ (form : ReportForm) (rule : Rule) (start : List Entries) (source : Opti
     carried = refl;
   }
 
-  module _ (frames : List Frame) (known new : Option (List ℕ)) (p q : Position) (number : ℕ) (contents : List Entries) (now : Outputs) (so : WrittenSoFar form rule start source before frames known p number contents now) where
+  module _ (frames : List Frame) (known new : Option (List ℕ)) (p q : Position) (number : ℕ) (contents : List KeyValues) (now : Outputs) (so : WrittenSoFar form rule start source before frames known p number contents now) where
     module _ (f : Frame) (h : Finds p known new q (Found f)) where
       -- there is a number for the frame, and its body fits
       pub turn_fits : (number < max_frames) × (length f.body ≤ max_body form.stream)
@@ -92,7 +92,7 @@ module _ (form : ReportForm) (rule : Rule) (start : List Entries) (source : Opti
           (omega arith, fits.short)
 
       -- one more frame was found and taken, and its pieces were written
-      pub turn_more : (contents' : List Entries) (after : Outputs) → Wrote now after (turn_pieces form number f (turn_on rule contents f)) → contents' ≡ contents_left contents (turn_on rule contents f)
+      pub turn_more : (contents' : List KeyValues) (after : Outputs) → Wrote now after (turn_pieces form number f (turn_on rule contents f)) → contents' ≡ contents_left contents (turn_on rule contents f)
           → WrittenSoFar form rule start source before (frames ++ f ∷ []) new q (number + 1) contents' after
       turn_more contents' after w c =
           let (found, early, fits) = HasBegun-found form.stream frames source known new p q f so.begun h in
@@ -101,7 +101,7 @@ module _ (form : ReportForm) (rule : Rule) (start : List Entries) (source : Opti
             begun = inl found;
             numbered = omega (arith, length-append frames (f ∷ []), n);
             wrote = subst (Wrote before after) (front_more frames f number contents so.numbered so.carried) (Wrote-append before now after _ _ so.wrote w);
-            carried = c ∙ ap (λ (x : List Entries). contents_left x (turn_on rule x f)) so.carried ∙ sym (contents_after-append rule start frames (f ∷ []));
+            carried = c ∙ ap (λ (x : List KeyValues). contents_left x (turn_on rule x f)) so.carried ∙ sym (contents_after-append rule start frames (f ∷ []));
           }
 
 -- ---- how the loop ends
@@ -117,7 +117,7 @@ both : (result : Result Traced HostError) (n : ℕ) (stop : Finish) (noted : Not
 both (Ok traced) n stop noted tally told = (tally, told)
 both (Err e) n stop noted tally told = tt
 
-module _ (limit : ℕ) (program : Version) (rows : List MapDef) (rule : Rule) (start : List Entries) (source : Option (List ℕ)) (notes : Noting) (none : Noted) where
+module _ (limit : ℕ) (program : Version) (rows : List MapDef) (rule : Rule) (start : List KeyValues) (source : Option (List ℕ)) (notes : Noting) (none : Noted) where
   abbrev Tells : Stream → Traced → Type 0
   Tells = TellsNoted notes rule none start
 
@@ -140,7 +140,7 @@ module _ (limit : ℕ) (program : Version) (rows : List MapDef) (rule : Rule) (s
     tells = tt;
   })
 
-  module _ (v : Version) (before : Outputs) (frames : List Frame) (known new : Option (List ℕ)) (p q : Position) (number : ℕ) (contents : List Entries) where
+  module _ (v : Version) (before : Outputs) (frames : List Frame) (known new : Option (List ℕ)) (p q : Position) (number : ℕ) (contents : List KeyValues) where
     -- a turn's piece failed
     pub turn_failed : (now after : Outputs) (f : Frame) (error : HostError) → WrittenSoFar (form_on v) rule start source before frames known p number contents now → Finds p known new q (Found f)
         → WroteBefore now after (turn_pieces (form_on v) number f (turn_on rule contents f)) error
@@ -178,7 +178,7 @@ module _ (limit : ℕ) (program : Version) (rows : List MapDef) (rule : Rule) (s
           found = stream_with v (frames, stop);
           are_open = HasBegun-open v frames source known p so.begun;
           read = HasBegun-stopped v frames source known new p q stop so.begun h;
-          writes = subst (λ (c : List Entries). WritesEach before after result (front ++ (maps_pieces 0 rows c ++ ToReport (last_line (length frames) stop) ∷ []))) so.carried counted;
+          writes = subst (λ (c : List KeyValues). WritesEach before after result (front ++ (maps_pieces 0 rows c ++ ToReport (last_line (length frames) stop) ∷ []))) so.carried counted;
           tells = both result (length frames) stop (noted_after notes rule none 0 start frames)
               (subst (λ (n : ℕ). IfOk result (λ t. t.tally ≡ tally_of n stop)) so.numbered tally) (subst (λ (x : Noted). IfOk result (λ t. noted_of t.stops ≡ x)) told_is told);
         })

@@ -4,7 +4,7 @@ use Rattle.isa_model.specs.declared.map_defs.MapDef.{MapDef}
 use Rattle.isa_model.specs.declared.streams.Finish.{Finish}
 use Rattle.isa_model.specs.declared.versions.Version.{Version}
 use Rattle.isa_model.specs.Code.Versions.{stream_magic}
-use Rattle.isa_model.specs.Machine.States.{Entries}
+use Rattle.isa_model.specs.Machine.States.{KeyValues}
 use Rattle.isa_model.specs.Reporting.Streams.{Frame, Stream, stream_with, AreOpen}
 use Rattle.isa_model.specs.Reporting.Reports.{Piece, ToFrames, ReportForm, Rule, turns_pieces, report_of}
 use Rattle.frames.specs.Inputs.{AreReadFrom, IsBegunBy}
@@ -48,13 +48,13 @@ Reports source pieces Tells old new result =
 -- ---- the same of a machine, which runs frames by a rule
 
 -- the magic and the frames' pieces
-abbrev pub front_in : ReportForm → Rule → List Entries → List Frame → List Piece
+abbrev pub front_in : ReportForm → Rule → List KeyValues → List Frame → List Piece
 front_in form rule contents frames =
     ToFrames (stream_magic form.stream) ∷ turns_pieces form rule 0 contents frames
 
 -- An output failed at one of the magic and these frames' pieces, and no more was read.
 pub record StopsAtFrame (source : Option (List ℕ)) (limit : ℕ) (program : Version) (rule : Rule)
-    (contents : List Entries) (old new : Outputs) (error : HostError) : Type 0 where
+    (contents : List KeyValues) (old new : Outputs) (error : HostError) : Type 0 where
   pub version : Version
   pub frames : List Frame
   pub are_open : AreOpen version frames
@@ -64,7 +64,7 @@ pub record StopsAtFrame (source : Option (List ℕ)) (limit : ℕ) (program : Ve
       frames) error
 
 abbrev pub ReportsBy : {X : Type 0} → Option (List ℕ) → ℕ → Version → List MapDef → Rule
-    → List Entries → (Stream → X → Type 0) → Outputs → Outputs → Result X HostError → Type 0
+    → List KeyValues → (Stream → X → Type 0) → Outputs → Outputs → Result X HostError → Type 0
 ReportsBy source limit program rows rule contents Tells old new result =
     ReportsWhole source
     (λ found. report_of limit program rows rule contents found) Tells old new result

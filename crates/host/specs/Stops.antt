@@ -9,7 +9,7 @@ use Rattle.isa_model.specs.Reporting.Frames.{action_of}
 use Rattle.isa_model.specs.Reporting.Streams.{Frame, Stream}
 use Rattle.isa_model.specs.Reporting.Reports.{Rule, turn_on, contents_left, checked_rule, starting_contents}
 use Rattle.isa_model.specs.Code.Instructions.{Program}
-use Rattle.isa_model.specs.Machine.States.{Entries}
+use Rattle.isa_model.specs.Machine.States.{KeyValues}
 use Rattle.checked_vm.specs.declared.stops.Stop.{Stop}
 use Rattle.checked_vm.specs.Stops.{stop_of}
 use Rattle.host.specs.declared.stops.FrameStop.{FrameStop}
@@ -57,15 +57,15 @@ note noted number stop =
 
 -- what is noted of a frame that is run on map contents
 abbrev pub Noting : Type 0
-Noting = Noted → ℕ → FrameHead → List ℕ → List Entries → Noted
+Noting = Noted → ℕ → FrameHead → List ℕ → List KeyValues → Noted
 
 -- a frame that is not run is not noted
-abbrev pub noted_on : Noting → Noted → ℕ → List Entries → Frame → Noted
+abbrev pub noted_on : Noting → Noted → ℕ → List KeyValues → Frame → Noted
 noted_on notes noted number contents f =
     if f.reason == 0 then notes noted number f.head f.body contents else noted
 
 -- frames by their numbers, the maps' contents carried along
-abbrev pub noted_after : Noting → Rule → Noted → ℕ → List Entries → List Frame → Noted
+abbrev pub noted_after : Noting → Rule → Noted → ℕ → List KeyValues → List Frame → Noted
 noted_after notes rule noted number contents [] = noted
 noted_after notes rule noted number contents (f ∷ frames) =
     noted_after notes rule (noted_on notes noted number contents f) (number + 1)
@@ -83,7 +83,7 @@ no_notes noted number head body contents = noted
 -- ---- whole runs
 
 -- what the last line shows, and what is noted of the stream's frames
-abbrev pub TellsNoted : Noting → Rule → Noted → List Entries → Stream → Traced → Type 0
+abbrev pub TellsNoted : Noting → Rule → Noted → List KeyValues → Stream → Traced → Type 0
 TellsNoted notes rule noted contents found traced =
     (traced.tally ≡ tally_of (length found.frames) found.finish)
     × (noted_of traced.stops ≡ noted_after notes rule noted 0 contents found.frames)

@@ -2,12 +2,12 @@
 ghost use Rattle.std.specs.Prelude.{◌≡◌, ◌≢◌, ◌≤◌, [], ◌∷◌, length, map, take};
 ghost use Rattle.isa_model.specs.Code.Limits.{max_key_size, max_value_size};
 ghost use Rattle.isa_model.specs.Reporting.Reports.{ToReport, map_line, maps_pieces};
-ghost use Rattle.maps.specs.Listing.{listed_entries};
+ghost use Rattle.maps.specs.Listing.{listed_key_values};
 ghost use Rattle.maps.specs.Maps.{rows_of, contents_of};
 ghost use Rattle.host.specs.Listed.{AreListed};
 ghost use Rattle.host.specs.Writing.{WritesReport};
 
-use super::entries::{EntryLine, put_entry};
+use super::entries::{KeyValueLine, put_key_value};
 use super::errors::HostError;
 use exact_io::write_bytes;
 use isa_model::MapDef;
@@ -15,8 +15,8 @@ use maps::{KEY_ROOM, Maps, Ordered};
 use std::io::Write;
 
 // Writes the line of a key, which is the front of this size, and its value.
-fn write_entry<W1: Write>(
-    line: &mut EntryLine,
+fn write_key_value<W1: Write>(
+    line: &mut KeyValueLine,
     index: usize,
     key: &[u8; KEY_ROOM],
     size: usize,
@@ -29,7 +29,7 @@ fn write_entry<W1: Write>(
         (ToReport (map_line index (take size key.now, value.now)) ∷ []) }
     ensures made { result ≢ Err HostError.Memory }
 {
-    put_entry(line, index, &key[..size], value);
+    put_key_value(line, index, &key[..size], value);
     match write_bytes(report, line.as_slice()) {
         Ok(()) => Ok(()),
         Err(_) => Err(HostError::Report),
@@ -37,23 +37,23 @@ fn write_entry<W1: Write>(
 }
 
 // Writes the lines of a map's keys and values.
-fn write_entries<W1: Write>(
+fn write_key_values<W1: Write>(
     index: usize,
     row: MapDef,
     entries: &Ordered<'_>,
     report: &mut W1,
 ) -> Result<(), HostError>
-    requires { AreListed row (listed_entries entries.now) }
+    requires { AreListed row (listed_key_values entries.now) }
     ensures writes { WritesReport (W1.contents report.old) (W1.contents report.new) result
-        (map (λ e. ToReport (map_line index e)) (listed_entries entries.now)) }
+        (map (λ e. ToReport (map_line index e)) (listed_key_values entries.now)) }
     ensures made { result ≢ Err HostError.Memory }
 {
     let size = row.key_size as usize;
-    let mut line = EntryLine::new();
+    let mut line = KeyValueLine::new();
     let mut key = [0u8; KEY_ROOM];
     for k in 0..row.entries as usize {
         match entries.entry(k, &mut key) {
-            Some(value) => match write_entry(&mut line, index, &key, size, value, report) {
+            Some(value) => match write_key_value(&mut line, index, &key, size, value, report) {
                 Ok(()) => {}
                 Err(error) => return Err(error),
             },
@@ -72,7 +72,7 @@ pub fn write_maps<W1: Write>(maps: &mut Maps, report: &mut W1) -> Result<(), Hos
     for i in 0..maps.count() {
         let row = maps.row(i);
         let entries = maps.order(i);
-        match write_entries(i, row, &entries, report) {
+        match write_key_values(i, row, &entries, report) {
             Ok(()) => {}
             Err(error) => return Err(error),
         }

@@ -1,7 +1,7 @@
 //! What runs packet frames.
 ghost use Rattle.std.specs.Prelude.{◌≡◌, ◌≤◌, length, List};
 ghost use Rattle.isa_model.specs.declared.map_defs.MapDef.{MapDef};
-ghost use Rattle.isa_model.specs.{Entries, max_packet};
+ghost use Rattle.isa_model.specs.{KeyValues, max_packet};
 ghost use Rattle.isa_model.specs.Reporting.Reports.{Rule};
 ghost use Rattle.maps.specs.Maps.{rows_of, contents_of};
 ghost use Rattle.host.specs.Stops.{Noted, Noting, noted_of};
@@ -16,7 +16,7 @@ pub trait Runner {
     ghost rows: { Self → List MapDef };
 
     /// The maps' contents.
-    ghost contents: { Self → List Entries };
+    ghost contents: { Self → List KeyValues };
 
     /// What running a frame on map contents gives.
     ghost rule: { Self → Rule };

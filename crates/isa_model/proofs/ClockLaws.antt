@@ -29,7 +29,7 @@ use Rattle.isa_model.specs.Code.Sizes.{width_size}
 use Rattle.isa_model.specs.Code.Numbers.{low, unsigned, alu, bytes_of, atomic_alu}
 use Rattle.isa_model.specs.Code.Helpers.{helper_numbered}
 use Rattle.isa_model.specs.Code.Instructions.{Program, fetch, reads, writes, is_frame_pointer}
-use Rattle.isa_model.specs.Machine.States.{Entries, State, reg, content_of}
+use Rattle.isa_model.specs.Machine.States.{KeyValues, State, reg, content_of}
 use Rattle.isa_model.specs.Machine.Memory.{and_then, pieces, index_at, place_of, put, write, load_number, store_number, store_pointer, store}
 use Rattle.isa_model.specs.Code.Limits.{max_call_frames}
 use Rattle.isa_model.specs.Machine.Calls.{enter, leave}
@@ -321,7 +321,7 @@ progress-clock p clock other (suc n) m s same within =
     ∙ ap (advanced p other n) (progress-clock p clock other n m s same (omega arith))
 
 -- and to a turn within a limit of m steps
-pub turn-clock : (p : Program) (limit : ℕ) (clock other : ℕ → ℕ) (head : FrameHead) (packet : List ℕ) (contents : List Entries)
+pub turn-clock : (p : Program) (limit : ℕ) (clock other : ℕ → ℕ) (head : FrameHead) (packet : List ℕ) (contents : List KeyValues)
     → ((k : ℕ) → k < limit → clock k ≡ other k) → turn p limit clock head packet contents ≡ turn p limit other head packet contents
 unfolding turn start_state
 turn-clock p limit clock other head packet contents same =
@@ -341,7 +341,7 @@ pub clock_of-answers_of : (clock : ℕ → ℕ) (n k : ℕ) → k < n → clock_
 clock_of-answers_of clock n k h = get_or-map-range_with_len clock 0 n k k 0 h (omega arith)
 
 -- a clock and the list of its first answers are one to a turn within that many steps
-pub turn-answers_of : (p : Program) (limit n : ℕ) (clock : ℕ → ℕ) (head : FrameHead) (packet : List ℕ) (contents : List Entries) → limit ≤ n
+pub turn-answers_of : (p : Program) (limit n : ℕ) (clock : ℕ → ℕ) (head : FrameHead) (packet : List ℕ) (contents : List KeyValues) → limit ≤ n
     → turn p limit (clock_of (answers_of clock n)) head packet contents ≡ turn p limit clock head packet contents
 turn-answers_of p limit n clock head packet contents le =
     turn-clock p limit (clock_of (answers_of clock n)) clock head packet contents (λ k h. clock_of-answers_of clock n k (omega arith))

@@ -13,9 +13,9 @@ use Rattle.std.proofs.lemmas.List.Elements.{All-head, All-tail, All-filter}
 use Rattle.isa_model.specs.declared.map_defs.MapKind.{MapKind}
 use Rattle.isa_model.specs.declared.map_defs.MapKind.TheVariants.{Hash, Array}
 use Rattle.isa_model.specs.declared.map_defs.MapDef.{MapDef}
-use Rattle.isa_model.specs.Machine.States.{Stored, Content, Entries, entries_of}
+use Rattle.isa_model.specs.Machine.States.{Stored, Content, KeyValues, key_values_of}
 use Rattle.isa_model.specs.Machine.MapContents.{key_order, is_key, at_key, has_key, with_key, without_key, enoent, e2big, eexist, einval, noexist, exist, hash_update, array_update, update_answer_by, delete_answer_by, update_answer, delete_answer}
-use Rattle.isa_model.specs.Machine.MachineStates.{IsEntry, keys_of, KeysFit, FitsRow, value_serials}
+use Rattle.isa_model.specs.Machine.MachineStates.{IsKeyValue, keys_of, KeysFit, FitsRow, value_serials}
 use Rattle.isa_model.proofs.PutLaws.{All-with_key, IsStrictlySortedBy-is_sorted}
 use Rattle.isa_model.proofs.SerialLaws.{HasOneMore, HasOneMore-before}
 
@@ -47,40 +47,40 @@ is_sorted-IsStrictlySortedBy (e ∷ es) h =
 
 -- ---- values without their serials
 
-abbrev entry_of : List ℕ × Stored → List ℕ × List ℕ
-entry_of e = (e.0, e.1.bytes)
+abbrev key_value_of : List ℕ × Stored → List ℕ × List ℕ
+key_value_of e = (e.0, e.1.bytes)
 
-pub entries_of-with_key : (key : List ℕ) (new : Stored) (content : Content)
-    → entries_of (with_key key new content) ≡ with_key key new.bytes (entries_of content)
-entries_of-with_key key new [] = refl
-entries_of-with_key key new (e ∷ es) =
+pub key_values_of-with_key : (key : List ℕ) (new : Stored) (content : Content)
+    → key_values_of (with_key key new content) ≡ with_key key new.bytes (key_values_of content)
+key_values_of-with_key key new [] = refl
+key_values_of-with_key key new (e ∷ es) =
     elim (key_order key e.0) as (λ o.
-    map entry_of (by_order o ((key, new) ∷ e ∷ es) ((e.0, new) ∷ es) (e ∷ with_key key new es))
-    ≡ by_order o ((key, new.bytes) ∷ entry_of e ∷ entries_of es) ((e.0, new.bytes) ∷ entries_of es)
-    (entry_of e ∷ with_key key new.bytes (entries_of es))) [
+    map key_value_of (by_order o ((key, new) ∷ e ∷ es) ((e.0, new) ∷ es) (e ∷ with_key key new es))
+    ≡ by_order o ((key, new.bytes) ∷ key_value_of e ∷ key_values_of es) ((e.0, new.bytes) ∷ key_values_of es)
+    (key_value_of e ∷ with_key key new.bytes (key_values_of es))) [
       | Less ↦ refl
       | Equal ↦ refl
-      | Greater ↦ ap (λ l. entry_of e ∷ l) (entries_of-with_key key new es)
+      | Greater ↦ ap (λ l. key_value_of e ∷ l) (key_values_of-with_key key new es)
     ]
 
-pub entries_of-without_key : (key : List ℕ) (content : Content)
-    → entries_of (without_key key content) ≡ without_key key (entries_of content)
-entries_of-without_key key [] = refl
-entries_of-without_key key (e ∷ es) =
-    elim (is_key key e.0) as (λ b. map entry_of (cond (not b) (e ∷ without_key key es) (without_key key es))
-    ≡ cond (not b) (entry_of e ∷ without_key key (entries_of es)) (without_key key (entries_of es))) [
-      | true ↦ entries_of-without_key key es
-      | false ↦ ap (λ l. entry_of e ∷ l) (entries_of-without_key key es)
+pub key_values_of-without_key : (key : List ℕ) (content : Content)
+    → key_values_of (without_key key content) ≡ without_key key (key_values_of content)
+key_values_of-without_key key [] = refl
+key_values_of-without_key key (e ∷ es) =
+    elim (is_key key e.0) as (λ b. map key_value_of (cond (not b) (e ∷ without_key key es) (without_key key es))
+    ≡ cond (not b) (key_value_of e ∷ without_key key (key_values_of es)) (without_key key (key_values_of es))) [
+      | true ↦ key_values_of-without_key key es
+      | false ↦ ap (λ l. key_value_of e ∷ l) (key_values_of-without_key key es)
     ]
 
 -- a key is there with a serial where it is there without
-pub has_key-entries_of : (key : List ℕ) (content : Content) → has_key key (entries_of content) ≡ has_key key content
-has_key-entries_of key [] = refl
-has_key-entries_of key (e ∷ es) =
-    elim (is_key key e.0) as (λ b. is_some (cond b (Some e.1.bytes) (at_key key (entries_of es)))
+pub has_key-key_values_of : (key : List ℕ) (content : Content) → has_key key (key_values_of content) ≡ has_key key content
+has_key-key_values_of key [] = refl
+has_key-key_values_of key (e ∷ es) =
+    elim (is_key key e.0) as (λ b. is_some (cond b (Some e.1.bytes) (at_key key (key_values_of es)))
     ≡ is_some (cond b (Some e.1) (at_key key es))) [
       | true ↦ refl
-      | false ↦ has_key-entries_of key es
+      | false ↦ has_key-key_values_of key es
     ]
 
 -- ---- a key put
@@ -99,10 +99,11 @@ keys-with_key key x (e ∷ es) h =
     ] h
 
 -- a content has room for a key that is there, and a hash map that is not full for any key
-abbrev pub HasRoomForKey : MapDef → List ℕ → Entries → Type 0
+abbrev pub HasRoomForKey : MapDef → List ℕ → KeyValues → Type 0
 HasRoomForKey row key es = (has_key key es ≡ true) ⊎ ((row.kind ≡ Hash) × (length es < row.entries))
 
-pub FitsRow-with_key : (row : MapDef) (key bytes : List ℕ) (es : Entries) → IsEntry row (key, bytes)
+pub FitsRow-with_key : (row : MapDef) (key bytes : List ℕ) (es : KeyValues)
+    → IsKeyValue row (key, bytes)
     → HasRoomForKey row key es → FitsRow row es → FitsRow row (with_key key bytes es)
 FitsRow-with_key row key bytes es new has h = at (has_key key es) refl has
   where
@@ -114,14 +115,14 @@ FitsRow-with_key row key bytes es new has h = at (has_key key es) refl has
         length-put key_order nat_list_cmp_total key bytes es sorted
         ∙ ap (λ (b : Bool). cond b (length es) (length es + 1)) e
 
-    changed : (k old : List ℕ) → IsEntry row (k, old) → IsEntry row (k, bytes)
+    changed : (k old : List ℕ) → IsKeyValue row (k, old) → IsKeyValue row (k, bytes)
     changed k old here =
         record { key_size = here.key_size; key = here.key; value_size = new.value_size; value = new.value }
 
     still : length (with_key key bytes es) ≤ row.entries
         → KeysFit row.kind row.entries (keys_of (with_key key bytes es)) → FitsRow row (with_key key bytes es)
     still room keys = record {
-      entries = All-with_key (IsEntry row) key bytes es new changed h.entries;
+      entries = All-with_key (IsKeyValue row) key bytes es new changed h.entries;
       ordered = IsStrictlySortedBy-is_sorted (with_key key bytes es)
           (is_sorted-put key_order nat_list_cmp_total key bytes es sorted);
       room = room;
@@ -148,14 +149,14 @@ length-filter p (x ∷ xs) =
     elim (p x) as (λ b. length (cond b (x ∷ filter p xs) (filter p xs)) ≤ suc (length xs))
     [ true ↦ omega arith | false ↦ omega arith ]
 
-pub FitsRow-without_key : (row : MapDef) (key : List ℕ) (es : Entries) → row.kind ≡ Hash → FitsRow row es
+pub FitsRow-without_key : (row : MapDef) (key : List ℕ) (es : KeyValues) → row.kind ≡ Hash → FitsRow row es
     → FitsRow row (without_key key es)
 FitsRow-without_key row key es hash h =
     let p : List ℕ → Bool = λ k. not (is_key key k) in
     let shorter = length-filter (λ e. p e.0) es in
     let room = h.room in
     record {
-      entries = All-filter (λ e. p e.0) (IsEntry row) es h.entries;
+      entries = All-filter (λ e. p e.0) (IsKeyValue row) es h.entries;
       ordered = IsStrictlySortedBy-is_sorted (without_key key es)
           (is_sorted-where_key key_order p es (is_sorted-IsStrictlySortedBy es h.ordered));
       room = omega arith;
@@ -185,16 +186,16 @@ array_open false flags h = absurd (refused (nat_lt exist flags) h)
 
 pub update_has_room : (row : MapDef) (key : List ℕ) (flags : ℕ) (content : Content)
     → (update_answer row content key flags == 0) ≡ true
-    → HasRoomForKey row key (entries_of content)
+    → HasRoomForKey row key (key_values_of content)
 update_has_room row key flags content h = by row.kind refl h
   where
     by : (kind : MapKind) → row.kind ≡ kind
         → (update_answer_by kind (has_key key content) (nat_le row.entries (length content)) flags == 0) ≡ true
-        → HasRoomForKey row key (entries_of content)
-    by Array e h = inl (has_key-entries_of key content ∙ array_open (has_key key content) flags h)
+        → HasRoomForKey row key (key_values_of content)
+    by Array e h = inl (has_key-key_values_of key content ∙ array_open (has_key key content) flags h)
     by Hash e h = elim (hash_open (has_key key content) (nat_le row.entries (length content)) flags h) [
-      | inl there ↦ inl (has_key-entries_of key content ∙ there)
-      | inr less ↦ let long = length-map content entry_of in inr (e, grind (arith, nat_tests))
+      | inl there ↦ inl (has_key-key_values_of key content ∙ there)
+      | inr less ↦ let long = length-map content key_value_of in inr (e, grind (arith, nat_tests))
     ]
 
 -- nothing is removed from an array
@@ -249,14 +250,15 @@ delete_answer_fits row content key = by row.kind (has_key key content)
 -- ---- serials
 
 -- a content in order, by its keys and values without serials
-pub is_sorted-entries_of : (row : MapDef) (content : Content) → FitsRow row (entries_of content)
+pub is_sorted-key_values_of : (row : MapDef) (content : Content)
+    → FitsRow row (key_values_of content)
     → T (is_sorted key_order content)
-is_sorted-entries_of row content h =
-    is_sorted-IsStrictlySortedBy content (subst (IsStrictlySortedBy key_order) (keys-entries_of content) h.ordered)
+is_sorted-key_values_of row content h =
+    is_sorted-IsStrictlySortedBy content (subst (IsStrictlySortedBy key_order) (keys-key_values_of content) h.ordered)
   where
-    keys-entries_of : (content : Content) → keys_of (entries_of content) ≡ keys_in content
-    keys-entries_of [] = refl
-    keys-entries_of (e ∷ es) = ap (λ l. e.0 ∷ l) (keys-entries_of es)
+    keys-key_values_of : (content : Content) → keys_of (key_values_of content) ≡ keys_in content
+    keys-key_values_of [] = refl
+    keys-key_values_of (e ∷ es) = ap (λ l. e.0 ∷ l) (keys-key_values_of es)
 
 -- what holds of a map's serials, holds of the serial of a key's value
 pub at_key-value_serials : (P : ℕ → Type 0) (key : List ℕ) (stored : Stored) (content : Content)

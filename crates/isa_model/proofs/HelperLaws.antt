@@ -13,7 +13,7 @@ use Rattle.isa_model.specs.declared.map_defs.MapKind.{MapKind}
 use Rattle.isa_model.specs.declared.map_defs.MapKind.TheVariants.{Array}
 use Rattle.isa_model.specs.Code.Instructions.{Program}
 use Rattle.isa_model.specs.Code.MapRows.{IsRow, HoldsOffset}
-use Rattle.isa_model.specs.Machine.States.{Stored, Entries, entries_of, State, content_of}
+use Rattle.isa_model.specs.Machine.States.{Stored, KeyValues, key_values_of, State, content_of}
 use Rattle.isa_model.specs.Machine.Steps.{one_serial, map_pointer, value_pointer}
 use Rattle.isa_model.specs.Machine.MachineStates.{keys_of, KeysFit, FitsRow, FitRows, IsValue, value_serials, live_serials, IsState}
 use Rattle.isa_model.proofs.StateLaws.{serial_of}
@@ -43,11 +43,11 @@ value_serials_given p s m k =
 
 -- a map's content fits its row
 pub content_fits : (p : Program) (s : State) (m : ℕ) (row : MapDef) → slice_get p.maps m ≡ Some row → IsState p s
-    → FitsRow row (entries_of (content_of s m))
+    → FitsRow row (key_values_of (content_of s m))
 content_fits p s m row e k =
-    subst (FitsRow row) (get_or-map_default entries_of s.maps m []) (at p.maps (map entries_of s.maps) m e k.maps)
+    subst (FitsRow row) (get_or-map_default key_values_of s.maps m []) (at p.maps (map key_values_of s.maps) m e k.maps)
   where
-    at : (rows : List MapDef) (contents : List Entries) (m : ℕ) → slice_get rows m ≡ Some row → FitRows rows contents
+    at : (rows : List MapDef) (contents : List KeyValues) (m : ℕ) → slice_get rows m ≡ Some row → FitRows rows contents
         → FitsRow row (slice_index_or contents m [])
     at [] contents m e h = absurd cc
     at (r ∷ rows) [] m e h = absurd h
@@ -60,9 +60,9 @@ pub map_pointer_fits : (rows next m : ℕ) → m < rows → IsValue rows next (m
 map_pointer_fits rows next m h = (h, omega arith)
 
 -- an array of one key has its value
-pub has_entry : (kind : MapKind) (entries : ℕ) (keys : List (List ℕ)) → kind ≡ Array → entries ≡ 1
+pub has_value : (kind : MapKind) (entries : ℕ) (keys : List (List ℕ)) → kind ≡ Array → entries ≡ 1
     → KeysFit kind entries keys → 0 < length keys
-has_entry kind entries keys array one h =
+has_value kind entries keys array one h =
     let there = (subst (λ k. KeysFit k entries keys) array h).0 0 (omega arith) in
     let at = at_from_Contains keys (little_bytes 4 0) there in
     omega (arith, at.1)
@@ -74,9 +74,9 @@ one_serial_given p s m row offset e h k =
     let content = content_of s m in
     let none : List ℕ × Stored = ([], record { serial = 0; bytes = [] }) in
     let fits = content_fits p s m row e k in
-    let some = has_entry row.kind row.entries (keys_of (entries_of content)) h.array h.one fits.keys in
+    let some = has_value row.kind row.entries (keys_of (key_values_of content)) h.array h.one fits.keys in
     let long = length-map {B = List ℕ × List ℕ} content (λ e. (e.0, e.1.bytes)) in
-    let keyed = length-map (entries_of content) (λ e. e.0) in
+    let keyed = length-map (key_values_of content) (λ e. e.0) in
     let serials = length-map content (λ e. e.1.serial) in
     let found : slice_index_or (value_serials content) 0 0 ≡ one_serial content =
     get_or-map_default (λ e. e.1.serial) content 0 none in

@@ -17,18 +17,18 @@ use Rattle.isa_model.specs.declared.map_defs.MapDef.{MapDef}
 use Rattle.isa_model.specs.declared.ends.TrapReason.{TrapReason}
 use Rattle.isa_model.specs.declared.ends.TrapReason.TheVariants.{UnsetRead, BadAccess}
 use Rattle.isa_model.specs.Code.Instructions.{Program}
-use Rattle.isa_model.specs.Machine.States.{Stored, Content, Entries, entries_of, State, reg, content_of}
+use Rattle.isa_model.specs.Machine.States.{Stored, Content, KeyValues, key_values_of, State, reg, content_of}
 use Rattle.isa_model.specs.Machine.Memory.{and_then, is_unwritten, is_byte, byte_in, index_at, region_cells, cells_at, place_of, read}
 use Rattle.isa_model.specs.Machine.MapContents.{at_key, has_key, with_key, without_key, update_answer, delete_answer}
 use Rattle.isa_model.specs.Machine.MapHelpers.{Helped, serial_given, serial_after, put_bytes, remove_key, pointer_or_zero, map_lookup_elem, map_update_elem, map_delete_elem}
 use Rattle.isa_model.specs.Machine.HelperCalls.{MapArgument, map_of_row, map_argument, BytesArgument, bytes_argument, number_argument, bytes_in, bytes_at, lookup_call, update_call, delete_call, helper_call, answered, after_call}
-use Rattle.isa_model.specs.Machine.MachineStates.{AreBytes, IsEntry, FitsRow, FitRows, IsValue, IsCell, IsCallFrame, value_serials, live_serials, IsState, IsClock}
+use Rattle.isa_model.specs.Machine.MachineStates.{AreBytes, IsKeyValue, FitsRow, FitRows, IsValue, IsCell, IsCallFrame, value_serials, live_serials, IsState, IsClock}
 use Rattle.isa_model.proofs.ValueLaws.{IfOk-and_then, IfOk-then, IfOk-if, IsValue-more, bytes_in_fit}
 use Rattle.isa_model.proofs.StateLaws.{IsState-moved, HasCells, place_in_room, serial_of, flat_map-set_same}
 use Rattle.isa_model.proofs.CallLaws.{IsCallFrame-more}
 use Rattle.isa_model.proofs.AccessLaws.{read_fits}
 use Rattle.isa_model.proofs.SerialLaws.{HasOneMore, HasOneMore-before, HasOneMore-after, AreSerials, AreSerials-more, AreSerials-fewer, part_replaced}
-use Rattle.isa_model.proofs.ContentLaws.{entries_of-with_key, entries_of-without_key, HasRoomForKey, FitsRow-with_key, FitsRow-without_key, update_has_room, deletes_from_hash, deletes_present, update_answer_fits, delete_answer_fits, is_sorted-entries_of, at_key-value_serials, value_serials-with_key, HasOneMore-with_key, HasOneMore-without_key}
+use Rattle.isa_model.proofs.ContentLaws.{key_values_of-with_key, key_values_of-without_key, HasRoomForKey, FitsRow-with_key, FitsRow-without_key, update_has_room, deletes_from_hash, deletes_present, update_answer_fits, delete_answer_fits, is_sorted-key_values_of, at_key-value_serials, value_serials-with_key, HasOneMore-with_key, HasOneMore-without_key}
 use Rattle.isa_model.proofs.HelperLaws.{value_serials_given, content_fits}
 
 -- ---- the arguments
@@ -94,7 +94,7 @@ bytes_at_fits p s at n k =
 -- ---- a map's content replaced
 
 -- a map with a row has a content
-content_there : (rows : List MapDef) (contents : List Entries) (m : ℕ) (row : MapDef) → slice_get rows m ≡ Some row
+content_there : (rows : List MapDef) (contents : List KeyValues) (m : ℕ) (row : MapDef) → slice_get rows m ≡ Some row
     → FitRows rows contents → m < length contents
 content_there [] contents m row e h = absurd cc
 content_there (r ∷ rows) [] m row e h = absurd h
@@ -103,7 +103,7 @@ content_there (r ∷ rows) (c ∷ contents) (suc m) row e h =
     let there = content_there rows contents m row e h.1 in
     omega arith
 
-FitRows-put : (rows : List MapDef) (contents : List Entries) (m : ℕ) (row : MapDef) (es : Entries)
+FitRows-put : (rows : List MapDef) (contents : List KeyValues) (m : ℕ) (row : MapDef) (es : KeyValues)
     → slice_get rows m ≡ Some row → FitsRow row es → FitRows rows contents → FitRows rows (slice_set contents m es)
 FitRows-put [] contents m row es e fits h = absurd cc
 FitRows-put (r ∷ rows) [] m row es e fits h = absurd h
@@ -119,7 +119,7 @@ serials_with s m content = flat_map value_serials (slice_set s.maps m content) +
 -- a content that fits its row takes a map's place, where the live serials stay apart and below the
 -- next one
 IsState-with_content : (p : Program) (s : State) (m : ℕ) (row : MapDef) (content : Content) (next : ℕ)
-    → slice_get p.maps m ≡ Some row → s.next_serial ≤ next → FitsRow row (entries_of content)
+    → slice_get p.maps m ≡ Some row → s.next_serial ≤ next → FitsRow row (key_values_of content)
     → AreSerials next (serials_with s m content) → IsState p s
     → IsState p (record s { maps = slice_set s.maps m content; next_serial = next })
 IsState-with_content p s m row content next e le fits serials k =
@@ -138,8 +138,8 @@ IsState-with_content p s m row content next e le fits serials k =
       packet = k.packet;
       interface = k.interface;
       queue = k.queue;
-      maps = subst (FitRows p.maps) (sym (map-set entries_of s.maps m content))
-          (FitRows-put p.maps (map entries_of s.maps) m row (entries_of content) e fits k.maps);
+      maps = subst (FitRows p.maps) (sym (map-set key_values_of s.maps m content))
+          (FitRows-put p.maps (map key_values_of s.maps) m row (key_values_of content) e fits k.maps);
       given = serials.0;
       once = serials.1;
     }
@@ -153,8 +153,8 @@ live_related : (R : List ℕ → List ℕ → Type 0)
     → R (value_serials (content_of s m)) (value_serials content)
     → IsState p s → R (live_serials s) (serials_with s m content)
 live_related R before after p s m row content e one k =
-    let there = content_there p.maps (map entries_of s.maps) m row e k.maps in
-    let long = length-map s.maps entries_of in
+    let there = content_there p.maps (map key_values_of s.maps) m row e k.maps in
+    let long = length-map s.maps key_values_of in
     let part = part_replaced value_serials s.maps m content [] (omega arith) in
     let old : List ℕ = value_serials (content_of s m) in
     let new : List ℕ = value_serials content in
@@ -187,18 +187,19 @@ one_fewer_live p s m row content n =
 
 put_bytes_keeps : (p : Program) (s : State) (m : ℕ) (row : MapDef) (key bytes : List ℕ)
     → slice_get p.maps m ≡ Some row
-    → IsEntry row (key, bytes) → HasRoomForKey row key (entries_of (content_of s m)) → IsState p s
+    → IsKeyValue row (key, bytes) → HasRoomForKey row key (key_values_of (content_of s m))
+    → IsState p s
     → IsState p (put_bytes s m key bytes)
 put_bytes_keeps p s m row key bytes e entry room k = by (at_key key (content_of s m)) refl
   where
-    fits : FitsRow row (entries_of (content_of s m))
+    fits : FitsRow row (key_values_of (content_of s m))
     fits = content_fits p s m row e k
 
-    changed : (new : Stored) → new.bytes ≡ bytes → FitsRow row (entries_of (with_key key new (content_of s m)))
+    changed : (new : Stored) → new.bytes ≡ bytes → FitsRow row (key_values_of (with_key key new (content_of s m)))
     changed new same =
-        subst (FitsRow row) (sym (entries_of-with_key key new (content_of s m)
-        ∙ ap (λ b. with_key key b (entries_of (content_of s m))) same))
-        (FitsRow-with_key row key bytes (entries_of (content_of s m)) entry room fits)
+        subst (FitsRow row) (sym (key_values_of-with_key key new (content_of s m)
+        ∙ ap (λ b. with_key key b (key_values_of (content_of s m))) same))
+        (FitsRow-with_key row key bytes (key_values_of (content_of s m)) entry room fits)
 
     stored : Option Stored → Stored
     stored old = record { serial = serial_given s.next_serial old; bytes = bytes }
@@ -211,7 +212,7 @@ put_bytes_keeps p s m row key bytes e entry room k = by (at_key key (content_of 
     by (Some old) found =
         let content : Content = with_key key (stored (Some old)) (content_of s m) in
         let serials = value_serials-with_key key (stored (Some old)) old (content_of s m) refl found
-        (is_sorted-entries_of row (content_of s m) fits) in
+        (is_sorted-key_values_of row (content_of s m) fits) in
         let live : serials_with s m content ≡ live_serials s = ap (λ l. l ++ map serial_of s.frames)
         (flat_map-set_same value_serials s.maps m content [] serials) in
         IsState-with_content p s m row content s.next_serial e (omega arith) (changed (stored (Some old)) refl)
@@ -229,9 +230,9 @@ remove_key_keeps p s m row key e hash there k =
     let old : Content = content_of s m in
     let content : Content = without_key key old in
     let fits = content_fits p s m row e k in
-    let fewer = subst (FitsRow row) (sym (entries_of-without_key key old))
-    (FitsRow-without_key row key (entries_of old) hash fits) in
-    let (n, one) = HasOneMore-without_key key old there (is_sorted-entries_of row old fits) in
+    let fewer = subst (FitsRow row) (sym (key_values_of-without_key key old))
+    (FitsRow-without_key row key (key_values_of old) hash fits) in
+    let (n, one) = HasOneMore-without_key key old there (is_sorted-key_values_of row old fits) in
     let live = one_fewer_live p s m row content n e one k in
     IsState-with_content p s m row content s.next_serial e (omega arith) fewer
     (AreSerials-fewer s.next_serial n (serials_with s m content) (live_serials s) live (k.given, k.once)) k
@@ -255,7 +256,7 @@ lookup_keeps p s m row key e k = (k, by (at_key key (content_of s m)) refl)
     by None found = omega arith
 
 update_keeps : (p : Program) (s : State) (m : MapArgument) (key bytes : List ℕ) (flags : ℕ) → IsArgument p m
-    → IsEntry m.row (key, bytes) → IsState p s → IsHelped p (map_update_elem m.row s m.index key bytes flags)
+    → IsKeyValue m.row (key, bytes) → IsState p s → IsHelped p (map_update_elem m.row s m.index key bytes flags)
 update_keeps p s m key bytes flags e entry k =
     let content = content_of s m.index in
     (by (update_answer m.row content key flags == 0) refl, update_answer_fits m.row content key flags)

@@ -12,7 +12,7 @@ use Rattle.isa_model.specs.declared.versions.Version.TheVariants.{One, Two}
 use Rattle.isa_model.specs.Code.Versions.{stream_magic, head_size}
 use Rattle.isa_model.specs.Code.Limits.{max_body, max_packet}
 use Rattle.isa_model.specs.Code.Instructions.{Program}
-use Rattle.isa_model.specs.Machine.States.{Entries}
+use Rattle.isa_model.specs.Machine.States.{KeyValues}
 use Rattle.isa_model.specs.Reporting.Streams.{Frame, IsFrame, ReasonFits, reason_field, length_field, InputEnding, ByEnd, ByError, opened, stop_at, frame_of, record_size, frames_from, Input, Stream, stream_opened, stream_of}
 use Rattle.isa_model.proofs.StreamLaws.{frames_from-stops, frames_from-goes_on, frames_behind}
 use Rattle.isa_model.specs.Running.Runs.{Outcome, Turn}
@@ -94,23 +94,23 @@ packet_short One f h = omega arith
 packet_short Two f h = h
 
 -- on a frame that can be spelled, a program all of whose runs exit has an outcome
-outcome_on : (p : Program) (n : ℕ) (contents : List Entries) (v : Version) (f : Frame) → StartsEnd p n → FitRows p.maps contents → IsFrame v f
+outcome_on : (p : Program) (n : ℕ) (contents : List KeyValues) (v : Version) (f : Frame) → StartsEnd p n → FitRows p.maps contents → IsFrame v f
     → ExitsWithin p n f.head f.body contents (λ k. f.head.time) × IsGiven p f.head f.body contents
 outcome_on p n contents v f h fits here =
     let given : IsGiven p f.head f.body contents = record { short = packet_short v f here.short; bytes = here.bytes; interface = here.interface; queue = here.queue; maps = fits } in
     (ExitsWithin-StartsEnd p n f.head f.body contents (λ k. f.head.time) h (λ k. here.time) given, given)
 
 -- one frame: what its run, if it has one, is, and what it leaves
-abbrev RunsOne : Program → ℕ → ReportForm → ℕ → List Entries → Frame → Bool → Option Turn → Type 0
+abbrev RunsOne : Program → ℕ → ReportForm → ℕ → List KeyValues → Frame → Bool → Option Turn → Type 0
 RunsOne p n form number contents f runs t =
     ExitsOn p n contents f runs (contents_left contents t)
     × ReportsFrame form p number contents f runs (turn_pieces (with_limit n form) number f t) (contents_left contents t)
     × FitRows p.maps (contents_left contents t)
 
-abbrev turn_if : Program → ℕ → List Entries → Frame → Bool → Option Turn
+abbrev turn_if : Program → ℕ → List KeyValues → Frame → Bool → Option Turn
 turn_if p n contents f runs = if runs then Some (checked_rule p n f.head f.body contents) else None
 
-runs_one : (p : Program) (n : ℕ) (form : ReportForm) (number : ℕ) (contents : List Entries) (v : Version) (f : Frame) (runs : Bool) → IsProgram p → StartsEnd p n
+runs_one : (p : Program) (n : ℕ) (form : ReportForm) (number : ℕ) (contents : List KeyValues) (v : Version) (f : Frame) (runs : Bool) → IsProgram p → StartsEnd p n
     → FitRows p.maps contents → IsFrame v f → RunsOne p n form number contents f runs (turn_if p n contents f runs)
 runs_one p n form number contents v f false program h fits here = (refl, (skip_pieces-limit n form number f, refl), fits)
 runs_one p n form number contents v f true program h fits here =
@@ -123,12 +123,12 @@ runs_one p n form number contents v f true program h fits here =
     subst (λ (t : Turn). RunsOne p n form number contents f true (Some t)) (sym same)
     ((o, exit.found, exit.few, refl), (o, exit.found, frame_pieces-turn_by n form number f o, refl), left)
 
-abbrev RunsOn : Program → ℕ → ReportForm → ℕ → List Entries → List Frame → Type 0
+abbrev RunsOn : Program → ℕ → ReportForm → ℕ → List KeyValues → List Frame → Type 0
 RunsOn p n form number contents frames =
     AllExit p n contents frames
     × ReportsFrames form p number contents frames (turns_pieces (with_limit n form) (checked_rule p n) number contents frames) (contents_after (checked_rule p n) contents frames)
 
-runs_on : (p : Program) (n : ℕ) (form : ReportForm) (number : ℕ) (contents : List Entries) (v : Version) (frames : List Frame) → IsProgram p → StartsEnd p n → FitRows p.maps contents
+runs_on : (p : Program) (n : ℕ) (form : ReportForm) (number : ℕ) (contents : List KeyValues) (v : Version) (frames : List Frame) → IsProgram p → StartsEnd p n → FitRows p.maps contents
     → All (IsFrame v) frames → RunsOn p n form number contents frames
 runs_on p n form number contents v [] program h fits each = (tt, (refl, refl))
 runs_on p n form number contents v (f ∷ frames) program h fits each =
@@ -156,7 +156,7 @@ IsReport-checked p n found program h fits each =
       exits,
     )
 
-ReportsFrame-same : (form : ReportForm) (p : Program) (number : ℕ) (contents : List Entries) (f : Frame) (runs : Bool) (pieces others : List Piece) (next after : List Entries)
+ReportsFrame-same : (form : ReportForm) (p : Program) (number : ℕ) (contents : List KeyValues) (f : Frame) (runs : Bool) (pieces others : List Piece) (next after : List KeyValues)
     → ReportsFrame form p number contents f runs pieces next → ReportsFrame form p number contents f runs others after → (pieces ≡ others) × (next ≡ after)
 ReportsFrame-same form p number contents f false pieces others next after h k = (h.0 ∙ sym k.0, h.1 ∙ sym k.1)
 ReportsFrame-same form p number contents f true pieces others next after h k =
@@ -165,14 +165,14 @@ ReportsFrame-same form p number contents f true pieces others next after h k =
     let one : o ≡ q = HasOutcome-same p f.head f.body contents (λ k. f.head.time) o q found also in
     (is ∙ ap (λ (x : Outcome). frame_pieces form number f (turn_by x)) one ∙ sym was, leaves ∙ ap (λ (x : Outcome). x.contents) one ∙ sym left)
 
-ReportsFrames-same : (form : ReportForm) (p : Program) (number : ℕ) (contents : List Entries) (frames : List Frame) (pieces others : List Piece) (last end : List Entries)
+ReportsFrames-same : (form : ReportForm) (p : Program) (number : ℕ) (contents : List KeyValues) (frames : List Frame) (pieces others : List Piece) (last end : List KeyValues)
     → ReportsFrames form p number contents frames pieces last → ReportsFrames form p number contents frames others end → (pieces ≡ others) × (last ≡ end)
 ReportsFrames-same form p number contents [] pieces others last end h k = (h.0 ∙ sym k.0, h.1 ∙ sym k.1)
 ReportsFrames-same form p number contents (f ∷ frames) pieces others last end h k =
     let (front, rest, next, one, split, more) = h in
     let (begin, left, after, also, cut, others_more) = k in
     let same = ReportsFrame-same form p number contents f (f.reason == 0) front begin next after one also in
-    let behind = subst (λ (c : List Entries). ReportsFrames form p (number + 1) c frames rest last) same.1 more in
+    let behind = subst (λ (c : List KeyValues). ReportsFrames form p (number + 1) c frames rest last) same.1 more in
     let (equal, ends) = ReportsFrames-same form p (number + 1) after frames rest left last end behind others_more in
     (split ∙ ap (λ (l : List Piece). l ++ rest) same.0 ∙ ap (λ (l : List Piece). begin ++ l) equal ∙ sym cut, ends)
 
@@ -183,5 +183,5 @@ IsReport-same p found pieces others h k =
     let ends = ToReport (last_line (length found.frames) found.finish) ∷ [] in
     h.whole
     ∙ ap (λ (l : List Piece). (ToFrames (stream_magic found.version) ∷ l) ++ (maps_pieces 0 p.maps h.last ++ ends)) turns
-    ∙ ap (λ (c : List Entries). (ToFrames (stream_magic found.version) ∷ k.turns) ++ (maps_pieces 0 p.maps c ++ ends)) last
+    ∙ ap (λ (c : List KeyValues). (ToFrames (stream_magic found.version) ∷ k.turns) ++ (maps_pieces 0 p.maps c ++ ends)) last
     ∙ sym k.whole

@@ -5,7 +5,7 @@ use Rattle.isa_model.specs.declared.frames.FrameHead.{FrameHead}
 use Rattle.isa_model.specs.declared.ends.End.{End}
 use Rattle.isa_model.specs.declared.ends.End.TheVariants.{Exit}
 use Rattle.isa_model.specs.Code.Instructions.{Program}
-use Rattle.isa_model.specs.Machine.States.{Entries, State}
+use Rattle.isa_model.specs.Machine.States.{KeyValues, State}
 use Rattle.isa_model.specs.Machine.Steps.{Finished, step}
 use Rattle.isa_model.specs.Running.Runs.{start_state, GoesOn, Ended, after_step, advanced, progress, Reaches, Runs, Outcome, HasOutcome, Turn, turn}
 
@@ -36,7 +36,7 @@ progress-exit p clock s t n limit a reached exits within =
     sym (ap (λ k. progress p clock k s) split) ∙ progress-ended p clock s t (Exit a (n + 1)) (suc n) (limit - suc n) last
 
 -- where the run from the start state has an outcome within the limit, its turn is that exit
-pub turn-outcome : (p : Program) (head : FrameHead) (packet : List ℕ) (contents : List Entries) (clock : ℕ → ℕ) (o : Outcome) (limit : ℕ)
+pub turn-outcome : (p : Program) (head : FrameHead) (packet : List ℕ) (contents : List KeyValues) (clock : ℕ → ℕ) (o : Outcome) (limit : ℕ)
     → HasOutcome p head packet contents clock o → o.steps ≤ limit
     → turn p limit clock head packet contents
     ≡ record { ends = Exit o.number o.steps; packet = o.packet; contents = o.contents; clock_calls = o.clock_calls }
@@ -46,11 +46,11 @@ turn-outcome p head packet contents clock o limit h within =
     let steps : h.before + 1 ≡ o.steps = omega arith in
     rw (ended, steps, h.packet_is, h.contents_are, h.clock_calls_are) refl
 
-abbrev outcome_of : ℕ → List ℕ → List Entries → ℕ → ℕ → Outcome
+abbrev outcome_of : ℕ → List ℕ → List KeyValues → ℕ → ℕ → Outcome
 outcome_of n packet contents steps calls = record { number = n; packet = packet; contents = contents; steps = steps; clock_calls = calls }
 
 -- a run from the start state has one outcome at most
-pub HasOutcome-same : (p : Program) (head : FrameHead) (packet : List ℕ) (contents : List Entries) (clock : ℕ → ℕ) (o q : Outcome)
+pub HasOutcome-same : (p : Program) (head : FrameHead) (packet : List ℕ) (contents : List KeyValues) (clock : ℕ → ℕ) (o q : Outcome)
     → HasOutcome p head packet contents clock o → HasOutcome p head packet contents clock q → o ≡ q
 HasOutcome-same p head packet contents clock o q h k =
     let one = turn-outcome p head packet contents clock o (o.steps + q.steps) h (omega arith) in

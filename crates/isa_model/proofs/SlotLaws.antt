@@ -12,7 +12,7 @@ use Rattle.isa_model.specs.declared.ends.TrapReason.{TrapReason}
 use Rattle.isa_model.specs.declared.ends.TrapReason.TheVariants.{UnsetRead}
 use Rattle.isa_model.specs.declared.frames.FrameHead.{FrameHead}
 use Rattle.isa_model.specs.Code.Numbers.{bytes_of, unsigned}
-use Rattle.isa_model.specs.Machine.States.{Entries, State, reg, frame_pointer, go_to, new_frame}
+use Rattle.isa_model.specs.Machine.States.{KeyValues, State, reg, frame_pointer, go_to, new_frame}
 use Rattle.isa_model.specs.declared.values.Region.TheVariants as region
 use Rattle.isa_model.proofs.ByteCells.{value_in-Byte}
 use Rattle.isa_model.specs.Machine.Memory.{is_unwritten, load, store, and_then, index_from, index_at, region_cells, cells_at, place_of, place_in, value_in, memory_load, write, put}
@@ -125,7 +125,7 @@ store_there holds t h j y below =
 
 -- ---- what stays
 
-pub HasKnownSlots-start : (holds : ℕ → ℕ → Type 0) (head : FrameHead) (packet : List ℕ) (contents : List Entries) → HasKnownSlots holds (start_state head packet contents)
+pub HasKnownSlots-start : (holds : ℕ → ℕ → Type 0) (head : FrameHead) (packet : List ℕ) (contents : List KeyValues) → HasKnownSlots holds (start_state head packet contents)
 unfolding start_state new_frame
 HasKnownSlots-start holds head packet contents = record {
   frame = new_frame (count_values contents) 0 (Unset ∷ Unset ∷ Unset ∷ Unset ∷ []);

@@ -15,11 +15,11 @@ use Rattle.isa_model.specs.declared.map_defs.MapKind.{MapKind}
 use Rattle.isa_model.specs.declared.map_defs.MapKind.TheVariants.{Hash, Array}
 use Rattle.isa_model.specs.declared.map_defs.MapDef.{MapDef}
 use Rattle.isa_model.specs.Code.MapRows.{KeyFits, IsRow}
-use Rattle.isa_model.specs.Machine.States.{Entries}
+use Rattle.isa_model.specs.Machine.States.{KeyValues}
 use Rattle.isa_model.specs.Machine.MapContents.{key_order, has_key, with_key}
 use Rattle.isa_model.proofs.PutLaws.{All-with_key, IsStrictlySortedBy-is_sorted, Contains-has_key, has_key-with_key, has_key-after_with_key, length-with_key}
-use Rattle.isa_model.specs.Machine.MachineStates.{AreBytes, IsEntry, KeysFit, keys_of, FitsRow, FitRows}
-use Rattle.isa_model.specs.Reporting.Reports.{starting_entries, starting_contents}
+use Rattle.isa_model.specs.Machine.MachineStates.{AreBytes, IsKeyValue, KeysFit, keys_of, FitsRow, FitRows}
+use Rattle.isa_model.specs.Reporting.Reports.{starting_key_values, starting_contents}
 use Rattle.isa_model.specs.Code.Limits.{max_map_entries}
 
 -- ---- bytes
@@ -40,8 +40,8 @@ little_number-little_bytes i h = little_number-reads_back 4 i [] (omega arith)
 -- ---- arrays
 
 -- the first n indexes of an array, all values zero
-record IsFilled (row : MapDef) (n : ℕ) (es : Entries) : Type 0 where
-  entries : All (IsEntry row) es
+record IsFilled (row : MapDef) (n : ℕ) (es : KeyValues) : Type 0 where
+  entries : All (IsKeyValue row) es
   sorted : T (is_sorted key_order es)
   room : length es ≤ n
   has : (i : ℕ) → i < n → has_key (little_bytes 4 i) es ≡ true
@@ -51,7 +51,7 @@ module _ (row : MapDef) (four : row.key_size ≡ 4) (few : row.entries ≤ max_m
   abbrev zeros : List ℕ
   zeros = replicate row.value_size 0
 
-  abbrev filled : Entries → ℕ → Entries
+  abbrev filled : KeyValues → ℕ → KeyValues
   filled es i = with_key (little_bytes 4 i) zeros es
 
   abbrev Below : List ℕ × List ℕ → Type 0
@@ -63,20 +63,20 @@ module _ (row : MapDef) (four : row.key_size ≡ 4) (few : row.entries ≤ max_m
   zeros_bytes : AreBytes zeros
   zeros_bytes = All-replicate (λ b. b < 256) row.value_size 0 (omega arith)
 
-  IsEntry-index : (i : ℕ) → IsEntry row (little_bytes 4 i, zeros)
-  IsEntry-index i = record {
+  IsKeyValue-index : (i : ℕ) → IsKeyValue row (little_bytes 4 i, zeros)
+  IsKeyValue-index i = record {
     key_size = length-bytes_low_first 0 4 i ∙ sym four;
     key = AreBytes-bytes_low_first 0 4 i;
     value_size = zeros_long;
     value = zeros_bytes;
   }
 
-  IsEntry-zeros : (j w : List ℕ) → IsEntry row (j, w) → IsEntry row (j, zeros)
-  IsEntry-zeros j w h = record { key_size = h.key_size; key = h.key; value_size = zeros_long; value = zeros_bytes }
+  IsKeyValue-zeros : (j w : List ℕ) → IsKeyValue row (j, w) → IsKeyValue row (j, zeros)
+  IsKeyValue-zeros j w h = record { key_size = h.key_size; key = h.key; value_size = zeros_long; value = zeros_bytes }
 
-  IsFilled-filled : (n : ℕ) (es : Entries) → n < row.entries → IsFilled row n es → IsFilled row (n + 1) (filled es n)
+  IsFilled-filled : (n : ℕ) (es : KeyValues) → n < row.entries → IsFilled row n es → IsFilled row (n + 1) (filled es n)
   IsFilled-filled n es l h = record {
-    entries = All-with_key (IsEntry row) (little_bytes 4 n) zeros es (IsEntry-index n) IsEntry-zeros h.entries;
+    entries = All-with_key (IsKeyValue row) (little_bytes 4 n) zeros es (IsKeyValue-index n) IsKeyValue-zeros h.entries;
     sorted = is_sorted-put key_order nat_list_cmp_total (little_bytes 4 n) zeros es h.sorted;
     room = let more = length-with_key (little_bytes 4 n) zeros es h.sorted in let room = h.room in omega arith;
     has = λ i below. elim (cases_lt i n) [
@@ -91,7 +91,7 @@ module _ (row : MapDef) (four : row.key_size ≡ 4) (few : row.entries ≤ max_m
         All-with_key Below (little_bytes 4 n) zeros es (omega arith) (λ j w b. b) h.below;
   }
 
-  IsFilled-fold : (n k : ℕ) (es : Entries) → n + k ≤ row.entries → IsFilled row n es
+  IsFilled-fold : (n k : ℕ) (es : KeyValues) → n + k ≤ row.entries → IsFilled row n es
       → IsFilled row (n + k) (fold filled es (range_with_len n k))
   IsFilled-fold n zero es l h = let same : n ≡ n + 0 = omega arith in subst (λ m. IsFilled row m es) same h
   IsFilled-fold n (suc k) es l h =
@@ -101,32 +101,32 @@ module _ (row : MapDef) (four : row.key_size ≡ 4) (few : row.entries ≤ max_m
 
   IsFilled-none : IsFilled row 0 []
   IsFilled-none = record {
-    entries = All-nil (IsEntry row);
+    entries = All-nil (IsKeyValue row);
     sorted = tt;
     room = omega arith;
     has = λ i l. absurd (omega arith);
     below = All-nil Below;
   }
 
-  IsFilled-whole : IsFilled row row.entries (starting_entries Array row)
+  IsFilled-whole : IsFilled row row.entries (starting_key_values Array row)
   IsFilled-whole =
       let same : 0 + row.entries ≡ row.entries = omega arith in
-      subst (λ m. IsFilled row m (starting_entries Array row)) same
+      subst (λ m. IsFilled row m (starting_key_values Array row)) same
       (IsFilled-fold 0 row.entries [] (omega arith) IsFilled-none)
 
 -- ---- rows
 
 FitsRow-starting_by : (kind : MapKind) (row : MapDef) → row.kind ≡ kind → KeyFits kind row.key_size
-    → row.entries ≤ max_map_entries → FitsRow row (starting_entries kind row)
+    → row.entries ≤ max_map_entries → FitsRow row (starting_key_values kind row)
 FitsRow-starting_by Hash row e key few = record {
-  entries = All-nil (IsEntry row);
+  entries = All-nil (IsKeyValue row);
   ordered = IsStrictlySortedBy-is_sorted {X = List ℕ} [] tt;
   room = omega arith;
   keys = subst (λ k. KeysFit k row.entries []) (sym e) tt;
 }
 FitsRow-starting_by Array row e key few =
     let h = IsFilled-whole row key few in
-    let es = starting_entries Array row in
+    let es = starting_key_values Array row in
     record {
       entries = h.entries;
       ordered = IsStrictlySortedBy-is_sorted es h.sorted;
@@ -137,13 +137,13 @@ FitsRow-starting_by Array row e key few =
       );
     }
 
-pub FitsRow-starting_entries : (row : MapDef) → IsRow row → FitsRow row (starting_entries row.kind row)
-FitsRow-starting_entries row h = FitsRow-starting_by row.kind row refl h.key h.few_entries
+pub FitsRow-starting_key_values : (row : MapDef) → IsRow row → FitsRow row (starting_key_values row.kind row)
+FitsRow-starting_key_values row h = FitsRow-starting_by row.kind row refl h.key h.few_entries
 
 -- the contents that maps start with fit their rows
 pub FitRows-starting_contents : (rows : List MapDef) → All IsRow rows → FitRows rows (starting_contents rows)
 FitRows-starting_contents [] h = tt
 FitRows-starting_contents (row ∷ rows) h = (
-  FitsRow-starting_entries row (All-head IsRow row rows h),
+  FitsRow-starting_key_values row (All-head IsRow row rows h),
   FitRows-starting_contents rows (All-tail IsRow row rows h),
 )

@@ -21,9 +21,9 @@ use Rattle.isa_model.specs.declared.map_defs.MapDef.{MapDef}
 use Rattle.isa_model.specs.declared.ends.TrapReason.TheVariants.{BadAccess}
 use Rattle.isa_model.specs.Code.Registers.{reg_number}
 use Rattle.isa_model.specs.Code.Instructions.{Program}
-use Rattle.isa_model.specs.Machine.States.{Stored, Content, Entries, entries_of, State, value_at, reg, set_reg, go_to, content_of, new_frame, frame_at}
-use Rattle.isa_model.specs.Machine.Memory.{byte_in, frame_index, entry_index, entry_at, region_cells, place_in, put_frame, put_value, put}
-use Rattle.isa_model.specs.Machine.MachineStates.{AreBytes, IsEntry, keys_of, FitsRow, FitRows, IsValue, IsCell, IsCallFrame, IsSlot, value_serials, live_serials, IsState}
+use Rattle.isa_model.specs.Machine.States.{Stored, Content, KeyValues, key_values_of, State, value_at, reg, set_reg, go_to, content_of, new_frame, frame_at}
+use Rattle.isa_model.specs.Machine.Memory.{byte_in, frame_index, index_of_serial, key_value_at, region_cells, place_in, put_frame, put_value, put}
+use Rattle.isa_model.specs.Machine.MachineStates.{AreBytes, IsKeyValue, keys_of, FitsRow, FitRows, IsValue, IsCell, IsCallFrame, IsSlot, value_serials, live_serials, IsState}
 use Rattle.isa_model.proofs.ValueLaws.{IfOk-if, bytes_in_fit, length-splice, All-splice}
 
 -- ---- another slot, other registers, and the clock asked once more
@@ -126,7 +126,7 @@ flat_map-set_same f (x ∷ xs) zero y d e = ap (λ l. l ++ flat_map f xs) e
 flat_map-set_same f (x ∷ xs) (suc i) y d e = ap (λ l. f x ++ l) (flat_map-set_same f xs i y d e)
 
 -- one of the contents is replaced by one that fits the same row
-FitRows-set : (rows : List MapDef) (contents : List Entries) (m : ℕ) (es d : Entries)
+FitRows-set : (rows : List MapDef) (contents : List KeyValues) (m : ℕ) (es d : KeyValues)
     → ((row : MapDef) → FitsRow row (slice_index_or contents m d) → FitsRow row es)
     → FitRows rows contents → FitRows rows (slice_set contents m es)
 FitRows-set [] [] m es d more h = h
@@ -139,47 +139,48 @@ FitRows-set (row ∷ rows) (c ∷ contents) (suc m) es d more h = (h.0, FitRows-
 pub put_value_serials : (content : Content) (o : Option ℕ) (i : ℕ) (new : List ℕ) → value_serials (put_value content o i new) ≡ value_serials content
 put_value_serials content None i new = refl
 put_value_serials content (Some j) i new =
-    let e = entry_at content j in
+    let e = key_value_at content j in
     map-set_same (λ e. e.1.serial) content j (e.0, record e.1 { bytes = splice e.1.bytes i (i + length new) new }) ([], record { serial = 0; bytes = [] }) refl
 
 put_value_fits : (row : MapDef) (content : Content) (o : Option ℕ) (i : ℕ) (new : List ℕ)
-    → ((j : ℕ) → o ≡ Some j → (j < length content) × (i + length new ≤ length (entry_at content j).1.bytes)) → AreBytes new
-    → FitsRow row (entries_of content) → FitsRow row (entries_of (put_value content o i new))
+    → ((j : ℕ) → o ≡ Some j → (j < length content) × (i + length new ≤ length (key_value_at content j).1.bytes)) → AreBytes new
+    → FitsRow row (key_values_of content) → FitsRow row (key_values_of (put_value content o i new))
 put_value_fits row content None i new within bytes h = h
 put_value_fits row content (Some j) i new within bytes h =
     let (here, room) = within j refl in
-    let e = entry_at content j in
+    let e = key_value_at content j in
     let f : List ℕ × Stored = (e.0, record e.1 { bytes = splice e.1.bytes i (i + length new) new }) in
     let none : List ℕ × Stored = ([], record { serial = 0; bytes = [] }) in
-    let es : Entries = entries_of content in
+    let es : KeyValues = key_values_of content in
     let x : List ℕ × List ℕ = (f.0, f.1.bytes) in
     let found : slice_index_or es j ([], []) ≡ (e.0, e.1.bytes) = get_or-map_default (λ e. (e.0, e.1.bytes)) content j none in
-    let old = subst (IsEntry row) found (All-get_or (IsEntry row) es j ([], []) (rw (length-map {B = List ℕ × List ℕ} content (λ e. (e.0, e.1.bytes))) here) h.entries) in
+    let old = subst (IsKeyValue row) found (All-get_or (IsKeyValue row) es j ([], []) (rw (length-map {B = List ℕ × List ℕ} content (λ e. (e.0, e.1.bytes))) here) h.entries) in
     let keys : keys_of (slice_set es j x) ≡ keys_of es = map-set_same (λ e. e.0) es j x ([], []) (sym (ap (λ e. e.0) found)) in
-    let new_entry : IsEntry row x = record {
+    let new_entry : IsKeyValue row x = record {
       key_size = old.key_size;
       key = old.key;
       value_size = length-splice e.1.bytes new i room ∙ old.value_size;
       value = All-splice (λ b. b < 256) e.1.bytes new i (i + length new) old.value bytes;
     } in
     let fits : FitsRow row (slice_set es j x) = record {
-      entries = All-set (IsEntry row) es j x new_entry h.entries;
+      entries = All-set (IsKeyValue row) es j x new_entry h.entries;
       ordered = rw keys h.ordered;
       room = rw (length-set es j x) h.room;
       keys = rw keys h.keys;
     } in
-    let same : entries_of (slice_set content j f) ≡ slice_set es j x = map-set (λ e. (e.0, e.1.bytes)) content j f in
+    let same : key_values_of (slice_set content j f) ≡ slice_set es j x = map-set (λ e. (e.0, e.1.bytes)) content j f in
     rw same fits
 
 -- a key whose value a serial finds is there, and so is the place in its value
-pub entry_room : (content : Content) (n i len : ℕ) (o : Option ℕ) → entry_index content n ≡ o
-    → HasCells (option_map (λ j. map Byte (entry_at content j).1.bytes) o) i len
-    → (j : ℕ) → o ≡ Some j → (j < length content) × (i + len ≤ length (entry_at content j).1.bytes)
-entry_room content n i len None e room j h = absurd room
-entry_room content n i len (Some k) e room j h =
+pub value_room : (content : Content) (n i len : ℕ) (o : Option ℕ) → index_of_serial content n ≡ o
+    → HasCells (option_map (λ j. map Byte (key_value_at content j).1.bytes) o) i len
+    → (j : ℕ) → o ≡ Some j → (j < length content)
+    × (i + len ≤ length (key_value_at content j).1.bytes)
+value_room content n i len None e room j h = absurd room
+value_room content n i len (Some k) e room j h =
     let same : k ≡ j = cc in
     let place = position-Some (λ e. e.1.serial == n) content k ([], record { serial = 0; bytes = [] }) e in
-    let long = length-map (entry_at content k).1.bytes Byte in
+    let long = length-map (key_value_at content k).1.bytes Byte in
     rw (← same) (place.0, omega arith)
 
 -- a call frame that a serial finds is there
@@ -231,12 +232,12 @@ IsState-put p s (region.MapValue m n) i new room fit k =
     let content = content_of s m in
     let bytes : List ℕ = map byte_in new in
     let long = length-map new byte_in in
-    let there = entry_room content n i (length bytes) (entry_index content n) refl (rw long room) in
+    let there = value_room content n i (length bytes) (index_of_serial content n) refl (rw long room) in
     let bytes_fit = bytes_in_fit (length p.maps) s.next_serial new fit in
-    let changed : Content = put_value content (entry_index content n) i bytes in
-    let found : slice_index_or (map entries_of s.maps) m [] ≡ entries_of content = get_or-map_default entries_of s.maps m [] in
+    let changed : Content = put_value content (index_of_serial content n) i bytes in
+    let found : slice_index_or (map key_values_of s.maps) m [] ≡ key_values_of content = get_or-map_default key_values_of s.maps m [] in
     let serials : flat_map value_serials (slice_set s.maps m changed) ++ map serial_of s.frames ≡ live_serials s =
-    ap (λ l. l ++ map serial_of s.frames) (flat_map-set_same value_serials s.maps m changed [] (put_value_serials content (entry_index content n) i bytes)) in
+    ap (λ l. l ++ map serial_of s.frames) (flat_map-set_same value_serials s.maps m changed [] (put_value_serials content (index_of_serial content n) i bytes)) in
     record {
       slot = k.slot;
       registers = k.registers;
@@ -248,9 +249,9 @@ IsState-put p s (region.MapValue m n) i new room fit k =
       packet = k.packet;
       interface = k.interface;
       queue = k.queue;
-      maps = subst (FitRows p.maps) (sym (map-set entries_of s.maps m changed))
-          (FitRows-set p.maps (map entries_of s.maps) m (entries_of changed) []
-          (λ row h. put_value_fits row content (entry_index content n) i bytes there bytes_fit (subst (FitsRow row) found h)) k.maps);
+      maps = subst (FitRows p.maps) (sym (map-set key_values_of s.maps m changed))
+          (FitRows-set p.maps (map key_values_of s.maps) m (key_values_of changed) []
+          (λ row h. put_value_fits row content (index_of_serial content n) i bytes there bytes_fit (subst (FitsRow row) found h)) k.maps);
       given = rw serials k.given;
       once = rw serials k.once;
     }

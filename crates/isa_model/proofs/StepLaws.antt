@@ -29,7 +29,7 @@ use Rattle.isa_model.specs.Code.Spelling.{InsnFits, OperandFits}
 use Rattle.isa_model.specs.Code.Instructions.{Program, fetch, slots_of, reads, writes, is_frame_pointer}
 use Rattle.isa_model.specs.Code.Helpers.{helper_numbered}
 use Rattle.isa_model.specs.Code.MapRows.{IsRow, NamesRows}
-use Rattle.isa_model.specs.Machine.States.{Entries, entries_of, State, reg, set_reg, new_frame}
+use Rattle.isa_model.specs.Machine.States.{KeyValues, key_values_of, State, reg, set_reg, new_frame}
 use Rattle.isa_model.specs.Machine.Memory.{and_then}
 use Rattle.isa_model.specs.Code.Limits.{max_call_frames, frame_size}
 use Rattle.isa_model.specs.Machine.Calls.{enter, leave}
@@ -205,7 +205,7 @@ progress_keeps p clock s t (suc n) h answers k r =
 -- ---- the start
 
 -- the serials at the start are numbers in a row
-numbered_serials : (n : ℕ) (es : Entries) → value_serials (numbered n es) ≡ range_with_len n (length es)
+numbered_serials : (n : ℕ) (es : KeyValues) → value_serials (numbered n es) ≡ range_with_len n (length es)
 numbered_serials n [] = refl
 numbered_serials n (e ∷ es) = ap (λ l. n ∷ l) (subst (λ m. value_serials (numbered m es) ≡ range_with_len (n + 1) (length es)) (add-one n) (numbered_serials (n + 1) es))
 
@@ -217,19 +217,19 @@ range-append a (suc m) n =
     let total : suc m + n ≡ suc (m + n) = omega arith in
     rw (there, total) (ap (λ l. a ∷ l) again)
 
-start_serials : (n : ℕ) (contents : List Entries) → flat_map value_serials (numbered_maps n contents) ≡ range_with_len n (count_values contents)
+start_serials : (n : ℕ) (contents : List KeyValues) → flat_map value_serials (numbered_maps n contents) ≡ range_with_len n (count_values contents)
 start_serials n [] = refl
 start_serials n (c ∷ contents) =
     rw (numbered_serials n c, start_serials (n + length c) contents) (range-append n (length c) (count_values contents))
 
-numbered_entries : (n : ℕ) (es : Entries) → entries_of (numbered n es) ≡ es
-numbered_entries n [] = refl
-numbered_entries n (e ∷ es) = ap (λ l. e ∷ l) (numbered_entries (suc n) es)
+numbered_key_values : (n : ℕ) (es : KeyValues) → key_values_of (numbered n es) ≡ es
+numbered_key_values n [] = refl
+numbered_key_values n (e ∷ es) = ap (λ l. e ∷ l) (numbered_key_values (suc n) es)
 
 -- the contents at the start are the given ones
-pub start_contents : (n : ℕ) (contents : List Entries) → map entries_of (numbered_maps n contents) ≡ contents
+pub start_contents : (n : ℕ) (contents : List KeyValues) → map key_values_of (numbered_maps n contents) ≡ contents
 start_contents n [] = refl
-start_contents n (c ∷ contents) = rw (numbered_entries n c) (ap (λ l. c ∷ l) (start_contents (n + length c) contents))
+start_contents n (c ∷ contents) = rw (numbered_key_values n c) (ap (λ l. c ∷ l) (start_contents (n + length c) contents))
 
 range_apart : (n : ℕ) → AllPairs (λ i j. i ≢ j) (range_with_len 0 n)
 range_apart n i j d before within same =
@@ -245,7 +245,7 @@ range_below n i d within =
     omega arith
 
 -- the start state is one, for every head, packet and contents that fit
-pub start_is_state : (p : Program) (head : FrameHead) (body : List ℕ) (contents : List Entries) → IsGiven p head body contents
+pub start_is_state : (p : Program) (head : FrameHead) (body : List ℕ) (contents : List KeyValues) → IsGiven p head body contents
     → IsState p (start_state head body contents)
 unfolding start_state new_frame
 start_is_state p head body contents h =

@@ -9,6 +9,6 @@ pub mod Worked
 pub use Rattle.isa_model.specs.Code.Instructions.{Program, fetch, slots_of}
 pub use Rattle.isa_model.specs.Code.Registers.{reg_number}
 pub use Rattle.isa_model.specs.Code.Sizes.{width_bits, span_bits}
-pub use Rattle.isa_model.specs.Machine.States.{Entries}
+pub use Rattle.isa_model.specs.Machine.States.{KeyValues}
 pub use Rattle.isa_model.specs.Code.Limits.{max_packet}
 pub use Rattle.isa_model.specs.Reporting.Streams.{Frame}

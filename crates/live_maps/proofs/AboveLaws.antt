@@ -7,7 +7,7 @@ use Rattle.std.proofs.Math.ListN.{get_or-map}
 use Rattle.std.proofs.lemmas.List.{length-map}
 use Rattle.live_maps.specs.Live.{Serials, serial_in}
 use Rattle.live_maps.specs.Numbering.{Numbers, NumbersFirst, OnlyThere, place_in, above, all_above, moved}
-use Rattle.live_maps.proofs.EntryLaws.{position-cons}
+use Rattle.live_maps.proofs.KeyValueLaws.{position-cons}
 
 -- the first that passes a test once all are changed
 pub position-map : {X Y : Type 0} (t : Y → Bool) (f : X → Y) (xs : List X) → position t (map f xs) ≡ position (λ x. t (f x)) xs

@@ -3,7 +3,7 @@ use Rattle.std.proofs.Common.{◌≡◌, ℕ, zero, suc, ◌<◌, ◌≤◌, Lis
 use Rattle.std.specs.Prelude.{IsSomeAnd, slice_get, slice_set, slice_index_or}
 use Rattle.std.specs.FinMap.{entries}
 use Rattle.std.proofs.lemmas.List.{get_or_past, length-set}
-use Rattle.isa_model.specs.Machine.States.{Content, Entries, entries_of}
+use Rattle.isa_model.specs.Machine.States.{Content, KeyValues, key_values_of}
 use Rattle.map_indexes.specs.Rows.{row_at}
 use Rattle.maps.specs.ContentLaws.{changed}
 use Rattle.maps.specs.Maps.{MapState, map_at, contents_of, rows_of}
@@ -49,21 +49,21 @@ live_contents-set_map (y ∷ maps) (r ∷ all) zero x long h = refl
 live_contents-set_map (y ∷ maps) (r ∷ all) (suc m) x long h =
     ap (λ (l : List Content). live_content y r ∷ l) (live_contents-set_map maps all m x (omega arith) (omega arith))
 
--- the entries of a content with serials, without them
-pub entries-stored : (m : MapState) (s : Serials) (es : List (List ℕ × ℕ))
-    → entries_of (changed (stored m s) es) ≡ map (λ e. (e.0, row_at m.row.value_size m.block e.1)) es
-entries-stored m s [] = refl
-entries-stored m s (e ∷ es) = ap (λ (l : Entries). (e.0, row_at m.row.value_size m.block e.1) ∷ l) (entries-stored m s es)
+-- the keys and values of a content with serials, without these
+pub key_values-stored : (m : MapState) (s : Serials) (es : List (List ℕ × ℕ))
+    → key_values_of (changed (stored m s) es) ≡ map (λ e. (e.0, row_at m.row.value_size m.block e.1)) es
+key_values-stored m s [] = refl
+key_values-stored m s (e ∷ es) = ap (λ (l : KeyValues). (e.0, row_at m.row.value_size m.block e.1) ∷ l) (key_values-stored m s es)
 
 -- without serials the contents are those of the maps
-pub entries_of-live_contents : (maps : List MapState) (all : List Serials) → length all ≡ length maps
-    → map entries_of (live_contents maps all) ≡ contents_of maps
+pub key_values_of-live_contents : (maps : List MapState) (all : List Serials) → length all ≡ length maps
+    → map key_values_of (live_contents maps all) ≡ contents_of maps
 unfolding live_contents
-entries_of-live_contents [] all long = refl
-entries_of-live_contents (m ∷ maps) [] long = absurd (omega arith)
-entries_of-live_contents (m ∷ maps) (s ∷ all) long =
-    let first = entries-stored m s (entries m.places) in
-    let rest = entries_of-live_contents maps all (omega arith) in
+key_values_of-live_contents [] all long = refl
+key_values_of-live_contents (m ∷ maps) [] long = absurd (omega arith)
+key_values_of-live_contents (m ∷ maps) (s ∷ all) long =
+    let first = key_values-stored m s (entries m.places) in
+    let rest = key_values_of-live_contents maps all (omega arith) in
     λ i. first i ∷ rest i
 
 -- ---- all maps

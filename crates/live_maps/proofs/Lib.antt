@@ -1,7 +1,7 @@
 pub mod OneChanged
 pub mod AboveLaws
 pub mod ContentLaws
-pub mod EntryLaws
+pub mod KeyValueLaws
 pub mod LivingLaws
 pub mod LiveLaws
 pub mod NumberingLaws

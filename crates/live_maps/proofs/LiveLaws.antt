@@ -1,4 +1,5 @@
--- Maps whose values have serials: what each change makes of the contents, and that the serials stay apart.
+-- Maps whose values have serials: what each change makes of the contents, and that the serials stay
+-- apart.
 use Rattle.std.proofs.Common.{◌≡◌, ℕ, suc, ◌+◌, ◌<◌, ◌≤◌, List, [], length, Option, Some, None, true, false, refl, sym, ap, subst, ◌∙◌, arith}
 use Rattle.std.specs.Prelude.{◌≢◌, ◌==◌, is_some, nat_le, slice_set}
 use Rattle.std.specs.Option.{option_map}
@@ -7,8 +8,8 @@ use Rattle.std.proofs.Math.Dec.{eqb}
 use Rattle.std.proofs.lemmas.Bool.{eqb-true, eqb-false}
 use Rattle.std.proofs.lemmas.Bool.Decides.{nat_tests}
 use Rattle.std.proofs.lemmas.List.{get_or-set_same, get_or-set_other, set-get_or, length-set, length-map}
-use Rattle.isa_model.specs.Machine.States.{Content, Entries, entries_of}
-use Rattle.isa_model.specs.Machine.Memory.{entry_index, put_value}
+use Rattle.isa_model.specs.Machine.States.{Content, KeyValues, key_values_of}
+use Rattle.isa_model.specs.Machine.Memory.{index_of_serial, put_value}
 use Rattle.isa_model.specs.Machine.MapContents.{at_key, with_key, without_key, update_answer, delete_answer, update_answer_by, delete_answer_by}
 use Rattle.map_indexes.specs.Rows.{with_row}
 use Rattle.map_indexes.specs.PlaceKeys.{Places, TakesPlace}
@@ -17,9 +18,9 @@ use Rattle.maps.proofs.UpdateLaws.{delete_answer-places}
 use Rattle.isa_model.specs.declared.map_defs.MapKind.{MapKind}
 use Rattle.isa_model.specs.declared.map_defs.MapKind.TheVariants.{Hash, Array}
 use Rattle.isa_model.specs.Machine.MapHelpers.{serial_given, serial_after}
-use Rattle.isa_model.proofs.ContentLaws.{has_key-entries_of}
+use Rattle.isa_model.proofs.ContentLaws.{has_key-key_values_of}
 use Rattle.live_maps.specs.Live.{Serials, serial_in, serials_at, place_if_new, stored, live_content, live_contents, HasSerials, AreLive, content_at, with_content, with_value, with_bytes, without}
-use Rattle.live_maps.proofs.ContentLaws.{live_contents-at, live_contents-set, live_contents-set_map, live_of, rows_of-set, entries-stored}
+use Rattle.live_maps.proofs.ContentLaws.{live_contents-at, live_contents-set, live_contents-set_map, live_of, rows_of-set, key_values-stored}
 use Rattle.live_maps.proofs.SerialLaws.{put_value-written, at_key-live, HasSerials-more, HasSerials-same, HasSerials-added, with_key-added, with_key-present, HasSerials-removed, without_key-removed}
 
 map_at-set_same : (maps : List MapState) (m : ℕ) (x : MapState) → m < length maps → map_at (slice_set maps m x) m ≡ x
@@ -116,9 +117,9 @@ module _ (next : ℕ) (maps : List MapState) (all : List Serials) (m : ℕ) (new
       → AreLive next new all × (live_of new all next ≡ with_value (live_of maps all next) m n i bytes)
   live-written n p i bytes here fits is w =
       let r = same_serials (HasSerials-same next (map_at maps m) s mine x is w.row w.places) w.row
-      (put_value (live_content (map_at maps m) s) (entry_index (live_content (map_at maps m) s) n) i bytes)
+      (put_value (live_content (map_at maps m) s) (index_of_serial (live_content (map_at maps m) s) n) i bytes)
       (put_value-written next (map_at maps m) s mine n p here x i bytes fits w) in
-      (r.0, r.1 ∙ ap (λ (c : Content). with_content (live_of maps all next) m (put_value c (entry_index c n) i bytes)) (sym live_at))
+      (r.0, r.1 ∙ ap (λ (c : Content). with_content (live_of maps all next) m (put_value c (index_of_serial c n) i bytes)) (sym live_at))
 
   -- a present key's value written
   pub live-updated : (key value : List ℕ) (flags p : ℕ) → IsMap x → length value ≡ (map_at maps m).row.value_size
@@ -187,19 +188,19 @@ module _ (next : ℕ) (maps : List MapState) (all : List Serials) (m : ℕ) (new
   -- what is asked of one map
   pub update_answer-live : (key : List ℕ) (flags : ℕ)
       → update_answer (map_at maps m).row (content_in (map_at maps m)) key flags ≡ update_answer (map_at maps m).row (content_at (live_of maps all next) m) key flags
-  update_answer-live key flags = sym (answer-entries key flags ∙ ap (λ (c : Entries). update_answer (map_at maps m).row c key flags) plain)
+  update_answer-live key flags = sym (answer-entries key flags ∙ ap (λ (c : KeyValues). update_answer (map_at maps m).row c key flags) plain)
     where
-      plain : entries_of (content_at (live_of maps all next) m) ≡ content_in (map_at maps m)
-      plain = ap entries_of live_at ∙ entries-stored (map_at maps m) s (entries (map_at maps m).places)
+      plain : key_values_of (content_at (live_of maps all next) m) ≡ content_in (map_at maps m)
+      plain = ap key_values_of live_at ∙ key_values-stored (map_at maps m) s (entries (map_at maps m).places)
 
       answer-entries : (key : List ℕ) (flags : ℕ)
           → update_answer (map_at maps m).row (content_at (live_of maps all next) m) key flags
-          ≡ update_answer (map_at maps m).row (entries_of (content_at (live_of maps all next) m)) key flags
+          ≡ update_answer (map_at maps m).row (key_values_of (content_at (live_of maps all next) m)) key flags
       answer-entries key flags =
           let c = content_at (live_of maps all next) m in
           let row = (map_at maps m).row in
-          let has = has_key-entries_of key c in
-          let long : length (entries_of c) ≡ length c = length-map {B = List ℕ × List ℕ} c (λ e. (e.0, e.1.bytes)) in
+          let has = has_key-key_values_of key c in
+          let long : length (key_values_of c) ≡ length c = length-map {B = List ℕ × List ℕ} c (λ e. (e.0, e.1.bytes)) in
           λ i. update_answer_by row.kind (sym has i) (nat_le row.entries (sym long i)) flags
 
   pub delete_answer-live : (key : List ℕ)
@@ -207,9 +208,9 @@ module _ (next : ℕ) (maps : List MapState) (all : List Serials) (m : ℕ) (new
   delete_answer-live key =
       let c = content_at (live_of maps all next) m in
       let row = (map_at maps m).row in
-      let plain : entries_of c ≡ content_in (map_at maps m) = ap entries_of live_at ∙ entries-stored (map_at maps m) s (entries (map_at maps m).places) in
-      ap (λ (es : Entries). delete_answer row es key) (sym plain)
-      ∙ (λ i. delete_answer_by row.kind (has_key-entries_of key c i))
+      let plain : key_values_of c ≡ content_in (map_at maps m) = ap key_values_of live_at ∙ key_values-stored (map_at maps m) s (entries (map_at maps m).places) in
+      ap (λ (es : KeyValues). delete_answer row es key) (sym plain)
+      ∙ (λ i. delete_answer_by row.kind (has_key-key_values_of key c i))
 
 -- ---- the serial that is given next
 

@@ -17,7 +17,7 @@ use Rattle.maps.specs.ContentLaws.{changed}
 use Rattle.maps.proofs.ReportOrderLaws.{get_at}
 use Rattle.maps.specs.Maps.{MapState, IsMap, map_at, content_in, contents_of}
 use Rattle.live_maps.specs.Live.{Serials, serial_in, serials_at, stored, live_content, live_contents, HasSerials, AreLive}
-use Rattle.live_maps.proofs.EntryLaws.{AreApart, entries-apart}
+use Rattle.live_maps.proofs.KeyValueLaws.{AreApart, keys-apart}
 use Rattle.live_maps.specs.Numbering.{AreDistinct, AreNumbered, Numbers, NumbersFirst, OnlyThere, count_before, place_in}
 
 -- one more place of a list has its serial
@@ -115,7 +115,7 @@ module _ (P : Places) where
   pub values-distinct : ((j k : List ℕ) (p : ℕ) → get P j ≡ Some p → get P k ≡ Some p → j ≡ k) → AreDistinct (values P)
   values-distinct apart i j l m same =
       let long = length-values in
-      let h = entries-apart P apart in
+      let h = keys-apart P apart in
       let equal : (slice_index_or es i no_key).1 ≡ (slice_index_or es j no_key).1 = sym (values-at i) ∙ same ∙ values-at j in
       elim (eqb i j) as (λ b. eqb i j ≡ b → i ≡ j) [
         | true ↦ λ t. eqb-true i j t

@@ -11,7 +11,7 @@ use Rattle.std.proofs.lemmas.Bool.{cases_lt}
 use Rattle.std.proofs.lemmas.Bool.Decides.{nat_tests}
 use Rattle.std.proofs.lemmas.List.{get_or_past}
 use Rattle.isa_model.specs.Machine.States.{Stored, Content}
-use Rattle.isa_model.specs.Machine.Memory.{entry_at}
+use Rattle.isa_model.specs.Machine.Memory.{key_value_at}
 use Rattle.isa_model.specs.Machine.MapContents.{key_order, at_key}
 use Rattle.map_indexes.specs.Rows.{row_at}
 use Rattle.map_indexes.specs.RowLaws.{length-row_at}
@@ -23,9 +23,9 @@ use Rattle.byteorder.specs.Endian.{little_bytes}
 use Rattle.isa_model.specs.declared.map_defs.MapKind.TheVariants.{Array}
 use Rattle.isa_model.specs.Machine.Steps.{one_serial}
 use Rattle.live_maps.specs.Live.{Serials, serial_in, serials_at, has_serial, stored, live_content, value_bytes, AreLive, content_at}
-use Rattle.live_maps.proofs.EntryLaws.{position-cons}
+use Rattle.live_maps.proofs.KeyValueLaws.{position-cons}
 use Rattle.live_maps.proofs.ContentLaws.{live_contents-at, live_contents-past, live_of}
-use Rattle.live_maps.proofs.SerialLaws.{entry_index-absent, value_bytes-present, place_inside, at_key-live}
+use Rattle.live_maps.proofs.SerialLaws.{index_of_serial-absent, value_bytes-present, place_inside, at_key-live}
 
 -- ---- what is found by a serial, and by a key
 
@@ -43,7 +43,7 @@ module _ (next : ℕ) (maps : List MapState) (all : List Serials) (m : ℕ) (h :
     pub value-absent : (n : ℕ) → ((p : ℕ) → serial_in (serials_at all m) p ≢ Some n) → value_bytes (content_at (live_of maps all next) m) n ≡ None
     value-absent n none =
         ap (λ (c : Content). value_bytes c n) here
-        ∙ ap (option_map (λ j. (entry_at (live_content old (serials_at all m)) j).1.bytes)) (entry_index-absent next old (serials_at all m) (h.each m inside) n none)
+        ∙ ap (option_map (λ j. (key_value_at (live_content old (serials_at all m)) j).1.bytes)) (index_of_serial-absent next old (serials_at all m) (h.each m inside) n none)
 
     pub value-present : (n p : ℕ) → serial_in (serials_at all m) p ≡ Some n
         → (p < old.row.entries) × (value_bytes (content_at (live_of maps all next) m) n ≡ Some (row_at old.row.value_size old.block p))
@@ -72,7 +72,7 @@ module _ (next : ℕ) (maps : List MapState) (all : List Serials) (m : ℕ) (h :
               ∙ ap (λ (o : Option ℕ). Some (unwrap_or o 0)) g.1 ∙ sym g.1,
         )
 
-    -- the only value of an array of one entry
+    -- the only value of an array of one key
     pub only-present : old.row.kind ≡ Array → old.row.entries ≡ 1
         → (0 < length (serials_at all m)) × (unwrap_or (serial_in (serials_at all m) 0) 0 ≡ one_serial (content_at (live_of maps all next) m))
     only-present array one =

@@ -1,4 +1,5 @@
--- One map whose values have serials: what each change makes of its content, and that the serials stay apart.
+-- One map whose values have serials: what each change makes of its content, and that the serials
+-- stay apart.
 use Rattle.std.proofs.Common.{◌≡◌, ℕ, suc, ◌+◌, ◌<◌, ◌≤◌, List, [], length, Option, Some, None, Bool, true, false, cond, refl, sym, ap, ◌∙◌, arith}
 use Rattle.std.specs.Prelude.{◌≢◌, ◌==◌, All, slice_set, slice_index_or, unwrap_or}
 use Rattle.std.specs.List.{splice}
@@ -11,7 +12,7 @@ use Rattle.std.proofs.lemmas.Bool.Decides.{nat_tests}
 use Rattle.std.proofs.lemmas.List.{get_or-set_same, get_or-set_other, length-set}
 use Rattle.std.proofs.lemmas.Option.{slice_get-get_or}
 use Rattle.isa_model.specs.Machine.States.{Stored}
-use Rattle.isa_model.specs.Machine.Memory.{entry_index, put_value}
+use Rattle.isa_model.specs.Machine.Memory.{index_of_serial, put_value}
 use Rattle.isa_model.specs.Machine.MapContents.{is_key, at_key, with_key, without_key}
 use Rattle.map_indexes.specs.Rows.{row_at, with_row}
 use Rattle.map_indexes.specs.RowLaws.{row_at-with_row, row_at-other, length-changed_row}
@@ -23,7 +24,7 @@ use Rattle.maps.proofs.ContentLaws.{get-taken}
 use Rattle.maps.proofs.ReportOrderLaws.{get_at}
 use Rattle.maps.specs.Maps.{MapState, IsMap, WritesValue}
 use Rattle.live_maps.specs.Live.{Serials, serial_in, stored, live_content, value_bytes, HasSerials}
-use Rattle.live_maps.proofs.EntryLaws.{entries-apart, entry_index-none, value_bytes-found, put_value-changed, changed-put, changed-removed}
+use Rattle.live_maps.proofs.KeyValueLaws.{keys-apart, index_of_serial-none, value_bytes-found, put_value-changed, changed-put, changed-removed}
 
 module _ (next : ℕ) (m : MapState) (s : Serials) (h : HasSerials next m s) where
   serial_of : (p n : ℕ) → serial_in s p ≡ Some n → (stored m s p).serial ≡ n
@@ -50,9 +51,9 @@ module _ (next : ℕ) (m : MapState) (s : Serials) (h : HasSerials next m s) whe
   each P all k d l = all (slice_index_or (entries m.places) k d) (get_at m.places k (slice_index_or (entries m.places) k d) (slice_get-get_or (entries m.places) k d l))
 
   -- a serial that no place has is not found
-  pub entry_index-absent : (n : ℕ) → ((p : ℕ) → serial_in s p ≢ Some n) → entry_index (live_content m s) n ≡ None
-  entry_index-absent n none =
-      entry_index-none (stored m s) n (entries m.places)
+  pub index_of_serial-absent : (n : ℕ) → ((p : ℕ) → serial_in s p ≢ Some n) → index_of_serial (live_content m s) n ≡ None
+  index_of_serial-absent n none =
+      index_of_serial-none (stored m s) n (entries m.places)
       (each (λ e. ((stored m s e.1).serial == n) ≡ false)
       (λ e there. not_equal (stored m s e.1).serial n (λ same. none e.1 (keyed e there ∙ ap Some same))))
 
@@ -75,7 +76,7 @@ module _ (next : ℕ) (m : MapState) (s : Serials) (h : HasSerials next m s) whe
 
     -- bytes written at that place
     pub put_value-written : (new : MapState) (i : ℕ) (bytes : List ℕ) → i + length bytes ≤ m.row.value_size → WritesValue p i bytes m new
-        → live_content new s ≡ put_value (live_content m s) (entry_index (live_content m s) n) i bytes
+        → live_content new s ≡ put_value (live_content m s) (index_of_serial (live_content m s) n) i bytes
     put_value-written new i bytes fits w =
         let size : ℕ = m.row.value_size in
         let whole = h.is_map.whole in
@@ -91,7 +92,7 @@ module _ (next : ℕ) (m : MapState) (s : Serials) (h : HasSerials next m s) whe
           serial = unwrap_or (serial_in s q) 0;
           bytes = (value q ∙ row_at-other size m.block p row m.row.entries long whole place_inside q other) j;
         })
-        (entries m.places) only (entries-apart m.places h.is_map.apart)
+        (entries m.places) only (keys-apart m.places h.is_map.apart)
         ∙ ap (λ (P : Places). changed (stored new s) (entries P)) (sym w.places))
 
   -- what a key has

@@ -4,13 +4,14 @@ use Rattle.std.specs.Option.{option_map}
 use Rattle.std.specs.FinMap.{get, entries}
 use Rattle.isa_model.specs.declared.map_defs.MapDef.{MapDef}
 use Rattle.isa_model.specs.Machine.States.{Stored, Content}
-use Rattle.isa_model.specs.Machine.Memory.{entry_index, entry_at, put_value}
+use Rattle.isa_model.specs.Machine.Memory.{index_of_serial, key_value_at, put_value}
 use Rattle.isa_model.specs.Machine.MapContents.{at_key, with_key, without_key}
 use Rattle.isa_model.specs.Machine.MapHelpers.{serial_given, serial_after}
 use Rattle.map_indexes.specs.Rows.{row_at}
 use Rattle.maps.specs.Maps.{MapState, IsMap, map_at}
 
--- what callers see: the rows, the contents with the serials of all values, and the serial that is given next
+-- what callers see: the rows, the contents with the serials of all values, and the serial that is
+-- given next
 pub record Live : Type 0 where
   pub rows : List MapDef
   pub contents : List Content
@@ -24,11 +25,11 @@ with_content l m content = record l { contents = slice_set l.contents m content 
 
 -- the bytes of the value of a serial, if it is live
 abbrev pub value_bytes : Content → ℕ → Option (List ℕ)
-value_bytes content n = option_map (λ j. (entry_at content j).1.bytes) (entry_index content n)
+value_bytes content n = option_map (λ j. (key_value_at content j).1.bytes) (index_of_serial content n)
 
 -- bytes written into the value of a serial
 abbrev pub with_value : Live → ℕ → ℕ → ℕ → List ℕ → Live
-with_value l m n i bytes = with_content l m (put_value (content_at l m) (entry_index (content_at l m) n) i bytes)
+with_value l m n i bytes = with_content l m (put_value (content_at l m) (index_of_serial (content_at l m) n) i bytes)
 
 -- the key has these bytes: its value keeps its serial, and that of a new key is given the next one
 abbrev pub with_bytes : Live → ℕ → List ℕ → List ℕ → Live
@@ -79,7 +80,8 @@ live_contents [] all = []
 live_contents (m ∷ maps) [] = []
 live_contents (m ∷ maps) (serials ∷ all) = live_content m serials ∷ live_contents maps all
 
--- the place of each key has a serial, other places have none; the serials were given, each to one place
+-- the place of each key has a serial, other places have none; the serials were given, each to one
+-- place
 pub record HasSerials (next : ℕ) (m : MapState) (serials : Serials) : Type 0 where
   pub is_map : IsMap m
   pub long : length serials ≡ m.row.entries

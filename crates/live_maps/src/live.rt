@@ -5,7 +5,7 @@ ghost use Rattle.std.specs.Option.{option_map};
 ghost use Rattle.std.specs.FinMap.{get};
 ghost use Rattle.isa_model.specs.declared.map_defs.MapKind.TheVariants.{Array};
 ghost use Rattle.isa_model.specs.Code.MapRows.{IsRow};
-ghost use Rattle.isa_model.specs.Machine.States.{entries_of};
+ghost use Rattle.isa_model.specs.Machine.States.{key_values_of};
 ghost use Rattle.isa_model.specs.Machine.MachineStates.{FitRows};
 ghost use Rattle.isa_model.specs.Machine.MapContents.{at_key, update_answer, delete_answer};
 ghost use Rattle.isa_model.specs.Machine.Steps.{one_serial};
@@ -71,7 +71,7 @@ impl LiveMaps {
     pub fn new(alloc: Global, maps: Maps) -> Result<Self, AllocError>
         requires { length maps ≤ 2 ^ 16 }
         ensures rows { IfOk result (λ l. l.rows ≡ rows_of maps) }
-        ensures contents { IfOk result (λ l. map entries_of l.contents ≡ contents_of maps) }
+        ensures contents { IfOk result (λ l. map key_values_of l.contents ≡ contents_of maps) }
     {
         let mut serials = tables_for(alloc, &maps)?;
         let mut orders = orders_for(alloc, &maps)?;
@@ -87,7 +87,7 @@ impl LiveMaps {
     /// How many maps there are. Their contents fit the rows.
     pub fn count(&self) -> usize
         ensures count { result ≡ length self.now.rows }
-        ensures fit { FitRows self.now.rows (map entries_of self.now.contents) }
+        ensures fit { FitRows self.now.rows (map key_values_of self.now.contents) }
     {
         self.maps.count()
     }
@@ -185,7 +185,7 @@ impl LiveMaps {
         answer
     }
 
-    /// The serial of the only value of an array of one entry.
+    /// The serial of the only value of an array of one key.
     pub fn only_serial(&self, map: usize) -> u64
         requires { IsSomeAnd (slice_get self.now.rows map)
             (λ row. (row.kind ≡ Array) × (row.entries ≡ 1)) }
@@ -212,8 +212,8 @@ impl LiveMaps {
     pub fn renumber(&mut self)
         ensures few { self.new.next_serial ≤ 2 ^ 32 }
         ensures numbered { self.new ≡ record self.old {
-          contents = numbered_maps 0 (map entries_of self.old.contents);
-          next_serial = count_values (map entries_of self.old.contents);
+          contents = numbered_maps 0 (map key_values_of self.old.contents);
+          next_serial = count_values (map key_values_of self.old.contents);
         } }
     {
         let count = number_all(&self.maps, &mut self.serials, &mut self.orders);
@@ -223,7 +223,7 @@ impl LiveMaps {
     /// Gives the maps back.
     pub fn into_maps(self) -> Maps
         ensures rows { rows_of result ≡ self.rows }
-        ensures contents { contents_of result ≡ map entries_of self.contents }
+        ensures contents { contents_of result ≡ map key_values_of self.contents }
     {
         self.maps
     }

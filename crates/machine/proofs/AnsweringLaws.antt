@@ -4,7 +4,7 @@ use Rattle.std.specs.Prelude.{slice_index_or}
 use Rattle.std.specs.FinMap.{entries}
 use Rattle.isa_model.specs.declared.frames.FrameHead.{FrameHead}
 use Rattle.isa_model.specs.Code.Instructions.{Program}
-use Rattle.isa_model.specs.Machine.States.{State, Content, entries_of}
+use Rattle.isa_model.specs.Machine.States.{State, Content, key_values_of}
 use Rattle.isa_model.proofs.StepLaws.{start_is_state}
 use Rattle.isa_model.specs.Machine.MachineStates.{IsState}
 use Rattle.isa_model.specs.Running.Runs.{start_state}
@@ -30,14 +30,14 @@ abbrev value_in : (ℕ × List ℕ) → List ℕ
 value_in x = x.1
 
 -- what a map shows has its content
-pub content_same : (a : Layout) (m : ℕ) (content : Content) (state : MapState) → RepresentsMap a m content state → entries_of content ≡ content_in state
+pub content_same : (a : Layout) (m : ℕ) (content : Content) (state : MapState) → RepresentsMap a m content state → key_values_of content ≡ content_in state
 content_same a m content state shown =
     sym (changed-twice value_in (by_serial a m) content) ∙ ap (changed value_in) shown.same
     ∙ changed-twice value_in (by_place state.row.value_size state.block) (entries state.places)
 
 same_each : (contents : List Content) (states : List MapState) → length contents ≡ length states
-    → ((m : ℕ) → m < length states → entries_of (slice_index_or contents m []) ≡ content_in (map_at states m))
-    → map entries_of contents ≡ contents_of states
+    → ((m : ℕ) → m < length states → key_values_of (slice_index_or contents m []) ≡ content_in (map_at states m))
+    → map key_values_of contents ≡ contents_of states
 same_each [] [] e h = refl
 same_each [] (t ∷ states) e h = absurd (omega arith)
 same_each (c ∷ contents) [] e h = absurd (omega arith)
@@ -45,7 +45,7 @@ same_each (c ∷ contents) (t ∷ states) e h =
     λ i. h 0 (omega arith) i ∷ same_each contents states (omega arith) (λ m l. h (suc m) (omega arith)) i
 
 -- related words have the contents of the state
-pub contents_same : (p : Program) (a : Layout) (s : State) (w : Words) → Related p a s w → IsState p s → map entries_of s.maps ≡ contents_of w.maps
+pub contents_same : (p : Program) (a : Layout) (s : State) (w : Words) → Related p a s w → IsState p s → map key_values_of s.maps ≡ contents_of w.maps
 contents_same p a s w R K =
     let rows = sym (length-rows_of w.maps) ∙ ap length R.maps.rows in
     let many = contents_are p s K in
@@ -80,7 +80,7 @@ module _ (p : Program) (clock : ℕ → ℕ) (n : ℕ) (head : FrameHead) (packe
         outcome = record {
           number = number;
           packet = last.packet;
-          contents = map entries_of last.maps;
+          contents = map key_values_of last.maps;
           steps = suc F.before;
           clock_calls = last.clock_calls;
         };

@@ -15,8 +15,8 @@ use Rattle.flatmem.specs.Bytes.{bytes_at, with_bytes}
 use Rattle.flatmem.proofs.BytesLaws.{length-with_bytes}
 use Rattle.isa_model.specs.declared.map_defs.MapDef.{MapDef}
 use Rattle.isa_model.specs.Code.Instructions.{Program}
-use Rattle.isa_model.specs.Machine.States.{State, Stored, Content, Entries, content_of, entries_of}
-use Rattle.isa_model.specs.Machine.Memory.{entry_at}
+use Rattle.isa_model.specs.Machine.States.{State, Stored, Content, KeyValues, content_of, key_values_of}
+use Rattle.isa_model.specs.Machine.Memory.{key_value_at}
 use Rattle.isa_model.specs.Machine.MapContents.{key_order}
 use Rattle.isa_model.specs.Machine.MachineStates.{AreBytes, FitRows, IsState}
 use Rattle.isa_model.proofs.ValueLaws.{All-splice}
@@ -29,7 +29,7 @@ use Rattle.maps.proofs.MapLaws.{length-rows_of, rows_of-set}
 use Rattle.maps.proofs.ReportOrderLaws.{above, get_at}
 use Rattle.machine.specs.Related.{Layout, by_serial, by_place, RepresentsMap, RepresentsMaps}
 
-FitRows-length : (rows : List MapDef) (contents : List Entries) → FitRows rows contents → length rows ≡ length contents
+FitRows-length : (rows : List MapDef) (contents : List KeyValues) → FitRows rows contents → length rows ≡ length contents
 FitRows-length [] [] h = refl
 FitRows-length [] (c ∷ contents) h = absurd h
 FitRows-length (row ∷ rows) [] h = absurd h
@@ -37,7 +37,7 @@ FitRows-length (row ∷ rows) (c ∷ contents) h = ap suc (FitRows-length rows c
 
 -- a state has a content for each row
 pub contents_are : (p : Program) (s : State) → IsState p s → length s.maps ≡ length p.maps
-contents_are p s K = sym (FitRows-length p.maps (map entries_of s.maps) K.maps ∙ length-map s.maps entries_of)
+contents_are p s K = sym (FitRows-length p.maps (map key_values_of s.maps) K.maps ∙ length-map s.maps key_values_of)
 
 no_content : (contents : List Content) (m : ℕ) → length contents ≤ m → length (slice_index_or contents m []) ≡ 0
 no_content [] m h = refl
@@ -113,7 +113,7 @@ module _ (a : Layout) (m : ℕ) (content : Content) (state : MapState) (shown : 
 
   -- a key is that of a place
   pub at_place : (j : ℕ) → j < length content
-      → ◌≡◌ {A = List ℕ × (ℕ × List ℕ)} ((entry_at content j).0, by_serial a m (entry_at content j).1)
+      → ◌≡◌ {A = List ℕ × (ℕ × List ℕ)} ((key_value_at content j).0, by_serial a m (key_value_at content j).1)
       ((place_at j).0, by_place size state.block (place_at j).1)
   at_place j h =
       let many = as_many in
@@ -122,10 +122,10 @@ module _ (a : Layout) (m : ℕ) (content : Content) (state : MapState) (shown : 
       ∙ ap (λ l. slice_index_or l j d) shown.same
       ∙ get_or-map {Y = List ℕ × (ℕ × List ℕ)} (λ e. (e.0, by_place size state.block e.1)) listed j ([], 0) d (omega arith)
 
-  pub value_starts : (j : ℕ) → j < length content → a.value m (entry_at content j).1.serial ≡ (place_at j).1 * size
+  pub value_starts : (j : ℕ) → j < length content → a.value m (key_value_at content j).1.serial ≡ (place_at j).1 * size
   value_starts j h = ap (λ x. x.1.0) (at_place j h)
 
-  pub value_bytes : (j : ℕ) → j < length content → (entry_at content j).1.bytes ≡ row_at size state.block (place_at j).1
+  pub value_bytes : (j : ℕ) → j < length content → (key_value_at content j).1.bytes ≡ row_at size state.block (place_at j).1
   value_bytes j h = ap (λ x. x.1.1) (at_place j h)
 
   pub there : (j : ℕ) → j < length content → get state.places (place_at j).0 ≡ Some (place_at j).1
@@ -136,7 +136,7 @@ module _ (a : Layout) (m : ℕ) (content : Content) (state : MapState) (shown : 
 
   -- the bytes of a live value are in the block
   pub value_inside : (j : ℕ) → j < length content
-      → a.value m (entry_at content j).1.serial + length (entry_at content j).1.bytes ≤ length state.block
+      → a.value m (key_value_at content j).1.serial + length (key_value_at content j).1.bytes ≤ length state.block
   value_inside j h =
       let e = value_starts j h in
       let inside = in_block j h in
@@ -146,20 +146,20 @@ module _ (a : Layout) (m : ℕ) (content : Content) (state : MapState) (shown : 
       omega arith
 
   pub value_at_block : (j : ℕ) → j < length content
-      → bytes_at state.block (a.value m (entry_at content j).1.serial) (length (entry_at content j).1.bytes) ≡ (entry_at content j).1.bytes
+      → bytes_at state.block (a.value m (key_value_at content j).1.serial) (length (key_value_at content j).1.bytes) ≡ (key_value_at content j).1.bytes
   value_at_block j h =
       let inside = in_block j h in
       let long = ap length (value_bytes j h) ∙ length-row_at size state.row.entries state.block (place_at j).1 shown.is.whole inside 0 [] (omega arith) in
       (λ i. bytes_at state.block (value_starts j h i) (long i)) ∙ sym (value_bytes j h)
 
-  pub value_long : (j : ℕ) → j < length content → length (entry_at content j).1.bytes ≡ size
+  pub value_long : (j : ℕ) → j < length content → length (key_value_at content j).1.bytes ≡ size
   value_long j h = ap length (value_bytes j h) ∙ length-row_at size state.row.entries state.block (place_at j).1 shown.is.whole (in_block j h) 0 [] (omega arith)
 
   -- ---- bytes are written into a live value
 
-  module _ (j : ℕ) (here : j < length content) (i : ℕ) (bs : List ℕ) (room : i + length bs ≤ length (entry_at content j).1.bytes) (bytes : AreBytes bs) where
+  module _ (j : ℕ) (here : j < length content) (i : ℕ) (bs : List ℕ) (room : i + length bs ≤ length (key_value_at content j).1.bytes) (bytes : AreBytes bs) where
     abbrev old : List ℕ × Stored
-    old = entry_at content j
+    old = key_value_at content j
 
     abbrev pub new : List ℕ × Stored
     new = (old.0, record old.1 { bytes = splice old.1.bytes i (i + length bs) bs })

@@ -28,7 +28,7 @@ use Rattle.isa_model.specs.Code.Numbers.{alu, unsigned, number_from}
 use Rattle.isa_model.proofs.ByteCells.{take-drop-Byte}
 use Rattle.isa_model.specs.{Program, max_packet}
 use Rattle.isa_model.specs.Machine.States.{State, content_of, frame_at, new_frame}
-use Rattle.isa_model.specs.Machine.Memory.{and_then, entry_index, entry_at, index_from, index_at, place_in, cells_at, read, number_in, value_in, as_number, memory_load, context_field, context_load, load, frame_index as frame_index_of}
+use Rattle.isa_model.specs.Machine.Memory.{and_then, index_of_serial, key_value_at, index_from, index_at, place_in, cells_at, read, number_in, value_in, as_number, memory_load, context_field, context_load, load, frame_index as frame_index_of}
 use Rattle.isa_model.specs.Machine.MachineStates.{IsValue, IsCallFrame, IsState}
 use Rattle.std.proofs.lemmas.List.Quantifiers.{position-Some}
 use Rattle.word_machine.proofs.FrameLaws.{spot_frame}
@@ -129,35 +129,35 @@ module _ (p : Program) (a : Layout) (s : State) (w : Words) (R : Related p a s w
       (here, ap a.depth (sym serial) ∙ (R.frames.frames j here).depth)
 
   -- a live value's serial finds it, in a map of the program
-  pub live_value : (m n j : ℕ) → entry_index (content_of s m) n ≡ Some j
-      → (j < length (content_of s m)) × ((entry_at (content_of s m) j).1.serial ≡ n) × (m < length p.maps)
+  pub live_value : (m n j : ℕ) → index_of_serial (content_of s m) n ≡ Some j
+      → (j < length (content_of s m)) × ((key_value_at (content_of s m) j).1.serial ≡ n) × (m < length p.maps)
   live_value m n j e =
       let (here, same, first) = position-Some (λ e. e.1.serial == n) (content_of s m) j ([], record { serial = 0; bytes = [] }) e in
       (here, grind (arith, nat_tests), live_map p s m j K here)
 
   -- where a place of a live value is
   pub spot_value : (m j i n x : ℕ) → j < length (content_of s m) → m < length p.maps
-      → i + n ≤ length (entry_at (content_of s m) j).1.bytes
-      → x ≡ values_base m + a.value m (entry_at (content_of s m) j).1.serial + i
-      → (spot_of x ≡ InBlock m (a.value m (entry_at (content_of s m) j).1.serial + i))
-      × (a.value m (entry_at (content_of s m) j).1.serial + i + n ≤ length (map_at w.maps m).block)
+      → i + n ≤ length (key_value_at (content_of s m) j).1.bytes
+      → x ≡ values_base m + a.value m (key_value_at (content_of s m) j).1.serial + i
+      → (spot_of x ≡ InBlock m (a.value m (key_value_at (content_of s m) j).1.serial + i))
+      × (a.value m (key_value_at (content_of s m) j).1.serial + i + n ≤ length (map_at w.maps m).block)
   spot_value m j i n x here row h e =
-      let from : ℕ = a.value m (entry_at (content_of s m) j).1.serial in
+      let from : ℕ = a.value m (key_value_at (content_of s m) j).1.serial in
       let shown = R.maps.maps m row in
       let inside = value_inside a m (content_of s m) (map_at w.maps m) shown j here in
       let long = value_long a m (content_of s m) (map_at w.maps m) shown j here in
       let short = shown.is.is_row.short_value in
-      let low = R.layout.low m (entry_at (content_of s m) j).1.serial in
+      let low = R.layout.low m (key_value_at (content_of s m) j).1.serial in
       let few = R.layout.few in
       let at : x ≡ values_base m + (from + i) = omega arith in
       (ap spot_of at ∙ spot_block m (from + i) (omega arith) (omega arith), omega arith)
 
   read_value : (m j i n x : ℕ) → j < length (content_of s m) → m < length p.maps
-      → x ≡ values_base m + a.value m (entry_at (content_of s m) j).1.serial + i
-      → OkRead n (found (Some (map Byte (entry_at (content_of s m) j).1.bytes)) (Some i) n) x
+      → x ≡ values_base m + a.value m (key_value_at (content_of s m) j).1.serial + i
+      → OkRead n (found (Some (map Byte (key_value_at (content_of s m) j).1.bytes)) (Some i) n) x
   read_value m j i n x here row e =
-      let bytes = (entry_at (content_of s m) j).1.bytes in
-      let from : ℕ = a.value m (entry_at (content_of s m) j).1.serial in
+      let bytes = (key_value_at (content_of s m) j).1.bytes in
+      let from : ℕ = a.value m (key_value_at (content_of s m) j).1.serial in
       found_in (map Byte bytes) i n x (λ h.
       let long = length-map bytes Byte in
       let (spot, inside) = spot_value m j i n x here row (omega arith) e in
@@ -181,10 +181,10 @@ module _ (p : Program) (a : Layout) (s : State) (w : Words) (R : Related p a s w
       by_frame (Some j) f (pos i) g =
           let (here, depth) = live_depth m j f in
           read_frame j i n x some here (omega (arith, ints))
-  shows_read (region.MapValue m k) z n x some e = by_value (entry_index (content_of s m) k) refl z refl
+  shows_read (region.MapValue m k) z n x some e = by_value (index_of_serial (content_of s m) k) refl z refl
     where
-      by_value : (o : Option ℕ) → entry_index (content_of s m) k ≡ o → (y : ℤ) → z ≡ y
-          → OkRead n (found (option_map (λ j. map Byte (entry_at (content_of s m) j).1.bytes) o) (index_from y) n) x
+      by_value : (o : Option ℕ) → index_of_serial (content_of s m) k ≡ o → (y : ℤ) → z ≡ y
+          → OkRead n (found (option_map (λ j. map Byte (key_value_at (content_of s m) j).1.bytes) o) (index_from y) n) x
       by_value None f y g = tt
       by_value (Some j) f (negsuc i) g = tt
       by_value (Some j) f (pos i) g =

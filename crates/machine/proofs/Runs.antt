@@ -5,7 +5,7 @@ use Rattle.std.specs.Prelude.{All, vec_capacity}
 use Rattle.isa_model.specs.Code.Limits.{max_call_frames}
 use Rattle.isa_model.specs.declared.frames.FrameHead.{FrameHead}
 use Rattle.isa_model.specs.Code.Instructions.{Program}
-use Rattle.isa_model.specs.Machine.States.{Entries}
+use Rattle.isa_model.specs.Machine.States.{KeyValues}
 use Rattle.isa_model.specs.{max_packet}
 use Rattle.isa_model.specs.Machine.MachineStates.{AreBytes, FitRows, IsClock, IsGiven}
 use Rattle.isa_model.proofs.OutcomesLaws.{FitRows-HasOutcome}
@@ -24,7 +24,7 @@ use Rattle.machine.specs.Running.{RunsWithinBound, AnswersRun}
 use Rattle.machine.specs.Ready.{IsReady}
 
 -- the machine of an accepted program, whose maps fit its rows
-pub starts_running : (a : Bounded) (contents : List Entries) → IsVerified a → FitRows a.program.maps contents
+pub starts_running : (a : Bounded) (contents : List KeyValues) → IsVerified a → FitRows a.program.maps contents
     → RunsWithinBound (record { program = a.program; bound = a.bound; contents = contents })
 starts_running a contents h fits = record {
   is_program = IsProgram-IsImage a.program h.image;

@@ -30,7 +30,7 @@ use Rattle.isa_model.specs.Code.Numbers.{alu, unsigned, bytes_of}
 use Rattle.isa_model.proofs.ByteCells.{map-byte_in-Byte}
 use Rattle.isa_model.specs.Code.Instructions.{Program}
 use Rattle.isa_model.specs.Machine.States.{State, Content, content_of, frame_at, new_frame}
-use Rattle.isa_model.specs.Machine.Memory.{and_then, byte_in, entry_index, entry_at, index_from, index_at, place_in, put_frame, put_value, write, pieces, store_number, store_pointer, store, frame_index as frame_index_of}
+use Rattle.isa_model.specs.Machine.Memory.{and_then, byte_in, index_of_serial, key_value_at, index_from, index_at, place_in, put_frame, put_value, write, pieces, store_number, store_pointer, store, frame_index as frame_index_of}
 use Rattle.maps.specs.Maps.{MapState, map_at, with_block}
 use Rattle.isa_model.specs.Machine.MachineStates.{AreBytes, IsValue, IsState}
 use Rattle.isa_model.proofs.ValueLaws.{length-splice, bytes_of_fit}
@@ -186,14 +186,14 @@ module _ (p : Program) (a : Layout) (s : State) (w : Words) (R : Related p a s w
 
   -- bytes into a live value
   put_value_related : (m j i : ℕ) (new bs : List ℕ) → new ≡ bs → j < length (content_of s m) → m < length p.maps
-      → i + length bs ≤ length (entry_at (content_of s m) j).1.bytes → AreBytes bs
+      → i + length bs ≤ length (key_value_at (content_of s m) j).1.bytes → AreBytes bs
       → Related p a (record s { maps = slice_set s.maps m (put_value (content_of s m) (Some j) i new) })
-      (put_bytes w (InBlock m (a.value m (entry_at (content_of s m) j).1.serial + i)) bs)
+      (put_bytes w (InBlock m (a.value m (key_value_at (content_of s m) j).1.serial + i)) bs)
   put_value_related m j i new bs same here row room bytes =
       subst (λ new. Related p a (record s { maps = slice_set s.maps m (put_value (content_of s m) (Some j) i new) })
-      (put_bytes w (InBlock m (a.value m (entry_at (content_of s m) j).1.serial + i)) bs)) (sym same)
+      (put_bytes w (InBlock m (a.value m (key_value_at (content_of s m) j).1.serial + i)) bs)) (sym same)
       (with_maps (slice_set s.maps m (put_value (content_of s m) (Some j) i bs))
-      (with_block w.maps m (with_bytes (map_at w.maps m).block (a.value m (entry_at (content_of s m) j).1.serial + i) bs))
+      (with_block w.maps m (with_bytes (map_at w.maps m).block (a.value m (key_value_at (content_of s m) j).1.serial + i) bs))
       (set_shown a p.maps s.maps w.maps m (put_value (content_of s m) (Some j) i bs)
       (written a m (content_of s m) (map_at w.maps m) (R.maps.maps m row) j here i bs room bytes)
       (contents_are p s K) refl
@@ -201,17 +201,17 @@ module _ (p : Program) (a : Layout) (s : State) (w : Words) (R : Related p a s w
 
   shows_write_value : (m n : ℕ) (z : ℤ) (bs : List ℕ) (x : ℕ) → AreBytes bs → pos x ≡ pos (region_start a (region.MapValue m n)) +ℤ z
       → OkStore (write s (region.MapValue m n) (index_at (region.MapValue m n) z) (map Byte bs)) x bs
-  shows_write_value m n z bs x bytes e = by_value (entry_index (content_of s m) n) refl z refl
+  shows_write_value m n z bs x bytes e = by_value (index_of_serial (content_of s m) n) refl z refl
     where
-      by_value : (o : Option ℕ) → entry_index (content_of s m) n ≡ o → (y : ℤ) → z ≡ y
-          → OkStore (and_then (place_in (option_map (λ j. map Byte (entry_at (content_of s m) j).1.bytes) o) (index_from y) (length (map Byte bs)))
+      by_value : (o : Option ℕ) → index_of_serial (content_of s m) n ≡ o → (y : ℤ) → z ≡ y
+          → OkStore (and_then (place_in (option_map (λ j. map Byte (key_value_at (content_of s m) j).1.bytes) o) (index_from y) (length (map Byte bs)))
           (λ i. Ok (record s { maps = slice_set s.maps m (put_value (content_of s m) o i (map byte_in (map Byte bs))) }))) x bs
       by_value None f y g = tt
       by_value (Some j) f (negsuc i) g = tt
       by_value (Some j) f (pos i) g =
-          stored (map Byte (entry_at (content_of s m) j).1.bytes) i (length (map Byte bs)) x bs
+          stored (map Byte (key_value_at (content_of s m) j).1.bytes) i (length (map Byte bs)) x bs
           (λ i. record s { maps = slice_set s.maps m (put_value (content_of s m) (Some j) i (map byte_in (map Byte bs))) }) (λ h.
-          let long = length-map (entry_at (content_of s m) j).1.bytes Byte in
+          let long = length-map (key_value_at (content_of s m) j).1.bytes Byte in
           let part = length-map bs Byte in
           let (here, serial, row) = live_value p a s w R K m n j f in
           let same = ap (a.value m) serial in

@@ -5,4 +5,4 @@ pub mod Answering
 pub mod Following
 pub mod Running
 pub mod Ready
-pub mod Entries
+pub mod BetweenRuns

@@ -2,7 +2,7 @@
 use Rattle.std.specs.Prelude.{◌≡◌, ℕ, ◌+◌, ◌≤◌, List}
 use Rattle.isa_model.specs.declared.frames.FrameHead.{FrameHead}
 use Rattle.isa_model.specs.Code.Instructions.{Program}
-use Rattle.isa_model.specs.Machine.States.{Entries}
+use Rattle.isa_model.specs.Machine.States.{KeyValues}
 use Rattle.isa_model.specs.Code.Limits.{max_steps}
 use Rattle.isa_model.specs.Running.Runs.{Outcome, HasOutcome}
 use Rattle.isa_model.specs.Running.Outcomes.{StartsEnd}
@@ -13,7 +13,7 @@ use Rattle.machine.specs.declared.machines.Exit.{Exit}
 pub record Running : Type 0 where
   pub program : Program
   pub bound : ℕ
-  pub contents : List Entries
+  pub contents : List KeyValues
 
 -- every run exits within the bound, and the contents fit the rows
 pub record RunsWithinBound (r : Running) : Type 0 where
@@ -26,7 +26,7 @@ pub record RunsWithinBound (r : Running) : Type 0 where
 -- A run answers its outcome, which has at most as many steps as the bound: the number and the steps, the packet and
 -- the contents that it leaves, and the clock's coming answers.
 pub record AnswersRun (r : Running) (head : FrameHead) (packet : List ℕ) (clock : ℕ → ℕ)
-    (exit : Exit) (after : List ℕ) (left : List Entries) (coming : ℕ → ℕ) : Type 0 where
+    (exit : Exit) (after : List ℕ) (left : List KeyValues) (coming : ℕ → ℕ) : Type 0 where
   pub outcome : Outcome
   pub found : HasOutcome r.program head packet r.contents clock outcome
   pub few : outcome.steps ≤ r.bound

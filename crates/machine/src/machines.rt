@@ -7,7 +7,7 @@ ghost use Rattle.isa_model.specs.Machine.MachineStates.{AreBytes};
 ghost use Rattle.isa_model.specs.Machine.MapContents.{at_key};
 ghost use Rattle.maps.specs.Maps.{rows_of, contents_of};
 ghost use Rattle.machine.specs.Running.{AnswersRun, RunsWithinBound};
-ghost use Rattle.machine.specs.Entries.{row_at, content_at, ordered_at, AnswersUpdate, AnswersDelete, CopiesEntry};
+ghost use Rattle.machine.specs.BetweenRuns.{row_at, content_at, ordered_at, AnswersUpdate, AnswersDelete, CopiesKeyValue};
 
 use crate::VmError;
 use bounds::Verified;
@@ -167,11 +167,11 @@ impl Machine {
 
     /// Copies the k-th key of a map with its value between runs, from 0, in the order of the
     /// report, and answers whether there is one. It takes no memory, but goes through all keys.
-    pub fn copy_entry(&mut self, map: usize, k: usize, key: &mut [u8], value: &mut [u8]) -> bool
+    pub fn copy_key_value(&mut self, map: usize, k: usize, key: &mut [u8], value: &mut [u8]) -> bool
         requires map { map < length self.old.program.maps }
         requires key_size { length key.old ≡ (row_at self.old map).key_size }
         requires value_size { length value.old ≡ (row_at self.old map).value_size }
-        ensures copied { CopiesEntry (slice_get (ordered_at self.old map) k) result
+        ensures copied { CopiesKeyValue (slice_get (ordered_at self.old map) k) result
             key.old key.new value.old value.new }
         ensures machine { self.new ≡ self.old }
     {

@@ -1,4 +1,5 @@
--- The indexes of an array in the order of their keys' bytes: they are the values of the map of its places.
+-- The indexes of an array in the order of their keys' bytes: they are the values of the map of its
+-- places.
 use Rattle.std.proofs.Common.{◌≡◌, ℕ, zero, suc, ◌+◌, ◌^◌, ◌<◌, ◌≤◌, List, [], ◌∷◌, ◌++◌, Option, Some, None, map, unwrap_or, refl, sym, ap, subst, ◌∙◌, arith, inl, inr}
 use Rattle.std.proofs.lemmas.Bool.{cases_lt}
 use Rattle.std.proofs.lemmas.List.{length-map, get_or_default, get_or_past}

@@ -4,14 +4,14 @@ use Rattle.std.specs.Prelude.{slice_set, is_some, replicate}
 use Rattle.std.specs.Cmp.Lexicographic.{nat_list_cmp_total}
 use Rattle.std.specs.FinMap.{get, len, empty, from_entries, len-insert, len-remove, len-empty}
 use Rattle.isa_model.specs.Machine.MapContents.{key_order}
-use Rattle.map_indexes.specs.PlaceKeys.{PlaceKeys, slot, entries_from, places, IsScan, key_count}
+use Rattle.map_indexes.specs.PlaceKeys.{PlaceKeys, slot, pairs_from, places, IsScan, key_count}
 use Rattle.map_indexes.proofs.SlotLaws.{get_here}
 use Rattle.map_indexes.proofs.SlotLaws.{added-distinct, places-added, emptied-distinct, places-emptied}
 use Rattle.map_indexes.specs.ScanLaws.{slot_inside}
 
-entries_from-none : (at n : ℕ) → entries_from at (replicate n None) ≡ []
-entries_from-none at zero = refl
-entries_from-none at (suc n) = entries_from-none (at + 1) n
+pairs_from-none : (at n : ℕ) → pairs_from at (replicate n None) ≡ []
+pairs_from-none at zero = refl
+pairs_from-none at (suc n) = pairs_from-none (at + 1) n
 
 slot-none : (n i : ℕ) → slot (replicate n None) i ≡ None
 slot-none zero i = refl
@@ -24,7 +24,7 @@ key_count-none (suc n) = key_count-none n
 
 -- the map of places without keys is empty
 pub places-none : (n : ℕ) → places (replicate n None) ≡ empty
-places-none n = ap (λ (es : List (List ℕ × ℕ)). from_entries es) (entries_from-none 0 n)
+places-none n = ap (λ (es : List (List ℕ × ℕ)). from_entries es) (pairs_from-none 0 n)
 
 pub key_count-added : (slots : PlaceKeys) (p : ℕ) (k : List ℕ) → p < length slots
     → slot slots p ≡ None

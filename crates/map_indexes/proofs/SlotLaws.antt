@@ -5,7 +5,7 @@ use Rattle.std.specs.Cmp.{eq_by_cmp_equiv}
 use Rattle.std.specs.Cmp.Lexicographic.{nat_list_cmp_total}
 use Rattle.std.specs.FinMap.{find, get, insert, remove, get-insert, get-remove, get-from_entries, same_map, slice_cmp-IsAntisymmetric, nat_cmp-IsAntisymmetric}
 use Rattle.isa_model.specs.Machine.MapContents.{key_order, is_key}
-use Rattle.map_indexes.specs.PlaceKeys.{Places, PlaceKeys, entries_from, places, slot, IsDistinct}
+use Rattle.map_indexes.specs.PlaceKeys.{Places, PlaceKeys, pairs_from, places, slot, IsDistinct}
 use Rattle.map_indexes.specs.PlaceKeyLaws.{got, is_key-equal}
 
 pub is_key-itself : (k : List ℕ) → is_key k k ≡ true
@@ -13,7 +13,7 @@ is_key-itself k = (eq_by_cmp_equiv nat_list_cmp_total).refl k
 
 -- a slot with this key, which no other slot has, is found
 pub find_here : (slots : PlaceKeys) (at i : ℕ) (k : List ℕ) → slot slots i ≡ Some k
-    → ((j : ℕ) → slot slots j ≡ Some k → j ≡ i) → find key_order k (entries_from at slots) ≡ Some (at + i)
+    → ((j : ℕ) → slot slots j ≡ Some k → j ≡ i) → find key_order k (pairs_from at slots) ≡ Some (at + i)
 find_here [] at i k e d = cc
 find_here (None ∷ slots) at zero k e d = cc
 find_here (None ∷ slots) at (suc i) k e d =
@@ -22,20 +22,20 @@ find_here (None ∷ slots) at (suc i) k e d =
 find_here (Some q ∷ slots) at zero k e d =
     let same : q ≡ k = cc in
     let sum : at ≡ at + 0 = omega arith in
-    ap (λ (b : Bool). cond b (Some at) (find key_order k (entries_from (at + 1) slots))) (ap (is_key k) same ∙ is_key-itself k) ∙ ap Some sum
+    ap (λ (b : Bool). cond b (Some at) (find key_order k (pairs_from (at + 1) slots))) (ap (is_key k) same ∙ is_key-itself k) ∙ ap Some sum
 find_here (Some q ∷ slots) at (suc i) k e d =
     let sum : at + 1 + i ≡ at + suc i = omega arith in
     let rest = find_here slots (at + 1) i k e (λ j f. let h : suc j ≡ suc i = d (suc j) f in omega arith) in
-    elim (is_key k q) as (λ b. is_key k q ≡ b → cond b (Some at) (find key_order k (entries_from (at + 1) slots)) ≡ Some (at + suc i)) [
+    elim (is_key k q) as (λ b. is_key k q ≡ b → cond b (Some at) (find key_order k (pairs_from (at + 1) slots)) ≡ Some (at + suc i)) [
       | true ↦ λ t. let h : 0 ≡ suc i = d 0 (ap Some (sym (is_key-equal k q t))) in absurd (omega arith)
       | false ↦ λ t. rest ∙ ap Some sum
     ] refl
 
-pub find_none : (slots : PlaceKeys) (at : ℕ) (k : List ℕ) → ((j : ℕ) → slot slots j ≡ Some k → ⊥) → find key_order k (entries_from at slots) ≡ None
+pub find_none : (slots : PlaceKeys) (at : ℕ) (k : List ℕ) → ((j : ℕ) → slot slots j ≡ Some k → ⊥) → find key_order k (pairs_from at slots) ≡ None
 find_none [] at k d = refl
 find_none (None ∷ slots) at k d = find_none slots (at + 1) k (λ j f. d (suc j) f)
 find_none (Some q ∷ slots) at k d =
-    elim (is_key k q) as (λ b. is_key k q ≡ b → cond b (Some at) (find key_order k (entries_from (at + 1) slots)) ≡ None) [
+    elim (is_key k q) as (λ b. is_key k q ≡ b → cond b (Some at) (find key_order k (pairs_from (at + 1) slots)) ≡ None) [
       | true ↦ λ t. absurd (d 0 (ap Some (sym (is_key-equal k q t))))
       | false ↦ λ t. find_none slots (at + 1) k (λ j f. d (suc j) f)
     ] refl
@@ -44,10 +44,10 @@ find_none (Some q ∷ slots) at k d =
 pub get_here : (slots : PlaceKeys) (i : ℕ) (k : List ℕ) → IsDistinct slots → slot slots i ≡ Some k → get (places slots) k ≡ Some i
 get_here slots i k d e =
     let sum : 0 + i ≡ i = omega arith in
-    get-from_entries nat_list_cmp_total (entries_from 0 slots) k ∙ find_here slots 0 i k e (λ j f. d j i k f e) ∙ ap Some sum
+    get-from_entries nat_list_cmp_total (pairs_from 0 slots) k ∙ find_here slots 0 i k e (λ j f. d j i k f e) ∙ ap Some sum
 
 pub get_none : (slots : PlaceKeys) (k : List ℕ) → ((j : ℕ) → slot slots j ≡ Some k → ⊥) → get (places slots) k ≡ None
-get_none slots k d = get-from_entries nat_list_cmp_total (entries_from 0 slots) k ∙ find_none slots 0 k d
+get_none slots k d = get-from_entries nat_list_cmp_total (pairs_from 0 slots) k ∙ find_none slots 0 k d
 
 -- what a slot holds after one was set
 pub set_here : (slots : PlaceKeys) (i : ℕ) (v : Option (List ℕ)) → i < length slots → slot (slice_set slots i v) i ≡ v

@@ -11,7 +11,8 @@ is_in chain (Some link) = nat_eq link.chain chain
 abbrev pub in_chain : (ℕ → Option Link) → ℕ → ℕ → Bool
 in_chain links chain k = is_in chain (links k)
 
--- each chain begins with its link of the highest number, and each link leads to the one of the next lower number; room is above all numbers
+-- each chain begins with its link of the highest number, and each link leads to the one of the next
+-- lower number; room is above all numbers
 pub record IsChained (heads : List (Option ℕ)) (room : ℕ) (links : ℕ → Option Link) : Type 0 where
   pub first : (chain : ℕ) → chain < length heads → slice_index_or heads chain None ≡ last_below (in_chain links chain) room
   pub falls : (k : ℕ) (link : Link) → links k ≡ Some link → link.next ≡ last_below (in_chain links link.chain) k

@@ -16,13 +16,13 @@ PlaceKeys = List (Option (List ℕ))
 abbrev pub slot : PlaceKeys → ℕ → Option (List ℕ)
 slot slots place = slice_index_or slots place None
 
-abbrev pub entries_from : ℕ → PlaceKeys → List (List ℕ × ℕ)
-entries_from at [] = []
-entries_from at (None ∷ slots) = entries_from (at + 1) slots
-entries_from at (Some key ∷ slots) = (key, at) ∷ entries_from (at + 1) slots
+abbrev pub pairs_from : ℕ → PlaceKeys → List (List ℕ × ℕ)
+pairs_from at [] = []
+pairs_from at (None ∷ slots) = pairs_from (at + 1) slots
+pairs_from at (Some key ∷ slots) = (key, at) ∷ pairs_from (at + 1) slots
 
 abbrev pub places : PlaceKeys → Places
-places slots = from_entries (entries_from 0 slots)
+places slots = from_entries (pairs_from 0 slots)
 
 -- no key has two places
 abbrev pub IsDistinct : PlaceKeys → Type 0

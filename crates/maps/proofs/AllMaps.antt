@@ -12,7 +12,7 @@ use Rattle.maps.specs.declared.either.EitherIndex.{EitherIndex}
 use Rattle.maps.specs.declared.either.EitherIndex.TheVariants as either
 use Rattle.maps.specs.contracts.either.EitherIndexIndex.TheImpl as indexes
 use Rattle.maps.specs.declared.store.Store.{Store}
-use Rattle.isa_model.specs.Machine.States.{Entries}
+use Rattle.isa_model.specs.Machine.States.{KeyValues}
 use Rattle.isa_model.specs.Machine.MachineStates.{AreBytes}
 use Rattle.map_indexes.specs.PlaceKeys.{IsKey}
 use Rattle.map_indexes.specs.ArrayPlaces.{array_places}
@@ -21,7 +21,7 @@ use Rattle.maps.proofs.EitherLaws.{either_keys}
 use Rattle.isa_model.specs.Code.MapRows.{IsRow}
 use Rattle.maps.specs.Maps.{MapState, IsMap, map_at, with_block, ordered_in, rows_of}
 use Rattle.maps.specs.ReportOrder.{listed_of, with_key_of}
-use Rattle.maps.proofs.ReportOrderLaws.{listed-place, entry-value, entry-key}
+use Rattle.maps.proofs.ReportOrderLaws.{listed-place, key_value-value, key_value-key}
 use Rattle.map_indexes.specs.Rows.{row_at}
 use Rattle.map_indexes.specs.RowLaws.{below-same, at_most-same}
 use Rattle.maps.specs.StoreStates.{state_by, IsListed, IsLeastHashRoom, HaveRoom}
@@ -105,9 +105,9 @@ HaveRoom-set places all stores i x t inside is same room =
       exact = room.exact ∙ sym (length-set stores i t);
     }
 
--- ---- entries in the order of the report, by an index that is the store's
+-- ---- keys in the order of the report, by an index that is the store's
 
-module _ (s : EitherStore) (k : ℕ) (es : Entries) (view : ordered_in (state s) ≡ es) (index : EitherIndex) (same : index ≡ s.index) where
+module _ (s : EitherStore) (k : ℕ) (es : KeyValues) (view : ordered_in (state s) ≡ es) (index : EitherIndex) (same : index ≡ s.index) where
   abbrev block : List ℕ
   block = s.values.items
 
@@ -117,19 +117,19 @@ module _ (s : EitherStore) (k : ℕ) (es : Entries) (view : ordered_in (state s)
   abbrev Placed : EitherIndex → Option ℕ → Type 0
   Placed i place = place ≡ option_map (λ e. e.1) (slice_get (listed_of i) k)
 
-  -- the place of an entry is one of the map's
+  -- the place of a key is one of the map's
   pub entry_inside : (p : ℕ) → Placed index (Some p) → p < s.row.entries
   entry_inside p e = let l = listed-place s.index k p (subst (λ (i : EitherIndex). Placed i (Some p)) same e) in let r = s.room in omega arith
 
   -- its value is the row there
   pub entry_value : (place : Option ℕ) → Placed index place → option_map (row_at size block) place ≡ option_map (λ e. e.1) (slice_get es k)
   entry_value place e =
-      sym (entry-value s.index s.row.kind s.row.entries size block s.kind s.room k place (subst (λ (i : EitherIndex). Placed i place) same e))
-      ∙ ap (λ (xs : Entries). option_map (λ (x : List ℕ × List ℕ). x.1) (slice_get xs k)) view
+      sym (key_value-value s.index s.row.kind s.row.entries size block s.kind s.room k place (subst (λ (i : EitherIndex). Placed i place) same e))
+      ∙ ap (λ (xs : KeyValues). option_map (λ (x : List ℕ × List ℕ). x.1) (slice_get xs k)) view
 
   -- and so is its key
   pub entry_key : (bytes : List ℕ) → with_key_of (slice_get (listed_of index) k) bytes ≡ with_key_of (slice_get es k) bytes
   entry_key bytes =
       ap (λ (i : EitherIndex). with_key_of (slice_get (listed_of i) k) bytes) same
-      ∙ sym (entry-key s.index s.row.kind s.row.entries size block s.kind s.room k bytes)
-      ∙ ap (λ (xs : Entries). with_key_of (slice_get xs k) bytes) view
+      ∙ sym (key_value-key s.index s.row.kind s.row.entries size block s.kind s.room k bytes)
+      ∙ ap (λ (xs : KeyValues). with_key_of (slice_get xs k) bytes) view

@@ -6,7 +6,7 @@ use Rattle.std.specs.Cmp.{eq_by_cmp_equiv}
 use Rattle.std.specs.Cmp.Lexicographic.{nat_list_cmp_total}
 use Rattle.std.specs.FinMap.{get, insert, remove, len, entries, entries_sorted, get-entries, len-entries, get-insert, get-remove, slice_cmp-IsAntisymmetric, nat_cmp-IsAntisymmetric}
 use Rattle.std.specs.FinMap.Entries.{find, is_sorted, find-put, find-where_key, is_sorted-put, is_sorted-where_key, same_entries}
-use Rattle.isa_model.specs.Machine.States.{Entries}
+use Rattle.isa_model.specs.Machine.States.{KeyValues}
 use Rattle.isa_model.specs.Machine.MapContents.{key_order, is_key, at_key, has_key, with_key, without_key}
 use Rattle.map_indexes.specs.Rows.{row_at, with_row}
 use Rattle.map_indexes.specs.RowLaws.{row_at-with_row, row_at-other}
@@ -22,7 +22,7 @@ pub same_contents : {X : Type 0} (es fs : List (List ℕ × X)) → T (is_sorted
 same_contents es fs g h same = same_entries key_order nat_list_cmp_total (slice_cmp-IsAntisymmetric nat_cmp-IsAntisymmetric) es fs g h same
 
 module _ (size : ℕ) (P : Places) (block : List ℕ) where
-  abbrev C : Entries
+  abbrev C : KeyValues
   C = content size P block
 
   -- the value of a key is the row at its place
@@ -47,7 +47,7 @@ pub content-insert : (size : ℕ) (P : Places) (block k : List ℕ) (p : ℕ)
     → content size (insert P k p) block ≡ with_key k (row_at size block p) (content size P block)
 content-insert size P block k p =
     let v : List ℕ = row_at size block p in
-    let C : Entries = content size P block in
+    let C : KeyValues = content size P block in
     same_contents (content size (insert P k p) block) (with_key k v C) (sorted-content size (insert P k p) block)
     (is_sorted-put key_order nat_list_cmp_total k v C (sorted-content size P block))
     (λ q. at_key-content size (insert P k p) block q

@@ -61,7 +61,7 @@ below_else_above j k e d =
     ∙ not_below (key_order j k) e
     (λ same. d (slice_cmp-IsAntisymmetric nat_cmp-IsAntisymmetric j k same)))
 
--- a new entry stands after those with keys below its own
+-- a new key stands after those with keys below its own
 put_at : (key : List ℕ) (p : ℕ) (es : Keyed) (r : ℕ) → r ≤ length es
     → ((j : ℕ) → j < r → IsBelow (entry_in es j).0 key)
     → ((j : ℕ) → r ≤ j → j < length es → IsBelow key (entry_in es j).0)

@@ -1,5 +1,5 @@
--- What maps have fits their rows; what they start with is what programs start with; and one map changed leaves the
--- contents of the others.
+-- What maps have fits their rows; what they start with is what programs start with; and one map
+-- changed leaves the contents of the others.
 use Rattle.std.specs.Prelude.{◌≡◌, ℕ, zero, suc, ◌+◌, ◌-◌, ◌*◌, ◌^◌, ◌<◌, ◌≤◌, List, [], ◌∷◌, ◌++◌, length, map, fold, take, replicate, slice_index_or, slice_set, All, Some, refl, is_some}
 use Rattle.std.specs.List.{range_with_len}
 use Rattle.std.specs.FinMap.{empty, entries, get, len-empty}
@@ -14,11 +14,11 @@ use Rattle.byteorder.specs.Numbers.{little_number-reads_back}
 use Rattle.isa_model.specs.declared.map_defs.MapKind.{MapKind}
 use Rattle.isa_model.specs.declared.map_defs.MapKind.TheVariants.{Hash, Array}
 use Rattle.isa_model.specs.declared.map_defs.MapDef.{MapDef}
-use Rattle.isa_model.specs.Machine.States.{Entries}
+use Rattle.isa_model.specs.Machine.States.{KeyValues}
 use Rattle.isa_model.specs.Machine.MapContents.{key_order, with_key}
-use Rattle.isa_model.specs.Machine.MachineStates.{IsEntry, KeysFit, keys_of, FitsRow, FitRows}
+use Rattle.isa_model.specs.Machine.MachineStates.{IsKeyValue, KeysFit, keys_of, FitsRow, FitRows}
 use Rattle.isa_model.proofs.PutLaws.{IsStrictlySortedBy-is_sorted, Contains-has_key}
-use Rattle.isa_model.specs.Reporting.Reports.{starting_entries, starting_contents}
+use Rattle.isa_model.specs.Reporting.Reports.{starting_key_values, starting_contents}
 use Rattle.map_indexes.specs.ArrayPlaces.{array_places}
 use Rattle.map_indexes.specs.ArrayLaws.{got_index}
 use Rattle.map_indexes.proofs.ArrayLaws.{get_index}
@@ -33,7 +33,7 @@ use Rattle.map_indexes.specs.PlaceKeys.{Places}
 -- ---- a map's content fits its row
 
 module _ (m : MapState) (is : IsMap m) where
-  abbrev C : Entries
+  abbrev C : KeyValues
   C = content_in m
 
   abbrev listed : List (List ℕ × ℕ)
@@ -48,8 +48,8 @@ module _ (m : MapState) (is : IsMap m) where
   there : (i : ℕ) → i < length listed → get m.places (at i).0 ≡ Some (at i).1
   there i l = get_at m.places i (at i) (slice_get-get_or listed i ([], 0) l)
 
-  IsEntry-at : (e : List ℕ × ℕ) → get m.places e.0 ≡ Some e.1 → IsEntry m.row (entry e)
-  IsEntry-at e here =
+  IsKeyValue-at : (e : List ℕ × ℕ) → get m.places e.0 ≡ Some e.1 → IsKeyValue m.row (entry e)
+  IsKeyValue-at e here =
       let key = is.keys e.0 e.1 here in
       let inside = is.in_range e.0 e.1 here in
       let size : ℕ = m.row.value_size in
@@ -82,7 +82,7 @@ module _ (m : MapState) (is : IsMap m) where
 
   pub FitsRow-IsMap : FitsRow m.row C
   FitsRow-IsMap = record {
-    entries = All-map (IsEntry m.row) entry listed (All-from_get_or (λ e. IsEntry m.row (entry e)) listed ([], 0) (λ i l. IsEntry-at (at i) (there i l)));
+    entries = All-map (IsKeyValue m.row) entry listed (All-from_get_or (λ e. IsKeyValue m.row (entry e)) listed ([], 0) (λ i l. IsKeyValue-at (at i) (there i l)));
     ordered = IsStrictlySortedBy-is_sorted C (sorted-content m.row.value_size m.places m.block);
     room = let e = length-content m.row.value_size m.places m.block in let few = is.few in omega arith;
     keys = keys_fit m.row.kind refl;
@@ -106,14 +106,14 @@ zero_row size m p below =
     let e = row_end p m size below in
     ap (λ (xs : List ℕ). take size xs) (drop-replicate (p * size) (m * size) 0) ∙ take-replicate size (m * size - p * size) 0 (omega arith)
 
-no_length : (es : Entries) → length es ≡ 0 → es ≡ []
+no_length : (es : KeyValues) → length es ≡ 0 → es ≡ []
 no_length [] e = refl
 no_length (x ∷ es) e = absurd (omega arith)
 
 content-empty : (size : ℕ) (block : List ℕ) → content size empty block ≡ []
 content-empty size block = no_length (content size empty block) (length-content size empty block ∙ len-empty key_order ℕ)
 
-abbrev filled : ℕ → Entries → ℕ → Entries
+abbrev filled : ℕ → KeyValues → ℕ → KeyValues
 filled size es i = with_key (little_bytes 4 i) (replicate size 0) es
 
 content-filled : (size m n : ℕ) → n ≤ m → content size (array_places n) (replicate (m * size) 0) ≡ fold (filled size) [] (range_with_len 0 n)
@@ -126,11 +126,11 @@ content-filled size m (suc n) le =
     ∙ sym (ap (fold (filled size) []) more ∙ fold-append (filled size) [] (range_with_len 0 n) (n ∷ []))
 
 starting_by : (kind : MapKind) (row : MapDef)
-    → content row.value_size (starting_places kind row.entries) (replicate (row.entries * row.value_size) 0) ≡ starting_entries kind row
+    → content row.value_size (starting_places kind row.entries) (replicate (row.entries * row.value_size) 0) ≡ starting_key_values kind row
 starting_by Hash row = content-empty row.value_size (replicate (row.entries * row.value_size) 0)
 starting_by Array row = content-filled row.value_size row.entries row.entries (omega arith)
 
-pub content_in-starting : (row : MapDef) → content_in (starting_map row) ≡ starting_entries row.kind row
+pub content_in-starting : (row : MapDef) → content_in (starting_map row) ≡ starting_key_values row.kind row
 content_in-starting row = starting_by row.kind row
 
 -- the maps of rows start with the contents that programs start with
@@ -151,7 +151,7 @@ pub length-rows_of : (maps : List MapState) → length (rows_of maps) ≡ length
 length-rows_of maps = length-map maps (λ m. m.row)
 
 -- a map's content is that among all contents
-pub contents_of-at : (maps : List MapState) (i : ℕ) (d : Entries) → i < length maps → slice_index_or (contents_of maps) i d ≡ content_in (map_at maps i)
+pub contents_of-at : (maps : List MapState) (i : ℕ) (d : KeyValues) → i < length maps → slice_index_or (contents_of maps) i d ≡ content_in (map_at maps i)
 contents_of-at maps i d inside = get_or-map content_in maps i _ d inside
 
 -- a change of one map changes only its content

@@ -16,8 +16,8 @@ use Rattle.byteorder.specs.Endian.{little_bytes}
 use Rattle.isa_model.specs.declared.map_defs.MapKind.{MapKind}
 use Rattle.isa_model.specs.declared.map_defs.MapKind.TheVariants.{Hash, Array}
 use Rattle.isa_model.specs.Machine.MapContents.{key_order, is_key}
-use Rattle.isa_model.specs.Machine.States.{Entries}
-use Rattle.isa_model.specs.Reporting.Reports.{in_report_order, entry_by_index}
+use Rattle.isa_model.specs.Machine.States.{KeyValues}
+use Rattle.isa_model.specs.Reporting.Reports.{in_report_order, key_value_by_index}
 use Rattle.maps.specs.declared.either.EitherIndex.{EitherIndex}
 use Rattle.maps.specs.declared.either.EitherIndex.TheVariants as either
 use Rattle.map_indexes.proofs.ArrayLaws.{get_index}
@@ -44,12 +44,12 @@ map_twice f g [] = refl
 map_twice {C = C} f g (x ∷ xs) = ap (λ (ys : List C). f (g x) ∷ ys) (map_twice f g xs)
 
 by_index : (n size : ℕ) (block : List ℕ) → n ≤ 2 ^ 32 → (i : ℕ) → i < n
-    → entry_by_index (content size (array_places n) block) i ≡ Some (little_bytes 4 i, row_at size block i)
+    → key_value_by_index (content size (array_places n) block) i ≡ Some (little_bytes 4 i, row_at size block i)
 by_index n size block small i l =
     ap (option_map (λ (value : List ℕ). (little_bytes 4 i, value)))
     (at_key-content size (array_places n) block (little_bytes 4 i) ∙ ap (option_map (row_at size block)) (get_index n i small l))
 
--- an index below an array's entries is listed
+-- an index below an array's count of keys is listed
 pub listed-index : (n k : ℕ) → k < n → slice_get {X = List ℕ × ℕ} (map (λ i. (little_bytes 4 i, i)) (range_with_len 0 n)) k ≡ Some (little_bytes 4 k, k)
 listed-index n k l =
     let long = length-range_with_len 0 n in
@@ -115,7 +115,7 @@ module _ (slots : PlaceKeys) (k p : ℕ) (there : slice_get (values (places slot
   pub listed-some : is_some (slot slots p) ≡ true
   listed-some = ap is_some slot_there
 
-  -- and its entry is that key with the place
+  -- and what is there is that key with the place
   pub listed-key : (key : List ℕ) → slot slots p ≡ Some key → slice_get (entries (places slots)) k ≡ Some (key, p)
   listed-key key e =
       let same : listed.0.0 ≡ key = let f = slot_there in cc in
@@ -128,14 +128,14 @@ listed-none slots k none =
       | Some e ↦ λ f. absurd (cc)
     ] (sym (slice_get-map (λ e. e.1) (entries (places slots)) k) ∙ none)
 
--- the entries in the order of the report are the values of the keys that are listed
+-- the keys in the order of the report are the values of the keys that are listed
 pub in_report_order-listed : (index : EitherIndex) (kind : MapKind) (n size : ℕ) (block : List ℕ) → kind_of index ≡ kind → room_of index ≡ n
     → in_report_order kind n (content size (places_of index) block) ≡ map (λ e. (e.0, row_at size block e.1)) (listed_of index)
 in_report_order-listed (either.Array s) Array n size block k room =
     let small = s.small in
-    let es : Entries = content size (array_places s.entries) block in
-    ap (λ (m : ℕ). filter_map (entry_by_index es) (range_with_len 0 m)) (sym room)
-    ∙ all_some (entry_by_index es) (λ i. (little_bytes 4 i, row_at size block i)) 0 s.entries (λ i l m. by_index s.entries size block (omega arith) i (omega arith))
+    let es : KeyValues = content size (array_places s.entries) block in
+    ap (λ (m : ℕ). filter_map (key_value_by_index es) (range_with_len 0 m)) (sym room)
+    ∙ all_some (key_value_by_index es) (λ i. (little_bytes 4 i, row_at size block i)) 0 s.entries (λ i l m. by_index s.entries size block (omega arith) i (omega arith))
     ∙ sym (map_twice (λ (e : List ℕ × ℕ). (e.0, row_at size block e.1)) (λ (i : ℕ). (little_bytes 4 i, i)) (range_with_len 0 s.entries))
 in_report_order-listed (either.Array s) Hash n size block k room = absurd (cc)
 in_report_order-listed (either.Chain s) Hash n size block k room = refl
@@ -170,20 +170,20 @@ key_of : (size : ℕ) (block : List ℕ) (o : Option (List ℕ × ℕ)) (bytes :
 key_of size block None bytes = refl
 key_of size block (Some e) bytes = refl
 
--- the k-th entry of a map, by the k-th key that is listed
+-- the k-th key of a map with its value, by the k-th key that is listed
 module _ (index : EitherIndex) (kind : MapKind) (n size : ℕ) (block : List ℕ) (same : kind_of index ≡ kind) (room : room_of index ≡ n) (k : ℕ) where
-  abbrev pub reported : Entries
+  abbrev pub reported : KeyValues
   reported = in_report_order kind n (content size (places_of index) block)
 
   entry-listed : slice_get reported k ≡ option_map {U = List ℕ × List ℕ} (λ e. (e.0, row_at size block e.1)) (slice_get (listed_of index) k)
   entry-listed =
-      ap (λ (es : Entries). slice_get es k) (in_report_order-listed index kind n size block same room)
+      ap (λ (es : KeyValues). slice_get es k) (in_report_order-listed index kind n size block same room)
       ∙ slice_get-map {B = List ℕ × List ℕ} (λ e. (e.0, row_at size block e.1)) (listed_of index) k
 
-  pub entry-value : (place : Option ℕ) → place ≡ option_map (λ e. e.1) (slice_get (listed_of index) k)
+  pub key_value-value : (place : Option ℕ) → place ≡ option_map (λ e. e.1) (slice_get (listed_of index) k)
       → option_map (λ e. e.1) (slice_get reported k) ≡ option_map (row_at size block) place
-  entry-value place e =
+  key_value-value place e =
       ap (option_map (λ (x : List ℕ × List ℕ). x.1)) entry-listed ∙ value_of size block (slice_get (listed_of index) k) ∙ ap (option_map (row_at size block)) (sym e)
 
-  pub entry-key : (bytes : List ℕ) → with_key_of (slice_get reported k) bytes ≡ with_key_of (slice_get (listed_of index) k) bytes
-  entry-key bytes = ap (λ (o : Option (List ℕ × List ℕ)). with_key_of o bytes) entry-listed ∙ key_of size block (slice_get (listed_of index) k) bytes
+  pub key_value-key : (bytes : List ℕ) → with_key_of (slice_get reported k) bytes ≡ with_key_of (slice_get (listed_of index) k) bytes
+  key_value-key bytes = ap (λ (o : Option (List ℕ × List ℕ)). with_key_of o bytes) entry-listed ∙ key_of size block (slice_get (listed_of index) k) bytes

@@ -5,7 +5,7 @@ use Rattle.std.specs.FinMap.{get, len}
 use Rattle.isa_model.specs.declared.map_defs.MapKind.{MapKind}
 use Rattle.isa_model.specs.declared.map_defs.MapKind.TheVariants.{Hash, Array}
 use Rattle.isa_model.specs.declared.map_defs.MapDef.{MapDef}
-use Rattle.isa_model.specs.Machine.States.{Entries}
+use Rattle.isa_model.specs.Machine.States.{KeyValues}
 use Rattle.isa_model.specs.Machine.MapContents.{with_key, without_key, enoent, e2big, exist, update_answer_by, delete_answer_by, update_answer, delete_answer, after_update, after_delete}
 use Rattle.map_indexes.specs.Rows.{with_row}
 use Rattle.maps.specs.Contents.{content}
@@ -38,7 +38,7 @@ module _ (row : MapDef) (P : Places) (B : List ℕ) (key : List ℕ) where
   abbrev size : ℕ
   size = row.value_size
 
-  abbrev C : Entries
+  abbrev C : KeyValues
   C = content size P B
 
   -- the answers are those of the places
@@ -67,7 +67,7 @@ module _ (row : MapDef) (P : Places) (B : List ℕ) (key : List ℕ) where
       grind arith
 
   module _ (P' : Places) (B' : List ℕ) where
-    abbrev C' : Entries
+    abbrev C' : KeyValues
     C' = content size P' B'
 
     -- a present key's value is written at its place

@@ -1,7 +1,8 @@
--- Lists of commands on one map: the replies of a finite map with a greatest count of keys, and the content that they leave.
+-- Lists of commands on one map: the replies of a finite map with a greatest count of keys, and the
+-- content that they leave.
 use Rattle.std.specs.Prelude.{◌≡◌, ℕ, List, [], ◌∷◌, length, Option, Some, None}
 use Rattle.isa_model.specs.declared.map_defs.MapDef.{MapDef}
-use Rattle.isa_model.specs.Machine.States.{Entries}
+use Rattle.isa_model.specs.Machine.States.{KeyValues}
 use Rattle.isa_model.specs.Machine.MapContents.{at_key, update_answer, delete_answer, after_update, after_delete}
 use Rattle.maps.specs.declared.commands.Command.{Command}
 use Rattle.maps.specs.declared.commands.Command.TheVariants.{Lookup, Update, Delete}
@@ -18,21 +19,21 @@ said (reply.Value bytes) = Found (Some bytes.items)
 said reply.Absent = Found None
 said (reply.Number n) = Number n
 
-abbrev pub reply_to : MapDef → Entries → Command → Said
+abbrev pub reply_to : MapDef → KeyValues → Command → Said
 reply_to row content (Lookup key) = Found (at_key key.now content)
 reply_to row content (Update key value flags) = Number (update_answer row content key.now flags)
 reply_to row content (Delete key) = Number (delete_answer row content key.now)
 
-abbrev pub content_after : MapDef → Entries → Command → Entries
+abbrev pub content_after : MapDef → KeyValues → Command → KeyValues
 content_after row content (Lookup key) = content
 content_after row content (Update key value flags) = after_update row content key.now value.now flags
 content_after row content (Delete key) = after_delete row content key.now
 
-abbrev pub replies_of : MapDef → Entries → List Command → List Said
+abbrev pub replies_of : MapDef → KeyValues → List Command → List Said
 replies_of row content [] = []
 replies_of row content (command ∷ commands) = reply_to row content command ∷ replies_of row (content_after row content command) commands
 
-abbrev pub left_by : MapDef → Entries → List Command → Entries
+abbrev pub left_by : MapDef → KeyValues → List Command → KeyValues
 left_by row content [] = content
 left_by row content (command ∷ commands) = left_by row (content_after row content command) commands
 

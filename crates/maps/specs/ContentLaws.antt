@@ -6,7 +6,7 @@ use Rattle.std.specs.Ordering.{is_lt}
 use Rattle.std.specs.FinMap.Entries.{find, is_sorted, below_all}
 use Rattle.isa_model.specs.Machine.MapContents.{key_order, is_key}
 
--- ---- entries whose values change, and whose keys stay
+-- ---- keys that stay, and values that change
 
 module _ {X Y : Type 0} (f : X → Y) where
   abbrev pub changed : List (List ℕ × X) → List (List ℕ × Y)

@@ -4,13 +4,13 @@ use Rattle.std.specs.FinMap.{empty, entries}
 use Rattle.isa_model.specs.declared.map_defs.MapKind.{MapKind}
 use Rattle.isa_model.specs.declared.map_defs.MapKind.TheVariants.{Hash, Array}
 use Rattle.isa_model.specs.declared.map_defs.MapDef.{MapDef}
-use Rattle.isa_model.specs.Machine.States.{Entries}
+use Rattle.isa_model.specs.Machine.States.{KeyValues}
 use Rattle.map_indexes.specs.Rows.{row_at}
 use Rattle.map_indexes.specs.ArrayPlaces.{array_places}
 use Rattle.map_indexes.specs.PlaceKeys.{Places}
 
 -- the value of each key, in the order of the keys
-abbrev pub content : ℕ → Places → List ℕ → Entries
+abbrev pub content : ℕ → Places → List ℕ → KeyValues
 content size places block = map (λ e. (e.0, row_at size block e.1)) (entries places)
 
 abbrev pub hash_row : (key_size value_size entries : ℕ) → MapDef

@@ -1,4 +1,4 @@
--- What the entries of a map are once a borrow of values ends.
+-- What the keys and values of a map are once a borrow of values ends.
 use Rattle.std.proofs.Common.{◌≡◌, ℕ, ◌*◌, ◌<◌, List, ◌++◌, length, take, drop, sym, ap, ◌∙◌}
 use Rattle.std.proofs.lemmas.List.{take_at, drop-drop}
 use Rattle.std.proofs.Math.Nat.{ℕ_set}
@@ -23,7 +23,7 @@ module _ {I : Type 0} {g : Ghosts I} (s : Store I g) where
   pub whole_with : (bytes : List ℕ) → length (with_items s.values bytes).items ≡ s.row.entries * s.row.value_size
   whole_with bytes = sym (with_items s.values bytes).ok.0 ∙ (s.values.ok.0 ∙ s.whole)
 
-  -- the entries with other values
+  -- the keys with other values
   abbrev pub with_values : List ℕ → Store I g
   with_values bytes =
       record {
@@ -37,7 +37,7 @@ module _ {I : Type 0} {g : Ghosts I} (s : Store I g) where
         exact = s.exact;
       }
 
-  -- whatever shows that they are the entries of a map
+  -- whatever shows that they are the keys and values of a map
   pub with_values-same : (bytes : List ℕ) (kind : g.kind s.index ≡ s.row.kind) (key_size : g.key_size s.index ≡ s.row.key_size)
       (room : g.room s.index ≡ s.row.entries) (whole : length (with_items s.values bytes).items ≡ s.row.entries * s.row.value_size)
       (exact : vec_capacity (with_items s.values bytes) ≡ s.row.entries * s.row.value_size)
@@ -63,7 +63,7 @@ module _ {I : Type 0} {g : Ghosts I} (s : Store I g) where
         exact = ℕ_set _ _ exact s.exact k;
       }
 
-  -- the entries with another value at a place
+  -- the keys with another value at a place
   abbrev pub stored_at : ℕ → List ℕ → Store I g
   stored_at p v =
       let start = p * s.row.value_size in

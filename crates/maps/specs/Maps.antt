@@ -6,7 +6,7 @@ use Rattle.isa_model.specs.contracts.map_defs.MapDef.{the_row}
 use Rattle.isa_model.specs.declared.map_defs.MapKind.TheVariants.{Hash, Array}
 use Rattle.isa_model.specs.declared.map_defs.MapDef.{MapDef}
 use Rattle.isa_model.specs.Code.MapRows.{IsRow}
-use Rattle.isa_model.specs.Machine.States.{Entries}
+use Rattle.isa_model.specs.Machine.States.{KeyValues}
 use Rattle.isa_model.specs.Machine.MachineStates.{AreBytes}
 use Rattle.isa_model.specs.Machine.MapContents.{update_answer, delete_answer, after_update, after_delete}
 use Rattle.isa_model.specs.Reporting.Reports.{in_report_order}
@@ -30,11 +30,11 @@ map_code =
     (λ p. record { row = p.0; places = p.1.0; block = p.1.1 }) (λ _. refl)
 
 -- its content: the value of each key, in the order of the keys
-abbrev pub content_in : MapState → Entries
+abbrev pub content_in : MapState → KeyValues
 content_in m = content m.row.value_size m.places m.block
 
--- its entries in the order of the report
-abbrev pub ordered_in : MapState → Entries
+-- its keys and values in the order of the report
+abbrev pub ordered_in : MapState → KeyValues
 ordered_in m = in_report_order m.row.kind m.row.entries (content_in m)
 
 abbrev pub map_at : List MapState → ℕ → MapState
@@ -48,13 +48,14 @@ with_block maps m block = slice_set maps m (record (map_at maps m) { block = blo
 abbrev pub rows_of : List MapState → List MapDef
 rows_of maps = map (λ m. m.row) maps
 
-abbrev pub contents_of : List MapState → List Entries
+abbrev pub contents_of : List MapState → List KeyValues
 contents_of maps = map content_in maps
 
 -- ---- rows
 
--- each place is below `entries`, no two keys have one place, there are no more keys than `entries`, and the block has
--- a value for each place; keys are keys of the row's size, and values are bytes; an array has the places of its indexes
+-- each place is below `entries`, no two keys have one place, there are no more keys than `entries`,
+-- and the block has a value for each place; keys are keys of the row's size, and values are bytes;
+-- an array has the places of its indexes
 pub record IsMap (m : MapState) : Type 0 where
   pub in_range : (k : List ℕ) (p : ℕ) → get m.places k ≡ Some p → p < m.row.entries
   pub apart : (j k : List ℕ) (p : ℕ) → get m.places j ≡ Some p → get m.places k ≡ Some p → j ≡ k

@@ -1,4 +1,5 @@
--- The keys of an index with their places in the order of the report, and the entries of a map in that order.
+-- The keys of an index with their places in the order of the report, and the keys and values of a
+-- map in that order.
 use Rattle.std.proofs.Common.{◌≡◌, ℕ, ◌+◌, List, ◌++◌, Option, Some, None, map, drop, length}
 use Rattle.std.specs.FinMap.{entries, values}
 use Rattle.std.specs.List.{range_with_len}

@@ -21,8 +21,8 @@ use isa_model::{MapDef, MapKind};
 use std::alloc::Global;
 use std::marker::Model;
 
-// The most entries that a hash map of these rows has.
-fn most_entries(rows: &[MapDef]) -> usize
+// The most keys that a hash map of these rows has.
+fn most_keys(rows: &[MapDef]) -> usize
     ensures enough { All (λ row. row.kind ≡ Hash → row.entries ≤ result) rows.now }
     ensures least { (n : ℕ) → All (λ row. row.kind ≡ Hash → row.entries ≤ n) rows.now
         → result ≤ n }
@@ -72,7 +72,7 @@ impl Model for Maps {
 }
 
 impl Maps {
-    ghost use Rattle.maps.specs.Listing.{listed_entries};
+    ghost use Rattle.maps.specs.Listing.{listed_key_values};
     ghost use Rattle.maps.specs.MapLends.{Stay, LendsBlock};
 
     /// The maps of an image as they start.
@@ -88,7 +88,7 @@ impl Maps {
         requires { All IsRow rows.now }
         ensures { IfOk result (λ maps. maps ≡ map starting_map rows.now) }
     {
-        let list = Vec::with_capacity(alloc, most_entries(rows))?;
+        let list = Vec::with_capacity(alloc, most_keys(rows))?;
         let mut stores = Vec::with_capacity(alloc, rows.len())?;
         for i in 0..rows.len() {
             let index = EitherIndex::new(alloc, rows[i])?;
@@ -211,11 +211,11 @@ impl Maps {
         self.stores.all[map].value(place)
     }
 
-    /// The entries of a map in the order of the report. It takes no memory, and the maps stay as
-    /// they are.
+    /// The keys and values of a map in the order of the report. It takes no memory, and the maps
+    /// stay as they are.
     pub fn order(&mut self, map: usize) -> Ordered<'_>
         requires { map < length self.old }
-        ensures entries { listed_entries result ≡ ordered_in (map_at self.old map) }
+        ensures entries { listed_key_values result ≡ ordered_in (map_at self.old map) }
         ensures* stay { sem 𝓛 (Stay self.entry) }
     {
         self.stores.order(map)

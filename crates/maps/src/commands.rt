@@ -62,7 +62,7 @@ pub fn apply<S: MapStore>(
 }
 
 /// The replies to a list of commands: those of a finite map with at most as many keys as the map
-/// has entries. Memory is taken only for the replies.
+/// has keys. Memory is taken only for the replies.
 pub fn replies<S: MapStore>(
     alloc: Global,
     store: &mut S,

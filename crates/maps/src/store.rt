@@ -1,4 +1,4 @@
-//! The entries of one map.
+//! The keys and values of one map.
 
 ghost use Rattle.std.specs.Prelude.{◌≡◌, ◌+◌, ◌*◌, ◌<◌, ◌≤◌, ℕ, List, length, nat_le, vec_len, replicate, refl, vec_capacity, None, Some, IsSome, IfSome, IfOk};
 ghost use Rattle.std.specs.Borrow.{sem};
@@ -16,8 +16,8 @@ use map_indexes::rooms::exact;
 use map_indexes::{ArrayIndex, ChainIndex, Index, ScanIndex, put_bytes};
 use std::alloc::{AllocError, Global};
 
-/// The entries of a map by its row. Each key has a place, which it keeps until it is removed, and
-/// the value of the key is the row of the block at its place.
+/// The keys and values of a map by its row. Each key has a place, which it keeps until it is
+/// removed, and the value of the key is the row of the block at its place.
 pub trait MapStore {
     ghost row_of: { Self → MapDef };
 
@@ -117,7 +117,7 @@ pub trait MapStore {
         → block (with_value s p v) ≡ with_row (row_of s).value_size (block s) p v };
 }
 
-/// The entries of a map over an index of its keys.
+/// The keys and values of a map over an index of its keys.
 #[derive(Drop)]
 pub struct Store<I: Index> {
     row: MapDef,
@@ -133,7 +133,7 @@ pub struct Store<I: Index> {
 impl<I: Index> Store<I> {
     ghost use Rattle.maps.specs.Lending.{LendsBlock};
 
-    /// The entries of a map as it starts: its values are zero-filled.
+    /// The keys and values of a map as it starts: its values are zero-filled.
     pub fn over(alloc: Global, row: MapDef, index: I) -> Result<Self, AllocError>
         requires kind { I.kind index ≡ row.kind }
         requires key_size { I.key_size index ≡ row.key_size }

@@ -24,7 +24,7 @@ pub struct Stores {
 }
 
 impl Stores {
-    ghost use Rattle.maps.specs.Listing.{listed_entries};
+    ghost use Rattle.maps.specs.Listing.{listed_key_values};
     ghost use Rattle.maps.specs.StoreLends.{StoresStay};
 
     /// The number of stores.
@@ -38,11 +38,11 @@ impl Stores {
         self.all.len()
     }
 
-    /// The entries of a map in the order of the report.
+    /// The keys and values of a map in the order of the report.
     pub fn order(&mut self, at: usize) -> Ordered<'_>
         requires at { at < length self.old.all.items }
         requires room { All (IsListed (vec_capacity self.old.list)) self.old.all.items }
-        ensures entries { listed_entries result
+        ensures entries { listed_key_values result
             ≡ ordered_in (map_at (map (state_by places_of) self.old.all.items) at) }
         ensures* stay { sem 𝓛 (StoresStay self.entry) }
     {

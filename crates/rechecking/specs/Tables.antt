@@ -3,7 +3,7 @@
 use Rattle.std.specs.Prelude.{◌≡◌, ℕ, ◌<◌, ◌≤◌, List, Contains, Option, Some}
 use Rattle.isa_model.specs.declared.frames.FrameHead.{FrameHead}
 use Rattle.isa_model.specs.Code.Instructions.{Program}
-use Rattle.isa_model.specs.Machine.States.{Entries}
+use Rattle.isa_model.specs.Machine.States.{KeyValues}
 use Rattle.isa_model.specs.Machine.States as Machine
 use Rattle.isa_model.specs.Machine.Steps.{step}
 use Rattle.isa_model.specs.Machine.MachineStates.{IsClock, IsGiven}
@@ -36,7 +36,7 @@ pub record IsClosedEntry (p : Program) (t : EntryAt) (e : Entry) : Type 0 where
 
 -- every state in which a run begins is one of the abstract state
 abbrev pub MeansStarts : Program → State → Type 0
-MeansStarts p a = (head : FrameHead) (packet : List ℕ) (contents : List Entries)
+MeansStarts p a = (head : FrameHead) (packet : List ℕ) (contents : List KeyValues)
     → IsGiven p head packet contents → Means p a (start_state head packet contents)
 
 -- a closed table

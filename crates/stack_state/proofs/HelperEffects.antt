@@ -9,7 +9,7 @@ use Rattle.isa_model.specs.declared.map_defs.MapDef.{MapDef}
 use Rattle.isa_model.specs.declared.values.Value.{Value}
 use Rattle.isa_model.specs.declared.values.Value.TheVariants as value
 use Rattle.isa_model.specs.Code.Instructions.{Program}
-use Rattle.isa_model.specs.Machine.States.{Stored, Content, value_at, frame_at, content_of, entries_of}
+use Rattle.isa_model.specs.Machine.States.{Stored, Content, value_at, frame_at, content_of, key_values_of}
 use Rattle.isa_model.specs.Machine.States as Machine
 use Rattle.isa_model.specs.Machine.MapContents.{at_key, with_key, without_key, update_answer, delete_answer}
 use Rattle.isa_model.specs.Machine.MapHelpers.{Helped, serial_given, serial_after, put_bytes, remove_key, pointer_or_zero, map_update_elem, map_delete_elem}
@@ -17,7 +17,7 @@ use Rattle.isa_model.specs.Machine.HelperCalls.{answered}
 use Rattle.isa_model.specs.Machine.MachineStates.{IsState, value_serials}
 use Rattle.isa_model.proofs.HelperLaws.{content_fits}
 use Rattle.isa_model.proofs.SerialLaws.{HasOneMore}
-use Rattle.isa_model.proofs.ContentLaws.{is_sorted-entries_of, at_key-value_serials, value_serials-with_key, HasOneMore-with_key}
+use Rattle.isa_model.proofs.ContentLaws.{is_sorted-key_values_of, at_key-value_serials, value_serials-with_key, HasOneMore-with_key}
 use Rattle.reg_state.specs.declared.kinds.Kind.{Kind}
 use Rattle.reg_state.specs.declared.kinds.Kind.TheVariants.{MapValueOrNull}
 use Rattle.reg_state.specs.Kinds.{Assigned, Allows, AllowsOrNull, HasLiveValue}
@@ -171,7 +171,7 @@ put_stays : (p : Program) (s : Machine.State) (m : ℕ) (row : MapDef) (key byte
     → Contains (value_serials (with_key key (record { serial = serial_given s.next_serial old; bytes = bytes }) (content_of s m))) n
 put_stays p s m row key bytes (Some old) found e is n live =
     let new : Stored = record { serial = old.serial; bytes = bytes } in
-    let sorted = is_sorted-entries_of row (content_of s m) (content_fits p s m row e is) in
+    let sorted = is_sorted-key_values_of row (content_of s m) (content_fits p s m row e is) in
     subst (λ l. Contains l n) (sym (value_serials-with_key key new old (content_of s m) refl found sorted)) live
 put_stays p s m row key bytes None found e is n live =
     let new : Stored = record { serial = s.next_serial; bytes = bytes } in

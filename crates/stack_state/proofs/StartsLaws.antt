@@ -7,7 +7,7 @@ use Rattle.isa_model.specs.declared.values.Value.{Value}
 use Rattle.isa_model.specs.declared.values.Cell.TheVariants.{Unwritten}
 use Rattle.isa_model.specs.declared.frames.FrameHead.{FrameHead}
 use Rattle.isa_model.specs.Code.Instructions.{Program}
-use Rattle.isa_model.specs.Machine.States.{Entries, value_at, new_frame, frame_at}
+use Rattle.isa_model.specs.Machine.States.{KeyValues, value_at, new_frame, frame_at}
 use Rattle.isa_model.specs.Running.Runs.{count_values, numbered_maps, start_regs, start_state}
 use Rattle.isa_model.specs.Machine.MachineStates.{IsProgram, IsGiven}
 use Rattle.isa_model.proofs.StepLaws.{start_is_state}
@@ -18,7 +18,7 @@ use Rattle.stack_state.proofs.StackLaws.{StackMeans-new}
 use Rattle.stack_state.specs.Starts.{first_registers, start}
 
 -- nothing has an identity yet
-abbrev pub at_start : List ℕ → List Entries → Assigned
+abbrev pub at_start : List ℕ → List KeyValues → Assigned
 at_start packet contents =
     record {
       offset = λ identity. pos 0;
@@ -49,7 +49,7 @@ first_stack e serial zero saved below = StackMeans-new e (replicate frame_size U
 first_stack e serial (suc j) saved below = absurd (omega arith)
 
 -- it means every state in which a run begins
-pub Means-start : (p : Program) (head : FrameHead) (packet : List ℕ) (contents : List Entries) → IsProgram p
+pub Means-start : (p : Program) (head : FrameHead) (packet : List ℕ) (contents : List KeyValues) → IsProgram p
     → IsGiven p head packet contents → Means p start (start_state head packet contents)
 unfolding Means start start_state new_frame
 Means-start p head packet contents program given = (at_start packet contents, means)

@@ -1,4 +1,4 @@
--- Frames as what is known of them, place by place.
+-- Frames as what is known of them, part by part.
 use Rattle.std.specs.Prelude.{◌≡◌, ℕ, ◌+◌, ◌<◌, ◌==◌, List, [], ◌∷◌, ◌++◌, length, replicate, slice_set, Option, Some, None, option_to_list, if◌then◌else◌}
 use Rattle.reg_state.specs.declared.kinds.Kind.{Kind}
 use Rattle.reg_state.specs.declared.kinds.Kind.TheVariants.{Unset}
@@ -63,7 +63,7 @@ unset_frame slot =
 abbrev pub with_slot : AbstractFrame → ℕ → Slot → AbstractFrame
 with_slot f n t = record f { stack = record { slots = slice_set f.stack.slots n t } }
 
--- the frame with a part in its place
+-- the frame with a part written where it belongs
 abbrev pub written : AbstractFrame → Part → AbstractFrame
 written f (InRegister n k) = with_kind f n k
 written f (InSlot n t) = with_slot f n t

@@ -1,4 +1,4 @@
-//! Buckets of stored states, which link their entries' places.
+//! Buckets of stored states, which link them by their positions.
 
 /// Where a stored state is found.
 #[derive(Clone, Copy, PartialEq, Eq, Drop)]
@@ -11,7 +11,7 @@ pub enum Stage {
     InTree,
 }
 
-/// An entry, which is in one bucket at a time.
+/// A stored state, which is in one bucket at a time.
 #[derive(Clone, Copy, Drop)]
 pub struct Link {
     /// A fingerprint of all that is known.
@@ -20,13 +20,13 @@ pub struct Link {
     pub known: u64,
     /// The one after it in its bucket.
     pub next: Option<u32>,
-    /// The last finished entry of its bucket when it was stored; none if the bucket could not
-    /// contain one with the same fingerprint (its mark bit was clear).
+    /// The last finished stored state of its bucket when it was stored; none if the bucket could
+    /// not contain one with the same fingerprint (its mark bit was clear).
     pub before: Option<u32>,
     pub stage: Stage,
 }
 
-/// A bucket of finished entries: those of one fingerprint in the order in which they were stored.
+/// A bucket of finished states: those of one fingerprint in the order in which they were stored.
 #[derive(Clone, Copy, Drop)]
 pub struct FinishedBucket {
     pub first: Option<u32>,
@@ -34,7 +34,7 @@ pub struct FinishedBucket {
     pub marks: u32,
 }
 
-/// A bucket of unfinished entries, the newest first.
+/// A bucket of unfinished states, the newest first.
 #[derive(Clone, Copy, Drop)]
 pub struct UnfinishedBucket {
     pub first: Option<u32>,
@@ -57,8 +57,8 @@ pub fn bucket_of(fingerprint: u64, buckets: usize) -> usize {
     (fingerprint >> 16) as usize & buckets.wrapping_sub(1)
 }
 
-/// The mark that an entry with the fingerprint leaves on its bucket. A bucket without it has no
-/// such entry.
+/// The mark that a stored state with the fingerprint leaves on its bucket. A bucket without it has
+/// no such stored state.
 pub fn mark_of(fingerprint: u64) -> u32 {
     1 << (fingerprint >> 59)
 }

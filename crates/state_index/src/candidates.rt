@@ -4,7 +4,7 @@ ghost use Rattle.std.specs.Iterator.{at_most};
 
 use crate::buckets::Link;
 use crate::efforts::Effort;
-use crate::limits::PlaceLimits;
+use crate::limits::PartLimits;
 use crate::shapes::ShapeLink;
 use crate::trees::{Sought, Tree};
 
@@ -25,14 +25,14 @@ impl<'a> Iterator for ShapesAt<'a> {
         if self.left == 0 {
             return None;
         }
-        let place = self.next? as usize;
-        self.next = self.shapes.get(place)?.next;
+        let position = self.next? as usize;
+        self.next = self.shapes.get(position)?.next;
         self.left -= 1;
-        Some(place)
+        Some(position)
     }
 }
 
-/// Unfinished entries of a bucket that may be equal to a state: all that are equal to it are among
+/// Unfinished states of a bucket that may be equal to a state: all that are equal to it are among
 /// them.
 #[derive(Drop)]
 pub struct UnfinishedCandidates<'a> {
@@ -44,45 +44,45 @@ pub struct UnfinishedCandidates<'a> {
 impl<'a> Iterator for UnfinishedCandidates<'a> {
     type Item = usize;
 
-    ghost remaining = { λ entries. at_most entries.left };
+    ghost remaining = { λ candidates. at_most candidates.left };
 
     fn next(&mut self) -> Option<usize> {
         if self.left == 0 {
             return None;
         }
-        let place = self.next? as usize;
-        self.next = self.links.get(place)?.next;
+        let position = self.next? as usize;
+        self.next = self.links.get(position)?.next;
         self.left -= 1;
-        Some(place)
+        Some(position)
     }
 }
 
-/// Finished entries that may cover a state: all that do are among them.
+/// Finished states that may cover a state: all that do are among them.
 #[derive(Drop)]
 pub struct FinishedCandidates<'a> {
     pub links: &'a [Link],
     /// What is known of the state.
     pub known: u64,
-    pub limits: &'a [PlaceLimits],
+    pub limits: &'a [PartLimits],
     pub trees: &'a [Tree],
-    /// An entry of the first tree, and what is sought there once it is known.
+    /// A stored state of the first tree, and what is sought there once it is known.
     pub number: usize,
     pub sought: Option<Sought>,
-    /// The first entry of a bucket.
+    /// The first stored state of a bucket.
     pub next: Option<u32>,
-    /// Whether the entries of the bucket are in the order in which they were stored.
+    /// Whether the states of the bucket are in the order in which they were stored.
     pub is_ordered: bool,
 }
 
 impl<'a> FinishedCandidates<'a> {
-    /// The next entry that was stored before a place.
+    /// The next stored state that was stored before a position.
     pub fn next_before(&mut self, before: usize, effort: &mut Effort) -> Option<usize> {
         for _tree in 0..self.trees.len() {
             let [tree, others @ ..] = self.trees else {
                 break;
             };
             match self.next_in(tree, before, effort) {
-                Some(place) => return Some(place),
+                Some(position) => return Some(position),
                 None => {
                     self.trees = others;
                     self.number = 0;
@@ -93,7 +93,7 @@ impl<'a> FinishedCandidates<'a> {
         self.next_in_bucket(before, effort)
     }
 
-    /// The next entry of the first tree.
+    /// The next stored state of the first tree.
     fn next_in(&mut self, tree: &Tree, before: usize, effort: &mut Effort) -> Option<usize> {
         let mut sought = match self.sought {
             Some(sought) => sought,
@@ -103,21 +103,21 @@ impl<'a> FinishedCandidates<'a> {
         let number = tree.next_from(self.number, &sought, effort)?;
         self.number = number.saturating_add(1);
         self.sought = Some(sought);
-        tree.place(number)
+        tree.position(number)
     }
 
-    /// The next entry of the bucket.
+    /// The next stored state of the bucket.
     fn next_in_bucket(&mut self, before: usize, effort: &mut Effort) -> Option<usize> {
         for _tried in 0..self.links.len() {
-            let place = self.next? as usize;
-            if self.is_ordered && place >= before {
+            let position = self.next? as usize;
+            if self.is_ordered && position >= before {
                 return None;
             }
             effort.spend_test();
-            let link = self.links.get(place)?;
+            let link = self.links.get(position)?;
             self.next = link.next;
-            if place < before && link.known == self.known {
-                return Some(place);
+            if position < before && link.known == self.known {
+                return Some(position);
             }
         }
         None

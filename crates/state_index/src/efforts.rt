@@ -1,18 +1,18 @@
 //! How much looking up stored states may cost.
 
-/// How many places may be compared in one verification. Past that nothing is looked up any more.
+/// How many parts may be compared in one verification. Past that nothing is looked up any more.
 const MOST: u64 = 250_000_000;
 
-/// How many comparisons of places a test of a row or of a link takes, however many it
+/// How many comparisons of parts a test of a row or of a link takes, however many it
 /// has.
 const TEST: usize = 8;
 
-/// How many it takes to put an entry into a tree, and how many for each of its places.
+/// How many it takes to put a stored state into a tree, and how many for each of its parts.
 const TREE: usize = 256;
 
-const TREE_PLACE: usize = 16;
+const TREE_PART: usize = 16;
 
-/// What looking up has cost, as a count of comparisons of places. It does not depend on time, so
+/// What looking up has cost, as a count of comparisons of parts. It does not depend on time, so
 /// that the same program is always answered in the same way.
 #[derive(Clone, Copy, Drop)]
 pub struct Effort {
@@ -31,8 +31,8 @@ impl Effort {
     }
 
     /// Notes this number of comparisons.
-    pub fn spend(&mut self, places: usize) {
-        self.spent = self.spent.saturating_add(places as u64);
+    pub fn spend(&mut self, parts: usize) {
+        self.spent = self.spent.saturating_add(parts as u64);
     }
 
     /// Notes the cost of a test that usually ends at its first comparison.
@@ -40,14 +40,14 @@ impl Effort {
         self.spend(TEST);
     }
 
-    /// Notes the cost of comparing this many places, and of finding them.
-    pub fn spend_search(&mut self, places: usize) {
-        self.spend(places.saturating_add(TEST));
+    /// Notes the cost of comparing this many parts, and of finding them.
+    pub fn spend_search(&mut self, parts: usize) {
+        self.spend(parts.saturating_add(TEST));
     }
 
-    /// Notes the cost of making a tree of entries with this many places each.
-    pub fn spend_tree(&mut self, entries: usize, places: usize) {
-        let each = places.saturating_mul(TREE_PLACE).saturating_add(TREE);
-        self.spend(entries.saturating_mul(each));
+    /// Notes the cost of making a tree of states with this many parts each.
+    pub fn spend_tree(&mut self, states: usize, parts: usize) {
+        let each = parts.saturating_mul(TREE_PART).saturating_add(TREE);
+        self.spend(states.saturating_mul(each));
     }
 }

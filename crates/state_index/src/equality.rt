@@ -130,11 +130,11 @@ fn is_same(part: &Part, other: &Part) -> bool
     ensures { IsTrue result → part.now ≡ other.now }
 {
     match (part, other) {
-        (Part::InRegister(place, kind), Part::InRegister(number, others)) => {
-            *place == *number && is_same_kind(kind, others)
+        (Part::InRegister(own, kind), Part::InRegister(number, others)) => {
+            *own == *number && is_same_kind(kind, others)
         }
-        (Part::InSlot(place, slot), Part::InSlot(number, others)) => {
-            *place == *number && is_same_slot(slot, others)
+        (Part::InSlot(own, slot), Part::InSlot(number, others)) => {
+            *own == *number && is_same_slot(slot, others)
         }
         _ => false,
     }

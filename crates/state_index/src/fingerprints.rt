@@ -154,20 +154,20 @@ fn with_kind(print: u64, kind: &Kind) -> u64 {
     }
 }
 
-fn with_register(print: u64, place: u8, kind: &Kind) -> u64 {
-    with_kind(mixed(print, u64::from(place)), kind)
+fn with_register(print: u64, number: u8, kind: &Kind) -> u64 {
+    with_kind(mixed(print, u64::from(number)), kind)
 }
 
-fn with_slot(print: u64, place: u8, slot: &Slot) -> u64 {
+fn with_slot(print: u64, number: u8, slot: &Slot) -> u64 {
     match slot {
-        Slot::Written(marks) => mixed(mixed(print, 128 + u64::from(place)), u64::from(*marks)),
-        Slot::Spilled(kind) => with_kind(mixed(print, 64 + u64::from(place)), kind),
+        Slot::Written(marks) => mixed(mixed(print, 128 + u64::from(number)), u64::from(*marks)),
+        Slot::Spilled(kind) => with_kind(mixed(print, 64 + u64::from(number)), kind),
     }
 }
 
 fn with_part(print: u64, part: &Part) -> u64 {
     match part {
-        Part::InRegister(place, kind) => with_register(print, *place, kind),
-        Part::InSlot(place, slot) => with_slot(print, *place, slot),
+        Part::InRegister(number, kind) => with_register(print, *number, kind),
+        Part::InSlot(number, slot) => with_slot(print, *number, slot),
     }
 }

@@ -10,22 +10,22 @@ use crate::candidates::{FinishedCandidates, ShapesAt, UnfinishedCandidates};
 use crate::efforts::Effort;
 use crate::fingerprints::mixed;
 use crate::keys::Key;
-use crate::limits::PlaceLimits;
+use crate::limits::PartLimits;
 use crate::shapes::{Shape, ShapeLink};
 use crate::tree_sets::TreeSets;
 use crate::trees::Tree;
 use std::alloc::{AllocError, Global};
 use std::mem;
 
-/// How many buckets there are at first, for the finished entries and for the unfinished ones:
-/// always a power of two, and at least half as many as the entries in them.
+/// How many buckets there are at first, for the finished states and for the unfinished ones:
+/// always a power of two, and at least half as many as the states in them.
 const BUCKETS: usize = 64;
 
 /// How many shapes a slot has at most, but for the last one, which knows nothing.
 const SHAPES: usize = 256;
 
-/// An index of entries, which are known by their places: 0, 1, .. in the order in which they were
-/// added.
+/// An index of stored states, which are known by their positions: 0, 1, .. in the order in which
+/// they were added.
 #[derive(Drop)]
 pub struct Index {
     links: Vec<Link>,
@@ -74,8 +74,8 @@ impl Index {
         Some(mixed(known, shape as u64))
     }
 
-    /// The first entry in the bucket of finished entries with these known bits, if they have no
-    /// trees.
+    /// The first stored state in the bucket of finished states with these known bits, if they have
+    /// no trees.
     fn first_finished(&self, known: u64) -> Option<u32> {
         let bucket = bucket_of(known, self.finished.len());
         match self.finished.get(bucket) {
@@ -84,11 +84,11 @@ impl Index {
         }
     }
 
-    /// The finished entries with these known bits that may cover a state with such limits.
+    /// The finished states with these known bits that may cover a state with such limits.
     pub fn finished_candidates<'a>(
         &'a self,
         known: u64,
-        limits: &'a [PlaceLimits],
+        limits: &'a [PartLimits],
     ) -> FinishedCandidates<'a> {
         let (trees, unplaced) = self.tree_sets.trees(known);
         let is_ordered = trees.is_empty();
@@ -108,12 +108,12 @@ impl Index {
         }
     }
 
-    /// Whether there are entries that are found by their limits.
+    /// Whether there are states that are found by their limits.
     pub fn has_trees(&self) -> bool {
         !self.tree_sets.is_empty()
     }
 
-    /// Notes that entries with these known bits were scanned, and returns whether to make a tree of
+    /// Notes that states with these known bits were scanned, and returns whether to make a tree of
     /// them.
     pub fn note_scan(
         &mut self,
@@ -124,39 +124,39 @@ impl Index {
         self.tree_sets.note_scan(alloc, known, count)
     }
 
-    /// The entries that are to come into a tree, and how many trees of the same set stay.
+    /// The states that are to come into a tree, and how many trees of the same set stay.
     pub fn tree_candidates(
         &self,
         alloc: Global,
         known: u64,
         effort: &mut Effort,
     ) -> Result<(Vec<u32>, usize), AllocError> {
-        let mut places = Vec::new(alloc);
+        let mut positions = Vec::new(alloc);
         let mut candidates = self.finished_candidates(known, &[]);
         candidates.trees = &[];
-        for _entry in 0..self.links.len() {
-            let Some(place) = candidates.next_before(usize::MAX, effort) else {
+        for _state in 0..self.links.len() {
+            let Some(position) = candidates.next_before(usize::MAX, effort) else {
                 break;
             };
-            if let Ok(place) = u32::try_from(place) {
-                places.push(place)?;
+            if let Ok(position) = u32::try_from(position) {
+                positions.push(position)?;
             }
         }
-        let left = self.tree_sets.gather(known, &mut places)?;
-        Ok((places, left))
+        let left = self.tree_sets.gather(known, &mut positions)?;
+        Ok((positions, left))
     }
 
-    /// Adds a tree to a set after the first `left` others, in place of its entries' links.
+    /// Adds a tree to a set after the first `left` others, and its stored states leave their links.
     pub fn add_tree(&mut self, known: u64, left: usize, tree: Tree) -> Result<(), AllocError> {
-        for place in tree.places() {
-            if let Some(link) = self.links.get_mut(*place as usize) {
+        for position in tree.positions() {
+            if let Some(link) = self.links.get_mut(*position as usize) {
                 link.stage = Stage::InTree;
             }
         }
         self.tree_sets.add_tree(known, left, tree)
     }
 
-    /// Unfinished entries, all of the fingerprint among them.
+    /// Unfinished states, all of the fingerprint among them.
     pub fn unfinished_candidates(&self, fingerprint: u64) -> UnfinishedCandidates<'_> {
         let bucket = bucket_of(fingerprint, self.unfinished.len());
         let next = match self.unfinished.get(bucket) {
@@ -170,7 +170,7 @@ impl Index {
         }
     }
 
-    /// Whether an entry has the fingerprint.
+    /// Whether a stored state has the fingerprint.
     pub fn has_fingerprint(&self, index: usize, fingerprint: u64) -> bool {
         match self.links.get(index) {
             Some(link) => link.fingerprint == fingerprint,
@@ -218,7 +218,7 @@ impl Index {
         }
     }
 
-    /// Adds an entry that is unfinished.
+    /// Adds a stored state that is unfinished.
     pub fn add(
         &mut self,
         alloc: Global,
@@ -244,7 +244,7 @@ impl Index {
         Ok(())
     }
 
-    /// Spreads the finished entries over more buckets, if there are too many for these.
+    /// Spreads the finished states over more buckets, if there are too many for these.
     fn spread_finished(&mut self, alloc: Global) -> Result<(), AllocError> {
         let buckets = self.finished.len().saturating_mul(2);
         if self.finished_count < buckets {
@@ -271,8 +271,9 @@ impl Index {
         Ok(())
     }
 
-    /// Puts an entry into its bucket of finished ones, if it belongs there, and else notes its
-    /// place there; all that were stored before it were put there, and those after it were not.
+    /// Puts a stored state into its bucket of finished ones, if it belongs there, and else notes
+    /// its position there; all that were stored before it were put there, and those after it were
+    /// not.
     fn file_by_known(&mut self, index: usize) {
         let Some(link) = self.links.get_mut(index) else {
             return;
@@ -288,8 +289,8 @@ impl Index {
         }
     }
 
-    /// Puts an entry into its bucket of unfinished ones, if it is unfinished; all such ones that
-    /// were stored before it were put there, and those after it were not.
+    /// Puts a stored state into its bucket of unfinished ones, if it is unfinished; all such ones
+    /// that were stored before it were put there, and those after it were not.
     fn file_by_fingerprint(&mut self, index: usize) {
         let Some(link) = self.links.get_mut(index) else {
             return;
@@ -304,7 +305,7 @@ impl Index {
         }
     }
 
-    /// Moves an entry to the finished ones of its bucket; all that were stored after it are
+    /// Moves a stored state to the finished ones of its bucket; all that were stored after it are
     /// finished.
     pub fn finish(&mut self, index: usize) {
         let Some(link) = self.links.get_mut(index) else {
@@ -336,27 +337,27 @@ impl Index {
         }
     }
 
-    /// Makes the entry the one after another finished one of its bucket, or the first.
-    fn put_after(&mut self, known: u64, before: Option<u32>, place: Option<u32>) {
+    /// Makes the stored state the one after another finished one of its bucket, or the first.
+    fn put_after(&mut self, known: u64, before: Option<u32>, position: Option<u32>) {
         let bucket = bucket_of(known, self.finished.len());
         let Some(bucket) = self.finished.get_mut(bucket) else {
             return;
         };
         bucket.marks |= mark_of(known);
         if bucket.last == before {
-            bucket.last = place;
+            bucket.last = position;
         }
         let next = match before {
-            None => mem::replace(&mut bucket.first, place),
+            None => mem::replace(&mut bucket.first, position),
             Some(before) => match self.links.get_mut(before as usize) {
-                Some(link) => mem::replace(&mut link.next, place),
+                Some(link) => mem::replace(&mut link.next, position),
                 None => None,
             },
         };
-        let Some(place) = place else {
+        let Some(position) = position else {
             return;
         };
-        if let Some(link) = self.links.get_mut(place as usize) {
+        if let Some(link) = self.links.get_mut(position as usize) {
             link.next = next;
         }
     }

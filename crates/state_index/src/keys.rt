@@ -4,14 +4,14 @@ ghost use Rattle.std.specs.Prelude.{◌≡◌, OnOk};
 ghost use Rattle.state_index.specs.Parts.{AreBlankBeside, AreParts};
 
 use crate::fingerprints::Fingerprints;
-use crate::limits::{PlaceLimits, add_limits};
+use crate::limits::{PartLimits, add_limits};
 use crate::parts::{Part, take_parts, take_parts_in};
 use control_flow::SlotMask;
 use stack_state::{FRAME_SLOTS, State};
 use std::alloc::{AllocError, Global};
 
-/// How many places a frame has: its registers and its slots.
-const PLACES: usize = 10 + FRAME_SLOTS;
+/// How many parts a frame has: its registers and its slots.
+const PARTS: usize = 10 + FRAME_SLOTS;
 
 /// The parts of a state's innermost frame, fingerprints of all its frames, and their limits if
 /// these are wanted.
@@ -19,7 +19,7 @@ const PLACES: usize = 10 + FRAME_SLOTS;
 pub struct Key {
     pub parts: Vec<Part>,
     pub fingerprints: Fingerprints,
-    pub limits: Vec<PlaceLimits>,
+    pub limits: Vec<PartLimits>,
     /// Whether the limits are wanted.
     pub has_limits: bool,
     /// Whether more than the parts is wanted.
@@ -30,7 +30,7 @@ impl Key {
     /// A key of nothing, with room for all parts of a frame.
     pub fn new(alloc: Global) -> Result<Self, AllocError> {
         Ok(Key {
-            parts: Vec::with_capacity(alloc, PLACES)?,
+            parts: Vec::with_capacity(alloc, PARTS)?,
             fingerprints: Fingerprints::of(0),
             limits: Vec::new(alloc),
             has_limits: false,

@@ -1,4 +1,5 @@
-//! Limits of what is known of places: what a search for a state that covers another one goes by.
+//! Limits of what is known of parts of frames: what a search for a state that covers another one
+//! goes by.
 //!
 //! No contract rests on them: they propose states, and `covers` decides.
 
@@ -8,10 +9,10 @@ use reg_state::{Kind, Scalar};
 use stack_state::Slot;
 use std::alloc::AllocError;
 
-/// How many measures a place has.
+/// How many measures a part has.
 pub const MEASURES: usize = 9;
 
-/// What a place holds.
+/// What is known of a part.
 #[derive(Clone, Copy, PartialEq, Eq, Drop)]
 enum Sort {
     Number,
@@ -25,27 +26,27 @@ enum Sort {
     Written,
 }
 
-/// Monotone measures of a place: if a covers b, each measure of a is at least that of b.
+/// Monotone measures of a part: if a covers b, each measure of a is at least that of b.
 #[derive(Clone, Copy, Drop)]
-pub struct PlaceLimits {
+pub struct PartLimits {
     /// Frames come one after another, and in each of them registers before slots.
-    pub place: u32,
+    pub number: u32,
     sort: Sort,
     measures: [u64; MEASURES],
 }
 
-/// A measure of a place.
+/// A measure of a part.
 #[derive(Clone, Copy, Drop)]
 pub struct Measure {
-    pub place: u32,
+    pub number: u32,
     pub index: usize,
 }
 
-/// How wide what is known of a place is in some states: limits that enclose those of each, and
+/// How wide what is known of a part is in some states: limits that enclose those of each, and
 /// beside them the least of each measure.
 #[derive(Clone, Copy, Drop)]
 pub struct Span {
-    pub limits: PlaceLimits,
+    pub limits: PartLimits,
     least: [u64; MEASURES],
 }
 
@@ -140,22 +141,22 @@ fn of_marks(marks: u8) -> [u64; MEASURES] {
     ]
 }
 
-/// How far the places of one frame are from those of the next.
+/// How far the parts of one frame are from those of the next.
 const LEVEL: u32 = 1 << 9;
 
-impl PlaceLimits {
+impl PartLimits {
     /// The measures of a part of a frame; the outermost frame is at level 0. A part that allows all
     /// has none.
     fn of(level: u32, part: &Part) -> Option<Self> {
-        let (place, (sort, measures)) = match part {
-            Part::InRegister(place, kind) => (u32::from(*place), of_kind(kind)?),
-            Part::InSlot(place, Slot::Written(marks)) => {
-                (16 + u32::from(*place), (Sort::Written, of_marks(*marks)))
+        let (number, (sort, measures)) = match part {
+            Part::InRegister(number, kind) => (u32::from(*number), of_kind(kind)?),
+            Part::InSlot(number, Slot::Written(marks)) => {
+                (16 + u32::from(*number), (Sort::Written, of_marks(*marks)))
             }
-            Part::InSlot(place, Slot::Spilled(kind)) => (16 + u32::from(*place), of_kind(kind)?),
+            Part::InSlot(number, Slot::Spilled(kind)) => (16 + u32::from(*number), of_kind(kind)?),
         };
-        Some(PlaceLimits {
-            place: level.wrapping_mul(LEVEL).wrapping_add(place),
+        Some(PartLimits {
+            number: level.wrapping_mul(LEVEL).wrapping_add(number),
             sort,
             measures,
         })
@@ -163,7 +164,7 @@ impl PlaceLimits {
 
     /// Whether all that is measured here may be in a state that covers one where the other limits
     /// are: a no says that it is not.
-    fn may_enclose(&self, other: &PlaceLimits) -> bool {
+    fn may_enclose(&self, other: &PartLimits) -> bool {
         if self.sort != other.sort {
             return self.sort == Sort::Written;
         }
@@ -178,7 +179,7 @@ impl PlaceLimits {
 
 impl Span {
     /// Of one state.
-    pub fn of(limits: &PlaceLimits) -> Self {
+    pub fn of(limits: &PartLimits) -> Self {
         Span {
             limits: *limits,
             least: limits.measures,
@@ -186,7 +187,7 @@ impl Span {
     }
 
     /// Takes in the limits of one more state, and says whether those of all still say anything.
-    fn widen(&mut self, other: &PlaceLimits) -> bool {
+    fn widen(&mut self, other: &PartLimits) -> bool {
         let sort = self.limits.sort;
         if sort != other.sort {
             return false;
@@ -207,24 +208,24 @@ impl Span {
 
 /// Puts the limits of a frame's parts after those of the frames around it.
 pub fn add_limits(
-    limits: &mut Vec<PlaceLimits>,
+    limits: &mut Vec<PartLimits>,
     level: u32,
     parts: &[Part],
 ) -> Result<(), AllocError> {
     for part in parts {
-        if let Some(found) = PlaceLimits::of(level, part) {
+        if let Some(found) = PartLimits::of(level, part) {
             limits.push(found)?;
         }
     }
     Ok(())
 }
 
-/// The limits from a place on, in the order of their places.
-pub fn from_place(limits: &[PlaceLimits], place: u32) -> &[PlaceLimits] {
+/// The limits from a part on, in the order of their numbers.
+pub fn from_part(limits: &[PartLimits], number: u32) -> &[PartLimits] {
     let mut rest = limits;
     for _skipped in 0..limits.len() {
         match rest {
-            [first, others @ ..] if first.place < place => rest = others,
+            [first, others @ ..] if first.number < number => rest = others,
             _ => return rest,
         }
     }
@@ -232,31 +233,31 @@ pub fn from_place(limits: &[PlaceLimits], place: u32) -> &[PlaceLimits] {
 }
 
 /// Whether a state with these limits may cover one with others: a no says that it does not.
-pub fn may_enclose(limits: &[PlaceLimits], others: &[PlaceLimits]) -> bool {
+pub fn may_enclose(limits: &[PartLimits], others: &[PartLimits]) -> bool {
     let mut rest = others;
     for own in limits {
-        rest = from_place(rest, own.place);
+        rest = from_part(rest, own.number);
         match rest.first() {
-            Some(other) if other.place == own.place && own.may_enclose(other) => {}
+            Some(other) if other.number == own.number && own.may_enclose(other) => {}
             _ => return false,
         }
     }
     true
 }
 
-/// A measure of a place, from which on these are the limits; the greatest number where nothing is
+/// A measure of a part, from which on these are the limits; the greatest number where nothing is
 /// known of it.
-pub fn measured(limits: &[PlaceLimits], measure: Measure) -> u64 {
+pub fn measured(limits: &[PartLimits], measure: Measure) -> u64 {
     match limits.first() {
-        Some(own) if own.place == measure.place => {
+        Some(own) if own.number == measure.number => {
             own.measures.get(measure.index).copied().unwrap_or(0)
         }
         _ => u64::MAX,
     }
 }
 
-/// Widens spans by the limits of one more state, and leaves out places where they say nothing.
-pub fn widen(spans: &mut Vec<Span>, others: &[PlaceLimits]) {
+/// Widens spans by the limits of one more state, and leaves out parts where they say nothing.
+pub fn widen(spans: &mut Vec<Span>, others: &[PartLimits]) {
     let mut rest = others;
     let mut kept = 0;
     for index in 0..spans.len() {
@@ -264,10 +265,10 @@ pub fn widen(spans: &mut Vec<Span>, others: &[PlaceLimits]) {
             break;
         };
         let mut wider = *own;
-        let place = wider.limits.place;
-        rest = from_place(rest, place);
+        let number = wider.limits.number;
+        rest = from_part(rest, number);
         if let Some(other) = rest.first() {
-            if other.place == place && wider.widen(other) {
+            if other.number == number && wider.widen(other) {
                 if let Some(room) = spans.get_mut(kept) {
                     *room = wider;
                 }

@@ -1,4 +1,4 @@
-//! What is known of a frame, place by place.
+//! What is known of a frame, part by part.
 
 ghost use Rattle.std.specs.Prelude.{◌≡◌, ℕ, ◌+◌, ◌*◌, ◌<◌, ◌≤◌, ◌++◌, OnOk, IsTrue, length, slice_set, option_to_list};
 ghost use Rattle.stack_state.specs.Slots.{frame_slots, slot_at};
@@ -9,39 +9,39 @@ use reg_state::{Domain, Kind};
 use stack_state::{AbstractFrame, FRAME_SLOTS, Slot};
 use std::alloc::AllocError;
 
-/// What is known of one place of a frame.
+/// What is known of one part of a frame.
 #[derive(Clone, Copy, Drop)]
 pub enum Part {
     /// Of a register, by its number.
     InRegister(u8, Kind),
-    /// Of a slot of the stack, by its place.
+    /// Of a slot of the stack, by its number.
     InSlot(u8, Slot),
 }
 
 // ---- from a frame
 
-fn push_register(parts: &mut Vec<Part>, place: u8, kind: &Kind) -> Result<(), AllocError>
+fn push_register(parts: &mut Vec<Part>, number: u8, kind: &Kind) -> Result<(), AllocError>
     ensures { OnOk result (parts.new.items
-        ≡ parts.old.items ++ option_to_list (register_part place kind.now)) }
+        ≡ parts.old.items ++ option_to_list (register_part number kind.now)) }
 {
     match kind {
         Kind::Unset => {}
-        kind => parts.push(Part::InRegister(place, *kind))?,
+        kind => parts.push(Part::InRegister(number, *kind))?,
     }
     Ok(())
 }
 
-fn push_slot(parts: &mut Vec<Part>, place: u8, slot: &Slot) -> Result<(), AllocError>
+fn push_slot(parts: &mut Vec<Part>, number: u8, slot: &Slot) -> Result<(), AllocError>
     ensures { OnOk result (parts.new.items
-        ≡ parts.old.items ++ option_to_list (slot_part place slot.now)) }
+        ≡ parts.old.items ++ option_to_list (slot_part number slot.now)) }
 {
     match slot {
         Slot::Written(marks) => {
             if *marks != 0 {
-                parts.push(Part::InSlot(place, *slot))?;
+                parts.push(Part::InSlot(number, *slot))?;
             }
         }
-        Slot::Spilled(_) => parts.push(Part::InSlot(place, *slot))?,
+        Slot::Spilled(_) => parts.push(Part::InSlot(number, *slot))?,
     }
     Ok(())
 }
@@ -70,8 +70,8 @@ fn are_blank(slots: &[Slot; FRAME_SLOTS], known: SlotMask, block: usize) -> bool
     if known.is_empty_in(block as u8) {
         return true;
     }
-    for place in 0..8 {
-        let Slot::Written(0) = &slots[8 * block + place] else {
+    for number in 0..8 {
+        let Slot::Written(0) = &slots[8 * block + number] else {
             return false;
         };
     }
@@ -94,8 +94,8 @@ fn push_slots(
     }
     for block in 0..FRAME_SLOTS / 8 {
         if !are_blank(slots, known, block) {
-            for place in 0..8 {
-                let index = 8 * block + place;
+            for number in 0..8 {
+                let index = 8 * block + number;
                 push_slot(parts, index as u8, &slots[index])?;
             }
         }
@@ -127,24 +127,24 @@ pub fn take_parts(parts: &mut Vec<Part>, frame: &AbstractFrame) -> Result<(), Al
 
 // ---- into a frame
 
-fn set_register(registers: &mut [Kind; 10], place: u8, kind: Kind)
-    ensures { registers.new ≡ slice_set registers.old place kind }
+fn set_register(registers: &mut [Kind; 10], number: u8, kind: Kind)
+    ensures { registers.new ≡ slice_set registers.old number kind }
 {
-    let place = usize::from(place);
-    if place >= 10 {
+    let number = usize::from(number);
+    if number >= 10 {
         return;
     }
-    registers[place] = kind;
+    registers[number] = kind;
 }
 
-fn set_slot(slots: &mut [Slot; FRAME_SLOTS], place: u8, slot: Slot)
-    ensures { slots.new ≡ slice_set slots.old place slot }
+fn set_slot(slots: &mut [Slot; FRAME_SLOTS], number: u8, slot: Slot)
+    ensures { slots.new ≡ slice_set slots.old number slot }
 {
-    let place = usize::from(place);
-    if place >= FRAME_SLOTS {
+    let number = usize::from(number);
+    if number >= FRAME_SLOTS {
         return;
     }
-    slots[place] = slot;
+    slots[number] = slot;
 }
 
 /// Writes a part where it belongs.
@@ -152,8 +152,8 @@ pub fn write(frame: &mut AbstractFrame, part: &Part)
     ensures { frame.new ≡ written frame.old part.now }
 {
     match *part {
-        Part::InRegister(place, kind) => set_register(&mut frame.registers, place, kind),
-        Part::InSlot(place, slot) => set_slot(&mut frame.stack.slots, place, slot),
+        Part::InRegister(number, kind) => set_register(&mut frame.registers, number, kind),
+        Part::InSlot(number, slot) => set_slot(&mut frame.stack.slots, number, slot),
     }
 }
 
@@ -186,24 +186,24 @@ fn may_hold(slot: &Slot, other: &Slot) -> bool
     }
 }
 
-/// Whether what is known of a place may cover what a frame knows of it: a no says that it does not.
-pub fn may_cover_place(part: &Part, frame: &AbstractFrame) -> bool
+/// Whether what is known of a part may cover what a frame knows of it: a no says that it does not.
+pub fn may_cover_part(part: &Part, frame: &AbstractFrame) -> bool
     ensures { IsPartOf frame.now part.now → IsTrue result }
 {
     match *part {
-        Part::InRegister(place, kind) => {
-            let place = usize::from(place);
-            if place >= 10 {
+        Part::InRegister(number, kind) => {
+            let number = usize::from(number);
+            if number >= 10 {
                 return true;
             }
-            may_allow(&kind, &frame.registers[place])
+            may_allow(&kind, &frame.registers[number])
         }
-        Part::InSlot(place, slot) => {
-            let place = usize::from(place);
-            if place >= FRAME_SLOTS {
+        Part::InSlot(number, slot) => {
+            let number = usize::from(number);
+            if number >= FRAME_SLOTS {
                 return true;
             }
-            may_hold(&slot, &frame.stack.slots[place])
+            may_hold(&slot, &frame.stack.slots[number])
         }
     }
 }

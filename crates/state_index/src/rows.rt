@@ -1,33 +1,33 @@
-//! Rows of words that tell entries apart: what a tree is made of.
+//! Rows of words that tell stored states apart: what a tree is made of.
 
-use crate::limits::{MEASURES, Measure, PlaceLimits, Span, from_place, measured, widen};
+use crate::limits::{MEASURES, Measure, PartLimits, Span, from_part, measured, widen};
 use std::alloc::{AllocError, Global};
 
 /// How many words a row has at most.
 pub const WIDTH: usize = 32;
 
-/// How wide what is known of each place is in the entries that come into a tree.
+/// How wide what is known of each part is in the states that come into a tree.
 #[derive(Drop)]
 pub struct Spread {
     spans: Vec<Span>,
-    /// How many entries there are.
+    /// How many states there are.
     count: usize,
 }
 
-/// A row for each entry that comes into a tree: a word for its place, which is greater where it was
-/// stored earlier, and one for each measure in which entries differ.
+/// A row for each stored state that comes into a tree: a word for its position, which is greater
+/// where it was stored earlier, and one for each measure in which states differ.
 #[derive(Drop)]
 pub struct Rows {
-    /// Limits that enclose those of all entries.
-    pub common: Vec<PlaceLimits>,
-    /// Those in which entries differ, in the order of their places.
+    /// Limits that enclose those of all states.
+    pub common: Vec<PartLimits>,
+    /// Those in which states differ, in the order of their parts.
     pub measures: Vec<Measure>,
-    pub places: Vec<u32>,
+    pub positions: Vec<u32>,
     pub words: Vec<u64>,
 }
 
 impl Spread {
-    /// Of no entries yet.
+    /// Of no states yet.
     pub fn new(alloc: Global) -> Self {
         Spread {
             spans: Vec::new(alloc),
@@ -35,8 +35,8 @@ impl Spread {
         }
     }
 
-    /// Takes in an entry with these limits.
-    pub fn add(&mut self, limits: &[PlaceLimits]) -> Result<(), AllocError> {
+    /// Takes in a stored state with these limits.
+    pub fn add(&mut self, limits: &[PartLimits]) -> Result<(), AllocError> {
         if self.count == 0 {
             for own in limits {
                 self.spans.push(Span::of(own))?;
@@ -48,7 +48,7 @@ impl Spread {
         Ok(())
     }
 
-    /// In how many measures of this index, and of those before it, the entries differ.
+    /// In how many measures of this index, and of those before it, the states differ.
     fn differing(&self, indexes: usize) -> usize {
         let mut count: usize = 0;
         for span in &self.spans {
@@ -61,7 +61,7 @@ impl Spread {
         count
     }
 
-    /// How many of the measures of a place have room in rows.
+    /// How many of the measures of a part have room in rows.
     fn indexes(&self) -> usize {
         for indexes in 1..MEASURES {
             if self.differing(indexes.saturating_add(1)) >= WIDTH {
@@ -71,15 +71,15 @@ impl Spread {
         MEASURES
     }
 
-    /// The measures in which the entries differ, as far as rows have room for them.
+    /// The measures in which the states differ, as far as rows have room for them.
     fn measures(&self, alloc: Global) -> Result<Vec<Measure>, AllocError> {
         let mut measures = Vec::new(alloc);
         let indexes = self.indexes();
         for span in &self.spans {
-            let place = span.limits.place;
+            let number = span.limits.number;
             for index in 0..indexes {
                 if span.differs(index) && measures.len() < WIDTH - 1 {
-                    measures.push(Measure { place, index })?;
+                    measures.push(Measure { number, index })?;
                 }
             }
         }
@@ -101,30 +101,30 @@ impl Rows {
         Ok(Rows {
             common,
             measures,
-            places: Vec::with_capacity(alloc, spread.count)?,
+            positions: Vec::with_capacity(alloc, spread.count)?,
             words: Vec::with_capacity(alloc, words)?,
         })
     }
 
-    /// Adds the row of an entry with these limits.
-    pub fn add(&mut self, place: u32, limits: &[PlaceLimits]) -> Result<(), AllocError> {
+    /// Adds the row of a stored state with these limits.
+    pub fn add(&mut self, position: u32, limits: &[PartLimits]) -> Result<(), AllocError> {
         let mut row = [0; WIDTH];
-        row[0] = !u64::from(place);
+        row[0] = !u64::from(position);
         put_measured(&mut row, &self.measures, limits);
         let width = self.measures.len().saturating_add(1);
         self.words
             .extend_from_slice(row.get(..width).unwrap_or(&[]))?;
-        self.places.push(place)?;
+        self.positions.push(position)?;
         Ok(())
     }
 }
 
 /// Puts the measures of limits into a row, after its first word.
-pub fn put_measured(row: &mut [u64; WIDTH], measures: &[Measure], limits: &[PlaceLimits]) {
+pub fn put_measured(row: &mut [u64; WIDTH], measures: &[Measure], limits: &[PartLimits]) {
     let mut rest = limits;
     let mut column: usize = 1;
     for measure in measures {
-        rest = from_place(rest, measure.place);
+        rest = from_part(rest, measure.number);
         if let Some(word) = row.get_mut(column) {
             *word = measured(rest, *measure);
         }

@@ -15,23 +15,23 @@ use std::alloc::{AllocError, Global};
 #[derive(Clone, Copy, Drop)]
 struct Known {
     /// Registers come first, then slots.
-    place: u64,
+    number: u64,
     /// The bits that are not known.
     unknown: u64,
 }
 
-/// The numbers in the innermost frame of a state, in the order of their places.
+/// The numbers in the innermost frame of a state, in the order of their parts.
 #[derive(Drop)]
 pub struct Shape {
     numbers: Vec<Known>,
 }
 
-/// The place and the number of a part, if it is known to be one.
+/// The number of a part, and what it is known to hold, if it is known to be one.
 fn number_in(part: &Part) -> Option<(u64, &Scalar)> {
     match part {
-        Part::InRegister(place, Kind::Number(numbers)) => Some((u64::from(*place), numbers)),
-        Part::InSlot(place, Slot::Spilled(Kind::Number(numbers))) => {
-            Some((16 + u64::from(*place), numbers))
+        Part::InRegister(number, Kind::Number(numbers)) => Some((u64::from(*number), numbers)),
+        Part::InSlot(number, Slot::Spilled(Kind::Number(numbers))) => {
+            Some((16 + u64::from(*number), numbers))
         }
         _ => None,
     }
@@ -49,9 +49,9 @@ impl Shape {
     pub fn of(alloc: Global, key: &Key) -> Result<Self, AllocError> {
         let mut known = Vec::new(alloc);
         for part in &key.parts {
-            if let Some((place, numbers)) = number_in(part) {
+            if let Some((number, numbers)) = number_in(part) {
                 let unknown = numbers.bits.mask;
-                known.push(Known { place, unknown })?;
+                known.push(Known { number, unknown })?;
             }
         }
         Ok(Shape { numbers: known })
@@ -68,11 +68,11 @@ impl Shape {
     pub fn is_of(&self, key: &Key) -> bool {
         let mut rest = self.numbers.as_slice();
         for part in &key.parts {
-            if let Some((place, numbers)) = number_in(part) {
+            if let Some((number, numbers)) = number_in(part) {
                 let [first, others @ ..] = rest else {
                     return false;
                 };
-                if first.place != place || first.unknown != numbers.bits.mask {
+                if first.number != number || first.unknown != numbers.bits.mask {
                     return false;
                 }
                 rest = others;
@@ -90,8 +90,8 @@ impl Shape {
             let [first, others @ ..] = rest else {
                 return Some(print);
             };
-            if let Some((place, numbers)) = number_in(part) {
-                if first.place == place {
+            if let Some((number, numbers)) = number_in(part) {
+                if first.number == number {
                     if numbers.bits.mask & !first.unknown != 0 {
                         return None;
                     }

@@ -1,34 +1,34 @@
-//! Sets of trees: each has the trees of the finished entries of one shape in which the same is
+//! Sets of trees: each has the trees of the finished states of one shape in which the same is
 //! known.
 //!
-//! A set is made where many entries were scanned in vain.
+//! A set is made where many states were scanned in vain.
 
 use crate::buckets::bucket_of;
 use crate::trees::Tree;
 use std::alloc::{AllocError, Global};
 use std::mem;
 
-/// Entries scanned one by one before they are put into a tree.
+/// Stored states scanned one by one before they are put into a tree.
 pub const LONG_SCAN: usize = 32;
 
-/// How often the entries without a tree are scanned before they are put into one.
+/// How often the states without a tree are scanned before they are put into one.
 const SCANS: usize = 16;
 
 /// How many buckets of sets there are at first.
 const BUCKETS: usize = 16;
 
-/// The trees of the finished entries of a shape in which the same is known.
+/// The trees of the finished states of a shape in which the same is known.
 #[derive(Drop)]
 struct TreeSet {
     known: u64,
     /// The next one of its bucket.
     next: Option<u32>,
-    /// The larger trees first. While there are no trees, the entries are in a bucket of the index.
+    /// The larger trees first. While there are no trees, the states are in a bucket of the index.
     trees: Vec<Tree>,
-    /// The entries that are in no tree yet, once there is one, and how many they are.
+    /// The states that are in no tree yet, once there is one, and how many they are.
     unplaced: Option<u32>,
     unplaced_count: usize,
-    /// How many entries were scanned since the last tree was made.
+    /// How many states were scanned since the last tree was made.
     scanned: usize,
 }
 
@@ -55,23 +55,23 @@ impl TreeSets {
     fn find(&self, known: u64) -> Option<usize> {
         let mut next = self.buckets.get(bucket_of(known, self.buckets.len()))?;
         for _tried in 0..self.sets.len() {
-            let place = (*next)? as usize;
-            let set = self.sets.get(place)?;
+            let position = (*next)? as usize;
+            let set = self.sets.get(position)?;
             if set.known == known {
-                return Some(place);
+                return Some(position);
             }
             next = &set.next;
         }
         None
     }
 
-    /// The trees of what is known, and the entries that are in none of them.
+    /// The trees of what is known, and the states that are in none of them.
     pub fn trees(&self, known: u64) -> (&[Tree], Option<u32>) {
         if self.sets.is_empty() {
             return (&[], None);
         }
         match self.find(known) {
-            Some(place) => match self.sets.get(place) {
+            Some(position) => match self.sets.get(position) {
                 Some(set) => (&set.trees, set.unplaced),
                 None => (&[], None),
             },
@@ -79,9 +79,9 @@ impl TreeSets {
         }
     }
 
-    /// Adds a finished entry with these known bits to its set, if that has trees; returns the
-    /// unplaced entry after it.
-    pub fn add_unplaced(&mut self, known: u64, place: usize) -> Option<Option<u32>> {
+    /// Adds a finished stored state with these known bits to its set, if that has trees; returns
+    /// the unplaced stored state after it.
+    pub fn add_unplaced(&mut self, known: u64, position: usize) -> Option<Option<u32>> {
         if self.sets.is_empty() {
             return None;
         }
@@ -91,10 +91,10 @@ impl TreeSets {
             return None;
         }
         set.unplaced_count = set.unplaced_count.saturating_add(1);
-        Some(mem::replace(&mut set.unplaced, u32::try_from(place).ok()))
+        Some(mem::replace(&mut set.unplaced, u32::try_from(position).ok()))
     }
 
-    /// Notes that entries were scanned, and returns whether a tree is to be made.
+    /// Notes that states were scanned, and returns whether a tree is to be made.
     pub fn note_scan(
         &mut self,
         alloc: Global,
@@ -152,9 +152,9 @@ impl TreeSets {
         Ok(())
     }
 
-    /// Merges entries with these known bits with those of the smallest trees, three trees at a
+    /// Merges states with these known bits with those of the smallest trees, three trees at a
     /// time, while these are not much larger; returns how many trees are left.
-    pub fn gather(&self, known: u64, places: &mut Vec<u32>) -> Result<usize, AllocError> {
+    pub fn gather(&self, known: u64, positions: &mut Vec<u32>) -> Result<usize, AllocError> {
         let (trees, _) = self.trees(known);
         let mut left = trees.len();
         for _group in 0..trees.len() {
@@ -163,18 +163,18 @@ impl TreeSets {
             };
             let group = trees.get(start..left).unwrap_or(&[]);
             match group.first() {
-                Some(tree) if tree.places().len() / 2 <= places.len() => {}
+                Some(tree) if tree.positions().len() / 2 <= positions.len() => {}
                 _ => break,
             }
             for tree in group {
-                places.extend_from_slice(tree.places())?;
+                positions.extend_from_slice(tree.positions())?;
             }
             left = start;
         }
         Ok(left)
     }
 
-    /// Puts a tree after the first `left` of the others: no entry is without one then.
+    /// Puts a tree after the first `left` of the others: no stored state is without one then.
     pub fn add_tree(&mut self, known: u64, left: usize, tree: Tree) -> Result<(), AllocError> {
         let Some(number) = self.find(known) else {
             return Ok(());

@@ -3,7 +3,7 @@
 //! No contract rests on them: they propose states, and `covers` decides.
 
 use crate::efforts::Effort;
-use crate::limits::{Measure, PlaceLimits, may_enclose};
+use crate::limits::{Measure, PartLimits, may_enclose};
 use crate::orders::Order;
 use crate::rows::{Rows, WIDTH, put_measured};
 use std::alloc::{AllocError, Global};
@@ -13,22 +13,22 @@ pub const FAN: usize = 4;
 
 const FAN_BITS: u32 = 2;
 
-/// The words that the rows of entries which cover a state reach.
+/// The words that the rows of states which cover a state reach.
 pub type Sought = [u64; WIDTH];
 
-/// Entries, those with like limits beside one another.
+/// Stored states, those with like limits beside one another.
 ///
-/// A row has a word for the place of an entry, which is greater where it was stored earlier, and
-/// one for each measure in which entries differ. It may cover a state only where each of its words
-/// is at least as great as the state's.
+/// A row has a word for the position of a stored state, which is greater where it was stored
+/// earlier, and one for each measure in which states differ. It may cover a state only where each
+/// of its words is at least as great as the state's.
 #[derive(Drop)]
 pub struct Tree {
-    /// Limits that enclose those of all entries.
-    common: Vec<PlaceLimits>,
+    /// Limits that enclose those of all states.
+    common: Vec<PartLimits>,
     measures: Vec<Measure>,
-    places: Vec<u32>,
-    /// The lowest level has a row for each entry. A row of a higher level has the greatest words of
-    /// the rows that it summarizes.
+    positions: Vec<u32>,
+    /// The lowest level has a row for each stored state. A row of a higher level has the greatest
+    /// words of the rows that it summarizes.
     levels: Vec<Vec<u64>>,
 }
 
@@ -72,7 +72,7 @@ fn level_above(alloc: Global, level: &[u64], width: usize) -> Result<Vec<u64>, A
     Ok(above)
 }
 
-/// The rows of entries, and the levels above them.
+/// The rows of states, and the levels above them.
 fn levels_over(alloc: Global, rows: Vec<u64>, width: usize) -> Result<Vec<Vec<u64>>, AllocError> {
     let mut nodes = rows;
     let mut levels = Vec::new(alloc);
@@ -89,18 +89,18 @@ fn levels_over(alloc: Global, rows: Vec<u64>, width: usize) -> Result<Vec<Vec<u6
 }
 
 impl Tree {
-    /// A tree of the entries that have these rows.
+    /// A tree of the states that have these rows.
     pub fn of(alloc: Global, rows: Rows) -> Result<Self, AllocError> {
         let width = width(&rows.measures);
-        let count = rows.places.len();
+        let count = rows.positions.len();
         let mut order = Order::of(alloc, count)?;
         order.arrange(&rows.words, width);
-        let mut places = Vec::with_capacity(alloc, count)?;
+        let mut positions = Vec::with_capacity(alloc, count)?;
         let mut nodes = Vec::with_capacity(alloc, rows.words.len())?;
-        for place in 0..count {
-            let number = order.number(place).unwrap_or(0);
-            if let Some(place) = rows.places.get(number) {
-                places.push(*place)?;
+        for position in 0..count {
+            let number = order.number(position).unwrap_or(0);
+            if let Some(position) = rows.positions.get(number) {
+                positions.push(*position)?;
                 nodes.extend_from_slice(row(&rows.words, width, number).unwrap_or(&[]))?;
             }
         }
@@ -108,18 +108,18 @@ impl Tree {
         Ok(Tree {
             common: rows.common,
             measures: rows.measures,
-            places,
+            positions,
             levels,
         })
     }
 
-    /// The places of its entries.
-    pub fn places(&self) -> &[u32] {
-        &self.places
+    /// The positions of its states.
+    pub fn positions(&self) -> &[u32] {
+        &self.positions
     }
 
-    /// The words that are sought for a state with these limits, if an entry may cover it.
-    pub fn sought(&self, limits: &[PlaceLimits]) -> Option<Sought> {
+    /// The words that are sought for a state with these limits, if a stored state may cover it.
+    pub fn sought(&self, limits: &[PartLimits]) -> Option<Sought> {
         if !may_enclose(&self.common, limits) {
             return None;
         }
@@ -128,17 +128,17 @@ impl Tree {
         Some(sought)
     }
 
-    /// The place of an entry.
-    pub fn place(&self, number: usize) -> Option<usize> {
-        let place = *self.places.get(number)?;
-        Some(place as usize)
+    /// The position of a stored state.
+    pub fn position(&self, number: usize) -> Option<usize> {
+        let position = *self.positions.get(number)?;
+        Some(position as usize)
     }
 
-    /// The first entry from one on that may cover a state, by the words of its row.
+    /// The first stored state from one on that may cover a state, by the words of its row.
     pub fn next_from(&self, number: usize, sought: &Sought, effort: &mut Effort) -> Option<usize> {
         let mut number = number;
-        for _tried in 0..self.places.len() {
-            if number >= self.places.len() {
+        for _tried in 0..self.positions.len() {
+            if number >= self.positions.len() {
                 return None;
             }
             match self.barred_from(number, sought, effort) {
@@ -149,7 +149,8 @@ impl Tree {
         None
     }
 
-    /// Where a row that begins at the entry does not reach the words, the entry after it.
+    /// Where a row that begins at the stored state does not reach the words, the stored state after
+    /// it.
     fn barred_from(&self, number: usize, sought: &Sought, effort: &mut Effort) -> Option<usize> {
         for level in (0..self.levels.len()).rev() {
             let shift = FAN_BITS.wrapping_mul(u32::try_from(level).unwrap_or(0));

@@ -24,7 +24,7 @@ use Rattle.isa_model.specs.Code.Instructions.{Program}
 use Rattle.isa_model.specs.Code.MapRows.{KeyFits, IsRow}
 use Rattle.isa_model.specs.Machine.States.{reg, content_of, frame_at, new_frame}
 use Rattle.isa_model.specs.Machine.States as Machine
-use Rattle.isa_model.specs.Machine.Memory.{and_then, is_byte, byte_in, index_from, index_at, entry_at, read}
+use Rattle.isa_model.specs.Machine.Memory.{and_then, is_byte, byte_in, index_from, index_at, key_value_at, read}
 use Rattle.isa_model.specs.Machine.MachineStates.{IsState, IsClock, IsCallFrame}
 use Rattle.isa_model.specs.Machine.MapContents.{update_answer, delete_answer}
 use Rattle.isa_model.specs.Machine.MapHelpers.{Helped, map_lookup_elem, map_update_elem, map_delete_elem}
@@ -145,7 +145,7 @@ packet_points s n i z found inside =
 value_points : (p : Program) (s : Machine.State) (m serial n : ℕ) (z : ℤ) → HasBytesAt p s m serial z n → Points s (Ptr (region.MapValue m serial) z) n
 value_points p s m serial n z h =
     let at : BytesArgument = record { region = region.MapValue m serial; offset = z } in
-    let all : List ℕ = (entry_at (content_of s m) h.place).1.bytes in
+    let all : List ℕ = (key_value_at (content_of s m) h.place).1.bytes in
     let long : length (map Byte all) ≡ length all = length-map all Byte in
     let inside = h.inside in
     let yes : nat_le (h.index + n) (length (map Byte all)) ≡ true = le-leb (h.index + n) (length (map Byte all)) (omega arith) in

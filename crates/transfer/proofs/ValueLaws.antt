@@ -32,15 +32,15 @@ use Rattle.isa_model.specs.Code.Numbers.{bytes_of, number_from, signed, sign_ext
 use Rattle.isa_model.proofs.LittleEndianLaws.{EachByte-take, EachByte-drop}
 use Rattle.isa_model.proofs.ExtensionLemmas.{sign_extended_fits}
 use Rattle.isa_model.specs.Code.Sizes.{size_bytes, narrow_size, narrow_extension}
-use Rattle.isa_model.specs.Machine.States.{Stored, Content, entries_of, content_of}
+use Rattle.isa_model.specs.Machine.States.{Stored, Content, key_values_of, content_of}
 use Rattle.isa_model.specs.Machine.States as Machine
-use Rattle.isa_model.specs.Machine.Memory.{byte_in, index_from, entry_index, entry_at, put_value, load, load_number, load_signed, store, store_number}
+use Rattle.isa_model.specs.Machine.Memory.{byte_in, index_from, index_of_serial, key_value_at, put_value, load, load_number, load_signed, store, store_number}
 use Rattle.isa_model.specs.Machine.Pointers.{moved_to}
 use Rattle.isa_model.specs.Machine.Steps.{one_serial, value_pointer}
-use Rattle.isa_model.specs.Machine.MachineStates.{AreBytes, IsEntry, keys_of, value_serials, IsState}
+use Rattle.isa_model.specs.Machine.MachineStates.{AreBytes, IsKeyValue, keys_of, value_serials, IsState}
 use Rattle.isa_model.proofs.AccessLaws.{store_number_keeps}
 use Rattle.isa_model.proofs.ByteCells.{number_in-Byte, value_in-Byte, take-drop-Byte}
-use Rattle.isa_model.proofs.HelperLaws.{content_fits, has_entry, row_within}
+use Rattle.isa_model.proofs.HelperLaws.{content_fits, has_value, row_within}
 use Rattle.isa_model.proofs.StateLaws.{put_value_serials}
 use Rattle.isa_model.proofs.ValueLaws.{slice_index_fits}
 use Rattle.reg_state.specs.declared.scalars.Scalar.{Scalar}
@@ -75,15 +75,15 @@ first_there p xs k d within passes =
     ]
 
 -- the key of a live value is found by its serial
-live_entry : (content : Content) (n : ℕ) → Contains (value_serials content) n
-    → (j : ℕ) × (j < length content) × (entry_index content n ≡ Some j)
-live_entry content n live =
+live_key_value : (content : Content) (n : ℕ) → Contains (value_serials content) n
+    → (j : ℕ) × (j < length content) × (index_of_serial content n ≡ Some j)
+live_key_value content n live =
     let none : List ℕ × Stored = ([], record { serial = 0; bytes = [] }) in
     let there = at_from_Contains (value_serials content) n live in
     let long = length-map content (λ e. e.1.serial) in
     let within = there.1 in
-    let serial : (entry_at content there.0).1.serial ≡ n = sym (get_or-map_default (λ e. e.1.serial) content there.0 none) ∙ there.2 0 in
-    let passes : ((entry_at content there.0).1.serial == n) ≡ true = grind (arith, nat_tests) in
+    let serial : (key_value_at content there.0).1.serial ≡ n = sym (get_or-map_default (λ e. e.1.serial) content there.0 none) ∙ there.2 0 in
+    let passes : ((key_value_at content there.0).1.serial == n) ≡ true = grind (arith, nat_tests) in
     let j : ℕ = position_or_len (λ e. e.1.serial == n) content in
     let first : j < length content = first_there (λ e. e.1.serial == n) content there.0 none (omega arith) passes in
     let yes : nat_lt j (length content) ≡ true = grind (arith, nat_tests) in
@@ -91,25 +91,25 @@ live_entry content n live =
 
 -- the place of a live value in its map's content, and its bytes
 pub record IsLiveValue (p : Program) (s : Machine.State) (m n : ℕ) (place : ℕ) : Type 0 where
-  pub found : entry_index (content_of s m) n ≡ Some place
-  pub size : length (entry_at (content_of s m) place).1.bytes ≡ value_size (slice_get p.maps m)
-  pub bytes : AreBytes (entry_at (content_of s m) place).1.bytes
+  pub found : index_of_serial (content_of s m) n ≡ Some place
+  pub size : length (key_value_at (content_of s m) place).1.bytes ≡ value_size (slice_get p.maps m)
+  pub bytes : AreBytes (key_value_at (content_of s m) place).1.bytes
 
-entry_there : (p : Program) (s : Machine.State) (m n j : ℕ) (row : MapDef) → slice_get p.maps m ≡ Some row → IsState p s
-    → j < length (content_of s m) → IsEntry row ((entry_at (content_of s m) j).0, (entry_at (content_of s m) j).1.bytes)
-entry_there p s m n j row here is within =
+key_value_there : (p : Program) (s : Machine.State) (m n j : ℕ) (row : MapDef) → slice_get p.maps m ≡ Some row → IsState p s
+    → j < length (content_of s m) → IsKeyValue row ((key_value_at (content_of s m) j).0, (key_value_at (content_of s m) j).1.bytes)
+key_value_there p s m n j row here is within =
     let content : Content = content_of s m in
     let none : List ℕ × Stored = ([], record { serial = 0; bytes = [] }) in
     let long = length-map {B = List ℕ × List ℕ} content (λ e. (e.0, e.1.bytes)) in
-    subst (IsEntry row) (get_or-map_default (λ e. (e.0, e.1.bytes)) content j none)
-    (All-get_or (IsEntry row) (entries_of content) j ([], []) (omega arith) (content_fits p s m row here is).entries)
+    subst (IsKeyValue row) (get_or-map_default (λ e. (e.0, e.1.bytes)) content j none)
+    (All-get_or (IsKeyValue row) (key_values_of content) j ([], []) (omega arith) (content_fits p s m row here is).entries)
 
 live_value : (p : Program) (s : Machine.State) (m n : ℕ) (o : Option MapDef) → slice_get p.maps m ≡ o → IsState p s → HasLiveValue s.maps m n
     → 0 < value_size o → (j : ℕ) × IsLiveValue p s m n j
 live_value p s m n None here is live some = absurd (omega arith)
 live_value p s m n (Some row) here is live some =
-    let (j, within, found) = live_entry (content_of s m) n live in
-    let entry = entry_there p s m n j row here is within in
+    let (j, within, found) = live_key_value (content_of s m) n live in
+    let entry = key_value_there p s m n j row here is within in
     (j, record { found = found; size = entry.value_size ∙ ap value_size (sym here); bytes = entry.value })
 
 -- ---- places
@@ -134,7 +134,7 @@ pub record HasBytesAt (p : Program) (s : Machine.State) (m n : ℕ) (z : ℤ) (b
   pub live : IsLiveValue p s m n place
   pub index : ℕ
   pub found : index_from z ≡ Some index
-  pub inside : index + bytes ≤ length (entry_at (content_of s m) place).1.bytes
+  pub inside : index + bytes ≤ length (key_value_at (content_of s m) place).1.bytes
 
 -- some bytes that are known to be in a value are there
 pub at_value : (p : Program) (e : Assigned) (a : State) (s : Machine.State) (m : ℕ) (least greatest by : ℤ) (v : Value) (bytes : ℕ) → 0 < bytes
@@ -151,12 +151,12 @@ at_value p e a s m least greatest by v bytes some means h inside =
 -- ---- loads
 
 abbrev bytes_from : Machine.State → ℕ → ℕ → ℕ → ℕ → List ℕ
-bytes_from s m j i n = take n (drop i (entry_at (content_of s m) j).1.bytes)
+bytes_from s m j i n = take n (drop i (key_value_at (content_of s m) j).1.bytes)
 
 value_number : (p : Program) (s : Machine.State) (size : Size) (m n : ℕ) (z by : ℤ) (h : HasBytesAt p s m n (z +ℤ by) (size_bytes size))
     → load_number s size (Ptr (region.MapValue m n) z) by ≡ Ok (number_from (bytes_from s m h.place h.index (size_bytes size)))
 value_number p s size m n z by h =
-    let bytes : List ℕ = (entry_at (content_of s m) h.place).1.bytes in
+    let bytes : List ℕ = (key_value_at (content_of s m) h.place).1.bytes in
     let long : length (map Byte bytes) ≡ length bytes = length-map bytes Byte in
     let inside = h.inside in
     let yes : nat_le (h.index + size_bytes size) (length (map Byte bytes)) ≡ true =
@@ -167,7 +167,7 @@ value_number p s size m n z by h =
 value_whole : (p : Program) (s : Machine.State) (m n : ℕ) (z by : ℤ) (h : HasBytesAt p s m n (z +ℤ by) 8)
     → load s U64 (Ptr (region.MapValue m n) z) by ≡ Ok (Num (number_from (bytes_from s m h.place h.index 8)))
 value_whole p s m n z by h =
-    let bytes : List ℕ = (entry_at (content_of s m) h.place).1.bytes in
+    let bytes : List ℕ = (key_value_at (content_of s m) h.place).1.bytes in
     let long : length (map Byte bytes) ≡ length bytes = length-map bytes Byte in
     let inside = h.inside in
     let yes : nat_le (h.index + 8) (length (map Byte bytes)) ≡ true = le-leb (h.index + 8) (length (map Byte bytes)) (omega arith) in
@@ -184,7 +184,7 @@ value_load p s U32 m n z by h = rw (value_number p s U32 m n z by h)
 value_number_below : (p : Program) (s : Machine.State) (size : Size) (m n : ℕ) (z : ℤ) (h : HasBytesAt p s m n z (size_bytes size))
     → number_from (bytes_from s m h.place h.index (size_bytes size)) < 2 ^ (8 * size_bytes size)
 value_number_below p s size m n z h =
-    let bytes : List ℕ = (entry_at (content_of s m) h.place).1.bytes in
+    let bytes : List ℕ = (key_value_at (content_of s m) h.place).1.bytes in
     let inside = h.inside in
     let dropped : length (drop h.index bytes) ≡ length bytes - h.index = length-drop h.index bytes in
     let long : length (bytes_from s m h.place h.index (size_bytes size)) ≡ size_bytes size =
@@ -235,7 +235,7 @@ pub value_stored : (p : Program) (e : Assigned) (a : State) (s : Machine.State) 
 value_stored p e a s size m least greatest by x v means inside allowed =
     let h = at_value p e a s m least greatest by v (size_bytes size) (some_bytes size) means allowed inside in
     let n : ℕ = allowed.serial in
-    let bytes : List ℕ = (entry_at (content_of s m) h.place).1.bytes in
+    let bytes : List ℕ = (key_value_at (content_of s m) h.place).1.bytes in
     let new : List Cell = map Byte (bytes_of size x) in
     let count : length new ≡ size_bytes size = length-map (bytes_of size x) Byte ∙ length-bytes_of size x in
     let long : length (map Byte bytes) ≡ length bytes = length-map bytes Byte in
@@ -319,9 +319,9 @@ one_live p s m offset None here names is = absurd names
 one_live p s m offset (Some row) here names is =
     let content : Content = content_of s m in
     let fits = content_fits p s m row here is in
-    let some = has_entry row.kind row.entries (keys_of (entries_of content)) names.array names.one fits.keys in
+    let some = has_value row.kind row.entries (keys_of (key_values_of content)) names.array names.one fits.keys in
     let long = length-map {B = List ℕ × List ℕ} content (λ e. (e.0, e.1.bytes)) in
-    let keyed = length-map (entries_of content) (λ e. e.0) in
+    let keyed = length-map (key_values_of content) (λ e. e.0) in
     first_live content (omega arith)
 
 -- the value of an array's one key is live

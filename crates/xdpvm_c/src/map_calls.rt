@@ -3,7 +3,7 @@
 ghost use Rattle.std.specs.Prelude.{◌≡◌, ◌≢◌, ◌↔◌, length, None, Some};
 ghost use Rattle.std.specs.List.{slice_get};
 ghost use Rattle.isa_model.specs.Machine.MapContents.{at_key};
-ghost use Rattle.machine.specs.Entries.{content_at, AnswersUpdate, AnswersDelete, ordered_at};
+ghost use Rattle.machine.specs.BetweenRuns.{content_at, AnswersUpdate, AnswersDelete, ordered_at};
 ghost use Rattle.embedding.specs.Crossing.{IsLookUp, IsChange};
 ghost use Rattle.embedding.specs.Sessions.{HoldsOpen, FitsMap, StaysOpen, FitsKey};
 

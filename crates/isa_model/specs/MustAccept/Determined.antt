@@ -8,7 +8,7 @@ use Rattle.isa_model.specs.declared.instructions.Place.{Place}
 use Rattle.isa_model.specs.declared.instructions.Insn.{Insn}
 use Rattle.isa_model.specs.declared.instructions.Insn.TheVariants.{Load, Store, StoreConstant}
 use Rattle.isa_model.specs.Code.Instructions.{Program, fetch, reads, writes}
-use Rattle.isa_model.specs.Machine.States.{Entries, State}
+use Rattle.isa_model.specs.Machine.States.{KeyValues, State}
 use Rattle.isa_model.specs.Machine.MachineStates.{IsGiven, IsClock}
 use Rattle.isa_model.specs.Running.Runs.{start_state, Reaches, Runs}
 use Rattle.isa_model.specs.Code.Limits.{max_steps, frame_size}
@@ -58,7 +58,7 @@ pub record HasRun (p : Program) (steps : ℕ) : Type 0 where
   pub clock_is : IsClock clock
   pub head : FrameHead
   pub packet : List ℕ
-  pub contents : List Entries
+  pub contents : List KeyValues
   pub given : IsGiven p head packet contents
   pub number : ℕ
   pub runs : Runs p clock (start_state head packet contents) steps number

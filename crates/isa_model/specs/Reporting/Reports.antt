@@ -22,7 +22,7 @@ use Rattle.isa_model.specs.declared.ends.End.{End}
 use Rattle.isa_model.specs.declared.ends.End.TheVariants.{Exit, Trap, Limit}
 use Rattle.isa_model.specs.Reporting.Frames.{action_of}
 use Rattle.isa_model.specs.Code.Instructions.{Program}
-use Rattle.isa_model.specs.Machine.States.{Entries}
+use Rattle.isa_model.specs.Machine.States.{KeyValues}
 use Rattle.isa_model.specs.declared.versions.Version.{Version}
 use Rattle.isa_model.specs.declared.versions.Version.TheVariants.{One, Two}
 use Rattle.isa_model.specs.Code.Versions.{stream_magic}
@@ -168,29 +168,29 @@ skip_pieces form number f =
 
 -- what running a frame on map contents gives
 abbrev pub Rule : Type 0
-Rule = FrameHead → List ℕ → List Entries → Turn
+Rule = FrameHead → List ℕ → List KeyValues → Turn
 
 -- a frame is run unless it has a reason
-abbrev pub turn_on : Rule → List Entries → Frame → Option Turn
+abbrev pub turn_on : Rule → List KeyValues → Frame → Option Turn
 turn_on rule contents f = if f.reason == 0 then Some (rule f.head f.body contents) else None
 
 abbrev pub turn_pieces : ReportForm → ℕ → Frame → Option Turn → List Piece
 turn_pieces form number f (Some t) = frame_pieces form number f t
 turn_pieces form number f None = skip_pieces form number f
 
-abbrev pub contents_left : List Entries → Option Turn → List Entries
+abbrev pub contents_left : List KeyValues → Option Turn → List KeyValues
 contents_left contents (Some t) = t.contents
 contents_left contents None = contents
 
 -- the frames' pieces, the maps' contents carried along
-abbrev pub turns_pieces : ReportForm → Rule → ℕ → List Entries → List Frame → List Piece
+abbrev pub turns_pieces : ReportForm → Rule → ℕ → List KeyValues → List Frame → List Piece
 turns_pieces form rule number contents [] = []
 turns_pieces form rule number contents (f ∷ frames) =
     let t = turn_on rule contents f in
     turn_pieces form number f t
     ++ turns_pieces form rule (number + 1) (contents_left contents t) frames
 
-abbrev pub contents_after : Rule → List Entries → List Frame → List Entries
+abbrev pub contents_after : Rule → List KeyValues → List Frame → List KeyValues
 contents_after rule contents [] = contents
 contents_after rule contents (f ∷ frames) =
     contents_after rule (contents_left contents (turn_on rule contents f)) frames
@@ -198,40 +198,40 @@ contents_after rule contents (f ∷ frames) =
 -- ---- maps
 
 -- an array's value by its index
-abbrev pub entry_by_index : Entries → ℕ → Option (List ℕ × List ℕ)
-entry_by_index es i =
+abbrev pub key_value_by_index : KeyValues → ℕ → Option (List ℕ × List ℕ)
+key_value_by_index es i =
     option_map (λ value. (little_bytes 4 i, value)) (find (slice_cmp nat_cmp) (little_bytes 4 i) es)
 
 -- hash maps in the order of key bytes, arrays by rising index
-abbrev pub in_report_order : MapKind → ℕ → Entries → Entries
+abbrev pub in_report_order : MapKind → ℕ → KeyValues → KeyValues
 in_report_order Hash entries es = es
-in_report_order Array entries es = filter_map (entry_by_index es) (range_with_len 0 entries)
+in_report_order Array entries es = filter_map (key_value_by_index es) (range_with_len 0 entries)
 
-abbrev pub map_pieces : ℕ → MapDef → Entries → List Piece
+abbrev pub map_pieces : ℕ → MapDef → KeyValues → List Piece
 map_pieces index row es =
     map (λ e. ToReport (map_line index e)) (in_report_order row.kind row.entries es)
 
 -- the maps' lines, map by map
-abbrev pub maps_pieces : ℕ → List MapDef → List Entries → List Piece
+abbrev pub maps_pieces : ℕ → List MapDef → List KeyValues → List Piece
 maps_pieces index [] contents = []
 maps_pieces index (row ∷ rows) [] = []
 maps_pieces index (row ∷ rows) (es ∷ contents) =
     map_pieces index row es ++ maps_pieces (index + 1) rows contents
 
 -- an array's values exist from the start, zero-filled; a hash map starts empty
-abbrev pub starting_entries : MapKind → MapDef → Entries
-starting_entries Hash row = []
-starting_entries Array row =
+abbrev pub starting_key_values : MapKind → MapDef → KeyValues
+starting_key_values Hash row = []
+starting_key_values Array row =
     fold (λ es i. put_entry (slice_cmp nat_cmp) (little_bytes 4 i) (replicate row.value_size 0) es)
     [] (range_with_len 0 row.entries)
 
-abbrev pub starting_contents : List MapDef → List Entries
-starting_contents rows = map (λ row. starting_entries row.kind row) rows
+abbrev pub starting_contents : List MapDef → List KeyValues
+starting_contents rows = map (λ row. starting_key_values row.kind row) rows
 
 -- ---- reports
 
 -- the magic, each frame's pieces, the maps' lines, and the last line
-abbrev pub report_of : ℕ → Version → List MapDef → Rule → List Entries → Stream → List Piece
+abbrev pub report_of : ℕ → Version → List MapDef → Rule → List KeyValues → Stream → List Piece
 report_of limit program rows rule contents found =
     let form : ReportForm = record { limit = limit; program = program; stream = found.version } in
     (ToFrames (stream_magic found.version) ∷ turns_pieces form rule 0 contents found.frames)
@@ -259,8 +259,8 @@ turn_by o =
 
 -- a frame without a reason has the pieces of its run's outcome, which leaves the contents;
 -- every other one is skipped
-abbrev pub ReportsFrame : ReportForm → Program → ℕ → List Entries → Frame → Bool → List Piece
-    → List Entries → Type 0
+abbrev pub ReportsFrame : ReportForm → Program → ℕ → List KeyValues → Frame → Bool → List Piece
+    → List KeyValues → Type 0
 ReportsFrame form p number contents f true pieces next =
     (o : Outcome) × HasOutcome p f.head f.body contents (λ k. f.head.time) o
     × (pieces ≡ frame_pieces form number f (turn_by o)) × (next ≡ o.contents)
@@ -268,11 +268,11 @@ ReportsFrame form p number contents f false pieces next =
     (pieces ≡ skip_pieces form number f) × (next ≡ contents)
 
 -- the frames' pieces by the outcomes of their runs, and the contents that the last one leaves
-abbrev pub ReportsFrames : ReportForm → Program → ℕ → List Entries → List Frame → List Piece
-    → List Entries → Type 0
+abbrev pub ReportsFrames : ReportForm → Program → ℕ → List KeyValues → List Frame → List Piece
+    → List KeyValues → Type 0
 ReportsFrames form p number contents [] pieces last = (pieces ≡ []) × (last ≡ contents)
 ReportsFrames form p number contents (f ∷ frames) pieces last =
-    (front : List Piece) × (rest : List Piece) × (next : List Entries)
+    (front : List Piece) × (rest : List Piece) × (next : List KeyValues)
     × ReportsFrame form p number contents f (f.reason == 0) front next
     × (pieces ≡ front ++ rest) × ReportsFrames form p (number + 1) next frames rest last
 
@@ -283,7 +283,7 @@ form_of p found = record { limit = max_steps; program = p.version; stream = foun
 -- the report of a program, and a stream: every run exits
 pub record IsReport (p : Program) (found : Stream) (pieces : List Piece) : Type 0 where
   pub turns : List Piece
-  pub last : List Entries
+  pub last : List KeyValues
   pub frames : ReportsFrames (form_of p found) p 0
       (starting_contents p.maps) found.frames turns last
   pub whole : pieces ≡ (ToFrames (stream_magic found.version) ∷ turns)

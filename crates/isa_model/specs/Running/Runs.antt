@@ -7,22 +7,22 @@ use Rattle.isa_model.specs.declared.frames.FrameHead.{FrameHead}
 use Rattle.isa_model.specs.declared.ends.End.{End}
 use Rattle.isa_model.specs.declared.ends.End.TheVariants.{Exit, Trap, Limit}
 use Rattle.isa_model.specs.Code.Instructions.{Program}
-use Rattle.isa_model.specs.Machine.States.{Content, Entries, entries_of, State, frame_pointer, new_frame}
+use Rattle.isa_model.specs.Machine.States.{Content, KeyValues, key_values_of, State, frame_pointer, new_frame}
 use Rattle.isa_model.specs.Machine.Steps.{StepResult, Next, Finished, Trapped, step}
 
 -- ---- the start
 
 -- the values of a map are numbered by their keys
-abbrev pub numbered : ℕ → Entries → Content
+abbrev pub numbered : ℕ → KeyValues → Content
 numbered n [] = []
 numbered n (e ∷ es) = (e.0, record { serial = n; bytes = e.1 }) ∷ numbered (suc n) es
 
 -- and map by map
-abbrev pub numbered_maps : ℕ → List Entries → List Content
+abbrev pub numbered_maps : ℕ → List KeyValues → List Content
 numbered_maps n [] = []
 numbered_maps n (m ∷ ms) = numbered n m ∷ numbered_maps (n + length m) ms
 
-abbrev pub count_values : List Entries → ℕ
+abbrev pub count_values : List KeyValues → ℕ
 count_values [] = 0
 count_values (m ∷ ms) = length m + count_values ms
 
@@ -34,7 +34,7 @@ start_regs serial =
     ∷ frame_pointer serial ∷ []
 
 -- the values have the serials 0, 1, .. and the first call frame the next one
-unfoldable pub start_state : FrameHead → List ℕ → List Entries → State
+unfoldable pub start_state : FrameHead → List ℕ → List KeyValues → State
 start_state head packet contents =
     record {
       slot = 0;
@@ -86,12 +86,12 @@ Runs p clock s (suc n) a = (t : State) × Reaches p clock s n t × (step p clock
 pub record Outcome : Type 0 where
   pub number : ℕ
   pub packet : List ℕ
-  pub contents : List Entries
+  pub contents : List KeyValues
   pub steps : ℕ
   pub clock_calls : ℕ
 
 -- a run from the start state has this outcome
-pub record HasOutcome (p : Program) (head : FrameHead) (packet : List ℕ) (contents : List Entries)
+pub record HasOutcome (p : Program) (head : FrameHead) (packet : List ℕ) (contents : List KeyValues)
     (clock : ℕ → ℕ) (o : Outcome) : Type 0 where
   pub before : ℕ
   pub last : State
@@ -99,7 +99,7 @@ pub record HasOutcome (p : Program) (head : FrameHead) (packet : List ℕ) (cont
   pub exits : step p clock last ≡ Finished o.number
   pub steps_are : o.steps ≡ suc before
   pub packet_is : o.packet ≡ last.packet
-  pub contents_are : o.contents ≡ map entries_of last.maps
+  pub contents_are : o.contents ≡ map key_values_of last.maps
   pub clock_calls_are : o.clock_calls ≡ last.clock_calls
 
 -- ---- turns
@@ -108,7 +108,7 @@ pub record HasOutcome (p : Program) (head : FrameHead) (packet : List ℕ) (cont
 pub record Turn : Type 0 where
   pub ends : End
   pub packet : List ℕ
-  pub contents : List Entries
+  pub contents : List KeyValues
   pub clock_calls : ℕ
 
 abbrev pub left : End → State → Turn
@@ -116,7 +116,7 @@ left e s =
     record {
       ends = e;
       packet = s.packet;
-      contents = map entries_of s.maps;
+      contents = map key_values_of s.maps;
       clock_calls = s.clock_calls;
     }
 
@@ -125,6 +125,6 @@ turn_of (GoesOn s) = left Limit s
 turn_of (Ended e s) = left e s
 
 -- one run on a packet frame, stopped at the limit
-unfoldable pub turn : Program → ℕ → (ℕ → ℕ) → FrameHead → List ℕ → List Entries → Turn
+unfoldable pub turn : Program → ℕ → (ℕ → ℕ) → FrameHead → List ℕ → List KeyValues → Turn
 turn p limit clock head packet contents =
     turn_of (progress p clock limit (start_state head packet contents))

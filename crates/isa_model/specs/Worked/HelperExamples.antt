@@ -11,25 +11,25 @@ use Rattle.isa_model.specs.declared.ends.End.TheVariants.{Exit, Trap}
 use Rattle.isa_model.specs.declared.ends.TrapReason.TheVariants.{UnsetRead, BadAccess, BadHelper}
 use Rattle.isa_model.specs.Code.Numbers.{alu}
 use Rattle.isa_model.specs.Code.Instructions.{slots}
-use Rattle.isa_model.specs.Machine.States.{Entries, new_frame}
+use Rattle.isa_model.specs.Machine.States.{KeyValues, new_frame}
 use Rattle.isa_model.specs.Machine.Steps.{act, step}
 use Rattle.isa_model.specs.Running.Runs.{start_state, progress, Turn, turn}
 use Rattle.isa_model.specs.Worked.Examples.{head_by, end_on, set, copy, add, above, below, minus}
-use Rattle.isa_model.specs.Worked.MapExamples.{one_entry, one_index, index, value, zero_filled}
+use Rattle.isa_model.specs.Worked.MapExamples.{one_key, one_index, index, value, zero_filled}
 use Rattle.isa_model.specs.declared.versions.Version.TheVariants.{One}
 
 -- a run on a packet frame of no bytes, with one map, and a clock that answers 7, 8, ..
-abbrev pub turn_with : MapDef → Entries → List Insn → Turn
+abbrev pub turn_with : MapDef → KeyValues → List Insn → Turn
 turn_with row content code =
     turn (record { insns = slots code; maps = row ∷ []; version = One }) 100 (λ k. k + 7)
     (head_by 0) [] (content ∷ [])
 
 -- the map's content that it leaves, where it did not ask the clock
-abbrev pub left : End → Entries → Turn
+abbrev pub left : End → KeyValues → Turn
 left e content = record { ends = e; packet = []; contents = content ∷ []; clock_calls = 0 }
 
 -- how it ends
-abbrev pub end_with : MapDef → Entries → List Insn → End
+abbrev pub end_with : MapDef → KeyValues → List Insn → End
 end_with row content code = (turn_with row content code).ends
 
 -- ---- short forms
@@ -85,11 +85,11 @@ updates_past_the_end = refl
 -- ---- hash maps
 
 -- map hash 1 1 2
-abbrev pub two_entries : MapDef
-two_entries = record one_entry { entries = 2 }
+abbrev pub two_key_row : MapDef
+two_key_row = record one_key { entries = 2 }
 
 -- key 9 is put with 7, and key 3 with 7; the keys are in order
-pub two_keys : turn_with two_entries []
+pub two_keys : turn_with two_key_row []
     (put_byte 1 9 ∷ put_byte 2 7 ∷ update_bytes ++ put_byte 1 3 ∷ update_bytes
     ++ set R0 (pos 2) ∷ insn.Exit ∷ [])
     ≡ left (Exit 2 19) ((3 ∷ [], 7 ∷ []) ∷ (9 ∷ [], 7 ∷ []) ∷ [])
@@ -100,7 +100,7 @@ two_keys = refl
 -- r0 = *(u8 *)(r6 + 0); exit
 abbrev pub put_again_after : List Insn → Turn
 put_again_after is =
-    turn_with one_entry []
+    turn_with one_key []
     (put_byte 1 9 ∷ put_byte 2 7 ∷ update_bytes ++ map_and_key 1 ++ lookup ∷ copy R6 R0 ∷ is
     ++ update_bytes
     ++ insn.Load U8 R0 (above R6 0) ∷ insn.Exit ∷ [])
@@ -120,7 +120,7 @@ pointer_to_a_kept_value = refl
 -- *(u8 *)(r10 - 1) = 9; r1 = map_by_idx(0); r2 = r10; r2 += -1; i; r0 += 2; exit
 abbrev pub on_an_absent_key : Insn → End
 on_an_absent_key i =
-    end_with one_entry [] (put_byte 1 9 ∷ map_and_key 1 ++ i ∷ add R0 (pos 2) ∷ insn.Exit ∷ [])
+    end_with one_key [] (put_byte 1 9 ∷ map_and_key 1 ++ i ∷ add R0 (pos 2) ∷ insn.Exit ∷ [])
 
 -- a look-up gives 0, and a delete -2
 pub absent_key : map on_an_absent_key (lookup ∷ delete ∷ [])
@@ -134,7 +134,7 @@ absent_key = refl
 -- exit, and with r3 unset
 pub unset_arguments : end_on (lookup ∷ insn.Exit ∷ []) [] 9
     ∷ end_on (insn.CallHelper (pos 4) ∷ insn.Exit ∷ []) [] 9
-    ∷ end_with one_entry [] (map_and_key 1 ++ set R4 (pos 0) ∷ update ∷ insn.Exit ∷ []) ∷ []
+    ∷ end_with one_key [] (map_and_key 1 ++ set R4 (pos 0) ∷ update ∷ insn.Exit ∷ []) ∷ []
     ≡ Trap UnsetRead 0 ∷ Trap BadHelper 0 ∷ Trap UnsetRead 4 ∷ []
 unfolding turn progress start_state new_frame step act alu
 unset_arguments = refl
@@ -143,7 +143,7 @@ unset_arguments = refl
 -- the byte of the key is at r10 - 1, and that of the value at r10 - 2
 abbrev pub update_by : Insn → Insn → End
 update_by j i =
-    end_with one_entry []
+    end_with one_key []
     (j ∷ map_and_key 1 ++ stack R3 2 ++ set R4 (pos 0) ∷ i ∷ update ∷ insn.Exit ∷ [])
 
 -- the kind of each argument comes before the key, which is unset
@@ -180,7 +180,7 @@ key_of_pieces = refl
 -- r1 to r5 = 1; call 5; r0 = r
 abbrev pub after_ktime : Reg → End
 after_ktime r =
-    end_with one_entry []
+    end_with one_key []
     (map (λ q. set q (pos 1)) (R1 ∷ R2 ∷ R3 ∷ R4 ∷ R5 ∷ R6 ∷ [])
     ++ ktime ∷ copy R0 r ∷ insn.Exit ∷ [])
 
@@ -191,7 +191,7 @@ unfolding turn progress start_state new_frame step act alu
 registers_after_a_helper = refl
 
 -- call 5; call 5; exit: the clock's second answer, and it was asked twice
-pub answers_of_the_clock : turn_with one_entry [] (ktime ∷ ktime ∷ insn.Exit ∷ [])
+pub answers_of_the_clock : turn_with one_key [] (ktime ∷ ktime ∷ insn.Exit ∷ [])
     ≡ record { ends = Exit 8 3; packet = []; contents = [] ∷ []; clock_calls = 2 }
 unfolding turn progress start_state new_frame step act alu
 answers_of_the_clock = refl

@@ -5,7 +5,7 @@ use Rattle.isa_model.specs.declared.map_defs.MapDef.{MapDef}
 use Rattle.isa_model.specs.declared.values.Region.TheVariants as region
 use Rattle.isa_model.specs.declared.values.Value.TheVariants.{Num, Ptr}
 use Rattle.isa_model.specs.declared.values.Cell.TheVariants.{Byte}
-use Rattle.isa_model.specs.Machine.States.{Entries, State, new_frame}
+use Rattle.isa_model.specs.Machine.States.{KeyValues, State, new_frame}
 use Rattle.isa_model.specs.Machine.Memory.{region_cells}
 use Rattle.isa_model.specs.Machine.MapContents.{update_answer, after_update, delete_answer, after_delete}
 use Rattle.isa_model.specs.Machine.MapHelpers.{Helped, map_lookup_elem, map_update_elem, map_delete_elem}
@@ -17,25 +17,25 @@ pub data MapChange : Type 0 where
   Update : List ℕ → List ℕ → ℕ → MapChange
   Delete : List ℕ → MapChange
 
-abbrev pub answer_to : MapDef → Entries → MapChange → ℕ
+abbrev pub answer_to : MapDef → KeyValues → MapChange → ℕ
 answer_to row es (Update key value flags) = update_answer row es key flags
 answer_to row es (Delete key) = delete_answer row es key
 
-abbrev pub content_after : MapDef → Entries → MapChange → Entries
+abbrev pub content_after : MapDef → KeyValues → MapChange → KeyValues
 content_after row es (Update key value flags) = after_update row es key value flags
 content_after row es (Delete key) = after_delete row es key
 
-abbrev pub answers : MapDef → Entries → List MapChange → List ℕ
+abbrev pub answers : MapDef → KeyValues → List MapChange → List ℕ
 answers row es [] = []
 answers row es (c ∷ cs) = answer_to row es c ∷ answers row (content_after row es c) cs
 
-abbrev pub left_by : MapDef → Entries → List MapChange → Entries
+abbrev pub left_by : MapDef → KeyValues → List MapChange → KeyValues
 left_by row es [] = es
 left_by row es (c ∷ cs) = left_by row (content_after row es c) cs
 
 -- map hash 1 1 1
-abbrev pub one_entry : MapDef
-one_entry = record { kind = Hash; key_size = 1; value_size = 1; entries = 1 }
+abbrev pub one_key : MapDef
+one_key = record { kind = Hash; key_size = 1; value_size = 1; entries = 1 }
 
 abbrev pub update_k : ℕ → MapChange
 update_k flags = Update (1 ∷ []) (7 ∷ []) flags
@@ -47,7 +47,7 @@ abbrev pub delete_k : MapChange
 delete_k = Delete (1 ∷ [])
 
 -- two keys on a map with room for one: -2, -2, 0, -17, -7, -2, -22, 0, 0, 0
-pub ten_commands : answers one_entry []
+pub ten_commands : answers one_key []
     (delete_k ∷ update_k 2 ∷ update_k 0 ∷ update_k 1 ∷ update_m 0 ∷ update_m 2 ∷ update_m 3
     ∷ update_k 2 ∷ delete_k ∷ update_m 1 ∷ [])
     ≡ 0xfffffffffffffffe ∷ 0xfffffffffffffffe ∷ 0 ∷ 0xffffffffffffffef ∷ 0xfffffffffffffff9
@@ -56,12 +56,12 @@ ten_commands = refl
 
 -- keys are in the order of their bytes, and the value of a key that is there is
 -- overwritten
-pub entries_in_order : left_by (record one_entry { key_size = 2; entries = 9 }) []
+pub keys_in_order : left_by (record one_key { key_size = 2; entries = 9 }) []
     (Update (1 ∷ 0 ∷ []) (5 ∷ []) 0 ∷ Update (0 ∷ 2 ∷ []) (6 ∷ []) 1
     ∷ Update (0 ∷ 9 ∷ []) (7 ∷ []) 0 ∷ Update (0 ∷ 2 ∷ []) (8 ∷ []) 2 ∷ Delete (0 ∷ 9 ∷ [])
     ∷ [])
     ≡ (0 ∷ 2 ∷ [], 8 ∷ []) ∷ (1 ∷ 0 ∷ [], 5 ∷ []) ∷ []
-entries_in_order = refl
+keys_in_order = refl
 
 -- map array 4 8 1
 abbrev pub one_index : MapDef
@@ -74,7 +74,7 @@ abbrev pub value : ℕ → List ℕ
 value n = replicate 8 n
 
 -- its content at the start
-abbrev pub zero_filled : Entries
+abbrev pub zero_filled : KeyValues
 zero_filled = (index 0, value 0) ∷ []
 
 -- past the end -7, with wrong flags -22 before that; index 0 by flags 0, 1, 2 and 3;
@@ -91,20 +91,20 @@ array_commands = refl
 
 -- at the start of a run on a packet of no bytes, with this content of map 0; its call frame has the
 -- serial 0 or 1
-abbrev pub before : Entries → State
+abbrev pub before : KeyValues → State
 before es = start_state (record { time = 0; interface = 0; queue = 0 }) [] (es ∷ [])
 
 -- key 1 has the value 7, is deleted, and is put again with 8
 abbrev pub found_first : Helped
 found_first =
-    map_lookup_elem (map_update_elem one_entry (before []) 0 (1 ∷ []) (7 ∷ []) 0).state 0 (1 ∷ [])
+    map_lookup_elem (map_update_elem one_key (before []) 0 (1 ∷ []) (7 ∷ []) 0).state 0 (1 ∷ [])
 
 abbrev pub deleted : Helped
-deleted = map_delete_elem one_entry found_first.state 0 (1 ∷ [])
+deleted = map_delete_elem one_key found_first.state 0 (1 ∷ [])
 
 abbrev pub found_again : Helped
 found_again =
-    map_lookup_elem (map_update_elem one_entry deleted.state 0 (1 ∷ []) (8 ∷ []) 0).state 0 (1 ∷ [])
+    map_lookup_elem (map_update_elem one_key deleted.state 0 (1 ∷ []) (8 ∷ []) 0).state 0 (1 ∷ [])
 
 -- a look-up gives a pointer to the value, or 0
 pub look_ups : found_first.answer ∷ (map_lookup_elem deleted.state 0 (1 ∷ [])).answer
@@ -124,14 +124,14 @@ deleted_value_stays_dead = refl
 
 -- a present key keeps its value's serial, and no serial is given
 pub serial_kept_over_an_update : (map_lookup_elem
-    (map_update_elem one_entry found_first.state 0 (1 ∷ []) (9 ∷ []) 2).state 0 (1 ∷ [])).answer
+    (map_update_elem one_key found_first.state 0 (1 ∷ []) (9 ∷ []) 2).state 0 (1 ∷ [])).answer
     ∷ []
     ≡ Ptr (region.MapValue 0 1) (pos 0) ∷ []
 unfolding start_state new_frame
 serial_kept_over_an_update = refl
 
 pub next_serials : (found_first.state).next_serial
-    ∷ (map_update_elem one_entry found_first.state 0 (1 ∷ []) (9 ∷ []) 2).state.next_serial
+    ∷ (map_update_elem one_key found_first.state 0 (1 ∷ []) (9 ∷ []) 2).state.next_serial
     ∷ found_again.state.next_serial ∷ []
     ≡ 2 ∷ 2 ∷ 3 ∷ []
 unfolding start_state new_frame

@@ -18,7 +18,7 @@ use Rattle.isa_model.specs.declared.ends.TrapReason.{TrapReason}
 use Rattle.isa_model.specs.declared.ends.TrapReason.TheVariants.{UnsetRead, BadAccess}
 use Rattle.isa_model.specs.declared.frames.FrameHead.{FrameHead}
 use Rattle.isa_model.specs.Code.Numbers.{alu, holds, sign_extended, reordered}
-use Rattle.isa_model.specs.Machine.States.{State, Entries, entries_of, new_frame}
+use Rattle.isa_model.specs.Machine.States.{State, KeyValues, key_values_of, new_frame}
 use Rattle.isa_model.specs.Machine.Memory.{pieces, value_in, load, load_signed, store}
 use Rattle.isa_model.specs.Machine.Steps.{act, step}
 use Rattle.isa_model.specs.Running.Runs.{start_state, progress, turn}
@@ -285,7 +285,7 @@ accesses_through_a_number = refl
 -- ---- map values
 
 -- two maps: keys 1 and 2 with two bytes each, and key 3 with one
-abbrev pub contents : List Entries
+abbrev pub contents : List KeyValues
 contents = ((1 ∷ [], 0xf0 ∷ 0xe0 ∷ []) ∷ (2 ∷ [], 7 ∷ 9 ∷ []) ∷ []) ∷ ((3 ∷ [], 5 ∷ []) ∷ []) ∷ []
 
 abbrev pub state : State
@@ -313,8 +313,8 @@ unfolding start_state new_frame
 other_value_loads = refl
 
 -- the maps' contents after a store, where there is one
-abbrev pub contents_then : Result State TrapReason → Result (List Entries) TrapReason
-contents_then (Ok s) = Ok (map entries_of s.maps)
+abbrev pub contents_then : Result State TrapReason → Result (List KeyValues) TrapReason
+contents_then (Ok s) = Ok (map key_values_of s.maps)
 contents_then (Err e) = Err e
 
 pub value_store : contents_then (store state U8 (value 0 1 (pos 0)) (pos 1) (Num 0x1ff))

@@ -5,8 +5,8 @@ use Rattle.host.proofs.listings.write_maps.Goals as goal
 pub loop-i-init : goal.loop-i-init
 loop-i-init g c = (no_piece _, refl)
 
-pub write_entries-requires : goal.write_entries-requires
-write_entries-requires g c =
+pub write_key_values-requires : goal.write_key_values-requires
+write_key_values-requires g c =
     let ms = c.args.maps.now in
     let inside : c.loop-i.i < length ms = omega arith in
     rw (c.row-row.ensures, c.order.ensures.entries, c.loop-i.invariant.1) (AreListed-map_at ms c.loop-i.i inside c.count-i-end.ensures.maps)

@@ -5,7 +5,7 @@ use Rattle.maps.specs.Changes.{Writes}
 use Rattle.maps.proofs.UpdateLaws.{room_left, writes_present, writes_absent, content-writes, content-updates}
 use Rattle.maps.proofs.helpers.update.Goals as goal
 
--- the new key's value is written, and its place is below the entries
+-- the new key's value is written, and its place is below the row's limit
 added : (g : _) (c : goal.After-put g)
     → (w : Writes (g.S.MapStore.row_of c.args.store.now).value_size c.args.key.now c.args.value.now
     (g.S.MapStore.places c.args.store.now) (g.S.MapStore.block c.args.store.now)

@@ -4,6 +4,6 @@ use Rattle.stack_state.specs.Slots.{slot_at}
 use Rattle.state_index.proofs.parts.are_blank.Given as goal
 
 -- nothing is known of the slots up to here
-abbrev pub invariant-loop-place : goal.invariant-loop-place
-invariant-loop-place l =
-    (j : ℕ) → 8 * l.block ≤ j → j < 8 * l.block + l.place → slot_at l.slots j ≡ Written 0
+abbrev pub invariant-loop-number : goal.invariant-loop-number
+invariant-loop-number l =
+    (j : ℕ) → 8 * l.block ≤ j → j < 8 * l.block + l.number → slot_at l.slots j ≡ Written 0

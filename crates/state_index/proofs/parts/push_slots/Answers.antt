@@ -2,18 +2,18 @@ use Rattle.std.proofs.Common.{◌≡◌, ℕ, ◌+◌, ◌*◌, ◌++◌, length
 use Rattle.std.proofs.lemmas.List.{append-nil}
 use Rattle.state_index.proofs.PartLaws.{slot_parts-more, slot_parts-all, slot_parts-from, slot_parts-skip_all, slot_parts-blank}
 use Rattle.state_index.proofs.parts.push_slots.Goals as goal
-use Rattle.state_index.proofs.parts.push_slots.Goals.{then-not-are_blank+else-loop-place-test, else-not-are_blank}
+use Rattle.state_index.proofs.parts.push_slots.Goals.{then-not-are_blank+else-loop-number-test, else-not-are_blank}
 
-pub loop-place-preserved : goal.loop-place-preserved
-loop-place-preserved c =
+pub loop-number-preserved : goal.loop-number-preserved
+loop-number-preserved c =
     let b : ℕ = c.loop-block.block in
-    let k : ℕ = c.loop-place.place in
+    let k : ℕ = c.loop-number.number in
     slot_parts-from c.push_slot.new.parts.items _ c.args.slots.now (8 * b + k + 1) (8 * b + (k + 1)) (omega arith)
-    (slot_parts-more c.loop-place.parts.items c.push_slot.new.parts.items _ c.args.slots.now (8 * b + k) c.index-slots-index.result
-    (omega arith) c.in_ok-push_slot.ensures c.loop-place.invariant)
+    (slot_parts-more c.loop-number.parts.items c.push_slot.new.parts.items _ c.args.slots.now (8 * b + k) c.index-slots-index.result
+    (omega arith) c.in_ok-push_slot.ensures c.loop-number.invariant)
 
-pub loop-place-init : goal.loop-place-init
-loop-place-init c =
+pub loop-number-init : goal.loop-number-init
+loop-number-init c =
     let b : ℕ = c.loop-block.block in
     slot_parts-from c.loop-block.parts.items _ c.args.slots.now (8 * b) (8 * b + 0) (omega arith) c.loop-block.invariant
 
@@ -26,10 +26,10 @@ loop-block-preserved c =
     let ts = c.args.slots.now in
     let b : ℕ = c.loop-block.block in
     elim c.if-not-are_blank.branch [
-      | then-not-are_blank+else-loop-place-test w ↦
-          let k : ℕ = w.loop-place.place in
+      | then-not-are_blank+else-loop-number-test w ↦
+          let k : ℕ = w.loop-number.number in
           rw w.parts-is
-          (slot_parts-from w.loop-place.parts.items _ ts (8 * b + k) (8 * (b + 1)) (omega arith) w.loop-place.invariant)
+          (slot_parts-from w.loop-number.parts.items _ ts (8 * b + k) (8 * (b + 1)) (omega arith) w.loop-number.invariant)
       | else-not-are_blank w ↦
           rw w.parts-is
           (slot_parts-from c.loop-block.parts.items _ ts (8 * b + 8) (8 * (b + 1)) (omega arith)

@@ -11,5 +11,5 @@ ArePushed n slots before parts = parts ++ slot_parts n (drop n slots) ≡ before
 abbrev pub invariant-loop-block : goal.invariant-loop-block
 invariant-loop-block l = ArePushed (8 * l.block) l.slots l.fn.parts.items l.parts.items
 
-abbrev pub invariant-loop-place : goal.invariant-loop-place
-invariant-loop-place l = ArePushed (8 * l.block + l.place) l.slots l.fn.parts.items l.parts.items
+abbrev pub invariant-loop-number : goal.invariant-loop-number
+invariant-loop-number l = ArePushed (8 * l.block + l.number) l.slots l.fn.parts.items l.parts.items

@@ -1,6 +1,6 @@
 use Rattle.std.proofs.Common.{◌≡◌, List, subst, ap, ◌∙◌}
 use Rattle.std.specs.Prelude.{IfOk}
-use Rattle.isa_model.specs.Machine.States.{Entries}
+use Rattle.isa_model.specs.Machine.States.{KeyValues}
 use Rattle.maps.specs.Maps.{rows_of, contents_of}
 use Rattle.maps.proofs.MapLaws.{rows_of-starting, contents_of-starting}
 use Rattle.checked_vm.specs.Machines.{LoadedProgram}
@@ -14,6 +14,6 @@ returns c =
     let start = ap contents_of c.in-Ok.ensures ∙ contents_of-starting c.args.image.maps in
     record {
       made =
-          subst (λ (contents : List Entries). IfOk c.with_maps.result (λ (machine : LoadedProgram). machine ≡ record { program = c.args.image; contents = contents }))
+          subst (λ (contents : List KeyValues). IfOk c.with_maps.result (λ (machine : LoadedProgram). machine ≡ record { program = c.args.image; contents = contents }))
           start c.with_maps.ensures.made;
     }

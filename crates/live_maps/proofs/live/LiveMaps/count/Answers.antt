@@ -1,11 +1,11 @@
 use Rattle.std.proofs.Common.{List, length, map, sym, ap, subst, ◌∙◌}
 use Rattle.std.proofs.lemmas.List.{length-map}
-use Rattle.isa_model.specs.Machine.States.{Entries, entries_of}
+use Rattle.isa_model.specs.Machine.States.{KeyValues, key_values_of}
 use Rattle.isa_model.specs.Machine.MachineStates.{FitRows}
 use Rattle.maps.proofs.MapLaws.{FitRows-IsMap}
 use Rattle.maps.specs.Maps.{rows_of}
 use Rattle.live_maps.specs.Live.{Live}
-use Rattle.live_maps.proofs.ContentLaws.{entries_of-live_contents}
+use Rattle.live_maps.proofs.ContentLaws.{key_values_of-live_contents}
 use Rattle.live_maps.proofs.live.LiveMaps.count.Goals as goal
 
 pub returns-clause-count : goal.returns-clause-count
@@ -16,6 +16,6 @@ returns-clause-count c =
 pub returns-clause-fit : goal.returns-clause-fit
 returns-clause-fit c =
     let i = c.self.inside in
-    subst (λ (l : Live). FitRows l.rows (map entries_of l.contents)) c.self.view_is
-    (subst (λ (es : List Entries). FitRows (rows_of i.maps) es) (sym (entries_of-live_contents i.maps i.serials.items c.self.invariant.2.long))
+    subst (λ (l : Live). FitRows l.rows (map key_values_of l.contents)) c.self.view_is
+    (subst (λ (es : List KeyValues). FitRows (rows_of i.maps) es) (sym (key_values_of-live_contents i.maps i.serials.items c.self.invariant.2.long))
     (FitRows-IsMap i.maps c.count.ensures.maps))

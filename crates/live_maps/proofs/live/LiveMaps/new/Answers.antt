@@ -2,7 +2,7 @@ use Rattle.std.proofs.Common.{ℕ, sym, subst, ◌∙◌, arith}
 use Rattle.std.specs.FinMap.{values}
 use Rattle.maps.specs.Maps.{map_at}
 use Rattle.live_maps.specs.Live.{AreLive, serials_at}
-use Rattle.live_maps.proofs.ContentLaws.{entries_of-live_contents}
+use Rattle.live_maps.proofs.ContentLaws.{key_values_of-live_contents}
 use Rattle.live_maps.proofs.NumberingLaws.{AreLive-numbered, OnlyThere-none}
 use Rattle.live_maps.proofs.OrderLaws.{AreOrders-listed}
 use Rattle.live_maps.proofs.live.LiveMaps.new.Goals as goal
@@ -37,5 +37,5 @@ invariant_of-result c =
 
 pub returns-clause-contents : goal.returns-clause-contents
 returns-clause-contents c =
-    entries_of-live_contents c.args.maps (c.number_all-next.new.all.items)
+    key_values_of-live_contents c.args.maps (c.number_all-next.new.all.items)
     c.number_all-next.ensures.numbered.are.long

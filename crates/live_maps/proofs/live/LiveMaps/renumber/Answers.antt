@@ -1,9 +1,9 @@
 use Rattle.std.proofs.Common.{◌≡◌, ◌∙◌, ℕ, List, map, sym, ap, subst}
-use Rattle.isa_model.specs.Machine.States.{Entries, entries_of}
+use Rattle.isa_model.specs.Machine.States.{KeyValues, key_values_of}
 use Rattle.isa_model.specs.Running.Runs.{numbered_maps, count_values}
 use Rattle.maps.specs.Maps.{rows_of, contents_of, map_at}
 use Rattle.live_maps.specs.Live.{Live, AreLive, serials_at}
-use Rattle.live_maps.proofs.ContentLaws.{live_of, entries_of-live_contents}
+use Rattle.live_maps.proofs.ContentLaws.{live_of, key_values_of-live_contents}
 use Rattle.live_maps.proofs.NumberingLaws.{AreLive-numbered, OnlyThere-live, numbered-all}
 use Rattle.live_maps.proofs.live.LiveMaps.renumber.Goals as goal
 
@@ -33,10 +33,10 @@ returns-clause-numbered c =
     let maps = i.maps in
     let all = c.number_all-count.new.all.items in
     let done = c.number_all-count.ensures in
-    let numbered : List Entries → Live = λ es. record { rows = rows_of maps; contents = numbered_maps 0 es; next_serial = count_values es } in
+    let numbered : List KeyValues → Live = λ es. record { rows = rows_of maps; contents = numbered_maps 0 es; next_serial = count_values es } in
     let new : live_of maps all c.number_all-count.result ≡ numbered (contents_of maps) =
     λ j. record { rows = rows_of maps; contents = numbered-all maps all done.numbered.are j; next_serial = done.numbered.counted j } in
-    let plain : contents_of maps ≡ map entries_of (live_of maps i.serials.items i.next).contents =
-    sym (entries_of-live_contents maps i.serials.items c.self.invariant.2.long) in
+    let plain : contents_of maps ≡ map key_values_of (live_of maps i.serials.items i.next).contents =
+    sym (key_values_of-live_contents maps i.serials.items c.self.invariant.2.long) in
     new ∙ ap numbered plain
-    ∙ ap (λ (l : Live). record l { contents = numbered_maps 0 (map entries_of l.contents); next_serial = count_values (map entries_of l.contents) }) c.self.view_is
+    ∙ ap (λ (l : Live). record l { contents = numbered_maps 0 (map key_values_of l.contents); next_serial = count_values (map key_values_of l.contents) }) c.self.view_is

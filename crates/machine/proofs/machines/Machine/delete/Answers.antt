@@ -1,4 +1,4 @@
-use Rattle.machine.proofs.Entries.{keeps_rows, deletes, ready_again}
+use Rattle.machine.proofs.BetweenRunsLaws.{keeps_rows, deletes, ready_again}
 use Rattle.machine.proofs.machines.Machine.delete.Goals as goal
 
 pub invariant_of-self : goal.invariant_of-self

@@ -1,5 +1,5 @@
-use Rattle.machine.specs.Entries.{row_at}
-use Rattle.machine.proofs.Entries.{inside, row_is, value_size_is}
+use Rattle.machine.specs.BetweenRuns.{row_at}
+use Rattle.machine.proofs.BetweenRunsLaws.{inside, row_is, value_size_is}
 use Rattle.machine.proofs.machines.Machine.lookup.Goals as goal
 
 pub returns-clause-size : goal.returns-clause-size

@@ -34,7 +34,7 @@ loop-i-preserved c =
     let row = c.requires i none c.loop-i-test.true in
     let listed : IsListed cap x = record {
       is_row = subst IsRow (sym made.row) row;
-      listed = subst (λ (r : MapDef). r.kind ≡ Hash → r.entries ≤ cap) (sym made.row) (λ e. let m = c.most_entries.ensures.enough i none c.loop-i-test.true e in let o = c.in_ok-list.ensures.capacity in omega arith);
+      listed = subst (λ (r : MapDef). r.kind ≡ Hash → r.entries ≤ cap) (sym made.row) (λ e. let m = c.most_keys.ensures.enough i none c.loop-i-test.true e in let o = c.in_ok-list.ensures.capacity in omega arith);
     } in
     record {
       made = ap (map state) pushed.items ∙ map-append state c.loop-i.stores.items (x ∷ []) ∙ (λ k. inv.made k ++ same k ∷ []) ∙ sym (map_more starting_map rows i none c.loop-i-test.true);
@@ -52,6 +52,6 @@ invariant_of-result c =
     let room = c.in_ok-list.ensures.exact in
     record {
       listed = inv.listed;
-      least = λ n few. let m = c.most_entries.ensures.least n (subst (All (λ (row : MapDef). row.kind ≡ Hash → row.entries ≤ n)) are few) in omega arith;
+      least = λ n few. let m = c.most_keys.ensures.least n (subst (All (λ (row : MapDef). row.kind ≡ Hash → row.entries ≤ n)) are few) in omega arith;
       exact = let r = inv.room in let n = inv.count in let end = c.loop-i-test.false in let within = c.loop-i.auto.i-end in omega arith;
     }

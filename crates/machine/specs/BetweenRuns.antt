@@ -3,7 +3,7 @@
 use Rattle.std.specs.Prelude.{◌≡◌, ℕ, Bool, List, [], Option, Some, None, is_some, slice_set, slice_index_or}
 use Rattle.isa_model.specs.declared.map_defs.MapKind.TheVariants.{Hash}
 use Rattle.isa_model.specs.declared.map_defs.MapDef.{MapDef}
-use Rattle.isa_model.specs.Machine.States.{Entries}
+use Rattle.isa_model.specs.Machine.States.{KeyValues}
 use Rattle.isa_model.specs.Machine.MapContents.{update_answer, delete_answer, after_update, after_delete}
 use Rattle.isa_model.specs.Reporting.Reports.{in_report_order}
 use Rattle.machine.specs.Running.{Running}
@@ -11,15 +11,15 @@ use Rattle.machine.specs.Running.{Running}
 abbrev pub row_at : Running → ℕ → MapDef
 row_at r m = slice_index_or r.program.maps m (record { kind = Hash; key_size = 0; value_size = 0; entries = 0 })
 
-abbrev pub content_at : Running → ℕ → Entries
+abbrev pub content_at : Running → ℕ → KeyValues
 content_at r m = slice_index_or r.contents m []
 
 -- the machine with another content of one map
-abbrev pub with_content : Running → ℕ → Entries → Running
+abbrev pub with_content : Running → ℕ → KeyValues → Running
 with_content r m content = record r { contents = slice_set r.contents m content }
 
 -- the keys and values of a map in the order of the report
-abbrev pub ordered_at : Running → ℕ → Entries
+abbrev pub ordered_at : Running → ℕ → KeyValues
 ordered_at r m = in_report_order (row_at r m).kind (row_at r m).entries (content_at r m)
 
 -- a key or its value, if there is one
@@ -42,7 +42,7 @@ pub record AnswersDelete (m : ℕ) (key : List ℕ) (result : ℕ) (old new : Ru
   pub machine : new ≡ with_content old m (after_delete (row_at old m) (content_at old m) key)
 
 -- a key and its value, if there is one, are copied to where both have room
-pub record CopiesEntry (found : Option (List ℕ × List ℕ)) (answer : Bool) (old_key new_key old_value new_value : List ℕ) : Type 0 where
+pub record CopiesKeyValue (found : Option (List ℕ × List ℕ)) (answer : Bool) (old_key new_key old_value new_value : List ℕ) : Type 0 where
   pub answer_is : answer ≡ is_some found
   pub key_is : new_key ≡ key_or found old_key
   pub value_is : new_value ≡ value_or found old_value

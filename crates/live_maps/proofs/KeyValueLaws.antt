@@ -1,5 +1,5 @@
--- Entries by their places, and the contents that they mean: values found by serial, written, put
--- and removed.
+-- Keys and values by their places, and the contents that they mean: values found by serial,
+-- written, put and removed.
 use Rattle.std.proofs.Common.{◌≡◌, ℕ, suc, ◌+◌, List, [], ◌∷◌, length, Option, Some, None, Bool, true, false, cond, refl, sym, ap, subst, ◌∙◌, arith}
 use Rattle.std.specs.Prelude.{◌≢◌, ◌==◌, T, ◌&&◌, nat_lt, not, All, slice_get, slice_index_or}
 use Rattle.std.specs.List.{position, position_or_len, splice}
@@ -15,7 +15,7 @@ use Rattle.std.proofs.lemmas.Bool.Decides.{nat_tests}
 use Rattle.std.proofs.lemmas.List.Elements.{All-head, All-tail}
 use Rattle.std.proofs.lemmas.Option.{slice_get-get_or}
 use Rattle.isa_model.specs.Machine.States.{Stored}
-use Rattle.isa_model.specs.Machine.Memory.{entry_index, entry_at, put_value}
+use Rattle.isa_model.specs.Machine.Memory.{index_of_serial, key_value_at, put_value}
 use Rattle.isa_model.specs.Machine.MapContents.{key_order, is_key, at_key, with_key, without_key}
 use Rattle.maps.specs.ContentLaws.{changed, find-changed, is_sorted-changed}
 use Rattle.maps.proofs.ContentLaws.{same_contents}
@@ -52,7 +52,7 @@ position-cons t x xs = by (t x)
     by true = ap (λ (c : Bool). cond c (Some 0) None) (zero_less (length xs))
     by false = ap (λ (c : Bool). cond c (Some (1 + m)) None) (suc_less m (length xs)) ∙ option_if (nat_lt m (length xs)) m
 
--- ---- entries, no two of which have one place
+-- ---- keys, no two of which have one place
 
 equal_not_less : (r : Ordering) → is_eq r ≡ true → T (is_lt r) → ⊥
 equal_not_less Less e t = absurd cc
@@ -87,19 +87,19 @@ module _ (P : Places) (apart : (j k : List ℕ) (p : ℕ) → get P j ≡ Some p
       split false b t = absurd t
 
   -- two keys of a map have two places
-  pub entries-apart : AreApart (entries P)
-  entries-apart = apart_in (entries P) (entries_sorted P) (get_at P)
+  pub keys-apart : AreApart (entries P)
+  keys-apart = apart_in (entries P) (entries_sorted P) (get_at P)
 
 -- ---- values by their serials
 
 module _ (f : ℕ → Stored) (n : ℕ) where
   -- a value whose serial is not among them is not found
-  pub entry_index-none : (es : Keyed) → All (λ e. ((f e.1).serial == n) ≡ false) es → entry_index (changed f es) n ≡ None
-  entry_index-none [] all = refl
-  entry_index-none (e ∷ es) all =
+  pub index_of_serial-none : (es : Keyed) → All (λ e. ((f e.1).serial == n) ≡ false) es → index_of_serial (changed f es) n ≡ None
+  index_of_serial-none [] all = refl
+  index_of_serial-none (e ∷ es) all =
       position-cons (λ x. x.1.serial == n) (e.0, f e.1) (changed f es)
-      ∙ ap (λ (b : Bool). cond b (Some 0) (option_map suc (entry_index (changed f es) n))) (All-head (λ e. ((f e.1).serial == n) ≡ false) e es all)
-      ∙ ap (option_map suc) (entry_index-none es (All-tail (λ e. ((f e.1).serial == n) ≡ false) e es all))
+      ∙ ap (λ (b : Bool). cond b (Some 0) (option_map suc (index_of_serial (changed f es) n))) (All-head (λ e. ((f e.1).serial == n) ≡ false) e es all)
+      ∙ ap (option_map suc) (index_of_serial-none es (All-tail (λ e. ((f e.1).serial == n) ≡ false) e es all))
 
   module _ (p : ℕ) (hit : ((f p).serial == n) ≡ true) where
     abbrev Only : Keyed → Type 0
@@ -115,7 +115,7 @@ module _ (f : ℕ → Stored) (n : ℕ) where
     elsewhere e miss same = let h = ap (λ (q : ℕ). (f q).serial == n) same in let g = sym miss ∙ h ∙ hit in absurd cc
 
     after_first : (x : List ℕ × Stored) (xs : List (List ℕ × Stored)) (o : Option ℕ)
-        → option_map (λ j. (entry_at (x ∷ xs) j).1.bytes) (option_map suc o) ≡ option_map (λ j. (entry_at xs j).1.bytes) o
+        → option_map (λ j. (key_value_at (x ∷ xs) j).1.bytes) (option_map suc o) ≡ option_map (λ j. (key_value_at xs j).1.bytes) o
     after_first x xs None = refl
     after_first x xs (Some j) = refl
 
@@ -124,14 +124,14 @@ module _ (f : ℕ → Stored) (n : ℕ) where
         → value_bytes (changed f es) n ≡ Some (f p).bytes
     value_bytes-found key [] only there = absurd cc
     value_bytes-found key (e ∷ es) only there =
-        ap (option_map (λ j. (entry_at (changed f (e ∷ es)) j).1.bytes)) (position-cons (λ x. x.1.serial == n) (e.0, f e.1) (changed f es))
+        ap (option_map (λ j. (key_value_at (changed f (e ∷ es)) j).1.bytes)) (position-cons (λ x. x.1.serial == n) (e.0, f e.1) (changed f es))
         ∙ by ((f e.1).serial == n) refl (value_bytes-found key es (rest_of e es only))
       where
         by : (b : Bool) → ((f e.1).serial == n) ≡ b → (find key_order key es ≡ Some p → value_bytes (changed f es) n ≡ Some (f p).bytes)
-            → option_map (λ j. (entry_at (changed f (e ∷ es)) j).1.bytes) (cond b (Some 0) (option_map suc (entry_index (changed f es) n))) ≡ Some (f p).bytes
+            → option_map (λ j. (key_value_at (changed f (e ∷ es)) j).1.bytes) (cond b (Some 0) (option_map suc (index_of_serial (changed f es) n))) ≡ Some (f p).bytes
         by true h rest = ap (λ (q : ℕ). Some (f q).bytes) (one_of e es only h)
         by false h rest =
-            after_first (e.0, f e.1) (changed f es) (entry_index (changed f es) n)
+            after_first (e.0, f e.1) (changed f es) (index_of_serial (changed f es) n)
             ∙ rest
             (elim (is_key key e.0) as (λ b. cond b (Some e.1) (find key_order key es) ≡ Some p → find key_order key es ≡ Some p) [
               | true ↦ λ g. absurd (elsewhere e h cc)
@@ -155,15 +155,15 @@ module _ (f : ℕ → Stored) (n : ℕ) where
 
       -- bytes written into the value at a place
       pub put_value-changed : (es : Keyed) → Only es → AreApart es
-          → put_value (changed f es) (entry_index (changed f es) n) i bytes ≡ changed f' es
+          → put_value (changed f es) (index_of_serial (changed f es) n) i bytes ≡ changed f' es
       put_value-changed [] only apart = refl
       put_value-changed (e ∷ es) only apart =
           ap (λ (o : Option ℕ). put_value (changed f (e ∷ es)) o i bytes) (position-cons (λ x. x.1.serial == n) (e.0, f e.1) (changed f es))
           ∙ by ((f e.1).serial == n) refl (put_value-changed es (rest_of e es only) apart.1)
         where
           by : (b : Bool) → ((f e.1).serial == n) ≡ b
-              → put_value (changed f es) (entry_index (changed f es) n) i bytes ≡ changed f' es
-              → put_value (changed f (e ∷ es)) (cond b (Some 0) (option_map suc (entry_index (changed f es) n))) i bytes ≡ changed f' (e ∷ es)
+              → put_value (changed f es) (index_of_serial (changed f es) n) i bytes ≡ changed f' es
+              → put_value (changed f (e ∷ es)) (cond b (Some 0) (option_map suc (index_of_serial (changed f es) n))) i bytes ≡ changed f' (e ∷ es)
           by true h tail =
               let at : e.1 ≡ p = one_of e es only h in
               let value : record (f e.1) { bytes = splice (f e.1).bytes i (i + length bytes) bytes } ≡ f' e.1 =
@@ -172,7 +172,7 @@ module _ (f : ℕ → Stored) (n : ℕ) where
               λ i. (e.0, value i) ∷ rest i
           by false h tail =
               let first = others e.1 (elsewhere e h) in
-              put_after (e.0, f e.1) (changed f es) (entry_index (changed f es) n)
+              put_after (e.0, f e.1) (changed f es) (index_of_serial (changed f es) n)
               ∙ (λ i. (e.0, sym first i) ∷ tail i)
 
 -- ---- keys put and removed

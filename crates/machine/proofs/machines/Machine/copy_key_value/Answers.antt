@@ -1,10 +1,10 @@
 use Rattle.std.proofs.Common.{◌∙◌, sym, subst, true}
 use Rattle.std.specs.List.{slice_get}
-use Rattle.isa_model.specs.Machine.States.{Entries}
-use Rattle.maps.specs.Listing.{listed_entries}
-use Rattle.machine.specs.Entries.{row_at, CopiesEntry}
-use Rattle.machine.proofs.Entries.{inside, row_is, ordered_is, sized, found_size, copies}
-use Rattle.machine.proofs.machines.Machine.copy_entry.Goals as goal
+use Rattle.isa_model.specs.Machine.States.{KeyValues}
+use Rattle.maps.specs.Listing.{listed_key_values}
+use Rattle.machine.specs.BetweenRuns.{row_at, CopiesKeyValue}
+use Rattle.machine.proofs.BetweenRunsLaws.{inside, row_is, ordered_is, sized, found_size, copies}
+use Rattle.machine.proofs.machines.Machine.copy_key_value.Goals as goal
 
 pub copy_from_slice-requires-2 : goal.copy_from_slice-requires-2
 copy_from_slice-requires-2 c =
@@ -13,7 +13,7 @@ copy_from_slice-requires-2 c =
     let maps = c.self.inside.memory.maps in
     let rows = c.self.invariant.rows in
     let row = row_at c.args.self.now c.args.map in
-    let es = listed_entries c.order.result in
+    let es = listed_key_values c.order.result in
     let are = sized maps c.say_fits.ensures c.args.map (inside p bound maps rows c.args.self.now c.self.view_is c.args.map c.requires.map) row es
     (row_is p bound maps rows c.args.self.now c.self.view_is c.args.map c.requires.map) c.order.ensures.entries in
     c.requires.value_size ∙ sym (found_size row es c.args.k c.in-Some.found.now are c.in-Some.ensures.value)
@@ -25,10 +25,10 @@ returns-clause-copied c =
     let maps = c.self.inside.memory.maps in
     let rows = c.self.invariant.rows in
     let row = row_at c.args.self.now c.args.map in
-    let es = listed_entries c.order.result in
+    let es = listed_key_values c.order.result in
     let are = sized maps c.say_fits.ensures c.args.map (inside p bound maps rows c.args.self.now c.self.view_is c.args.map c.requires.map) row es
     (row_is p bound maps rows c.args.self.now c.self.view_is c.args.map c.requires.map) c.order.ensures.entries in
-    subst (λ (xs : Entries). CopiesEntry (slice_get xs c.args.k) true c.args.key.now c.copy_from_slice.new.self c.args.value.now c.copy_from_slice-2.new.self)
+    subst (λ (xs : KeyValues). CopiesKeyValue (slice_get xs c.args.k) true c.args.key.now c.copy_from_slice.new.self c.args.value.now c.copy_from_slice-2.new.self)
     (c.order.ensures.entries ∙ ordered_is p bound maps rows c.args.self.now c.self.view_is c.args.map c.requires.map)
     (copies row es c.args.k c.in-Some.found.now are c.in-Some.ensures.value c.entry.new.key _ c.args.key.now c.copy_from_slice.new.self c.args.value.now c.copy_from_slice-2.new.self
     c.requires.key_size c.in-Some.ensures.key c.copy_from_slice.ensures.after c.copy_from_slice-2.ensures.after)

@@ -16,17 +16,17 @@ use Rattle.isa_model.specs.declared.map_defs.MapKind.TheVariants.{Hash, Array}
 use Rattle.isa_model.specs.declared.map_defs.MapDef.{MapDef}
 use Rattle.isa_model.specs.Code.Instructions.{Program}
 use Rattle.isa_model.specs.Code.MapRows.{KeyFits}
-use Rattle.isa_model.specs.Machine.States.{Entries}
+use Rattle.isa_model.specs.Machine.States.{KeyValues}
 use Rattle.isa_model.specs.Machine.MapContents.{key_order, is_key, at_key, update_answer, delete_answer, after_update, after_delete}
-use Rattle.isa_model.specs.Machine.MachineStates.{FitRows, IsEntry}
-use Rattle.isa_model.specs.Reporting.Reports.{entry_by_index, in_report_order}
+use Rattle.isa_model.specs.Machine.MachineStates.{FitRows, IsKeyValue}
+use Rattle.isa_model.specs.Reporting.Reports.{key_value_by_index, in_report_order}
 use Rattle.maps.specs.Maps.{MapState, IsMap, Updated, Deleted, map_at, content_in, ordered_in, rows_of, contents_of}
 use Rattle.maps.specs.ReportOrder.{with_key_of}
 use Rattle.maps.proofs.MapLaws.{FitsRow-IsMap, FitRows-IsMap, contents_of-at, contents_of-set, rows_of-set, length-rows_of}
 use Rattle.word_machine.specs.declared.memory.Memory.{Memory}
 use Rattle.machine.specs.Running.{Running}
 use Rattle.machine.specs.Ready.{IsReady}
-use Rattle.machine.specs.Entries.{row_at, content_at, ordered_at, with_content, key_or, value_or, AnswersUpdate, AnswersDelete, CopiesEntry}
+use Rattle.machine.specs.BetweenRuns.{row_at, content_at, ordered_at, with_content, key_or, value_or, AnswersUpdate, AnswersDelete, CopiesKeyValue}
 
 abbrev no_row : MapDef
 no_row = record { kind = Hash; key_size = 0; value_size = 0; entries = 0 }
@@ -66,11 +66,11 @@ module _ (p : Program) (bound : ℕ) (maps : List MapState) (rows : rows_of maps
     pub keeps_rows : (map_at new m).row ≡ (map_at maps m).row → rows_of new ≡ p.maps
     keeps_rows same = ap rows_of others ∙ rows_of-set maps m (map_at new m) same ∙ rows
 
-    changed : (content : Entries) → content_in (map_at new m) ≡ content → seen p bound new ≡ with_content (seen p bound maps) m content
+    changed : (content : KeyValues) → content_in (map_at new m) ≡ content → seen p bound new ≡ with_content (seen p bound maps) m content
     changed content e =
         let set : contents_of new ≡ slice_set (contents_of maps) m content =
-        ap contents_of others ∙ contents_of-set maps m (map_at new m) ∙ ap (λ (es : Entries). slice_set (contents_of maps) m es) e in
-        ap (λ (cs : List Entries). record { program = p; bound = bound; contents = cs }) set
+        ap contents_of others ∙ contents_of-set maps m (map_at new m) ∙ ap (λ (es : KeyValues). slice_set (contents_of maps) m es) e in
+        ap (λ (cs : List KeyValues). record { program = p; bound = bound; contents = cs }) set
 
     pub updates : (key value : List ℕ) (flags result : ℕ) → Updated key value flags result (map_at maps m) (map_at new m)
         → AnswersUpdate m key value flags result r (seen p bound new)
@@ -117,15 +117,15 @@ ready_again p bound memory new ready rows are = record {
 abbrev pub IsSized : MapDef → List ℕ × List ℕ → Type 0
 IsSized row e = (length e.0 ≡ row.key_size) × (length e.1 ≡ row.value_size)
 
-found : (P : List ℕ → Type 0) (key : List ℕ) (es : Entries) → All (λ e. P e.1) es → IfSome (find key_order key es) P
+found : (P : List ℕ → Type 0) (key : List ℕ) (es : KeyValues) → All (λ e. P e.1) es → IfSome (find key_order key es) P
 found P key [] all = tt
 found P key (x ∷ es) all = elim (is_key key x.0) as (λ b. IfSome (cond b (Some x.1) (find key_order key es)) P) [
   | true ↦ All-head (λ e. P e.1) x es all
   | false ↦ found P key es (All-tail (λ e. P e.1) x es all)
 ]
 
-by_index : (row : MapDef) (es : Entries) (i : ℕ) (e : List ℕ × List ℕ) → row.key_size ≡ 4 → All (λ x. length x.1 ≡ row.value_size) es
-    → entry_by_index es i ≡ Some e → IsSized row e
+by_index : (row : MapDef) (es : KeyValues) (i : ℕ) (e : List ℕ × List ℕ) → row.key_size ≡ 4 → All (λ x. length x.1 ≡ row.value_size) es
+    → key_value_by_index es i ≡ Some e → IsSized row e
 by_index row es i e four all f = elim (find key_order (little_bytes 4 i) es) as (λ o. IfSome o (λ v. length v ≡ row.value_size)
     → option_map (λ value. (little_bytes 4 i, value)) o ≡ Some e → IsSized row e) [
       | None ↦ λ g h. absurd (cc)
@@ -140,11 +140,11 @@ module _ {X Y : Type 0} (P : Y → Type 0) (h : X → Option Y) (each : (x : X) 
     | Some y ↦ λ e. All-cons P y (filter_map h xs) (each x y e) (filtered xs)
   ] refl
 
-sized_by : (kind : MapKind) (row : MapDef) (es : Entries) → KeyFits kind row.key_size → All (IsEntry row) es → All (IsSized row) (in_report_order kind row.entries es)
-sized_by Hash row es k are = All-weaker (IsEntry row) (IsSized row) (λ e m. (m.key_size, m.value_size)) es are
+sized_by : (kind : MapKind) (row : MapDef) (es : KeyValues) → KeyFits kind row.key_size → All (IsKeyValue row) es → All (IsSized row) (in_report_order kind row.entries es)
+sized_by Hash row es k are = All-weaker (IsKeyValue row) (IsSized row) (λ e m. (m.key_size, m.value_size)) es are
 sized_by Array row es k are =
-    let values = All-weaker (IsEntry row) (λ e. length e.1 ≡ row.value_size) (λ e m. m.value_size) es are in
-    filtered (IsSized row) (entry_by_index es) (λ i e f. by_index row es i e k values f) (range_with_len 0 row.entries)
+    let values = All-weaker (IsKeyValue row) (λ e. length e.1 ≡ row.value_size) (λ e m. m.value_size) es are in
+    filtered (IsSized row) (key_value_by_index es) (λ i e f. by_index row es i e k values f) (range_with_len 0 row.entries)
 
 copied_so : (o : Option (Bor (List ℕ))) (P : List ℕ → Type 0) → IfSome (option_copied o) P → IfSome o (λ v. P v.now)
 copied_so None P h = tt
@@ -159,27 +159,27 @@ module _ (maps : List MapState) (are : All IsMap maps) (m : ℕ) (inside : m < l
       → option_copied o ≡ at_key key (content_in (map_at maps m)) → IfSome o (λ v. length v.now ≡ row.value_size)
   value_size_is key row o same is =
       let s = map_at maps m in
-      let sizes = All-weaker (IsEntry s.row) (λ e. length e.1 ≡ s.row.value_size) (λ e h. h.value_size) (content_in s) (FitsRow-IsMap s is_map).entries in
+      let sizes = All-weaker (IsKeyValue s.row) (λ e. length e.1 ≡ s.row.value_size) (λ e h. h.value_size) (content_in s) (FitsRow-IsMap s is_map).entries in
       copied_so o (λ v. length v ≡ row.value_size)
       (subst (λ (x : MapDef). IfSome (option_copied o) (λ v. length v ≡ x.value_size)) same
       (subst (λ (q : Option (List ℕ)). IfSome q (λ v. length v ≡ s.row.value_size)) (sym is)
       (found (λ v. length v ≡ s.row.value_size) key (content_in s) sizes)))
 
   -- so has what is listed
-  pub sized : (row : MapDef) (es : Entries) → (map_at maps m).row ≡ row → es ≡ ordered_in (map_at maps m) → All (IsSized row) es
+  pub sized : (row : MapDef) (es : KeyValues) → (map_at maps m).row ≡ row → es ≡ ordered_in (map_at maps m) → All (IsSized row) es
   sized row es same listed =
       let s = map_at maps m in
       subst (λ (x : MapDef). All (IsSized x) es) same
       (subst (All (IsSized s.row)) (sym listed) (sized_by s.row.kind s.row (content_in s) is_map.is_row.key (FitsRow-IsMap s is_map).entries))
 
-entry_of : (es : Entries) (k : ℕ) (value : List ℕ) → Some value ≡ option_map (λ e. e.1) (slice_get es k)
+entry_of : (es : KeyValues) (k : ℕ) (value : List ℕ) → Some value ≡ option_map (λ e. e.1) (slice_get es k)
     → (e : List ℕ × List ℕ) × (slice_get es k ≡ Some e) × (e.1 ≡ value)
 entry_of [] k value e = absurd (cc)
 entry_of (x ∷ es) zero value e = (x, refl, cc)
 entry_of (x ∷ es) (suc k) value e = entry_of es k value e
 
 -- the key and the value that are found at k are copied
-module _ (row : MapDef) (es : Entries) (k : ℕ) (value : List ℕ) (are : All (IsSized row) es) (is : Some value ≡ option_map (λ e. e.1) (slice_get es k)) where
+module _ (row : MapDef) (es : KeyValues) (k : ℕ) (value : List ℕ) (are : All (IsSized row) es) (is : Some value ≡ option_map (λ e. e.1) (slice_get es k)) where
   sizes_of : (e : List ℕ × List ℕ) → slice_get es k ≡ Some e → IsSized row e
   sizes_of e there =
       subst (IsSized row) (get_or_from_slice_get es k e e there)
@@ -191,7 +191,7 @@ module _ (row : MapDef) (es : Entries) (k : ℕ) (value : List ℕ) (are : All (
       subst (λ (v : List ℕ). length v ≡ row.value_size) same (sizes_of e there).1
 
   pub copies : (front room old_key new_key old_value new_value : List ℕ) → length old_key ≡ row.key_size → front ≡ with_key_of (slice_get es k) room
-      → new_key ≡ take (length old_key) front → new_value ≡ value → CopiesEntry (slice_get es k) true old_key new_key old_value new_value
+      → new_key ≡ take (length old_key) front → new_value ≡ value → CopiesKeyValue (slice_get es k) true old_key new_key old_value new_value
   copies front room old_key new_key old_value new_value size put key_taken value_taken =
       let (e, there, same) = entry_of es k value is in
       record {

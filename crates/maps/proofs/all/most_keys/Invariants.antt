@@ -1,7 +1,7 @@
 use Rattle.std.proofs.Common.{◌≡◌, ℕ, ◌<◌, ◌≤◌, All, slice_index_or}
 use Rattle.isa_model.specs.declared.map_defs.MapKind.TheVariants.{Hash}
 use Rattle.isa_model.specs.declared.map_defs.MapDef.{MapDef}
-use Rattle.maps.proofs.all.most_entries.Given as goal
+use Rattle.maps.proofs.all.most_keys.Given as goal
 
 abbrev pub invariant-loop-row : goal.invariant-loop-row
 invariant-loop-row l = record {

@@ -1,9 +1,0 @@
-use Rattle.std.proofs.Common.{map, take}
-use Rattle.isa_model.specs.Reporting.Reports.{ToReport, map_line}
-use Rattle.maps.specs.Listing.{listed_entries}
-use Rattle.host.proofs.Listing.{WroteReport}
-use Rattle.host.proofs.listings.write_entries.Given as goal
-
-abbrev pub invariant-loop-k : goal.invariant-loop-k
-invariant-loop-k g l =
-    WroteReport (g.W1.Write.contents l.fn.report) (g.W1.Write.contents l.report) (map (λ e. ToReport (map_line l.index e)) (take l.k (listed_entries l.entries)))
