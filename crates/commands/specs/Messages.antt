@@ -3,10 +3,7 @@ use Rattle.std.specs.Prelude.{ℕ, List, [], ◌++◌, Option, Some, None, codes
 use Rattle.isa_model.specs.declared.instructions.Insn.{Insn}
 use Rattle.isa_model.specs.Text.CanonicalText.{line_of}
 use Rattle.image.specs.declared.errors.ImageError.{ImageError}
-use Rattle.insn_codec.specs.declared.errors.CodecError.{CodecError}
-use Rattle.insn_codec.specs.declared.errors.CodecError.TheVariants as codec
-use Rattle.insn_codec.specs.declared.errors.CodecError.TheVariants.{UnknownOpcode, UnknownRegister, UnusedField, UnknownSelector, SecondSlot}
-use Rattle.image.specs.declared.errors.ImageError.TheVariants.{Magic, Short, Long, TooManyMaps, MapRow, SlotCount, MapRoom, Code, UnknownMap, ValuePointer, Memory}
+use Rattle.image.specs.declared.errors.ImageError.TheVariants.{Magic, MapRow, Code, UnknownMap, ValuePointer, Memory}
 use Rattle.image.specs.Messages as image
 use Rattle.walks.specs.Messages as walks
 use Rattle.transfer.specs.Messages as transfer
@@ -45,36 +42,8 @@ text_place line column =
 
 -- ---- what helps
 
--- where bytes are no instruction; where it is known at which one, its line ends first
-abbrev pub codec_cure : CodecError → List ℕ
-codec_cure codec.Short = codes "\nthe file was cut: make it again\n"
-codec_cure UnknownOpcode =
-    codes "\nno instruction begins with this byte; legacy packet loads become loads by a pointer\n"
-codec_cure UnknownRegister = codes "\nregisters are 0 to 10; the second byte has two, 4 bits each\n"
-codec_cure UnusedField =
-    codes "\nset each field to 0 that the form does not use, as src_reg beside a constant\n"
-codec_cure UnknownSelector =
-    codes "\nno form has this offset, imm or src_reg; a call has src_reg 0 or 1\n"
-codec_cure SecondSlot =
-    codes "\na wide load has a second slot: 4 bytes 0, then the upper half, 0 for a map\n"
-
--- where bytes are no image
-abbrev pub image_cure : ImageError → List ℕ
-image_cure Magic = []
-image_cure Short = codes "the file was cut: make it again\n"
-image_cure Long = codes "remove what follows the last slot, or make it again\n"
-image_cure TooManyMaps =
-    codes "join maps with the same sizes of keys and values, or remove unused ones\n"
-image_cure (MapRow index) =
-    codes "\ntype 1 hash, 2 array; keys to 64 bytes, arrays 4; values to 4096, entries to 65536\n"
-image_cure SlotCount =
-    codes "the least program is r0 = 2 and exit; a longer one needs fewer instructions\n"
-image_cure MapRoom = codes "take fewer entries, or smaller values\n"
-image_cure (Code slot error) = codec_cure error
-image_cure (UnknownMap slot) =
-    codes "\nmaps are counted from 0: add the row, or correct the index\n"
-image_cure (ValuePointer slot) = codes "\nlook the value up by helper 1, or correct the offset\n"
-image_cure Memory = []
+abbrev pub cure_line : ImageError → List ℕ
+cure_line error = image.cure_of error ++ codes "\n"
 
 -- where a table is no proof of the program, or an entry of it has no meaning
 abbrev pub anew : List ℕ
@@ -100,16 +69,22 @@ table_place (table.Step index refusal) place = step_place index place ++ (transf
 table_place (table.Successor index) place = step_place index place
 table_place error place = anew
 
+abbrev pub slot_line : ℕ → List ℕ
+slot_line slot = codes "slot " ++ (decimal slot ++ codes "\n")
+
+abbrev pub map_line : ℕ → List ℕ
+map_line index = codes "map " ++ (decimal index ++ codes "\n")
+
 -- an image is refused at a slot, at a map row, or as a whole; for another magic, what the file
 -- looks like, else what helps
 abbrev pub image_place : ImageError → FileForm → List ℕ
 image_place Magic form = form_line form
-image_place (Code slot error) form = codes "slot " ++ (decimal slot ++ codec_cure error)
-image_place (MapRow index) form = codes "map " ++ (decimal index ++ image_cure (MapRow index))
-image_place (UnknownMap slot) form = codes "slot " ++ (decimal slot ++ image_cure (UnknownMap slot))
-image_place (ValuePointer slot) form =
-    codes "slot " ++ (decimal slot ++ image_cure (ValuePointer slot))
-image_place error form = image_cure error
+image_place Memory form = []
+image_place (Code slot error) form = slot_line slot ++ cure_line (Code slot error)
+image_place (MapRow index) form = map_line index ++ cure_line (MapRow index)
+image_place (UnknownMap slot) form = slot_line slot ++ cure_line (UnknownMap slot)
+image_place (ValuePointer slot) form = slot_line slot ++ cure_line (ValuePointer slot)
+image_place error form = cure_line error
 
 abbrev pub place_of : Rejection → List ℕ
 place_of (Image error form) = image_place error form

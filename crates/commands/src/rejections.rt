@@ -5,7 +5,7 @@ ghost use Rattle.std.specs.Io.KnownBytes.{Appends};
 ghost use Rattle.isa_model.specs.Text.CanonicalText as canonical;
 ghost use Rattle.exact_io.specs.Transfers.{AppendsBeginning};
 ghost use Rattle.commands.specs.Forms.{form_line};
-ghost use Rattle.commands.specs.Messages.{sentence_of, codec_cure, image_cure, image_place, insn_place, text_place, place_of, entry_place, anew, entry_anew, step_place, table_place, reason_of};
+ghost use Rattle.commands.specs.Messages.{sentence_of, cure_line, image_place, insn_place, text_place, place_of, entry_place, anew, entry_anew, step_place, table_place, reason_of};
 
 use super::forms::FileForm;
 use super::texts::write_texts;
@@ -14,7 +14,6 @@ use disassembler::write_insn;
 use exact_io::write_bytes;
 use explorer::Refusal;
 use image::ImageError;
-use insn_codec::CodecError;
 use isa_model::Insn;
 use itoa::Buffer;
 use proof_table::WriteTableError;
@@ -22,10 +21,6 @@ use rechecking::TableError;
 use std::io;
 use std::io::Write;
 use table_entries::TableFault;
-
-// What helps where a map row is refused.
-const ROWS: &str =
-    "\ntype 1 hash, 2 array; keys to 64 bytes, arrays 4; values to 4096, entries to 65536\n";
 
 /// What is refused, and why.
 #[derive(Clone, Copy)]
@@ -95,55 +90,36 @@ fn say_form<W: Write>(err: &mut W, form: FileForm) -> io::Result<()>
     write_bytes(err, form.line().as_bytes())
 }
 
-// What helps where bytes are no instruction; the line that says where ends first.
-fn codec_cure(error: CodecError) -> &'static str
-    ensures { result.now ≡ codec_cure error }
-{
-    match error {
-        CodecError::Short => "\nthe file was cut: make it again\n",
-        CodecError::UnknownOpcode => "\nno instruction begins with this byte; \
-             legacy packet loads become loads by a pointer\n",
-        CodecError::UnknownRegister =>
-            "\nregisters are 0 to 10; the second byte has two, 4 bits each\n",
-        CodecError::UnusedField =>
-            "\nset each field to 0 that the form does not use, as src_reg beside a constant\n",
-        CodecError::UnknownSelector =>
-            "\nno form has this offset, imm or src_reg; a call has src_reg 0 or 1\n",
-        CodecError::SecondSlot =>
-            "\na wide load has a second slot: 4 bytes 0, then the upper half, 0 for a map\n",
-    }
-}
-
-// What helps where bytes are no image; the line that says where ends first, if there is one.
-fn image_cure(error: ImageError) -> &'static str
-    ensures { result.now ≡ image_cure error }
-{
-    match error {
-        ImageError::Magic | ImageError::Memory => "",
-        ImageError::Short => "the file was cut: make it again\n",
-        ImageError::Long => "remove what follows the last slot, or make it again\n",
-        ImageError::TooManyMaps =>
-            "join maps with the same sizes of keys and values, or remove unused ones\n",
-        ImageError::MapRow(_) => ROWS,
-        ImageError::SlotCount =>
-            "the least program is r0 = 2 and exit; a longer one needs fewer instructions\n",
-        ImageError::MapRoom => "take fewer entries, or smaller values\n",
-        ImageError::Code(_, error) => codec_cure(error),
-        ImageError::UnknownMap(_) =>
-            "\nmaps are counted from 0: add the row, or correct the index\n",
-        ImageError::ValuePointer(_) => "\nlook the value up by helper 1, or correct the offset\n",
-    }
-}
-
-// Writes the index of a map, and then a text.
-fn say_map<W: Write>(err: &mut W, index: usize, back: &str) -> io::Result<()>
+// Writes what is counted, and its number.
+fn say_number<W: Write>(err: &mut W, word: &str, number: usize) -> io::Result<()>
     ensures ok { OnOk result (Appends (W.contents err.old) (W.contents err.new)
-        (codes "map " ++ (decimal index ++ back.now))) }
+        (word.now ++ (decimal number ++ codes "\n"))) }
     ensures err { OnErr result (AppendsBeginning (W.contents err.old) (W.contents err.new)
-        (codes "map " ++ (decimal index ++ back.now))) }
+        (word.now ++ (decimal number ++ codes "\n"))) }
 {
     let mut buffer = Buffer::new();
-    write_texts(err, "map ", buffer.format(index as u64), back)
+    write_texts(err, word, buffer.format(number as u64), "\n")
+}
+
+// Writes what helps where bytes are no image.
+fn say_cure<W: Write>(err: &mut W, error: ImageError) -> io::Result<()>
+    ensures ok { OnOk result (Appends (W.contents err.old) (W.contents err.new)
+        (cure_line error)) }
+    ensures err { OnErr result (AppendsBeginning (W.contents err.old) (W.contents err.new)
+        (cure_line error)) }
+{
+    write_texts(err, "", error.cure(), "\n")
+}
+
+// Writes what is counted with its number, and what helps.
+fn say_cured<W: Write>(err: &mut W, word: &str, number: usize, error: ImageError) -> io::Result<()>
+    ensures ok { OnOk result (Appends (W.contents err.old) (W.contents err.new)
+        ((word.now ++ (decimal number ++ codes "\n")) ++ cure_line error)) }
+    ensures err { OnErr result (AppendsBeginning (W.contents err.old) (W.contents err.new)
+        ((word.now ++ (decimal number ++ codes "\n")) ++ cure_line error)) }
+{
+    say_number(err, word, number)?;
+    say_cure(err, error)
 }
 
 // Writes where bytes are no image, and what helps.
@@ -153,13 +129,13 @@ fn say_image_place<W: Write>(err: &mut W, error: ImageError, form: FileForm) -> 
     ensures err { OnErr result (AppendsBeginning (W.contents err.old) (W.contents err.new)
         (image_place error form)) }
 {
-    let cure = image_cure(error);
     match error {
         ImageError::Magic => say_form(err, form),
-        ImageError::MapRow(index) => say_map(err, index, cure),
+        ImageError::Memory => Ok(()),
+        ImageError::MapRow(index) => say_cured(err, "map ", index, error),
         ImageError::Code(slot, _) | ImageError::UnknownMap(slot) | ImageError::ValuePointer(slot) =>
-            say_slot(err, slot, cure),
-        _ => write_bytes(err, cure.as_bytes()),
+            say_cured(err, "slot ", slot, error),
+        _ => say_cure(err, error),
     }
 }
 

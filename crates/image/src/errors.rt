@@ -1,7 +1,7 @@
 //! Why bytes are no image.
 
 ghost use Rattle.std.specs.Prelude.{◌≡◌, Some};
-ghost use Rattle.image.specs.Messages.{code_of, sentence_of};
+ghost use Rattle.image.specs.Messages.{code_of, cure_of, sentence_of};
 
 use insn_codec::CodecError;
 use std::alloc::{AllocError, AllocFailed};
@@ -78,6 +78,30 @@ impl ImageError {
             ImageError::UnknownMap(_slot) => "the instruction names a map that has no row",
             ImageError::ValuePointer(_slot) =>
                 "the map is no array of one entry, or the offset is not within its value",
+        }
+    }
+
+    /// What helps, in a line without its end; empty for another magic and for memory.
+    pub fn cure(self) -> &'static str
+        ensures { result.now ≡ cure_of self }
+    {
+        match self {
+            ImageError::Code(_slot, error) => error.cure(),
+            ImageError::Magic => "",
+            ImageError::Short => "the file was cut: make it again",
+            ImageError::Long => "remove what follows the last slot, or make it again",
+            ImageError::TooManyMaps =>
+                "join maps with the same sizes of keys and values, or remove unused ones",
+            ImageError::MapRow(_index) => "type 1 hash, 2 array; keys to 64 bytes, arrays 4; \
+                 values to 4096, entries to 65536",
+            ImageError::SlotCount =>
+                "the least program is r0 = 2 and exit; a longer one needs fewer instructions",
+            ImageError::MapRoom => "take fewer entries, or smaller values",
+            ImageError::Memory => "",
+            ImageError::UnknownMap(_slot) =>
+                "maps are counted from 0: add the row, or correct the index",
+            ImageError::ValuePointer(_slot) =>
+                "look the value up by helper 1, or correct the offset",
         }
     }
 }

@@ -1,7 +1,7 @@
 //! Why bytes are no instruction.
 
 ghost use Rattle.std.specs.Prelude.{◌≡◌, Some};
-ghost use Rattle.insn_codec.specs.Messages.{code_of, sentence_of};
+ghost use Rattle.insn_codec.specs.Messages.{code_of, cure_of, sentence_of};
 
 use std::error::Error;
 use std::fmt;
@@ -51,6 +51,25 @@ impl CodecError {
             CodecError::UnknownSelector => "the selector is unknown",
             CodecError::SecondSlot =>
                 "the second slot of the wide load is missing, or a field that it does not use is not 0",
+        }
+    }
+
+    /// What helps, in a line without its end.
+    pub fn cure(self) -> &'static str
+        ensures { result.now ≡ cure_of self }
+    {
+        match self {
+            CodecError::Short => "the file was cut: make it again",
+            CodecError::UnknownOpcode => "no instruction begins with this byte; \
+                 legacy packet loads become loads by a pointer",
+            CodecError::UnknownRegister =>
+                "registers are 0 to 10; the second byte has two, 4 bits each",
+            CodecError::UnusedField =>
+                "set each field to 0 that the form does not use, as src_reg beside a constant",
+            CodecError::UnknownSelector =>
+                "no form has this offset, imm or src_reg; a call has src_reg 0 or 1",
+            CodecError::SecondSlot =>
+                "a wide load has a second slot: 4 bytes 0, then the upper half, 0 for a map",
         }
     }
 }

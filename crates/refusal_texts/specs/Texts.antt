@@ -6,7 +6,7 @@ use Rattle.isa_model.specs.Code.Instructions.{Program, fetch}
 use Rattle.isa_model.specs.Text.CanonicalText.{line_of}
 use Rattle.insn_codec.specs.Messages as codec
 use Rattle.image.specs.declared.errors.ImageError.{ImageError}
-use Rattle.image.specs.declared.errors.ImageError.TheVariants.{Code, MapRow, UnknownMap, ValuePointer}
+use Rattle.image.specs.declared.errors.ImageError.TheVariants.{Code, Magic, MapRow, UnknownMap, ValuePointer, Memory}
 use Rattle.image.specs.Messages as image
 use Rattle.walks.specs.declared.refusals.Refusal.{Refusal}
 use Rattle.walks.specs.declared.refusals.Refusal.TheVariants as program
@@ -32,14 +32,20 @@ slot_place slot = codes "slot " ++ decimal slot
 abbrev pub map_place : ℕ → List ℕ
 map_place index = codes "map " ++ decimal index
 
--- bytes are no image
-abbrev pub image_text : ImageError → List ℕ
-image_text (Code slot error) =
+-- bytes are no image, without what helps
+abbrev pub image_front : ImageError → List ℕ
+image_front (Code slot error) =
     told_at (image.code_of (Code slot error)) (slot_place slot) (codes " " ++ codec.code_of error) (image.sentence_of (Code slot error))
-image_text (MapRow index) = told_at (image.code_of (MapRow index)) (map_place index) [] (image.sentence_of (MapRow index))
-image_text (UnknownMap slot) = told_at (image.code_of (UnknownMap slot)) (slot_place slot) [] (image.sentence_of (UnknownMap slot))
-image_text (ValuePointer slot) = told_at (image.code_of (ValuePointer slot)) (slot_place slot) [] (image.sentence_of (ValuePointer slot))
-image_text error = codes "refused " ++ (image.code_of error ++ (codes "\n" ++ (image.sentence_of error ++ codes "\n")))
+image_front (MapRow index) = told_at (image.code_of (MapRow index)) (map_place index) [] (image.sentence_of (MapRow index))
+image_front (UnknownMap slot) = told_at (image.code_of (UnknownMap slot)) (slot_place slot) [] (image.sentence_of (UnknownMap slot))
+image_front (ValuePointer slot) = told_at (image.code_of (ValuePointer slot)) (slot_place slot) [] (image.sentence_of (ValuePointer slot))
+image_front error = codes "refused " ++ (image.code_of error ++ (codes "\n" ++ (image.sentence_of error ++ codes "\n")))
+
+-- and with it, but for another magic and for memory
+abbrev pub image_text : ImageError → List ℕ
+image_text Magic = image_front Magic
+image_text Memory = image_front Memory
+image_text error = image_front error ++ (image.cure_of error ++ codes "\n")
 
 -- the place in a text
 abbrev pub text_place : ℕ → ℕ → List ℕ

@@ -4,7 +4,7 @@ ghost use Rattle.std.specs.Prelude.{◌≡◌, ◌++◌, codes, decimal, IfOk, I
 ghost use Rattle.std.specs.Option.{option_copied};
 ghost use Rattle.std.specs.String.{string_bytes};
 ghost use Rattle.explanations.specs.Reasons.{IsReason};
-ghost use Rattle.refusal_texts.specs.Texts.{told_at, slot_place, image_text, text_place, source_text, program_front, insn_end, TellsProgram};
+ghost use Rattle.refusal_texts.specs.Texts.{told_at, slot_place, image_front, image_text, text_place, source_text, program_front, insn_end, TellsProgram};
 
 use assembler::AsmError;
 use disassembler::write_insn;
@@ -61,9 +61,9 @@ pub fn slot_place(alloc: Global, slot: usize) -> Result<String, AllocError>
     format!(in alloc; "slot {slot}")
 }
 
-/// Why bytes are no image, and where.
-pub fn image_text(alloc: Global, error: ImageError) -> Result<String, AllocError>
-    ensures { IfOk result (λ text. string_bytes text ≡ image_text error) }
+// Why bytes are no image, and where.
+fn image_front(alloc: Global, error: ImageError) -> Result<String, AllocError>
+    ensures { IfOk result (λ text. string_bytes text ≡ image_front error) }
 {
     let code = error.code();
     let why = error.sentence();
@@ -77,6 +77,25 @@ pub fn image_text(alloc: Global, error: ImageError) -> Result<String, AllocError
             told_at(alloc, code, "slot ", slot, why)
         }
         _ => told(alloc, code, why),
+    }
+}
+
+/// A text, and a line behind it.
+fn with_line(alloc: Global, text: &str, line: &str) -> Result<String, AllocError>
+    ensures { IfOk result (λ whole. string_bytes whole
+        ≡ text.now ++ (line.now ++ codes "\n")) }
+{
+    format!(in alloc; "{text}{line}\n")
+}
+
+/// Why bytes are no image, where, and what helps: nothing for another magic and for memory.
+pub fn image_text(alloc: Global, error: ImageError) -> Result<String, AllocError>
+    ensures { IfOk result (λ text. string_bytes text ≡ image_text error) }
+{
+    let front = image_front(alloc, error)?;
+    match error {
+        ImageError::Magic | ImageError::Memory => Ok(front),
+        _ => with_line(alloc, front.as_str(), error.cure()),
     }
 }
 
