@@ -268,15 +268,17 @@ def many_slots():
     yield "a loop of 60 tests with 9 numbers and 60 slots", (
         START + spilled(60) + [line for number in range(1, 9) for line in unknown(f"r{number}")] + ["r0 = 0", "loop: r0 += 1"]
         + [f"if r{1 + bit % 8} == r0 goto out" for bit in range(60)] + ["if r0 < 16000 goto loop", "out: r0 = 2", "exit"])
-    yield "a loop of tests that narrow a packet pointer in 8 frames of 60 copies", (
-        ["goto f0"]
-        + [line for level in range(7) for line in
-           [f"f{level}: r9 = r1"] + (PACKET[1:] if level == 0 else ["r6 = r2", "r7 = r3"])
-           + [line for slot in range(60) for line in
-              ["r4 = r6", f"r4 += {slot}", f"*(u64 *)(r10 - {8 * slot + 8}) = r4"]]
-           + ["r1 = r9", "r2 = r6", "r3 = r7", f"call f{level + 1}", "exit"]]
-        + ["f7: r9 = r1", "r8 = 1", "loop: r4 = r2", "r4 += r8", "if r4 > r3 goto out", "r8 += 1", "if r8 < 60000 goto loop",
-           "out: r0 = 2", "exit"])
+    for read, suffix in ((False, ""), (True, " that are read after the calls")):
+        after = [f"r3 = *(u64 *)(r10 - {8 * slot + 8})" for slot in range(60)] if read else []
+        yield f"a loop of tests that narrow a packet pointer in 8 frames of 60 copies{suffix}", (
+            ["goto f0"]
+            + [line for level in range(7) for line in
+               [f"f{level}: r9 = r1"] + (PACKET[1:] if level == 0 else ["r6 = r2", "r7 = r3"])
+               + [line for slot in range(60) for line in
+                  ["r4 = r6", f"r4 += {slot}", f"*(u64 *)(r10 - {8 * slot + 8}) = r4"]]
+               + ["r1 = r9", "r2 = r6", "r3 = r7", f"call f{level + 1}"] + after + ["exit"]]
+            + ["f7: r9 = r1", "r8 = 1", "loop: r4 = r2", "r4 += r8", "if r4 > r3 goto out", "r8 += 1",
+               "if r8 < 60000 goto loop", "out: r0 = 2", "exit"])
 
 
 FAMILIES = [bits, limits, signed_limits, low_halves, stack_slots, frames, identities, null_identities, calls, many_slots]
