@@ -58,13 +58,18 @@ EXCEPTIONS = (
 
 def bare(text, antt):
     """The text without comments and texts, each line in its place."""
-    lines = []
-    for line in text.split("\n"):
-        line = re.sub(r'b?"(?:[^"\\]|\\.)*"', '""', line)
-        line = re.sub(r"--.*" if antt else r"//.*", "", line)
-        if antt and re.match(r"\s*(pub )?use ", line):
-            line = ""
-        lines.append(line)
+    def without(m):
+        part = m[0].removeprefix("b")
+        if part.startswith("'"):
+            return m[0]
+        return '""' + "\n" * part.count("\n") if part.startswith('"') else ""
+
+    # a text may go on in the next line, and may have what looks like a comment
+    comment = "--" if antt else "//"
+    text = re.sub(rf"""b?'(?:[^'\\\n]|\\.)'|b?"(?:[^"\\]|\\.)*"|{comment}[^\n]*""", without, text, flags=re.S)
+    lines = text.split("\n")
+    if antt:
+        lines = ["" if re.match(r"\s*(pub )?use ", line) else line for line in lines]
     return lines
 
 
