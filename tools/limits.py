@@ -45,8 +45,6 @@ FORMS = (
 # file, what the line has, and why the number is none of the limits
 EXCEPTIONS = (
     ("isa_model/specs/Worked/", "", "examples that were worked out by hand have the numbers themselves"),
-    ("checked_vm/src/values.rt", "OFFSET_LIMIT: i128 =", "isa_model/src/limits.rt has no such constant yet"),
-    ("transfer/src/offsets.rt", "OFFSET_LIMIT: i128 =", "isa_model/src/limits.rt has no such constant yet"),
     ("map_indexes/src/arrays.rt", "(index / ", "the third and the fourth byte of a number"),
     ("stack_state/proofs/CellLaws.antt", "div-div-eq-div-mul n ", "the third and the fourth byte of a number"),
     ("word_machine/specs/Addresses.antt", "packet_index address =", "2 ^ 16 addresses lead into the packet"),

@@ -6,10 +6,9 @@ ghost use Rattle.isa_model.specs.Machine.Pointers.{moved_to, pointer_and_number,
 ghost use Rattle.isa_model.specs.Machine.Memory.{and_then};
 
 use isa_model::numbers::{compute, low_word, negate, reorder, sign_extend};
-use isa_model::{AluOp, ByteOrder, Extension, Region, Span, TrapReason, Value, Width};
-
-/// The greatest offset of a pointer, and the least one with its sign changed.
-const OFFSET_LIMIT: i128 = 0x2000_0000;
+use isa_model::{
+    AluOp, ByteOrder, Extension, OFFSET_LIMIT, Region, Span, TrapReason, Value, Width,
+};
 
 /// The pointer at a new offset.
 fn moved_to(region: Region, offset: i128) -> Result<Value, TrapReason>

@@ -29,7 +29,7 @@ pub use instructions::{AluOp, AtomicOp, Comparison, Cond, Insn, Operand, Place};
 pub use jumps::destination;
 pub use limits::{
     FRAME_SIZE, MAX_CALL_FRAMES, MAX_EXPLORED, MAX_KEY_SIZE, MAX_MAP_ENTRIES, MAX_MAP_ROOM,
-    MAX_MAPS, MAX_PACKET, MAX_SHORT_PACKET, MAX_SLOTS, MAX_STEPS, MAX_VALUE_SIZE,
+    MAX_MAPS, MAX_PACKET, MAX_SHORT_PACKET, MAX_SLOTS, MAX_STEPS, MAX_VALUE_SIZE, OFFSET_LIMIT,
 };
 pub use map_defs::{MapDef, MapKind};
 pub use registers::Reg;

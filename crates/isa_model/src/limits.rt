@@ -25,6 +25,10 @@ pub const FRAME_SIZE: usize = 512;
 /// The most live call frames. Linux, `MAX_CALL_FRAMES`.
 pub const MAX_CALL_FRAMES: usize = 8;
 
+/// The greatest offset of a pointer, and the least one with its sign changed. Linux,
+/// `BPF_MAX_VAR_OFF`.
+pub const OFFSET_LIMIT: i128 = 0x2000_0000;
+
 /// The most bytes of a packet, whatever stream it comes from.
 pub const MAX_PACKET: usize = 9216;
 

@@ -37,12 +37,20 @@ impl fmt::Display for MapError {
 impl Error for MapError {}
 
 impl From<AllocError> for MapError {
+    ghost use Rattle.maps.specs.declared.errors.MapError.TheVariants.{Memory};
+
+    ghost from_gives = { λ _ e. e ≡ Memory };
+
     fn from(_error: AllocError) -> MapError {
         MapError::Memory
     }
 }
 
 impl<T: Drop> From<AllocFailed<T>> for MapError {
+    ghost use Rattle.maps.specs.declared.errors.MapError.TheVariants.{Memory};
+
+    ghost from_gives = { λ _ e. e ≡ Memory };
+
     fn from(_error: AllocFailed<T>) -> MapError {
         MapError::Memory
     }

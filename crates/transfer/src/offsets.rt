@@ -4,9 +4,7 @@ ghost use Rattle.std.specs.Prelude.{◌≡◌, ◌+ℤ◌};
 ghost use Rattle.transfer.specs.Packets.{moved_by, IsLimited, AreLimited};
 
 use crate::refusals::Refusal;
-
-/// The greatest offset of a pointer, and the least one with its sign changed.
-pub const OFFSET_LIMIT: i128 = 0x2000_0000;
+use isa_model::OFFSET_LIMIT;
 
 /// The sum of two offsets.
 pub fn sum(left: i32, right: i32) -> i64

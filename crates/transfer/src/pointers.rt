@@ -3,11 +3,10 @@
 ghost use Rattle.std.specs.Prelude.{◌≡◌};
 ghost use Rattle.transfer.specs.Results.{moved_offset, frame_pointer, moved_frame, MovesPointer, PointerAndNumber, NumberAndPointer};
 
-use crate::offsets::OFFSET_LIMIT;
 use crate::packets::{PacketPointer, packet_moved};
 use crate::refusals::Refusal;
 use crate::values::{farthest, nearest, value_moved};
-use isa_model::{AluOp, Width};
+use isa_model::{AluOp, OFFSET_LIMIT, Width};
 use reg_state::{Domain, Kind, Scalar};
 use stack_state::State;
 
