@@ -2,10 +2,10 @@
 //! have to take short reads and writes, and must not try again after a failure.
 #![tactic(auto)]
 
-ghost use Rattle.std.specs.Prelude.{◌≡◌, ◌<◌, ◌≤◌, ◌+◌, [], ◌++◌, length, take, drop, min, None, Some, IfOk, IsErr, OnErr, IfErr, MatchResult};
+ghost use Rattle.std.specs.Prelude.{◌≡◌, ◌≤◌, [], ◌++◌, length, take, drop, min, None, Some, IfOk, IsErr, OnErr, IfErr, MatchResult};
 ghost use Rattle.std.specs.IoError.{error_kind};
 ghost use Rattle.std.specs.Io.{ReadsAtMost, WritesAtMost};
-ghost use Rattle.std.specs.Io.KnownBytes.{Keeps, ReadConsumes, WriteAppends};
+ghost use Rattle.std.specs.Io.KnownBytes.{ReadConsumes, WriteAppends};
 ghost use Rattle.failing_io.specs.Failures.{count_of, room_after};
 
 use std::alloc::Global;
@@ -97,48 +97,6 @@ impl Write for Writer {
 
     fn flush(&mut self) -> io::Result<()> {
         Ok(())
-    }
-}
-
-/// Takes what its writer takes, and counts flushes. If a flush is to fail, it is the first one.
-#[derive(Drop)]
-pub struct FlushedWriter {
-    pub writer: Writer,
-    pub failure: Option<ErrorKind>,
-    pub flushes: u64,
-}
-
-impl Write for FlushedWriter {
-    ghost contents = { λ w. Some w.writer.taken.items };
-
-    fn write(&mut self, buf: &[u8]) -> io::Result<usize>
-        ensures bound { WritesAtMost result buf.now }
-        ensures bytes { WriteAppends (Some self.old.writer.taken.items)
-            (Some self.new.writer.taken.items) result buf.now }
-        ensures failure { self.new.failure ≡ self.old.failure }
-        ensures flushes { self.new.flushes ≡ self.old.flushes }
-    {
-        self.writer.write(buf)
-    }
-
-    fn flush(&mut self) -> io::Result<()>
-        ensures bytes { Keeps (Some self.old.writer.taken.items)
-            (Some self.new.writer.taken.items) }
-        ensures told { MatchResult result (λ _. self.old.failure ≡ None)
-            (λ e. self.old.failure ≡ Some (error_kind e)) }
-        ensures once { self.new.failure ≡ None }
-        ensures writer { self.new.writer ≡ self.old.writer }
-        ensures flushes { self.old.flushes < u64.MAX
-            → self.new.flushes ≡ self.old.flushes + 1 }
-    {
-        self.flushes = self.flushes.saturating_add(1);
-        match self.failure {
-            Some(kind) => {
-                self.failure = None;
-                Err(io::Error::from(kind))
-            }
-            None => Ok(()),
-        }
     }
 }
 
