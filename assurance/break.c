@@ -1,5 +1,6 @@
 /* Stands between the program and the C library, for break.py. BREAK names what is to fail, WHEN which call of that kind,
-   counted from 1, and MARK a file that is made when it happens. Without these the program runs as always. */
+   counted from 1, and MARK a file that is made when it happens, and that gets a byte for each later write to what failed.
+   Without these the program runs as always. */
 #define _GNU_SOURCE
 #include <errno.h>
 #include <fcntl.h>
@@ -26,6 +27,9 @@ static int breaks(const char *kind) {
 /* whether a byte was written, standard error aside */
 static int has_written;
 
+/* the file that a write failed on; -1: none */
+static int failed = -1;
+
 /* whether an allocation is refused: one of them, or one and all after it, "late-allocs" from the first written byte on */
 static int refused(void) {
     static int from_here;
@@ -49,12 +53,24 @@ ssize_t read(int file, void *bytes, size_t count) {
     return syscall(SYS_read, file, bytes, count > 1 && breaks("short-read") ? 1 : count);
 }
 
+/* a file that has failed is written to again, which the mark gets a byte of */
+static void marks_again(void) {
+    int mark = syscall(SYS_openat, AT_FDCWD, getenv("MARK"), O_WRONLY, 0);
+    syscall(SYS_write, mark, "", 1);
+    syscall(SYS_close, mark);
+}
+
 ssize_t write(int file, const void *bytes, size_t count) {
+    if (file == failed) {
+        marks_again();
+    }
     if (breaks("write")) {
+        failed = file;
         errno = ENOSPC;
         return -1;
     }
     if (breaks("no-write")) {
+        failed = file;
         return 0;
     }
     has_written |= file != STDERR_FILENO && count;

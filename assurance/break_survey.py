@@ -3,11 +3,13 @@
 
 usage: python3 assurance/break_survey.py [PROGRAM [FOLDER]]
 
-PROGRAM is xdpvm_survey (the default: crates/xdpvm_survey/out/xdpvm_survey). Where an allocation fails the status is 5 and
-standard error says so, or a row says `memory`; or what is known of a refusal is left out. Where a read fails its file is
-named, with status 4 or more, and where a write fails the output is, or standard error got less. Never does it crash, and
-never is an image accepted that is not. With FOLDER it surveys each image there by itself, once with proof tables, and looks
-into it. It needs a C compiler (CC). The last line is 'N tried, M wrong'. Without FOLDER in the gate.
+PROGRAM is xdpvm_survey (the default: crates/xdpvm_survey/out/xdpvm_survey). Where an allocation
+fails the status is 5 and standard error says so, or a row says `memory`; or what is known of a
+refusal is left out. Where a read fails its file is named, with status 4 or more, and where a write
+fails the output is, or standard error got less; it is not written to again. Never does it crash,
+and never is an image accepted that is not. With FOLDER it surveys each image there by itself, once
+with proof tables, and looks into it. It needs a C compiler (CC). The last line is
+'N tried, M wrong'. Without FOLDER in the gate.
 """
 import os
 import re
@@ -44,6 +46,7 @@ class Answer:
         ran = subprocess.run([program, *words], env=env, stdin=subprocess.DEVNULL, stdout=subprocess.PIPE, stderr=subprocess.PIPE, timeout=60)
         self.status, self.out, self.err = ran.returncode, TIMES.sub(b"T", ran.stdout), ran.stderr
         self.broken = os.path.exists("mark")
+        self.tried_again = self.broken and os.path.getsize("mark") > 0
 
 
 def is_shorter(answer, whole):
@@ -52,6 +55,8 @@ def is_shorter(answer, whole):
 
 
 def is_right(kind, answer, whole):
+    if answer.tried_again:
+        return False
     if (answer.status, answer.out, answer.err) == (whole.status, whole.out, whole.err):
         return True
     if kind == "alloc":
