@@ -8,28 +8,29 @@ use isa_model::Cond;
 use reg_state::{Kind, Scalar};
 use stack_state::{Fact, State};
 
-/// What the test of a conditional jump shows of a state where it comes out in one way.
+/// What a conditional jump shows of a state on one of its two edges: where its test is true, or
+/// where it is false.
 #[derive(Clone, Copy, PartialEq, Eq, Debug)]
 pub enum Outcome {
-    /// No member goes this way.
+    /// No member takes this edge.
     Never,
     /// The test shows nothing.
     Same,
-    /// These numbers are left of the two that are compared.
+    /// The two compared numbers are narrowed to these.
     Narrowed(Scalar, Scalar),
     /// This holds of all values that it is about.
     Learned(Fact),
 }
 
 impl Outcome {
-    /// Whether some member may go this way.
+    /// Whether some member may take this edge.
     pub fn goes(&self) -> bool
         ensures { result ≡ goes self.now }
     {
         !matches!(self, Outcome::Never)
     }
 
-    /// Leaves of a state what goes this way; where nothing does it stays as it is.
+    /// Narrows a state to the members that take this edge; if none does, it stays as it is.
     pub fn put(&self, cond: Cond, state: &mut State)
         requires { MayBePut cond self.now }
         ensures { state.new ≡ left_in cond state.old self.now }

@@ -31,12 +31,12 @@ none_at_all p e n all below k h = let inside = Fails-inside p e k h in below k (
 
 -- ---- tests of a target
 
--- there is a target, and the test is of it
+-- with a target, the test of all targets is the test of this one
 pub at_some : (P Q : ℕ → Type 0) (b : Bool) (x : ℕ) → ((to : ℕ) → (Some x ≡ Some to) ↔ P to) → IsTrue b ↔ Q x → IsTrue b ↔ ((to : ℕ) × P to × Q to)
 at_some P Q b x only test =
     (λ h. (x, (only x).0 refl, test.0 h), λ w. test.1 (subst Q (sym (same_Some x w.0 ((only w.0).1 w.1))) w.2))
 
--- there is none
+-- with no target, no test succeeds
 pub at_none : (P Q : ℕ → Type 0) → ((to : ℕ) → (None ≡ Some to) ↔ P to) → IsTrue false ↔ ((to : ℕ) × P to × Q to)
 at_none P Q only = (λ h. absurd cc, λ w. absurd (none-some w.0 ((only w.0).1 w.1)))
 
@@ -89,7 +89,7 @@ half_test p to b inside begins = (
   λ half. not_from_false b (false_from_ne_true b (λ h. begins_none (fetch p to) half.1 (begins.0 h))),
 )
 
--- a target that is no second half begins an instruction
+-- an instruction begins at a target that is not a second half
 pub target-BeginsInsn : (p : Program) → ((k : ℕ) → Fails p TargetOutside k → ⊥) → ((k : ℕ) → Fails p SecondHalf k → ⊥) → (slot to : ℕ) → HasTarget p slot to → BeginsInsn p to
 target-BeginsInsn p outside half slot to h =
     let inside : to < length p.insns = elim (cases_lt to (length p.insns)) [ inl lt ↦ lt | inr past ↦ absurd (outside slot (to, h, past)) ] in

@@ -1,4 +1,4 @@
-//! Control flow that is good.
+//! The control flow of an accepted program: its joins, and what is live at each slot.
 
 ghost use Rattle.std.specs.Prelude.{◌≡◌, ◌↔◌, ℕ, IsTrue, IfOk, IfErr};
 ghost use Rattle.isa_model.specs.declared.registers.Reg.{Reg as TheReg};
@@ -101,16 +101,17 @@ impl<'a> Flow<'a> {
     }
 
     /// The registers whose values may still be read from this slot on: some path of jumps and
-    /// fall-throughs reads them before it writes them. A verifier may forget the other ones.
+    /// fall-throughs reads them before it writes them. A verifier may forget the others.
     pub fn live(&self, slot: usize) -> RegisterMask
         ensures { (r : TheReg) → HasRegister result r ↔ IsLive self.now r slot }
     {
         mask_of(&self.live, slot).registers
     }
 
-    /// The slots of its frame's stack that may still be read from this slot of the code on: some
-    /// path of jumps and fall-throughs reads them before it writes them wholly. If an instruction
-    /// takes the address of a frame, these are all slots. A verifier may forget the others.
+    /// The stack slots of the call frame that may still be read from this slot of the code on: some
+    /// path of jumps and fall-throughs reads them before it writes all of their bytes. If an
+    /// instruction takes the address of a call frame, these are all stack slots. A verifier may
+    /// forget the others.
     pub fn live_slots(&self, slot: usize) -> SlotMask
         ensures { (j : ℕ) → HasSlot result j ↔ IsSlotLive self.now j slot }
     {

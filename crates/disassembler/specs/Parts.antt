@@ -10,7 +10,7 @@ use Rattle.isa_model.specs.Text.CanonicalText.{reg_text, width_text, place_text}
 abbrev pub memory_text : List ℕ → Place → List ℕ
 memory_text size p = codes "*(" ++ size ++ codes " *)(" ++ place_text p ++ codes ")"
 
--- an atomic instruction that answers the old number in its source: `r1 = xchg_64(r10 - 8, r1)`
+-- an atomic instruction whose source register gets the old number: `r1 = xchg_64(r10 - 8, r1)`
 abbrev pub fetch_text : List ℕ → Width → Place → Reg → List ℕ
 fetch_text name w p s =
     reg_text Full64 s ++ codes " = " ++ name ++ width_text w ++ codes "(" ++ place_text p

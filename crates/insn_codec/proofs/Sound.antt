@@ -1,4 +1,4 @@
--- What is decoded is spelled so.
+-- Decoding is sound: an instruction is spelled by the bytes that it was decoded from.
 use Rattle.std.proofs.Common.{◌≡◌, ℕ, ◌+◌, ◌*◌, ◌/◌, ◌%◌, ◌^◌, ◌<◌, ◌≤◌, cond, true, false, List, [], ◌∷◌, ◌++◌, length, take, drop, Option, Some, None, Result, Ok, Err, refl, sym, ap, ◌∙◌, subst, arith, inl, inr, take-add}
 use Rattle.std.specs.Prelude.{◌==◌, nat_lt, not}
 use Rattle.std.proofs.lemmas.List.{length-drop}
@@ -38,13 +38,13 @@ abbrev pub Continues : Option ℕ → List ℕ → Type 0
 Continues None rest = Unit {0}
 Continues (Some n) rest = take 8 rest ≡ second_bytes (Some n)
 
--- the instruction is spelled by this slot and what follows, and its numbers are of their types
+-- this slot and the bytes after it spell the instruction, and its numbers are within their types
 pub record SpelledBy (s : Slot) (rest : List ℕ) (i : Insn) : Type 0 where
   pub first : first_slot i ≡ s
   pub second : Continues (next_imm i) rest
   pub fits : InsnFits i
 
--- fields that are numbers of their widths
+-- the fields' numbers are within their widths
 record Within (o k : ℕ) (rest : List ℕ) : Type 0 where
   offset : cast_unsigned w16 (cast_signed w16 o) ≡ o
   imm : cast_unsigned w32 (cast_signed w32 k) ≡ k
@@ -70,7 +70,7 @@ pub slot_is : (c c' a a' b b' o o' k k' : ℕ) → c ≡ c' → a ≡ a' → b �
     → slot c a b o k ≡ slot c' a' b' o' k'
 slot_is c c' a a' b b' o o' k k' h0 h1 h2 h3 h4 = rw (h0, h1, h2, h3, h4) refl
 
--- an instruction of one slot, by what its fields were read from
+-- an instruction of one slot is spelled by the fields that it was read from
 one : (c : ℕ) (d r : Reg) (o k : ℕ) (rest : List ℕ) (x i : Insn) → first_slot x ≡ slot c (reg_number d) (reg_number r) o k
     → Continues (next_imm x) rest → InsnFits x → x ≡ i → By c d r o k rest i
 one c d r o k rest x i first second fits e =
@@ -237,7 +237,7 @@ wide_is d R6 o k rest i h ho e =
     s.bytes (h.small, s.small) (ok_is _ _ a.2)
 wide_is d r o k rest i h ho e = absurd cc
 
--- a form whose fields were read gives what they spell
+-- the instruction that a form makes of its fields is spelled by them
 meaning-spelled : (f : Form) (d r : Reg) (o k : ℕ) (rest : List ℕ) (i : Insn) → Within o k rest → Zeroes (uses f) d r o k
     → meaning f (fields d r o k) rest ≡ Ok i → By (opcode_of f) d r o k rest i
 meaning-spelled (form.AluConstant w c) d r o k rest i h z e = alu_constant w c d r o k rest i h z e

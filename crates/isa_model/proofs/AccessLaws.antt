@@ -38,7 +38,7 @@ abbrev pub CellsFit : ℕ → ℕ → Option (List Cell) → Type 0
 CellsFit rows next (Some cells) = All (IsCell rows next) cells
 CellsFit rows next None = Unit {0}
 
--- a key whose value a serial finds is there
+-- a serial that finds a value finds the index of a key that is there
 value_room : (content : Content) (n : ℕ) (j : ℕ) → index_of_serial content n ≡ Some j → j < length content
 value_room content n j e = (position-Some (λ e. e.1.serial == n) content j ([], record { serial = 0; bytes = [] }) e).0
 

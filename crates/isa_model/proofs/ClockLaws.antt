@@ -43,7 +43,7 @@ use Rattle.isa_model.proofs.StepLaws.{IfNext, with_number}
 
 -- ---- how often a step asks
 
--- the clock was asked as often
+-- both states have asked the clock equally often
 abbrev pub SameCalls : State → State → Type 0
 SameCalls s t = t.clock_calls ≡ s.clock_calls
 
@@ -311,7 +311,7 @@ advanced-clock : (p : Program) (clock other : ℕ → ℕ) (c n m : ℕ) (q : Pr
 advanced-clock p clock other c n m (Ended e t) same within h = refl
 advanced-clock p clock other c n m (GoesOn t) same within h = ap (after_step n t) (step-clock p clock other t (same t.clock_calls (omega arith)))
 
--- two clocks that agree on their first m answers are one to a run of at most m steps
+-- a run of at most m steps does not tell two clocks with the same first m answers apart
 pub progress-clock : (p : Program) (clock other : ℕ → ℕ) (n m : ℕ) (s : State) → ((k : ℕ) → k < m → clock k ≡ other k) → s.clock_calls + n ≤ m
     → progress p clock n s ≡ progress p other n s
 unfolding progress
@@ -320,7 +320,7 @@ progress-clock p clock other (suc n) m s same within =
     advanced-clock p clock other s.clock_calls n m (progress p clock n s) same (omega arith) (progress-clock_calls p clock n s)
     ∙ ap (advanced p other n) (progress-clock p clock other n m s same (omega arith))
 
--- and to a turn within a limit of m steps
+-- nor does a turn within a limit of m steps
 pub turn-clock : (p : Program) (limit : ℕ) (clock other : ℕ → ℕ) (head : FrameHead) (packet : List ℕ) (contents : List KeyValues)
     → ((k : ℕ) → k < limit → clock k ≡ other k) → turn p limit clock head packet contents ≡ turn p limit other head packet contents
 unfolding turn start_state
@@ -329,7 +329,7 @@ turn-clock p limit clock other head packet contents same =
 
 -- ---- a clock as a list of answers
 
--- the answer by place, and 0 past the end
+-- the answer at an index, and 0 past the end
 abbrev pub clock_of : List ℕ → ℕ → ℕ
 clock_of answers k = slice_index answers k
 
@@ -340,7 +340,7 @@ answers_of clock n = map clock (range_with_len 0 n)
 pub clock_of-answers_of : (clock : ℕ → ℕ) (n k : ℕ) → k < n → clock_of (answers_of clock n) k ≡ clock k
 clock_of-answers_of clock n k h = get_or-map-range_with_len clock 0 n k k 0 h (omega arith)
 
--- a clock and the list of its first answers are one to a turn within that many steps
+-- a turn of at most n steps ends alike with a clock and with the list of its first n answers
 pub turn-answers_of : (p : Program) (limit n : ℕ) (clock : ℕ → ℕ) (head : FrameHead) (packet : List ℕ) (contents : List KeyValues) → limit ≤ n
     → turn p limit (clock_of (answers_of clock n)) head packet contents ≡ turn p limit clock head packet contents
 turn-answers_of p limit n clock head packet contents le =

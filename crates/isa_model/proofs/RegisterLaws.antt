@@ -5,7 +5,7 @@ use Rattle.isa_model.specs.declared.registers.Reg.{Reg}
 use Rattle.isa_model.specs.declared.registers.Reg.TheVariants.{R0}
 use Rattle.isa_model.specs.Code.Registers.{reg_number, reg_numbered}
 
--- a register is the one of its number
+-- the number of a register leads back to the register
 pub reg_numbered-reg_number : (r : Reg) → reg_numbered (reg_number r) ≡ Some r
 reg_numbered-reg_number R0 = refl
 reg_numbered-reg_number r = refl

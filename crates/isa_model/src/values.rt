@@ -1,4 +1,4 @@
-//! What registers and the bytes of stack frames hold in the meaning: tagged values.
+//! What registers and the bytes of call frames hold in the meaning: tagged values.
 
 use crate::limits::FRAME_SIZE;
 

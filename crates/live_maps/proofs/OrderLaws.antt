@@ -25,7 +25,7 @@ use Rattle.live_maps.proofs.NumberingLaws.{values-distinct, values-few, values-w
 
 -- ---- one order
 
--- an order of which nothing more is known than its places
+-- a list of the places in the order of the keys is an order, if it knows no first serial
 pub IsOrder-listed : (x : MapState) (s : Serials) (o : KeyOrder) → o.places ≡ values x.places
     → o.room ≡ x.row.entries → o.first ≡ None → IsOrder x s o
 IsOrder-listed x s o places room first = record {

@@ -58,7 +58,7 @@ entry_bytes-some e = omega arith
 
 -- ---- entries
 
--- an entry whose state was restored, spelled by itself
+-- the bytes of an entry whose state was restored spell that entry
 pub SpellsEntry-said : (p : Program) (n : ℕ) (a b : State) (xs ys zs before after : List ℕ) → b ≡ a → ys ≡ xs → zs ≡ xs
     → (let e : Entry = record { number = n; state = b; successors = ys } in EntryFits p (entry_said e)) → before ≡ []
     → (let e : Entry = record { number = n; state = b; successors = zs } in after ≡ before ++ entry_bytes e)

@@ -1,4 +1,4 @@
--- Orders decided.
+-- Comparisons of natural numbers and of integers: what their results say.
 use Rattle.std.specs.Prelude.{◌≡◌, ℕ, ◌<◌, ◌≤◌, nat_le, nat_lt, Bool, true, false, ℤ, ◌≤ℤ◌, ◌<ℤ◌, ◌⊎◌, refl}
 use Rattle.std.proofs.Common.{inl, inr, arith}
 use Rattle.std.proofs.lemmas.Int.{by_lt_z, ints}

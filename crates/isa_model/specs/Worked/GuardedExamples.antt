@@ -1,4 +1,4 @@
--- Worked examples: a guarded program, which loads the packet's first byte_loaded.
+-- Worked examples: a guarded program, which loads the packet's first byte.
 use Rattle.std.specs.Prelude.{◌≡◌, ℕ, zero, suc, ◌+◌, ◌<◌, ◌≤◌, ◌⊎◌, ℤ, pos, true, IsSome, Some, None, List, [], ◌∷◌, refl}
 use Rattle.std.proofs.Common.{inl, inr, sym, ap, ◌∙◌, subst, arith}
 use Rattle.isa_model.specs.declared.registers.Reg.{Reg}
@@ -37,7 +37,7 @@ byte_loaded = Load U8 R0 (record { base = R2; offset = pos 0 })
 abbrev pub answered : Insn
 answered = Alu Full64 Mov R0 (Constant (pos 2))
 
--- the test goes to the last two instructions if the packet is empty
+-- if the packet is empty, the test jumps to the last two instructions
 abbrev pub to_answer : Insn
 to_answer =
     JumpIf (record { width = Full64; comparison = Greater; register = R4; operand = Register R3 })
