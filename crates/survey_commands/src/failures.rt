@@ -14,7 +14,7 @@ const USAGE: &str = "usage: xdpvm_survey IMAGE|FOLDER .. | log IMAGE | dis IMAGE
 /// Why the program ends early.
 #[derive(Drop)]
 pub enum Failure {
-    /// The words ask for nothing. The text says why, or is the help.
+    /// No command was given in full. The text says what is wrong, or is the help.
     Words(String),
     /// A file or an output failed, as the text says.
     File(String),
@@ -49,7 +49,7 @@ pub fn file_line(
 }
 
 impl Failure {
-    /// The words ask for nothing, or memory ran out before that was known.
+    /// No command was given in full, or memory ran out before that was known.
     pub fn of_words(error: WordsError) -> Self {
         match error {
             WordsError::Wrong(text) => Failure::Words(text),

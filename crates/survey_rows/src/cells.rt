@@ -16,7 +16,7 @@ pub enum Cell {
 #[derive(Clone, Copy, Drop)]
 pub struct Head {
     pub name: &'static str,
-    /// Whether a table begins its cells at the left, as those of texts.
+    /// Whether its cells begin at the left in a grid for people, as those of texts do.
     pub is_left: bool,
     /// How many characters a table leaves for a cell at least.
     pub width: usize,

@@ -1,4 +1,4 @@
-//! Grids as tables for people: columns of one width, numbers at the right.
+//! Grids as text for people: each column has one width, and numbers are at the right.
 
 use crate::cells::{Cell, Grid, Head, head_texts, row_texts};
 use std::alloc::{AllocError, Global};
@@ -13,7 +13,7 @@ fn show(alloc: Global, shown: &mut String, character: char) -> Result<(), AllocE
     shown.push_str(escape.as_str())
 }
 
-/// A text as tables and messages show it: `\x1b` for each control character, the others as they
+/// A text as grids and messages show it: `\x1b` for each control character, the others as they
 /// are.
 pub fn shown(alloc: Global, text: &str) -> Result<String, AllocError> {
     let mut shown = String::new(alloc);
@@ -113,7 +113,7 @@ fn all_texts(alloc: Global, rows: &[Vec<Cell>]) -> Result<Vec<Vec<String>>, Allo
     Ok(texts)
 }
 
-/// The widths that heads leave.
+/// The least widths of the columns, by their heads.
 fn least_widths(alloc: Global, heads: &[Head]) -> Result<Vec<usize>, AllocError> {
     let mut widths = Vec::new(alloc);
     for head in heads {
@@ -122,7 +122,7 @@ fn least_widths(alloc: Global, heads: &[Head]) -> Result<Vec<usize>, AllocError>
     Ok(widths)
 }
 
-/// A grid as a table, with the names of its columns above it where they are wanted.
+/// A grid as text, with the names of its columns above it where they are wanted.
 pub fn table_text(alloc: Global, grid: &Grid, has_header: bool) -> Result<String, AllocError> {
     let heads = grid.heads.as_slice();
     let names = head_texts(alloc, heads)?;

@@ -26,7 +26,7 @@ pub fn target_of(image: &Image, slot: usize) -> Option<usize> {
     Some(destination(slot, by, image.slots()))
 }
 
-/// The jumps and calls to a slot.
+/// Whether a jump or a call leads to a slot.
 #[derive(Clone, Copy, PartialEq, Eq, Drop)]
 pub enum Mark {
     Nothing,
@@ -36,7 +36,7 @@ pub enum Mark {
     Function,
 }
 
-/// The jumps and calls to each slot of the code.
+/// Whether a jump or a call leads to each slot of the code.
 pub fn marks(alloc: Global, image: &Image) -> Result<Vec<Mark>, AllocError> {
     let mut marks = vec![in alloc; Mark::Nothing; image.slots()]?;
     for slot in 0..image.slots() {

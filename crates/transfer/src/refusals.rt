@@ -1,4 +1,4 @@
-//! Why no step is made.
+//! Why an instruction is refused in an abstract state.
 
 ghost use Rattle.std.specs.Prelude.{◌≡◌, Some};
 ghost use Rattle.transfer.specs.Messages.{code_of, sentence_of};
@@ -32,7 +32,7 @@ pub enum Refusal {
     PacketBytes,
     /// Bytes that are not proved to be in the map's value.
     MapValueBytes,
-    /// What a lookup answered is used before its null test.
+    /// The pointer that a look-up answered is used before a test that it is not 0.
     NullNotTested,
     /// A pointer is stored otherwise than whole into the innermost frame.
     PointerStored,

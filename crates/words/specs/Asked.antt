@@ -22,7 +22,7 @@ abbrev pub files_in : List Row → Option RunFiles
 files_in rows = option_and_then (λ image. option_and_then (λ frames. option_map (λ out. record { image = image; frames = frames; out = out })
     (first_of (codes "out") rows)) (first_of (codes "frames") rows)) (first_of (codes "image") rows)
 
--- the files of a proof
+-- the image and the proof table of `prove` or `recheck`
 abbrev pub proof_in : List Row → Option ProofFiles
 proof_in rows = option_and_then (λ image. option_map (λ table. record { image = image; table = table }) (first_of (codes "table") rows))
     (first_of (codes "image") rows)
@@ -71,10 +71,10 @@ request_by name rows =
 abbrev pub request_met : Option (List ℕ × List Row) → Option TaskRequest
 request_met = option_and_then (λ met. request_by met.0 met.1)
 
--- words with a fault ask for nothing
+-- wrong words ask for nothing
 abbrev pub unless_faulty : Kinds → Option TaskRequest → Option TaskRequest
 unless_faulty [] request = request
-unless_faulty (fault ∷ faults) request = None
+unless_faulty (wrong ∷ more) request = None
 
 -- what the words ask for: what their command asks for; the first word is the program's name
 unfoldable pub asked : List (List ℕ) → Option TaskRequest

@@ -65,7 +65,7 @@ fn limit_in(matches: &ArgMatches<'_>) -> Option<StepLimit>
     }
 }
 
-// The table takes the place of the verifier, where one is given.
+// Where a proof table is given, it is rechecked, and the verifier is not run.
 fn run_in<'a>(matches: &ArgMatches<'a>) -> Option<Task<'a>>
     ensures { option_map request_of result ≡ run_of (rows_of (found_of matches.now)) }
 {
