@@ -1,5 +1,5 @@
 #!/usr/bin/env python3
-"""Tests of laws.py and file_map.py on small repositories, and of what the attacks judge by and make. In the gate;
+"""Tests of laws.py, names.py and file_map.py on small repositories, and of what the attacks judge by and make. In the gate;
 `python3 assurance/test_scripts.py` runs them."""
 import argparse
 import os
@@ -18,6 +18,7 @@ import fuzz
 import hostile_inputs
 import in_process
 import laws
+import names
 import proofs
 import table
 from attack_witnesses import witness_of
@@ -80,6 +81,29 @@ class Tree(unittest.TestCase):
         os.makedirs(os.path.dirname(full), exist_ok=True)
         with open(full, "w", encoding="utf-8") as file:
             file.write(text)
+
+
+class Names(Tree):
+    def wrong(self, *shared):
+        return [line.split(":")[0] for line in names.wrong_names(self.room.name, shared)]
+
+    def test_a_name_of_one_crate_is_its_own(self):
+        self.write("crates/low/src/more.rt", "pub struct Small;\nimpl Small {\n    pub fn new() -> Self\n}\n")
+        self.assertEqual(self.wrong(), [])
+
+    def test_a_name_of_two_crates_is_found(self):
+        self.write("crates/high/src/lib.rt", "#[derive(Drop)]\npub struct Small {\n    pub n: u32,\n}\nenum Bounded {}\n")
+        self.write("crates/high/specs/Sizes.antt", "pub record Bounded (n : ℕ) : Type 0 where\n  pub low : n ≤ 9\n")
+        self.assertEqual(self.wrong(), ["Bounded", "Small"])
+        self.assertEqual(self.wrong("Small"), ["Bounded"])
+
+    def test_tests_and_worked_examples_share_names(self):
+        self.write("crates/low_tests/src/lib.rt", "pub struct Small;\n")
+        self.write("crates/high/specs/Worked/Sizes.antt", "abbrev pub Bounded : ℕ → Type 0\n")
+        self.assertEqual(self.wrong(), [])
+
+    def test_a_list_has_no_name_without_need(self):
+        self.assertEqual(self.wrong("Small"), ["Small"])
 
 
 class Laws(Tree):
