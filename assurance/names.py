@@ -2,8 +2,9 @@
 """names.py: finds public types, traits and relations of two crates that have one name.
 
 A type or trait is one of `src/`; a relation is a definition of `specs/` whose name begins with a
-capital letter, worked examples aside. Test crates export nothing. Prints each name that SHARED does
-not explain, with the files that declare it. The status is 0, or 1 where there is one. In the gate."""
+capital letter, worked examples aside. Test crates export nothing. Prints each name that SHARED
+does not explain, with the files that declare it. The status is 0, or 1 where there is one. In the
+gate."""
 import collections
 import glob
 import os
@@ -44,15 +45,15 @@ def names_of(top):
 
 
 def wrong_names(top, shared):
-    """A line for each name of several crates that is not in the list, and for each that is there without need."""
+    """A line for each name of several crates that is not in the list, and for each needless one."""
     places = names_of(top)
     lines = []
     for name in sorted(places):
         paths = [path for found in places[name].values() for path in found]
         if len(places[name]) > 1 and name not in shared:
             lines.append(f"{name}: {', '.join(paths)}")
-    return lines + [f"{name}: in the list of shared names, and not of two crates" for name in sorted(shared)
-                    if len(places.get(name, ())) < 2]
+    return lines + [f"{name}: in the list of shared names, and not of two crates"
+                    for name in sorted(shared) if len(places.get(name, ())) < 2]
 
 
 if __name__ == "__main__":

@@ -88,12 +88,12 @@ class Names(Tree):
         return [line.split(":")[0] for line in names.wrong_names(self.room.name, shared)]
 
     def test_a_name_of_one_crate_is_its_own(self):
-        self.write("crates/low/src/more.rt", "pub struct Small;\nimpl Small {\n    pub fn new() -> Self\n}\n")
+        self.write("crates/low/src/more.rt", "pub struct Small;\nimpl Small {\n}\n")
         self.assertEqual(self.wrong(), [])
 
     def test_a_name_of_two_crates_is_found(self):
-        self.write("crates/high/src/lib.rt", "#[derive(Drop)]\npub struct Small {\n    pub n: u32,\n}\nenum Bounded {}\n")
-        self.write("crates/high/specs/Sizes.antt", "pub record Bounded (n : ℕ) : Type 0 where\n  pub low : n ≤ 9\n")
+        self.write("crates/high/src/lib.rt", "#[derive(Drop)]\npub struct Small {}\nenum Half {}\n")
+        self.write("crates/high/specs/Sizes.antt", "pub record Bounded (n : ℕ) : Type 0 where\n")
         self.assertEqual(self.wrong(), ["Bounded", "Small"])
         self.assertEqual(self.wrong("Small"), ["Bounded"])
 
