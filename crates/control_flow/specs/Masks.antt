@@ -1,4 +1,4 @@
--- Sets of registers and of slots of the stack.
+-- Sets of registers and of stack slots.
 use Rattle.std.specs.Prelude.{◌≡◌, ℕ, List, slice_index_or}
 use Rattle.std.specs.Int.{bit_at}
 use Rattle.isa_model.specs.declared.registers.Reg.{Reg}
@@ -21,7 +21,7 @@ no_slots = record { bits = 0 }
 abbrev pub all_slots : SlotMask
 all_slots = record { bits = 0xffff_ffff_ffff_ffff }
 
--- the slot of the stack is one of the set
+-- the stack slot is one of the set
 abbrev pub HasSlot : SlotMask → ℕ → Type 0
 HasSlot mask j = bit_at mask.bits j ≡ 1
 

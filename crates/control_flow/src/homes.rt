@@ -1,4 +1,4 @@
-//! Sets of the places where a frame keeps values: registers, and slots of its stack.
+//! Sets of the places where a frame keeps values: registers, and stack slots.
 
 ghost use Rattle.std.specs.Prelude.{◌≡◌, ◌≤◌, ◌↔◌, ◌⊎◌, IsTrue};
 ghost use Rattle.control_flow.specs.Liveness.{Home};
@@ -7,7 +7,7 @@ ghost use Rattle.control_flow.specs.Masks.{mask_at};
 use crate::masks::RegisterMask;
 use crate::slot_masks::SlotMask;
 
-/// A set of registers and of slots of the stack.
+/// A set of registers and of stack slots.
 #[derive(Clone, Copy, PartialEq, Eq, Debug)]
 pub struct HomeMask {
     pub registers: RegisterMask,

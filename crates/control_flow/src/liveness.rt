@@ -1,4 +1,4 @@
-//! Which registers and which slots of the stack are live at which slots of the code.
+//! Which registers and which stack slots are live at which slots of the code.
 
 ghost use Rattle.std.specs.Prelude.{◌≡◌, ◌+◌, ◌<◌, ◌↔◌, ◌⊎◌, ℕ, Some, length, IfOk, OnOk};
 ghost use Rattle.control_flow.specs.Liveness.{Home};

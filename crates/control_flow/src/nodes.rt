@@ -13,7 +13,7 @@ use crate::targets::{fall_target, jump_target};
 use image::Image;
 use std::alloc::{AllocError, Global};
 
-/// A slot: the registers and the slots of the stack that the instruction there reads and writes,
+/// A slot: the registers and the stack slots that the instruction there reads and writes,
 /// and its successors.
 #[derive(Clone, Copy)]
 pub struct Node {

@@ -1,4 +1,4 @@
-//! Sets of slots of a call frame's stack.
+//! Sets of a call frame's stack slots.
 
 ghost use Rattle.std.specs.Prelude.{◌≡◌, ℕ, ◌+◌, ◌*◌, ◌/◌, ◌^◌, ◌<◌, ◌≤◌, ◌↔◌, ◌⊎◌, IsTrue, Some, bit_and};
 ghost use Rattle.isa_model.specs.Code.Limits.{frame_size};

@@ -1,4 +1,4 @@
-//! Which slots of its frame's stack an instruction reads and writes through r10, and which
+//! Which stack slots of its frame an instruction reads and writes through r10, and which
 //! instructions take the address of the frame.
 
 ghost use Rattle.std.specs.Prelude.{◌≡◌, ℕ, ◌<◌, ◌^◌, ◌↔◌, ◌⊎◌, IsTrue, Some};

@@ -172,7 +172,8 @@ fn atomic_line(width: Width, op: AtomicOp, place: Place, source: Reg) -> Line
     line
 }
 
-// `r1 = NAME64(r10 - 8, r1)`: an atomic instruction that answers the old number in its source.
+// `r1 = NAME64(r10 - 8, r1)`: an atomic instruction whose source register gets the old
+// number.
 fn fetch_line(name: &str, width: Width, place: Place, source: Reg) -> Line
     requires { length name.now ≤ 17 }
     ensures { result.bytes ≡ fetch_text name.now width place source }

@@ -51,7 +51,7 @@ fn lines_of(
 /// What is known where a program is refused so, at this slot: the registers and the stack slots
 /// that concern its instruction, what it needs, the loop that is not explored to its end, with how
 /// often it was taken and what differs from turn to turn, the low half of an answer that has to
-/// name an action, the last jumps on the way there, and whether states were no longer compared; or
+/// name an action, the last jumps on the path there, and whether states were no longer compared; or
 /// where a jump leads, and what helps, if control flow is refused. None: memory ran out.
 pub fn reason(alloc: Global, image: &Image, refusal: Refusal, slot: usize) -> Option<String>
     ensures { IfSome result (λ text. IsReason image.now refusal slot (string_bytes text)) }

@@ -1,4 +1,4 @@
-//! What is known of the slots of the stack, in words.
+//! What is known of the stack slots, in words.
 
 ghost use Rattle.std.specs.Prelude.{◌≡◌, ◌<◌, ◌≤◌, IfOk, IfSome, ◌+◌};
 ghost use Rattle.std.specs.String.{string_bytes};

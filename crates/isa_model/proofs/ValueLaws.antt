@@ -32,13 +32,13 @@ use Rattle.isa_model.specs.Machine.MachineStates.{AreBytes, IsOffset, IsRegion, 
 
 -- ---- results
 
--- what holds of an answer, holds of the next one
+-- if P holds of an answer, and Q of what comes after such an answer, Q holds of both in a row
 pub IfOk-and_then : {A B : Type 0} (P : A → Type 0) (Q : B → Type 0) (r : Result A TrapReason) (go : A → Result B TrapReason)
     → IfOk r P → ((a : A) → P a → IfOk (go a) Q) → IfOk (and_then r go) Q
 IfOk-and_then P Q (Ok a) go h k = k a h
 IfOk-and_then P Q (Err e) go h k = tt
 
--- what holds of each next answer
+-- Q holds of two results in a row if it holds of the second one after any answer
 pub IfOk-then : {A B : Type 0} (Q : B → Type 0) (r : Result A TrapReason) (go : A → Result B TrapReason)
     → ((a : A) → IfOk (go a) Q) → IfOk (and_then r go) Q
 IfOk-then Q (Ok a) go h = h a
@@ -159,7 +159,7 @@ bytes_in_fit rows next cs h =
 pub Byte_cells_fit : (rows next : ℕ) (bytes : List ℕ) → AreBytes bytes → All (IsCell rows next) (map Byte bytes)
 Byte_cells_fit rows next bytes h = All-map (IsCell rows next) Byte bytes h
 
--- what is a byte by its place
+-- bytes by their index
 pub slice_index_fits : (bytes : List ℕ) → AreBytes bytes → EachByte bytes
 slice_index_fits [] h i = omega arith
 slice_index_fits (b ∷ bytes) h zero = All-head (λ b. b < 256) b bytes h

@@ -1,4 +1,4 @@
-//! The cells of any table.
+//! Grids: rows of cells under the heads of their columns.
 
 use std::alloc::{AllocError, Global};
 
@@ -18,7 +18,7 @@ pub struct Head {
     pub name: &'static str,
     /// Whether its cells begin at the left in a grid for people, as those of texts do.
     pub is_left: bool,
-    /// How many characters a table leaves for a cell at least.
+    /// The least width of its cells in a grid for people, in characters.
     pub width: usize,
 }
 

@@ -1,4 +1,4 @@
-//! The rows of a survey, and how they are written: as a table, as CSV and as JSON.
+//! The rows of a survey, and how they are written: as text for people, as CSV and as JSON.
 #![tactic(auto)]
 
 mod cells;

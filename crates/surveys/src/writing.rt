@@ -1,11 +1,11 @@
-//! Why a look into a program breaks off.
+//! Why a log, a listing or a graph of a program ends early.
 
 use explorer::Refusal;
 use std::alloc::AllocError;
 use std::io;
 use std::io::ErrorKind;
 
-/// Why a look into a program breaks off.
+/// Why a log, a listing or a graph of a program ends early.
 #[derive(Clone, Copy, Drop)]
 pub enum LookError {
     /// The program is refused, at a slot.

@@ -1,4 +1,4 @@
--- What forgetting dead registers and slots of the stack does to a state: it means more, and all
+-- What forgetting dead registers and stack slots does to a state: it means more, and all
 -- else stays.
 use Rattle.std.proofs.Common.{◌≡◌, ◌≢◌, ◌<◌, ◌≤◌, ◌+◌, ◌∷◌, ◌++◌, [], ℕ, zero, suc, List, length, map, replicate, get_or, set, refl, sym, ap, ◌∙◌, subst, arith, inl, inr}
 use Rattle.std.proofs.lemmas.Bool.{cases_lt, cases_eq}
@@ -98,7 +98,7 @@ Forgets-alone p a b r f own alone = elim (Forgets-each p a b r f own) [
   | inr gone ↦ absurd (alone gone.0.0)
 ]
 
--- ---- what is known of slots of the stack
+-- ---- what is known of stack slots
 
 -- one that is live is known as before
 pub Forgets-slot_live : (p : Program) (a b : State) (j : ℕ) → Forgets p a b → j < 64
@@ -202,7 +202,7 @@ GoesOnTo-forgets p s a b f (inr (inr h)) = inr (inr (record {
   returns = h.returns ∙ ap (λ (rs : List ℕ). rs ++ a.slot ∷ []) (sym (Forgets-returns p a b f)) ∙ ap (λ (n : ℕ). returns_of b ++ n ∷ []) (sym (Forgets-slot p a b f));
 }))
 
--- nothing is known of dead slots of the stack
+-- nothing is known of dead stack slots
 pub Forgets-forgotten : (p : Program) (a b : State) → Forgets p a b → IsForgotten p b
 Forgets-forgotten p a b f = (
   f.slots.all,
@@ -262,7 +262,7 @@ AreKept-below p slot n old new all m = record { ten = m.ten; each = λ r own. m.
 pub kept_alone : (p : Program) (slot : ℕ) (old : List Kind) → length old ≡ 10 → (IsJoin p slot → ⊥) → AreKept p slot old old
 kept_alone p slot old ten alone = record { ten = ten; each = λ r own. inl (λ dead. alone dead.0, refl) }
 
--- ---- the loop through slots of the stack
+-- ---- the loop through stack slots
 
 -- the slots below n are left as they are or forgotten, and the rest is as before
 pub record SlotsLeftBelow (p : Program) (slot n : ℕ) (old new : List Slot) : Type 0 where

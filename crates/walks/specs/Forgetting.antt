@@ -30,7 +30,7 @@ pub record AreKept (p : Program) (slot : ℕ) (old new : List Kind) : Type 0 whe
   pub ten : length new ≡ 10
   pub each : (r : Reg) → r ≢ R10 → IsKept p slot r (kind_at old (reg_number r)) (kind_at new (reg_number r))
 
--- what is known of a slot of the stack stays known if it is live, and nothing is if it is dead
+-- what is known of a stack slot stays known if it is live, and nothing is if it is dead
 abbrev pub IsSlotLeft : Program → ℕ → ℕ → Slot → Slot → Type 0
 IsSlotLeft p slot j before after = (IsSlotLive p j slot × (after ≡ before)) ⊎ ((¬ IsSlotLive p j slot) × (after ≡ Written 0))
 
@@ -42,11 +42,11 @@ pub record AreSlotsLeft (p : Program) (slot : ℕ) (old new : List Slot) : Type 
 abbrev pub IsSlotDeadAt : Program → ℕ → ℕ → Type 0
 IsSlotDeadAt p slot j = IsJoin p slot × (¬ IsSlotLive p j slot)
 
--- what is known of a slot of the stack stays known, or the slot is dead and nothing is
+-- what is known of a stack slot stays known, or the slot is dead and nothing is
 abbrev pub IsSlotKept : Program → ℕ → ℕ → Slot → Slot → Type 0
 IsSlotKept p slot j before after = ((¬ IsSlotDeadAt p slot j) × (after ≡ before)) ⊎ (IsSlotDeadAt p slot j × (after ≡ Written 0))
 
--- the slots of a frame's stack when a path reaches the slot of the code
+-- the stack slots of a frame when a path reaches the slot of the code
 pub record AreSlotsKept (p : Program) (slot : ℕ) (old new : List Slot) : Type 0 where
   pub all : length new ≡ 64
   pub each : (j : ℕ) → j < 64 → IsSlotKept p slot j (slot_at old j) (slot_at new j)
@@ -69,12 +69,13 @@ pub record AreCallersKept (p : Program) (a b : State) : Type 0 where
   pub each : (k : ℕ) → k < length a.callers.items
       → IsCallerKept p (frame_of a (k + 1)).return_slot (frame_of a k) (frame_of b k)
 
--- b is a without what is known of some dead slots of callers' stacks
+-- b is a without what is known of some dead stack slots of callers
 pub record CallersForgotten (p : Program) (a b : State) : Type 0 where
   pub rest : b ≡ record a { callers = b.callers }
   pub callers : AreCallersKept p a b
 
--- b is a without what is known of dead registers and of dead slots of the stack, and of some dead slots of callers' stacks
+-- b is a without what is known of dead registers and of dead stack slots, and of some dead stack
+-- slots of callers
 pub record Forgets (p : Program) (a b : State) : Type 0 where
   pub rest : b ≡ record a {
     callers = b.callers;
@@ -84,6 +85,6 @@ pub record Forgets (p : Program) (a b : State) : Type 0 where
   pub registers : AreKept p a.slot (registers_of a) (registers_of b)
   pub slots : AreSlotsKept p a.slot (slots_in a) (slots_in b)
 
--- the state is as a path comes to it: nothing is known of slots of the stack that are dead there
+-- the state is as a path comes to it: nothing is known of stack slots that are dead there
 abbrev pub IsForgotten : Program → State → Type 0
 IsForgotten p s = (length (slots_in s) ≡ 64) × ((j : ℕ) → j < 64 → IsSlotDeadAt p s.slot j → slot_at (slots_in s) j ≡ Written 0)

@@ -39,7 +39,7 @@ fn forget_registers(flow: &Flow<'_>, slot: usize, registers: &mut [Kind; 10])
     }
 }
 
-/// Forgets what is known of a slot of the stack. It is written as a whole only if a value was
+/// Forgets what is known of a stack slot. It is written as a whole only if a value was
 /// spilled there.
 #[inline(always)]
 fn clear(slot: &mut Slot)
@@ -51,7 +51,7 @@ fn clear(slot: &mut Slot)
     }
 }
 
-/// Forgets what is known of all slots of a frame's stack: eight in a turn, which the compiler
+/// Forgets what is known of all stack slots of a frame: eight in a turn, which the compiler
 /// writes out.
 pub fn clear_slots(slots: &mut [Slot; FRAME_SLOTS])
     ensures { slots.new ≡ replicate frame_slots (Slot.Written 0) }
@@ -63,7 +63,7 @@ pub fn clear_slots(slots: &mut [Slot; FRAME_SLOTS])
     }
 }
 
-/// Forgets what is known of the slots of a frame's stack that are dead at a slot of the code.
+/// Forgets what is known of the stack slots of a frame that are dead at a slot of the code.
 fn forget_slots(flow: &Flow<'_>, slot: usize, slots: &mut [Slot; FRAME_SLOTS])
     ensures { AreSlotsLeft flow.now slot slots.old slots.new }
 {
@@ -91,7 +91,7 @@ fn forget_slots(flow: &Flow<'_>, slot: usize, slots: &mut [Slot; FRAME_SLOTS])
     }
 }
 
-/// Forgets what is known of the registers and of the slots of a frame's stack that are dead at a
+/// Forgets what is known of the registers and of the stack slots of a frame that are dead at a
 /// slot of the code, if it is a join.
 fn forget_places(
     flow: &Flow<'_>,
@@ -125,7 +125,7 @@ fn forget_caller(flow: &Flow<'_>, has_called: bool, state: &mut State)
     forget_slots(flow, slot, &mut caller.stack.slots);
 }
 
-/// Forgets what is known of the registers and of the slots of the innermost frame's stack that are
+/// Forgets what is known of the registers and of the stack slots of the innermost frame that are
 /// dead at a state's slot, if it is a join: no path from there reads them before it writes them,
 /// and states that differ only in them become one. After a call it forgets dead slots of the
 /// caller's stack too; until the return they stay as they are.
@@ -142,7 +142,7 @@ pub fn forget_dead(flow: &Flow<'_>, has_called: bool, state: &mut State)
     );
 }
 
-/// The slots of the innermost frame's stack of which something may be known where a path comes to a
+/// The stack slots of the innermost frame of which something may be known where a path comes to a
 /// slot of the code: at a join those that are live.
 pub fn kept_slots(flow: &Flow<'_>, slot: usize) -> SlotMask
     ensures { (j : ℕ) → j < 64 → ¬ HasSlot result j → IsSlotDeadAt flow.now slot j }

@@ -1,6 +1,5 @@
--- Map rows: their limits, and the rows that an instruction names. bpf(2), BPF_MAP_CREATE;
--- the limits are this project's
--- own.
+-- Map rows: their limits, and the rows that an instruction names. bpf(2), BPF_MAP_CREATE; the
+-- limits are this project's own.
 use Rattle.std.specs.Prelude.{◌≡◌, ℕ, ◌<◌, ◌≤◌, List, length, slice_get, IsSomeAnd}
 use Rattle.isa_model.specs.declared.instructions.Insn.{Insn}
 use Rattle.isa_model.specs.declared.instructions.Insn.TheVariants.{LoadMap, LoadMapValue}
