@@ -1,6 +1,5 @@
--- What a condition compares, by the kinds of its operands:
--- two numbers, a packet pointer and the packet end, or null and
--- what may point to a map's value. No other comparison has an outcome.
+-- What a condition compares, by the kinds of its operands: two numbers, a packet pointer and the
+-- packet end, or null and what may point to a map's value. No other comparison has an outcome.
 -- Linux, Documentation/bpf/verifier.rst (direct packet access;
 -- null tests of what a lookup answered).
 use Rattle.std.specs.Prelude.{ℕ, ◌==◌, ℤ, pos, negsuc, ◌+ℤ◌, Bool, true, false, not, if◌then◌else◌}

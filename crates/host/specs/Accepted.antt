@@ -44,10 +44,8 @@ pub record RunsFront (a : Bounded) (source : Option (List ℕ)) (old new : Outpu
       → WroteBefore old new pieces error
 
 -- The bound is from 1 to 1,000,000. What was written is the report of the program and the source's
--- stream; after a failed
--- output it is a beginning of that report, and only where the failed piece is the magic or one of a
--- frame was the
--- stream not read to its end or fault.
+-- stream; after a failed output it is a beginning of that report, and only where the failed piece
+-- is the magic or one of a frame was the stream not read to its end or fault.
 pub record ReportsRun (a : Bounded) (source : Option (List ℕ)) (old new : Outputs)
     (result : Result Tally HostError) : Type 0 where
   pub some : 1 ≤ a.bound

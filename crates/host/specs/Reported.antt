@@ -35,10 +35,9 @@ pub record ReportsFront (source : Option (List ℕ)) (pieces : Stream → List P
   pub writes : (more : List Frame) (finish : Finish)
       → WroteBefore old new (pieces (stream_with version (frames ++ more, finish))) error
 
--- What was written is the report of the source's stream.
--- After a failed output it is a beginning of that report; only
--- where the failed piece is the magic or one of a frame was the stream not read to its end or
--- fault.
+-- What was written is the report of the source's stream. After a failed output it is a beginning of
+-- that report; only where the failed piece is the magic or one of a frame was the stream not read
+-- to its end or fault.
 abbrev pub Reports : {X : Type 0} → Option (List ℕ) → (Stream → List Piece) → (Stream → X → Type 0)
     → Outputs → Outputs → Result X HostError → Type 0
 Reports source pieces Tells old new result =

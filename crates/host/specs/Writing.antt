@@ -25,9 +25,8 @@ abbrev pub failure_of : Piece → HostError
 failure_of (ToReport bytes) = failure.Report
 failure_of (ToFrames bytes) = failure.Frames
 
--- The outputs grew by the pieces before one that failed,
--- and of that one by a beginning that is shorter than it;
--- neither output has anything more.
+-- The outputs grew by the pieces before one that failed, and of that one by a beginning that is
+-- shorter than it; neither output has anything more.
 pub record WroteBefore (old new : Outputs) (pieces : List Piece) (error : HostError) : Type 0 where
   pub before : List Piece
   pub failed : Piece

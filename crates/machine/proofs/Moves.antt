@@ -306,9 +306,9 @@ module _ (p : Program) (clock : ℕ → ℕ) (a : Layout) (s : State) (w : Words
       same : j ≡ i
       same = cc
 
-  -- in a related state a step goes on only where the move's needs are met,
-  -- and then each of its moves is related to the
-  -- next state; it finishes only at the first call frame's exit, and r0's word is the number
+  -- in a related state a step goes on only where the move's needs are met, and then each of its
+  -- moves is related to the next state; it finishes only at the first call frame's exit, and r0's
+  -- word is the number
   pub moves : (i : Insn) → fetch p s.slot ≡ Some i → IsProgram p → OkMove i (step p clock s)
   unfolding step
   moves i e h = performs (fetch p s.slot) i e (h.fits s.slot i e) (h.named s.slot i e)

@@ -18,9 +18,8 @@ use Rattle.stack_state.specs.declared.states.State.{State}
 abbrev pub AreAmong : ℕ → ℕ → Type 0
 AreAmong marks others = (i : ℕ) → i < 8 → bit_at marks i ≡ 1 → bit_at others i ≡ 1
 
--- the bytes that are known to be written in a are in b,
--- where a spilled number is eight written bytes; a spilled value
--- covers a spilled one
+-- the bytes that are known to be written in a are in b, where a spilled number is eight written
+-- bytes; a spilled value covers a spilled one
 abbrev pub SlotCovers : (ℕ → ℕ) → (ℕ → ℕ) → Slot → Slot → Type 0
 SlotCovers packet null (Written marks) b = AreAmong marks (marks_of b)
 SlotCovers packet null (Spilled k) (Spilled l) = KindCovers packet null k l

@@ -1,9 +1,7 @@
--- Map contents under look-ups, updates and deletes. bpf(2);
--- the order of the tests, and the error of each, are this
--- project's own.
--- A content is a finite map: the list of its keys with what they have, by rising key bytes,
--- each key once. What a key has, X here, is its
--- value's bytes, and in the machine's state a serial too.
+-- Map contents under look-ups, updates and deletes. bpf(2); the order of the tests, and the error
+-- of each, are this project's own.
+-- A content is a finite map: the list of its keys with what they have, by rising key bytes, each
+-- key once. What a key has, X here, is its value's bytes, and in the machine's state a serial too.
 use Rattle.std.specs.Prelude.{ℕ, ◌-◌, ◌^◌, ◌==◌, Bool, not, ◌&&◌, nat_lt, nat_le, if◌then◌else◌, List, length, Option, is_some}
 use Rattle.std.specs.Ordering.{nat_cmp, eq_by_cmp}
 use Rattle.std.specs.declared.cmp.Ordering.{Ordering}

@@ -1,7 +1,6 @@
 -- The helpers on maps, in the machine's state. bpf(2); serials are this project's own.
--- The map's row, its index, and the bytes of key and value are given:
--- the kinds of the arguments are tested, and the
--- bytes read, before.
+-- The map's row, its index, and the bytes of key and value are given: before that, the kinds of the
+-- arguments are tested, and the bytes are read.
 use Rattle.std.specs.Prelude.{ℕ, suc, ◌==◌, pos, if◌then◌else◌, List, slice_set, Option, Some, None}
 use Rattle.isa_model.specs.declared.map_defs.MapDef.{MapDef}
 use Rattle.isa_model.specs.declared.values.Region.TheVariants as region

@@ -1,8 +1,7 @@
 -- The stream of packet frames: the magic `XPF1` or `XPF2`, and then records of a head and a body.
 -- docs/FORMATS.md.
--- A head is: u64 time in nanoseconds, u32 interface, u32 queue, u32 length of the body,
--- and in `XPF2` u32 reason; the
--- lowest byte first.
+-- A head is: u64 time in nanoseconds, u32 interface, u32 queue, u32 length of the body, and in
+-- `XPF2` u32 reason; the lowest byte first.
 use Rattle.std.specs.Prelude.{◌≡◌, ℕ, zero, suc, ◌+◌, ◌^◌, ◌<◌, ◌≤◌, List, [], ◌∷◌, ◌++◌, length, take, drop, nat_lt, nat_eq, ◌==◌, if◌then◌else◌, All, Option, Some, None, Result, Ok, Err}
 use Rattle.std.specs.List.{starts_with, flat_map}
 use Rattle.byteorder.specs.Endian.{little_bytes, little_from}
