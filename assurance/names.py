@@ -23,7 +23,7 @@ SHARED = {
     "State": "the machine's, and the abstract one",
     "Refusal": "of the crate's own",
     "ReportForm": "the type of host, and what it means",
-    "FrameClock": "the same clock in host and in embedding",
+    "FrameClock": "the same clock in host and in the library",
 }
 
 TYPE = re.compile(r"^pub (?:unsafe )?(?:struct|enum|trait|type|union) (\w+)", re.M)
