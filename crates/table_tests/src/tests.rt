@@ -1,9 +1,4 @@
-//! Proof tables of `r0 = 2; exit`.
+//! A proof table that is written to outputs which fail. What the commands say of tables is in
+//! tests/programs.
 
-mod changes;
-mod entries;
-mod faults;
-mod rechecks;
-mod tables;
-mod values;
 mod written;

@@ -1,12 +1,33 @@
-//! Tables written.
+//! The table of `r0 = 2; exit`, written to outputs that fail.
 
-use super::tables::{TWO, image, table_with};
 use explorer::verify;
 use failing_io::{Failure, Writer};
-use proof_table::{WriteTableError, recheck, write_table};
+use image::Image;
+use proof_table::{WriteTableError, write_table};
 use std::alloc::Global;
 use std::io::{ErrorKind, Write};
+use std::process::Abort;
 use std::test::Fail;
+
+/// `r0 = 2; exit`.
+const IMAGE: [u8; 24] = *b"XBP1\0\0\x02\0\xb7\0\0\0\x02\0\0\0\x95\0\0\0\0\0\0\0";
+
+fn image(alloc: Global) -> Result<Image, Fail> {
+    Ok(Image::parse(alloc, &IMAGE)?)
+}
+
+/// Writes the program's table.
+fn write_to<W: Write>(alloc: Global, writer: &mut W) -> Result<Result<(), WriteTableError>, Fail> {
+    let verified = verify(alloc, image(alloc)?)?;
+    Ok(write_table(alloc, &verified, writer))
+}
+
+/// The whole table.
+fn written(alloc: Global) -> Result<Vec<u8>, Fail> {
+    let mut bytes = Vec::new(alloc);
+    write_to(alloc, &mut bytes)??;
+    Ok(bytes)
+}
 
 /// How a writer fails, and the cause that is reported.
 const FAILURES: [(Failure, ErrorKind); 3] = [
@@ -21,36 +42,39 @@ const FAILURES: [(Failure, ErrorKind); 3] = [
 /// How many bytes are written before: none, a part of the head, of entry 0, and of entry 1.
 const ROOMS: [usize; 5] = [0, 5, 8, 100, 371];
 
-/// Writes the program's table.
-fn write_to<W: Write>(alloc: Global, writer: &mut W) -> Result<Result<(), WriteTableError>, Fail> {
-    let verified = verify(alloc, image(alloc)?)?;
-    Ok(write_table(alloc, &verified, writer))
+/// What is answered where a writer fails after so many bytes, and what that took.
+fn cut(
+    alloc: Global,
+    room: usize,
+    failing: Failure,
+) -> Result<(Result<(), WriteTableError>, Vec<u8>), Fail> {
+    let mut writer = Writer::new(alloc, 7, room, Some(failing));
+    let answer = write_to(alloc, &mut writer)?;
+    Ok((answer, writer.taken))
 }
 
-#[test]
-fn writes_a_table(rt: HostRuntime) -> Result<(), Fail> {
-    let alloc = rt.alloc();
-    let mut bytes = Vec::new(alloc);
-    let answer = write_to(alloc, &mut bytes)?;
-    assert_eq!(rt; answer, Ok(()));
-    let table = table_with(alloc, &TWO)?;
-    assert_eq!(rt; bytes.as_slice(), table.as_slice());
-    let verified = recheck(alloc, image(alloc)?, &bytes)?;
-    assert_eq!(rt; verified.bound(), 2);
+fn is_cut(
+    rt: &(impl Abort + AllocGlobal),
+    table: &[u8],
+    room: usize,
+    failing: Failure,
+    kind: ErrorKind,
+) -> Result<(), Fail> {
+    let (answer, taken) = cut(rt.alloc(), room, failing)?;
+    assert_eq!(rt;
+        (answer, Some(taken.as_slice())),
+        (Err(WriteTableError::Writer(kind)), table.get(..room)),
+        "after {room}"
+    );
     Ok(())
 }
 
 #[test]
 fn stops_where_the_writer_fails(rt: HostRuntime) -> Result<(), Fail> {
-    let alloc = rt.alloc();
-    let table = table_with(alloc, &TWO)?;
+    let table = written(rt.alloc())?;
     for (failing, kind) in FAILURES.iter() {
         for room in ROOMS.iter() {
-            let mut writer = Writer::new(alloc, 7, *room, Some(*failing));
-            let answer = write_to(alloc, &mut writer)?;
-            assert_eq!(rt; answer, Err(WriteTableError::Writer(*kind)), "after {room}");
-            assert_eq!(rt; writer.taken.len(), *room);
-            assert!(rt; table.starts_with(&writer.taken), "after {room}");
+            is_cut(&rt, &table, *room, *failing, *kind)?;
         }
     }
     Ok(())
