@@ -1,4 +1,4 @@
-//! Tests of programs as bytes and as texts, and of the verifier.
+//! Tests of programs as bytes and as texts, and of the verifier, by calls.
 //!
 //! They are here, since a crate with tests is proved twice.
 #![tactic(auto)]

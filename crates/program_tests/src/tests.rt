@@ -1,6 +1,10 @@
-//! A module for each part that is tested, and the programs that texts spell.
+//! What only calls show: tokens, facts of control flow, states after some steps, bytes that are cut
+//! within an instruction, and outputs that fail. What the commands show of texts, images and
+//! verdicts is in tests/programs.
 
-mod bytes;
+mod cuts;
+mod flows;
+mod lexemes;
+mod outputs;
 mod programs;
-mod texts;
-mod verifier;
+mod steps;

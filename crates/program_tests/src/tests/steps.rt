@@ -1,0 +1,72 @@
+//! States after some steps of the verifier.
+
+use super::programs::image_of;
+use image::Image;
+use isa_model::Reg;
+use reg_state::{Domain, Kind};
+use stack_state::State;
+use std::alloc::Global;
+use std::test::Fail;
+use transfer::{Refusal, Successors, step};
+
+/// The step, where an instruction begins at the state's slot.
+fn stepped(image: &Image, state: &State) -> Option<Result<Successors, Refusal>> {
+    match image.at(state.slot) {
+        None => None,
+        Some(_) => Some(step(image, state)),
+    }
+}
+
+/// The first successor, or the second.
+fn successor(image: &Image, state: &State, is_second: bool) -> Option<State> {
+    match stepped(image, state) {
+        Some(Ok(Successors::One(next))) if !is_second => Some(next),
+        Some(Ok(Successors::Two(stay, go))) => Some(if is_second { go } else { stay }),
+        _ => None,
+    }
+}
+
+/// The state after steps to the first or to the second successors.
+fn walked(image: &Image, way: &[bool]) -> Option<State> {
+    let mut state = State::start();
+    for is_second in way {
+        state = successor(image, &state, *is_second)?;
+    }
+    Some(state)
+}
+
+/// Its slot, and the number in r0, if it is known.
+fn told(alloc: Global, text: &str, way: &[bool]) -> Result<Option<(usize, Option<u64>)>, Fail> {
+    let image = image_of(alloc, text)?;
+    let Some(state) = walked(&image, way) else {
+        return Ok(None);
+    };
+    let number = match state.kind_of(Reg::R0) {
+        Kind::Number(numbers) => numbers.number(),
+        _ => None,
+    };
+    Ok(Some((state.slot, number)))
+}
+
+/// A 32-bit result has an upper half of zeros.
+const REMAINDER: &str = "r0 = -1; r1 = 0; w0 %= w1; r0 >>= 31; exit";
+
+/// Both sides of a jump are narrowed.
+const JUMP: &str = "r0 = *(u32 *)(r1 + 12); if r0 == 7 goto +1; r0 = 0; exit";
+
+/// A text, whether each step goes to the second successor, the slot, and what is known of r0.
+const STATES: [(&str, &[bool], Option<(usize, Option<u64>)>); 5] = [
+    (REMAINDER, &[false; 4], Some((4, Some(1)))),
+    (REMAINDER, &[true], None),
+    (JUMP, &[false], Some((1, None))),
+    (JUMP, &[false, false], Some((2, None))),
+    (JUMP, &[false, true], Some((3, Some(7)))),
+];
+
+#[test]
+fn states_after_steps(rt: HostRuntime) -> Result<(), Fail> {
+    for (text, way, wanted) in STATES.iter() {
+        assert_eq!(rt; told(rt.alloc(), *text, *way)?, *wanted, "{text}");
+    }
+    Ok(())
+}
