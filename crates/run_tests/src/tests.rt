@@ -1,6 +1,7 @@
-//! A module for each part that is tested, and the programs that texts spell.
+//! What only calls show: other clocks, the stores of maps, and streams that fail. What the commands
+//! show of runs, maps and streams is in tests/programs.
 
-mod machines;
+mod clocks;
 mod map_stores;
 mod programs;
 mod streams;

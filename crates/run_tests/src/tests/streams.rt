@@ -1,9 +1,8 @@
-//! What reads and writes streams, and the runs between two streams.
+//! What reads and writes streams, and the runs between two streams, where a read or a write fails.
 
+mod broken;
 mod buffers;
 mod cases;
 mod failures;
-mod reasons;
 mod records;
-mod streams;
 mod transfers;

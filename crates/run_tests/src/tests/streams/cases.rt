@@ -5,7 +5,6 @@ use explorer::verify;
 use failing_io::{Failure, Reader, Writer};
 use host::{HostError, Tally, run, run_checked, tally_in};
 use image::Image;
-use isa_model::Fault;
 use std::alloc::Global;
 use std::io::ErrorKind;
 use std::process::Abort;
@@ -109,32 +108,4 @@ pub fn ends_so(rt: &(impl AllocGlobal + Abort), case: &Case<'_>) -> Result<(), F
         "{text}"
     );
     Ok(())
-}
-
-/// A program, the most steps where every access is tested, the frames, how many they are and the
-/// fault that ends them, the report and the frames out.
-pub type Row<'a> = (
-    &'a str,
-    Option<u32>,
-    &'a [u8],
-    (u32, Option<(Fault, u64)>),
-    &'a [u8],
-    &'a [u8],
-);
-
-/// A run into outputs that take all.
-pub fn is_run(rt: &(impl AllocGlobal + Abort), row: &Row<'_>) -> Result<(), Fail> {
-    let (text, limit, given, (frames, fault), lines, sent) = *row;
-    let case = Case {
-        text,
-        limit,
-        given,
-        is_broken: false,
-        report: ENDLESS,
-        out: ENDLESS,
-        answer: Ok(Tally { frames, fault }),
-        lines,
-        sent,
-    };
-    ends_so(rt, &case)
 }

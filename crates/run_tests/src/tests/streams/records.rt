@@ -1,12 +1,10 @@
-//! Streams that are cut, damaged or broken, from readers and to writers that fail at each byte.
+//! Records from readers and to writers that fail at each byte, and the magic.
 
 use failing_io::{FAILURES, Failure, Reader, Writer};
 use frames::{FrameReader, Next, write_frame};
 use isa_model::{Fault, FrameHead};
-use std::alloc::Global;
 use std::io::ErrorKind;
 use std::process::Abort;
-use std::test::Fail;
 
 // The magic and two empty records.
 const TWO: [u8; 44] = [
@@ -19,9 +17,6 @@ const HEAD: FrameHead = FrameHead {
     interface: 0x0c0b_0a09,
     queue: 0x100f_0e0d,
 };
-
-// The head's three numbers.
-const HEAD_BYTES: &[u8] = &[1, 2, 3, 4, 5, 6, 7, 8, 9, 10, 11, 12, 13, 14, 15, 16];
 
 // The magic, and a record of five bytes.
 const RECORD: [u8; 29] =
@@ -76,36 +71,6 @@ fn stops_so(
     }
 }
 
-const CUT_HEAD: Fault = Fault::TruncatedHead;
-
-#[rattlefmt::skip]
-const CUT: [Stop; 6] = [
-    (0, 0, Next::Fault(Fault::BadMagic, 0)),
-    (4, 0, Next::End),
-    (5, 0, Next::Fault(CUT_HEAD, 4)),
-    (24, 1, Next::End),
-    (25, 1, Next::Fault(CUT_HEAD, 24)),
-    (44, 2, Next::End),
-];
-
-const CUT_BODY: [Stop; 1] = [(24, 0, Next::Fault(Fault::TruncatedBody, 4))];
-
-// Streams, from which length on they are cut and before which, and how they stop.
-const FRONTS: [(&[u8], usize, usize, &[Stop]); 2] = [
-    (&TWO, 0, 45, &CUT),
-    (&RECORD, 24, 29, &CUT_BODY),
-];
-
-#[test]
-fn cut(rt: HostRuntime) {
-    for (stream, from, to, stops) in FRONTS.iter() {
-        for length in *from..*to {
-            let front = stream.get(..length).unwrap_or(*stream);
-            stops_so(&rt, front, length, None, stop_at(*stops, length));
-        }
-    }
-}
-
 #[rattlefmt::skip]
 const BROKEN: [Stop; 4] = [
     (0, 0, Next::Fault(Fault::ReadFailed, 0)),
@@ -137,137 +102,6 @@ fn broken(rt: HostRuntime) {
             }
         }
     }
-}
-
-// What is damaged in the two records, how many come before the stop, and the stop.
-#[rattlefmt::skip]
-const DAMAGED: [(&[(usize, u8)], u32, Next); 8] = [
-    (&[(3, 51)], 0, Next::Fault(Fault::BadMagic, 0)),
-    (&[(20, 20)], 1, Next::End),
-    (&[(20, 21)], 0, Next::Fault(Fault::TruncatedBody, 4)),
-    (&[(21, 16)], 0, Next::Fault(Fault::TruncatedBody, 4)),
-    (&[(41, 16)], 1, Next::Fault(Fault::TruncatedBody, 24)),
-    (&[(41, 17)], 1, Next::Fault(Fault::TooLong, 24)),
-    (&[(23, 1)], 0, Next::Fault(Fault::TooLong, 4)),
-    (&[(20, 1), (21, 16)], 0, Next::Fault(Fault::TooLong, 4)),
-];
-
-// The two records with other bytes in some places.
-fn with_bytes(changes: &[(usize, u8)]) -> [u8; 44] {
-    let mut bytes = TWO;
-    for (place, value) in changes {
-        if let Some(byte) = bytes.get_mut(*place) {
-            *byte = *value;
-        }
-    }
-    bytes
-}
-
-#[test]
-fn damaged(rt: HostRuntime) {
-    for (changes, count, stop) in DAMAGED.iter() {
-        stops_so(&rt, &with_bytes(*changes), 0, None, (*count, *stop));
-    }
-}
-
-// Appends a record to a stream.
-fn add_record(bytes: &mut Vec<u8>, head: &FrameHead, body: &[u8]) -> Result<(), Fail> {
-    if body.len() <= 4096 {
-        write_frame(bytes, head, body)?;
-    }
-    Ok(())
-}
-
-// Two records, of 4,096 bytes and of none.
-fn full_and_empty(alloc: Global, body: &[u8]) -> Result<Vec<u8>, Fail> {
-    let mut bytes = b"XPF1".to_vec(alloc)?;
-    add_record(&mut bytes, &HEAD, body)?;
-    add_record(&mut bytes, &HEAD, &[])?;
-    Ok(bytes)
-}
-
-// A body of 4,096 bytes whose ends are marked.
-fn full_body() -> [u8; 4096] {
-    let mut body = [7u8; 4096];
-    body[0] = 1;
-    body[4095] = 2;
-    body
-}
-
-// The lengths of the two.
-const FULL: &[u8] = &[0, 16, 0, 0];
-
-const EMPTY: &[u8] = &[0, 0, 0, 0];
-
-// The same two, byte by byte.
-fn wanted_bytes(alloc: Global, body: &[u8]) -> Result<Vec<u8>, Fail> {
-    let mut bytes = b"XPF1".to_vec(alloc)?;
-    for part in [HEAD_BYTES, FULL, body, HEAD_BYTES, EMPTY] {
-        bytes.extend_from_slice(part)?;
-    }
-    Ok(bytes)
-}
-
-#[test]
-fn writes_records(rt: HostRuntime) -> Result<(), Fail> {
-    let body = full_body();
-    let bytes = full_and_empty(rt.alloc(), &body)?;
-    let wanted = wanted_bytes(rt.alloc(), &body)?;
-    assert_eq!(rt; bytes.as_slice(), wanted.as_slice());
-    Ok(())
-}
-
-// Every record of a stream, and what the buffer holds after the first.
-fn next_are(rt: &impl Abort, bytes: &[u8], wanted: &[Next], body: &[u8]) {
-    let mut source = FrameReader::new(bytes);
-    let mut buffer = [0; 9216];
-    for (index, next) in wanted.iter().enumerate() {
-        let found = source.next(&mut buffer);
-        assert_eq!(rt; found, *next, "record {index}");
-        if index == 0 {
-            assert_eq!(rt; buffer.get(..body.len()), Some(body));
-        }
-    }
-}
-
-#[test]
-fn reads_records(rt: HostRuntime) -> Result<(), Fail> {
-    let body = full_body();
-    let bytes = full_and_empty(rt.alloc(), &body)?;
-    let first = Next::Frame(HEAD, 4096, 0);
-    let wanted = [first, Next::Frame(HEAD, 0, 0), Next::End, Next::End];
-    next_are(&rt, &bytes, &wanted, &body);
-    Ok(())
-}
-
-// The bodies of 300 records have 0 to 5 bytes, 750 together, and 19 bytes of a head follow them.
-fn many(alloc: Global) -> Result<Vec<u8>, Fail> {
-    let mut bytes = b"XPF1".to_vec(alloc)?;
-    for time in 0..300u64 {
-        let head = FrameHead { time, ..HEAD };
-        add_record(&mut bytes, &head, &[7; 6][..time as usize % 6])?;
-    }
-    bytes.extend_from_slice(&[0; 19])?;
-    Ok(bytes)
-}
-
-// They, and the fault after them.
-fn many_wanted(alloc: Global) -> Result<Vec<Next>, Fail> {
-    let mut wanted = Vec::new(alloc);
-    for time in 0..300u64 {
-        let head = FrameHead { time, ..HEAD };
-        wanted.push(Next::Frame(head, time as usize % 6, 0))?;
-    }
-    wanted.push(Next::Fault(CUT_HEAD, 4 + 300 * 20 + 750))?;
-    Ok(wanted)
-}
-
-#[test]
-fn many_records(rt: HostRuntime) -> Result<(), Fail> {
-    let bytes = many(rt.alloc())?;
-    let wanted = many_wanted(rt.alloc())?;
-    next_are(&rt, &bytes, &wanted, &[]);
-    Ok(())
 }
 
 // Why writing the record fails, if it does.

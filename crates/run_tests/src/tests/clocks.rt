@@ -1,0 +1,41 @@
+//! A clock that stands still at the last time that there is.
+
+ghost use Rattle.std.proofs.Common.{lit<};
+
+use super::programs::image_of;
+use checked_vm::Checked;
+use isa_model::{Clock, End, FrameHead};
+use std::alloc::Global;
+use std::test::Fail;
+
+#[derive(Drop)]
+struct Last;
+
+impl Clock for Last {
+    ghost at = { λ _ _. 0xffffffffffffffff };
+
+    ghost within = { λ _ _. lit< tt };
+
+    fn now(&mut self) -> u64 {
+        0xffff_ffff_ffff_ffff
+    }
+}
+
+const HEAD: FrameHead = FrameHead {
+    time: 0,
+    interface: 0,
+    queue: 0,
+};
+
+/// How a run of a program on an empty packet ends by that clock.
+fn end_of(alloc: Global, text: &str) -> Result<End, Fail> {
+    let mut checked = Checked::new(alloc, image_of(alloc, text)?)?;
+    Ok(checked.run(HEAD, &mut [], &mut Last, 100))
+}
+
+#[test]
+fn the_clock_answers_in_64_bits(rt: HostRuntime) -> Result<(), Fail> {
+    let end = end_of(rt.alloc(), "call 5; r0 &= 3; exit")?;
+    assert_eq!(rt; end, End::Exit(3, 3));
+    Ok(())
+}
