@@ -2,13 +2,7 @@
 
 use maps::{MapStore, delete, lookup, update};
 
-pub const ENOENT: u64 = 0xffff_ffff_ffff_fffe;
-
 pub const E2BIG: u64 = 0xffff_ffff_ffff_fff9;
-
-pub const EEXIST: u64 = 0xffff_ffff_ffff_ffef;
-
-pub const EINVAL: u64 = 0xffff_ffff_ffff_ffea;
 
 /// No command answers this: a key or a value has not the map's size.
 pub const WRONG_SIZE: u64 = 1;

@@ -1,74 +1,9 @@
 //! The stores, each by itself and next to others.
 
-use super::answers::{E2BIG, EEXIST, EINVAL, ENOENT, answer, value_of};
+use super::answers::{E2BIG, answer, value_of};
 use maps::{ArrayMap, HashMapChain, HashMapScan, MapStore};
 use std::process::Abort;
 use std::test::Fail;
-
-/// A key, the flags of an update or none of a delete, and the answer.
-type Command = (&'static [u8], Option<u64>, u64);
-
-/// The store answers the commands so, one after the other, where updates write this value.
-fn answers_so<S: MapStore>(rt: &impl Abort, store: &mut S, value: &[u8], rows: &[Command]) {
-    for (key, flags, wanted) in rows {
-        let found = answer(store, *key, value, *flags);
-        assert_eq!(rt; found, *wanted, "{key:?} {flags:?}");
-    }
-}
-
-const TEN: [Command; 10] = [
-    (&[1], None, ENOENT),
-    (&[1], Some(2), ENOENT),
-    (&[1], Some(0), 0),
-    (&[1], Some(1), EEXIST),
-    (&[2], Some(0), E2BIG),
-    (&[2], Some(2), ENOENT),
-    (&[2], Some(3), EINVAL),
-    (&[1], Some(2), 0),
-    (&[1], None, 0),
-    (&[2], Some(1), 0),
-];
-
-#[test]
-fn one_entry_takes_ten_commands(rt: HostRuntime) -> Result<(), Fail> {
-    let mut chain = HashMapChain::new(rt.alloc(), 1, 1, 1)?;
-    answers_so(&rt, &mut chain, &[7], &TEN);
-    let mut scan = HashMapScan::new(rt.alloc(), 1, 1, 1)?;
-    answers_so(&rt, &mut scan, &[7], &TEN);
-    Ok(())
-}
-
-const OF_AN_ARRAY: [Command; 7] = [
-    (&[2, 0, 0, 0], Some(1), E2BIG),
-    (&[2, 0, 0, 0], Some(9), EINVAL),
-    (&[1, 0, 0, 0], Some(0), 0),
-    (&[1, 0, 0, 0], Some(1), EEXIST),
-    (&[1, 0, 0, 0], Some(2), 0),
-    (&[1, 0, 0, 0], Some(3), EINVAL),
-    (&[1, 0, 0, 0], None, EINVAL),
-];
-
-/// The value of an index, of 8 bytes.
-fn eight_of(array: &ArrayMap, index: u8) -> Option<[u8; 8]> {
-    match value_of(array, &[index, 0, 0, 0]) {
-        Some([a, b, c, d, e, f, g, h]) => Some([*a, *b, *c, *d, *e, *f, *g, *h]),
-        _ => None,
-    }
-}
-
-#[test]
-fn array_has_all_its_indexes(rt: HostRuntime) -> Result<(), Fail> {
-    let mut array = ArrayMap::new(rt.alloc(), 8, 2)?;
-    assert_eq!(rt; eight_of(&array, 1), Some([0; 8]));
-    answers_so(&rt, &mut array, &[9; 8], &OF_AN_ARRAY);
-    let values = [
-        eight_of(&array, 0),
-        eight_of(&array, 1),
-        eight_of(&array, 2),
-    ];
-    assert_eq!(rt; values, [Some([0; 8]), Some([9; 8]), None]);
-    Ok(())
-}
 
 /// The answer where a number gets itself as its value.
 fn put(chain: &mut HashMapChain, number: u32) -> u64 {
