@@ -1,4 +1,5 @@
-//! Tests of the calls of `embedding`.
+//! Tests of the calls from C and Rust: of `verdict_calls`, `table_calls`, `run_calls` and
+//! `session_calls`.
 //!
 //! They are here, since a crate with tests is proved twice.
 #![tactic(auto)]

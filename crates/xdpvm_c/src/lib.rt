@@ -1,4 +1,5 @@
-//! The calls of `embedding`, exported for C and Rust.
+//! The calls of `verdict_calls`, `table_calls`, `run_calls` and `session_calls`, exported for C and
+//! Rust.
 //!
 //! An export has no `requires`, since nothing makes a caller meet it. It is one call, and says what
 //! that call says. `examples/embed/xdpvm.h` declares the same for C.

@@ -3,14 +3,15 @@
 ghost use Rattle.std.specs.Prelude.{◌≡◌, ◌≢◌, ◌<◌, ◌↔◌, length, ◌⊎◌};
 ghost use Rattle.isa_model.specs.Code.Limits.{max_steps};
 ghost use Rattle.isa_model.specs.{max_packet};
-ghost use Rattle.embedding.specs.Crossing.{IsStatus, IsVerdict};
-ghost use Rattle.embedding.specs.Verdicts.{IsRefusedImage, RunsProgram, IsNoImage};
-ghost use Rattle.embedding.specs.Streams.{RunsStream};
-ghost use Rattle.embedding.specs.Traces.{AnswersTrace};
+ghost use Rattle.verdict_calls.specs.Crossing.{IsStatus, IsVerdict};
+ghost use Rattle.verdict_calls.specs.Verdicts.{IsRefusedImage, IsNoImage};
+ghost use Rattle.run_calls.specs.Runs.{RunsProgram};
+ghost use Rattle.run_calls.specs.Streams.{RunsStream};
+ghost use Rattle.run_calls.specs.Traces.{AnswersTrace};
 
-use embedding::running::{Ended, Head, run_once};
-use embedding::streaming::{Streamed, run_stream};
-use embedding::tracing::{TracedEnd, trace_once};
+use run_calls::running::{Ended, Head, run_once};
+use run_calls::streaming::{Streamed, run_stream};
+use run_calls::tracing::{TracedEnd, trace_once};
 use std::alloc::Global;
 
 /// Verifies an image, and runs its program on a packet, on maps as they start. Why an image is

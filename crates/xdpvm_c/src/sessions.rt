@@ -2,14 +2,14 @@
 
 ghost use Rattle.std.specs.Prelude.{◌≡◌, ◌≢◌, ◌↔◌, None, ◌<◌, ◌⊎◌, length};
 ghost use Rattle.isa_model.specs.{max_packet};
-ghost use Rattle.embedding.specs.Crossing.{IsStatus, IsChange};
-ghost use Rattle.embedding.specs.Verdicts.{IsRefusedImage};
-ghost use Rattle.embedding.specs.Sessions.{OpensSession, RunsSession};
-ghost use Rattle.embedding.specs.Tables.{IsRefusedTable};
+ghost use Rattle.verdict_calls.specs.Crossing.{IsStatus, IsChange};
+ghost use Rattle.verdict_calls.specs.Verdicts.{IsRefusedImage};
+ghost use Rattle.session_calls.specs.Sessions.{OpensSession, RunsSession};
+ghost use Rattle.table_calls.specs.Tables.{IsRefusedTable};
 
-use embedding::opening::{close_session, open_image, open_with_table, run_session};
-use embedding::running::{Ended, Head};
 use held_machines::Session;
+use run_calls::running::{Ended, Head};
+use session_calls::opening::{close_session, open_image, open_with_table, run_session};
 use std::alloc::Global;
 
 /// Verifies an image, and opens a session on its program, with maps as they start. The session is

@@ -2,14 +2,14 @@
 
 ghost use Rattle.std.specs.Prelude.{◌≡◌, ◌≢◌, ◌<◌, ◌↔◌, ◌⊎◌};
 ghost use Rattle.isa_model.specs.Code.Limits.{max_explored};
-ghost use Rattle.embedding.specs.Crossing.{IsVerdict, IsDecision};
-ghost use Rattle.embedding.specs.Verdicts.{FillsAssembledImage, FillsTextRefusal, IsAcceptedImage, FillsImageRefusal, IsUndecided};
-ghost use Rattle.embedding.specs.Tables.{FillsTableRefusal};
+ghost use Rattle.verdict_calls.specs.Crossing.{IsVerdict, IsDecision};
+ghost use Rattle.verdict_calls.specs.Verdicts.{FillsAssembledImage, FillsTextRefusal, IsAcceptedImage, FillsImageRefusal, IsUndecided};
+ghost use Rattle.table_calls.specs.Tables.{FillsTableRefusal};
 
-use embedding::assembling::{Assembled, assemble_text};
-use embedding::judging::{Verdict, verify_image};
-use embedding::rechecks::{Rechecked, recheck_table};
 use std::alloc::Global;
+use table_calls::rechecks::{Rechecked, recheck_table};
+use verdict_calls::assembling::{Assembled, assemble_text};
+use verdict_calls::judging::{Verdict, verify_image};
 
 /// Assembles a text. The image goes to `image`, and why the text is refused to `why`, as far as
 /// there is room.

@@ -1,6 +1,6 @@
 //! The images that are tested, as docs/FORMATS.md and docs/REFUSALS.md show them.
 
-use embedding::running::Head;
+use run_calls::running::Head;
 
 /// `r0 = 2; exit`.
 pub const PASS: [u8; 24] = *b"XBP1\0\0\x02\0\xb7\0\0\0\x02\0\0\0\x95\0\0\0\0\0\0\0";

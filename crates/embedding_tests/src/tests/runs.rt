@@ -1,9 +1,9 @@
 //! Runs on one packet, and over streams.
 
 use super::images::{ENDLESS, HEAD, INTERFACE, OTHER, PASS, UNGUARDED};
-use embedding::running::{Ended, run_once};
-use embedding::streaming::{Streamed, run_stream};
-use embedding::tracing::{TracedEnd, trace_once};
+use run_calls::running::{Ended, run_once};
+use run_calls::streaming::{Streamed, run_stream};
+use run_calls::tracing::{TracedEnd, trace_once};
 use std::alloc::Global;
 
 /// The status, and the answer and the steps, of a run on a packet of that many bytes.

@@ -1,10 +1,10 @@
 //! Sessions: opened, run, looked into and closed.
 
 use super::images::{ENDLESS, HEAD, INTERFACE, OTHER, PASS, UNGUARDED};
-use embedding::map_calls::{Changed, delete_key, key_at_rank, look_up_key, update_key};
-use embedding::opening::{close_session, open_image, open_with_table, run_session};
-use embedding::running::Ended;
 use held_machines::Session;
+use run_calls::running::Ended;
+use session_calls::map_calls::{Changed, delete_key, key_at_rank, look_up_key, update_key};
+use session_calls::opening::{close_session, open_image, open_with_table, run_session};
 use std::alloc::Global;
 
 /// `r0 = 2; exit`, with a hash map of two entries, of keys of 2 bytes and values of 3, and an array

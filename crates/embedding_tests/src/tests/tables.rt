@@ -1,8 +1,8 @@
 //! Proof tables of `r0 = 2; exit`.
 
 use super::images::{ENDLESS, OTHER, PASS};
-use embedding::rechecks::{Rechecked, recheck_table};
 use std::alloc::{AllocError, Global};
+use table_calls::rechecks::{Rechecked, recheck_table};
 
 /// The number 2: value and mask, then its limits at 64 and 32 bits.
 const TWO: [u8; 65] = *b"\x01\

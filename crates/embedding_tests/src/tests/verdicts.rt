@@ -1,10 +1,10 @@
 //! Texts, images and names.
 
 use super::images::{ENDLESS, OTHER, PASS, UNGUARDED};
-use embedding::assembling::{Assembled, assemble_text};
-use embedding::judging::{Verdict, verify_image};
-use embedding::naming::{number_of_action, write_version};
 use std::alloc::Global;
+use verdict_calls::assembling::{Assembled, assemble_text};
+use verdict_calls::judging::{Verdict, verify_image};
+use verdict_calls::naming::{number_of_action, write_version};
 
 /// The status, and the size, the line and the column.
 type Answer = (u32, usize, usize, usize);

@@ -1,0 +1,3 @@
+pub mod Runs
+pub mod Traces
+pub mod Streams

@@ -1,0 +1,92 @@
+//! Runs of accepted programs.
+
+ghost use Rattle.std.specs.Prelude.{◌≡◌, ◌≢◌, ◌<◌, ◌↔◌, length, IfSome};
+ghost use Rattle.isa_model.specs.{max_packet};
+ghost use Rattle.isa_model.specs.Reporting.Reports.{starting_contents};
+ghost use Rattle.verdict_calls.specs.Crossing.{IsStatus};
+ghost use Rattle.verdict_calls.specs.Verdicts.{IsRefusedImage};
+ghost use Rattle.run_calls.specs.Runs.{RunsProgram};
+
+use crate::clocks::clock_at;
+use bounds::Verified;
+use isa_model::{FrameHead, MAX_PACKET};
+use machine::Machine;
+use maps::Maps;
+use std::alloc::Global;
+use verdict_calls::judging::verified_of;
+use verdict_calls::statuses::{Failure, MEMORY, OK, REFUSED, WRONG};
+
+/// What a frame's record says beside its bytes: a time in nanoseconds, which helper 5 answers, and
+/// the interface and queue that it came in by.
+#[repr(C)]
+#[derive(Clone, Copy, Drop)]
+pub struct Head {
+    pub time: u64,
+    pub interface: u32,
+    pub queue: u32,
+}
+
+/// How a run ended: its answer, and how many instructions it had.
+#[repr(C)]
+#[derive(Clone, Copy, Drop)]
+pub struct Ended {
+    pub r0: u64,
+    pub steps: u32,
+}
+
+/// The machine of an accepted program, on maps as they start. None: memory ran out.
+pub fn machine_of(alloc: Global, verified: Verified) -> Option<Machine>
+    ensures made { IfSome result (λ machine. machine ≡ record {
+      program = verified.program;
+      bound = verified.bound;
+      contents = starting_contents verified.program.maps;
+    }) }
+{
+    let Ok(maps) = Maps::new(alloc, verified.image()) else {
+        return None;
+    };
+    match Machine::new(alloc, verified, maps) {
+        Ok(machine) => Some(machine),
+        Err(_) => None,
+    }
+}
+
+/// Verifies an image, and runs its program on a packet, on maps as they start. Why an image is
+/// refused `verify_image` says.
+pub fn run_once(alloc: Global, image: &[u8], head: &Head, packet: &mut [u8], out: &mut Ended) -> u32
+    ensures ran { result ≡ 0 → RunsProgram image.now (record {
+      time = head.now.time;
+      interface = head.now.interface;
+      queue = head.now.queue;
+    }) packet.old (record { r0 = out.new.r0; steps = out.new.steps }) packet.new }
+    ensures wrong { (result ≡ 1) ↔ (max_packet < length packet.old) }
+    ensures refused { result ≡ 2 → IsRefusedImage image.now }
+    ensures out_kept { result ≢ 0 → out.new ≡ out.old }
+    ensures packet_kept { result ≢ 0 → packet.new ≡ packet.old }
+    ensures status { IsStatus result }
+{
+    if packet.len() > MAX_PACKET {
+        return WRONG;
+    }
+    let verified = match verified_of(alloc, image) {
+        Ok(verified) => verified,
+        Err(Failure::Refused) => return REFUSED,
+        Err(Failure::Memory) => return MEMORY,
+    };
+    let Some(mut machine) = machine_of(alloc, verified) else {
+        return MEMORY;
+    };
+    let time = head.time;
+    let head = FrameHead {
+        time,
+        interface: head.interface,
+        queue: head.queue,
+    };
+    let mut clock = clock_at(time);
+    let exit = machine.run(head, packet, &mut clock);
+    *out = Ended {
+        r0: exit.r0,
+        steps: exit.steps,
+    };
+    OK
+}

@@ -1,0 +1,115 @@
+//! Runs over whole frame streams.
+
+ghost use Rattle.std.specs.Prelude.{◌≡◌, ◌≢◌, IfSome};
+ghost use Rattle.verdict_calls.specs.Crossing.{IsVerdict};
+ghost use Rattle.verdict_calls.specs.Verdicts.{IsRefusedImage};
+ghost use Rattle.run_calls.specs.Streams.{WritesStream, RunsStream, fault_number, told};
+
+use bounds::Verified;
+use host::{Tally, run};
+use isa_model::Fault;
+use std::alloc::Global;
+use verdict_calls::filling::fill;
+use verdict_calls::judging::verified_of;
+use verdict_calls::statuses::{Failure, MEMORY, OK, REFUSED};
+
+/// What a run over a stream comes to: how many bytes the report and the frames out have, how many
+/// frames were found, and the number of the fault that ended the stream, with the offset of its
+/// record; both are 0 at the stream's end.
+#[repr(C)]
+#[derive(Clone, Copy, Drop)]
+pub struct Streamed {
+    pub report: usize,
+    pub sent: usize,
+    pub offset: u64,
+    pub frames: u32,
+    pub fault: u32,
+}
+
+// The number of a fault: 1 for F1.
+fn number_of(fault: Fault) -> u32
+    ensures { result ≡ fault_number fault }
+{
+    match fault {
+        Fault::BadMagic => 1,
+        Fault::TruncatedHead => 2,
+        Fault::TooLong => 3,
+        Fault::TruncatedBody => 4,
+        Fault::ReadFailed => 5,
+        Fault::TooManyRecords => 6,
+    }
+}
+
+// What is returned after a run with this tally, a report and frames out of these sizes.
+fn told(tally: Tally, report: usize, sent: usize) -> Streamed
+    ensures { result ≡ told tally report sent }
+{
+    let (fault, offset) = match tally.fault {
+        Some((fault, offset)) => (number_of(fault), offset),
+        None => (0, 0),
+    };
+    Streamed {
+        report,
+        sent,
+        offset,
+        frames: tally.frames,
+        fault,
+    }
+}
+
+// What a run over a stream in memory writes.
+#[derive(Drop)]
+struct Written {
+    report: Vec<u8>,
+    sent: Vec<u8>,
+    tally: Tally,
+}
+
+// The report and the frames out of a stream. None: memory ran out.
+fn stream_written(alloc: Global, verified: Verified, frames: &[u8]) -> Option<Written>
+    ensures { IfSome result (λ w. WritesStream verified frames.now
+        w.report.items w.sent.items w.tally) }
+{
+    let mut report = Vec::new(alloc);
+    let mut sent = Vec::new(alloc);
+    match run(alloc, verified, frames, &mut report, &mut sent) {
+        Ok(tally) => Some(Written {
+            report,
+            sent,
+            tally,
+        }),
+        Err(_) => None,
+    }
+}
+
+/// Verifies an image, and runs its program on the frames of a stream. The report goes to `report`
+/// and the frames out to `sent`, as far as there is room; maps live on from frame to frame.
+pub fn run_stream(
+    alloc: Global,
+    image: &[u8],
+    frames: &[u8],
+    report: &mut [u8],
+    sent: &mut [u8],
+    out: &mut Streamed,
+) -> u32
+    ensures ran { result ≡ 0 → RunsStream image.now frames.now
+        report.old sent.old report.new sent.new out.new }
+    ensures refused { result ≡ 2 → IsRefusedImage image.now }
+    ensures report_kept { result ≢ 0 → report.new ≡ report.old }
+    ensures sent_kept { result ≢ 0 → sent.new ≡ sent.old }
+    ensures out_kept { result ≢ 0 → out.new ≡ out.old }
+    ensures status { IsVerdict result }
+{
+    let verified = match verified_of(alloc, image) {
+        Ok(verified) => verified,
+        Err(Failure::Refused) => return REFUSED,
+        Err(Failure::Memory) => return MEMORY,
+    };
+    let Some(written) = stream_written(alloc, verified, frames) else {
+        return MEMORY;
+    };
+    let reported = fill(report, written.report.as_slice());
+    let forwarded = fill(sent, written.sent.as_slice());
+    *out = told(written.tally, reported, forwarded);
+    OK
+}

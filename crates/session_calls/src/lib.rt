@@ -1,0 +1,6 @@
+//! The calls from C and Rust on sessions, programs that stay open: all that they do, but for being
+//! exports. Their statuses are those of `verdict_calls`.
+#![tactic(auto)]
+
+pub mod map_calls;
+pub mod opening;

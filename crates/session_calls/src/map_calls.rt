@@ -1,0 +1,193 @@
+//! The maps of an open program, between runs.
+
+ghost use Rattle.std.specs.Prelude.{◌≡◌, ◌≢◌, ◌↔◌, length, true, None, Some};
+ghost use Rattle.std.specs.List.{slice_get};
+ghost use Rattle.isa_model.specs.Machine.MapContents.{at_key};
+ghost use Rattle.machine.specs.BetweenRuns.{content_at, ordered_at, AnswersUpdate, AnswersDelete, CopiesKeyValue};
+ghost use Rattle.verdict_calls.specs.Crossing.{IsLookUp, IsChange};
+ghost use Rattle.session_calls.specs.Sessions.{HoldsOpen, StaysOpen, FitsKey, FitsMap};
+
+use held_machines::Session;
+use machine::Machine;
+use std::alloc::Global;
+use verdict_calls::statuses::{ABSENT, OK, WRONG};
+
+/// What an update or a delete is answered: 0, or a negative error in 64 bits, as the helpers of a
+/// program are, and then nothing has changed.
+#[repr(C)]
+#[derive(Clone, Copy, Drop)]
+pub struct Changed {
+    pub answer: u64,
+}
+
+// Whether a map is there, with keys of this size.
+fn fits_key(machine: &Machine, map: usize, key: usize) -> bool
+    ensures { (result ≡ true) ↔ FitsKey machine.now map key }
+{
+    map < machine.map_count() && key == usize::from(machine.map_row(map).key_size)
+}
+
+// Whether a map is there, with keys and values of these sizes.
+fn fits_map(machine: &Machine, map: usize, key: usize, value: usize) -> bool
+    ensures { (result ≡ true) ↔ FitsMap machine.now map key value }
+{
+    fits_key(machine, map, key) && value == machine.map_row(map).value_size as usize
+}
+
+fn look_up(machine: &Machine, map: usize, key: &[u8], value: &mut [u8]) -> u32
+    ensures found { result ≡ 0 → at_key key.now (content_at machine.now map) ≡ Some value.new }
+    ensures absent { result ≡ 7 → at_key key.now (content_at machine.now map) ≡ None }
+    ensures fits { (result ≢ 1)
+        ↔ FitsMap machine.now map (length key.now) (length value.old) }
+    ensures kept { result ≢ 0 → value.new ≡ value.old }
+    ensures status { IsLookUp result }
+{
+    if !fits_map(machine, map, key.len(), value.len()) {
+        return WRONG;
+    }
+    match machine.lookup(map, key) {
+        Some(found) => {
+            value.copy_from_slice(found);
+            OK
+        }
+        None => ABSENT,
+    }
+}
+
+/// Looks a key up in a map of an open program. Key and value have the sizes of the map's row.
+pub fn look_up_key(
+    alloc: Global,
+    session: &mut Session,
+    map: usize,
+    key: &[u8],
+    value: &mut [u8],
+) -> u32
+    ensures found { result ≡ 0 → HoldsOpen session.old.held
+        (λ m. at_key key.now (content_at m map) ≡ Some value.new) }
+    ensures absent { result ≡ 7 → HoldsOpen session.old.held
+        (λ m. at_key key.now (content_at m map) ≡ None) }
+    ensures fits { (result ≢ 1) ↔ HoldsOpen session.old.held
+        (λ m. FitsMap m map (length key.now) (length value.old)) }
+    ensures session_kept { session.new.held ≡ session.old.held }
+    ensures kept { result ≢ 0 → value.new ≡ value.old }
+    ensures status { IsLookUp result }
+{
+    let Some(machine) = session.take(alloc) else {
+        return WRONG;
+    };
+    let status = look_up(&machine, map, key, value);
+    session.put(machine);
+    status
+}
+
+/// Writes the value of a key in a map of an open program, or adds the key, as the helper of a
+/// program does. Key and value have the sizes of the map's row.
+pub fn update_key(
+    alloc: Global,
+    session: &mut Session,
+    map: usize,
+    key: &[u8],
+    value: &[u8],
+    flags: u64,
+    out: &mut Changed,
+) -> u32
+    ensures updated { result ≡ 0 → StaysOpen session.old.held session.new.held
+        (AnswersUpdate map key.now value.now flags out.new.answer) }
+    ensures fits { (result ≢ 1) ↔ HoldsOpen session.old.held
+        (λ m. FitsMap m map (length key.now) (length value.now)) }
+    ensures session_kept { result ≢ 0 → session.new.held ≡ session.old.held }
+    ensures kept { result ≢ 0 → out.new ≡ out.old }
+    ensures status { IsChange result }
+{
+    let Some(mut machine) = session.take(alloc) else {
+        return WRONG;
+    };
+    if !fits_map(&machine, map, key.len(), value.len()) {
+        session.put(machine);
+        return WRONG;
+    }
+    let answer = machine.update(map, key, value, flags);
+    session.put(machine);
+    *out = Changed { answer };
+    OK
+}
+
+/// Removes a key from a map of an open program, as the helper of a program does. The key has the
+/// size of the map's row.
+pub fn delete_key(
+    alloc: Global,
+    session: &mut Session,
+    map: usize,
+    key: &[u8],
+    out: &mut Changed,
+) -> u32
+    ensures deleted { result ≡ 0 → StaysOpen session.old.held session.new.held
+        (AnswersDelete map key.now out.new.answer) }
+    ensures fits { (result ≢ 1) ↔ HoldsOpen session.old.held (λ m. FitsKey m map (length key.now)) }
+    ensures session_kept { result ≢ 0 → session.new.held ≡ session.old.held }
+    ensures kept { result ≢ 0 → out.new ≡ out.old }
+    ensures status { IsChange result }
+{
+    let Some(mut machine) = session.take(alloc) else {
+        return WRONG;
+    };
+    if !fits_key(&machine, map, key.len()) {
+        session.put(machine);
+        return WRONG;
+    }
+    let answer = machine.delete(map, key);
+    session.put(machine);
+    *out = Changed { answer };
+    OK
+}
+
+// The status of a copied key with its value.
+fn copy(machine: &mut Machine, map: usize, rank: usize, key: &mut [u8], value: &mut [u8]) -> u32
+    ensures copied { result ≡ 0 → slice_get (ordered_at machine.old map) rank
+        ≡ Some (key.new, value.new) }
+    ensures absent { result ≡ 7 → slice_get (ordered_at machine.old map) rank ≡ None }
+    ensures fits { (result ≢ 1)
+        ↔ FitsMap machine.old map (length key.old) (length value.old) }
+    ensures same { machine.new ≡ machine.old }
+    ensures key_kept { result ≢ 0 → key.new ≡ key.old }
+    ensures value_kept { result ≢ 0 → value.new ≡ value.old }
+    ensures status { IsLookUp result }
+{
+    if !fits_map(machine, map, key.len(), value.len()) {
+        return WRONG;
+    }
+    if machine.copy_key_value(map, rank, key, value) {
+        OK
+    } else {
+        ABSENT
+    }
+}
+
+/// The key at a rank, from 0, in the order of the report, with its value: of an array by its index,
+/// of a hash map by the bytes of the keys. Key and value have the sizes of the map's row.
+pub fn key_at_rank(
+    alloc: Global,
+    session: &mut Session,
+    map: usize,
+    rank: usize,
+    key: &mut [u8],
+    value: &mut [u8],
+) -> u32
+    ensures copied { result ≡ 0 → HoldsOpen session.old.held
+        (λ m. slice_get (ordered_at m map) rank ≡ Some (key.new, value.new)) }
+    ensures absent { result ≡ 7 → HoldsOpen session.old.held
+        (λ m. slice_get (ordered_at m map) rank ≡ None) }
+    ensures fits { (result ≢ 1) ↔ HoldsOpen session.old.held
+        (λ m. FitsMap m map (length key.old) (length value.old)) }
+    ensures session_kept { session.new.held ≡ session.old.held }
+    ensures key_kept { result ≢ 0 → key.new ≡ key.old }
+    ensures value_kept { result ≢ 0 → value.new ≡ value.old }
+    ensures status { IsLookUp result }
+{
+    let Some(mut machine) = session.take(alloc) else {
+        return WRONG;
+    };
+    let status = copy(&mut machine, map, rank, key, value);
+    session.put(machine);
+    status
+}

@@ -1,0 +1,141 @@
+//! Sessions opened, run and closed.
+
+ghost use Rattle.std.specs.Prelude.{◌≡◌, ◌≢◌, ◌<◌, ◌↔◌, ◌⊎◌, length, is_some, None, Some};
+ghost use Rattle.isa_model.specs.{max_packet};
+ghost use Rattle.isa_model.specs.Reporting.Reports.{starting_contents};
+ghost use Rattle.verdict_calls.specs.Crossing.{IsStatus, IsChange};
+ghost use Rattle.verdict_calls.specs.Verdicts.{IsRefusedImage};
+ghost use Rattle.table_calls.specs.Tables.{IsRefusedTable};
+ghost use Rattle.session_calls.specs.Sessions.{OpensSession, RunsSession};
+
+use bounds::Verified;
+use held_machines::Session;
+use isa_model::{FrameHead, MAX_PACKET};
+use run_calls::clocks::clock_at;
+use run_calls::running::{Ended, Head, machine_of};
+use std::alloc::Global;
+use table_calls::rechecks::table_verified;
+use verdict_calls::judging::verified_of;
+use verdict_calls::statuses::{Failure, MEMORY, OK, REFUSED, WRONG};
+
+// Opens a session on an accepted program, with maps as they start.
+fn open(alloc: Global, verified: Verified, session: &mut Session) -> u32
+    ensures opened { result ≡ 0 → session.new.held ≡ Some (record {
+      program = verified.program;
+      bound = verified.bound;
+      contents = starting_contents verified.program.maps;
+    }) }
+    ensures kept { result ≢ 0 → session.new.held ≡ session.old.held }
+    ensures status { (result ≡ 0) ⊎ (result ≡ 5) }
+{
+    let Some(machine) = machine_of(alloc, verified) else {
+        return MEMORY;
+    };
+    match Box::new(alloc, machine) {
+        Ok(machine) => {
+            session.put(machine);
+            OK
+        }
+        Err(_) => MEMORY,
+    }
+}
+
+// Whether a session holds a machine.
+fn is_open(alloc: Global, session: &mut Session) -> bool
+    ensures answer { result ≡ is_some session.old.held }
+    ensures same { session.new.held ≡ session.old.held }
+{
+    match session.take(alloc) {
+        Some(machine) => {
+            session.put(machine);
+            true
+        }
+        None => false,
+    }
+}
+
+/// Verifies an image, and opens a session on its program, with maps as they start. The session is
+/// closed before: all zero bytes, or what `close_session` left.
+pub fn open_image(alloc: Global, image: &[u8], session: &mut Session) -> u32
+    ensures opened { result ≡ 0 → OpensSession image.now session.new.held }
+    ensures wrong { (result ≡ 1) ↔ (session.old.held ≢ None) }
+    ensures refused { result ≡ 2 → IsRefusedImage image.now }
+    ensures kept { result ≢ 0 → session.new.held ≡ session.old.held }
+    ensures status { IsStatus result }
+{
+    if is_open(alloc, session) {
+        return WRONG;
+    }
+    match verified_of(alloc, image) {
+        Ok(verified) => open(alloc, verified, session),
+        Err(Failure::Refused) => REFUSED,
+        Err(Failure::Memory) => MEMORY,
+    }
+}
+
+/// The same, shown by a proof table of the image's program, whoever made it.
+pub fn open_with_table(alloc: Global, image: &[u8], table: &[u8], session: &mut Session) -> u32
+    ensures opened { result ≡ 0 → OpensSession image.now session.new.held }
+    ensures wrong { (result ≡ 1) ↔ (session.old.held ≢ None) }
+    ensures refused { result ≡ 2 → IsRefusedTable image.now table.now }
+    ensures kept { result ≢ 0 → session.new.held ≡ session.old.held }
+    ensures status { IsStatus result }
+{
+    if is_open(alloc, session) {
+        return WRONG;
+    }
+    match table_verified(alloc, image, table) {
+        Ok(verified) => open(alloc, verified, session),
+        Err(Failure::Refused) => REFUSED,
+        Err(Failure::Memory) => MEMORY,
+    }
+}
+
+/// Runs an open program on a packet, in place. Its maps go on from run to run.
+pub fn run_session(
+    alloc: Global,
+    session: &mut Session,
+    head: &Head,
+    packet: &mut [u8],
+    out: &mut Ended,
+) -> u32
+    ensures ran { result ≡ 0 → RunsSession session.old.held session.new.held (record {
+      time = head.now.time;
+      interface = head.now.interface;
+      queue = head.now.queue;
+    }) packet.old (record { r0 = out.new.r0; steps = out.new.steps }) packet.new }
+    ensures wrong { (result ≡ 1)
+        ↔ ((session.old.held ≡ None) ⊎ (max_packet < length packet.old)) }
+    ensures session_kept { result ≢ 0 → session.new.held ≡ session.old.held }
+    ensures out_kept { result ≢ 0 → out.new ≡ out.old }
+    ensures packet_kept { result ≢ 0 → packet.new ≡ packet.old }
+    ensures status { IsChange result }
+{
+    if packet.len() > MAX_PACKET {
+        return WRONG;
+    }
+    let Some(mut machine) = session.take(alloc) else {
+        return WRONG;
+    };
+    let time = head.time;
+    let head = FrameHead {
+        time,
+        interface: head.interface,
+        queue: head.queue,
+    };
+    let mut clock = clock_at(time);
+    let exit = machine.run(head, packet, &mut clock);
+    session.put(machine);
+    *out = Ended {
+        r0: exit.r0,
+        steps: exit.steps,
+    };
+    OK
+}
+
+/// Closes a session, and gives its memory back. A closed one stays as it is.
+pub fn close_session(alloc: Global, session: &mut Session)
+    ensures { session.new.held ≡ None }
+{
+    let _machine = session.take(alloc);
+}

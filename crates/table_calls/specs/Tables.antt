@@ -1,0 +1,63 @@
+-- What is answered of a proof table.
+use Rattle.std.specs.Prelude.{◌≡◌, ℕ, Bool, true, false, List, Some, ◌⊎◌}
+use Rattle.isa_model.specs.Code.Instructions.{Program}
+use Rattle.control_flow.specs.declared.errors.FlowError.TheVariants as flow
+use Rattle.image.specs.Images.{image_bytes}
+use Rattle.table_entries.specs.declared.faults.TableFault.TheVariants as fault
+use Rattle.rechecking.specs.declared.errors.TableError.{TableError}
+use Rattle.rechecking.specs.declared.errors.TableError.TheVariants.{Flow, Fault, Start, Step, Successor}
+use Rattle.rechecking.specs.Refusing.{TableIsRefused}
+use Rattle.table_calls.specs.declared.rechecks.Rechecked.{Rechecked}
+use Rattle.image.specs.declared.errors.ImageError.{ImageError}
+use Rattle.image.specs.Refusals.{refusal_of}
+use Rattle.verdict_calls.specs.Crossing.{FillsBuffer}
+use Rattle.refusal_texts.specs.Texts.{image_text, TellsTableRefusal}
+use Rattle.verdict_calls.specs.Verdicts.{IsNoImage}
+
+-- a rule that is broken, at an entry; `said` is how many bytes the text has
+abbrev pub breaks : ℕ → ℕ → ℕ → Rechecked
+breaks said rule entry = record { said = said; bound = 0; rule = rule; entry = entry }
+
+abbrev pub broken : TableError → ℕ → Rechecked
+broken (Flow error slot) said = breaks said 0 0
+broken (Fault fault.Magic) said = breaks said 1 0
+broken (Fault fault.Short) said = breaks said 2 0
+broken (Fault fault.Long) said = breaks said 3 0
+broken (Fault fault.Count) said = breaks said 4 0
+broken (Fault (fault.Entry index)) said = breaks said 5 index
+broken (Fault fault.Memory) said = breaks said 9 0
+broken Start said = breaks said 6 0
+broken (Step index refusal) said = breaks said 7 index
+broken (Successor index) said = breaks said 8 index
+
+-- whether a refusal says only that memory ran out
+abbrev pub is_table_memory : TableError → Bool
+is_table_memory (Flow flow.Memory slot) = true
+is_table_memory (Flow error slot) = false
+is_table_memory (Fault fault.Memory) = true
+is_table_memory (Fault error) = false
+is_table_memory Start = false
+is_table_memory (Step index refusal) = false
+is_table_memory (Successor index) = false
+
+-- the table of a program is refused by a rule, and a buffer says why
+pub record TellsRefusedTable (p : Program) (table old new : List ℕ) (out : Rechecked) : Type 0 where
+  pub error : TableError
+  pub refused : TableIsRefused p table error
+  pub not_memory : is_table_memory error ≡ false
+  pub told : out ≡ broken error out.said
+  pub text : List ℕ
+  pub tells : TellsTableRefusal p table error text
+  pub fills : FillsBuffer old new out.said text
+
+-- the bytes are no image, or the table is refused; and the buffer says that
+abbrev pub FillsTableRefusal : List ℕ → List ℕ → List ℕ → List ℕ → Rechecked → Type 0
+FillsTableRefusal bytes table old new out =
+    ((error : ImageError) × (refusal_of bytes ≡ Some error) × (out ≡ breaks out.said 0 0) × FillsBuffer old new out.said (image_text error))
+    ⊎ ((program : Program) × (bytes ≡ image_bytes program) × TellsRefusedTable program table old new out)
+
+-- the same, if nothing is said of it
+abbrev pub IsRefusedTable : List ℕ → List ℕ → Type 0
+IsRefusedTable bytes table =
+    IsNoImage bytes
+    ⊎ ((program : Program) × (error : TableError) × (bytes ≡ image_bytes program) × TableIsRefused program table error × (is_table_memory error ≡ false))

@@ -1,0 +1,65 @@
+-- What is answered of images and texts.
+use Rattle.std.specs.Prelude.{◌≡◌, ◌≢◌, ◌<◌, ℕ, false, List, Some, Ok, Err, ◌⊎◌}
+use Rattle.isa_model.specs.Code.Instructions.{Program}
+use Rattle.isa_model.specs.Code.Limits.{max_explored}
+use Rattle.image.specs.declared.errors.ImageError.{ImageError}
+use Rattle.image.specs.Images.{image_bytes}
+use Rattle.image.specs.Refusals.{refusal_of}
+use Rattle.bounds.specs.Bounds.{IsVerified}
+use Rattle.walks.specs.declared.refusals.Refusal.{Refusal}
+use Rattle.walks.specs.Refused.{IsRefused}
+use Rattle.assembler.specs.declared.errors.AsmError.{AsmError}
+use Rattle.assembler.specs.declared.errors.AsmErrorKind.TheVariants as text
+use Rattle.assembler.specs.Assembling.{assembled}
+use Rattle.verdict_calls.specs.Crossing.{FillsBuffer, is_memory}
+use Rattle.refusal_texts.specs.Texts.{image_text, source_text, TellsProgram}
+
+-- ---- images
+
+-- the bytes are an image, and every run of its program exits within the bound, without a trap
+pub record IsAcceptedImage (bytes : List ℕ) (bound : ℕ) : Type 0 where
+  pub program : Program
+  pub spelled : bytes ≡ image_bytes program
+  pub verified : IsVerified (record { program = program; bound = bound })
+
+-- the bytes are no image
+abbrev pub IsNoImage : List ℕ → Type 0
+IsNoImage bytes = (error : ImageError) × (refusal_of bytes ≡ Some error)
+
+-- they are one, whose program is refused
+pub record HasRefusedProgram (bytes : List ℕ) (refusal : Refusal) (slot : ℕ) : Type 0 where
+  pub program : Program
+  pub spelled : bytes ≡ image_bytes program
+  pub refused : IsRefused program refusal slot
+  pub not_memory : is_memory refusal ≡ false
+
+abbrev pub IsRefusedImage : List ℕ → Type 0
+IsRefusedImage bytes = IsNoImage bytes ⊎ ((refusal : Refusal) × (slot : ℕ) × HasRefusedProgram bytes refusal slot)
+
+-- the program is refused at a slot, and a buffer says why; `said` is how many bytes the text has
+abbrev pub TellsRefusal : Program → ℕ → List ℕ → List ℕ → ℕ → Type 0
+TellsRefusal p slot old new said =
+    (refusal : Refusal) × IsRefused p refusal slot × (is_memory refusal ≡ false)
+    × ((told : List ℕ) × TellsProgram p refusal slot told × FillsBuffer old new said told)
+
+-- the bytes are no image, and a buffer says why; or they are one whose program is refused, and the buffer says that
+abbrev pub FillsImageRefusal : List ℕ → ℕ → List ℕ → List ℕ → ℕ → Type 0
+FillsImageRefusal bytes slot old new said =
+    ((error : ImageError) × (refusal_of bytes ≡ Some error) × (slot ≡ 0) × FillsBuffer old new said (image_text error))
+    ⊎ ((program : Program) × (bytes ≡ image_bytes program) × TellsRefusal program slot old new said)
+
+-- the bytes are an image, and the limit is one that a search can reach
+abbrev pub IsUndecided : List ℕ → ℕ → Type 0
+IsUndecided bytes limit = (program : Program) × (bytes ≡ image_bytes program) × (limit < max_explored)
+
+-- ---- texts
+
+-- the text spells a program, whose image is written to a buffer
+abbrev pub FillsAssembledImage : List ℕ → List ℕ → List ℕ → ℕ → Type 0
+FillsAssembledImage source old new size = (p : Program) × (assembled source ≡ Ok p) × FillsBuffer old new size (image_bytes p)
+
+-- it spells none, and a buffer says why, at this line and column
+abbrev pub FillsTextRefusal : List ℕ → List ℕ → List ℕ → ℕ → ℕ → ℕ → Type 0
+FillsTextRefusal source old new size line column =
+    (error : AsmError) × (assembled source ≡ Err error) × (error.kind ≢ text.Memory)
+    × (line ≡ error.line) × (column ≡ error.column) × FillsBuffer old new size (source_text error)

@@ -1,0 +1,91 @@
+//! Images from texts.
+
+ghost use Rattle.std.specs.Prelude.{◌≡◌, ◌≢◌, ◌⊎◌};
+ghost use Rattle.assembler.specs.declared.errors.AsmErrorKind.TheVariants as Kind;
+ghost use Rattle.image.specs.Images.{image_bytes};
+ghost use Rattle.refusal_texts.specs.Texts.{source_text};
+ghost use Rattle.verdict_calls.specs.Crossing.{FillsBuffer, IsVerdict};
+ghost use Rattle.verdict_calls.specs.Verdicts.{FillsAssembledImage, FillsTextRefusal};
+
+use crate::filling::fill;
+use crate::statuses::{MEMORY, OK, REFUSED};
+use assembler::{AsmError, AsmErrorKind, assemble};
+use image::Image;
+use refusal_texts::source_text;
+use std::alloc::Global;
+
+/// How many bytes an image or the text of a refusal has, and for a refusal the line and the column,
+/// which count from 1; both are 0 for an image.
+#[repr(C)]
+#[derive(Clone, Copy, Drop)]
+pub struct Assembled {
+    pub size: usize,
+    pub line: usize,
+    pub column: usize,
+}
+
+// Writes the image of a program.
+fn give(alloc: Global, made: &Image, image: &mut [u8], out: &mut Assembled) -> u32
+    ensures given { result ≡ 0
+        → FillsBuffer image.old image.new out.new.size (image_bytes made.now) }
+    ensures image_kept { result ≢ 0 → image.new ≡ image.old }
+    ensures memory { result ≡ 5 → out.new ≡ out.old }
+    ensures status { (result ≡ 0) ⊎ (result ≡ 5) }
+{
+    let mut bytes = Vec::new(alloc);
+    let Ok(()) = made.write(&mut bytes) else {
+        return MEMORY;
+    };
+    *out = Assembled {
+        size: fill(image, bytes.as_slice()),
+        line: 0,
+        column: 0,
+    };
+    OK
+}
+
+// Tells why a text is refused.
+fn tell(alloc: Global, error: AsmError, why: &mut [u8], out: &mut Assembled) -> u32
+    ensures refused { result ≡ 2 → (error.kind ≢ Kind.Memory) × (out.new.line ≡ error.line)
+        × (out.new.column ≡ error.column)
+        × FillsBuffer why.old why.new out.new.size (source_text error) }
+    ensures why_kept { result ≢ 2 → why.new ≡ why.old }
+    ensures memory { result ≡ 5 → out.new ≡ out.old }
+    ensures status { (result ≡ 2) ⊎ (result ≡ 5) }
+{
+    if error.kind == AsmErrorKind::Memory {
+        return MEMORY;
+    }
+    let Ok(said) = source_text(alloc, error) else {
+        return MEMORY;
+    };
+    *out = Assembled {
+        size: fill(why, said.as_bytes()),
+        line: error.line,
+        column: error.column,
+    };
+    REFUSED
+}
+
+/// Assembles a text. The image goes to `image`, and why the text is refused to `why`, as far as
+/// there is room.
+pub fn assemble_text(
+    alloc: Global,
+    text: &[u8],
+    image: &mut [u8],
+    why: &mut [u8],
+    out: &mut Assembled,
+) -> u32
+    ensures assembled { result ≡ 0 → FillsAssembledImage text.now image.old image.new out.new.size }
+    ensures refused { result ≡ 2 → FillsTextRefusal text.now why.old why.new out.new.size
+        out.new.line out.new.column }
+    ensures image_kept { result ≢ 0 → image.new ≡ image.old }
+    ensures why_kept { result ≢ 2 → why.new ≡ why.old }
+    ensures memory { result ≡ 5 → out.new ≡ out.old }
+    ensures status { IsVerdict result }
+{
+    match assemble(alloc, text) {
+        Ok(made) => give(alloc, &made, image, out),
+        Err(error) => tell(alloc, error, why, out),
+    }
+}

@@ -1,0 +1,156 @@
+//! Verdicts on images.
+
+ghost use Rattle.std.specs.Prelude.{◌≡◌, ◌≢◌, ◌<◌, ◌↔◌, ◌⊎◌, Err, IfOk};
+ghost use Rattle.isa_model.specs.Code.Limits.{max_explored};
+ghost use Rattle.image.specs.Images.{image_bytes};
+ghost use Rattle.bounds.specs.Bounds.{IsVerified};
+ghost use Rattle.walks.specs.Refused.{IsRefused};
+ghost use Rattle.verdict_calls.specs.Crossing.{IsDecision, is_memory};
+ghost use Rattle.verdict_calls.specs.Verdicts.{IsAcceptedImage, IsRefusedImage, FillsImageRefusal, TellsRefusal, IsUndecided};
+ghost use Rattle.verdict_calls.specs.declared.statuses.Failure.TheVariants as Failure;
+
+use crate::filling::fill;
+use crate::statuses::{Failure, MEMORY, OK, REFUSED, UNDECIDED, WRONG};
+use control_flow::FlowError;
+use explorer::{Refusal, Stop, Verified, verify, verify_within};
+use image::{Image, ImageError};
+use isa_model::MAX_EXPLORED;
+use refusal_texts::{image_text, program_text};
+use std::alloc::Global;
+
+/// The verdict on an image: the most steps of a run if it is accepted, and else the slot of the
+/// refusal, or 0 if it has none. `said` is how many bytes the text of a refusal has.
+#[repr(C)]
+#[derive(Clone, Copy, Drop)]
+pub struct Verdict {
+    pub said: usize,
+    pub slot: usize,
+    pub bound: u32,
+}
+
+// Whether a refusal says only that memory ran out.
+fn is_memory(refusal: Refusal) -> bool
+    ensures { result ≡ is_memory refusal }
+{
+    matches!(refusal, Refusal::Memory | Refusal::Flow(FlowError::Memory))
+}
+
+/// The program of an image, if it is accepted.
+pub fn verified_of(alloc: Global, image: &[u8]) -> Result<Verified, Failure>
+    ensures spelled { IfOk result (λ verified. image.now ≡ image_bytes verified.program) }
+    ensures verified { IfOk result IsVerified }
+    ensures refused { result ≡ Err Failure.Refused → IsRefusedImage image.now }
+{
+    let program = match Image::parse(alloc, image) {
+        Ok(program) => program,
+        Err(ImageError::Memory) => return Err(Failure::Memory),
+        Err(_) => return Err(Failure::Refused),
+    };
+    match verify(alloc, program) {
+        Ok(verified) => Ok(verified),
+        Err((refusal, _)) => {
+            if is_memory(refusal) {
+                Err(Failure::Memory)
+            } else {
+                Err(Failure::Refused)
+            }
+        }
+    }
+}
+
+// Tells why a program is refused.
+fn tell(
+    alloc: Global,
+    program: &Image,
+    refusal: Refusal,
+    slot: usize,
+    why: &mut [u8],
+    out: &mut Verdict,
+) -> u32
+    ensures refused { result ≡ 2 → IsRefused program.now refusal slot
+        → TellsRefusal program.now out.new.slot why.old why.new out.new.said }
+    ensures why_kept { result ≢ 2 → why.new ≡ why.old }
+    ensures memory { result ≡ 5 → out.new ≡ out.old }
+    ensures status { (result ≡ 2) ⊎ (result ≡ 5) }
+{
+    if is_memory(refusal) {
+        return MEMORY;
+    }
+    let Some(text) = program_text(alloc, program, refusal, slot, !why.is_empty()) else {
+        return MEMORY;
+    };
+    *out = Verdict {
+        bound: 0,
+        slot,
+        said: fill(why, text.as_slice()),
+    };
+    REFUSED
+}
+
+// Judges a program, and tells why it is refused.
+fn judge(alloc: Global, program: Image, limit: u32, why: &mut [u8], out: &mut Verdict) -> u32
+    ensures accepted { result ≡ 0 → IsVerified (record {
+      program = program;
+      bound = out.new.bound;
+    }) }
+    ensures refused { result ≡ 2 → TellsRefusal program out.new.slot why.old why.new out.new.said }
+    ensures why_kept { result ≢ 2 → why.new ≡ why.old }
+    ensures memory { result ≡ 5 → out.new ≡ out.old }
+    ensures undecided { result ≡ 6 → (limit < max_explored) × (out.new ≡ out.old) }
+    ensures status { IsDecision result }
+{
+    let Ok(copy) = program.copy(alloc) else {
+        return MEMORY;
+    };
+    match verify_within(alloc, program, limit) {
+        Ok(verified) => {
+            *out = Verdict {
+                bound: verified.bound(),
+                slot: 0,
+                said: 0,
+            };
+            OK
+        }
+        Err(Stop::Limit) => UNDECIDED,
+        Err(Stop::Refused(refusal, slot)) => tell(alloc, &copy, refusal, slot, why, out),
+    }
+}
+
+/// Verifies an image, exploring at most `limit` instructions (1 to 1,000,000). Why it is refused
+/// goes to `why`, as far as there is room; what is known at the refused instruction is looked for
+/// only if there is room.
+pub fn verify_image(
+    alloc: Global,
+    image: &[u8],
+    limit: u32,
+    why: &mut [u8],
+    out: &mut Verdict,
+) -> u32
+    ensures accepted { result ≡ 0 → IsAcceptedImage image.now out.new.bound }
+    ensures wrong { (result ≡ 1) ↔ ((limit ≡ 0) ⊎ (max_explored < limit)) }
+    ensures refused { result ≡ 2
+        → FillsImageRefusal image.now out.new.slot why.old why.new out.new.said }
+    ensures undecided { result ≡ 6 → IsUndecided image.now limit }
+    ensures why_kept { result ≢ 2 → why.new ≡ why.old }
+    ensures out_kept { result ≢ 0 → result ≢ 2 → out.new ≡ out.old }
+    ensures status { (result ≡ 1) ⊎ IsDecision result }
+{
+    if limit == 0 || limit > MAX_EXPLORED {
+        return WRONG;
+    }
+    match Image::parse(alloc, image) {
+        Ok(program) => judge(alloc, program, limit, why, out),
+        Err(ImageError::Memory) => MEMORY,
+        Err(error) => {
+            let Ok(text) = image_text(alloc, error) else {
+                return MEMORY;
+            };
+            *out = Verdict {
+                bound: 0,
+                slot: 0,
+                said: fill(why, text.as_bytes()),
+            };
+            REFUSED
+        }
+    }
+}
