@@ -1,5 +1,6 @@
 //! Runs on one packet, and over streams.
 
+use super::buffers::holds;
 use super::images::{ENDLESS, HEAD, INTERFACE, OTHER, PASS, UNGUARDED};
 use run_calls::running::{Ended, run_once};
 use run_calls::streaming::{Streamed, run_stream};
@@ -69,8 +70,11 @@ fn traces_once(rt: HostRuntime) {
     }
 }
 
-/// One frame of two bytes; and a record that is cut off after it.
-const FRAMES: &[u8] = b"XPF1\xe8\x03\0\0\0\0\0\0\x01\0\0\0\0\0\0\0\x02\0\0\0\xca\xfe\x01";
+/// One frame of two bytes.
+const FRAMES: &[u8] = b"XPF1\xe8\x03\0\0\0\0\0\0\x01\0\0\0\0\0\0\0\x02\0\0\0\xca\xfe";
+
+/// The same, and a record that is cut off after it.
+const CUT: &[u8] = b"XPF1\xe8\x03\0\0\0\0\0\0\x01\0\0\0\0\0\0\0\x02\0\0\0\xca\xfe\x01";
 
 /// The status, the sizes of the report and of the frames out, how many frames there were, and the
 /// fault with its offset.
@@ -96,22 +100,49 @@ fn streamed(
     )
 }
 
-#[test]
-fn runs_streams(rt: HostRuntime) {
+/// Whether a run over a stream is answered so, with that much room for each of the two outputs.
+fn streams_so(
+    alloc: Global,
+    image: &[u8],
+    frames: &[u8],
+    room: usize,
+    wanted: &(Told, &[u8], &[u8]),
+) -> bool {
     let mut report = [7; 40];
     let mut sent = [7; 40];
-    let whole = streamed(rt.alloc(), &PASS, &FRAMES[..26], &mut report, &mut sent);
-    assert!(rt; whole == (0, 17, 26, 1, 0, 0));
-    assert!(rt; report.starts_with(b"0 PASS 2 2\nend 1\n\x07"));
-    assert!(rt; sent.starts_with(&FRAMES[..26]) && sent[26] == 7);
+    let room = room.min(40);
+    let answer = streamed(alloc, image, frames, &mut report[..room], &mut sent[..room]);
+    answer == wanted.0 && holds(&report, wanted.1) && holds(&sent, wanted.2)
 }
 
+/// An image, a stream, the room for each output, and what is answered, with what is written of the
+/// report and of the frames out.
+const STREAMS: [(&[u8], &[u8], usize, (Told, &[u8], &[u8])); 3] = [
+    (
+        &PASS,
+        FRAMES,
+        40,
+        ((0, 17, 26, 1, 0, 0), b"0 PASS 2 2\nend 1\n", FRAMES),
+    ),
+    (
+        &PASS,
+        CUT,
+        12,
+        (
+            (0, 26, 26, 1, 2, 26),
+            b"0 PASS 2 2\nf",
+            b"XPF1\xe8\x03\0\0\0\0\0\0",
+        ),
+    ),
+    (&ENDLESS, FRAMES, 12, ((2, 9, 9, 9, 9, 9), b"", b"")),
+];
+
 #[test]
-fn tells_faults(rt: HostRuntime) {
-    let mut report = [7; 12];
-    let cut = streamed(rt.alloc(), &PASS, FRAMES, &mut report, &mut []);
-    assert!(rt; cut == (0, 26, 26, 1, 2, 26));
-    assert!(rt; report == *b"0 PASS 2 2\nf");
-    let refused = streamed(rt.alloc(), &ENDLESS, FRAMES, &mut report, &mut []);
-    assert!(rt; refused == (2, 9, 9, 9, 9, 9));
+fn runs_streams(rt: HostRuntime) {
+    for (image, frames, room, wanted) in STREAMS.iter() {
+        assert!(rt;
+            streams_so(rt.alloc(), image, frames, *room, wanted),
+            "room for {room}"
+        );
+    }
 }

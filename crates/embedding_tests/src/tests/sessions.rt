@@ -13,8 +13,28 @@ const MAPS: [u8; 48] = *b"XBP1\x02\0\x02\0\
     \x01\0\x02\0\x03\0\0\0\x02\0\0\0\x02\0\x04\0\x04\0\0\0\x04\0\0\0\
     \xb7\0\0\0\x02\0\0\0\x95\0\0\0\0\0\0\0";
 
-/// The status, and the answer and the steps, of a run on a packet of that many bytes.
-fn ran(alloc: Global, session: &mut Session, length: usize) -> (u32, u64, u32) {
+/// What is called on a session.
+enum Call {
+    Open(&'static [u8]),
+    OpenWithTable(&'static [u8], &'static [u8]),
+    /// On a packet of that many bytes.
+    Run(usize),
+    Close,
+    /// In a map, of a key, with a value of that many bytes.
+    Lookup(usize, &'static [u8], usize),
+    /// With flags.
+    Update(usize, &'static [u8], &'static [u8], u64),
+    Delete(usize, &'static [u8]),
+    /// The key at a rank, with a key and a value of that many bytes.
+    Next(usize, usize, usize, usize),
+}
+
+/// The status, a number, and the steps of a run. The number is the answer of a run, an update or a
+/// delete; a value, or a key below its value, by their bytes, the lowest first; 9 where nothing was
+/// written.
+type Answer = (u32, u64, u32);
+
+fn ran(alloc: Global, session: &mut Session, length: usize) -> Answer {
     let mut packet = [0; 9217];
     let mut out = Ended { r0: 9, steps: 9 };
     let body = &mut packet[..length.min(9217)];
@@ -22,141 +42,137 @@ fn ran(alloc: Global, session: &mut Session, length: usize) -> (u32, u64, u32) {
     (status, out.r0, out.steps)
 }
 
-#[test]
-fn opens_runs_and_closes(rt: HostRuntime) {
-    let mut session = Session::closed();
-    assert!(rt; ran(rt.alloc(), &mut session, 64) == (1, 9, 9));
-    assert_eq!(rt; open_image(rt.alloc(), &INTERFACE, &mut session), 0);
-    assert_eq!(rt; open_image(rt.alloc(), &PASS, &mut session), 1);
-    assert!(rt; ran(rt.alloc(), &mut session, 64) == (0, 7, 2));
-    assert!(rt; ran(rt.alloc(), &mut session, 9217) == (1, 9, 9));
-    assert!(rt; ran(rt.alloc(), &mut session, 9216) == (0, 7, 2));
-    close_session(rt.alloc(), &mut session);
-    assert!(rt; ran(rt.alloc(), &mut session, 64) == (1, 9, 9));
-    close_session(rt.alloc(), &mut session);
+fn number(bytes: &[u8; 4]) -> u64 {
+    u64::from(bytes[0])
+        | u64::from(bytes[1]) << 8
+        | u64::from(bytes[2]) << 16
+        | u64::from(bytes[3]) << 24
 }
 
-/// Images that open no session.
-const REFUSED: [&[u8]; 4] = [&UNGUARDED, &ENDLESS, &OTHER, &[]];
-
-#[test]
-fn opens_no_refused_image(rt: HostRuntime) {
-    let mut session = Session::closed();
-    for image in REFUSED.iter() {
-        assert_eq!(rt; open_image(rt.alloc(), image, &mut session), 2);
-        assert_eq!(rt;
-            open_with_table(rt.alloc(), image, b"XPT1", &mut session),
-            2
-        );
-    }
-    assert_eq!(rt;
-        open_with_table(rt.alloc(), &PASS, b"XPT1\0\0\0\0", &mut session),
-        2
-    );
-    assert!(rt; ran(rt.alloc(), &mut session, 64) == (1, 9, 9));
+fn looked_up(alloc: Global, session: &mut Session, map: usize, key: &[u8], size: usize) -> Answer {
+    let mut value = [9, 0, 0, 0];
+    let status = look_up_key(alloc, session, map, key, &mut value[..size.min(4)]);
+    (status, number(&value), 0)
 }
 
-/// What is called on a map: a look-up, an update with flags, a delete, or the key at a rank.
-enum Call {
-    Lookup(&'static [u8]),
-    Update(&'static [u8], &'static [u8], u64),
-    Delete(&'static [u8]),
-    Next(usize),
+fn changed(status: u32, out: Changed) -> Answer {
+    (status, out.answer, 0)
 }
 
-/// The status of a call, and its answer; for a key that was found, key and value are read into
-/// one number, the lowest byte first.
-fn called(alloc: Global, session: &mut Session, map: usize, call: &Call) -> (u32, u64) {
-    let mut key = [0; 2];
-    let mut value = [0; 3];
+/// The key at a rank, and the sizes of key and value.
+fn listed(
+    alloc: Global,
+    session: &mut Session,
+    map: usize,
+    rank: usize,
+    sizes: (usize, usize),
+) -> Answer {
+    let mut key = [9, 0, 0, 0];
+    let mut value = [0; 4];
+    let (key_bytes, value_bytes) = (&mut key[..sizes.0.min(4)], &mut value[..sizes.1.min(4)]);
+    let status = key_at_rank(alloc, session, map, rank, key_bytes, value_bytes);
+    (status, number(&value) << 32 | number(&key), 0)
+}
+
+fn called(alloc: Global, session: &mut Session, call: &Call) -> Answer {
     let mut out = Changed { answer: 9 };
-    let status = match call {
-        Call::Lookup(key) => look_up_key(alloc, session, map, key, &mut value),
-        Call::Update(key, value, flags) => {
-            update_key(alloc, session, map, key, value, *flags, &mut out)
+    match call {
+        Call::Open(image) => (open_image(alloc, image, session), 9, 0),
+        Call::OpenWithTable(image, table) => {
+            (open_with_table(alloc, image, table, session), 9, 0)
         }
-        Call::Delete(key) => delete_key(alloc, session, map, key, &mut out),
-        Call::Next(rank) => key_at_rank(alloc, session, map, *rank, &mut key, &mut value),
-    };
-    let answer = match call {
-        Call::Lookup(_) => u64::from(value[0]),
-        Call::Next(_) => u64::from(value[0]) << 8 | u64::from(key[0]),
-        _ => out.answer,
-    };
-    (status, answer)
+        Call::Run(length) => ran(alloc, session, *length),
+        Call::Close => {
+            close_session(alloc, session);
+            (0, 9, 0)
+        }
+        Call::Lookup(map, key, size) => looked_up(alloc, session, *map, key, *size),
+        Call::Update(map, key, value, flags) => {
+            let status = update_key(alloc, session, *map, key, value, *flags, &mut out);
+            changed(status, out)
+        }
+        Call::Delete(map, key) => {
+            let status = delete_key(alloc, session, *map, key, &mut out);
+            changed(status, out)
+        }
+        Call::Next(map, rank, key, value) => listed(alloc, session, *map, *rank, (*key, *value)),
+    }
 }
 
-/// Calls on the hash map, one after another, and what each is answered. bpf(2): EEXIST is 17,
-/// E2BIG 7, ENOENT 2, EINVAL 22.
-const CALLS: [(Call, (u32, u64)); 17] = [
-    (Call::Lookup(b"b\0"), (7, 0)),
-    (Call::Next(0), (7, 0)),
-    (Call::Update(b"b\0", b"\x05\0\0", 0), (0, 0)),
-    (Call::Lookup(b"b\0"), (0, 5)),
-    (Call::Update(b"b\0", b"\x06\0\0", 1), (0, u64::MAX - 16)),
-    (Call::Update(b"b\0", b"\x06\0\0", 3), (0, u64::MAX - 21)),
-    (Call::Update(b"a\0", b"\x04\0\0", 2), (0, u64::MAX - 1)),
-    (Call::Update(b"a\0", b"\x04\0\0", 1), (0, 0)),
-    (Call::Update(b"c\0", b"\x07\0\0", 0), (0, u64::MAX - 6)),
-    (Call::Next(0), (0, 0x461)),
-    (Call::Next(1), (0, 0x562)),
-    (Call::Next(2), (7, 0)),
-    (Call::Delete(b"a\0"), (0, 0)),
-    (Call::Delete(b"a\0"), (0, u64::MAX - 1)),
-    (Call::Lookup(b"b"), (1, 0)),
-    (Call::Update(b"b\0", b"\x05\0", 0), (1, 9)),
-    (Call::Delete(b"abc"), (1, 9)),
+/// Calls, one after another on one session, and what each is answered. bpf(2): EEXIST is 17, E2BIG
+/// 7, ENOENT 2, EINVAL 22.
+const CALLS: [(Call, Answer); 48] = [
+    (Call::Run(64), (1, 9, 9)),
+    (Call::Open(&INTERFACE), (0, 9, 0)),
+    (Call::Open(&PASS), (1, 9, 0)),
+    (Call::Run(64), (0, 7, 2)),
+    (Call::Run(9217), (1, 9, 9)),
+    (Call::Run(9216), (0, 7, 2)),
+    (Call::Close, (0, 9, 0)),
+    (Call::Run(64), (1, 9, 9)),
+    (Call::Close, (0, 9, 0)),
+    // what opens no session
+    (Call::Open(&UNGUARDED), (2, 9, 0)),
+    (Call::Open(&ENDLESS), (2, 9, 0)),
+    (Call::Open(&OTHER), (2, 9, 0)),
+    (Call::Open(&[]), (2, 9, 0)),
+    (Call::OpenWithTable(&UNGUARDED, b"XPT1"), (2, 9, 0)),
+    (Call::OpenWithTable(&ENDLESS, b"XPT1"), (2, 9, 0)),
+    (Call::OpenWithTable(&OTHER, b"XPT1"), (2, 9, 0)),
+    (Call::OpenWithTable(&[], b"XPT1"), (2, 9, 0)),
+    (Call::OpenWithTable(&PASS, b"XPT1\0\0\0\0"), (2, 9, 0)),
+    (Call::Run(64), (1, 9, 9)),
+    (Call::Next(0, 0, 2, 3), (1, 9, 0)),
+    // a hash map
+    (Call::Open(&MAPS), (0, 9, 0)),
+    (Call::Lookup(0, b"b\0", 3), (7, 9, 0)),
+    (Call::Next(0, 0, 2, 3), (7, 9, 0)),
+    (Call::Update(0, b"b\0", b"\x05\0\0", 0), (0, 0, 0)),
+    (Call::Lookup(0, b"b\0", 3), (0, 5, 0)),
+    (
+        Call::Update(0, b"b\0", b"\x06\0\0", 1),
+        (0, u64::MAX - 16, 0),
+    ),
+    (
+        Call::Update(0, b"b\0", b"\x06\0\0", 3),
+        (0, u64::MAX - 21, 0),
+    ),
+    (
+        Call::Update(0, b"a\0", b"\x04\0\0", 2),
+        (0, u64::MAX - 1, 0),
+    ),
+    (Call::Update(0, b"a\0", b"\x04\0\0", 1), (0, 0, 0)),
+    (
+        Call::Update(0, b"c\0", b"\x07\0\0", 0),
+        (0, u64::MAX - 6, 0),
+    ),
+    (Call::Next(0, 0, 2, 3), (0, 0x4_0000_0061, 0)),
+    (Call::Next(0, 1, 2, 3), (0, 0x5_0000_0062, 0)),
+    (Call::Next(0, 2, 2, 3), (7, 9, 0)),
+    (Call::Delete(0, b"a\0"), (0, 0, 0)),
+    (Call::Delete(0, b"a\0"), (0, u64::MAX - 1, 0)),
+    (Call::Lookup(0, b"b", 3), (1, 9, 0)),
+    (Call::Update(0, b"b\0", b"\x05\0", 0), (1, 9, 0)),
+    (Call::Delete(0, b"abc"), (1, 9, 0)),
+    // the array has keys of another size, and there is no third map
+    (Call::Next(1, 0, 2, 3), (1, 9, 0)),
+    (Call::Delete(2, b"b\0"), (1, 9, 0)),
+    (Call::Run(64), (0, 2, 2)),
+    (Call::Lookup(0, b"b\0", 3), (0, 5, 0)),
+    // an array has all its keys
+    (Call::Update(1, b"\x03\0\0\0", b"abcd", 0), (0, 0, 0)),
+    (Call::Next(1, 3, 4, 4), (0, 0x6463_6261_0000_0003, 0)),
+    (Call::Next(1, 4, 4, 4), (7, 9, 0)),
+    (Call::Delete(1, b"\x03\0\0\0"), (0, u64::MAX - 21, 0)),
+    (Call::Close, (0, 9, 0)),
+    (Call::Close, (0, 9, 0)),
 ];
 
 #[test]
-fn reads_and_changes_maps(rt: HostRuntime) {
+fn answers_each_call_of_a_session(rt: HostRuntime) {
     let mut session = Session::closed();
-    assert!(rt; called(rt.alloc(), &mut session, 0, &Call::Next(0)) == (1, 0));
-    assert_eq!(rt; open_image(rt.alloc(), &MAPS, &mut session), 0);
     for (call, wanted) in CALLS.iter() {
-        let answer = called(rt.alloc(), &mut session, 0, call);
-        assert!(rt; answer == *wanted, "{}", wanted.1);
+        let answer = called(rt.alloc(), &mut session, call);
+        assert!(rt; answer == *wanted, "{} {}", wanted.0, wanted.1);
     }
-    // the array has keys of another size, and there is no third map
-    assert!(rt; called(rt.alloc(), &mut session, 1, &Call::Next(0)) == (1, 0));
-    assert!(rt; called(rt.alloc(), &mut session, 2, &Call::Delete(b"b\0")) == (1, 9));
-    assert!(rt; ran(rt.alloc(), &mut session, 64) == (0, 2, 2));
-    assert!(rt; called(rt.alloc(), &mut session, 0, &Call::Lookup(b"b\0")) == (0, 5));
-    close_session(rt.alloc(), &mut session);
-}
-
-#[test]
-fn arrays_have_all_their_keys(rt: HostRuntime) {
-    let mut session = Session::closed();
-    let mut key = [9; 4];
-    let mut value = [9; 4];
-    let mut out = Changed { answer: 9 };
-    assert_eq!(rt; open_image(rt.alloc(), &MAPS, &mut session), 0);
-    assert_eq!(rt;
-        update_key(
-            rt.alloc(),
-            &mut session,
-            1,
-            b"\x03\0\0\0",
-            b"abcd",
-            0,
-            &mut out
-        ),
-        0
-    );
-    assert_eq!(rt;
-        key_at_rank(rt.alloc(), &mut session, 1, 3, &mut key, &mut value),
-        0
-    );
-    assert!(rt; out.answer == 0 && key == [3, 0, 0, 0] && value == *b"abcd");
-    assert_eq!(rt;
-        key_at_rank(rt.alloc(), &mut session, 1, 4, &mut key, &mut value),
-        7
-    );
-    assert_eq!(rt;
-        delete_key(rt.alloc(), &mut session, 1, b"\x03\0\0\0", &mut out),
-        0
-    );
-    assert_eq!(rt; out.answer, u64::MAX - 21);
-    close_session(rt.alloc(), &mut session);
 }

@@ -1,5 +1,6 @@
 //! Texts, images and names.
 
+use super::buffers::holds;
 use super::images::{ENDLESS, OTHER, PASS, UNGUARDED};
 use std::alloc::Global;
 use verdict_calls::assembling::{Assembled, assemble_text};
@@ -7,9 +8,9 @@ use verdict_calls::judging::{Verdict, verify_image};
 use verdict_calls::naming::{number_of_action, write_version};
 
 /// The status, and the size, the line and the column.
-type Answer = (u32, usize, usize, usize);
+type Made = (u32, usize, usize, usize);
 
-fn assembled(alloc: Global, text: &[u8], image: &mut [u8], why: &mut [u8]) -> Answer {
+fn assembled(alloc: Global, text: &[u8], image: &mut [u8], why: &mut [u8]) -> Made {
     let mut out = Assembled {
         size: 9,
         line: 9,
@@ -19,30 +20,48 @@ fn assembled(alloc: Global, text: &[u8], image: &mut [u8], why: &mut [u8]) -> An
     (status, out.size, out.line, out.column)
 }
 
-#[test]
-fn assembles(rt: HostRuntime) {
+/// Whether a text is answered so, with that much room for its image.
+fn assembles_so(alloc: Global, text: &[u8], room: usize, wanted: &(Made, &[u8], &[u8])) -> bool {
     let mut image = [7; 26];
     let mut why = [7; 80];
-    let answer = assembled(rt.alloc(), b"r0 = 2\nexit\n", &mut image, &mut why);
-    assert!(rt; answer == (0, 24, 0, 0));
-    assert!(rt; image.starts_with(&PASS) && image.ends_with(&[7, 7]));
-    let short = assembled(rt.alloc(), b"r0 = 2\nexit\n", &mut why[..10], &mut image);
-    assert!(rt; short == (0, 24, 0, 0));
-    assert!(rt; why.starts_with(&PASS[..10]) && why[10] == 7);
+    let answer = assembled(alloc, text, &mut image[..room.min(26)], &mut why);
+    answer == wanted.0 && holds(&image, wanted.1) && holds(&why, wanted.2)
 }
 
+/// A text, the room for its image, and what is answered, with what is written of the image and of
+/// why there is none.
+const TEXTS: [(&[u8], usize, (Made, &[u8], &[u8])); 3] = [
+    (b"r0 = 2\nexit\n", 26, ((0, 24, 0, 0), &PASS, b"")),
+    (
+        b"r0 = 2\nexit\n",
+        10,
+        ((0, 24, 0, 0), b"XBP1\0\0\x02\0\xb7\0", b""),
+    ),
+    (
+        b"r0 = 2\n r0 = r11\n",
+        26,
+        (
+            (2, 70, 2, 2),
+            b"",
+            b"refused A2 line 2 column 2\nno form fits the statement\nline 2 column 2\n",
+        ),
+    ),
+];
+
 #[test]
-fn says_why_a_text_is_refused(rt: HostRuntime) {
-    let mut image = [7; 2];
-    let mut why = [7; 80];
-    let answer = assembled(rt.alloc(), b"r0 = 2\n r0 = r11\n", &mut image, &mut why);
-    let said = b"refused A2 line 2 column 2\nno form fits the statement\nline 2 column 2\n";
-    assert!(rt; answer == (2, said.len(), 2, 2));
-    assert!(rt; why.starts_with(said) && image == [7, 7]);
+fn assembles(rt: HostRuntime) {
+    for (text, room, wanted) in TEXTS.iter() {
+        assert!(rt;
+            assembles_so(rt.alloc(), text, *room, wanted),
+            "room for {room}"
+        );
+    }
 }
 
 /// The status, and the bound, the slot and the size of the text, within a limit.
-fn verdict(alloc: Global, image: &[u8], limit: u32, why: &mut [u8]) -> (u32, u32, usize, usize) {
+type Judged = (u32, u32, usize, usize);
+
+fn verdict(alloc: Global, image: &[u8], limit: u32, why: &mut [u8]) -> Judged {
     let mut out = Verdict {
         said: 9,
         slot: 9,
@@ -52,61 +71,61 @@ fn verdict(alloc: Global, image: &[u8], limit: u32, why: &mut [u8]) -> (u32, u32
     (status, out.bound, out.slot, out.said)
 }
 
-/// An image, and the slot and the text of its refusal.
-const REFUSED: [(&[u8], usize, &str); 3] = [
+/// Whether an image is judged so, where a text is wanted with room for it.
+fn judges_so(alloc: Global, image: &[u8], limit: u32, wanted: &(Judged, &str)) -> bool {
+    let mut why = [7; 300];
+    let room = if wanted.1.is_empty() { 0 } else { 300 };
+    let answer = verdict(alloc, image, limit, &mut why[..room]);
+    answer == wanted.0 && holds(&why, wanted.1.as_bytes())
+}
+
+/// An image and a limit, and what is answered and said: `PASS` has two instructions, and each is
+/// explored once. Without room for a text what is known at the instruction is not looked for.
+const IMAGES: [(&[u8], u32, (Judged, &str)); 10] = [
+    (&PASS, 1_000_000, ((0, 2, 0, 0), "")),
+    (&PASS, 0, ((1, 9, 9, 9), "")),
+    (&PASS, 1, ((6, 9, 9, 9), "")),
+    (&PASS, 2, ((0, 2, 0, 0), "")),
+    (&PASS, 1_000_001, ((1, 9, 9, 9), "")),
+    (&UNGUARDED, 1, ((6, 9, 9, 9), "")),
     (
         &OTHER,
-        0,
-        "refused I1\nthe bytes do not begin with XBP1 or XBP2\n",
+        1,
+        (
+            (2, 0, 0, 52),
+            "refused I1\nthe bytes do not begin with XBP1 or XBP2\n",
+        ),
     ),
     (
         &UNGUARDED,
-        1,
-        "refused V9 slot 1\nthe packet bytes are not proved to be there\n\
-         slot 1: r0 = *(u8 *)(r2 + 13)\nr2: packet pointer at 0, 0 bytes proved\n\
-         needs bytes 13 to 13; 0 are proved: \
-         compare a pointer after them with the packet end, or correct the offset\n",
+        1_000_000,
+        (
+            (2, 0, 1, 240),
+            "refused V9 slot 1\nthe packet bytes are not proved to be there\n\
+             slot 1: r0 = *(u8 *)(r2 + 13)\nr2: packet pointer at 0, 0 bytes proved\n\
+             needs bytes 13 to 13; 0 are proved: \
+             compare a pointer after them with the packet end, or correct the offset\n",
+        ),
     ),
     (
         &ENDLESS,
-        1,
-        "refused V18 slot 1\na path comes back to a state that it was in: the loop has no end\n\
-         slot 1: goto -1\nchange a register in the loop that its test reads\nway: 1 -> 1\n",
+        1_000_000,
+        (
+            (2, 0, 1, 162),
+            "refused V18 slot 1\na path comes back to a state that it was in: the loop has no end\n\
+             slot 1: goto -1\nchange a register in the loop that its test reads\nway: 1 -> 1\n",
+        ),
     ),
+    (&ENDLESS, 1_000_000, ((2, 0, 1, 100), "")),
 ];
 
 #[test]
 fn verifies(rt: HostRuntime) {
-    let mut why = [7; 300];
-    assert!(rt; verdict(rt.alloc(), &PASS, 1_000_000, &mut why) == (0, 2, 0, 0));
-    for (image, slot, text) in REFUSED.iter() {
-        let answer = verdict(rt.alloc(), image, 1_000_000, &mut why);
-        assert!(rt; answer == (2, 0, *slot, text.len()), "{text}");
-        assert!(rt; why.starts_with(text.as_bytes()), "{text}");
-    }
-    // without room what is known at the instruction is not looked for
-    let answer = verdict(rt.alloc(), &ENDLESS, 1_000_000, &mut []);
-    let known = "change a register in the loop that its test reads\nway: 1 -> 1\n";
-    assert!(rt; answer == (2, 0, 1, REFUSED[2].2.len() - known.len()));
-}
-
-/// An image, a limit, and what is answered within it: `PASS` has two instructions, and each is
-/// explored once.
-const LIMITS: [(&[u8], u32, (u32, u32, usize, usize)); 6] = [
-    (&PASS, 0, (1, 9, 9, 9)),
-    (&PASS, 1, (6, 9, 9, 9)),
-    (&PASS, 2, (0, 2, 0, 0)),
-    (&PASS, 1_000_001, (1, 9, 9, 9)),
-    (&UNGUARDED, 1, (6, 9, 9, 9)),
-    (&OTHER, 1, (2, 0, 0, 52)),
-];
-
-#[test]
-fn keeps_limits(rt: HostRuntime) {
-    let mut why = [7; 200];
-    for (image, limit, wanted) in LIMITS.iter() {
-        let answer = verdict(rt.alloc(), image, *limit, &mut why);
-        assert!(rt; answer == *wanted, "limit {limit}");
+    for (image, limit, wanted) in IMAGES.iter() {
+        assert!(rt;
+            judges_so(rt.alloc(), image, *limit, wanted),
+            "limit {limit}"
+        );
     }
 }
 
