@@ -1,6 +1,6 @@
 //! The lines that standard output gets of what is refused.
 
-ghost use Rattle.std.specs.Prelude.{◌≡◌, IfOk};
+ghost use Rattle.std.specs.Prelude.{◌≡◌, ◌++◌, IfOk, codes, decimal};
 ghost use Rattle.std.specs.String.{string_bytes};
 ghost use Rattle.commands.specs.Lines.{image_line, verdict_line, table_line, text_line};
 
@@ -11,21 +11,49 @@ use rechecking::TableError;
 use std::alloc::{AllocError, Global};
 use table_entries::TableFault;
 
+// The line for what is refused as a whole, with the code of the refusal.
+fn whole_line(alloc: Global, code: &str) -> Result<String, AllocError>
+    ensures { IfOk result (λ line. string_bytes line
+        ≡ codes "refused " ++ (code.now ++ codes "\n")) }
+{
+    format!(in alloc; "refused {code}\n")
+}
+
+// The line for what is refused at one of those that the word counts.
+fn counted_line(alloc: Global, code: &str, word: &str, number: usize) -> Result<String, AllocError>
+    ensures { IfOk result (λ line. string_bytes line
+        ≡ codes "refused " ++ (code.now ++ (word.now ++ (decimal number ++ codes "\n")))) }
+{
+    format!(in alloc; "refused {code}{word}{number}\n")
+}
+
+// The same with the code of why it is refused.
+fn reasoned_line(
+    alloc: Global,
+    code: &str,
+    word: &str,
+    number: usize,
+    inner: &str,
+) -> Result<String, AllocError>
+    ensures { IfOk result (λ line. string_bytes line
+        ≡ codes "refused " ++ (code.now ++ (word.now ++ (decimal number
+        ++ (codes " " ++ (inner.now ++ codes "\n")))))) }
+{
+    format!(in alloc; "refused {code}{word}{number} {inner}\n")
+}
+
 /// The line for an image that is refused.
 pub fn image_line(alloc: Global, error: ImageError) -> Result<String, AllocError>
     ensures { IfOk result (λ line. string_bytes line ≡ image_line error) }
 {
-    let name = error.code();
+    let code = error.code();
     match error {
-        ImageError::Code(slot, error) => {
-            let inner = error.code();
-            format!(in alloc; "refused {name} slot {slot} {inner}\n")
-        }
-        ImageError::MapRow(index) => format!(in alloc; "refused {name} map {index}\n"),
+        ImageError::Code(slot, error) => reasoned_line(alloc, code, " slot ", slot, error.code()),
+        ImageError::MapRow(index) => counted_line(alloc, code, " map ", index),
         ImageError::UnknownMap(slot) | ImageError::ValuePointer(slot) => {
-            format!(in alloc; "refused {name} slot {slot}\n")
+            counted_line(alloc, code, " slot ", slot)
         }
-        _ => format!(in alloc; "refused {name}\n"),
+        _ => whole_line(alloc, code),
     }
 }
 
@@ -33,25 +61,23 @@ pub fn image_line(alloc: Global, error: ImageError) -> Result<String, AllocError
 pub fn verdict_line(alloc: Global, refusal: Refusal, slot: usize) -> Result<String, AllocError>
     ensures { IfOk result (λ line. string_bytes line ≡ verdict_line refusal slot) }
 {
-    let name = refusal.code();
-    format!(in alloc; "refused {name} slot {slot}\n")
+    counted_line(alloc, refusal.code(), " slot ", slot)
 }
 
 /// The line for a table that is refused; for control flow it is that of the program.
 pub fn table_line(alloc: Global, error: TableError) -> Result<String, AllocError>
     ensures { IfOk result (λ line. string_bytes line ≡ table_line error) }
 {
-    let name = error.code();
+    let code = error.code();
     match error {
-        TableError::Flow(_, slot) => format!(in alloc; "refused {name} slot {slot}\n"),
+        TableError::Flow(_, slot) => counted_line(alloc, code, " slot ", slot),
         TableError::Fault(TableFault::Entry(index)) | TableError::Successor(index) => {
-            format!(in alloc; "refused {name} entry {index}\n")
+            counted_line(alloc, code, " entry ", index)
         }
         TableError::Step(index, refusal) => {
-            let inner = refusal.code();
-            format!(in alloc; "refused {name} entry {index} {inner}\n")
+            reasoned_line(alloc, code, " entry ", index, refusal.code())
         }
-        TableError::Fault(_) | TableError::Start => format!(in alloc; "refused {name}\n"),
+        TableError::Fault(_) | TableError::Start => whole_line(alloc, code),
     }
 }
 
