@@ -1,13 +1,15 @@
 //! What is known where a program is refused, and the path there.
 
-ghost use Rattle.std.specs.Prelude.{◌≡◌, ◌<◌, [], ◌∷◌, ◌++◌, drop, length, List, IfSome, IsTrue};
+ghost use Rattle.std.specs.Prelude.{◌≡◌, ◌≢◌, ◌<◌, [], ◌∷◌, ◌++◌, drop, length, List, IfSome, IsTrue};
 ghost use Rattle.isa_model.specs.Code.Instructions.{Program};
 ghost use Rattle.stack_state.specs.declared.states.State.{State as TheState};
+ghost use Rattle.image.specs.Images.{IsImage};
+ghost use Rattle.control_flow.specs.Flows.{IsFlow};
 ghost use Rattle.walks.specs.Walks.{StepsTo};
 ghost use Rattle.explorer.specs.Explained.{IsLed, IsTurnBefore, ComesThrough, Explains};
 ghost use Rattle.explorer.specs.Followed.{HasFollowed};
+ghost use Rattle.explorer.specs.Search.{IsNew};
 
-use crate::kept::Kept;
 use crate::listening::Listener;
 use crate::moves::Halt;
 use crate::search::Search;
@@ -17,14 +19,13 @@ use control_flow::Flow;
 use image::Image;
 use stack_state::State;
 use std::alloc::{AllocError, Global};
-use transfer::Ways;
 use walks::Refusal;
 
 /// How many jumps of a path are kept at most: the last ones.
 pub const MOST_JUMPS: usize = 8;
 
 /// A step that does not go to the next instruction: its slot and its target.
-#[derive(Clone, Copy, PartialEq, Eq, Debug, Default, Drop)]
+#[derive(Clone, Copy, Default, Drop)]
 pub struct Jump {
     pub from: usize,
     pub to: usize,
@@ -164,25 +165,10 @@ impl Listener for Follower<'_> {
         Ok(())
     }
 
-    fn explores(
-        &mut self,
-        _state: &State,
-        _stored: Option<usize>,
-        _kept: Option<&Kept>,
-    ) -> Result<(), AllocError> {
-        Ok(())
-    }
-
-    fn stepped(&mut self, _ways: Ways) -> Result<(), AllocError> {
-        Ok(())
-    }
-
     fn finished(&mut self, _number: u32) -> Result<(), AllocError> {
         self.go_back();
         Ok(())
     }
-
-    fn refused(&mut self, _refusal: Refusal, _slot: usize) {}
 }
 
 /// Whether two refusals are the same. The derived `==` has no clause that says so.
@@ -196,6 +182,31 @@ fn are_one(one: Refusal, other: Refusal) -> bool
         (Refusal::TooLong, Refusal::TooLong) => true,
         (Refusal::Memory, Refusal::Memory) => true,
         _ => false,
+    }
+}
+
+/// What a second search finds where it stops for this refusal at this slot. None: it does not.
+fn explained(
+    alloc: Global,
+    image: &Image,
+    flow: &Flow<'_>,
+    search: &mut Search,
+    refusal: Refusal,
+    slot: usize,
+) -> Option<Explanation>
+    requires image { flow.now ≡ image.now }
+    requires whole { IsImage image.now }
+    requires good { IsFlow flow.now }
+    requires new { IsNew search.old }
+    requires known { refusal ≢ Refusal.Memory }
+    ensures { IfSome result (Explains image.now refusal slot) }
+{
+    let mut follower = Follower::new(alloc, image, slot);
+    match search.explore(alloc, image, flow, &mut follower) {
+        Err(Halt::Refused(found, at)) if are_one(found, refusal) && at == slot => {
+            follower.into_explanation(slot, search.stored.is_cut_off())
+        }
+        _ => None,
     }
 }
 
@@ -214,12 +225,5 @@ pub fn explain(alloc: Global, image: &Image, refusal: Refusal, slot: usize) -> O
         return None;
     };
     let mut search = Search::new(alloc, slots).ok()?;
-    let mut room = Vec::new(alloc);
-    let mut follower = Follower::new(alloc, image, slot);
-    match search.explore(alloc, image, &flow, &mut room, &mut follower) {
-        Err(Halt::Refused(found, at)) if are_one(found, refusal) && at == slot => {
-            follower.into_explanation(slot, search.stored.is_cut_off())
-        }
-        _ => None,
-    }
+    explained(alloc, image, &flow, &mut search, refusal, slot)
 }

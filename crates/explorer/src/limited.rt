@@ -20,11 +20,10 @@ use image::Image;
 use isa_model::MAX_EXPLORED;
 use stack_state::State;
 use std::alloc::Global;
-use transfer::Ways;
 use walks::Refusal;
 
 /// Why a search up to a limit has no bound.
-#[derive(Clone, Copy, PartialEq, Eq, Debug)]
+#[derive(Clone, Copy)]
 pub enum Stop {
     /// The program is refused so, at this slot.
     Refused(Refusal, usize),
@@ -68,15 +67,9 @@ impl Listener for Countdown {
         Ok(())
     }
 
-    fn stepped(&mut self, _ways: Ways) -> Result<(), Reached> {
-        Ok(())
-    }
-
     fn finished(&mut self, _number: u32) -> Result<(), Reached> {
         Ok(())
     }
-
-    fn refused(&mut self, _refusal: Refusal, _slot: usize) {}
 }
 
 /// Verifies a program as `verify` does, but explores no more instructions than the limit. Within it

@@ -42,8 +42,7 @@ fn bound_with<L: Listener>(
     let Ok(mut search) = Search::new(alloc, slots) else {
         return Err(Halt::Refused(Refusal::Memory, 0));
     };
-    let mut room = Vec::new(alloc);
-    match search.explore(alloc, image, &flow, &mut room, listener) {
+    match search.explore(alloc, image, &flow, listener) {
         Ok(bound) => Ok(bound),
         Err(halt) => Err(halt),
     }

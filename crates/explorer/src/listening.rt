@@ -37,20 +37,28 @@ pub trait Listener {
             → follows self.old p (s ∷ path) last → OnOk result (follows self.new p path last) };
 
     /// The last state of the path, which is this one, is to be explored. At a join it was stored
-    /// as the last of the stored states: `stored` is its index, and `kept` is that stored state.
+    /// as the last of the stored states: its index and that stored state come with it.
+    #[inline(always)]
     fn explores(
         &mut self,
-        state: &State,
-        stored: Option<usize>,
-        kept: Option<&Kept>,
+        _state: &State,
+        _stored: Option<usize>,
+        _kept: Option<&Kept>,
     ) -> Result<(), Self::Stop>
         ensures { (p : Program) (path : List TheState) (last : TheState)
-            → follows self.old p path last → OnOk result (follows self.new p path last) };
+            → follows self.old p path last → OnOk result (follows self.new p path last) }
+    {
+        Ok(())
+    }
 
     /// The step of the path's last state has these ways.
-    fn stepped(&mut self, ways: Ways) -> Result<(), Self::Stop>
+    #[inline(always)]
+    fn stepped(&mut self, _ways: Ways) -> Result<(), Self::Stop>
         ensures { (p : Program) (path : List TheState) (last : TheState)
-            → follows self.old p path last → OnOk result (follows self.new p path last) };
+            → follows self.old p path last → OnOk result (follows self.new p path last) }
+    {
+        Ok(())
+    }
 
     /// The last state of the path is explored, and this is its number.
     fn finished(&mut self, number: u32) -> Result<(), Self::Stop>
@@ -58,9 +66,11 @@ pub trait Listener {
             → follows self.old p (s ∷ path) last → OnOk result (follows self.new p path last) };
 
     /// The program is refused for this reason, at the last state of the path; or memory ran out.
-    fn refused(&mut self, refusal: Refusal, slot: usize)
+    #[inline(always)]
+    fn refused(&mut self, _refusal: Refusal, _slot: usize)
         ensures { (p : Program) (path : List TheState) (last : TheState)
-            → follows self.old p path last → follows self.new p path last };
+            → follows self.old p path last → follows self.new p path last }
+    {}
 }
 
 /// Reports a move to this state, and the state that was stored last.
@@ -126,25 +136,7 @@ impl Listener for Nobody {
     }
 
     #[inline(always)]
-    fn explores(
-        &mut self,
-        _state: &State,
-        _stored: Option<usize>,
-        _kept: Option<&Kept>,
-    ) -> Result<(), Infallible> {
-        Ok(())
-    }
-
-    #[inline(always)]
-    fn stepped(&mut self, _ways: Ways) -> Result<(), Infallible> {
-        Ok(())
-    }
-
-    #[inline(always)]
     fn finished(&mut self, _number: u32) -> Result<(), Infallible> {
         Ok(())
     }
-
-    #[inline(always)]
-    fn refused(&mut self, _refusal: Refusal, _slot: usize) {}
 }

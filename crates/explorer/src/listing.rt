@@ -2,7 +2,10 @@
 
 ghost use Rattle.std.specs.Prelude.{◌≡◌, IfErr, length, slice_get};
 ghost use Rattle.std.specs.Option.{option_copied};
+ghost use Rattle.image.specs.Images.{IsImage};
+ghost use Rattle.control_flow.specs.Flows.{IsFlow};
 ghost use Rattle.walks.specs.Refused.{IsRefused};
+ghost use Rattle.explorer.specs.Search.{IsNew};
 
 use crate::blanks::clear_frame;
 use crate::kept::Kept;
@@ -18,7 +21,6 @@ use state_index::Part;
 use std::alloc::{AllocError, Global};
 use std::marker::Model;
 use std::mem;
-use transfer::Ways;
 use walks::Refusal;
 
 /// One explored instruction.
@@ -197,10 +199,6 @@ impl Listener for Lister {
         self.add(state, stored, kept)
     }
 
-    fn stepped(&mut self, _ways: Ways) -> Result<(), AllocError> {
-        Ok(())
-    }
-
     fn finished(&mut self, number: u32) -> Result<(), AllocError> {
         if let Some(last) = self.path.pop() {
             let last = last as usize;
@@ -210,8 +208,32 @@ impl Listener for Lister {
         }
         Ok(())
     }
+}
 
-    fn refused(&mut self, _refusal: Refusal, _slot: usize) {}
+/// Lists all that a search explores.
+fn listed(
+    alloc: Global,
+    image: &Image,
+    flow: &Flow<'_>,
+    search: &mut Search,
+) -> Result<Explored, (Refusal, usize)>
+    requires image { flow.now ≡ image.now }
+    requires whole { IsImage image.now }
+    requires good { IsFlow flow.now }
+    requires new { IsNew search.old }
+    ensures { IfErr result (λ r. IsRefused image.now r.0 r.1) }
+{
+    let mut lister = Lister::new(alloc);
+    match search.explore(alloc, image, flow, &mut lister) {
+        Ok(_) => {
+            lister.take_stored(search.stored.entries.as_mut_slice());
+            Ok(Explored {
+                entries: lister.entries,
+            })
+        }
+        Err(Halt::Refused(refusal, slot)) => Err((refusal, slot)),
+        Err(Halt::Stopped(_)) => Err((Refusal::Memory, 0)),
+    }
 }
 
 /// Explores a program as `verify` does, and answers all that was explored, or why the program is
@@ -227,16 +249,5 @@ pub fn explore(alloc: Global, image: &Image) -> Result<Explored, (Refusal, usize
     let Ok(mut search) = Search::new(alloc, slots) else {
         return Err((Refusal::Memory, 0));
     };
-    let mut room = Vec::new(alloc);
-    let mut lister = Lister::new(alloc);
-    match search.explore(alloc, image, &flow, &mut room, &mut lister) {
-        Ok(_) => {
-            lister.take_stored(search.stored.entries.as_mut_slice());
-            Ok(Explored {
-                entries: lister.entries,
-            })
-        }
-        Err(Halt::Refused(refusal, slot)) => Err((refusal, slot)),
-        Err(Halt::Stopped(_)) => Err((Refusal::Memory, 0)),
-    }
+    listed(alloc, image, &flow, &mut search)
 }

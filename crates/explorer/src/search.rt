@@ -39,17 +39,17 @@ pub struct Search {
     pub scratch: State,
 }
 
-/// A path arrives at a state, which may have been kept already.
+/// A path arrives at a state, which may have been kept already: if it is stored, that is taken.
 fn arrive(
     alloc: Global,
     flow: &Flow<'_>,
     stored: &mut StoredStates,
     state: &State,
-    kept: Option<Kept>,
+    kept: &mut Option<Kept>,
     scratch: &mut State,
 ) -> Result<Move, Refused>
-    requires kept { IfSome kept (λ s. s ≡ state.now) }
-    requires forgotten { kept ≡ None → IsForgotten flow.now state.now }
+    requires kept { IfSome kept.old (λ s. s ≡ state.now) }
+    requires forgotten { kept.old ≡ None → IsForgotten flow.now state.now }
     ensures arrives { IfOk result (λ made. Arrives flow.now stored.old.entries.items
         state.now made stored.new.entries.items) }
     ensures limits { IfOk result (λ made. made ≡ Move.New None → IsJoin flow.now state.now.slot
@@ -61,7 +61,7 @@ fn arrive(
         return Ok(Move::New(None));
     }
     let known = kept_slots(flow, state.slot);
-    let Ok(()) = stored.turn_to(alloc, state, &kept, known) else {
+    let Ok(()) = stored.turn_to(alloc, state, kept, known) else {
         return Err(NO_MEMORY);
     };
     if let Some((place, number)) = stored.cover_of(state, scratch) {
@@ -73,7 +73,7 @@ fn arrive(
     if stored.is_full {
         return Ok(Move::New(None));
     }
-    match stored.store(alloc, state, kept) {
+    match stored.store(alloc, state, kept.take()) {
         Ok(place) => Ok(Move::New(Some(place))),
         Err(_) => Err(NO_MEMORY),
     }
@@ -97,7 +97,12 @@ impl Search {
 
     /// The path arrives at the current state, which may have been kept already.
     #[inline(always)]
-    fn come(&mut self, alloc: Global, flow: &Flow<'_>, kept: Option<Kept>) -> Result<Move, Refused>
+    fn come(
+        &mut self,
+        alloc: Global,
+        flow: &Flow<'_>,
+        mut kept: Option<Kept>,
+    ) -> Result<Move, Refused>
         requires comes { Comes flow.now self.old }
         requires kept { IfSome kept (λ s. s ≡ self.old.current) }
         requires forgotten { kept ≡ None → IsForgotten flow.now self.old.current }
@@ -114,7 +119,7 @@ impl Search {
             flow,
             &mut self.stored,
             &self.current,
-            kept,
+            &mut kept,
             &mut self.scratch,
         )
     }
@@ -355,14 +360,12 @@ impl Search {
         }
     }
 
-    /// Explores all that can be reached from the start, and answers its number. `room` is scratch
-    /// space for the parts of states.
+    /// Explores all that can be reached from the start, and answers its number.
     pub fn explore<L: Listener>(
         &mut self,
         alloc: Global,
         image: &Image,
         flow: &Flow<'_>,
-        room: &mut Vec<Part>,
         listener: &mut L,
     ) -> Result<u32, Halt<L::Stop>>
         requires image { flow.now ≡ image.now }
@@ -382,7 +385,8 @@ impl Search {
         ensures ends { IfErr result (λ h. IfRefused h
             (EndsIn flow.now (L.follows listener.new flow.now))) }
     {
-        match self.run(alloc, image, flow, room, listener) {
+        let mut room = Vec::new(alloc);
+        match self.run(alloc, image, flow, &mut room, listener) {
             Ok(number) => Ok(number),
             Err(Halt::Refused(refusal, slot)) => {
                 listener.refused(refusal, slot);
