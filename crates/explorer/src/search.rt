@@ -73,7 +73,7 @@ fn arrive(
     if stored.is_full {
         return Ok(Move::New(None));
     }
-    match stored.store(alloc, state, kept.take()) {
+    match stored.store(alloc, state, kept) {
         Ok(place) => Ok(Move::New(Some(place))),
         Err(_) => Err(NO_MEMORY),
     }

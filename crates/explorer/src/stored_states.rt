@@ -335,15 +335,17 @@ impl StoredStates {
         false
     }
 
-    /// Stores the state that was taken, and answers its index.
+    /// Stores the state that was taken, and answers its index. If it was kept already, that is
+    /// taken.
     pub fn store(
         &mut self,
         alloc: Global,
         state: &State,
-        kept: Option<Kept>,
+        kept: &mut Option<Kept>,
     ) -> Result<usize, AllocError>
-        requires drawn { kept ≡ None → AreParts self.old.key.parts.items state.now.innermost }
-        requires kept { IfSome kept (λ s. s ≡ state.now) }
+        requires drawn { kept.old ≡ None
+            → AreParts self.old.key.parts.items state.now.innermost }
+        requires kept { IfSome kept.old (λ s. s ≡ state.now) }
         ensures place { IfOk result (λ k. k ≡ length self.old.entries.items) }
         ensures stored { IfOk result (λ _. self.new.entries.items
             ≡ self.old.entries.items ++ record { state = state.now; number = 0 } ∷ []) }
@@ -354,7 +356,7 @@ impl StoredStates {
             self.index
                 .add(alloc, state.slot, &self.key, &mut self.effort)?;
         }
-        let state = match kept {
+        let state = match kept.take() {
             Some(kept) => kept,
             None => {
                 let last = last_of(&self.entries);

@@ -26,5 +26,6 @@ returns-in-Err-Refused c =
     let is : halt.found ≡ c.args.refusal = search rules in
     let here : halt.at ≡ c.args.slot = search rules in
     if_some c.into_explanation.result _ (Explains q c.args.refusal c.args.slot)
-    (λ x shown. explains_by p q tale halt.found c.args.refusal halt.at c.args.slot x c.requires.image is here c.requires.known stops ends shown)
+    (λ x shown. explains_by p q tale halt.found c.args.refusal halt.at c.args.slot x
+    c.requires.image is here c.requires.known stops ends shown)
     c.into_explanation.ensures

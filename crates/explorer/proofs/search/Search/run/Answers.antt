@@ -2,6 +2,7 @@ use Rattle.std.proofs.Common.{◌+◌, length, arith, refl, subst}
 use Rattle.walks.specs.Counts.{Takes, ItsOwn}
 use Rattle.explorer.proofs.Counting.{CountsTo-takes}
 use Rattle.explorer.proofs.Walking.{Path-walks}
+use Rattle.explorer.proofs.Telling.{told_begin, refused_begin}
 use Rattle.explorer.proofs.search.Search.run.Goals as goal
 
 pub returns-in-Explore-turn-clause-stops : goal.returns-in-Explore-turn-clause-stops
@@ -23,3 +24,19 @@ returns-in-Explore-turn-clause-stops g c =
             (CountsTo-takes p search.path.items goes.at.first search.current (search.finished + length search.path.items) 1 goes.spent (ItsOwn search.current 1 goes.ready.begins refl)),
       ),
     )
+
+pub settle-requires-clause-untold : goal.settle-requires-clause-untold
+settle-requires-clause-untold g c =
+    let p = c.args.flow.now in
+    let search = c.begin.new.self in
+    let (last, told) = c.requires.untold in
+    told_begin p (g.L.Listener.follows c.args.listener.now p) search.path.items search.current last
+    c.in-Ok.made c.in-Ok.ensures.begins told
+
+pub returns-in-Err-clause-ends : goal.returns-in-Err-clause-ends
+returns-in-Err-clause-ends g c =
+    let p = c.args.flow.now in
+    let (last, told) = c.requires.untold in
+    c.halt.ensures.ends p
+    (refused_begin p (g.L.Listener.follows c.args.listener.now p) c.begin.new.self.current last
+    c.in-Err.refused.0 c.in-Err.refused.1 c.in-Err.ensures.fails told)
