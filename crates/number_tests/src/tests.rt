@@ -2,6 +2,7 @@
 
 mod bits;
 mod branches;
+mod chains;
 mod covers;
 mod kinds;
 mod limits;
@@ -10,7 +11,7 @@ mod narrower;
 mod numbers;
 mod operations;
 mod pointers;
+mod samples;
 mod scalars;
 mod splices;
 mod stacks;
-mod stacks_covered;

@@ -1,8 +1,9 @@
 //! How precise known bits are, worked out by hand: values and masks of real shapes.
 
-use super::operations::{Part, Relation, common, part_of, related};
+use super::operations::{Part, Relation};
 use isa_model::{AluOp, ByteOrder, Extension, Span, Width};
 use known_bits::Bits;
+use reg_state::Domain;
 use std::test::Fail;
 
 const FULL: Width = Width::Full64;
@@ -63,11 +64,14 @@ const RESULTS: [(AluOp, Width, Pair, Pair, Pair); 15] = [
     (AluOp::And, FULL, ANY, (u64::MAX - 1, 0), (0, u64::MAX - 1)),
 ];
 
+fn result_of(op: AluOp, width: Width, a: Pair, b: Pair) -> Pair {
+    pair_of(alu(op, width, bits_of(a), bits_of(b)))
+}
+
 #[test]
 fn sums_products_logic_and_shifts(rt: HostRuntime) -> Result<(), Fail> {
     for (op, width, a, b, wanted) in RESULTS.iter() {
-        let found = alu(*op, *width, bits_of(*a), bits_of(*b));
-        assert_eq!(rt; pair_of(found), *wanted, "{op:?}");
+        assert_eq!(rt; result_of(*op, *width, *a, *b), *wanted, "{op:?}");
     }
     Ok(())
 }
@@ -99,10 +103,22 @@ const PARTS: [(Part, Pair, Pair); 7] = [
     (Part::Negate(LOW), (1, 0), (0xffff_ffff, 0)),
 ];
 
+fn part_of(part: &Part, a: Bits) -> Bits {
+    match part {
+        Part::Negate(width) => Domain::negate(*width, a),
+        Part::SignExtend(extension) => Domain::sign_extend(*extension, a),
+        Part::Reorder(order, span) => Domain::reorder(*order, *span, a),
+    }
+}
+
+fn pair_of_part(part: &Part, a: Pair) -> Pair {
+    pair_of(part_of(part, bits_of(a)))
+}
+
 #[test]
 fn parts(rt: HostRuntime) -> Result<(), Fail> {
     for (part, a, wanted) in PARTS.iter() {
-        assert_eq!(rt; pair_of(part_of(part, bits_of(*a))), *wanted);
+        assert_eq!(rt; pair_of_part(part, *a), *wanted);
     }
     Ok(())
 }
@@ -117,7 +133,8 @@ const LIMITS: [(Pair, Limits); 4] = [
     (ANY, (0, u64::MAX, i64::MIN, i64::MAX, None)),
 ];
 
-fn limits_of(bits: Bits) -> Limits {
+fn limits_of(pair: Pair) -> Limits {
+    let bits = bits_of(pair);
     (
         bits.least(),
         bits.greatest(),
@@ -130,7 +147,7 @@ fn limits_of(bits: Bits) -> Limits {
 #[test]
 fn limits(rt: HostRuntime) -> Result<(), Fail> {
     for (pair, wanted) in LIMITS.iter() {
-        assert_eq!(rt; limits_of(bits_of(*pair)), *wanted);
+        assert_eq!(rt; limits_of(*pair), *wanted);
     }
     Ok(())
 }
@@ -146,11 +163,18 @@ const COMMON: [(Pair, Pair, Option<Pair>, bool); 5] = [
     (BYTE, BYTE, Some(BYTE), true),
 ];
 
+fn common_pair(a: Pair, b: Pair) -> (Option<Pair>, bool) {
+    let (a, b) = (bits_of(a), bits_of(b));
+    match Domain::meet(a, b) {
+        Some(both) => (Some(pair_of(both)), Domain::covers(a, b)),
+        None => (None, Domain::covers(a, b)),
+    }
+}
+
 #[test]
 fn common_numbers(rt: HostRuntime) -> Result<(), Fail> {
     for (a, b, wanted, is_covered) in COMMON.iter() {
-        let (both, covers) = common(bits_of(*a), bits_of(*b));
-        assert_eq!(rt; (both.map(pair_of), covers), (*wanted, *is_covered));
+        assert_eq!(rt; common_pair(*a, *b), (*wanted, *is_covered));
     }
     Ok(())
 }
@@ -172,14 +196,16 @@ fn between(least: u64, greatest: u64) -> Option<Pair> {
     }
 }
 
+fn pairs_of_widths() -> (Pair, Pair) {
+    (pair_of(Bits::any(FULL)), pair_of(Bits::any(LOW)))
+}
+
 #[test]
 fn sets(rt: HostRuntime) -> Result<(), Fail> {
     for (least, greatest, wanted) in BETWEEN.iter() {
         assert_eq!(rt; between(*least, *greatest), Some(*wanted));
     }
-    for (width, wanted) in [(FULL, ANY), (LOW, (0, 0xffff_ffff))] {
-        assert_eq!(rt; pair_of(Bits::any(width)), wanted);
-    }
+    assert_eq!(rt; pairs_of_widths(), (ANY, (0, 0xffff_ffff)));
     Ok(())
 }
 
@@ -224,12 +250,31 @@ const RELATIONS: [(Relation, Pair, Pair, Option<(Pair, Pair)>); 15] = [
     (Relation::Disjoint, TEN, TEN, None),
 ];
 
+/// What a relation leaves of two sets, whose members the width reads.
+fn related(relation: &Relation, width: Width, a: Bits, b: Bits) -> Option<(Bits, Bits)> {
+    match relation {
+        Relation::Equal => Domain::equal(a, width, b),
+        Relation::Below => Domain::below(a, width, b),
+        Relation::AtMost => Domain::at_most(a, width, b),
+        Relation::SignedBelow => Domain::signed_below(a, width, b),
+        Relation::SignedAtMost => Domain::signed_at_most(a, width, b),
+        Relation::Apart => Domain::apart(a, width, b),
+        Relation::Disjoint => Domain::disjoint(a, width, b),
+        Relation::Overlapping => Domain::overlapping(a, width, b),
+    }
+}
+
+fn left_of(relation: &Relation, width: Width, a: Pair, b: Pair) -> Option<(Pair, Pair)> {
+    match related(relation, width, bits_of(a), bits_of(b)) {
+        Some((a, b)) => Some((pair_of(a), pair_of(b))),
+        None => None,
+    }
+}
+
 #[test]
 fn relations(rt: HostRuntime) -> Result<(), Fail> {
     for (relation, a, b, wanted) in RELATIONS.iter() {
-        let found = related(relation, Width::Full64, bits_of(*a), bits_of(*b));
-        let left = found.map(|both| (pair_of(both.0), pair_of(both.1)));
-        assert_eq!(rt; left, *wanted);
+        assert_eq!(rt; left_of(relation, FULL, *a, *b), *wanted);
     }
     Ok(())
 }
@@ -267,9 +312,7 @@ const LOW_RELATIONS: [(Relation, Pair, Pair, Option<(Pair, Pair)>); 8] = [
 #[test]
 fn relations_of_low_halves(rt: HostRuntime) -> Result<(), Fail> {
     for (relation, a, b, wanted) in LOW_RELATIONS.iter() {
-        let found = related(relation, LOW, bits_of(*a), bits_of(*b));
-        let left = found.map(|both| (pair_of(both.0), pair_of(both.1)));
-        assert_eq!(rt; left, *wanted);
+        assert_eq!(rt; left_of(relation, LOW, *a, *b), *wanted);
     }
     Ok(())
 }

@@ -95,32 +95,35 @@ fn narrowed(cond: Cond, taken: bool, before: &[Limits; 2]) -> Option<[Limits; 2]
     }
 }
 
+fn condition(comparison: Comparison, width: Width, register: Reg, operand: Operand) -> Cond {
+    Cond {
+        width,
+        comparison,
+        register,
+        operand,
+    }
+}
+
 #[test]
 fn registers_narrow(rt: HostRuntime) -> Result<(), Fail> {
     for (comparison, width, operand, taken, before, wanted) in ROWS.iter() {
-        let cond = Cond {
-            width: *width,
-            comparison: *comparison,
-            register: Reg::R2,
-            operand: *operand,
-        };
+        let cond = condition(*comparison, *width, Reg::R2, *operand);
         assert_eq!(rt; narrowed(cond, *taken, before), *wanted, "{comparison:?}");
     }
     Ok(())
 }
 
+// What r1 holds at the start, if it may be 0.
+fn context_left() -> Option<Kind> {
+    let cond = condition(Comparison::Equal, FULL, Reg::R1, Operand::Constant(0));
+    match refine(cond, true, &State::start()) {
+        Branch::Never => None,
+        Branch::Goes(left) => Some(left.kind_of(Reg::R1)),
+    }
+}
+
 #[test]
 fn pointers_stay(rt: HostRuntime) -> Result<(), Fail> {
-    let state = State::start();
-    let context_is_0 = Cond {
-        width: FULL,
-        comparison: Comparison::Equal,
-        register: Reg::R1,
-        operand: Operand::Constant(0),
-    };
-    let Branch::Goes(left) = refine(context_is_0, true, &state) else {
-        return Err("the context may be 0".into());
-    };
-    assert!(rt; left.kind_of(Reg::R1) == Kind::Context);
+    assert_eq!(rt; context_left(), Some(Kind::Context));
     Ok(())
 }

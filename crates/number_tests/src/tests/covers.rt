@@ -1,129 +1,218 @@
 //! Which states cover which, on examples.
 
-use arrayvec::ArrayVec;
-use isa_model::Width;
-use known_bits::Bits;
-use ranges::Range;
-use reg_state::{Kind, Scalar};
-use stack_state::{AbstractFrame, StackState, State};
+use super::samples::{Held, Put, Sample, state_of};
 use state_cover::covers;
-use std::test::Fail;
+use std::process::Abort;
 
-fn packet(identity: u32, proved: u32) -> Kind {
-    Kind::Packet {
-        fixed: 0,
-        identity,
-        least: 0,
-        greatest: 60,
-        proved,
+fn is_covering(a: &Sample, b: &Sample) -> bool {
+    covers(&state_of(a), &state_of(b))
+}
+
+/// Two states, and whether the first covers the second.
+type Row = (Sample, Sample, bool);
+
+fn are_covering(rt: &impl Abort, rows: &[Row]) {
+    for (place, (a, b, wanted)) in rows.iter().enumerate() {
+        assert_eq!(rt; is_covering(a, b), *wanted, "row {place}");
     }
 }
 
-fn number(bits: Bits, range: Range) -> Kind {
-    Kind::Number(Scalar { bits, range })
-}
+const ONE_IDENTITY: Sample = Sample::Outer(
+    3,
+    &[
+        Put::Register(2, Held::Packet(1, 0)),
+        Put::Register(3, Held::Packet(1, 0)),
+    ],
+);
 
-// r2 and r3 as they are given, and the others Unset.
-fn registers(second: Kind, third: Kind) -> [Kind; 10] {
-    let mut registers = [Kind::Unset; 10];
-    registers[2] = second;
-    registers[3] = third;
-    registers
-}
+const SAME_IDENTITY: Sample = Sample::Outer(
+    3,
+    &[
+        Put::Register(2, Held::Packet(4, 0)),
+        Put::Register(3, Held::Packet(4, 0)),
+    ],
+);
 
-fn frame(return_slot: usize, registers: [Kind; 10]) -> AbstractFrame {
-    AbstractFrame {
-        return_slot,
-        registers,
-        stack: StackState::new(),
-    }
-}
+const TWO_IDENTITIES: Sample = Sample::Outer(
+    3,
+    &[
+        Put::Register(2, Held::Packet(4, 0)),
+        Put::Register(3, Held::Packet(5, 0)),
+    ],
+);
 
-fn state(slot: usize, registers: [Kind; 10]) -> State {
-    State {
-        slot,
-        callers: ArrayVec::new(),
-        innermost: frame(0, registers),
-    }
-}
+const PROVED_14: Sample = Sample::Outer(3, &[Put::Register(2, Held::Packet(1, 14))]);
 
-fn in_call(return_slot: usize, outer: [Kind; 10], inner: [Kind; 10]) -> State {
-    let mut callers = ArrayVec::new();
-    callers.push(frame(0, outer));
-    State {
-        slot: 3,
-        callers,
-        innermost: frame(return_slot, inner),
-    }
-}
+const PROVED_10: Sample = Sample::Outer(3, &[Put::Register(2, Held::Packet(2, 10))]);
 
-#[test]
-fn one_identity_is_one_in_the_other(rt: HostRuntime) -> Result<(), Fail> {
-    let one = state(3, registers(packet(1, 0), packet(1, 0)));
-    let same = state(3, registers(packet(4, 0), packet(4, 0)));
-    let two = state(3, registers(packet(4, 0), packet(5, 0)));
-    let covered = [covers(&one, &same), covers(&one, &two), covers(&two, &one)];
-    assert_eq!(rt; covered, [true, false, true]);
-    Ok(())
-}
+const NOTHING: Sample = Sample::Outer(3, &[]);
 
-#[test]
-fn a_longer_proof_is_not_covered(rt: HostRuntime) -> Result<(), Fail> {
-    let more = state(3, registers(packet(1, 14), Kind::Unset));
-    let less = state(3, registers(packet(2, 10), Kind::Unset));
-    let covered = [covers(&more, &less), covers(&less, &more)];
-    assert_eq!(rt; covered, [false, true]);
-    Ok(())
-}
+const IN_LAST: Sample = Sample::Outer(3, &[Put::Register(9, Held::Context)]);
 
-#[test]
-fn unset_covers_and_the_slot_counts(rt: HostRuntime) -> Result<(), Fail> {
-    let nothing = state(3, [Kind::Unset; 10]);
-    let mut last = [Kind::Unset; 10];
-    last[9] = Kind::Context;
-    let some = state(3, last);
-    let covered = [
-        covers(&nothing, &some),
-        covers(&some, &nothing),
-        covers(&some, &some),
-        covers(&state(4, last), &some),
-    ];
-    assert_eq!(rt; covered, [true, false, true, false]);
-    Ok(())
-}
+const IN_LAST_LATER: Sample = Sample::Outer(4, &[Put::Register(9, Held::Context)]);
+
+const ANY_NUMBER: Sample = Sample::Outer(3, &[Put::Register(2, Held::AnyNumber)]);
+
+const SEVEN: Sample = Sample::Outer(3, &[Put::Register(2, Held::Number(7))]);
+
+const REGISTERS: [Row; 11] = [
+    // One identity is one in the other.
+    (ONE_IDENTITY, SAME_IDENTITY, true),
+    (ONE_IDENTITY, TWO_IDENTITIES, false),
+    (TWO_IDENTITIES, ONE_IDENTITY, true),
+    // A longer proof is not covered.
+    (PROVED_14, PROVED_10, false),
+    (PROVED_10, PROVED_14, true),
+    // Unset covers all, and the slot counts.
+    (NOTHING, IN_LAST, true),
+    (IN_LAST, NOTHING, false),
+    (IN_LAST, IN_LAST, true),
+    (IN_LAST_LATER, IN_LAST, false),
+    // Numbers go by their limits.
+    (ANY_NUMBER, SEVEN, true),
+    (SEVEN, ANY_NUMBER, false),
+];
 
 #[test]
-fn numbers_go_by_their_limits(rt: HostRuntime) -> Result<(), Fail> {
-    let any = number(Bits::any(Width::Full64), Range::any(Width::Full64));
-    let seven = number(Bits::constant(7), Range::constant(7));
-    let wide = state(3, registers(any, Kind::Unset));
-    let narrow = state(3, registers(seven, Kind::Unset));
-    let covered = [covers(&wide, &narrow), covers(&narrow, &wide)];
-    assert_eq!(rt; covered, [true, false]);
-    Ok(())
+fn registers(rt: HostRuntime) {
+    are_covering(&rt, &REGISTERS);
 }
 
-#[test]
-fn return_slots_and_depth_count(rt: HostRuntime) -> Result<(), Fail> {
-    let none = [Kind::Unset; 10];
-    let seven = in_call(7, none, none);
-    let covered = [
-        covers(&seven, &in_call(7, none, none)),
-        covers(&seven, &in_call(8, none, none)),
-        covers(&seven, &state(3, none)),
-    ];
-    assert_eq!(rt; covered, [true, false, false]);
-    Ok(())
-}
+const BACK_TO_7: Sample = Sample::InCall(7, &[], &[]);
+
+const BACK_TO_8: Sample = Sample::InCall(8, &[], &[]);
+
+const SAME_IN_BOTH: Sample = Sample::InCall(
+    7,
+    &[Put::Register(6, Held::Packet(1, 0))],
+    &[Put::Register(2, Held::Packet(1, 0))],
+);
+
+const OTHER_IN_BOTH: Sample = Sample::InCall(
+    7,
+    &[Put::Register(6, Held::Packet(1, 0))],
+    &[Put::Register(2, Held::Packet(2, 0))],
+);
+
+const CALLS: [Row; 6] = [
+    // Return slots and depth count.
+    (BACK_TO_7, BACK_TO_7, true),
+    (BACK_TO_7, BACK_TO_8, false),
+    (BACK_TO_7, NOTHING, false),
+    // Identities hold across frames.
+    (SAME_IN_BOTH, SAME_IN_BOTH, true),
+    (SAME_IN_BOTH, OTHER_IN_BOTH, false),
+    (OTHER_IN_BOTH, SAME_IN_BOTH, true),
+];
 
 #[test]
-fn names_hold_across_frames(rt: HostRuntime) -> Result<(), Fail> {
-    let none = [Kind::Unset; 10];
-    let mut kept = none;
-    kept[6] = packet(1, 0);
-    let one = in_call(7, kept, registers(packet(1, 0), Kind::Unset));
-    let two = in_call(7, kept, registers(packet(2, 0), Kind::Unset));
-    let covered = [covers(&one, &one), covers(&one, &two), covers(&two, &one)];
-    assert_eq!(rt; covered, [true, false, true]);
-    Ok(())
+fn calls(rt: HostRuntime) {
+    are_covering(&rt, &CALLS);
+}
+
+const POINTER_IN_5: Sample = Sample::Outer(3, &[Put::Slot(5, Held::Context)]);
+
+const SEVEN_IN_5: Sample = Sample::Outer(3, &[Put::Slot(5, Held::Number(7))]);
+
+const HALF: Sample = Sample::Outer(3, &[Put::Written(63, 0x0f)]);
+
+const WHOLE: Sample = Sample::Outer(3, &[Put::Written(63, 0xff)]);
+
+const SEVEN_IN_63: Sample = Sample::Outer(3, &[Put::Slot(63, Held::Number(7))]);
+
+const EIGHT_IN_63: Sample = Sample::Outer(3, &[Put::Slot(63, Held::Number(8))]);
+
+const POINTER_IN_63: Sample = Sample::Outer(3, &[Put::Slot(63, Held::Context)]);
+
+const ONE_IN_SLOTS: Sample = Sample::Outer(
+    3,
+    &[
+        Put::Slot(0, Held::Packet(1, 0)),
+        Put::Slot(9, Held::Packet(1, 0)),
+    ],
+);
+
+const SAME_IN_SLOTS: Sample = Sample::Outer(
+    3,
+    &[
+        Put::Slot(0, Held::Packet(4, 0)),
+        Put::Slot(9, Held::Packet(4, 0)),
+    ],
+);
+
+const TWO_IN_SLOTS: Sample = Sample::Outer(
+    3,
+    &[
+        Put::Slot(0, Held::Packet(4, 0)),
+        Put::Slot(9, Held::Packet(5, 0)),
+    ],
+);
+
+const PROVED_14_IN_0: Sample = Sample::Outer(3, &[Put::Slot(0, Held::Packet(1, 14))]);
+
+const PROVED_10_IN_0: Sample = Sample::Outer(3, &[Put::Slot(0, Held::Packet(1, 10))]);
+
+const SAME_IN_SLOT_AND_REGISTER: Sample = Sample::Outer(
+    3,
+    &[
+        Put::Slot(8, Held::Packet(1, 0)),
+        Put::Register(2, Held::Packet(1, 0)),
+    ],
+);
+
+const OTHER_IN_SLOT_AND_REGISTER: Sample = Sample::Outer(
+    3,
+    &[
+        Put::Slot(8, Held::Packet(2, 0)),
+        Put::Register(2, Held::Packet(1, 0)),
+    ],
+);
+
+const STACKS: [Row; 18] = [
+    // A pointer and a number are apart.
+    (POINTER_IN_5, POINTER_IN_5, true),
+    (POINTER_IN_5, SEVEN_IN_5, false),
+    (SEVEN_IN_5, POINTER_IN_5, false),
+    // Written bytes cover a number.
+    (NOTHING, HALF, true),
+    (HALF, NOTHING, false),
+    (HALF, WHOLE, true),
+    (WHOLE, HALF, false),
+    (WHOLE, SEVEN_IN_63, true),
+    (SEVEN_IN_63, WHOLE, false),
+    (SEVEN_IN_63, EIGHT_IN_63, false),
+    (WHOLE, POINTER_IN_63, false),
+    // Identities hold across slots.
+    (ONE_IN_SLOTS, SAME_IN_SLOTS, true),
+    (ONE_IN_SLOTS, TWO_IN_SLOTS, false),
+    (TWO_IN_SLOTS, ONE_IN_SLOTS, true),
+    (PROVED_14_IN_0, PROVED_10_IN_0, false),
+    // An identity is one in registers and slots.
+    (SAME_IN_SLOT_AND_REGISTER, SAME_IN_SLOT_AND_REGISTER, true),
+    (SAME_IN_SLOT_AND_REGISTER, OTHER_IN_SLOT_AND_REGISTER, false),
+    (OTHER_IN_SLOT_AND_REGISTER, SAME_IN_SLOT_AND_REGISTER, true),
+];
+
+#[test]
+fn stacks(rt: HostRuntime) {
+    are_covering(&rt, &STACKS);
+}
+
+const CALLED: Sample = Sample::InCall(0, &[], &[]);
+
+const SEVEN_OF_CALLER: Sample = Sample::InCall(0, &[Put::Slot(2, Held::Number(7))], &[]);
+
+const SEVEN_IN_3_OF_CALLER: Sample = Sample::InCall(0, &[Put::Slot(3, Held::Number(7))], &[]);
+
+const STACKS_OF_CALLERS: [Row; 5] = [
+    (CALLED, SEVEN_OF_CALLER, true),
+    (SEVEN_OF_CALLER, SEVEN_OF_CALLER, true),
+    (SEVEN_OF_CALLER, CALLED, false),
+    (SEVEN_OF_CALLER, SEVEN_IN_3_OF_CALLER, false),
+    (NOTHING, CALLED, false),
+];
+
+#[test]
+fn stacks_of_callers(rt: HostRuntime) {
+    are_covering(&rt, &STACKS_OF_CALLERS);
 }

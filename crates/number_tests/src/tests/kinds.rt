@@ -1,72 +1,98 @@
 //! Which kinds cover which, on examples.
 
 use isa_model::Width;
-use known_bits::Bits;
-use ranges::Range;
-use reg_state::{Kind, Scalar};
+use reg_state::{Domain, Kind, Scalar};
 use std::test::Fail;
 
 const OWN: u32 = 7;
 
-fn any_number() -> Kind {
-    Kind::Number(Scalar {
-        bits: Bits::any(Width::Full64),
-        range: Range::any(Width::Full64),
-    })
+/// What a register holds.
+enum Held {
+    AnyNumber,
+    Is(Kind),
 }
 
-fn packet(proved: u32) -> Kind {
-    Kind::Packet {
-        fixed: 2,
-        identity: OWN,
-        least: 0,
-        greatest: 255,
-        proved,
+fn kind_of(held: &Held) -> Kind {
+    match held {
+        Held::AnyNumber => Kind::Number(Scalar::any(Width::Full64)),
+        Held::Is(kind) => *kind,
     }
 }
 
-#[test]
-fn a_number_and_a_pointer_cover_neither(rt: HostRuntime) -> Result<(), Fail> {
-    let covered = [
-        any_number().covers(packet(0), OWN),
-        packet(0).covers(any_number(), OWN),
-        Kind::Unset.covers(packet(0), OWN),
-        Kind::Unset.covers(any_number(), OWN),
-    ];
-    assert_eq!(rt; covered, [false, false, true, true]);
-    Ok(())
+const UNSET: Held = Held::Is(Kind::Unset);
+
+const PROVED_0: Kind = Kind::Packet {
+    fixed: 2,
+    identity: OWN,
+    least: 0,
+    greatest: 255,
+    proved: 0,
+};
+
+const PACKET: Held = Held::Is(PROVED_0);
+
+const PROVED_10: Held = Held::Is(Kind::Packet {
+    fixed: 2,
+    identity: OWN,
+    least: 0,
+    greatest: 255,
+    proved: 10,
+});
+
+const PROVED_14: Held = Held::Is(Kind::Packet {
+    fixed: 2,
+    identity: OWN,
+    least: 0,
+    greatest: 255,
+    proved: 14,
+});
+
+const LOOKED_UP: Kind = Kind::MapValueOrNull {
+    index: 0,
+    identity: OWN,
+};
+
+const ANSWERED: Held = Held::Is(LOOKED_UP);
+
+const LIVE: Held = Held::Is(Kind::MapValue {
+    index: 0,
+    least: 0,
+    greatest: 8,
+});
+
+/// Two kinds, the identity that the second's is compared with, and whether the first covers the
+/// second.
+const COVERED: [(Held, Held, u32, bool); 11] = [
+    // A number and a pointer cover neither.
+    (Held::AnyNumber, PACKET, OWN, false),
+    (PACKET, Held::AnyNumber, OWN, false),
+    (UNSET, PACKET, OWN, true),
+    (UNSET, Held::AnyNumber, OWN, true),
+    // A proved length covers a longer one.
+    (PROVED_14, PROVED_10, OWN, false),
+    (PROVED_10, PROVED_14, OWN, true),
+    (PROVED_14, PROVED_14, OWN, true),
+    (PROVED_14, PROVED_14, OWN + 1, false),
+    // A live value is not one or null.
+    (LIVE, ANSWERED, OWN, false),
+    (LIVE, LIVE, OWN, true),
+    (ANSWERED, ANSWERED, OWN, true),
+];
+
+fn is_covering(a: &Held, b: &Held, identity: u32) -> bool {
+    kind_of(a).covers(kind_of(b), identity)
+}
+
+fn identities_of(kind: Kind) -> (Option<u32>, Option<u32>) {
+    (kind.null_identity(), kind.packet_identity())
 }
 
 #[test]
-fn a_proved_length_covers_a_longer_one(rt: HostRuntime) -> Result<(), Fail> {
-    let covered = [
-        packet(14).covers(packet(10), OWN),
-        packet(10).covers(packet(14), OWN),
-        packet(14).covers(packet(14), OWN),
-        packet(14).covers(packet(14), OWN + 1),
-    ];
-    assert_eq!(rt; covered, [false, true, true, false]);
-    Ok(())
-}
-
-#[test]
-fn a_live_value_is_not_one_or_null(rt: HostRuntime) -> Result<(), Fail> {
-    let answered = Kind::MapValueOrNull {
-        index: 0,
-        identity: OWN,
-    };
-    let live = Kind::MapValue {
-        index: 0,
-        least: 0,
-        greatest: 8,
-    };
-    let covered = [
-        live.covers(answered, OWN),
-        live.covers(live, OWN),
-        answered.covers(answered, OWN),
-    ];
-    assert_eq!(rt; covered, [false, true, true]);
-    assert_eq!(rt; answered.null_identity(), Some(OWN));
-    assert_eq!(rt; packet(0).packet_identity(), Some(OWN));
+fn covered(rt: HostRuntime) -> Result<(), Fail> {
+    for (place, (a, b, identity, wanted)) in COVERED.iter().enumerate() {
+        assert_eq!(rt; is_covering(a, b, *identity), *wanted, "row {place}");
+    }
+    assert_eq!(rt; identities_of(LOOKED_UP), (Some(OWN), None));
+    assert_eq!(rt; identities_of(PROVED_0), (None, Some(OWN)));
     Ok(())
 }

@@ -1,8 +1,9 @@
 //! How precise limits are, worked out by hand: limits of real shapes.
 
-use super::operations::{Part, Relation, common, part_of, related};
+use super::operations::{Part, Relation};
 use isa_model::{AluOp, ByteOrder, Extension, Span, Width};
 use ranges::{Low, Range};
+use reg_state::Domain;
 use std::test::Fail;
 
 const FULL: Width = Width::Full64;
@@ -190,15 +191,15 @@ const RESULTS: [(AluOp, Width, Set, Set, Set); 20] = [
     (AluOp::Xor, FULL, Set::One(6), Set::One(5), Set::One(3)),
 ];
 
-fn alu(op: AluOp, width: Width, a: Range, b: Range) -> Range {
-    Range::alu(op, width, a, b)
+fn result_of(op: AluOp, width: Width, a: Set, b: Set) -> Range {
+    Range::alu(op, width, range_of(a), range_of(b))
 }
 
 #[test]
 fn sums_products_logic_and_shifts(rt: HostRuntime) -> Result<(), Fail> {
     for (op, width, a, b, wanted) in RESULTS.iter() {
-        let found = alu(*op, *width, range_of(*a), range_of(*b));
-        assert_eq!(rt; found, range_of(*wanted), "{op:?}");
+        let (found, wanted) = (result_of(*op, *width, *a, *b), range_of(*wanted));
+        assert_eq!(rt; found, wanted, "{op:?}");
     }
     Ok(())
 }
@@ -239,10 +240,19 @@ const PARTS: [(Part, Set, Set); 8] = [
     ),
 ];
 
+fn part_of(part: &Part, a: Range) -> Range {
+    match part {
+        Part::Negate(width) => Domain::negate(*width, a),
+        Part::SignExtend(extension) => Domain::sign_extend(*extension, a),
+        Part::Reorder(order, span) => Domain::reorder(*order, *span, a),
+    }
+}
+
 #[test]
 fn parts(rt: HostRuntime) -> Result<(), Fail> {
     for (part, a, wanted) in PARTS.iter() {
-        assert_eq!(rt; part_of(part, range_of(*a)), range_of(*wanted));
+        let (found, wanted) = (part_of(part, range_of(*a)), range_of(*wanted));
+        assert_eq!(rt; found, wanted);
     }
     Ok(())
 }
@@ -269,11 +279,22 @@ const COMMON: [(Set, Set, Option<Set>, bool); 6] = [
     (BYTE, BYTE, Some(BYTE), true),
 ];
 
+fn range_if(set: Option<Set>) -> Option<Range> {
+    match set {
+        Some(set) => Some(range_of(set)),
+        None => None,
+    }
+}
+
+fn common(a: Set, b: Set) -> (Option<Range>, bool) {
+    let (a, b) = (range_of(a), range_of(b));
+    (Domain::meet(a, b), Domain::covers(a, b))
+}
+
 #[test]
 fn common_numbers(rt: HostRuntime) -> Result<(), Fail> {
     for (a, b, wanted, is_covered) in COMMON.iter() {
-        let found = common(range_of(*a), range_of(*b));
-        assert_eq!(rt; found, (wanted.map(range_of), *is_covered));
+        assert_eq!(rt; common(*a, *b), (range_if(*wanted), *is_covered));
     }
     Ok(())
 }
@@ -333,14 +354,32 @@ const RELATIONS: [(Relation, Set, Set, Option<(Set, Set)>); 15] = [
     (Relation::Disjoint, BYTE, TEN, Some((BYTE, TEN))),
 ];
 
+fn ranges_if(sets: Option<(Set, Set)>) -> Option<(Range, Range)> {
+    match sets {
+        Some((a, b)) => Some((range_of(a), range_of(b))),
+        None => None,
+    }
+}
+
+/// What a relation leaves of two sets, whose members the width reads.
+fn related(relation: &Relation, width: Width, a: Range, b: Range) -> Option<(Range, Range)> {
+    match relation {
+        Relation::Equal => Domain::equal(a, width, b),
+        Relation::Below => Domain::below(a, width, b),
+        Relation::AtMost => Domain::at_most(a, width, b),
+        Relation::SignedBelow => Domain::signed_below(a, width, b),
+        Relation::SignedAtMost => Domain::signed_at_most(a, width, b),
+        Relation::Apart => Domain::apart(a, width, b),
+        Relation::Disjoint => Domain::disjoint(a, width, b),
+        Relation::Overlapping => Domain::overlapping(a, width, b),
+    }
+}
+
 #[test]
 fn relations(rt: HostRuntime) -> Result<(), Fail> {
     for (relation, a, b, wanted) in RELATIONS.iter() {
-        let found = related(relation, Width::Full64, range_of(*a), range_of(*b));
-        assert_eq!(rt;
-            found,
-            wanted.map(|both| (range_of(both.0), range_of(both.1)))
-        );
+        let found = related(relation, FULL, range_of(*a), range_of(*b));
+        assert_eq!(rt; found, ranges_if(*wanted));
     }
     Ok(())
 }

@@ -1,8 +1,10 @@
 //! How precise limits of low halves are, worked out by hand: of numbers whose upper halves are not
 //! known.
 
+use super::chains::{Look, Row, Set, Step, are_seen, refined, set_of};
+use super::operations::Part;
 use isa_model::{AluOp, ByteOrder, Comparison, Extension, Span, Width};
-use reg_state::{Domain, Scalar, refine};
+use reg_state::Scalar;
 use std::test::Fail;
 
 const FULL: Width = Width::Full64;
@@ -59,100 +61,133 @@ const COMPARISONS: [(Comparison, Limits, Limits); 11] = [
     (Comparison::AnyBit, (1, u32::MAX, i32::MIN, i32::MAX), ALL),
 ];
 
-// What a comparison at 32 bits leaves of a set.
-fn left_of(comparison: Comparison, taken: bool, a: Scalar, number: u64) -> Option<Scalar> {
-    let (left, _) = refine(comparison, LOW, taken, a, Scalar::constant(number))?;
-    Some(left)
+/// The least and the greatest upper half.
+type Uppers = (u64, u64);
+
+fn uppers_of(scalar: Scalar) -> Uppers {
+    let wide = scalar.range.wide;
+    (wide.least >> 32, wide.greatest >> 32)
 }
+
+// What a comparison with 10 at 32 bits leaves of all numbers.
+fn left_of(comparison: Comparison, taken: bool) -> Option<(Limits, Uppers)> {
+    match refined(comparison, LOW, taken, set_of(&EVERY), 10) {
+        Some(set) => Some((limits_of(set), uppers_of(set))),
+        None => None,
+    }
+}
+
+/// The upper half stays open.
+const OPEN: Uppers = (0, 0xffff_ffff);
 
 #[test]
 fn each_comparison_narrows(rt: HostRuntime) -> Result<(), Fail> {
-    let any = Scalar::any(FULL);
     for (comparison, yes, no) in COMPARISONS.iter() {
-        for (taken, wanted) in [(true, *yes), (false, *no)] {
-            let left = left_of(*comparison, taken, any, 10).ok_or("never goes")?;
-            assert_eq!(rt; limits_of(left), wanted, "{comparison:?}");
-            // The upper half stays open.
-            let uppers = (left.range.wide.least >> 32, left.range.wide.greatest >> 32);
-            assert_eq!(rt; uppers, (0, 0xffff_ffff), "{comparison:?}");
-        }
+        let left = (left_of(*comparison, true), left_of(*comparison, false));
+        let wanted = (Some((*yes, OPEN)), Some((*no, OPEN)));
+        assert_eq!(rt; left, wanted, "{comparison:?}");
     }
     Ok(())
 }
 
-// Numbers with a low half from 3 to 9.
-fn digits() -> Option<Scalar> {
-    let below = left_of(Comparison::Less, true, Scalar::any(FULL), 10)?;
-    left_of(Comparison::GreaterEqual, true, below, 3)
-}
+const EVERY: Set = Set::Any(FULL);
 
-fn with(op: AluOp, width: Width, a: Scalar, number: u64) -> Scalar {
-    Scalar::alu(op, width, a, Scalar::constant(number))
-}
+// Of all numbers, those with a low half from 3 to 9.
+const BELOW_TEN: Step = Step::Compare(Comparison::Less, LOW, true, 10);
 
-#[test]
-fn operations_keep_them(rt: HostRuntime) -> Result<(), Fail> {
-    let digits = digits().ok_or("no digits")?;
-    assert_eq!(rt; limits_of(digits), (3, 9, 3, 9));
-    let sum = with(AluOp::Add, FULL, digits, 1);
-    assert_eq!(rt; limits_of(sum), (4, 10, 4, 10));
-    let difference = with(AluOp::Sub, FULL, digits, 5);
-    assert_eq!(rt; limits_of(difference), (0, u32::MAX, -2, 4));
-    assert_eq!(rt;
-        limits_of(with(AluOp::Mul, FULL, digits, 3)),
-        (9, 27, 9, 27)
-    );
-    assert_eq!(rt;
-        limits_of(with(AluOp::Lsh, FULL, digits, 4)),
-        (48, 144, 48, 144)
-    );
-    assert_eq!(rt;
-        limits_of(with(AluOp::And, FULL, digits, u64::MAX)),
-        (0, 9, 0, 9)
-    );
+const FROM_THREE: Step = Step::Compare(Comparison::GreaterEqual, LOW, true, 3);
+
+const MINUS_FIVE: Step = Step::Alu(AluOp::Sub, FULL, 5);
+
+const RAISED: Step = Step::Alu(AluOp::Lsh, FULL, 32);
+
+#[rattlefmt::skip]
+const OPERATIONS: [Row; 7] = [
+    (EVERY, &[BELOW_TEN, FROM_THREE], &[Look::Low(3, 9, 3, 9)]),
+    (
+        EVERY,
+        &[BELOW_TEN, FROM_THREE, Step::Alu(AluOp::Add, FULL, 1)],
+        &[Look::Low(4, 10, 4, 10)],
+    ),
+    (EVERY, &[BELOW_TEN, FROM_THREE, MINUS_FIVE], &[Look::Low(0, u32::MAX, -2, 4)]),
+    (
+        EVERY,
+        &[BELOW_TEN, FROM_THREE, Step::Alu(AluOp::Mul, FULL, 3)],
+        &[Look::Low(9, 27, 9, 27)],
+    ),
+    (
+        EVERY,
+        &[BELOW_TEN, FROM_THREE, Step::Alu(AluOp::Lsh, FULL, 4)],
+        &[Look::Low(48, 144, 48, 144)],
+    ),
+    (
+        EVERY,
+        &[BELOW_TEN, FROM_THREE, Step::Alu(AluOp::And, FULL, u64::MAX)],
+        &[Look::Low(0, 9, 0, 9)],
+    ),
     // What is shifted out of the upper half is not known.
-    assert_eq!(rt; limits_of(with(AluOp::Rsh, FULL, digits, 4)), ALL);
-    Ok(())
-}
+    (
+        EVERY,
+        &[BELOW_TEN, FROM_THREE, Step::Alu(AluOp::Rsh, FULL, 4)],
+        &[Look::Low(0, u32::MAX, i32::MIN, i32::MAX)],
+    ),
+];
 
-#[test]
-fn casts_take_them_up(rt: HostRuntime) -> Result<(), Fail> {
-    let digits = digits().ok_or("no digits")?;
-    let moved = Scalar::alu(AluOp::Mov, LOW, digits, digits);
-    assert!(rt; moved.range.wide.least == 3 && moved.range.wide.greatest == 9);
-    let raised = with(AluOp::Lsh, FULL, digits, 32);
-    let back = with(AluOp::Rsh, FULL, raised, 32);
-    assert!(rt; back.range.wide.least == 3 && back.range.wide.greatest == 9);
-    let few = with(AluOp::Sub, FULL, digits, 5);
-    let extended = Scalar::sign_extend(Extension::Full32, few);
-    assert!(rt; extended.range.wide.signed_least == -2);
-    assert!(rt; extended.range.wide.signed_greatest == 4);
-    let shifted = with(AluOp::Arsh, FULL, with(AluOp::Lsh, FULL, few, 32), 32);
-    assert!(rt; shifted.range.wide.signed_least == -2);
-    assert!(rt; shifted.range.wide.signed_greatest == 4);
+#[rattlefmt::skip]
+const CASTS: [Row; 6] = [
+    (EVERY, &[BELOW_TEN, FROM_THREE, Step::Itself(AluOp::Mov, LOW)], &[Look::Wide(3, 9)]),
+    (
+        EVERY,
+        &[BELOW_TEN, FROM_THREE, RAISED, Step::Alu(AluOp::Rsh, FULL, 32)],
+        &[Look::Wide(3, 9)],
+    ),
+    (
+        EVERY,
+        &[BELOW_TEN, FROM_THREE, MINUS_FIVE, Step::Part(Part::SignExtend(Extension::Full32))],
+        &[Look::Signed(-2, 4)],
+    ),
+    (
+        EVERY,
+        &[BELOW_TEN, FROM_THREE, MINUS_FIVE, RAISED, Step::Alu(AluOp::Arsh, FULL, 32)],
+        &[Look::Signed(-2, 4)],
+    ),
     // Known bits see the limits of the whole number that these leave.
-    assert!(rt; Scalar::sign_extend(Extension::Low16, digits).bits.mask == 15);
-    let word = Scalar::reorder(ByteOrder::Little, Span::B32, digits);
-    assert!(rt; word.bits.mask == 15);
-    Ok(())
+    (
+        EVERY,
+        &[BELOW_TEN, FROM_THREE, Step::Part(Part::SignExtend(Extension::Low16))],
+        &[Look::Mask(15)],
+    ),
+    (
+        EVERY,
+        &[BELOW_TEN, FROM_THREE, Step::Part(Part::Reorder(ByteOrder::Little, Span::B32))],
+        &[Look::Mask(15)],
+    ),
+];
+
+/// Numbers with one upper half have limits by their low halves, and the other way round.
+const ONE_UPPER_HALF: [Row; 3] = [
+    (
+        Set::Between(0x5_0000_0000, 0x5_ffff_ffff),
+        &[BELOW_TEN],
+        &[Look::Wide(0x5_0000_0000, 0x5_0000_0009)],
+    ),
+    (
+        Set::Between(0x5_0000_0003, 0x5_0000_0009),
+        &[],
+        &[Look::Low(3, 9, 3, 9)],
+    ),
+    (Set::One(0x5_0000_000a), &[BELOW_TEN], &[Look::Never]),
+];
+
+#[test]
+fn operations_keep_them(rt: HostRuntime) {
+    are_seen(&rt, &OPERATIONS);
+    are_seen(&rt, &CASTS);
 }
 
 #[test]
-fn the_upper_half_shows_whole_limits(rt: HostRuntime) -> Result<(), Fail> {
-    // Numbers with one upper half have limits by their low halves, and the other way round.
-    let page = Scalar::between(0x5_0000_0000, 0x5_ffff_ffff);
-    let below = left_of(Comparison::Less, true, page, 10).ok_or("none below")?;
-    assert!(rt; below.range.wide.least == 0x5_0000_0000);
-    assert!(rt; below.range.wide.greatest == 0x5_0000_0009);
-    assert_eq!(rt;
-        limits_of(Scalar::between(0x5_0000_0003, 0x5_0000_0009)),
-        (3, 9, 3, 9)
-    );
-    assert_eq!(rt;
-        left_of(Comparison::Less, true, Scalar::constant(0x5_0000_000a), 10),
-        None
-    );
-    Ok(())
+fn the_upper_half_shows_whole_limits(rt: HostRuntime) {
+    are_seen(&rt, &ONE_UPPER_HALF);
 }
 
 /// Comparisons with numbers where a low half of 5 goes the other way.
@@ -170,19 +205,18 @@ const NEVER: [(Comparison, bool, u64); 11] = [
     (Comparison::AnyBit, false, 4),
 ];
 
-#[test]
-fn a_known_low_half_goes_one_way(rt: HostRuntime) -> Result<(), Fail> {
-    let five = left_of(Comparison::Equal, true, Scalar::any(FULL), 5).ok_or("never equal")?;
-    for (comparison, taken, number) in NEVER.iter() {
-        assert_eq!(rt;
-            left_of(*comparison, *taken, five, *number),
-            None,
-            "{comparison:?}"
-        );
-        assert!(rt;
-            left_of(*comparison, !*taken, five, *number).is_some(),
-            "{comparison:?}"
-        );
+// Whether there are numbers with a low half of 5 for which the comparison holds, or does not.
+fn goes(comparison: Comparison, taken: bool, number: u64) -> bool {
+    match refined(Comparison::Equal, LOW, true, set_of(&EVERY), 5) {
+        Some(five) => refined(comparison, LOW, taken, five, number).is_some(),
+        None => false,
     }
-    Ok(())
+}
+
+#[test]
+fn a_known_low_half_goes_one_way(rt: HostRuntime) {
+    for (comparison, never, number) in NEVER.iter() {
+        assert!(rt; !goes(*comparison, *never, *number), "{comparison:?}");
+        assert!(rt; goes(*comparison, !*never, *number), "{comparison:?}");
+    }
 }

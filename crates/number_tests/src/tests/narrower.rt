@@ -12,7 +12,7 @@ const FULL: Width = Width::Full64;
 const LOW: Width = Width::Low32;
 
 /// What is asked of a number, and of a set of numbers.
-#[derive(Clone, Copy, Debug)]
+#[derive(Clone, Copy)]
 enum Operation {
     Reorder(ByteOrder, Span),
     /// Some bits, from one bit on.
@@ -91,18 +91,20 @@ fn bits_of_answers(operation: Operation, value: u64, mask: u64) -> (u64, u64) {
     (all, some)
 }
 
+/// The same of the bits that are known of the set.
+fn bits_of_set(operation: Operation, value: u64, mask: u64) -> (u64, u64) {
+    let bits = of_set(operation, with_bits(value, mask)).bits;
+    (bits.value, bits.value | bits.mask)
+}
+
 /// As many bits are known as of all answers together.
 #[test]
 fn bits_are_those_of_all_members(rt: HostRuntime) -> Result<(), Fail> {
-    for operation in OPERATIONS.iter() {
+    for (place, operation) in OPERATIONS.iter().enumerate() {
         for (value, mask) in BITS.iter() {
-            let bits = of_set(*operation, with_bits(*value, *mask)).bits;
-            let (all, some) = bits_of_answers(*operation, *value, *mask);
-            assert_eq!(rt;
-                (bits.value, bits.value | bits.mask),
-                (all, some),
-                "{operation:?}"
-            );
+            let wanted = bits_of_answers(*operation, *value, *mask);
+            let found = bits_of_set(*operation, *value, *mask);
+            assert_eq!(rt; found, wanted, "operation {place} of {value:x} {mask:x}");
         }
     }
     Ok(())
@@ -128,17 +130,18 @@ fn between(limits: (u64, u64)) -> Scalar {
     }
 }
 
+fn limits_of_part(limits: (u64, u64), from: u64, count: u32) -> (u64, u64) {
+    let wide = of_set(Operation::Part(from, count), between(limits))
+        .range
+        .wide;
+    (wide.least, wide.greatest)
+}
+
 #[test]
 fn limits_of_parts(rt: HostRuntime) -> Result<(), Fail> {
     for (limits, (from, count), wanted) in LIMITS.iter() {
-        let wide = of_set(Operation::Part(*from, *count), between(*limits))
-            .range
-            .wide;
-        assert_eq!(rt;
-            (wide.least, wide.greatest),
-            *wanted,
-            "{limits:?} from {from}"
-        );
+        let found = limits_of_part(*limits, *from, *count);
+        assert_eq!(rt; found, *wanted, "{limits:?} from {from}");
     }
     Ok(())
 }
@@ -297,26 +300,21 @@ fn no_result_is_lost(rt: HostRuntime) -> Result<(), Fail> {
     Ok(())
 }
 
+// The limits of what the operation gives on 40 to 100 and 4 to 20.
+fn of_unsigned(op: AluOp, width: Width) -> (u64, u64) {
+    let divisors = Scalar::between(4, 20);
+    let wide = Scalar::alu(op, width, Scalar::between(40, 100), divisors)
+        .range
+        .wide;
+    (wide.least, wide.greatest)
+}
+
 /// Of numbers without a sign bit they are the unsigned ones, by divisors that are not known too.
 #[test]
 fn numbers_without_a_sign(rt: HostRuntime) -> Result<(), Fail> {
     for width in [FULL, LOW] {
-        let quotients = Scalar::alu(
-            AluOp::SignedDiv,
-            width,
-            Scalar::between(40, 100),
-            Scalar::between(4, 20),
-        );
-        let wide = quotients.range.wide;
-        assert_eq!(rt; (wide.least, wide.greatest), (2, 25));
-        let remainders = Scalar::alu(
-            AluOp::SignedMod,
-            width,
-            Scalar::between(40, 100),
-            Scalar::between(4, 20),
-        );
-        let wide = remainders.range.wide;
-        assert_eq!(rt; (wide.least, wide.greatest), (0, 19));
+        assert_eq!(rt; of_unsigned(AluOp::SignedDiv, width), (2, 25));
+        assert_eq!(rt; of_unsigned(AluOp::SignedMod, width), (0, 19));
     }
     Ok(())
 }

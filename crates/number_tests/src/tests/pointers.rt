@@ -46,10 +46,6 @@ fn packet(fixed: i32, identity: u32, proved: u32) -> Kind {
     }
 }
 
-fn looked_up(identity: u32) -> Kind {
-    Kind::MapValueOrNull { index: 2, identity }
-}
-
 const VALUE: Kind = Kind::MapValue {
     index: 2,
     least: 0,
@@ -119,11 +115,42 @@ fn left_of(cond: Cond, taken: bool, state: &State) -> Option<[Kind; 4]> {
     }
 }
 
-fn packet_test(test: Test, fixed: i32, copies: [Kind; 4]) -> Option<[Kind; 4]> {
+/// What a register or a stack slot holds.
+enum Held {
+    /// A packet pointer: its fixed part, its identity and how many bytes are proved.
+    Packet(i32, u32, u32),
+    /// A map value or null, by its identity.
+    LookedUp(u32),
+    Value,
+    Zero,
+}
+
+fn kind_of(held: &Held) -> Kind {
+    match held {
+        Held::Packet(fixed, identity, proved) => packet(*fixed, *identity, *proved),
+        Held::LookedUp(identity) => Kind::MapValueOrNull {
+            index: 2,
+            identity: *identity,
+        },
+        Held::Value => VALUE,
+        Held::Zero => Kind::Number(Scalar::constant(0)),
+    }
+}
+
+fn kinds_of(held: &[Held; 4]) -> [Kind; 4] {
+    [
+        kind_of(&held[0]),
+        kind_of(&held[1]),
+        kind_of(&held[2]),
+        kind_of(&held[3]),
+    ]
+}
+
+fn packet_test(test: Test, fixed: i32, copies: &[Held; 4]) -> Option<[Kind; 4]> {
     let (comparison, end_first, taken) = test;
     let register = if end_first { Reg::R3 } else { Reg::R2 };
     let operand = Operand::Register(if end_first { Reg::R2 } else { Reg::R3 });
-    let state = in_call(packet(fixed, 3, 0), Kind::PacketEnd, copies);
+    let state = in_call(packet(fixed, 3, 0), Kind::PacketEnd, kinds_of(copies));
     left_of(
         condition(comparison, FULL, register, operand),
         taken,
@@ -131,94 +158,179 @@ fn packet_test(test: Test, fixed: i32, copies: [Kind; 4]) -> Option<[Kind; 4]> {
     )
 }
 
+const UNPROVED: [Held; 4] = [
+    Held::Packet(0, 3, 0),
+    Held::Packet(20, 3, 0),
+    Held::Packet(4, 3, 0),
+    Held::Packet(14, 3, 0),
+];
+
+fn proved(bytes: u32) -> [Kind; 4] {
+    [
+        packet(0, 3, bytes),
+        packet(20, 3, bytes),
+        packet(4, 3, bytes),
+        packet(14, 3, bytes),
+    ]
+}
+
 #[test]
 fn packet_tests_prove_bytes(rt: HostRuntime) -> Result<(), Fail> {
     for (test, bytes) in PACKET_TESTS.iter() {
-        let before = [
-            packet(0, 3, 0),
-            packet(20, 3, 0),
-            packet(4, 3, 0),
-            packet(14, 3, 0),
-        ];
-        let after = [
-            packet(0, 3, *bytes),
-            packet(20, 3, *bytes),
-            packet(4, 3, *bytes),
-            packet(14, 3, *bytes),
-        ];
-        assert_eq!(rt; packet_test(*test, 14, before), Some(after), "{test:?}");
+        let found = packet_test(*test, 14, &UNPROVED);
+        assert_eq!(rt; found, Some(proved(*bytes)), "{test:?}");
     }
     Ok(())
 }
 
+const IS_BEFORE: Test = (Comparison::Less, false, true);
+
+const AT_OR_BEFORE: Test = (Comparison::LessEqual, false, true);
+
+/// More is proved already; another identity; none; no packet pointer.
+const OTHERS: [Held; 4] = [
+    Held::Packet(0, 3, 40),
+    Held::Packet(14, 4, 2),
+    Held::Packet(14, 0, 0),
+    Held::Value,
+];
+
+const NONE: Held = Held::Packet(0, 3, 0);
+
+const ONE: Held = Held::Packet(0, 3, 1);
+
+const FAR: Held = Held::Packet(0, 3, 0x8000_0000);
+
+/// A test of a pointer with this fixed part, the copies before it, and those after it.
+const COPIES: [(Test, i32, [Held; 4], [Held; 4]); 6] = [
+    (IS_BEFORE, 14, OTHERS, OTHERS),
+    // Offsets before the variable part prove nothing.
+    (
+        AT_OR_BEFORE,
+        0,
+        [NONE, NONE, NONE, NONE],
+        [NONE, NONE, NONE, NONE],
+    ),
+    (IS_BEFORE, 0, [NONE, NONE, NONE, NONE], [ONE, ONE, ONE, ONE]),
+    (
+        IS_BEFORE,
+        -1,
+        [NONE, NONE, NONE, NONE],
+        [NONE, NONE, NONE, NONE],
+    ),
+    (
+        AT_OR_BEFORE,
+        i32::MIN,
+        [NONE, NONE, NONE, NONE],
+        [NONE, NONE, NONE, NONE],
+    ),
+    (
+        IS_BEFORE,
+        i32::MAX,
+        [NONE, NONE, NONE, NONE],
+        [FAR, FAR, FAR, FAR],
+    ),
+];
+
 #[test]
-fn other_packet_pointers_stay(rt: HostRuntime) -> Result<(), Fail> {
-    // More is proved already; another identity; none; no packet pointer.
-    let before = [packet(0, 3, 40), packet(14, 4, 2), packet(14, 0, 0), VALUE];
-    let test = (Comparison::Less, false, true);
-    assert_eq!(rt; packet_test(test, 14, before), Some(before));
+fn copies_of_packet_pointers(rt: HostRuntime) -> Result<(), Fail> {
+    for (test, fixed, before, after) in COPIES.iter() {
+        let found = packet_test(*test, *fixed, before);
+        assert_eq!(rt; found, Some(kinds_of(after)), "{test:?} {fixed}");
+    }
     Ok(())
 }
 
-#[test]
-fn offsets_before_the_variable_part_prove_nothing(rt: HostRuntime) -> Result<(), Fail> {
-    let before = [packet(0, 3, 0); 4];
-    let one = [packet(0, 3, 1); 4];
-    let far = [packet(0, 3, 0x8000_0000); 4];
-    let at_or_before = (Comparison::LessEqual, false, true);
-    let is_before = (Comparison::Less, false, true);
-    let left = [
-        packet_test(at_or_before, 0, before),
-        packet_test(is_before, 0, before),
-        packet_test(is_before, -1, before),
-        packet_test(at_or_before, i32::MIN, before),
-        packet_test(is_before, i32::MAX, before),
-    ];
-    assert_eq!(rt;
-        left,
-        [
-            Some(before),
-            Some(one),
-            Some(before),
-            Some(before),
-            Some(far)
-        ]
-    );
-    Ok(())
+const ASKED: [Held; 4] = [
+    Held::LookedUp(5),
+    Held::LookedUp(5),
+    Held::LookedUp(5),
+    Held::LookedUp(6),
+];
+
+const NULL: [Held; 4] = [Held::Zero, Held::Zero, Held::Zero, Held::LookedUp(6)];
+
+const LIVE: [Held; 4] = [Held::Value, Held::Value, Held::Value, Held::LookedUp(6)];
+
+const SOME_LIVE: [Held; 4] = [
+    Held::Value,
+    Held::LookedUp(5),
+    Held::LookedUp(5),
+    Held::Value,
+];
+
+/// What r2 holds, the copies, a comparison of r2 with 0 and whether it holds, and the copies after
+/// it. Null tests decide every copy; live values are not null.
+const NULL_TESTS: [(Held, [Held; 4], Comparison, bool, Option<[Held; 4]>); 8] = [
+    (
+        Held::LookedUp(5),
+        ASKED,
+        Comparison::Equal,
+        true,
+        Some(NULL),
+    ),
+    (
+        Held::LookedUp(5),
+        ASKED,
+        Comparison::Equal,
+        false,
+        Some(LIVE),
+    ),
+    (
+        Held::LookedUp(5),
+        ASKED,
+        Comparison::NotEqual,
+        true,
+        Some(LIVE),
+    ),
+    (
+        Held::LookedUp(5),
+        ASKED,
+        Comparison::NotEqual,
+        false,
+        Some(NULL),
+    ),
+    (Held::Value, SOME_LIVE, Comparison::Equal, true, None),
+    (
+        Held::Value,
+        SOME_LIVE,
+        Comparison::Equal,
+        false,
+        Some(SOME_LIVE),
+    ),
+    (
+        Held::Value,
+        SOME_LIVE,
+        Comparison::NotEqual,
+        true,
+        Some(SOME_LIVE),
+    ),
+    (Held::Value, SOME_LIVE, Comparison::NotEqual, false, None),
+];
+
+fn null_test(
+    tested: &Held,
+    copies: &[Held; 4],
+    comparison: Comparison,
+    taken: bool,
+) -> Option<[Kind; 4]> {
+    let state = in_call(kind_of(tested), Kind::Unset, kinds_of(copies));
+    left_of(condition(comparison, FULL, Reg::R2, ZERO), taken, &state)
+}
+
+fn kinds_if(held: &Option<[Held; 4]>) -> Option<[Kind; 4]> {
+    match held {
+        Some(held) => Some(kinds_of(held)),
+        None => None,
+    }
 }
 
 #[test]
-fn null_tests_decide_every_copy(rt: HostRuntime) -> Result<(), Fail> {
-    let zero = Kind::Number(Scalar::constant(0));
-    let before = [looked_up(5), looked_up(5), looked_up(5), looked_up(6)];
-    let null = [zero, zero, zero, looked_up(6)];
-    let live = [VALUE, VALUE, VALUE, looked_up(6)];
-    let state = in_call(looked_up(5), Kind::Unset, before);
-    let equal = condition(Comparison::Equal, FULL, Reg::R2, ZERO);
-    let unequal = condition(Comparison::NotEqual, FULL, Reg::R2, ZERO);
-    let left = [
-        left_of(equal, true, &state),
-        left_of(equal, false, &state),
-        left_of(unequal, true, &state),
-        left_of(unequal, false, &state),
-    ];
-    assert_eq!(rt; left, [Some(null), Some(live), Some(live), Some(null)]);
-    Ok(())
-}
-
-#[test]
-fn live_values_are_not_null(rt: HostRuntime) -> Result<(), Fail> {
-    let copies = [VALUE, looked_up(5), looked_up(5), VALUE];
-    let state = in_call(VALUE, Kind::Unset, copies);
-    let equal = condition(Comparison::Equal, FULL, Reg::R2, ZERO);
-    let unequal = condition(Comparison::NotEqual, FULL, Reg::R2, ZERO);
-    let left = [
-        left_of(equal, true, &state),
-        left_of(equal, false, &state),
-        left_of(unequal, true, &state),
-        left_of(unequal, false, &state),
-    ];
-    assert_eq!(rt; left, [None, Some(copies), Some(copies), None]);
+fn null_tests(rt: HostRuntime) -> Result<(), Fail> {
+    for (tested, before, comparison, taken, after) in NULL_TESTS.iter() {
+        let found = null_test(tested, before, *comparison, *taken);
+        assert_eq!(rt; found, kinds_if(after), "{comparison:?} {taken}");
+    }
     Ok(())
 }
 
@@ -244,25 +356,24 @@ const UNDEFINED: [(Comparison, Width, Operand, Kind, Kind); 12] = [
     (Comparison::Equal, FULL, ZERO, Kind::Unset, Kind::Unset),
 ];
 
-fn what_is_compared(cond: Cond, state: &State) -> Compared {
-    compared_by(cond, state)
+/// Whether r2 and r3 have no outcome, and all copies stay both ways.
+fn is_undefined(cond: Cond, left: Kind, right: Kind) -> [bool; 3] {
+    let copies = [left, right, right, left];
+    let state = in_call(left, right, copies);
+    [
+        compared_by(cond, &state) == Compared::Undefined,
+        left_of(cond, true, &state) == Some(copies),
+        left_of(cond, false, &state) == Some(copies),
+    ]
 }
 
 #[test]
 fn other_comparisons_are_undefined(rt: HostRuntime) -> Result<(), Fail> {
     for (comparison, width, operand, left, right) in UNDEFINED.iter() {
-        let copies = [*left, *right, *right, *left];
-        let state = in_call(*left, *right, copies);
         let cond = condition(*comparison, *width, Reg::R2, *operand);
         assert_eq!(rt;
-            what_is_compared(cond, &state),
-            Compared::Undefined,
-            "{comparison:?}"
-        );
-        assert_eq!(rt; left_of(cond, true, &state), Some(copies), "{comparison:?}");
-        assert_eq!(rt;
-            left_of(cond, false, &state),
-            Some(copies),
+            is_undefined(cond, *left, *right),
+            [true; 3],
             "{comparison:?}"
         );
     }

@@ -1,0 +1,174 @@
+//! Rows of a set, what is done to it, and what is then known. No function here has a contract, so a
+//! test costs little for each row; and none has a type parameter, since each call of a function
+//! over any domain costs what the whole trait does.
+
+use super::operations::Part;
+use isa_model::{AluOp, Comparison, Width};
+use reg_state::{Domain, Scalar, refine};
+use std::process::Abort;
+
+/// A set of numbers.
+#[derive(Drop)]
+pub enum Set {
+    Any(Width),
+    One(u64),
+    /// By its least and its greatest number.
+    Between(u64, u64),
+}
+
+pub fn set_of(set: &Set) -> Scalar {
+    match set {
+        Set::Any(width) => Scalar::any(*width),
+        Set::One(number) => Scalar::constant(*number),
+        Set::Between(least, greatest) => {
+            if *least <= *greatest {
+                Scalar::between(*least, *greatest)
+            } else {
+                Scalar::any(Width::Full64)
+            }
+        }
+    }
+}
+
+/// What a comparison with a number leaves of a set.
+pub fn refined(
+    comparison: Comparison,
+    width: Width,
+    taken: bool,
+    a: Scalar,
+    b: u64,
+) -> Option<Scalar> {
+    match refine(comparison, width, taken, a, Scalar::constant(b)) {
+        Some((left, _)) => Some(left),
+        None => None,
+    }
+}
+
+/// What is done to a set.
+pub enum Step {
+    /// An operation with a number.
+    Alu(AluOp, Width, u64),
+    /// An operation with the set itself.
+    Itself(AluOp, Width),
+    Part(Part),
+    /// The members for which the comparison with a number holds, or does not.
+    Compare(Comparison, Width, bool, u64),
+    /// The common members with a set.
+    Meet(Set),
+    /// The common members with the numbers whose ones are all in the mask.
+    MeetMasked(u64),
+}
+
+fn part_of(part: &Part, a: Scalar) -> Scalar {
+    match part {
+        Part::Negate(width) => Scalar::negate(*width, a),
+        Part::SignExtend(extension) => Scalar::sign_extend(*extension, a),
+        Part::Reorder(order, span) => Scalar::reorder(*order, *span, a),
+    }
+}
+
+fn next(step: &Step, set: Scalar) -> Option<Scalar> {
+    match step {
+        Step::Alu(op, width, number) => {
+            Some(Scalar::alu(*op, *width, set, Scalar::constant(*number)))
+        }
+        Step::Itself(op, width) => Some(Scalar::alu(*op, *width, set, set)),
+        Step::Part(part) => Some(part_of(part, set)),
+        Step::Compare(comparison, width, taken, number) => {
+            refined(*comparison, *width, *taken, set, *number)
+        }
+        Step::Meet(other) => set.meet(set_of(other)),
+        Step::MeetMasked(mask) => set.meet(masked(*mask)),
+    }
+}
+
+/// The numbers whose ones are all in the mask.
+fn masked(mask: u64) -> Scalar {
+    let any = Scalar::any(Width::Full64);
+    Scalar::alu(AluOp::And, Width::Full64, any, Scalar::constant(mask))
+}
+
+/// What is left after all of the steps.
+fn after(set: &Set, steps: &[Step]) -> Option<Scalar> {
+    let mut left = set_of(set);
+    for step in steps {
+        match next(step, left) {
+            Some(set) => left = set,
+            None => return None,
+        }
+    }
+    Some(left)
+}
+
+/// What is known of a set.
+pub enum Look {
+    /// The least and the greatest number.
+    Wide(u64, u64),
+    /// As signed numbers.
+    Signed(i64, i64),
+    /// Of the upper halves.
+    Upper(u64, u64),
+    /// Of the low halves, unsigned and then signed.
+    Low(u32, u32, i32, i32),
+    GreatestAtMost(u64),
+    /// The bits that are not known.
+    Mask(u64),
+    /// The bits that are 1 in every member.
+    Ones(u64),
+    /// All members are even.
+    Even,
+    /// The set is this one, with nothing else known.
+    Is(Set),
+    /// There are no members.
+    Never,
+}
+
+fn is_known(set: Scalar, look: &Look) -> bool {
+    let Scalar { bits, range } = set;
+    let (wide, low) = (range.wide, range.low);
+    match look {
+        Look::Wide(least, greatest) => wide.least == *least && wide.greatest == *greatest,
+        Look::Signed(least, greatest) => {
+            wide.signed_least == *least && wide.signed_greatest == *greatest
+        }
+        Look::Upper(least, greatest) => {
+            wide.least >> 32 == *least && wide.greatest >> 32 == *greatest
+        }
+        Look::Low(least, greatest, signed_least, signed_greatest) => {
+            low.least == *least
+                && low.greatest == *greatest
+                && low.signed_least == *signed_least
+                && low.signed_greatest == *signed_greatest
+        }
+        Look::GreatestAtMost(limit) => wide.greatest <= *limit,
+        Look::Mask(mask) => bits.mask == *mask,
+        Look::Ones(value) => bits.value == *value,
+        Look::Even => (bits.mask | bits.value) & 1 == 0,
+        Look::Is(other) => set == set_of(other),
+        Look::Never => false,
+    }
+}
+
+fn is_seen(left: Option<Scalar>, look: &Look) -> bool {
+    match left {
+        Some(set) => is_known(set, look),
+        None => matches!(look, Look::Never),
+    }
+}
+
+/// A set, what is done to it, and what is known of what is left.
+pub type Row = (Set, &'static [Step], &'static [Look]);
+
+fn is_row_seen(rt: &impl Abort, place: usize, row: &Row) {
+    let (set, steps, looks) = row;
+    let left = after(set, *steps);
+    for (at, look) in looks.iter().enumerate() {
+        assert!(rt; is_seen(left, look), "row {place}, look {at}");
+    }
+}
+
+pub fn are_seen(rt: &impl Abort, rows: &[Row]) {
+    for (place, row) in rows.iter().enumerate() {
+        is_row_seen(rt, place, row);
+    }
+}
