@@ -1,7 +1,7 @@
 //! How many images were accepted, and the status that says so.
 
 ghost use Rattle.std.specs.Prelude.{◌≡◌, ◌≤◌};
-ghost use Rattle.survey_rows.specs.Summaries.{IsCounted, status_of};
+ghost use Rattle.survey_rows.specs.Summaries.{status_of, with_image};
 
 use crate::rows::Verdict;
 
@@ -34,7 +34,7 @@ impl Summary {
 
     /// Counts an image.
     pub fn count(&mut self, verdict: Verdict)
-        ensures { IsCounted self.old verdict self.new }
+        ensures { self.new ≡ with_image self.old verdict }
     {
         match verdict {
             Verdict::Accepted => self.accepted = self.accepted.saturating_add(1),
