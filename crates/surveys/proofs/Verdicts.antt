@@ -1,5 +1,5 @@
 -- What a row says of a program.
-use Rattle.std.proofs.Common.{◌≡◌, ◌⊎◌, ℕ, Option, None, Some, inl, inr, subst, sym}
+use Rattle.std.proofs.Common.{◌≡◌, ◌⊎◌, ◌∙◌, ap, ℕ, Option, None, Some, inl, inr, subst, sym}
 use Rattle.isa_model.specs.{Program}
 use Rattle.isa_model.specs.Running.Outcomes.{StartsEnd}
 use Rattle.image.specs.declared.errors.ImageError.{ImageError}
@@ -10,6 +10,7 @@ use Rattle.survey_rows.specs.declared.rows.Counts.{Counts}
 use Rattle.survey_rows.specs.declared.rows.Verdict.{Verdict}
 use Rattle.survey_rows.specs.declared.rows.Verdict.TheVariants as verdict
 use Rattle.surveys.specs.Judging.{IfBound, RefusesWith, SaysVerdict, SaysMalformed}
+use Rattle.surveys.specs.Tallies.{HasSizes, SaysSizes, searched}
 
 -- where memory ran out nothing is said
 pub says_nothing : (p : Program) (v : Verdict) (c : Counts) → v ≡ verdict.NoMemory → SaysVerdict p v c
@@ -51,3 +52,25 @@ says_malformed found e wrong v c memory says (inr is) refused =
 pub never_malformed : (found : Option ImageError) (wrong : ImageError) (v : Verdict) (c : Counts) → found ≡ None → found ≡ Some wrong
     → SaysMalformed wrong v c
 never_malformed found wrong v c none some = absurd cc
+
+-- ---- what was counted
+
+-- the sizes of an image stay where what is counted before the verdict does
+pub sizes_kept : (p : Program) (b c d : Counts) → HasSizes p b → c.slots ≡ b.slots → c.maps ≡ b.maps
+    → searched d ≡ searched c → HasSizes p d
+sizes_kept p b c d h slots maps same = record {
+  slots = ap (λ (k : Counts). k.slots) same ∙ slots ∙ h.slots;
+  maps = ap (λ (k : Counts). k.maps) same ∙ maps ∙ h.maps;
+}
+
+-- a program has the sizes of the image that is the same
+pub says_sizes : (p q : Program) (v : Verdict) (c : Counts) → q ≡ p → HasSizes q c → SaysSizes p v c
+says_sizes p q verdict.Accepted c same h = subst (λ (r : Program). HasSizes r c) same h
+says_sizes p q (verdict.Refused code) c same h = subst (λ (r : Program). HasSizes r c) same h
+says_sizes p q verdict.Unreadable c same h = subst (λ (r : Program). HasSizes r c) same h
+says_sizes p q verdict.NoMemory c same h = tt
+
+-- where memory ran out nothing is said
+pub says_no_sizes : (p : Program) (v : Verdict) (c : Counts) → v ≡ verdict.NoMemory
+    → SaysSizes p v c
+says_no_sizes p v c e = subst (λ (w : Verdict). SaysSizes p w c) (sym e) tt

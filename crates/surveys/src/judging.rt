@@ -10,6 +10,7 @@ ghost use Rattle.walks.specs.Refused.{IsRefused};
 ghost use Rattle.image.specs.Refusals.{refusal_of};
 ghost use Rattle.image.specs.declared.errors.ImageError.{ImageError};
 ghost use Rattle.surveys.specs.Judging.{SaysVerdict, SaysMalformed, slot_of};
+ghost use Rattle.surveys.specs.Tallies.{HasSizes, SaysSizes, searched, with_bound, with_tally};
 
 use crate::tallies::Tally;
 use bounds::Verified;
@@ -38,7 +39,8 @@ fn microseconds_since<C: Clock>(clock: &C, start: Option<Instant>) -> Option<u64
 
 /// Nothing is known, since memory ran out.
 fn unjudged(counts: Counts) -> Judged
-    ensures { result.verdict ≡ Verdict.NoMemory }
+    ensures verdict { result.verdict ≡ Verdict.NoMemory }
+    ensures counts { result.counts ≡ counts }
 {
     Judged {
         verdict: Verdict::NoMemory,
@@ -76,12 +78,20 @@ fn malformed(error: ImageError) -> Judged
     }
 }
 
+/// How many slots and map rows an image has.
+fn sizes_of(image: &Image) -> Counts
+    ensures { HasSizes image.now result }
+{
+    Counts {
+        slots: Some(image.slots() as u64),
+        maps: Some(image.maps().len() as u64),
+        ..Counts::default()
+    }
+}
+
 /// What was counted of a search.
 fn counted(tally: Tally, counts: Counts) -> Counts
-    ensures explored { result.explored ≡ Some tally.explored }
-    ensures deepest { result.deepest ≡ Some tally.deepest }
-    ensures bound { result.bound ≡ counts.bound }
-    ensures slot { result.slot ≡ counts.slot }
+    ensures { result ≡ with_tally counts tally }
 {
     Counts {
         explored: Some(tally.explored),
@@ -94,8 +104,9 @@ fn counted(tally: Tally, counts: Counts) -> Counts
 
 /// A program that is refused.
 fn refused(refusal: Refusal, slot: usize, counts: Counts) -> Judged
-    ensures { (p : Program) → IsRefused p refusal slot
+    ensures says { (p : Program) → IsRefused p refusal slot
         → SaysVerdict p result.verdict result.counts }
+    ensures rest { searched result.counts ≡ searched counts }
 {
     match refusal {
         Refusal::Memory | Refusal::Flow(FlowError::Memory) => unjudged(counts),
@@ -112,7 +123,7 @@ fn refused(refusal: Refusal, slot: usize, counts: Counts) -> Judged
 
 /// The counts of an accepted program, with its bound.
 fn bounded(verified: &Verified, counts: Counts) -> Counts
-    ensures bound { result.bound ≡ Some verified.now.bound }
+    ensures bound { result ≡ with_bound counts verified.now.bound }
     ensures ends { StartsEnd verified.now.program verified.now.bound }
 {
     Counts {
@@ -123,8 +134,9 @@ fn bounded(verified: &Verified, counts: Counts) -> Counts
 
 /// A program that is accepted.
 fn accepted(verified: &Verified, counts: Counts) -> Judged
-    ensures { HasNumber verified.now.program start verified.now.bound
+    ensures says { HasNumber verified.now.program start verified.now.bound
         → SaysVerdict verified.now.program result.verdict result.counts }
+    ensures counts { result.counts ≡ with_bound counts verified.now.bound }
 {
     Judged {
         verdict: Verdict::Accepted,
@@ -139,6 +151,7 @@ fn prove<C: Clock>(clock: &C, alloc: Global, verified: Verified, judged: &mut Ju
     ensures verdict { judged.new.verdict ≡ judged.old.verdict }
     ensures bound { judged.new.counts.bound ≡ judged.old.counts.bound }
     ensures slot { judged.new.counts.slot ≡ judged.old.counts.slot }
+    ensures rest { searched judged.new.counts ≡ searched judged.old.counts }
 {
     let start = Instant::now(clock).ok();
     let mut table = Vec::new(alloc);
@@ -164,8 +177,9 @@ fn judge_verified<C: Clock>(
     counts: Counts,
     has_table: bool,
 ) -> Judged
-    ensures { HasNumber verified.program start verified.bound
+    ensures says { HasNumber verified.program start verified.bound
         → SaysVerdict verified.program result.verdict result.counts }
+    ensures rest { searched result.counts ≡ searched counts }
 {
     let mut judged = accepted(&verified, counts);
     if !has_table {
@@ -178,19 +192,17 @@ fn judge_verified<C: Clock>(
 /// A program judged by `verify`.
 fn judge_image<C: Clock>(clock: &C, alloc: Global, image: Image, has_table: bool) -> Judged
     ensures says { SaysVerdict image result.verdict result.counts }
+    ensures sizes { HasSizes image result.counts }
 {
-    let slots = image.slots() as u64;
-    let maps = image.maps().len() as u64;
+    let sizes = sizes_of(&image);
     let mut tally = Tally::default();
     let start = Instant::now(clock).ok();
     let answer = verify_with(alloc, image, &mut tally);
     let counts = counted(
         tally,
         Counts {
-            slots: Some(slots),
-            maps: Some(maps),
             microseconds: microseconds_since(clock, start),
-            ..Counts::default()
+            ..sizes
         },
     );
     match answer {
@@ -207,6 +219,8 @@ pub fn judge<C: Clock>(clock: &C, alloc: Global, bytes: &[u8], has_table: bool) 
         → SaysVerdict p result.verdict result.counts }
     ensures malformed { (wrong : ImageError) → refusal_of bytes.now ≡ Some wrong
         → SaysMalformed wrong result.verdict result.counts }
+    ensures sizes { (p : Program) → IsImage p → bytes.now ≡ image_bytes p
+        → SaysSizes p result.verdict result.counts }
 {
     match Image::parse(alloc, bytes) {
         Ok(image) => judge_image(clock, alloc, image, has_table),

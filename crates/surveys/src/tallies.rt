@@ -1,7 +1,7 @@
 //! What is counted of a search.
 
-ghost use Rattle.std.specs.Prelude.{◌≡◌, ◌≤◌, ◌<◌, ◌+◌, ◌-◌};
-ghost use Rattle.isa_model.specs.Code.Limits.{max_explored};
+ghost use Rattle.std.specs.Prelude.{◌≡◌, ◌+◌, ◌-◌, ◌&&◌, max, is_some, if◌then◌else◌};
+ghost use Rattle.surveys.specs.Tallies.{AreWords, CountsBytes, saturated};
 
 use explorer::{Kept, Listener, Refusal, own_words};
 use stack_state::State;
@@ -27,13 +27,23 @@ pub struct Tally {
     pub deepest: u64,
 }
 
+/// How many bytes a stored state takes that it does not share.
+fn own_bytes(kept: &Kept) -> u64
+    ensures { AreWords result }
+{
+    u64::from(own_words(kept)).saturating_mul(WORD)
+}
+
 impl Tally {
     /// An instruction is explored, in a state that is stored at this place, and then was kept last.
     pub fn explore(&mut self, stored: Option<usize>, kept: Option<&Kept>)
-        ensures explored { self.old.explored < max_explored
-            → self.new.explored ≡ self.old.explored + 1 }
-        ensures depth { self.old.depth < max_explored → self.new.depth ≡ self.old.depth + 1 }
-        ensures deepest { self.new.depth ≤ self.new.deepest }
+        ensures explored { self.new.explored ≡ saturated (self.old.explored + 1) }
+        ensures depth { self.new.depth ≡ saturated (self.old.depth + 1) }
+        ensures deepest { self.new.deepest ≡ max self.old.deepest self.new.depth }
+        ensures stored { self.new.stored
+            ≡ if is_some stored then saturated (self.old.stored + 1) else self.old.stored }
+        ensures stored_bytes { CountsBytes self.old.stored_bytes
+            (is_some stored && is_some kept.entry) self.new.stored_bytes }
     {
         self.explored = self.explored.saturating_add(1);
         self.depth = self.depth.saturating_add(1);
@@ -43,15 +53,13 @@ impl Tally {
         }
         self.stored = self.stored.saturating_add(1);
         if let Some(kept) = kept {
-            let bytes = u64::from(own_words(kept)).saturating_mul(WORD);
-            self.stored_bytes = self.stored_bytes.saturating_add(bytes);
+            self.stored_bytes = self.stored_bytes.saturating_add(own_bytes(kept));
         }
     }
 
     /// The last instruction of the path has its number.
     pub fn finish(&mut self)
-        ensures explored { self.new.explored ≡ self.old.explored }
-        ensures depth { self.new.depth ≡ self.old.depth - 1 }
+        ensures { self.new ≡ record self.old { depth = self.old.depth - 1 } }
     {
         self.depth = self.depth.saturating_sub(1);
     }
