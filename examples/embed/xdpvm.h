@@ -53,14 +53,16 @@ extern "C" {
 /* The most instructions that xdpvm_verify explores: with this limit it never answers XDPVM_UNDECIDED. */
 #define XDPVM_MAX_EXPLORED 1000000
 
-/* The size of an image or of the text of a refusal, and the line and the column of the latter, from 1. */
+/* The size of an image or of the text of a refusal, and the line and the column of the latter, from 1; of an image both are
+   0. */
 struct xdpvm_assembled {
     size_t size;
     size_t line;
     size_t column;
 };
 
-/* Accepted: the most steps of a run. Refused: the slot, 0 for what is no image, and the size of the text that says why. */
+/* Accepted: the most steps of a run, and the rest is 0. Refused: the slot, 0 for what is no image, and the size of the text
+   that says why; the bound is 0. */
 struct xdpvm_verdict {
     size_t said;
     size_t slot;
@@ -104,8 +106,8 @@ struct xdpvm_streamed {
     uint32_t fault;
 };
 
-/* The bound that a proof table shows. Refused: the rule that is broken, 6 for P6, and for P5, P7 and P8 the entry; rule 0
-   is an image or a control flow that is refused; and the size of the text that says why. */
+/* The bound that a proof table shows, and the rest is 0. Refused: the rule that is broken, 6 for P6, and for P5, P7 and P8
+   the entry; rule 0 is an image or a control flow that is refused; and the size of the text that says why; the bound is 0. */
 struct xdpvm_rechecked {
     size_t said;
     size_t entry;

@@ -6,13 +6,23 @@ use Rattle.image.specs.Images.{image_bytes}
 use Rattle.table_entries.specs.declared.faults.TableFault.TheVariants as fault
 use Rattle.rechecking.specs.declared.errors.TableError.{TableError}
 use Rattle.rechecking.specs.declared.errors.TableError.TheVariants.{Flow, Fault, Start, Step, Successor}
-use Rattle.rechecking.specs.Refusing.{TableIsRefused}
+use Rattle.rechecking.specs.Refusing.{ShowsBound, TableIsRefused}
 use Rattle.table_calls.specs.declared.rechecks.Rechecked.{Rechecked}
 use Rattle.image.specs.declared.errors.ImageError.{ImageError}
 use Rattle.image.specs.Refusals.{refusal_of}
 use Rattle.verdict_calls.specs.Crossing.{FillsBuffer}
 use Rattle.refusal_texts.specs.Texts.{image_text, TellsTableRefusal}
-use Rattle.verdict_calls.specs.Verdicts.{IsNoImage}
+use Rattle.verdict_calls.specs.Verdicts.{IsAcceptedImage, IsNoImage}
+
+-- an answer that is a bound, and says nothing of a refusal
+abbrev pub bound_alone : ℕ → Rechecked
+bound_alone bound = record { said = 0; bound = bound; rule = 0; entry = 0 }
+
+-- the bytes are an accepted image, and the answer is the bound that the table shows of its program
+pub record AnswersShownBound (bytes table : List ℕ) (out : Rechecked) : Type 0 where
+  pub accepts : IsAcceptedImage bytes out.bound
+  pub shows : ShowsBound accepts.program table out.bound
+  pub alone : out ≡ bound_alone out.bound
 
 -- a rule that is broken, at an entry; `said` is how many bytes the text has
 abbrev pub breaks : ℕ → ℕ → ℕ → Rechecked

@@ -3,10 +3,10 @@
 ghost use Rattle.std.specs.Prelude.{◌≡◌, ◌≢◌, Err, IfOk};
 ghost use Rattle.image.specs.Images.{image_bytes};
 ghost use Rattle.bounds.specs.Bounds.{IsVerified};
+ghost use Rattle.rechecking.specs.Refusing.{ShowsBound};
 ghost use Rattle.verdict_calls.specs.Crossing.{IsVerdict};
-ghost use Rattle.verdict_calls.specs.Verdicts.{IsAcceptedImage};
 ghost use Rattle.verdict_calls.specs.declared.statuses.Failure.TheVariants as Failure;
-ghost use Rattle.table_calls.specs.Tables.{FillsTableRefusal, TellsRefusedTable, IsRefusedTable, broken, is_table_memory};
+ghost use Rattle.table_calls.specs.Tables.{AnswersShownBound, bound_alone, FillsTableRefusal, TellsRefusedTable, IsRefusedTable, broken, is_table_memory};
 
 use bounds::Verified;
 use control_flow::FlowError;
@@ -94,6 +94,8 @@ fn test(alloc: Global, program: Image, table: &[u8], why: &mut [u8], out: &mut R
       program = program;
       bound = out.new.bound;
     }) }
+    ensures shows { result ≡ 0 → ShowsBound program table.now out.new.bound }
+    ensures alone { result ≡ 0 → out.new ≡ bound_alone out.new.bound }
     ensures refused { result ≡ 2 → TellsRefusedTable program table.now why.old why.new out.new }
     ensures why_kept { result ≢ 2 → why.new ≡ why.old }
     ensures memory { result ≡ 5 → out.new ≡ out.old }
@@ -136,7 +138,7 @@ pub fn recheck_table(
     why: &mut [u8],
     out: &mut Rechecked,
 ) -> u32
-    ensures accepted { result ≡ 0 → IsAcceptedImage image.now out.new.bound }
+    ensures accepted { result ≡ 0 → AnswersShownBound image.now table.now out.new }
     ensures refused { result ≡ 2
         → FillsTableRefusal image.now table.now why.old why.new out.new }
     ensures why_kept { result ≢ 2 → why.new ≡ why.old }

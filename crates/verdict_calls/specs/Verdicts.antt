@@ -6,11 +6,16 @@ use Rattle.image.specs.declared.errors.ImageError.{ImageError}
 use Rattle.image.specs.Images.{image_bytes}
 use Rattle.image.specs.Refusals.{refusal_of}
 use Rattle.bounds.specs.Bounds.{IsVerified}
+use Rattle.stack_state.specs.Starts.{start}
 use Rattle.walks.specs.declared.refusals.Refusal.{Refusal}
 use Rattle.walks.specs.Refused.{IsRefused}
+use Rattle.walks.specs.Accepting.{BoundsAll}
+use Rattle.walks.specs.Counts.{HasNumber}
 use Rattle.assembler.specs.declared.errors.AsmError.{AsmError}
 use Rattle.assembler.specs.declared.errors.AsmErrorKind.TheVariants as text
 use Rattle.assembler.specs.Assembling.{assembled}
+use Rattle.verdict_calls.specs.declared.judging.Verdict.{Verdict}
+use Rattle.verdict_calls.specs.declared.assembling.Assembled.{Assembled}
 use Rattle.verdict_calls.specs.Crossing.{FillsBuffer, is_memory}
 use Rattle.refusal_texts.specs.Texts.{image_text, source_text, TellsProgram}
 
@@ -21,6 +26,19 @@ pub record IsAcceptedImage (bytes : List ℕ) (bound : ℕ) : Type 0 where
   pub program : Program
   pub spelled : bytes ≡ image_bytes program
   pub verified : IsVerified (record { program = program; bound = bound })
+
+-- a verdict that is a bound, and says nothing of a refusal
+abbrev pub bound_alone : ℕ → Verdict
+bound_alone bound = record { said = 0; slot = 0; bound = bound }
+
+-- the bytes are an accepted image, and the verdict is the bound of its program alone: the number
+-- of the start state, and small enough, or the very one, where that is known of a program that
+-- must be accepted
+pub record AnswersBound (bytes : List ℕ) (out : Verdict) : Type 0 where
+  pub accepts : IsAcceptedImage bytes out.bound
+  pub number : HasNumber accepts.program start out.bound
+  pub bounds : BoundsAll accepts.program out.bound
+  pub alone : out ≡ bound_alone out.bound
 
 -- the bytes are no image
 abbrev pub IsNoImage : List ℕ → Type 0
@@ -57,6 +75,10 @@ IsUndecided bytes limit = (program : Program) × (bytes ≡ image_bytes program)
 -- the text spells a program, whose image is written to a buffer
 abbrev pub FillsAssembledImage : List ℕ → List ℕ → List ℕ → ℕ → Type 0
 FillsAssembledImage source old new size = (p : Program) × (assembled source ≡ Ok p) × FillsBuffer old new size (image_bytes p)
+
+-- the answer for an image: its size, and no line or column
+abbrev pub size_alone : ℕ → Assembled
+size_alone size = record { size = size; line = 0; column = 0 }
 
 -- it spells none, and a buffer says why, at this line and column
 abbrev pub FillsTextRefusal : List ℕ → List ℕ → List ℕ → ℕ → ℕ → ℕ → Type 0

@@ -5,7 +5,7 @@ ghost use Rattle.assembler.specs.declared.errors.AsmErrorKind.TheVariants as Kin
 ghost use Rattle.image.specs.Images.{image_bytes};
 ghost use Rattle.refusal_texts.specs.Texts.{source_text};
 ghost use Rattle.verdict_calls.specs.Crossing.{FillsBuffer, IsVerdict};
-ghost use Rattle.verdict_calls.specs.Verdicts.{FillsAssembledImage, FillsTextRefusal};
+ghost use Rattle.verdict_calls.specs.Verdicts.{FillsAssembledImage, FillsTextRefusal, size_alone};
 
 use crate::filling::fill;
 use crate::statuses::{MEMORY, OK, REFUSED};
@@ -28,6 +28,7 @@ pub struct Assembled {
 fn give(alloc: Global, made: &Image, image: &mut [u8], out: &mut Assembled) -> u32
     ensures given { result ≡ 0
         → FillsBuffer image.old image.new out.new.size (image_bytes made.now) }
+    ensures alone { result ≡ 0 → out.new ≡ size_alone out.new.size }
     ensures image_kept { result ≢ 0 → image.new ≡ image.old }
     ensures memory { result ≡ 5 → out.new ≡ out.old }
     ensures status { (result ≡ 0) ⊎ (result ≡ 5) }
@@ -77,6 +78,7 @@ pub fn assemble_text(
     out: &mut Assembled,
 ) -> u32
     ensures assembled { result ≡ 0 → FillsAssembledImage text.now image.old image.new out.new.size }
+    ensures alone { result ≡ 0 → out.new ≡ size_alone out.new.size }
     ensures refused { result ≡ 2 → FillsTextRefusal text.now why.old why.new out.new.size
         out.new.line out.new.column }
     ensures image_kept { result ≢ 0 → image.new ≡ image.old }

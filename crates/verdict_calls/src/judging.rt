@@ -4,9 +4,12 @@ ghost use Rattle.std.specs.Prelude.{◌≡◌, ◌≢◌, ◌<◌, ◌↔◌, �
 ghost use Rattle.isa_model.specs.Code.Limits.{max_explored};
 ghost use Rattle.image.specs.Images.{image_bytes};
 ghost use Rattle.bounds.specs.Bounds.{IsVerified};
+ghost use Rattle.stack_state.specs.Starts.{start};
 ghost use Rattle.walks.specs.Refused.{IsRefused};
+ghost use Rattle.walks.specs.Accepting.{BoundsAll};
+ghost use Rattle.walks.specs.Counts.{HasNumber};
 ghost use Rattle.verdict_calls.specs.Crossing.{IsDecision, is_memory};
-ghost use Rattle.verdict_calls.specs.Verdicts.{IsAcceptedImage, IsRefusedImage, FillsImageRefusal, TellsRefusal, IsUndecided};
+ghost use Rattle.verdict_calls.specs.Verdicts.{AnswersBound, bound_alone, IsRefusedImage, FillsImageRefusal, TellsRefusal, IsUndecided};
 ghost use Rattle.verdict_calls.specs.declared.statuses.Failure.TheVariants as Failure;
 
 use crate::filling::fill;
@@ -19,7 +22,8 @@ use refusal_texts::{image_text, program_text};
 use std::alloc::Global;
 
 /// The verdict on an image: the most steps of a run if it is accepted, and else the slot of the
-/// refusal, or 0 if it has none. `said` is how many bytes the text of a refusal has.
+/// refusal, or 0 if it has none. `said` is how many bytes the text of a refusal has. What a verdict
+/// does not have is 0.
 #[repr(C)]
 #[derive(Clone, Copy, Drop)]
 pub struct Verdict {
@@ -69,6 +73,7 @@ fn tell(
 ) -> u32
     ensures refused { result ≡ 2 → IsRefused program.now refusal slot
         → TellsRefusal program.now out.new.slot why.old why.new out.new.said }
+    ensures no_bound { result ≡ 2 → out.new.bound ≡ 0 }
     ensures why_kept { result ≢ 2 → why.new ≡ why.old }
     ensures memory { result ≡ 5 → out.new ≡ out.old }
     ensures status { (result ≡ 2) ⊎ (result ≡ 5) }
@@ -93,7 +98,11 @@ fn judge(alloc: Global, program: Image, limit: u32, why: &mut [u8], out: &mut Ve
       program = program;
       bound = out.new.bound;
     }) }
+    ensures number { result ≡ 0 → HasNumber program start out.new.bound }
+    ensures bounds { result ≡ 0 → BoundsAll program out.new.bound }
+    ensures alone { result ≡ 0 → out.new ≡ bound_alone out.new.bound }
     ensures refused { result ≡ 2 → TellsRefusal program out.new.slot why.old why.new out.new.said }
+    ensures no_bound { result ≡ 2 → out.new.bound ≡ 0 }
     ensures why_kept { result ≢ 2 → why.new ≡ why.old }
     ensures memory { result ≡ 5 → out.new ≡ out.old }
     ensures undecided { result ≡ 6 → (limit < max_explored) × (out.new ≡ out.old) }
@@ -126,10 +135,11 @@ pub fn verify_image(
     why: &mut [u8],
     out: &mut Verdict,
 ) -> u32
-    ensures accepted { result ≡ 0 → IsAcceptedImage image.now out.new.bound }
+    ensures accepted { result ≡ 0 → AnswersBound image.now out.new }
     ensures wrong { (result ≡ 1) ↔ ((limit ≡ 0) ⊎ (max_explored < limit)) }
     ensures refused { result ≡ 2
         → FillsImageRefusal image.now out.new.slot why.old why.new out.new.said }
+    ensures no_bound { result ≡ 2 → out.new.bound ≡ 0 }
     ensures undecided { result ≡ 6 → IsUndecided image.now limit }
     ensures why_kept { result ≢ 2 → why.new ≡ why.old }
     ensures out_kept { result ≢ 0 → result ≢ 2 → out.new ≡ out.old }

@@ -3,8 +3,8 @@
 ghost use Rattle.std.specs.Prelude.{◌≡◌, ◌≢◌, ◌<◌, ◌↔◌, ◌⊎◌};
 ghost use Rattle.isa_model.specs.Code.Limits.{max_explored};
 ghost use Rattle.verdict_calls.specs.Crossing.{IsVerdict, IsDecision};
-ghost use Rattle.verdict_calls.specs.Verdicts.{FillsAssembledImage, FillsTextRefusal, IsAcceptedImage, FillsImageRefusal, IsUndecided};
-ghost use Rattle.table_calls.specs.Tables.{FillsTableRefusal};
+ghost use Rattle.verdict_calls.specs.Verdicts.{FillsAssembledImage, size_alone, FillsTextRefusal, AnswersBound, FillsImageRefusal, IsUndecided};
+ghost use Rattle.table_calls.specs.Tables.{AnswersShownBound, FillsTableRefusal};
 
 use std::alloc::Global;
 use table_calls::rechecks::{Rechecked, recheck_table};
@@ -22,6 +22,7 @@ pub extern "C" fn xdpvm_assemble(
     out: &mut Assembled,
 ) -> u32
     ensures assembled { result ≡ 0 → FillsAssembledImage text.now image.old image.new out.new.size }
+    ensures alone { result ≡ 0 → out.new ≡ size_alone out.new.size }
     ensures refused { result ≡ 2 → FillsTextRefusal text.now why.old why.new out.new.size
         out.new.line out.new.column }
     ensures image_kept { result ≢ 0 → image.new ≡ image.old }
@@ -43,10 +44,11 @@ pub extern "C" fn xdpvm_verify(
     why: &mut [u8],
     out: &mut Verdict,
 ) -> u32
-    ensures accepted { result ≡ 0 → IsAcceptedImage image.now out.new.bound }
+    ensures accepted { result ≡ 0 → AnswersBound image.now out.new }
     ensures wrong { (result ≡ 1) ↔ ((limit ≡ 0) ⊎ (max_explored < limit)) }
     ensures refused { result ≡ 2
         → FillsImageRefusal image.now out.new.slot why.old why.new out.new.said }
+    ensures no_bound { result ≡ 2 → out.new.bound ≡ 0 }
     ensures undecided { result ≡ 6 → IsUndecided image.now limit }
     ensures why_kept { result ≢ 2 → why.new ≡ why.old }
     ensures out_kept { result ≢ 0 → result ≢ 2 → out.new ≡ out.old }
@@ -67,7 +69,7 @@ pub extern "C" fn xdpvm_recheck(
     why: &mut [u8],
     out: &mut Rechecked,
 ) -> u32
-    ensures accepted { result ≡ 0 → IsAcceptedImage image.now out.new.bound }
+    ensures accepted { result ≡ 0 → AnswersShownBound image.now table.now out.new }
     ensures refused { result ≡ 2
         → FillsTableRefusal image.now table.now why.old why.new out.new }
     ensures why_kept { result ≢ 2 → why.new ≡ why.old }
