@@ -110,52 +110,52 @@ fn calls(rt: HostRuntime) {
     are_covering(&rt, &CALLS);
 }
 
-const POINTER_IN_5: Sample = Sample::Outer(3, &[Put::Slot(5, Held::Context)]);
+const POINTER_IN_5: Sample = Sample::Outer(3, &[Put::Spill(5, Held::Context)]);
 
-const SEVEN_IN_5: Sample = Sample::Outer(3, &[Put::Slot(5, Held::Number(7))]);
+const SEVEN_IN_5: Sample = Sample::Outer(3, &[Put::Spill(5, Held::Number(7))]);
 
 const HALF: Sample = Sample::Outer(3, &[Put::Written(63, 0x0f)]);
 
 const WHOLE: Sample = Sample::Outer(3, &[Put::Written(63, 0xff)]);
 
-const SEVEN_IN_63: Sample = Sample::Outer(3, &[Put::Slot(63, Held::Number(7))]);
+const SEVEN_IN_63: Sample = Sample::Outer(3, &[Put::Spill(63, Held::Number(7))]);
 
-const EIGHT_IN_63: Sample = Sample::Outer(3, &[Put::Slot(63, Held::Number(8))]);
+const EIGHT_IN_63: Sample = Sample::Outer(3, &[Put::Spill(63, Held::Number(8))]);
 
-const POINTER_IN_63: Sample = Sample::Outer(3, &[Put::Slot(63, Held::Context)]);
+const POINTER_IN_63: Sample = Sample::Outer(3, &[Put::Spill(63, Held::Context)]);
 
 const ONE_IN_SLOTS: Sample = Sample::Outer(
     3,
     &[
-        Put::Slot(0, Held::Packet(1, 0)),
-        Put::Slot(9, Held::Packet(1, 0)),
+        Put::Spill(0, Held::Packet(1, 0)),
+        Put::Spill(9, Held::Packet(1, 0)),
     ],
 );
 
 const SAME_IN_SLOTS: Sample = Sample::Outer(
     3,
     &[
-        Put::Slot(0, Held::Packet(4, 0)),
-        Put::Slot(9, Held::Packet(4, 0)),
+        Put::Spill(0, Held::Packet(4, 0)),
+        Put::Spill(9, Held::Packet(4, 0)),
     ],
 );
 
 const TWO_IN_SLOTS: Sample = Sample::Outer(
     3,
     &[
-        Put::Slot(0, Held::Packet(4, 0)),
-        Put::Slot(9, Held::Packet(5, 0)),
+        Put::Spill(0, Held::Packet(4, 0)),
+        Put::Spill(9, Held::Packet(5, 0)),
     ],
 );
 
-const PROVED_14_IN_0: Sample = Sample::Outer(3, &[Put::Slot(0, Held::Packet(1, 14))]);
+const PROVED_14_IN_0: Sample = Sample::Outer(3, &[Put::Spill(0, Held::Packet(1, 14))]);
 
-const PROVED_10_IN_0: Sample = Sample::Outer(3, &[Put::Slot(0, Held::Packet(1, 10))]);
+const PROVED_10_IN_0: Sample = Sample::Outer(3, &[Put::Spill(0, Held::Packet(1, 10))]);
 
 const SAME_IN_SLOT_AND_REGISTER: Sample = Sample::Outer(
     3,
     &[
-        Put::Slot(8, Held::Packet(1, 0)),
+        Put::Spill(8, Held::Packet(1, 0)),
         Put::Register(2, Held::Packet(1, 0)),
     ],
 );
@@ -163,7 +163,7 @@ const SAME_IN_SLOT_AND_REGISTER: Sample = Sample::Outer(
 const OTHER_IN_SLOT_AND_REGISTER: Sample = Sample::Outer(
     3,
     &[
-        Put::Slot(8, Held::Packet(2, 0)),
+        Put::Spill(8, Held::Packet(2, 0)),
         Put::Register(2, Held::Packet(1, 0)),
     ],
 );
@@ -200,9 +200,9 @@ fn stacks(rt: HostRuntime) {
 
 const CALLED: Sample = Sample::InCall(0, &[], &[]);
 
-const SEVEN_OF_CALLER: Sample = Sample::InCall(0, &[Put::Slot(2, Held::Number(7))], &[]);
+const SEVEN_OF_CALLER: Sample = Sample::InCall(0, &[Put::Spill(2, Held::Number(7))], &[]);
 
-const SEVEN_IN_3_OF_CALLER: Sample = Sample::InCall(0, &[Put::Slot(3, Held::Number(7))], &[]);
+const SEVEN_IN_3_OF_CALLER: Sample = Sample::InCall(0, &[Put::Spill(3, Held::Number(7))], &[]);
 
 const STACKS_OF_CALLERS: [Row; 5] = [
     (CALLED, SEVEN_OF_CALLER, true),

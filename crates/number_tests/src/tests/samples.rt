@@ -32,7 +32,7 @@ fn kind_of(held: &Held) -> Kind {
 /// What is put into a frame.
 pub enum Put {
     Register(usize, Held),
-    Slot(usize, Held),
+    Spill(usize, Held),
     /// The bytes of a stack slot that are written.
     Written(usize, u8),
 }
@@ -45,7 +45,7 @@ fn frame_with(frame: AbstractFrame, act: &Put) -> AbstractFrame {
                 frame.registers[*place] = kind_of(held);
             }
         }
-        Put::Slot(place, held) => {
+        Put::Spill(place, held) => {
             if *place < 64 {
                 frame.stack.slots[*place] = Slot::Spilled(kind_of(held));
             }
