@@ -56,6 +56,7 @@ RUNS = [
     ["asm", "right.text", "made"],
     ["asm", "wrong.text", "made"],
     ["verify", "again.image"],
+    ["verify", "falls.image"],
     ["verify", "lost"],
     ["walk"],
     *by_table("allow"),
@@ -162,12 +163,13 @@ class Answer:
 
 
 def lacks_reason(found, good):
-    """What is known where a text, a program or an entry of a table is refused is left away, and standard error has the
-    sentence, the place, and of P7 the sentence of its V code."""
+    """What is known where a text, control flow, a program or an entry of a table is refused is left away, and standard
+    error has the sentence, the place, and of P7 the sentence of its V code."""
     same = (found.status, found.out, found.made) == (good.status, good.out, good.made)
     lines = good.err.splitlines(keepends=True)
     kept = lines[:2] + (lines[3:4] if good.out.startswith(b"refused P7") else [])
-    return same and good.out.startswith((b"refused A", b"refused V", b"refused P7", b"refused P8")) and found.err == b"".join(kept)
+    known = tuple(b"refused " + code for code in (b"A", b"G", b"V", b"P7", b"P8"))
+    return same and good.out.startswith(known) and found.err == b"".join(kept)
 
 
 def lacks_stops(words, found, good):
@@ -269,7 +271,10 @@ def main():
         it.write("exit\ngoto nowhere\n")
     with open("again.text", "w") as it:
         it.write("again: r6 = *(u32 *)(r1 + 12)\nif r6 != 0 goto again\nr0 = 2\nexit\n")
-    Answer(["asm", "again.text", "again.image"])
+    with open("falls.text", "w") as it:
+        it.write("r0 = 2\n")
+    for name in ("again", "falls"):
+        Answer(["asm", f"{name}.text", f"{name}.image"])
     make_tables()
     given, wrong = Counter(), 0
     if not comes_at_once():
