@@ -204,7 +204,7 @@ def forms():
         extensions.add(left, listed(str(signed(n, low) % 2**bits) for n in OPERANDS), len(OPERANDS))
     orders = Equations(
         "Orders",
-        f"{PRELUDE}{DECLARED}.sizes.Span.TheVariants.{{B16, B32, B64}}\n"
+        f"{PRELUDE}{DECLARED}.sizes.SwapWidth.TheVariants.{{B16, B32, B64}}\n"
         f"{DECLARED}.sizes.ByteOrder.TheVariants.{{Little, Big, Swap}}\n{NUMBERS}.{{reordered}}\n",
         "unfolding reordered",
     )
@@ -217,7 +217,7 @@ def forms():
 
 MAP_IMPORTS = (
     "use Rattle.std.specs.Prelude.{◌≡◌, ℕ, List, [], ◌∷◌, refl}\n"
-    f"{DECLARED}.map_defs.MapDef.{{MapDef}}\n{DECLARED}.map_defs.MapKind.TheVariants.{{Array, Hash}}\n"
+    f"{DECLARED}.map_defs.MapDef.{{MapDef}}\n{DECLARED}.map_defs.MapType.TheVariants.{{Array, Hash}}\n"
     "use Rattle.isa_model.specs.Machine.MapContents.{update_answer, delete_answer, after_update, after_delete}\n"
     "\n-- the answer, and the content that is left\n"
     "abbrev updated : MapDef → List (List ℕ × List ℕ) → List ℕ → List ℕ → ℕ → ℕ × List (List ℕ × List ℕ)\n"
@@ -389,7 +389,7 @@ RUN_IMPORTS = (
     f"{DECLARED}.sizes.Width.TheVariants.{{Low32, Full64}}\n"
     f"{DECLARED}.sizes.Size.TheVariants.{{U8, U16, U32, U64}}\n"
     f"{DECLARED}.sizes.Extension.TheVariants.{{{', '.join(EXTENSIONS)}}}\n"
-    f"{DECLARED}.sizes.Span.TheVariants.{{B16, B32, B64}}\n"
+    f"{DECLARED}.sizes.SwapWidth.TheVariants.{{B16, B32, B64}}\n"
     f"{DECLARED}.sizes.ByteOrder.TheVariants.{{Little, Big, Swap}}\n"
     f"{DECLARED}.registers.Reg.TheVariants.{{R0, R2, R3, R4, R5, R6, R7, R8, R9, R10}}\n"
     f"{DECLARED}.instructions.AluOp.TheVariants.{{{', '.join(OPS)}}}\n"

@@ -8,10 +8,10 @@ use Rattle.isa_model.specs.declared.registers.Reg.TheVariants.{R0}
 use Rattle.isa_model.specs.declared.sizes.Width.{Width}
 use Rattle.isa_model.specs.declared.sizes.Width.TheVariants.{Low32, Full64}
 use Rattle.isa_model.specs.declared.sizes.Size.{Size}
-use Rattle.isa_model.specs.declared.sizes.Narrow.{Narrow}
+use Rattle.isa_model.specs.declared.sizes.SignedSize.{SignedSize}
 use Rattle.isa_model.specs.declared.sizes.Extension.{Extension}
 use Rattle.isa_model.specs.declared.sizes.Extension.TheVariants.{Low8, Low16, Full8, Full16, Full32}
-use Rattle.isa_model.specs.declared.sizes.Span.{Span}
+use Rattle.isa_model.specs.declared.sizes.SwapWidth.{SwapWidth}
 use Rattle.isa_model.specs.declared.sizes.ByteOrder.{ByteOrder}
 use Rattle.isa_model.specs.declared.instructions.AluOp.{AluOp}
 use Rattle.isa_model.specs.declared.instructions.AluOp.TheVariants as op
@@ -113,7 +113,7 @@ extension-form Full8 d s = refl
 extension-form Full16 d s = refl
 extension-form Full32 d s = refl
 
-pub swap-form : (order : ByteOrder) (span : Span) (d : Reg) → plain_statement (reg Full64 d ∷ Signed sign.Assign ∷ Named (word.Swapped order span) ∷ reg Full64 d ∷ []) ≡ Some (ByteSwap order span d)
+pub swap-form : (order : ByteOrder) (span : SwapWidth) (d : Reg) → plain_statement (reg Full64 d ∷ Signed sign.Assign ∷ Named (word.Swapped order span) ∷ reg Full64 d ∷ []) ≡ Some (ByteSwap order span d)
 unfolding statement_of
 swap-form order span d = rw (same-register d) refl
 
@@ -133,7 +133,7 @@ unfolding statement_of
 load-form size d b (pos n) h = rw (offset-pos n h) refl
 load-form size d b (negsuc n) h = rw (offset-neg n h) refl
 
-pub extending-form : (size : Narrow) (d b : Reg) (by : ℤ) → FitsSigned w16 by → plain_statement (reg Full64 d ∷ Signed sign.Assign ∷ memory_tokens (word.SignExtended size) b by []) ≡ Some (LoadSx size d (record { base = b; offset = by }))
+pub extending-form : (size : SignedSize) (d b : Reg) (by : ℤ) → FitsSigned w16 by → plain_statement (reg Full64 d ∷ Signed sign.Assign ∷ memory_tokens (word.SignExtended size) b by []) ≡ Some (LoadSx size d (record { base = b; offset = by }))
 unfolding statement_of
 extending-form size d b (pos n) h = rw (offset-pos n h) refl
 extending-form size d b (negsuc n) h = rw (offset-neg n h) refl

@@ -1,6 +1,6 @@
 pub mod PlainTexts
 pub mod Turns
-pub mod DigitRuns
+pub mod Digits
 pub mod TokenReads
 pub mod FormReads
 pub mod LineReads

@@ -9,9 +9,9 @@ use Rattle.isa_model.specs.declared.registers.Reg.TheVariants.{R0}
 use Rattle.isa_model.specs.declared.sizes.Width.{Width}
 use Rattle.isa_model.specs.declared.sizes.Width.TheVariants.{Full64}
 use Rattle.isa_model.specs.declared.sizes.Size.{Size}
-use Rattle.isa_model.specs.declared.sizes.Narrow.{Narrow}
+use Rattle.isa_model.specs.declared.sizes.SignedSize.{SignedSize}
 use Rattle.isa_model.specs.declared.sizes.Extension.{Extension}
-use Rattle.isa_model.specs.declared.sizes.Span.{Span}
+use Rattle.isa_model.specs.declared.sizes.SwapWidth.{SwapWidth}
 use Rattle.isa_model.specs.declared.sizes.ByteOrder.{ByteOrder}
 use Rattle.isa_model.specs.declared.instructions.AluOp.{AluOp}
 use Rattle.isa_model.specs.declared.instructions.AtomicOp.{AtomicOp}
@@ -32,7 +32,7 @@ use Rattle.assembler.specs.Statements.{map_line}
 use Rattle.assembler.specs.Labelled.{begins_map_line, begins_version_line, version_line}
 use Rattle.assembler.specs.Spells.{extends, assigns, changes, compares}
 use Rattle.assembler.proofs.PlainTexts.{◌>>=◌, keep, plain_statement, not-map-line, not-version-line, Parts, with_insn, takes, added, added_row, added_version, assembled}
-use Rattle.assembler.proofs.DigitRuns.{hexadecimal-read}
+use Rattle.assembler.proofs.Digits.{hexadecimal-read}
 use Rattle.assembler.proofs.TokenReads.{draft, reg-read, size-read, narrow-read, extension-read, swap-read, fetch-read, exchange-read, compare-read, op-read, atomic-read, comparison-read, negative-read, signed_tokens, constant_tokens, operand_tokens, place_tokens, distance-read, near-read, constant-read, operand-read, place-read}
 use Rattle.assembler.proofs.FormReads.{alu-form, neg-form, extension-form, swap-form, wide-form, memory_tokens, load-form, extending-form, store-form, constant-form, lock-form, exchange_tokens, fetch-form, exchange-form, compare-form, jump-form, long-form, call-form, helper-form, exit-form, condition-form}
 
@@ -129,7 +129,7 @@ extension-line e d s ps rest room =
     ∙ reg-read w s 10 rest (reg w d ∷ Signed sign.Assign ∷ Signed sign.Open ∷ size ∷ Signed sign.Close ∷ []) ps refl
     ∙ end-read (reg w d) (Signed sign.Assign ∷ Signed sign.Open ∷ size ∷ Signed sign.Close ∷ reg w s ∷ []) (MovSx e d s) ps rest (extension-form e d s) room
 
-pub swap-line : (order : ByteOrder) (span : Span) (d : Reg) (ps : Parts) (rest : Bytes) → ReadsLine (ByteSwap order span d) ps rest
+pub swap-line : (order : ByteOrder) (span : SwapWidth) (d : Reg) (ps : Parts) (rest : Bytes) → ReadsLine (ByteSwap order span d) ps rest
 unfolding line_of
 swap-line order span d ps rest room =
     let tail : Bytes = reg_text Full64 d ++ 10 ∷ rest in
@@ -167,7 +167,7 @@ load-line size d p ps rest h room =
     ∙ place-read p 41 (10 ∷ rest) (reg Full64 d ∷ Signed sign.Assign ∷ before_place (word.Unsigned size)) ps h (lit< tt)
     ∙ end-read (reg Full64 d) (Signed sign.Assign ∷ memory_tokens (word.Unsigned size) p.base p.offset []) (Load size d p) ps rest (load-form size d p.base p.offset h) room
 
-pub extending-line : (size : Narrow) (d : Reg) (p : Place) (ps : Parts) (rest : Bytes) → FitsSigned w16 p.offset → ReadsLine (LoadSx size d p) ps rest
+pub extending-line : (size : SignedSize) (d : Reg) (p : Place) (ps : Parts) (rest : Bytes) → FitsSigned w16 p.offset → ReadsLine (LoadSx size d p) ps rest
 unfolding line_of
 extending-line size d p ps rest h room =
     let tail : Bytes = 42 ∷ 41 ∷ 40 ∷ place_bytes p (41 ∷ 10 ∷ rest) in

@@ -6,8 +6,8 @@ use Rattle.isa_model.specs.declared.sizes.Width.TheVariants.{Full64}
 use Rattle.isa_model.specs.declared.map_defs.MapDef.{MapDef}
 use Rattle.isa_model.specs.declared.instructions.Insn.{Insn}
 use Rattle.isa_model.specs.declared.instructions.Insn.TheVariants.{Alu, Neg, MovSx, ByteSwap, LoadNumber, LoadMap, LoadMapValue, Load, LoadSx, StoreConstant, Store, Atomic, Exchange, CompareExchange, Jump, JumpLong, JumpIf, CallHelper, CallLocal, Exit}
-use Rattle.isa_model.specs.declared.map_defs.MapKind.{MapKind}
-use Rattle.isa_model.specs.declared.map_defs.MapKind.TheVariants.{Hash, Array}
+use Rattle.isa_model.specs.declared.map_defs.MapType.{MapType}
+use Rattle.isa_model.specs.declared.map_defs.MapType.TheVariants.{Hash, Array}
 use Rattle.isa_model.specs.Code.MapRows.{KeyFits, IsRow}
 use Rattle.isa_model.specs.Code.Spelling.{InsnFits}
 use Rattle.isa_model.specs.Text.CanonicalText.{reg_text, kind_text, line_of, row_line}
@@ -19,7 +19,7 @@ use Rattle.assembler.specs.declared.wrong.Wrong.{Wrong}
 use Rattle.assembler.specs.Statements.{map_line, statement_of}
 use Rattle.assembler.specs.MapTests.{takes_row}
 use Rattle.assembler.proofs.PlainTexts.{◌>>=◌, keep, plain_statement, Parts, with_row, with_insn, takes, added_row, assembled}
-use Rattle.assembler.proofs.DigitRuns.{decimal-read}
+use Rattle.assembler.proofs.Digits.{decimal-read}
 use Rattle.assembler.proofs.TokenReads.{draft, reg-read, kind-read}
 use Rattle.assembler.proofs.LineReads.{ReadsLine, end-read, parts4, parts6, parts9, alu-line, neg-line, extension-line, swap-line, wide-line, load-line, extending-line, constant-line, store-line, lock-line, fetch-line, exchange-line, compare-line, jump-line, long-line, condition-line, helper-line, call-line, exit-line}
 
@@ -78,7 +78,7 @@ row_tokens row = Named word.Map ∷ Named (word.Kind row.kind) ∷ Number row.ke
 abbrev found : MapDef → Result MapDef Wrong
 found row = Ok row
 
-key-small : (kind : MapKind) (n : ℕ) → KeyFits kind n → n ≤ 64
+key-small : (kind : MapType) (n : ℕ) → KeyFits kind n → n ≤ 64
 key-small Hash n h = h.1
 key-small Array n h = omega (arith, h)
 

@@ -5,8 +5,8 @@ use Rattle.isa_model.specs.declared.sizes.Width.{Width}
 use Rattle.isa_model.specs.declared.sizes.Width.TheVariants.{Low32, Full64}
 use Rattle.isa_model.specs.declared.sizes.Size.{Size}
 use Rattle.isa_model.specs.declared.sizes.Size.TheVariants.{U32, U64}
-use Rattle.isa_model.specs.declared.sizes.Narrow.{Narrow}
-use Rattle.isa_model.specs.declared.sizes.Narrow.TheVariants.{S8, S16, S32}
+use Rattle.isa_model.specs.declared.sizes.SignedSize.{SignedSize}
+use Rattle.isa_model.specs.declared.sizes.SignedSize.TheVariants.{S8, S16, S32}
 use Rattle.isa_model.specs.declared.sizes.Extension.{Extension}
 use Rattle.isa_model.specs.declared.sizes.Extension.TheVariants.{Low8, Low16, Full8, Full16, Full32}
 use Rattle.isa_model.specs.declared.instructions.AluOp.{AluOp}
@@ -204,7 +204,7 @@ width_in U32 w h = let same : Low32 ≡ w = cc in ap width_size same
 width_in U64 w h = let same : Full64 ≡ w = cc in ap width_size same
 width_in size w h = absurd (cc)
 
-pub extension_in : (w : Width) (size : Narrow) (e : Extension) → extension_of w size ≡ Ok e → (w ≡ (extends e).0) × (size ≡ (extends e).1)
+pub extension_in : (w : Width) (size : SignedSize) (e : Extension) → extension_of w size ≡ Ok e → (w ≡ (extends e).0) × (size ≡ (extends e).1)
 extension_in Low32 S8 e h = let same : Low8 ≡ e = cc in (ap (λ x. (extends x).0) same, ap (λ x. (extends x).1) same)
 extension_in Low32 S16 e h = let same : Low16 ≡ e = cc in (ap (λ x. (extends x).0) same, ap (λ x. (extends x).1) same)
 extension_in Low32 S32 e h = absurd (cc)
@@ -216,7 +216,7 @@ pub size_in : (x : Word) (size : Size) → as_size x ≡ Ok size → x ≡ word.
 size_in (word.Unsigned q) size h = let same : q ≡ size = cc in ap word.Unsigned same
 size_in x size h = absurd (cc)
 
-pub narrow_in : (x : Word) (size : Narrow) → as_narrow x ≡ Ok size → x ≡ word.SignExtended size
+pub narrow_in : (x : Word) (size : SignedSize) → as_narrow x ≡ Ok size → x ≡ word.SignExtended size
 narrow_in (word.SignExtended q) size h = let same : q ≡ size = cc in ap word.SignExtended same
 narrow_in x size h = absurd (cc)
 

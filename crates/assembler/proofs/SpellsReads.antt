@@ -6,8 +6,8 @@ use Rattle.isa_model.specs.declared.registers.Reg.TheVariants.{R0}
 use Rattle.isa_model.specs.declared.sizes.Width.{Width}
 use Rattle.isa_model.specs.declared.sizes.Width.TheVariants.{Low32, Full64}
 use Rattle.isa_model.specs.declared.sizes.Size.{Size}
-use Rattle.isa_model.specs.declared.sizes.Narrow.{Narrow}
-use Rattle.isa_model.specs.declared.sizes.Span.{Span}
+use Rattle.isa_model.specs.declared.sizes.SignedSize.{SignedSize}
+use Rattle.isa_model.specs.declared.sizes.SwapWidth.{SwapWidth}
 use Rattle.isa_model.specs.declared.sizes.ByteOrder.{ByteOrder}
 use Rattle.isa_model.specs.declared.sizes.Extension.{Extension}
 use Rattle.isa_model.specs.declared.sizes.Extension.TheVariants.{Low8, Low16, Full8, Full16, Full32}
@@ -85,7 +85,7 @@ extension-reads Full8 d s = refl
 extension-reads Full16 d s = refl
 extension-reads Full32 d s = refl
 
-swap-reads : (order : ByteOrder) (span : Span) (d : Reg) → statement_of (reg Full64 d ∷ Signed sign.Assign ∷ Named (word.Swapped order span) ∷ reg Full64 d ∷ []) ≡ read (ByteSwap order span d) None
+swap-reads : (order : ByteOrder) (span : SwapWidth) (d : Reg) → statement_of (reg Full64 d ∷ Signed sign.Assign ∷ Named (word.Swapped order span) ∷ reg Full64 d ∷ []) ≡ read (ByteSwap order span d) None
 unfolding statement_of
 swap-reads order span d = rw (same-register d) refl
 
@@ -111,7 +111,8 @@ load-reads : (size : Size) (d b : Reg) (s : Sign) (n : ℕ) (by : ℤ) → IsSig
 unfolding statement_of
 load-reads size d b s n by h = rw (signed-reads (2 ^ 15) 9 s n by h) refl
 
-extending-reads : (size : Narrow) (d b : Reg) (s : Sign) (n : ℕ) (by : ℤ) → IsSigned (2 ^ 15) s n by
+extending-reads : (size : SignedSize) (d b : Reg) (s : Sign) (n : ℕ) (by : ℤ)
+    → IsSigned (2 ^ 15) s n by
     → statement_of (reg Full64 d ∷ Signed sign.Assign ∷ memory (word.SignExtended size) b s n []) ≡ read (LoadSx size d (record { base = b; offset = by })) None
 unfolding statement_of
 extending-reads size d b s n by h = rw (signed-reads (2 ^ 15) 9 s n by h) refl

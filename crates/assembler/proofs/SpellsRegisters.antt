@@ -6,8 +6,8 @@ use Rattle.isa_model.specs.declared.registers.Reg.TheVariants.{R0}
 use Rattle.isa_model.specs.declared.sizes.Width.{Width}
 use Rattle.isa_model.specs.declared.sizes.Width.TheVariants.{Low32, Full64}
 use Rattle.isa_model.specs.declared.sizes.Size.{Size}
-use Rattle.isa_model.specs.declared.sizes.Narrow.{Narrow}
-use Rattle.isa_model.specs.declared.sizes.Span.{Span}
+use Rattle.isa_model.specs.declared.sizes.SignedSize.{SignedSize}
+use Rattle.isa_model.specs.declared.sizes.SwapWidth.{SwapWidth}
 use Rattle.isa_model.specs.declared.sizes.ByteOrder.{ByteOrder}
 use Rattle.isa_model.specs.declared.instructions.AluOp.{AluOp}
 use Rattle.isa_model.specs.declared.instructions.AluOp.TheVariants as op
@@ -104,11 +104,11 @@ extended_says ts w d r first second third h =
     (first, (second, (third, (fourth, (expected ts 4 sign.Close u closes, (register ts w 5 s source, tt)))))) len in
     says ts (MovSx e d s) r same (
       refl,
-      subst (λ (n : Narrow). ts ≡ reg (extends e).0 d ∷ Signed sign.Assign ∷ Signed sign.Open ∷ Named (word.SignExtended n) ∷ Signed sign.Close ∷ reg (extends e).0 s ∷ []) part
+      subst (λ (n : SignedSize). ts ≡ reg (extends e).0 d ∷ Signed sign.Assign ∷ Signed sign.Open ∷ Named (word.SignExtended n) ∷ Signed sign.Close ∷ reg (extends e).0 s ∷ []) part
           (subst (λ (v : Width). ts ≡ reg v d ∷ Signed sign.Assign ∷ Signed sign.Open ∷ Named (word.SignExtended size) ∷ Signed sign.Close ∷ reg v s ∷ []) width all),
     )
 
-swapped_says : (ts : List Token) (order : ByteOrder) (span : Span) (d : Reg) (r : Reading) → At ts 0 (reg Full64 d) → At ts 1 (Signed sign.Assign) → At ts 2 (Named (word.Swapped order span))
+swapped_says : (ts : List Token) (order : ByteOrder) (span : SwapWidth) (d : Reg) (r : Reading) → At ts 0 (reg Full64 d) → At ts 1 (Signed sign.Assign) → At ts 2 (Named (word.Swapped order span))
     → swapped order span d ts ≡ Ok r → SaysSpelled ts r
 unfolding Spells
 swapped_says ts order span d r first second third h =
@@ -120,7 +120,7 @@ swapped_says ts order span d r first second third h =
 -- ---- loads
 
 load_cases : (d : Reg) (p : Place) (x : Word) (i : Insn) → load_of d p x ≡ Ok i
-    → ((size : Size) × (x ≡ word.Unsigned size) × (i ≡ Load size d p)) ⊎ ((size : Narrow) × (x ≡ word.SignExtended size) × (i ≡ LoadSx size d p))
+    → ((size : Size) × (x ≡ word.Unsigned size) × (i ≡ Load size d p)) ⊎ ((size : SignedSize) × (x ≡ word.SignExtended size) × (i ≡ LoadSx size d p))
 load_cases d p (word.Unsigned size) i h = let same : Load size d p ≡ i = cc in inl (size, refl, sym same)
 load_cases d p (word.SignExtended size) i h = let same : LoadSx size d p ≡ i = cc in inr (size, refl, sym same)
 load_cases d p x i h = absurd (cc)

@@ -2,7 +2,7 @@
 use Rattle.std.proofs.Common.{◌≡◌, ℕ, zero, suc, ◌+◌, ◌-◌, length, drop, take, List, [], ◌∷◌, ◌++◌, refl, sym, ap, ◌∙◌, subst, inl, inr, ◌⊎◌, arith, ne_eqb}
 use Rattle.std.specs.Prelude.{Bool, Option, Some, None, Result, Ok, Err, ok_or, true, false, ◌==◌, if◌then◌else◌, nat_le, slice_get}
 use Rattle.isa_model.specs.declared.map_defs.MapDef.{MapDef}
-use Rattle.isa_model.specs.declared.map_defs.MapKind.{MapKind}
+use Rattle.isa_model.specs.declared.map_defs.MapType.{MapType}
 use Rattle.isa_model.specs.declared.instructions.Insn.{Insn}
 use Rattle.isa_model.specs.Code.Instructions.{Program}
 use Rattle.lexer.specs.declared.tokens.Word.{Word}
@@ -74,7 +74,7 @@ version_spells ts s first h =
     let is : m ≡ 2 = same ∙ equal n 2 two in
     whole ts (Named word.Version ∷ Number 2 ∷ []) (first, (subst (λ k. At ts 1 (Number k)) is (number_at_token ts 1 m number), tt)) (equal (length ts) 2 len)
 
-kind_in : (x : Word) (kind : MapKind) → as_kind x ≡ Ok kind → x ≡ word.Kind kind
+kind_in : (x : Word) (kind : MapType) → as_kind x ≡ Ok kind → x ≡ word.Kind kind
 kind_in (word.Kind k) kind h = let same : k ≡ kind = cc in ap word.Kind same
 kind_in x kind h = absurd (cc)
 

@@ -9,12 +9,12 @@ use Rattle.isa_model.specs.declared.sizes.Width.{Width}
 use Rattle.isa_model.specs.declared.sizes.Width.TheVariants.{Low32, Full64}
 use Rattle.isa_model.specs.declared.sizes.Size.{Size}
 use Rattle.isa_model.specs.declared.sizes.Size.TheVariants.{U8, U16, U32, U64}
-use Rattle.isa_model.specs.declared.sizes.Narrow.{Narrow}
-use Rattle.isa_model.specs.declared.sizes.Narrow.TheVariants.{S8, S16, S32}
+use Rattle.isa_model.specs.declared.sizes.SignedSize.{SignedSize}
+use Rattle.isa_model.specs.declared.sizes.SignedSize.TheVariants.{S8, S16, S32}
 use Rattle.isa_model.specs.declared.sizes.Extension.{Extension}
 use Rattle.isa_model.specs.declared.sizes.Extension.TheVariants.{Low8, Low16, Full8, Full16, Full32}
-use Rattle.isa_model.specs.declared.sizes.Span.{Span}
-use Rattle.isa_model.specs.declared.sizes.Span.TheVariants.{B16, B32, B64}
+use Rattle.isa_model.specs.declared.sizes.SwapWidth.{SwapWidth}
+use Rattle.isa_model.specs.declared.sizes.SwapWidth.TheVariants.{B16, B32, B64}
 use Rattle.isa_model.specs.declared.sizes.ByteOrder.{ByteOrder}
 use Rattle.isa_model.specs.declared.sizes.ByteOrder.TheVariants.{Little, Big, Swap}
 use Rattle.isa_model.specs.declared.instructions.AluOp.{AluOp}
@@ -26,8 +26,8 @@ use Rattle.isa_model.specs.declared.instructions.Comparison.TheVariants as compa
 use Rattle.isa_model.specs.declared.instructions.Operand.{Operand}
 use Rattle.isa_model.specs.declared.instructions.Operand.TheVariants.{Constant, Register}
 use Rattle.isa_model.specs.declared.instructions.Place.{Place}
-use Rattle.isa_model.specs.declared.map_defs.MapKind.{MapKind}
-use Rattle.isa_model.specs.declared.map_defs.MapKind.TheVariants.{Hash, Array}
+use Rattle.isa_model.specs.declared.map_defs.MapType.{MapType}
+use Rattle.isa_model.specs.declared.map_defs.MapType.TheVariants.{Hash, Array}
 use Rattle.isa_model.specs.Code.Spelling.{OperandFits}
 use Rattle.isa_model.specs.Text.CanonicalText.{reg_text, size_text, narrow_text, extension_text, span_text, order_text, width_text, op_text, comparison_text, atomic_text, fetch_text, operand_text, offset_text, distance_text, kind_text}
 use Rattle.lexer.specs.declared.tokens.Word.TheVariants as word
@@ -39,7 +39,7 @@ use Rattle.lexer.specs.Lexing.{is_word_byte, lexeme_at}
 use Rattle.assembler.specs.Spells.{assigns, changes, compares, extends}
 use Rattle.assembler.proofs.PlainTexts.{Parts, StatementSoFar, assembled}
 use Rattle.assembler.proofs.Turns.{token}
-use Rattle.assembler.proofs.DigitRuns.{decimal-read, no-equals}
+use Rattle.assembler.proofs.Digits.{decimal-read, no-equals}
 
 -- the tokens of the statement so far, and what comes before it
 abbrev pub draft : List Token → Parts → StatementSoFar
@@ -86,7 +86,7 @@ size-read U16 rest ts ps = refl
 size-read U32 rest ts ps = refl
 size-read U64 rest ts ps = refl
 
-pub narrow-read : (size : Narrow) (rest : List ℕ) (ts : List Token) (ps : Parts) → assembled (narrow_text size ++ 32 ∷ rest) 0 (draft ts ps) ≡ assembled (32 ∷ rest) 0 (draft (ts ++ Named (word.SignExtended size) ∷ []) ps)
+pub narrow-read : (size : SignedSize) (rest : List ℕ) (ts : List Token) (ps : Parts) → assembled (narrow_text size ++ 32 ∷ rest) 0 (draft ts ps) ≡ assembled (32 ∷ rest) 0 (draft (ts ++ Named (word.SignExtended size) ∷ []) ps)
 narrow-read S8 rest ts ps = refl
 narrow-read S16 rest ts ps = refl
 narrow-read S32 rest ts ps = refl
@@ -98,7 +98,7 @@ extension-read Full8 rest ts ps = refl
 extension-read Full16 rest ts ps = refl
 extension-read Full32 rest ts ps = refl
 
-pub swap-read : (order : ByteOrder) (span : Span) (rest : List ℕ) (ts : List Token) (ps : Parts) → assembled (order_text order ++ (span_text span ++ 32 ∷ rest)) 0 (draft ts ps) ≡ assembled (32 ∷ rest) 0 (draft (ts ++ Named (word.Swapped order span) ∷ []) ps)
+pub swap-read : (order : ByteOrder) (span : SwapWidth) (rest : List ℕ) (ts : List Token) (ps : Parts) → assembled (order_text order ++ (span_text span ++ 32 ∷ rest)) 0 (draft ts ps) ≡ assembled (32 ∷ rest) 0 (draft (ts ++ Named (word.Swapped order span) ∷ []) ps)
 swap-read Little B16 rest ts ps = refl
 swap-read Little B32 rest ts ps = refl
 swap-read Little B64 rest ts ps = refl
@@ -119,7 +119,7 @@ fetch-read atomic.And Full64 rest ts ps = refl
 fetch-read atomic.Xor Low32 rest ts ps = refl
 fetch-read atomic.Xor Full64 rest ts ps = refl
 
-pub kind-read : (kind : MapKind) (rest : List ℕ) (ts : List Token) (ps : Parts) → assembled (kind_text kind ++ 32 ∷ rest) 0 (draft ts ps) ≡ assembled (32 ∷ rest) 0 (draft (ts ++ Named (word.Kind kind) ∷ []) ps)
+pub kind-read : (kind : MapType) (rest : List ℕ) (ts : List Token) (ps : Parts) → assembled (kind_text kind ++ 32 ∷ rest) 0 (draft ts ps) ≡ assembled (32 ∷ rest) 0 (draft (ts ++ Named (word.Kind kind) ∷ []) ps)
 kind-read Hash rest ts ps = refl
 kind-read Array rest ts ps = refl
 

@@ -5,8 +5,8 @@ use Rattle.isa_model.specs.declared.sizes.Width.{Width}
 use Rattle.isa_model.specs.declared.sizes.Width.TheVariants.{Low32, Full64}
 use Rattle.isa_model.specs.declared.sizes.Size.{Size}
 use Rattle.isa_model.specs.declared.sizes.Size.TheVariants.{U32, U64}
-use Rattle.isa_model.specs.declared.sizes.Narrow.{Narrow}
-use Rattle.isa_model.specs.declared.sizes.Narrow.TheVariants.{S8, S16, S32}
+use Rattle.isa_model.specs.declared.sizes.SignedSize.{SignedSize}
+use Rattle.isa_model.specs.declared.sizes.SignedSize.TheVariants.{S8, S16, S32}
 use Rattle.isa_model.specs.declared.sizes.Extension.{Extension}
 use Rattle.isa_model.specs.declared.sizes.Extension.TheVariants.{Low8, Low16, Full8, Full16, Full32}
 use Rattle.isa_model.specs.declared.instructions.AluOp.{AluOp}
@@ -18,7 +18,7 @@ use Rattle.isa_model.specs.declared.instructions.Comparison.TheVariants as compa
 use Rattle.isa_model.specs.declared.instructions.Operand.{Operand}
 use Rattle.isa_model.specs.declared.instructions.Operand.TheVariants.{Constant, Register}
 use Rattle.isa_model.specs.declared.instructions.Place.{Place}
-use Rattle.isa_model.specs.declared.map_defs.MapKind.{MapKind}
+use Rattle.isa_model.specs.declared.map_defs.MapType.{MapType}
 use Rattle.isa_model.specs.Code.Registers.{reg_number}
 use Rattle.isa_model.specs.Code.Sizes.{width_bits}
 use Rattle.lexer.specs.declared.tokens.Word.{Word}
@@ -131,7 +131,7 @@ width_of U32 = Ok Low32
 width_of U64 = Ok Full64
 width_of size = Err Form
 
-abbrev pub extension_of : Width → Narrow → Result Extension Wrong
+abbrev pub extension_of : Width → SignedSize → Result Extension Wrong
 extension_of Low32 S8 = Ok Low8
 extension_of Low32 S16 = Ok Low16
 extension_of Low32 S32 = Err Form
@@ -214,7 +214,7 @@ abbrev pub as_size : Word → Result Size Wrong
 as_size (word.Unsigned size) = Ok size
 as_size x = Err Form
 
-abbrev pub as_narrow : Word → Result Narrow Wrong
+abbrev pub as_narrow : Word → Result SignedSize Wrong
 as_narrow (word.SignExtended size) = Ok size
 as_narrow x = Err Form
 
@@ -241,7 +241,7 @@ target_at half ts i = token_at ts i >>= target_token half ts i
 abbrev pub field_at : ℕ → List Token → ℕ → Result ℕ Wrong
 field_at most ts i = number_at ts i >>= λ n. Ok (if nat_le n most then n else most)
 
-abbrev pub as_kind : Word → Result MapKind Wrong
+abbrev pub as_kind : Word → Result MapType Wrong
 as_kind (word.Kind kind) = Ok kind
 as_kind x = Err Form
 

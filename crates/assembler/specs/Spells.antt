@@ -4,8 +4,8 @@ use Rattle.isa_model.specs.declared.registers.Reg.{Reg}
 use Rattle.isa_model.specs.declared.registers.Reg.TheVariants.{R0}
 use Rattle.isa_model.specs.declared.sizes.Width.{Width}
 use Rattle.isa_model.specs.declared.sizes.Width.TheVariants.{Low32, Full64}
-use Rattle.isa_model.specs.declared.sizes.Narrow.{Narrow}
-use Rattle.isa_model.specs.declared.sizes.Narrow.TheVariants.{S8, S16, S32}
+use Rattle.isa_model.specs.declared.sizes.SignedSize.{SignedSize}
+use Rattle.isa_model.specs.declared.sizes.SignedSize.TheVariants.{S8, S16, S32}
 use Rattle.isa_model.specs.declared.sizes.Extension.{Extension}
 use Rattle.isa_model.specs.declared.sizes.Extension.TheVariants.{Low8, Low16, Full8, Full16, Full32}
 use Rattle.isa_model.specs.declared.instructions.AluOp.{AluOp}
@@ -68,7 +68,7 @@ compares comparison.SignedLess = sign.SignedLess
 compares comparison.SignedLessEqual = sign.SignedLessEqual
 
 -- W1 = (s8)W2, also s16; R1 = (s8)R2, also s16 and s32
-abbrev pub extends : Extension → Width × Narrow
+abbrev pub extends : Extension → Width × SignedSize
 extends Low8 = (Low32, S8)
 extends Low16 = (Low32, S16)
 extends Full8 = (Full64, S8)

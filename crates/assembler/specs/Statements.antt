@@ -5,7 +5,7 @@ use Rattle.isa_model.specs.declared.registers.Reg.TheVariants.{R0}
 use Rattle.isa_model.specs.declared.sizes.Width.{Width}
 use Rattle.isa_model.specs.declared.sizes.Width.TheVariants.{Low32, Full64}
 use Rattle.isa_model.specs.declared.sizes.Size.{Size}
-use Rattle.isa_model.specs.declared.sizes.Span.{Span}
+use Rattle.isa_model.specs.declared.sizes.SwapWidth.{SwapWidth}
 use Rattle.isa_model.specs.declared.sizes.ByteOrder.{ByteOrder}
 use Rattle.isa_model.specs.declared.instructions.AluOp.{AluOp}
 use Rattle.isa_model.specs.declared.instructions.AluOp.TheVariants as op
@@ -71,7 +71,7 @@ load_of d p x = Err Form
 abbrev pub loaded : Width → Reg → List Token → Result Reading Wrong
 loaded w d ts = if is_full w then (memory_at ts 2 >>= λ (m : Word × Place). load_of d m.1 m.0 >>= λ i. plain i ts 12) else Err Form
 
-abbrev pub swapped : ByteOrder → Span → Reg → List Token → Result Reading Wrong
+abbrev pub swapped : ByteOrder → SwapWidth → Reg → List Token → Result Reading Wrong
 swapped order span d ts = again_at Full64 d ts 3 >>= λ u. plain (insn.ByteSwap order span d) ts 4
 
 -- (P, R) after a word, the register being the destination

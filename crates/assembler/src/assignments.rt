@@ -13,7 +13,7 @@ use super::parts::{
 };
 use super::readings::Reading;
 use super::wrong::Wrong;
-use isa_model::{AluOp, AtomicOp, ByteOrder, Insn, Place, Reg, Span, Width};
+use isa_model::{AluOp, AtomicOp, ByteOrder, Insn, Place, Reg, SwapWidth, Width};
 use lexer::{Sign, Token, Word};
 
 /// The instruction of a statement without a name that ends before the index.
@@ -126,7 +126,12 @@ fn loaded(width: Width, register: Reg, tokens: &[Token]) -> Result<Reading, Wron
     }
 }
 
-fn swapped(order: ByteOrder, span: Span, register: Reg, tokens: &[Token]) -> Result<Reading, Wrong>
+fn swapped(
+    order: ByteOrder,
+    span: SwapWidth,
+    register: Reg,
+    tokens: &[Token],
+) -> Result<Reading, Wrong>
     ensures { result ≡ swapped order span register tokens.now }
 {
     again_at(Width::Full64, register, tokens, 3)?;

@@ -10,21 +10,21 @@ use std::alloc::Global;
 
 /// The instructions so far, and how many slots they fill.
 #[derive(Drop)]
-pub struct Code {
+pub struct AssembledCode {
     pub insns: Vec<Insn>,
     count: u16,
     ghost counted: { count ≡ length (slots insns.items) },
     ghost few: { count ≤ max_slots },
 }
 
-impl Code {
+impl AssembledCode {
     ghost use Rattle.assembler.specs.Assembling.{with_insn};
     ghost use Rattle.assembler.specs.Labels.{Makes};
 
     pub fn new(alloc: Global) -> Self
         ensures { result.insns.items ≡ [] }
     {
-        Code {
+        AssembledCode {
             insns: Vec::new(alloc),
             count: 0,
         }
@@ -58,7 +58,7 @@ impl Code {
     pub fn into_insns(self) -> Vec<Insn>
         ensures { result.items ≡ self.insns.items }
     {
-        let Code { insns, count: _ } = self;
+        let AssembledCode { insns, count: _ } = self;
         insns
     }
 }

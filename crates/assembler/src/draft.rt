@@ -9,7 +9,7 @@ ghost use Rattle.assembler.specs.Assembling.{start, accept, closed, ended, added
 ghost use Rattle.assembler.specs.Drafts.{place_of, progress_of};
 ghost use Rattle.assembler.specs.Naming.{use_of};
 
-use super::code::Code;
+use super::code::AssembledCode;
 use super::errors::AsmErrorKind;
 use super::map_tests::objection;
 use super::names::{Labels, Use, define};
@@ -38,7 +38,7 @@ pub struct Draft<'a> {
     pub spans: Vec<Span<'a>>,
     pub version: Version,
     pub maps: Vec<MapDef>,
-    pub code: Code,
+    pub code: AssembledCode,
     pub labels: Labels<'a>,
     pub uses: Vec<Use<'a>>,
 }
@@ -62,7 +62,7 @@ impl<'a> Draft<'a> {
             spans: Vec::new(alloc),
             version: Version::One,
             maps: Vec::new(alloc),
-            code: Code::new(alloc),
+            code: AssembledCode::new(alloc),
             labels: IndexMap::new(alloc),
             uses: Vec::new(alloc),
         }

@@ -10,7 +10,7 @@ use super::errors::AsmErrorKind;
 use super::readings::Statement;
 use super::wrong::Objection;
 use image::row_fits;
-use isa_model::{Insn, MAX_MAP_ROOM, MAX_MAPS, MapDef, MapKind};
+use isa_model::{Insn, MAX_MAP_ROOM, MAX_MAPS, MapDef, MapType};
 
 // The bytes of a map's keys and values.
 fn room_of(row: &MapDef) -> u128
@@ -57,12 +57,12 @@ fn objection_to_index(maps: &[MapDef], map: u32) -> Option<Objection>
     }
 }
 
-fn is_array(kind: MapKind) -> bool
+fn is_array(kind: MapType) -> bool
     ensures { result ≡ is_array kind }
 {
     match kind {
-        MapKind::Array => true,
-        MapKind::Hash => false,
+        MapType::Array => true,
+        MapType::Hash => false,
     }
 }
 

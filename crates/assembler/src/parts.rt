@@ -6,7 +6,7 @@ ghost use Rattle.assembler.specs.Statements.{is_full};
 ghost use Rattle.assembler.specs.Labelled.{zeroed};
 
 use super::wrong::Wrong;
-use isa_model::{AluOp, AtomicOp, Comparison, Extension, MapKind, Narrow, Size, Width};
+use isa_model::{AluOp, AtomicOp, Comparison, Extension, MapType, SignedSize, Size, Width};
 use lexer::{Sign, Token, Word};
 
 /// The token at the index, if there is one.
@@ -163,16 +163,16 @@ pub fn width_of(size: Size) -> Result<Width, Wrong>
 }
 
 /// The extension from a size to a width.
-pub fn extension_of(width: Width, size: Narrow) -> Result<Extension, Wrong>
+pub fn extension_of(width: Width, size: SignedSize) -> Result<Extension, Wrong>
     ensures { result ≡ extension_of width size }
 {
     match (width, size) {
-        (Width::Low32, Narrow::S8) => Ok(Extension::Low8),
-        (Width::Low32, Narrow::S16) => Ok(Extension::Low16),
-        (Width::Low32, Narrow::S32) => Err(Wrong::Form),
-        (Width::Full64, Narrow::S8) => Ok(Extension::Full8),
-        (Width::Full64, Narrow::S16) => Ok(Extension::Full16),
-        (Width::Full64, Narrow::S32) => Ok(Extension::Full32),
+        (Width::Low32, SignedSize::S8) => Ok(Extension::Low8),
+        (Width::Low32, SignedSize::S16) => Ok(Extension::Low16),
+        (Width::Low32, SignedSize::S32) => Err(Wrong::Form),
+        (Width::Full64, SignedSize::S8) => Ok(Extension::Full8),
+        (Width::Full64, SignedSize::S16) => Ok(Extension::Full16),
+        (Width::Full64, SignedSize::S32) => Ok(Extension::Full32),
     }
 }
 
@@ -185,7 +185,7 @@ pub fn as_size(word: Word) -> Result<Size, Wrong>
     }
 }
 
-pub fn as_narrow(word: Word) -> Result<Narrow, Wrong>
+pub fn as_narrow(word: Word) -> Result<SignedSize, Wrong>
     ensures { result ≡ as_narrow word }
 {
     match word {
@@ -195,7 +195,7 @@ pub fn as_narrow(word: Word) -> Result<Narrow, Wrong>
 }
 
 /// The type of a map line.
-pub fn as_kind(word: Word) -> Result<MapKind, Wrong>
+pub fn as_kind(word: Word) -> Result<MapType, Wrong>
     ensures { result ≡ as_kind word }
 {
     match word {

@@ -7,22 +7,22 @@ use Rattle.stack_state.specs.declared.states.State.{State}
 use Rattle.stack_state.specs.Effects.{map_kinds}
 use Rattle.stack_state.specs.Facts.{learned}
 use Rattle.branch_refine.specs.Numbers.{with_compared}
-use Rattle.branch_refine.specs.declared.outcomes.Outcome.{Outcome}
-use Rattle.branch_refine.specs.declared.outcomes.Outcome.TheVariants.{Never, Same, Narrowed, Learned}
+use Rattle.branch_refine.specs.declared.outcomes.BranchOutcome.{BranchOutcome}
+use Rattle.branch_refine.specs.declared.outcomes.BranchOutcome.TheVariants.{Never, Same, Narrowed, Learned}
 
 -- some member may go this way
-abbrev pub goes : Outcome → Bool
+abbrev pub goes : BranchOutcome → Bool
 goes Never = false
 goes o = true
 
 -- what goes this way; where nothing does, the state as it is
-abbrev pub left_in : Cond → State → Outcome → State
+abbrev pub left_in : Cond → State → BranchOutcome → State
 left_in cond a Never = a
 left_in cond a Same = a
 left_in cond a (Narrowed left right) = with_compared a cond left right
 left_in cond a (Learned fact) = map_kinds (learned fact) a
 
 -- numbers are put into registers that can be written
-abbrev pub MayBePut : Cond → Outcome → Type 0
+abbrev pub MayBePut : Cond → BranchOutcome → Type 0
 MayBePut cond (Narrowed left right) = (cond.register ≢ R10) × (cond.operand ≢ Register R10)
 MayBePut cond o = Unit {0}

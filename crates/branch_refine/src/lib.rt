@@ -18,7 +18,7 @@ mod outcomes;
 
 pub use crate::comparing::{Compared, compared_by};
 use crate::operands::{number_of, operand_numbers};
-pub use crate::outcomes::Outcome;
+pub use crate::outcomes::BranchOutcome;
 use isa_model::Cond;
 use reg_state::{Domain, Scalar};
 use stack_state::{Fact, State};
@@ -45,7 +45,7 @@ pub fn refine(cond: Cond, taken: bool, state: &State) -> Branch
 }
 
 /// What the test shows of a state where it comes out this way.
-pub fn outcome_of(cond: Cond, taken: bool, state: &State) -> Outcome
+pub fn outcome_of(cond: Cond, taken: bool, state: &State) -> BranchOutcome
     ensures refines { Refines cond taken state.now (goes result) (left_in cond state.now result) }
     ensures put { MayBePut cond result }
 {
@@ -56,7 +56,7 @@ pub fn outcome_of(cond: Cond, taken: bool, state: &State) -> Outcome
 }
 
 // What the test shows where pointers are compared.
-fn pointers_outcome(compared: Compared, taken: bool) -> Outcome
+fn pointers_outcome(compared: Compared, taken: bool) -> BranchOutcome
     ensures leaves { (a : TheState) → (cond : TheCond)
         → LearnsOf compared taken a (goes result) (left_in cond a result) }
     ensures put { (cond : TheCond) → MayBePut cond result }
@@ -68,13 +68,13 @@ fn pointers_outcome(compared: Compared, taken: bool) -> Outcome
             bytes,
         } => {
             if is_same(taken, shows) {
-                Outcome::Learned(Fact::Proved { identity, bytes })
+                BranchOutcome::Learned(Fact::Proved { identity, bytes })
             } else {
-                Outcome::Same
+                BranchOutcome::Same
             }
         }
         Compared::OrNull { identity, null } => {
-            Outcome::Learned(Fact::Tested {
+            BranchOutcome::Learned(Fact::Tested {
                 identity,
                 null: is_same(taken, null),
                 zero: Scalar::constant(0),
@@ -82,12 +82,12 @@ fn pointers_outcome(compared: Compared, taken: bool) -> Outcome
         }
         Compared::Live { null } => {
             if is_same(taken, null) {
-                Outcome::Never
+                BranchOutcome::Never
             } else {
-                Outcome::Same
+                BranchOutcome::Same
             }
         }
-        _ => Outcome::Same,
+        _ => BranchOutcome::Same,
     }
 }
 
@@ -98,7 +98,7 @@ fn is_same(taken: bool, outcome: bool) -> bool
 }
 
 // What the test shows where two numbers are compared; of others it shows nothing.
-fn numbers_outcome(cond: Cond, taken: bool, state: &State) -> Outcome
+fn numbers_outcome(cond: Cond, taken: bool, state: &State) -> BranchOutcome
     ensures kept { KeepsMembers cond taken state.now (goes result) (left_in cond state.now result) }
     ensures narrowed { Narrows state.now (left_in cond state.now result) }
     ensures others { KeepsOtherRegisters cond state.now (left_in cond state.now result) }
@@ -114,15 +114,15 @@ fn numbers_outcome(cond: Cond, taken: bool, state: &State) -> Outcome
     ensures put { MayBePut cond result }
 {
     let Some(left) = number_of(state, cond.register) else {
-        return Outcome::Same;
+        return BranchOutcome::Same;
     };
     let Some(right) = operand_numbers(state, cond.width, cond.operand) else {
-        return Outcome::Same;
+        return BranchOutcome::Same;
     };
     let Some((new_left, new_right)) = narrowed(cond, taken, left, right) else {
-        return Outcome::Never;
+        return BranchOutcome::Never;
     };
-    Outcome::Narrowed(new_left, new_right)
+    BranchOutcome::Narrowed(new_left, new_right)
 }
 
 // What the comparison leaves of two numbers.

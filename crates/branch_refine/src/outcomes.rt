@@ -11,7 +11,7 @@ use stack_state::{Fact, State};
 /// What a conditional jump shows of a state on one of its two edges: where its test is true, or
 /// where it is false.
 #[derive(Clone, Copy, PartialEq, Eq, Debug)]
-pub enum Outcome {
+pub enum BranchOutcome {
     /// No member takes this edge.
     Never,
     /// The test shows nothing.
@@ -22,12 +22,12 @@ pub enum Outcome {
     Learned(Fact),
 }
 
-impl Outcome {
+impl BranchOutcome {
     /// Whether some member may take this edge.
     pub fn goes(&self) -> bool
         ensures { result ≡ goes self.now }
     {
-        !matches!(self, Outcome::Never)
+        !matches!(self, BranchOutcome::Never)
     }
 
     /// Narrows a state to the members that take this edge; if none does, it stays as it is.
@@ -36,12 +36,12 @@ impl Outcome {
         ensures { state.new ≡ left_in cond state.old self.now }
     {
         match *self {
-            Outcome::Never | Outcome::Same => {}
-            Outcome::Narrowed(left, right) => {
+            BranchOutcome::Never | BranchOutcome::Same => {}
+            BranchOutcome::Narrowed(left, right) => {
                 state.set_register(cond.register, Kind::Number(left));
                 set_operand(state, cond.operand, right);
             }
-            Outcome::Learned(fact) => state.learn(fact),
+            BranchOutcome::Learned(fact) => state.learn(fact),
         }
     }
 }

@@ -149,7 +149,7 @@ fn same_region(a: Region, b: Region) -> bool
         (Region::Packet, Region::Packet) => true,
         (Region::PacketEnd, Region::PacketEnd) => true,
         (Region::Map(m), Region::Map(n)) => m == n,
-        (Region::Frame(m), Region::Frame(n)) => m == n,
+        (Region::CallFrame(m), Region::CallFrame(n)) => m == n,
         (Region::MapValue(m, i), Region::MapValue(n, j)) => m == n && i == j,
         _ => false,
     }

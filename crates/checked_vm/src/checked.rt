@@ -10,7 +10,7 @@ ghost use Rattle.checked_vm.specs.Stops.{stop_of};
 
 use crate::VmError;
 use crate::core_state::Core;
-use crate::stops::Stop;
+use crate::stops::RunEnd;
 use image::Image;
 use isa_model::{Clock, End, FrameHead, Version};
 use live_maps::LiveMaps;
@@ -113,7 +113,7 @@ impl Checked {
         packet: &mut [u8],
         clock: &mut C,
         limit: u32,
-    ) -> Stop
+    ) -> RunEnd
         requires short { length packet.old ≤ max_packet }
         requires some { 1 ≤ limit }
         requires most { limit ≤ max_steps }
@@ -136,7 +136,7 @@ impl Checked {
             .core
             .run(self.image.code(), version, head, packet, clock, limit);
         let slot = self.core.slot;
-        Stop {
+        RunEnd {
             end,
             slot,
             insn: self.image.at(slot).copied(),

@@ -86,7 +86,7 @@ impl Core {
             Value::Unset,
             Value::Unset,
             Value::Unset,
-            Value::Ptr(Region::Frame(serial), 0),
+            Value::Ptr(Region::CallFrame(serial), 0),
         ];
         self.frames.clear();
         self.frames

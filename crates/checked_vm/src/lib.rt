@@ -23,4 +23,4 @@ mod values;
 
 pub use checked::Checked;
 pub use maps::MapError as VmError;
-pub use stops::Stop;
+pub use stops::RunEnd;

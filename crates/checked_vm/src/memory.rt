@@ -14,7 +14,7 @@ use crate::core_state::Core;
 use crate::places::{index_at, place_within};
 use crate::reads::number_from;
 use isa_model::numbers::sign_extend;
-use isa_model::{Cell, Extension, Narrow, Place, Region, Size, TrapReason, Value};
+use isa_model::{Cell, Extension, Place, Region, SignedSize, Size, TrapReason, Value};
 
 /// Writes bytes at a place of the packet.
 fn write_packet(packet: &mut [u8], at: Option<usize>, new: &[u8]) -> Result<(), TrapReason>
@@ -38,23 +38,23 @@ fn write_packet(packet: &mut [u8], at: Option<usize>, new: &[u8]) -> Result<(), 
 
 // ---- loads
 
-fn narrow_size(size: Narrow) -> Size
+fn narrow_size(size: SignedSize) -> Size
     ensures { result ≡ narrow_size size }
 {
     match size {
-        Narrow::S8 => Size::U8,
-        Narrow::S16 => Size::U16,
-        Narrow::S32 => Size::U32,
+        SignedSize::S8 => Size::U8,
+        SignedSize::S16 => Size::U16,
+        SignedSize::S32 => Size::U32,
     }
 }
 
-fn narrow_extension(size: Narrow) -> Extension
+fn narrow_extension(size: SignedSize) -> Extension
     ensures { result ≡ narrow_extension size }
 {
     match size {
-        Narrow::S8 => Extension::Full8,
-        Narrow::S16 => Extension::Full16,
-        Narrow::S32 => Extension::Full32,
+        SignedSize::S8 => Extension::Full8,
+        SignedSize::S16 => Extension::Full16,
+        SignedSize::S32 => Extension::Full32,
     }
 }
 
@@ -92,7 +92,7 @@ impl Core {
         ensures { result ≡ number_at (state_of self.now packet.now) region at n }
     {
         match region {
-            Region::Frame(serial) => cells::number_in(self.read_frame(serial, at, n)?),
+            Region::CallFrame(serial) => cells::number_in(self.read_frame(serial, at, n)?),
             Region::Packet => Ok(number_from(self.read_packet(packet, at, n)?)),
             Region::MapValue(index, serial) => {
                 Ok(number_from(self.read_value(index, serial, at, n)?))
@@ -111,7 +111,7 @@ impl Core {
         ensures { result ≡ memory_load (state_of self.now packet.now) Size.U64 region at }
     {
         match region {
-            Region::Frame(serial) => cells::value_in(self.read_frame(serial, at, 8)?),
+            Region::CallFrame(serial) => cells::value_in(self.read_frame(serial, at, 8)?),
             Region::Packet => Ok(Value::Num(number_from(self.read_packet(packet, at, 8)?))),
             Region::MapValue(index, serial) => {
                 Ok(Value::Num(number_from(self.read_value(index, serial, at, 8)?)))
@@ -183,7 +183,7 @@ impl Core {
     pub fn load_signed(
         &self,
         packet: &[u8],
-        size: Narrow,
+        size: SignedSize,
         base: Value,
         place: Place,
     ) -> Result<Value, TrapReason>
@@ -207,10 +207,10 @@ impl Core {
         ensures slot { self.new.slot ≡ self.old.slot }
         ensures wrote { MatchResult result
             (λ _. (packet : List ℕ)
-            → write (state_of self.old packet) (Region.Frame serial) at new.now
+            → write (state_of self.old packet) (Region.CallFrame serial) at new.now
             ≡ Ok (state_of self.new packet))
             (λ e. ((packet : List ℕ)
-            → write (state_of self.old packet) (Region.Frame serial) at new.now ≡ Err e)
+            → write (state_of self.old packet) (Region.CallFrame serial) at new.now ≡ Err e)
             × (self.new ≡ self.old)) }
     {
         let (frame, i) = self.place_in_frame(serial, at, new.len())?;
@@ -267,7 +267,7 @@ impl Core {
         };
         let at = index_at(region, offset, place);
         match region {
-            Region::Frame(serial) => self.write_frame(
+            Region::CallFrame(serial) => self.write_frame(
                 serial,
                 at,
                 &cells::byte_cells(n)[..size.bytes()],
@@ -300,9 +300,9 @@ impl Core {
             ≡ Err e) × (self.new ≡ self.old)) }
     {
         match (size, base) {
-            (Size::U64, Value::Ptr(Region::Frame(serial), at)) => self.write_frame(
+            (Size::U64, Value::Ptr(Region::CallFrame(serial), at)) => self.write_frame(
                 serial,
-                index_at(Region::Frame(serial), at, place),
+                index_at(Region::CallFrame(serial), at, place),
                 &cells::pieces(region, offset),
             ),
             _ => Err(TrapReason::BadAccess),

@@ -14,7 +14,7 @@ fn index_of(region: Region, offset: i128) -> Option<usize>
     ensures { result ≡ index_at region offset }
 {
     match region {
-        Region::Frame(_) => index_from(offset + FRAME_SIZE as i128),
+        Region::CallFrame(_) => index_from(offset + FRAME_SIZE as i128),
         _ => index_from(offset),
     }
 }

@@ -65,9 +65,9 @@ impl Core {
             × (p.0 < vec_len self.now.frames)
             × (p.1 + n ≤ length (frame_at self.now.frames.items p.0).cells)
             × ((packet : List ℕ)
-            → place_of (state_of self.now packet) (Region.Frame serial) at n ≡ Ok p.1))
+            → place_of (state_of self.now packet) (Region.CallFrame serial) at n ≡ Ok p.1))
             (λ e. (packet : List ℕ)
-            → place_of (state_of self.now packet) (Region.Frame serial) at n ≡ Err e) }
+            → place_of (state_of self.now packet) (Region.CallFrame serial) at n ≡ Err e) }
     {
         match self.frame_index(serial) {
             Some(frame) => {
@@ -89,9 +89,9 @@ impl Core {
         requires { n ≤ max_value_size }
         ensures read { MatchResult result
             (λ cs. (packet : List ℕ)
-            → read (state_of self.now packet) (Region.Frame serial) at n ≡ Ok cs.now)
+            → read (state_of self.now packet) (Region.CallFrame serial) at n ≡ Ok cs.now)
             (λ e. (packet : List ℕ)
-            → read (state_of self.now packet) (Region.Frame serial) at n ≡ Err e) }
+            → read (state_of self.now packet) (Region.CallFrame serial) at n ≡ Err e) }
         ensures len { IfOk result (λ cs. length cs.now ≡ n) }
     {
         let (frame, i) = self.place_in_frame(serial, at, n)?;

@@ -5,7 +5,7 @@ use isa_model::{End, Insn, Value};
 /// Where a run stopped: at the instruction that trapped or was the last exit, or before the one
 /// that the limit kept from being done.
 #[derive(Clone, Copy)]
-pub struct Stop {
+pub struct RunEnd {
     pub end: End,
     pub slot: usize,
     /// The instruction that begins there.

@@ -7,7 +7,7 @@ ghost use Rattle.isa_model.specs.Machine.Memory.{and_then};
 
 use isa_model::numbers::{compute, low_word, negate, reorder, sign_extend};
 use isa_model::{
-    AluOp, ByteOrder, Extension, OFFSET_LIMIT, Region, Span, TrapReason, Value, Width,
+    AluOp, ByteOrder, Extension, OFFSET_LIMIT, Region, SwapWidth, TrapReason, Value, Width,
 };
 
 /// The pointer at a new offset.
@@ -15,7 +15,7 @@ fn moved_to(region: Region, offset: i128) -> Result<Value, TrapReason>
     ensures { result ≡ moved_to region offset }
 {
     match region {
-        Region::Packet | Region::Frame(_) | Region::MapValue(_, _) => {
+        Region::Packet | Region::CallFrame(_) | Region::MapValue(_, _) => {
             if -OFFSET_LIMIT <= offset && offset <= OFFSET_LIMIT {
                 Ok(Value::Ptr(region, offset as i64))
             } else {
@@ -143,7 +143,7 @@ pub fn sign_extended(extension: Extension, value: Value) -> Result<Value, TrapRe
 }
 
 /// END.
-pub fn reordered(order: ByteOrder, span: Span, value: Value) -> Result<Value, TrapReason>
+pub fn reordered(order: ByteOrder, span: SwapWidth, value: Value) -> Result<Value, TrapReason>
     ensures { result ≡ on_number (reordered order span) value }
 {
     Ok(Value::Num(reorder(order, span, number_alone(value)?)))

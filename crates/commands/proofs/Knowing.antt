@@ -11,8 +11,8 @@ use Rattle.host.specs.declared.errors.HostError.{HostError}
 use Rattle.host.specs.declared.stops.Stops.{Stops}
 use Rattle.host.specs.declared.traced.Traced.{Traced}
 use Rattle.host.specs.Stops.{noted_of}
-use Rattle.commands.specs.declared.outcomes.Outcome.{Outcome}
-use Rattle.commands.specs.declared.outcomes.Outcome.TheVariants.{Done, WrongWords, Refused, Faulted, CannotRead, CannotWrite, CannotReplace, NoMemory}
+use Rattle.commands.specs.declared.outcomes.TaskOutcome.{TaskOutcome}
+use Rattle.commands.specs.declared.outcomes.TaskOutcome.TheVariants.{Done, WrongWords, Refused, Faulted, CannotRead, CannotWrite, CannotReplace, NoMemory}
 use Rattle.commands.specs.declared.endings.Ending.{Ending}
 use Rattle.commands.specs.Known.{Tells, TellsTable, TellsText}
 use Rattle.commands.specs.Commands.{Serves, ShowsNone}
@@ -21,7 +21,7 @@ use Rattle.commands.specs.Statuses.{is_silent}
 use Rattle.commands.specs.Stopped.{TellsStopsOf, at_end, stop_lines}
 
 -- nothing, or what is known of some program, of some table of one, or of some text
-abbrev pub Knows : Outcome → Option (String Global) → Type 0
+abbrev pub Knows : TaskOutcome → Option (String Global) → Type 0
 Knows o why = (why ≡ None) ⊎ (((p : Program) × Tells p o why) ⊎ (((p : Program) × (bytes : List ℕ) × TellsTable p bytes o why) ⊎ ((source : List ℕ) × TellsText source o why)))
 
 -- what is known where no bound was shown
@@ -31,17 +31,17 @@ none_knows files old new r (inr (p, is, inl h)) = inl h.1
 none_knows files old new r (inr (p, is, inr (bytes, refused, known))) = inr (inr (inl (p, bytes, known)))
 
 -- a run came to its end
-abbrev pub IsAtEnd : Outcome → Type 0
+abbrev pub IsAtEnd : TaskOutcome → Type 0
 IsAtEnd Done = Unit {0}
 IsAtEnd (Faulted fault form) = Unit {0}
 IsAtEnd o = ⊥
 
 -- the packet frames of a trace that came to its end
-abbrev pub KnowsStops : Outcome → Option (String Global) → Type 0
+abbrev pub KnowsStops : TaskOutcome → Option (String Global) → Type 0
 KnowsStops o why = IsAtEnd o × ((stops : Stops) × IfSome why (λ text. string_bytes text ≡ stop_lines (noted_of stops)))
 
 -- what is known where this was asked for
-abbrev pub KnowsBy : TaskRequest → Outcome → Option (String Global) → Type 0
+abbrev pub KnowsBy : TaskRequest → TaskOutcome → Option (String Global) → Type 0
 KnowsBy (Trace files limit) o why = Knows o why ⊎ KnowsStops o why
 KnowsBy (Run files table) o why = Knows o why
 KnowsBy (Verify path) o why = Knows o why
@@ -50,7 +50,7 @@ KnowsBy (Recheck files) o why = Knows o why
 KnowsBy (Assemble text image) o why = Knows o why
 KnowsBy (Disassemble path) o why = Knows o why
 
-plain_knows : (request : TaskRequest) (o : Outcome) (why : Option (String Global)) → why ≡ None → KnowsBy request o why
+plain_knows : (request : TaskRequest) (o : TaskOutcome) (why : Option (String Global)) → why ≡ None → KnowsBy request o why
 plain_knows (Trace files limit) o why h = inl (inl h)
 plain_knows (Run files table) o why h = inl h
 plain_knows (Verify path) o why h = inl h
@@ -59,11 +59,11 @@ plain_knows (Recheck files) o why h = inl h
 plain_knows (Assemble text image) o why h = inl h
 plain_knows (Disassemble path) o why h = inl h
 
-lines_known : (ended : Result Traced HostError) (o : Outcome) (lines : Option (String Global)) → IsAtEnd o → TellsStopsOf ended lines → Knows o lines ⊎ KnowsStops o lines
+lines_known : (ended : Result Traced HostError) (o : TaskOutcome) (lines : Option (String Global)) → IsAtEnd o → TellsStopsOf ended lines → Knows o lines ⊎ KnowsStops o lines
 lines_known (Ok traced) o lines end tells = inr (end, (traced.stops, tells.1))
 lines_known (Err error) o lines end tells = inl (inl tells)
 
-stops_known : (ended : Result Traced HostError) (o : Outcome) (lines why : Option (String Global)) → TellsStopsOf ended lines → why ≡ at_end o lines → Knows o why ⊎ KnowsStops o why
+stops_known : (ended : Result Traced HostError) (o : TaskOutcome) (lines why : Option (String Global)) → TellsStopsOf ended lines → why ≡ at_end o lines → Knows o why ⊎ KnowsStops o why
 stops_known ended Done lines why tells is = subst (λ (w : Option (String Global)). Knows Done w ⊎ KnowsStops Done w) (sym is) (lines_known ended Done lines tt tells)
 stops_known ended (Faulted fault form) lines why tells is = subst (λ (w : Option (String Global)). Knows (Faulted fault form) w ⊎ KnowsStops (Faulted fault form) w) (sym is) (lines_known ended (Faulted fault form) lines tt tells)
 stops_known ended (WrongWords text) lines why tells is = inl (inl is)

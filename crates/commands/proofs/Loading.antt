@@ -13,8 +13,8 @@ use Rattle.walks.specs.Accepting.{BoundsAll}
 use Rattle.walks.specs.Counts.{HasNumber}
 use Rattle.commands.specs.declared.rejections.Rejection.TheVariants as rejection
 use Rattle.commands.specs.declared.forms.FileForm.{FileForm}
-use Rattle.commands.specs.declared.outcomes.Outcome.{Outcome}
-use Rattle.commands.specs.declared.outcomes.Outcome.TheVariants.{Done, WrongWords, Refused, Faulted, CannotRead, CannotWrite, CannotReplace, NoMemory}
+use Rattle.commands.specs.declared.outcomes.TaskOutcome.{TaskOutcome}
+use Rattle.commands.specs.declared.outcomes.TaskOutcome.TheVariants.{Done, WrongWords, Refused, Faulted, CannotRead, CannotWrite, CannotReplace, NoMemory}
 use Rattle.commands.specs.declared.endings.Ending.{Ending}
 use Rattle.commands.specs.Known.{IsKnownOfProgram, IsKnownOfTable, IsKnownOfText, Tells, Plainly}
 use Rattle.commands.specs.Statuses.{IsReadFailure, IsMakeFailure}
@@ -26,12 +26,12 @@ use Rattle.words.specs.Requests.{RunFiles, ProofFiles}
 use Rattle.commands.specs.Commands.{LoadsNone, ShowsNone, TracesFile, TracesSome, IsShown, VerifiesFile, RechecksFile, ProvesFile, ProvesSome, RunsFile, RunsOn, RunsShown, RunsSome, OpensNone, Assembles, AssemblesFile, StoresSome}
 
 -- the streams were not opened
-opens-none : (files : RunFiles) (old new : Option (List ℕ)) (r : Outcome) → new ≡ old → IsReadFailure files.frames r ⊎ IsMakeFailure files.out r → OpensNone files old new r
+opens-none : (files : RunFiles) (old new : Option (List ℕ)) (r : TaskOutcome) → new ≡ old → IsReadFailure files.frames r ⊎ IsMakeFailure files.out r → OpensNone files old new r
 opens-none files old new r e (inl h) = inl (h, e)
 opens-none files old new r e (inr h) = inr (h, e)
 
 -- beside how the task ended nothing is known
-pub tells-none : (p : Program) (o : Outcome) (why : Option (String Global)) → why ≡ None → Tells p o why
+pub tells-none : (p : Program) (o : TaskOutcome) (why : Option (String Global)) → why ≡ None → Tells p o why
 tells-none p Done why e = e
 tells-none p (WrongWords text) why e = e
 tells-none p (Refused (rejection.Image error form)) why e = e
@@ -46,13 +46,13 @@ tells-none p (CannotReplace path) why e = e
 tells-none p NoMemory why e = e
 
 -- the image was not loaded
-unloaded : (path : List ℕ) (old new : Option (List ℕ)) (o : Outcome) (r : Ending) → LoadsNone path old new o → r.outcome ≡ o → r.why ≡ None → Plainly (LoadsNone path old new) r
+unloaded : (path : List ℕ) (old new : Option (List ℕ)) (o : TaskOutcome) (r : Ending) → LoadsNone path old new o → r.outcome ≡ o → r.why ≡ None → Plainly (LoadsNone path old new) r
 unloaded path old new o r h same none = (subst (LoadsNone path old new) (sym same) h, none)
 
-pub verify_unloaded : (path : List ℕ) (old new : Option (List ℕ)) (o : Outcome) (r : Ending) → LoadsNone path old new o → r.outcome ≡ o → r.why ≡ None → VerifiesFile path old new r
+pub verify_unloaded : (path : List ℕ) (old new : Option (List ℕ)) (o : TaskOutcome) (r : Ending) → LoadsNone path old new o → r.outcome ≡ o → r.why ≡ None → VerifiesFile path old new r
 verify_unloaded path old new o r h same none = inl (unloaded path old new o r h same none)
 
-pub run_unloaded : (files : RunFiles) (old new : Option (List ℕ)) (o : Outcome) (r : Ending) → LoadsNone files.image old new o → r.outcome ≡ o → r.why ≡ None → RunsFile files old new r
+pub run_unloaded : (files : RunFiles) (old new : Option (List ℕ)) (o : TaskOutcome) (r : Ending) → LoadsNone files.image old new o → r.outcome ≡ o → r.why ≡ None → RunsFile files old new r
 run_unloaded files old new o r h same none = inl (unloaded files.image old new o r h same none)
 
 pub image_verified : (path : List ℕ) (old mid new : Option (List ℕ)) (p : Program) (r : Ending) → mid ≡ old → IsImage p → Verifies p mid new r.outcome → IsKnownOfProgram p r → VerifiesFile path old new r
@@ -61,10 +61,10 @@ image_verified path old mid new p r e h v known =
 
 -- ---- runs with checks
 
-pub trace_unloaded : (files : RunFiles) (limit : ℕ) (old new : Option (List ℕ)) (o : Outcome) (r : Ending) → LoadsNone files.image old new o → r.outcome ≡ o → r.why ≡ None → TracesFile files limit old new r
+pub trace_unloaded : (files : RunFiles) (limit : ℕ) (old new : Option (List ℕ)) (o : TaskOutcome) (r : Ending) → LoadsNone files.image old new o → r.outcome ≡ o → r.why ≡ None → TracesFile files limit old new r
 trace_unloaded files limit old new o r h same none = inl (unloaded files.image old new o r h same none)
 
-pub trace_unopened : (files : RunFiles) (limit : ℕ) (old new : Option (List ℕ)) (p : Program) (o : Outcome) (r : Ending) → new ≡ old → IsImage p → IsReadFailure files.frames o ⊎ IsMakeFailure files.out o
+pub trace_unopened : (files : RunFiles) (limit : ℕ) (old new : Option (List ℕ)) (p : Program) (o : TaskOutcome) (r : Ending) → new ≡ old → IsImage p → IsReadFailure files.frames o ⊎ IsMakeFailure files.out o
     → r.outcome ≡ o → r.why ≡ None → TracesFile files limit old new r
 trace_unopened files limit old new p o r e h failed same none = inr (p, h, inl ((rw same (opens-none files old new o e failed)), none))
 
@@ -92,7 +92,7 @@ image_refused files old mid new p r e h v known =
     inr (p, h, (inl (subst (λ (o : Option (List ℕ)). RefusesProgram p o new r.outcome) e v), known))
 
 -- standard output got the report of a run, and nothing before it
-runs-on : (files : RunFiles) (old mid now new before after source : Option (List ℕ)) (form : FileForm) (cause : Option ErrorKind) (v : Bounded) (o r : Outcome) → mid ≡ old → now ≡ mid
+runs-on : (files : RunFiles) (old mid now new before after source : Option (List ℕ)) (form : FileForm) (cause : Option ErrorKind) (v : Bounded) (o r : TaskOutcome) → mid ≡ old → now ≡ mid
     → RunsAccepted v source form files.out cause (record { report = now; frames = before }) (record { report = new; frames = after }) o → r ≡ o → RunsOn files v old new r
 runs-on files old mid now new before after source form cause v o r e f runs same =
     let some : RunsSome v files.out old new r = record {
@@ -105,15 +105,15 @@ runs-on files old mid now new before after source form cause v o r e f runs same
     } in
     inr some
 
-opens-on : (files : RunFiles) (old mid new : Option (List ℕ)) (v : Bounded) (o r : Outcome) → mid ≡ old → new ≡ mid → IsReadFailure files.frames o ⊎ IsMakeFailure files.out o → r ≡ o → RunsOn files v old new r
+opens-on : (files : RunFiles) (old mid new : Option (List ℕ)) (v : Bounded) (o r : TaskOutcome) → mid ≡ old → new ≡ mid → IsReadFailure files.frames o ⊎ IsMakeFailure files.out o → r ≡ o → RunsOn files v old new r
 opens-on files old mid new v o r e f failed same = inl (rw same (opens-none files old new o (f ∙ e) failed))
 
-pub image_run : (files : RunFiles) (old mid now new before after source : Option (List ℕ)) (form : FileForm) (cause : Option ErrorKind) (v : Bounded) (o : Outcome) (r : Ending) → mid ≡ old → now ≡ mid → IsBoundOf v.program v.bound
+pub image_run : (files : RunFiles) (old mid now new before after source : Option (List ℕ)) (form : FileForm) (cause : Option ErrorKind) (v : Bounded) (o : TaskOutcome) (r : Ending) → mid ≡ old → now ≡ mid → IsBoundOf v.program v.bound
     → RunsAccepted v source form files.out cause (record { report = now; frames = before }) (record { report = new; frames = after }) o → r.outcome ≡ o → r.why ≡ None → RunsFile files old new r
 image_run files old mid now new before after source form cause v o r e f h runs same none =
     inr (v.program, h.verified.image, (inr (v.bound, h, runs-on files old mid now new before after source form cause v o r.outcome e f runs same), tells-none v.program r.outcome r.why none))
 
-pub run_unopened : (files : RunFiles) (old mid new : Option (List ℕ)) (v : Bounded) (o : Outcome) (r : Ending) → mid ≡ old → new ≡ mid → IsBoundOf v.program v.bound
+pub run_unopened : (files : RunFiles) (old mid new : Option (List ℕ)) (v : Bounded) (o : TaskOutcome) (r : Ending) → mid ≡ old → new ≡ mid → IsBoundOf v.program v.bound
     → IsReadFailure files.frames o ⊎ IsMakeFailure files.out o → r.outcome ≡ o → r.why ≡ None → RunsFile files old new r
 run_unopened files old mid new v o r e f h failed same none =
     inr (v.program, h.verified.image, (inr (v.bound, h, opens-on files old mid new v o r.outcome e f failed same), tells-none v.program r.outcome r.why none))
@@ -124,10 +124,10 @@ run_unopened files old mid new v o r e f h failed same none =
 shown_of : (p : Program) (bytes : List ℕ) (v : Bounded) → v.program ≡ p → IsVerified v → ShowsBound p bytes v.bound → IsShown v
 shown_of p bytes v same h shows = (bytes, record { verified = h; shows = rw same shows })
 
-pub shows_unloaded : (files : ProofFiles) (old new : Option (List ℕ)) (o : Outcome) (r : Ending) → LoadsNone files.image old new o → r.outcome ≡ o → r.why ≡ None → ShowsNone files old new r
+pub shows_unloaded : (files : ProofFiles) (old new : Option (List ℕ)) (o : TaskOutcome) (r : Ending) → LoadsNone files.image old new o → r.outcome ≡ o → r.why ≡ None → ShowsNone files old new r
 shows_unloaded files old new o r h same none = inl (unloaded files.image old new o r h same none)
 
-pub shows_unread : (files : ProofFiles) (old new : Option (List ℕ)) (p : Program) (o : Outcome) (r : Ending) → new ≡ old → IsImage p → IsReadFailure files.table o → r.outcome ≡ o → r.why ≡ None → ShowsNone files old new r
+pub shows_unread : (files : ProofFiles) (old new : Option (List ℕ)) (p : Program) (o : TaskOutcome) (r : Ending) → new ≡ old → IsImage p → IsReadFailure files.table o → r.outcome ≡ o → r.why ≡ None → ShowsNone files old new r
 shows_unread files old new p o r e h failed same none = inr (p, h, inl ((rw same failed, e), none))
 
 shows_refused : (files : ProofFiles) (old mid new : Option (List ℕ)) (p : Program) (bytes : List ℕ) (r : Ending) → mid ≡ old → IsImage p → RefusesTable p bytes mid new r.outcome → IsKnownOfTable p bytes r → ShowsNone files old new r
@@ -144,35 +144,35 @@ pub refused_if : (files : ProofFiles) (old mid new : Option (List ℕ)) (p : Pro
 refused_if files old mid new p bytes (Ok v) e h refused known = tt
 refused_if files old mid new p bytes (Err ending) e h refused known = shows_refused files old mid new p bytes ending e h refused known
 
-pub bound_said : (files : ProofFiles) (old mid new : Option (List ℕ)) (v : Bounded) (o : Outcome) (r : Ending) → mid ≡ old → IsShown v → Accepts v mid new o → r.outcome ≡ o → r.why ≡ None → RechecksFile files old new r
+pub bound_said : (files : ProofFiles) (old mid new : Option (List ℕ)) (v : Bounded) (o : TaskOutcome) (r : Ending) → mid ≡ old → IsShown v → Accepts v mid new o → r.outcome ≡ o → r.why ≡ None → RechecksFile files old new r
 bound_said files old mid new v o r e is accepts same none =
     inr (v, is, (rw same (subst (λ (x : Option (List ℕ)). Accepts v x new o) e accepts), none))
 
-pub shown_run : (files : RunFiles) (table : List ℕ) (old mid now new before after source : Option (List ℕ)) (form : FileForm) (cause : Option ErrorKind) (v : Bounded) (o : Outcome) (r : Ending) → mid ≡ old → now ≡ mid → IsShown v
+pub shown_run : (files : RunFiles) (table : List ℕ) (old mid now new before after source : Option (List ℕ)) (form : FileForm) (cause : Option ErrorKind) (v : Bounded) (o : TaskOutcome) (r : Ending) → mid ≡ old → now ≡ mid → IsShown v
     → RunsAccepted v source form files.out cause (record { report = now; frames = before }) (record { report = new; frames = after }) o → r.outcome ≡ o → r.why ≡ None → RunsShown files table old new r
 shown_run files table old mid now new before after source form cause v o r e f is runs same none =
     inr (v, is, (runs-on files old mid now new before after source form cause v o r.outcome e f runs same, none))
 
-pub shown_unopened : (files : RunFiles) (table : List ℕ) (old mid new : Option (List ℕ)) (v : Bounded) (o : Outcome) (r : Ending) → mid ≡ old → new ≡ mid → IsShown v
+pub shown_unopened : (files : RunFiles) (table : List ℕ) (old mid new : Option (List ℕ)) (v : Bounded) (o : TaskOutcome) (r : Ending) → mid ≡ old → new ≡ mid → IsShown v
     → IsReadFailure files.frames o ⊎ IsMakeFailure files.out o → r.outcome ≡ o → r.why ≡ None → RunsShown files table old new r
 shown_unopened files table old mid new v o r e f is failed same none =
     inr (v, is, (opens-on files old mid new v o r.outcome e f failed same, none))
 
 -- ---- proofs
 
-pub prove_unloaded : (files : ProofFiles) (old new : Option (List ℕ)) (o : Outcome) (r : Ending) → LoadsNone files.image old new o → r.outcome ≡ o → r.why ≡ None → ProvesFile files old new r
+pub prove_unloaded : (files : ProofFiles) (old new : Option (List ℕ)) (o : TaskOutcome) (r : Ending) → LoadsNone files.image old new o → r.outcome ≡ o → r.why ≡ None → ProvesFile files old new r
 prove_unloaded files old new o r h same none = inl (unloaded files.image old new o r h same none)
 
 pub prove_refused : (files : ProofFiles) (old mid new : Option (List ℕ)) (p : Program) (r : Ending) → mid ≡ old → IsImage p → RefusesProgram p mid new r.outcome → IsKnownOfProgram p r → ProvesFile files old new r
 prove_refused files old mid new p r e h v known =
     inr (p, h, (inl (subst (λ (o : Option (List ℕ)). RefusesProgram p o new r.outcome) e v), known))
 
-pub prove_unmade : (files : ProofFiles) (old mid new : Option (List ℕ)) (v : Bounded) (o : Outcome) (r : Ending) → mid ≡ old → new ≡ mid → IsBoundOf v.program v.bound → IsMakeFailure files.table o
+pub prove_unmade : (files : ProofFiles) (old mid new : Option (List ℕ)) (v : Bounded) (o : TaskOutcome) (r : Ending) → mid ≡ old → new ≡ mid → IsBoundOf v.program v.bound → IsMakeFailure files.table o
     → r.outcome ≡ o → r.why ≡ None → ProvesFile files old new r
 prove_unmade files old mid new v o r e f h failed same none =
     inr (v.program, h.verified.image, (inr (v.bound, h, inl (rw same failed, f ∙ e)), tells-none v.program r.outcome r.why none))
 
-pub table_stored : (files : ProofFiles) (old mid now new before after : Option (List ℕ)) (v : Bounded) (line : List ℕ) (o : Outcome) (r : Ending) → mid ≡ old → now ≡ mid → IsBoundOf v.program v.bound
+pub table_stored : (files : ProofFiles) (old mid now new before after : Option (List ℕ)) (v : Bounded) (line : List ℕ) (o : TaskOutcome) (r : Ending) → mid ≡ old → now ≡ mid → IsBoundOf v.program v.bound
     → line ≡ bound_line v.bound → StoresTable v.program line files.table before after now new o → r.outcome ≡ o → r.why ≡ None → ProvesFile files old new r
 table_stored files old mid now new before after v line o r e f h is stores same none =
     let some : ProvesSome v.program v.bound files.table old new r.outcome = record {
@@ -186,7 +186,7 @@ table_stored files old mid now new before after v line o r e f h is stores same 
 -- ---- texts
 
 -- the image of a text that was read is written, and its size is said
-pub text_stored : (old mid new before after : Option (List ℕ)) (source line path : List ℕ) (p : Program) (r : Outcome) → mid ≡ old → assembled source ≡ Ok p → line ≡ size_line p → StoresImage p line path before after mid new r → Assembles source path old new r
+pub text_stored : (old mid new before after : Option (List ℕ)) (source line path : List ℕ) (p : Program) (r : TaskOutcome) → mid ≡ old → assembled source ≡ Ok p → line ≡ size_line p → StoresImage p line path before after mid new r → Assembles source path old new r
 text_stored old mid new before after source line path p r e found same s =
     let some : StoresSome p path old new r = record {
       before = before;
@@ -195,13 +195,13 @@ text_stored old mid new before after source line path p r e found same s =
     } in
     inr (p, found, inr some)
 
-pub text_unmade : (old new : Option (List ℕ)) (source path : List ℕ) (p : Program) (r : Outcome) → new ≡ old → assembled source ≡ Ok p → IsMakeFailure path r → Assembles source path old new r
+pub text_unmade : (old new : Option (List ℕ)) (source path : List ℕ) (p : Program) (r : TaskOutcome) → new ≡ old → assembled source ≡ Ok p → IsMakeFailure path r → Assembles source path old new r
 text_unmade old new source path p r e found h = inr (p, found, inl (h, e))
 
 -- the text could not be read
-pub text_unread : (text image : List ℕ) (old new : Option (List ℕ)) (o : Outcome) (r : Ending) → new ≡ old → IsReadFailure text o → r.outcome ≡ o → r.why ≡ None → AssemblesFile text image old new r
+pub text_unread : (text image : List ℕ) (old new : Option (List ℕ)) (o : TaskOutcome) (r : Ending) → new ≡ old → IsReadFailure text o → r.outcome ≡ o → r.why ≡ None → AssemblesFile text image old new r
 text_unread text image old new o r e failed same none = inl ((rw same failed, e), none)
 
 -- a text that was read, and what is shown of it where it is refused
-pub text_assembled : (source text image : List ℕ) (old new : Option (List ℕ)) (o : Outcome) (r : Ending) → Assembles source image old new o → r.outcome ≡ o → IsKnownOfText source r → AssemblesFile text image old new r
+pub text_assembled : (source text image : List ℕ) (old new : Option (List ℕ)) (o : TaskOutcome) (r : Ending) → Assembles source image old new o → r.outcome ≡ o → IsKnownOfText source r → AssemblesFile text image old new r
 text_assembled source text image old new o r h same known = inr (source, rw same h, known)

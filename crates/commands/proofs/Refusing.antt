@@ -7,15 +7,15 @@ use Rattle.isa_model.specs.{Program, fetch}
 use Rattle.walks.specs.declared.refusals.Refusal.{Refusal}
 use Rattle.walks.specs.Refused.{IsRefused}
 use Rattle.commands.specs.declared.rejections.Rejection.TheVariants as rejection
-use Rattle.commands.specs.declared.outcomes.Outcome.{Outcome}
-use Rattle.commands.specs.declared.outcomes.Outcome.TheVariants.{Refused}
+use Rattle.commands.specs.declared.outcomes.TaskOutcome.{TaskOutcome}
+use Rattle.commands.specs.declared.outcomes.TaskOutcome.TheVariants.{Refused}
 use Rattle.commands.specs.Lines.{verdict_line}
 use Rattle.commands.specs.Messages.{entry_place, insn_place, step_place}
 use Rattle.commands.specs.Saying.{Says}
 use Rattle.commands.specs.Judging.{RefusesProgram, SaysRefused}
 
 -- the instruction that is said is the one at the slot
-pub program_refused : (p : Program) (refusal : Refusal) (slot : ℕ) (insn : Option Insn) (old new : Option (List ℕ)) (r o : Outcome)
+pub program_refused : (p : Program) (refusal : Refusal) (slot : ℕ) (insn : Option Insn) (old new : Option (List ℕ)) (r o : TaskOutcome)
     → IsRefused p refusal slot → insn ≡ fetch p slot → o ≡ r → SaysRefused refusal slot insn old new r → RefusesProgram p old new o
 program_refused p refusal slot insn old new r o is at e (inl lacks) = rw e (inl lacks)
 program_refused p refusal slot insn old new r o is at e (inr said) =

@@ -9,8 +9,8 @@ use Rattle.words.specs.declared.tasks.WordsError.{WordsError}
 use Rattle.words.specs.declared.tasks.WordsError.TheVariants.{Wrong, Memory}
 use Rattle.words.specs.Requests.{TaskRequest}
 use Rattle.words.specs.Asked.{AsksFor, asked}
-use Rattle.commands.specs.declared.outcomes.Outcome.{Outcome}
-use Rattle.commands.specs.declared.outcomes.Outcome.TheVariants.{Done, WrongWords, Refused, Faulted, CannotRead, CannotWrite, CannotReplace, NoMemory}
+use Rattle.commands.specs.declared.outcomes.TaskOutcome.{TaskOutcome}
+use Rattle.commands.specs.declared.outcomes.TaskOutcome.TheVariants.{Done, WrongWords, Refused, Faulted, CannotRead, CannotWrite, CannotReplace, NoMemory}
 use Rattle.commands.specs.declared.endings.Ending.{Ending}
 use Rattle.commands.specs.Statuses.{IsWordsEnd, SaysWrongWords, IsWrongWords, is_silent}
 use Rattle.commands.specs.Commands.{Serves}
@@ -28,7 +28,7 @@ asked-served contents words request old given new ended r is h on =
     inr (record { given = given; ended = ended; serves = subst (λ (x : Option TaskRequest). Serves x (held contents old) (held contents given) ended) (sym is) h; hands_on = on })
 
 -- what is said to be wrong for some reason is wrong
-wrong : (text : List ℕ) (o : Outcome) → SaysWrongWords text o → IsWrongWords o
+wrong : (text : List ℕ) (o : TaskOutcome) → SaysWrongWords text o → IsWrongWords o
 wrong text (WrongWords said) h = tt
 wrong text Done h = absurd h
 wrong text (Refused rejection) h = absurd h
@@ -38,7 +38,7 @@ wrong text (CannotWrite path cause) h = absurd h
 wrong text (CannotReplace path) h = absurd h
 wrong text NoMemory h = absurd h
 
-wrong_silent : (text : List ℕ) (o : Outcome) → SaysWrongWords text o → is_silent o ≡ true
+wrong_silent : (text : List ℕ) (o : TaskOutcome) → SaysWrongWords text o → is_silent o ≡ true
 wrong_silent text (WrongWords said) h = refl
 wrong_silent text Done h = absurd h
 wrong_silent text (Refused rejection) h = absurd h
@@ -49,7 +49,7 @@ wrong_silent text (CannotReplace path) h = absurd h
 wrong_silent text NoMemory h = absurd h
 
 -- words that ask for nothing
-pub unasked : {W : Type 0} (contents : W → Option (List ℕ)) (words : List (List ℕ)) (error : WordsError) (out : PromptWriter W) (o : Outcome) → AsksFor words (Err error) → IsWordsEnd error o
+pub unasked : {W : Type 0} (contents : W → Option (List ℕ)) (words : List (List ℕ)) (error : WordsError) (out : PromptWriter W) (o : TaskOutcome) → AsksFor words (Err error) → IsWordsEnd error o
     → Executes contents words out out (record { outcome = o; why = None })
 unasked contents words (Wrong text) out o none is =
     let ending : Ending = record { outcome = o; why = None } in

@@ -22,8 +22,8 @@ use Rattle.proof_table.specs.Writing.{GainsTable, BeginsTable}
 use Rattle.rechecking.specs.declared.errors.TableError.{TableError}
 use Rattle.rechecking.specs.declared.errors.TableError.TheVariants as table
 use Rattle.commands.specs.declared.forms.FileForm.{FileForm}
-use Rattle.commands.specs.declared.outcomes.Outcome.{Outcome}
-use Rattle.commands.specs.declared.outcomes.Outcome.TheVariants as outcome
+use Rattle.commands.specs.declared.outcomes.TaskOutcome.{TaskOutcome}
+use Rattle.commands.specs.declared.outcomes.TaskOutcome.TheVariants as outcome
 use Rattle.commands.specs.declared.endings.Ending.{Ending}
 use Rattle.commands.specs.Statuses.{is_silent, status_of, IsWordsEnd, IsWriteFailure, IsWriteFailureBy}
 use Rattle.commands.specs.HandingOn.{Flushes, IsFlushed, TellsFailure}
@@ -35,7 +35,7 @@ use Rattle.commands.specs.Commands.{LoadsNone, ShowsNone, OpensNone, RunsOn, Tra
 
 -- ---- what is not silent
 
-write_loud : (name : List ℕ) (r : Outcome) → IsWriteFailure name r → is_silent r ≡ true → ⊥
+write_loud : (name : List ℕ) (r : TaskOutcome) → IsWriteFailure name r → is_silent r ≡ true → ⊥
 write_loud name outcome.Done h e = h
 write_loud name (outcome.WrongWords text) h e = h
 write_loud name (outcome.Refused rejection) h e = h
@@ -45,7 +45,7 @@ write_loud name (outcome.CannotWrite path cause) h e = false≢true e
 write_loud name (outcome.CannotReplace path) h e = h
 write_loud name outcome.NoMemory h e = h
 
-pub write_loud_by : (name : List ℕ) (cause : Option ErrorKind) (r : Outcome) → IsWriteFailureBy name cause r → is_silent r ≡ true → ⊥
+pub write_loud_by : (name : List ℕ) (cause : Option ErrorKind) (r : TaskOutcome) → IsWriteFailureBy name cause r → is_silent r ≡ true → ⊥
 write_loud_by name cause outcome.Done h e = h
 write_loud_by name cause (outcome.WrongWords text) h e = h
 write_loud_by name cause (outcome.Refused rejection) h e = h
@@ -55,7 +55,7 @@ write_loud_by name cause (outcome.CannotWrite path told) h e = false≢true e
 write_loud_by name cause (outcome.CannotReplace path) h e = h
 write_loud_by name cause outcome.NoMemory h e = h
 
-says_loud : (old new : Option (List ℕ)) (text : List ℕ) (ended r : Outcome) → is_silent ended ≡ false → Says old new text ended r → is_silent r ≡ true → ⊥
+says_loud : (old new : Option (List ℕ)) (text : List ℕ) (ended r : TaskOutcome) → is_silent ended ≡ false → Says old new text ended r → is_silent r ≡ true → ⊥
 says_loud old new text ended r loud (inl said) e = both_ways (is_silent r) (ap is_silent said.1 ∙ loud) e
 says_loud old new text ended r loud (inr failed) e = write_loud _ r failed.1 e
 
@@ -64,32 +64,32 @@ at_loud form None = refl
 at_loud form (Some (fault, at)) = refl
 
 -- a run that wrote nothing to standard output lacked memory
-ends_silent : (name : List ℕ) (cause : Option ErrorKind) (form : FileForm) (ended : Result Tally HostError) (r : Outcome) → EndsBy name cause form ended r → is_silent r ≡ true → ended ≡ Err failure.Memory
+ends_silent : (name : List ℕ) (cause : Option ErrorKind) (form : FileForm) (ended : Result Tally HostError) (r : TaskOutcome) → EndsBy name cause form ended r → is_silent r ≡ true → ended ≡ Err failure.Memory
 ends_silent name cause form (Ok tally) r h e = absurd (both_ways (is_silent r) (ap is_silent h ∙ at_loud form tally.fault) e)
 ends_silent name cause form (Err failure.Memory) r h e = refl
 ends_silent name cause form (Err failure.Report) r h e = absurd (write_loud _ r h e)
 ends_silent name cause form (Err failure.Frames) r h e = absurd (write_loud_by name cause r h e)
 
-fails_silent : (name : List ℕ) (cause : Option ErrorKind) (form : FileForm) (ended : Result Tally HostError) (r : Outcome) → FailsBy name cause form ended r → is_silent r ≡ true → ended ≡ Err failure.Memory
+fails_silent : (name : List ℕ) (cause : Option ErrorKind) (form : FileForm) (ended : Result Tally HostError) (r : TaskOutcome) → FailsBy name cause form ended r → is_silent r ≡ true → ended ≡ Err failure.Memory
 fails_silent name cause form (Ok tally) r h e = absurd (write_loud_by name cause r h e)
 fails_silent name cause form (Err error) r h e = ends_silent name cause form (Err error) r h e
 
-stops_silent : (name : List ℕ) (cause : Option ErrorKind) (form : FileForm) (ended : Result Tally HostError) (handed got : Option (List ℕ)) (r : Outcome) → EndsTask name cause form ended handed got r → is_silent r ≡ true
+stops_silent : (name : List ℕ) (cause : Option ErrorKind) (form : FileForm) (ended : Result Tally HostError) (handed got : Option (List ℕ)) (r : TaskOutcome) → EndsTask name cause form ended handed got r → is_silent r ≡ true
     → ended ≡ Err failure.Memory
 stops_silent name cause form ended handed got r (inl whole) e = ends_silent name cause form ended r whole.1 e
 stops_silent name cause form ended handed got r (inr part) e = fails_silent name cause form ended r part.1 e
 
 -- ---- what is judged
 
-image_silent : (bytes : List ℕ) (old new : Option (List ℕ)) (r : Outcome) → RefusesImage bytes old new r → is_silent r ≡ true → new ≡ old
+image_silent : (bytes : List ℕ) (old new : Option (List ℕ)) (r : TaskOutcome) → RefusesImage bytes old new r → is_silent r ≡ true → new ≡ old
 image_silent bytes old new r (inl lacks) e = lacks.1
 image_silent bytes old new r (inr (error, is, says)) e = absurd (says_loud old new _ _ r refl says e)
 
-program_silent : (p : Program) (old new : Option (List ℕ)) (r : Outcome) → RefusesProgram p old new r → is_silent r ≡ true → new ≡ old
+program_silent : (p : Program) (old new : Option (List ℕ)) (r : TaskOutcome) → RefusesProgram p old new r → is_silent r ≡ true → new ≡ old
 program_silent p old new r (inl lacks) e = lacks.1
 program_silent p old new r (inr (refusal, slot, is, other, says)) e = absurd (says_loud old new _ _ r refl says e)
 
-of_table_silent : (p : Program) (error : TableError) (old new : Option (List ℕ)) (r : Outcome) → SaysOfTable p error old new r → is_silent r ≡ true → new ≡ old
+of_table_silent : (p : Program) (error : TableError) (old new : Option (List ℕ)) (r : TaskOutcome) → SaysOfTable p error old new r → is_silent r ≡ true → new ≡ old
 of_table_silent p (table.Flow error slot) old new r (inl lacks) e = lacks.1
 of_table_silent p (table.Flow error slot) old new r (inr (other, says)) e = absurd (says_loud old new _ _ r refl says e)
 of_table_silent p (table.Fault fault) old new r (inl lacks) e = lacks.1
@@ -101,33 +101,33 @@ of_table_silent p (table.Step k refusal) old new r (inr (place, other, says)) e 
 of_table_silent p (table.Successor k) old new r (inl lacks) e = lacks.1
 of_table_silent p (table.Successor k) old new r (inr (place, other, says)) e = absurd (says_loud old new _ _ r refl says e)
 
-table_silent : (p : Program) (bytes : List ℕ) (old new : Option (List ℕ)) (r : Outcome) → RefusesTable p bytes old new r → is_silent r ≡ true → new ≡ old
+table_silent : (p : Program) (bytes : List ℕ) (old new : Option (List ℕ)) (r : TaskOutcome) → RefusesTable p bytes old new r → is_silent r ≡ true → new ≡ old
 table_silent p bytes old new r (inl lacks) e = lacks.1
 table_silent p bytes old new r (inr (error, is, says)) e = of_table_silent p error old new r says e
 
-text_silent : (source : List ℕ) (old new : Option (List ℕ)) (r : Outcome) → RefusesText source old new r → is_silent r ≡ true → new ≡ old
+text_silent : (source : List ℕ) (old new : Option (List ℕ)) (r : TaskOutcome) → RefusesText source old new r → is_silent r ≡ true → new ≡ old
 text_silent source old new r (inl lacks) e = lacks.1
 text_silent source old new r (inr (error, is, other, says)) e = absurd (says_loud old new _ _ r refl says e)
 
-bound_silent : (v : Bounded) (old new : Option (List ℕ)) (r : Outcome) → Accepts v old new r → is_silent r ≡ true → new ≡ old
+bound_silent : (v : Bounded) (old new : Option (List ℕ)) (r : TaskOutcome) → Accepts v old new r → is_silent r ≡ true → new ≡ old
 bound_silent v old new r (inl lacks) e = lacks.1
 bound_silent v old new r (inr says) e = absurd (says_loud old new _ _ r refl says e)
 
-verdict_silent : (p : Program) (old new : Option (List ℕ)) (r : Outcome) → Verifies p old new r → is_silent r ≡ true → new ≡ old
+verdict_silent : (p : Program) (old new : Option (List ℕ)) (r : TaskOutcome) → Verifies p old new r → is_silent r ≡ true → new ≡ old
 verdict_silent p old new r (inl (bound, is, accepts)) e = bound_silent (record { program = p; bound = bound }) old new r accepts e
 verdict_silent p old new r (inr refuses) e = program_silent p old new r refuses e
 
-stores_silent : (p : Program) (line name : List ℕ) (before after old new : Option (List ℕ)) (r : Outcome) → StoresImage p line name before after old new r → is_silent r ≡ true → new ≡ old
+stores_silent : (p : Program) (line name : List ℕ) (before after old new : Option (List ℕ)) (r : TaskOutcome) → StoresImage p line name before after old new r → is_silent r ≡ true → new ≡ old
 stores_silent p line name before after old new r (inl (written, says)) e = absurd (says_loud old new _ _ r refl says e)
 stores_silent p line name before after old new r (inr (written, fails, same)) e = same
 
 -- ---- the commands
 
-loads_silent : (path : List ℕ) (old new : Option (List ℕ)) (r : Outcome) → LoadsNone path old new r → is_silent r ≡ true → new ≡ old
+loads_silent : (path : List ℕ) (old new : Option (List ℕ)) (r : TaskOutcome) → LoadsNone path old new r → is_silent r ≡ true → new ≡ old
 loads_silent path old new r (inl reads) e = reads.1
 loads_silent path old new r (inr (bytes, refuses)) e = image_silent bytes old new r refuses e
 
-opens_silent : (files : RunFiles) (old new : Option (List ℕ)) (r : Outcome) → OpensNone files old new r → new ≡ old
+opens_silent : (files : RunFiles) (old new : Option (List ℕ)) (r : TaskOutcome) → OpensNone files old new r → new ≡ old
 opens_silent files old new r (inl reads) = reads.1
 opens_silent files old new r (inr makes) = makes.1
 
@@ -151,7 +151,7 @@ trace_silent files limit old new r (inr (p, is, inl (opens, none))) e = opens_si
 trace_silent files limit old new r (inr (p, is, inr some)) e =
     some.traces.report_untouched (traced_memory some.traces.ended (stops_silent _ _ _ _ _ _ r.outcome some.traces.ends e))
 
-on_silent : (files : RunFiles) (v : Bounded) (old new : Option (List ℕ)) (r : Outcome) → RunsOn files v old new r → is_silent r ≡ true → new ≡ old
+on_silent : (files : RunFiles) (v : Bounded) (old new : Option (List ℕ)) (r : TaskOutcome) → RunsOn files v old new r → is_silent r ≡ true → new ≡ old
 on_silent files v old new r (inl opens) e = opens_silent files old new r opens
 on_silent files v old new r (inr some) e = some.runs.report_untouched (stops_silent _ _ _ _ _ _ r some.runs.ends e)
 
@@ -177,13 +177,13 @@ recheck_silent : (files : ProofFiles) (old new : Option (List ℕ)) (r : Ending)
 recheck_silent files old new r (inl shows) e = shows_silent files old new r shows e
 recheck_silent files old new r (inr (v, is, (accepts, none))) e = bound_silent v old new r.outcome accepts e
 
-unwritten_silent : (name : List ℕ) (error : WriteTableError) (old new : Option (List ℕ)) (r : Outcome) → EndsUnwritten name error old new r → is_silent r ≡ true → new ≡ old
+unwritten_silent : (name : List ℕ) (error : WriteTableError) (old new : Option (List ℕ)) (r : TaskOutcome) → EndsUnwritten name error old new r → is_silent r ≡ true → new ≡ old
 unwritten_silent name unwritten.Memory old new r lacks e = lacks.1
 unwritten_silent name unwritten.Explored old new r (inl lacks) e = lacks.1
 unwritten_silent name unwritten.Explored old new r (inr says) e = absurd (says_loud old new _ _ r refl says e)
 unwritten_silent name (unwritten.Writer kind) old new r (fails, same) e = same
 
-written_silent : (p : Program) (line name : List ℕ) (before after old new : Option (List ℕ)) (r : Outcome) → StoresTable p line name before after old new r → is_silent r ≡ true → new ≡ old
+written_silent : (p : Program) (line name : List ℕ) (before after old new : Option (List ℕ)) (r : TaskOutcome) → StoresTable p line name before after old new r → is_silent r ≡ true → new ≡ old
 written_silent p line name before after old new r stores e = by stores.ends
   where
     by : (GainsTable p before stores.handed × Keeps stores.handed after × Says old new line outcome.Done r)
@@ -199,7 +199,7 @@ prove_silent files old new r (inr (p, is, (inl refuses, known))) e = program_sil
 prove_silent files old new r (inr (p, is, (inr (bound, of, inl makes), known))) e = makes.1
 prove_silent files old new r (inr (p, is, (inr (bound, of, inr some), known))) e = written_silent p _ _ _ _ old new r.outcome some.stores e
 
-disassemble_silent : (path : List ℕ) (old new : Option (List ℕ)) (r : Outcome) → DisassemblesFile path old new r → is_silent r ≡ true → new ≡ old
+disassemble_silent : (path : List ℕ) (old new : Option (List ℕ)) (r : TaskOutcome) → DisassemblesFile path old new r → is_silent r ≡ true → new ≡ old
 disassemble_silent path old new r (inl loads) e = loads_silent path old new r loads e
 disassemble_silent path old new r (inr (p, is, says)) e = absurd (says_loud old new _ _ r refl says e)
 
@@ -235,7 +235,7 @@ whole_silent contents request old given new ended r h on e =
 -- ---- at status 0, 2 and 3
 
 -- what the statuses say of how a task ended
-loud : (o : Outcome) → status_of o ≤ 3 → (status_of o ≡ 1 → ⊥) → is_silent o ≡ false
+loud : (o : TaskOutcome) → status_of o ≤ 3 → (status_of o ≡ 1 → ⊥) → is_silent o ≡ false
 loud outcome.Done most apart = refl
 loud (outcome.WrongWords text) most apart = absurd (apart refl)
 loud (outcome.Refused rejection) most apart = refl
@@ -245,7 +245,7 @@ loud (outcome.CannotWrite path cause) most apart = refl
 loud (outcome.CannotReplace path) most apart = absurd (omega arith)
 loud outcome.NoMemory most apart = absurd (omega arith)
 
-written : (name : List ℕ) (cause : Option ErrorKind) (o : Outcome) → IsWriteFailureBy name cause o → status_of o ≤ 3 → ⊥
+written : (name : List ℕ) (cause : Option ErrorKind) (o : TaskOutcome) → IsWriteFailureBy name cause o → status_of o ≤ 3 → ⊥
 written name cause outcome.Done h most = h
 written name cause (outcome.WrongWords text) h most = h
 written name cause (outcome.Refused rejection) h most = h
@@ -256,7 +256,7 @@ written name cause (outcome.CannotReplace path) h most = h
 written name cause outcome.NoMemory h most = h
 
 -- words that ask for nothing end otherwise
-pub unasked_status : (error : WordsError) (o : Outcome) → IsWordsEnd error o → status_of o ≤ 3 → (status_of o ≡ 1 → ⊥) → ⊥
+pub unasked_status : (error : WordsError) (o : TaskOutcome) → IsWordsEnd error o → status_of o ≤ 3 → (status_of o ≡ 1 → ⊥) → ⊥
 unasked_status Memory o e most apart = let same : status_of o ≡ 5 = ap status_of e in omega arith
 unasked_status (Wrong text) (outcome.WrongWords said) e most apart = apart refl
 unasked_status (Wrong text) outcome.Done e most apart = e

@@ -5,11 +5,11 @@ use Rattle.std.specs.String.{string_bytes}
 use Rattle.std.proofs.lemmas.Bool.{false≢true}
 use Rattle.std.proofs.lemmas.Option.{none-some}
 use Rattle.commands.specs.declared.rejections.Rejection.TheVariants as rejection
-use Rattle.commands.specs.declared.outcomes.Outcome.{Outcome}
-use Rattle.commands.specs.declared.outcomes.Outcome.TheVariants.{Done, WrongWords, Refused, Faulted, CannotRead, CannotWrite, CannotReplace, NoMemory}
+use Rattle.commands.specs.declared.outcomes.TaskOutcome.{TaskOutcome}
+use Rattle.commands.specs.declared.outcomes.TaskOutcome.TheVariants.{Done, WrongWords, Refused, Faulted, CannotRead, CannotWrite, CannotReplace, NoMemory}
 use Rattle.commands.specs.Statuses.{status_of, is_silent, is_unsaid, message_of}
 use Rattle.commands.specs.Saying.{AppendsPart}
-use Rattle.commands.specs.Known.{told}
+use Rattle.commands.specs.Known.{outcome_text}
 use Rattle.host.specs.Stops.{noted_of}
 use Rattle.words.specs.Requests.{TaskRequest, RunFiles, Trace, Run, Verify, Prove, Recheck, Assemble, Disassemble}
 use Rattle.words.specs.Asked.{asked}
@@ -17,7 +17,7 @@ use Rattle.commands.specs.Faults.{fault_lines}
 use Rattle.commands.specs.Executing.{IsTold, TellsDone, TellsFault}
 use Rattle.commands.proofs.Knowing.{Knows, KnowsBy, KnowsStops}
 
-pub silent_words : (o : Outcome) → status_of o ≡ 1 → is_silent o ≡ true
+pub silent_words : (o : TaskOutcome) → status_of o ≡ 1 → is_silent o ≡ true
 silent_words Done e = absurd (omega arith)
 silent_words (WrongWords text) e = refl
 silent_words (Refused rejection) e = absurd (omega arith)
@@ -27,7 +27,7 @@ silent_words (CannotWrite path cause) e = absurd (omega arith)
 silent_words (CannotReplace path) e = refl
 silent_words NoMemory e = refl
 
-pub silent_memory : (o : Outcome) → status_of o ≡ 5 → is_silent o ≡ true
+pub silent_memory : (o : TaskOutcome) → status_of o ≡ 5 → is_silent o ≡ true
 silent_memory Done e = absurd (omega arith)
 silent_memory (WrongWords text) e = refl
 silent_memory (Refused rejection) e = absurd (omega arith)
@@ -37,7 +37,7 @@ silent_memory (CannotWrite path cause) e = absurd (omega arith)
 silent_memory (CannotReplace path) e = refl
 silent_memory NoMemory e = refl
 
-pub status_fits : (o : Outcome) → status_of o ≤ 5
+pub status_fits : (o : TaskOutcome) → status_of o ≤ 5
 status_fits Done = omega arith
 status_fits (WrongWords text) = omega arith
 status_fits (Refused rejection) = omega arith
@@ -47,7 +47,7 @@ status_fits (CannotWrite path cause) = omega arith
 status_fits (CannotReplace path) = omega arith
 status_fits NoMemory = omega arith
 
-pub unsaid_done : (o : Outcome) → status_of o ≡ 0 → is_unsaid o ≡ true
+pub unsaid_done : (o : TaskOutcome) → status_of o ≡ 0 → is_unsaid o ≡ true
 unsaid_done Done e = refl
 unsaid_done (WrongWords text) e = absurd (omega arith)
 unsaid_done (Refused rejection) e = absurd (omega arith)
@@ -57,7 +57,7 @@ unsaid_done (CannotWrite path cause) e = absurd (omega arith)
 unsaid_done (CannotReplace path) e = absurd (omega arith)
 unsaid_done NoMemory e = absurd (omega arith)
 
-pub told_refused : (o : Outcome) (why : Option (String Global)) (old new : Option (List ℕ)) → Knows o why → status_of o ≡ 2 → AppendsPart old new (told o why) → IsTold old new
+pub told_refused : (o : TaskOutcome) (why : Option (String Global)) (old new : Option (List ℕ)) → Knows o why → status_of o ≡ 2 → AppendsPart old new (outcome_text o why) → IsTold old new
 told_refused Done why old new k e h = absurd (omega arith)
 told_refused (WrongWords text) why old new k e h = absurd (omega arith)
 told_refused (Refused said) None old new k e h = inl (said, h)
@@ -88,11 +88,11 @@ told_refused (CannotWrite path cause) why old new k e h = absurd (omega arith)
 told_refused (CannotReplace path) why old new k e h = absurd (omega arith)
 told_refused NoMemory why old new k e h = absurd (omega arith)
 
-pub told_plain : (o : Outcome) (old new : Option (List ℕ)) → status_of o ≡ 2 → AppendsPart old new (message_of o) → IsTold old new
+pub told_plain : (o : TaskOutcome) (old new : Option (List ℕ)) → status_of o ≡ 2 → AppendsPart old new (message_of o) → IsTold old new
 told_plain o old new e h = told_refused o None old new (inl refl) e h
 
 -- a task without a message on standard error has nothing known beside its end
-pub unsaid_knows : (o : Outcome) (why : Option (String Global)) → Knows o why → is_unsaid o ≡ true → why ≡ None
+pub unsaid_knows : (o : TaskOutcome) (why : Option (String Global)) → Knows o why → is_unsaid o ≡ true → why ≡ None
 unsaid_knows o why (inl none) e = none
 unsaid_knows Done why (inr (inl (p, none))) e = none
 unsaid_knows Done why (inr (inr (inl (p, bytes, none)))) e = none
@@ -117,7 +117,7 @@ unsaid_knows NoMemory why (inr (inl (p, none))) e = none
 unsaid_knows NoMemory why (inr (inr (inl (p, bytes, none)))) e = none
 unsaid_knows NoMemory why (inr (inr (inr (source, none)))) e = none
 
-pub told_faulted : (o : Outcome) (why : Option (String Global)) (old new : Option (List ℕ)) → Knows o why → status_of o ≡ 3 → AppendsPart old new (told o why) → TellsFault old new
+pub told_faulted : (o : TaskOutcome) (why : Option (String Global)) (old new : Option (List ℕ)) → Knows o why → status_of o ≡ 3 → AppendsPart old new (outcome_text o why) → TellsFault old new
 told_faulted Done why old new k e h = absurd (omega arith)
 told_faulted (WrongWords text) why old new k e h = absurd (omega arith)
 told_faulted (Refused said) why old new k e h = absurd (omega arith)
@@ -131,12 +131,12 @@ told_faulted (CannotWrite path cause) why old new k e h = absurd (omega arith)
 told_faulted (CannotReplace path) why old new k e h = absurd (omega arith)
 told_faulted NoMemory why old new k e h = absurd (omega arith)
 
-pub faulted_plain : (o : Outcome) (old new : Option (List ℕ)) → status_of o ≡ 3 → AppendsPart old new (message_of o) → TellsFault old new
+pub faulted_plain : (o : TaskOutcome) (old new : Option (List ℕ)) → status_of o ≡ 3 → AppendsPart old new (message_of o) → TellsFault old new
 faulted_plain o old new e h = told_faulted o None old new (inl refl) e h
 
 -- ---- by what was asked for
 
-pub refused_by : (request : TaskRequest) (o : Outcome) (why : Option (String Global)) (old new : Option (List ℕ)) → KnowsBy request o why → status_of o ≡ 2 → AppendsPart old new (told o why) → IsTold old new
+pub refused_by : (request : TaskRequest) (o : TaskOutcome) (why : Option (String Global)) (old new : Option (List ℕ)) → KnowsBy request o why → status_of o ≡ 2 → AppendsPart old new (outcome_text o why) → IsTold old new
 refused_by (Trace files limit) o why old new (inl k) e h = told_refused o why old new k e h
 refused_by (Trace files limit) Done why old new (inr k) e h = absurd (omega arith)
 refused_by (Trace files limit) (Faulted fault form) why old new (inr k) e h = absurd (omega arith)
@@ -153,7 +153,7 @@ refused_by (Recheck files) o why old new k e h = told_refused o why old new k e 
 refused_by (Assemble text image) o why old new k e h = told_refused o why old new k e h
 refused_by (Disassemble path) o why old new k e h = told_refused o why old new k e h
 
-stopped_faulted : (o : Outcome) (why : Option (String Global)) (old new : Option (List ℕ)) → KnowsStops o why → status_of o ≡ 3 → AppendsPart old new (told o why) → TellsFault old new
+stopped_faulted : (o : TaskOutcome) (why : Option (String Global)) (old new : Option (List ℕ)) → KnowsStops o why → status_of o ≡ 3 → AppendsPart old new (outcome_text o why) → TellsFault old new
 stopped_faulted (Faulted fault form) None old new k e h = (fault, form, inl h)
 stopped_faulted (Faulted fault form) (Some text) old new (end, (stops, is)) e h =
     (fault, form, inr (noted_of stops, subst (λ (l : List ℕ). AppendsPart old new (fault_lines fault form ++ l)) is h))
@@ -165,7 +165,7 @@ stopped_faulted (CannotWrite path cause) why old new k e h = absurd k.0
 stopped_faulted (CannotReplace path) why old new k e h = absurd k.0
 stopped_faulted NoMemory why old new k e h = absurd k.0
 
-pub faulted_by : (request : TaskRequest) (o : Outcome) (why : Option (String Global)) (old new : Option (List ℕ)) → KnowsBy request o why → status_of o ≡ 3 → AppendsPart old new (told o why) → TellsFault old new
+pub faulted_by : (request : TaskRequest) (o : TaskOutcome) (why : Option (String Global)) (old new : Option (List ℕ)) → KnowsBy request o why → status_of o ≡ 3 → AppendsPart old new (outcome_text o why) → TellsFault old new
 faulted_by (Trace files limit) o why old new (inl k) e h = told_faulted o why old new k e h
 faulted_by (Trace files limit) o why old new (inr k) e h = stopped_faulted o why old new k e h
 faulted_by (Run files table) o why old new k e h = told_faulted o why old new k e h
@@ -176,11 +176,11 @@ faulted_by (Assemble text image) o why old new k e h = told_faulted o why old ne
 faulted_by (Disassemble path) o why old new k e h = told_faulted o why old new k e h
 
 -- a task that did everything, without a message on standard error
-quiet : (words : List (List ℕ)) (o : Outcome) (why : Option (String Global)) (old new : Option (List ℕ)) → Knows o why → status_of o ≡ 0 → (is_unsaid o ≡ true → why ≡ None → new ≡ old) → TellsDone words old new
+quiet : (words : List (List ℕ)) (o : TaskOutcome) (why : Option (String Global)) (old new : Option (List ℕ)) → Knows o why → status_of o ≡ 0 → (is_unsaid o ≡ true → why ≡ None → new ≡ old) → TellsDone words old new
 quiet words o why old new k e unsaid = let none = unsaid_done o e in inl (unsaid none (unsaid_knows o why k none))
 
-stopped_done : (words : List (List ℕ)) (files : RunFiles) (limit : ℕ) (o : Outcome) (why : Option (String Global)) (old new : Option (List ℕ)) → asked words ≡ Some (Trace files limit) → KnowsStops o why → status_of o ≡ 0
-    → (is_unsaid o ≡ true → why ≡ None → new ≡ old) → AppendsPart old new (told o why) → TellsDone words old new
+stopped_done : (words : List (List ℕ)) (files : RunFiles) (limit : ℕ) (o : TaskOutcome) (why : Option (String Global)) (old new : Option (List ℕ)) → asked words ≡ Some (Trace files limit) → KnowsStops o why → status_of o ≡ 0
+    → (is_unsaid o ≡ true → why ≡ None → new ≡ old) → AppendsPart old new (outcome_text o why) → TellsDone words old new
 stopped_done words files limit Done None old new is k e unsaid h = inl (unsaid refl refl)
 stopped_done words files limit Done (Some text) old new is (end, (stops, lines)) e unsaid h =
     inr (record { files = files; limit = limit; is_asked = is; noted = noted_of stops; said = subst (AppendsPart old new) lines h })
@@ -192,8 +192,8 @@ stopped_done words files limit (CannotWrite path cause) why old new is k e unsai
 stopped_done words files limit (CannotReplace path) why old new is k e unsaid h = absurd k.0
 stopped_done words files limit NoMemory why old new is k e unsaid h = absurd k.0
 
-pub done_by : (words : List (List ℕ)) (request : TaskRequest) (o : Outcome) (why : Option (String Global)) (old new : Option (List ℕ)) → asked words ≡ Some request → KnowsBy request o why → status_of o ≡ 0
-    → (is_unsaid o ≡ true → why ≡ None → new ≡ old) → AppendsPart old new (told o why) → TellsDone words old new
+pub done_by : (words : List (List ℕ)) (request : TaskRequest) (o : TaskOutcome) (why : Option (String Global)) (old new : Option (List ℕ)) → asked words ≡ Some request → KnowsBy request o why → status_of o ≡ 0
+    → (is_unsaid o ≡ true → why ≡ None → new ≡ old) → AppendsPart old new (outcome_text o why) → TellsDone words old new
 done_by words (Trace files limit) o why old new is (inl k) e unsaid h = quiet words o why old new k e unsaid
 done_by words (Trace files limit) o why old new is (inr k) e unsaid h = stopped_done words files limit o why old new is k e unsaid h
 done_by words (Run files table) o why old new is k e unsaid h = quiet words o why old new k e unsaid
@@ -204,7 +204,7 @@ done_by words (Assemble text image) o why old new is k e unsaid h = quiet words 
 done_by words (Disassemble path) o why old new is k e unsaid h = quiet words o why old new k e unsaid
 
 -- words that ask for nothing
-pub done_plain : (words : List (List ℕ)) (o : Outcome) (old new : Option (List ℕ)) → status_of o ≡ 0 → (is_unsaid o ≡ true → new ≡ old) → TellsDone words old new
+pub done_plain : (words : List (List ℕ)) (o : TaskOutcome) (old new : Option (List ℕ)) → status_of o ≡ 0 → (is_unsaid o ≡ true → new ≡ old) → TellsDone words old new
 done_plain words o old new e unsaid = inl (unsaid (unsaid_done o e))
 
 -- what each status says

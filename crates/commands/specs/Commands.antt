@@ -7,8 +7,8 @@ use Rattle.image.specs.Images.{IsImage}
 use Rattle.assembler.specs.Assembling.{assembled}
 use Rattle.bounds.specs.Bounds.{Bounded}
 use Rattle.commands.specs.declared.forms.FileForm.{FileForm}
-use Rattle.commands.specs.declared.outcomes.Outcome.{Outcome}
-use Rattle.commands.specs.declared.outcomes.Outcome.TheVariants as outcome
+use Rattle.commands.specs.declared.outcomes.TaskOutcome.{TaskOutcome}
+use Rattle.commands.specs.declared.outcomes.TaskOutcome.TheVariants as outcome
 use Rattle.commands.specs.declared.endings.Ending.{Ending}
 use Rattle.commands.specs.Known.{IsKnownOfProgram, IsKnownOfTable, IsKnownOfText, Plainly}
 use Rattle.commands.specs.Lines.{bound_line, size_line}
@@ -22,15 +22,15 @@ use Rattle.words.specs.Requests.{TaskRequest, RunFiles, ProofFiles, Trace, Run, 
 -- ---- files
 
 -- the file at the path could not be read, or memory ran out, and standard output got nothing
-abbrev pub ReadsNone : List ℕ → Option (List ℕ) → Option (List ℕ) → Outcome → Type 0
+abbrev pub ReadsNone : List ℕ → Option (List ℕ) → Option (List ℕ) → TaskOutcome → Type 0
 ReadsNone path old new result = IsReadFailure path result × (new ≡ old)
 
 -- the file at the path could not be made, or memory ran out, and standard output got nothing
-abbrev pub MakesNone : List ℕ → Option (List ℕ) → Option (List ℕ) → Outcome → Type 0
+abbrev pub MakesNone : List ℕ → Option (List ℕ) → Option (List ℕ) → TaskOutcome → Type 0
 MakesNone path old new result = IsMakeFailure path result × (new ≡ old)
 
 -- the image could not be read, or its bytes are refused
-abbrev pub LoadsNone : List ℕ → Option (List ℕ) → Option (List ℕ) → Outcome → Type 0
+abbrev pub LoadsNone : List ℕ → Option (List ℕ) → Option (List ℕ) → TaskOutcome → Type 0
 LoadsNone path old new result = ReadsNone path old new result ⊎ ((bytes : List ℕ) × RefusesImage bytes old new result)
 
 -- an image was read, and P holds of its program
@@ -54,7 +54,7 @@ abbrev pub ShowsSome : (Bounded → Type 0) → Type 0
 ShowsSome P = (v : Bounded) × IsShown v × P v
 
 -- the frame stream could not be opened, or the file of the frames out not be made
-abbrev pub OpensNone : RunFiles → Option (List ℕ) → Option (List ℕ) → Outcome → Type 0
+abbrev pub OpensNone : RunFiles → Option (List ℕ) → Option (List ℕ) → TaskOutcome → Type 0
 OpensNone files old new result = ReadsNone files.frames old new result ⊎ MakesNone files.out old new result
 
 -- a run over some source, which begins as some file does; the frames out go to the file at the path
@@ -66,7 +66,7 @@ pub record TracesSome (p : Program) (limit : ℕ) (out : List ℕ) (old new : Op
   pub cause : Option ErrorKind
   pub traces : Traces p limit source form out cause (record { report = old; frames = before }) (record { report = new; frames = after }) result
 
-pub record RunsSome (v : Bounded) (out : List ℕ) (old new : Option (List ℕ)) (result : Outcome) : Type 0 where
+pub record RunsSome (v : Bounded) (out : List ℕ) (old new : Option (List ℕ)) (result : TaskOutcome) : Type 0 where
   pub source : Option (List ℕ)
   pub form : FileForm
   pub before : Option (List ℕ)
@@ -75,13 +75,13 @@ pub record RunsSome (v : Bounded) (out : List ℕ) (old new : Option (List ℕ))
   pub runs : RunsAccepted v source form out cause (record { report = old; frames = before }) (record { report = new; frames = after }) result
 
 -- the image of a program was written to the file at the path, and its size was said
-pub record StoresSome (p : Program) (path : List ℕ) (old new : Option (List ℕ)) (result : Outcome) : Type 0 where
+pub record StoresSome (p : Program) (path : List ℕ) (old new : Option (List ℕ)) (result : TaskOutcome) : Type 0 where
   pub before : Option (List ℕ)
   pub after : Option (List ℕ)
   pub stores : StoresImage p (size_line p) path before after old new result
 
 -- a proof table was written to the file at the path, and the bound was said
-pub record ProvesSome (p : Program) (bound : ℕ) (path : List ℕ) (old new : Option (List ℕ)) (result : Outcome) : Type 0 where
+pub record ProvesSome (p : Program) (bound : ℕ) (path : List ℕ) (old new : Option (List ℕ)) (result : TaskOutcome) : Type 0 where
   pub before : Option (List ℕ)
   pub after : Option (List ℕ)
   pub stores : StoresTable p (bound_line bound) path before after old new result
@@ -95,11 +95,11 @@ TracesFile files limit old new result =
     ⊎ ReadsImage (λ p. Plainly (OpensNone files old new) result ⊎ TracesSome p limit files.out old new result)
 
 -- a program with its bound is run
-abbrev pub RunsOn : RunFiles → Bounded → Option (List ℕ) → Option (List ℕ) → Outcome → Type 0
+abbrev pub RunsOn : RunFiles → Bounded → Option (List ℕ) → Option (List ℕ) → TaskOutcome → Type 0
 RunsOn files v old new result = OpensNone files old new result ⊎ RunsSome v files.out old new result
 
 -- a program is accepted, with its bound, and run
-abbrev pub AcceptsAndRuns : RunFiles → Program → Option (List ℕ) → Option (List ℕ) → Outcome → Type 0
+abbrev pub AcceptsAndRuns : RunFiles → Program → Option (List ℕ) → Option (List ℕ) → TaskOutcome → Type 0
 AcceptsAndRuns files p old new result =
     (bound : ℕ) × IsBoundOf p bound × RunsOn files (record { program = p; bound = bound }) old new result
 
@@ -124,7 +124,7 @@ VerifiesFile path old new result =
     Plainly (LoadsNone path old new) result ⊎ ReadsImage (λ p. Verifies p old new result.outcome × IsKnownOfProgram p result)
 
 -- a program is accepted, with its bound, and then a table of it is written
-abbrev pub AcceptsAndProves : List ℕ → Program → Option (List ℕ) → Option (List ℕ) → Outcome → Type 0
+abbrev pub AcceptsAndProves : List ℕ → Program → Option (List ℕ) → Option (List ℕ) → TaskOutcome → Type 0
 AcceptsAndProves table p old new result =
     (bound : ℕ) × IsBoundOf p bound × (MakesNone table old new result ⊎ ProvesSome p bound table old new result)
 
@@ -133,7 +133,7 @@ ProvesFile files old new result =
     Plainly (LoadsNone files.image old new) result
     ⊎ ReadsImage (λ p. (RefusesProgram p old new result.outcome ⊎ AcceptsAndProves files.table p old new result.outcome) × IsKnownOfProgram p result)
 
-abbrev pub DisassemblesFile : List ℕ → Option (List ℕ) → Option (List ℕ) → Outcome → Type 0
+abbrev pub DisassemblesFile : List ℕ → Option (List ℕ) → Option (List ℕ) → TaskOutcome → Type 0
 DisassemblesFile path old new result = LoadsNone path old new result ⊎ ReadsImage (λ p. Says old new (canonical_text p) outcome.Done result)
 
 -- a text was read, and it spells a program with the property P
@@ -141,7 +141,7 @@ abbrev pub ReadsText : List ℕ → (Program → Type 0) → Type 0
 ReadsText source P = (p : Program) × (assembled source ≡ Ok p) × P p
 
 -- a text that was read is refused, or its image is written to the file at the path
-abbrev pub Assembles : List ℕ → List ℕ → Option (List ℕ) → Option (List ℕ) → Outcome → Type 0
+abbrev pub Assembles : List ℕ → List ℕ → Option (List ℕ) → Option (List ℕ) → TaskOutcome → Type 0
 Assembles source image old new result =
     RefusesText source old new result ⊎ ReadsText source (λ p. MakesNone image old new result ⊎ StoresSome p image old new result)
 

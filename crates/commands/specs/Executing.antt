@@ -15,7 +15,7 @@ use Rattle.words.specs.declared.tasks.WordsError.{WordsError}
 use Rattle.words.specs.Requests.{TaskRequest, RunFiles, Trace}
 use Rattle.host.specs.Stops.{Noted}
 use Rattle.words.specs.Asked.{asked}
-use Rattle.commands.specs.declared.outcomes.Outcome.{Outcome}
+use Rattle.commands.specs.declared.outcomes.TaskOutcome.{TaskOutcome}
 use Rattle.commands.specs.declared.endings.Ending.{Ending}
 use Rattle.commands.specs.declared.rejections.Rejection.{Rejection}
 use Rattle.commands.specs.declared.rejections.Rejection.TheVariants as rejection
@@ -51,7 +51,7 @@ AnswersWords contents words old new before after status =
 -- the words could not be read: standard error says why, and nothing is done
 abbrev pub AnswersError : {W : Type 0} → WordsError → PromptWriter W → PromptWriter W → Option (List ℕ) → Option (List ℕ) → ℕ → Type 0
 AnswersError error old new before after status =
-    (o : Outcome) × IsWordsEnd error o × (status ≡ status_of o) × (new ≡ old) × AppendsPart before after (message_of o)
+    (o : TaskOutcome) × IsWordsEnd error o × (status ≡ status_of o) × (new ≡ old) × AppendsPart before after (message_of o)
 
 -- standard error got why something is refused, or a beginning of it
 abbrev pub TellsReason : Option (List ℕ) → Option (List ℕ) → Type 0

@@ -22,35 +22,35 @@ use Rattle.assembler.specs.declared.errors.AsmErrorKind.TheVariants as text
 use Rattle.assembler.specs.declared.errors.AsmError.{AsmError}
 use Rattle.assembler.specs.Assembling.{assembled}
 use Rattle.commands.specs.declared.rejections.Rejection.TheVariants as rejection
-use Rattle.commands.specs.declared.outcomes.Outcome.{Outcome}
-use Rattle.commands.specs.declared.outcomes.Outcome.TheVariants.{Done, Refused, NoMemory}
+use Rattle.commands.specs.declared.outcomes.TaskOutcome.{TaskOutcome}
+use Rattle.commands.specs.declared.outcomes.TaskOutcome.TheVariants.{Done, Refused, NoMemory}
 use Rattle.commands.specs.Forms.{form_of}
 use Rattle.commands.specs.Statuses.{IsWriteFailure}
 use Rattle.commands.specs.Lines.{image_line, verdict_line, table_line, text_line, bound_line, is_memory, is_table_memory}
 use Rattle.commands.specs.Saying.{Says, LacksMemory}
 
 -- bytes are no image, and standard output says why; or memory ran out
-abbrev pub RefusesImage : List ℕ → Option (List ℕ) → Option (List ℕ) → Outcome → Type 0
+abbrev pub RefusesImage : List ℕ → Option (List ℕ) → Option (List ℕ) → TaskOutcome → Type 0
 RefusesImage bytes old new result =
     LacksMemory old new result
     ⊎ ((error : ImageError) × (refusal_of bytes ≡ Some error) × Says old new (image_line error) (Refused (rejection.Image error (form_of bytes))) result)
 
 -- standard output says that a program is refused at a slot, where this instruction begins;
 -- or memory ran out
-abbrev pub SaysRefused : Refusal → ℕ → Option Insn → Option (List ℕ) → Option (List ℕ) → Outcome → Type 0
+abbrev pub SaysRefused : Refusal → ℕ → Option Insn → Option (List ℕ) → Option (List ℕ) → TaskOutcome → Type 0
 SaysRefused refusal slot insn old new result =
     LacksMemory old new result
     ⊎ ((is_memory refusal ≡ false) × Says old new (verdict_line refusal slot) (Refused (rejection.Program refusal slot insn)) result)
 
 -- a program is refused, and standard output says why and where; or memory ran out
-abbrev pub RefusesProgram : Program → Option (List ℕ) → Option (List ℕ) → Outcome → Type 0
+abbrev pub RefusesProgram : Program → Option (List ℕ) → Option (List ℕ) → TaskOutcome → Type 0
 RefusesProgram p old new result =
     LacksMemory old new result
     ⊎ ((refusal : Refusal) × (slot : ℕ) × IsRefused p refusal slot × (is_memory refusal ≡ false)
     × Says old new (verdict_line refusal slot) (Refused (rejection.Program refusal slot (fetch p slot))) result)
 
 -- standard output says the bound of an accepted program; or memory ran out
-abbrev pub Accepts : Bounded → Option (List ℕ) → Option (List ℕ) → Outcome → Type 0
+abbrev pub Accepts : Bounded → Option (List ℕ) → Option (List ℕ) → TaskOutcome → Type 0
 Accepts v old new result = LacksMemory old new result ⊎ Says old new (bound_line v.bound) Done result
 
 -- the bound of an accepted program: every run exits within it;
@@ -62,10 +62,10 @@ pub record IsBoundOf (p : Program) (bound : ℕ) : Type 0 where
   pub bounds : BoundsAll p bound
 
 -- a program is accepted with its bound, and this is the bound that is said
-abbrev pub AcceptsSome : Program → Option (List ℕ) → Option (List ℕ) → Outcome → Type 0
+abbrev pub AcceptsSome : Program → Option (List ℕ) → Option (List ℕ) → TaskOutcome → Type 0
 AcceptsSome p old new result = (bound : ℕ) × IsBoundOf p bound × Accepts (record { program = p; bound = bound }) old new result
 
-abbrev pub Verifies : Program → Option (List ℕ) → Option (List ℕ) → Outcome → Type 0
+abbrev pub Verifies : Program → Option (List ℕ) → Option (List ℕ) → TaskOutcome → Type 0
 Verifies p old new result = AcceptsSome p old new result ⊎ RefusesProgram p old new result
 
 -- ---- tables
@@ -78,39 +78,41 @@ pub record IsBoundShown (p : Program) (bytes : List ℕ) (bound : ℕ) : Type 0 
 
 -- standard output says that a table is refused; the slot of an entry whose step was tested may be
 -- known. Or memory ran out
-abbrev pub SaysTable : TableError → Option (ℕ × Insn) → Option (List ℕ) → Option (List ℕ) → Outcome → Type 0
+abbrev pub SaysTable : TableError → Option (ℕ × Insn) → Option (List ℕ) → Option (List ℕ) → TaskOutcome → Type 0
 SaysTable error place old new result =
     LacksMemory old new result ⊎ Says old new (table_line error) (Refused (rejection.Table error place)) result
 
 -- the same, where this is the refusal of the program with those bytes as its table; if the control
 -- flow is not good, the message says that the program is refused
-abbrev pub SaysOfTable : Program → TableError → Option (List ℕ) → Option (List ℕ) → Outcome → Type 0
+abbrev pub SaysOfTable : Program → TableError → Option (List ℕ) → Option (List ℕ) → TaskOutcome
+    → Type 0
 SaysOfTable p (table.Flow error slot) old new result = SaysRefused (Flow error) slot (fetch p slot) old new result
 SaysOfTable p error old new result =
     LacksMemory old new result
     ⊎ ((place : Option (ℕ × Insn)) × (is_table_memory error ≡ false) × Says old new (table_line error) (Refused (rejection.Table error place)) result)
 
 -- a table is refused, and standard output says why and where; or memory ran out
-abbrev pub RefusesTable : Program → List ℕ → Option (List ℕ) → Option (List ℕ) → Outcome → Type 0
+abbrev pub RefusesTable : Program → List ℕ → Option (List ℕ) → Option (List ℕ) → TaskOutcome
+    → Type 0
 RefusesTable p bytes old new result =
     LacksMemory old new result ⊎ ((error : TableError) × rechecking.TableIsRefused p bytes error × SaysOfTable p error old new result)
 
 -- ---- texts
 
 -- a text spells no program, and standard output says why and where; or memory ran out
-abbrev pub RefusesText : List ℕ → Option (List ℕ) → Option (List ℕ) → Outcome → Type 0
+abbrev pub RefusesText : List ℕ → Option (List ℕ) → Option (List ℕ) → TaskOutcome → Type 0
 RefusesText source old new result =
     LacksMemory old new result
     ⊎ ((error : AsmError) × (assembled source ≡ Err error) × (error.kind ≢ text.Memory)
     × Says old new (text_line error) (Refused (rejection.Text error)) result)
 
 -- the file with this name cannot be written, or memory ran out
-abbrev pub IsStoreFailure : List ℕ → Outcome → Type 0
+abbrev pub IsStoreFailure : List ℕ → TaskOutcome → Type 0
 IsStoreFailure name result = (result ≡ NoMemory) ⊎ IsWriteFailure name result
 
 -- an image was written, and then standard output says the line;
 -- or a beginning of it, and standard output got nothing
-abbrev pub StoresImage : Program → List ℕ → List ℕ → Option (List ℕ) → Option (List ℕ) → Option (List ℕ) → Option (List ℕ) → Outcome → Type 0
+abbrev pub StoresImage : Program → List ℕ → List ℕ → Option (List ℕ) → Option (List ℕ) → Option (List ℕ) → Option (List ℕ) → TaskOutcome → Type 0
 StoresImage p line name before after old new result =
     (Appends before after (image_bytes p) × Says old new line Done result)
     ⊎ (AppendsBeginning before after (image_bytes p) × IsStoreFailure name result × (new ≡ old))

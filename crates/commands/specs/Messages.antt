@@ -7,7 +7,7 @@ use Rattle.image.specs.declared.errors.ImageError.TheVariants.{Magic, MapRow, Co
 use Rattle.image.specs.Messages as image
 use Rattle.walks.specs.Messages as walks
 use Rattle.transfer.specs.Messages as transfer
-use Rattle.table_entries.specs.declared.faults.TableFault.TheVariants as fault
+use Rattle.table_entries.specs.declared.faults.TableRefusal.TheVariants as fault
 use Rattle.rechecking.specs.declared.errors.TableError.{TableError}
 use Rattle.rechecking.specs.declared.errors.TableError.TheVariants as table
 use Rattle.rechecking.specs.Messages as rechecking

@@ -6,8 +6,8 @@ use Rattle.proof_table.specs.declared.errors.WriteTableError.{WriteTableError}
 use Rattle.proof_table.specs.declared.errors.WriteTableError.TheVariants.{Memory, Explored, Writer}
 use Rattle.proof_table.specs.Writing.{GainsTable, BeginsTable}
 use Rattle.commands.specs.declared.rejections.Rejection.TheVariants as rejection
-use Rattle.commands.specs.declared.outcomes.Outcome.{Outcome}
-use Rattle.commands.specs.declared.outcomes.Outcome.TheVariants.{Done, Refused}
+use Rattle.commands.specs.declared.outcomes.TaskOutcome.{TaskOutcome}
+use Rattle.commands.specs.declared.outcomes.TaskOutcome.TheVariants.{Done, Refused}
 use Rattle.commands.specs.Statuses.{IsWriteFailureBy}
 use Rattle.commands.specs.Lines.{explored_line}
 use Rattle.commands.specs.Saying.{LacksMemory, Says}
@@ -15,7 +15,7 @@ use Rattle.commands.specs.Judging.{IsStoreFailure}
 use Rattle.commands.specs.Streams.{IsBeginningOf}
 
 -- how the task ends where this is why no table was written to the file with this name
-abbrev pub EndsUnwritten : List ℕ → WriteTableError → Option (List ℕ) → Option (List ℕ) → Outcome → Type 0
+abbrev pub EndsUnwritten : List ℕ → WriteTableError → Option (List ℕ) → Option (List ℕ) → TaskOutcome → Type 0
 EndsUnwritten name Memory old new result = LacksMemory old new result
 EndsUnwritten name Explored old new result = LacksMemory old new result ⊎ Says old new explored_line (Refused rejection.Explored) result
 EndsUnwritten name (Writer kind) old new result = IsWriteFailureBy name (Some kind) result × (new ≡ old)
@@ -23,7 +23,7 @@ EndsUnwritten name (Writer kind) old new result = IsWriteFailureBy name (Some ki
 -- A table of the program was handed on for the file with this name, or a beginning of one. The file got all of the table,
 -- and then standard output says the line; or it failed and got a beginning, and standard output got nothing; or it got a
 -- beginning of what was handed on, and the table was not written for some reason.
-pub record StoresTable (p : Program) (line name : List ℕ) (before after old new : Option (List ℕ)) (result : Outcome) : Type 0 where
+pub record StoresTable (p : Program) (line name : List ℕ) (before after old new : Option (List ℕ)) (result : TaskOutcome) : Type 0 where
   pub handed : Option (List ℕ)
   pub ends : (GainsTable p before handed × Keeps handed after × Says old new line Done result)
       ⊎ ((GainsTable p before handed × IsBeginningOf after handed × IsStoreFailure name result × (new ≡ old))

@@ -2,8 +2,8 @@
 use Rattle.std.specs.Prelude.{◌≡◌, ℕ, List, Option, ◌⊎◌}
 use Rattle.std.specs.Io.KnownBytes.{Appends}
 use Rattle.exact_io.specs.Transfers.{AppendsBeginning}
-use Rattle.commands.specs.declared.outcomes.Outcome.{Outcome}
-use Rattle.commands.specs.declared.outcomes.Outcome.TheVariants.{NoMemory}
+use Rattle.commands.specs.declared.outcomes.TaskOutcome.{TaskOutcome}
+use Rattle.commands.specs.declared.outcomes.TaskOutcome.TheVariants.{NoMemory}
 use Rattle.commands.specs.Statuses.{IsOutputFailure}
 
 -- an output got all of a text, or a beginning that is shorter
@@ -11,10 +11,10 @@ abbrev pub AppendsPart : Option (List ℕ) → Option (List ℕ) → List ℕ �
 AppendsPart old new text = Appends old new text ⊎ AppendsBeginning old new text
 
 -- standard output got all of a text, and then the task ended so; or a beginning that is shorter, and then it failed
-abbrev pub Says : Option (List ℕ) → Option (List ℕ) → List ℕ → Outcome → Outcome → Type 0
+abbrev pub Says : Option (List ℕ) → Option (List ℕ) → List ℕ → TaskOutcome → TaskOutcome → Type 0
 Says old new text ended result =
     (Appends old new text × (result ≡ ended)) ⊎ (AppendsBeginning old new text × IsOutputFailure result)
 
 -- memory ran out, and standard output got nothing
-abbrev pub LacksMemory : Option (List ℕ) → Option (List ℕ) → Outcome → Type 0
+abbrev pub LacksMemory : Option (List ℕ) → Option (List ℕ) → TaskOutcome → Type 0
 LacksMemory old new result = (result ≡ NoMemory) × (new ≡ old)

@@ -4,14 +4,14 @@ use Rattle.std.specs.declared.io.ErrorKind.{ErrorKind}
 use Rattle.std.specs.String.{string_bytes}
 use Rattle.words.specs.declared.tasks.WordsError.{WordsError}
 use Rattle.words.specs.declared.tasks.WordsError.TheVariants.{Wrong, Memory}
-use Rattle.commands.specs.declared.outcomes.Outcome.{Outcome}
-use Rattle.commands.specs.declared.outcomes.Outcome.TheVariants.{Done, WrongWords, Refused, Faulted, CannotRead, CannotWrite, CannotReplace, NoMemory}
+use Rattle.commands.specs.declared.outcomes.TaskOutcome.{TaskOutcome}
+use Rattle.commands.specs.declared.outcomes.TaskOutcome.TheVariants.{Done, WrongWords, Refused, Faulted, CannotRead, CannotWrite, CannotReplace, NoMemory}
 use Rattle.commands.specs.Causes.{cause_line, line_after}
 use Rattle.commands.specs.Faults.{fault_lines}
 use Rattle.commands.specs.Messages.{reason_of}
 
 -- the program's status
-abbrev pub status_of : Outcome → ℕ
+abbrev pub status_of : TaskOutcome → ℕ
 status_of Done = 0
 status_of (WrongWords text) = 1
 status_of (Refused rejection) = 2
@@ -22,7 +22,7 @@ status_of (CannotReplace path) = 4
 status_of NoMemory = 5
 
 -- whether standard output has got nothing
-abbrev pub is_silent : Outcome → Bool
+abbrev pub is_silent : TaskOutcome → Bool
 is_silent Done = false
 is_silent (WrongWords text) = true
 is_silent (Refused rejection) = false
@@ -33,7 +33,7 @@ is_silent (CannotReplace path) = true
 is_silent NoMemory = true
 
 -- whether standard error has nothing to say
-abbrev pub is_unsaid : Outcome → Bool
+abbrev pub is_unsaid : TaskOutcome → Bool
 is_unsaid Done = true
 is_unsaid (WrongWords text) = false
 is_unsaid (Refused rejection) = false
@@ -47,7 +47,7 @@ abbrev pub usage : List ℕ
 usage = codes "usage: xdpvm asm|dis|verify|run|trace|prove|recheck\n"
 
 -- what standard error gets
-abbrev pub message_of : Outcome → List ℕ
+abbrev pub message_of : TaskOutcome → List ℕ
 message_of Done = []
 message_of (WrongWords text) = text.now ++ usage
 message_of (Refused rejection) = reason_of rejection
@@ -61,44 +61,44 @@ message_of NoMemory = codes "out of memory\n"
 -- ---- what an outcome is
 
 -- the words ask for nothing, and this text says why
-abbrev pub SaysWrongWords : List ℕ → Outcome → Type 0
+abbrev pub SaysWrongWords : List ℕ → TaskOutcome → Type 0
 SaysWrongWords text (WrongWords said) = said.now ≡ text
 SaysWrongWords text outcome = ⊥
 
 -- the words ask for nothing
-abbrev pub IsWrongWords : Outcome → Type 0
+abbrev pub IsWrongWords : TaskOutcome → Type 0
 IsWrongWords (WrongWords said) = Unit {0}
 IsWrongWords outcome = ⊥
 
 -- how the task ends where the words ask for nothing
-abbrev pub IsWordsEnd : WordsError → Outcome → Type 0
+abbrev pub IsWordsEnd : WordsError → TaskOutcome → Type 0
 IsWordsEnd (Wrong text) outcome = SaysWrongWords (string_bytes text) outcome
 IsWordsEnd Memory outcome = outcome ≡ NoMemory
 
 -- the output of this name cannot be written
-abbrev pub IsWriteFailure : List ℕ → Outcome → Type 0
+abbrev pub IsWriteFailure : List ℕ → TaskOutcome → Type 0
 IsWriteFailure name (CannotWrite path cause) = path.now ≡ name
 IsWriteFailure name outcome = ⊥
 
 -- the same, with this as the reason, if one is known
-abbrev pub IsWriteFailureBy : List ℕ → Option ErrorKind → Outcome → Type 0
+abbrev pub IsWriteFailureBy : List ℕ → Option ErrorKind → TaskOutcome → Type 0
 IsWriteFailureBy name cause (CannotWrite path told) = (path.now ≡ name) × (told ≡ cause)
 IsWriteFailureBy name cause outcome = ⊥
 
-abbrev pub IsOutputFailure : Outcome → Type 0
+abbrev pub IsOutputFailure : TaskOutcome → Type 0
 IsOutputFailure outcome = IsWriteFailure (codes "standard output") outcome
 
-abbrev pub IsOutputFailureBy : ErrorKind → Outcome → Type 0
+abbrev pub IsOutputFailureBy : ErrorKind → TaskOutcome → Type 0
 IsOutputFailureBy kind outcome = IsWriteFailureBy (codes "standard output") (Some kind) outcome
 
 -- the file at the path cannot be read, or memory ran out
-abbrev pub IsReadFailure : List ℕ → Outcome → Type 0
+abbrev pub IsReadFailure : List ℕ → TaskOutcome → Type 0
 IsReadFailure path (CannotRead file kind) = file.now ≡ path
 IsReadFailure path NoMemory = Unit {0}
 IsReadFailure path outcome = ⊥
 
 -- the file at the path cannot be made, or must not be overwritten, or memory ran out
-abbrev pub IsMakeFailure : List ℕ → Outcome → Type 0
+abbrev pub IsMakeFailure : List ℕ → TaskOutcome → Type 0
 IsMakeFailure path (CannotWrite file cause) = file.now ≡ path
 IsMakeFailure path (CannotReplace file) = file.now ≡ path
 IsMakeFailure path NoMemory = Unit {0}

@@ -15,8 +15,8 @@ use Rattle.host.specs.declared.stops.FrameStop.{FrameStop}
 use Rattle.host.specs.declared.stops.Stops.{Stops}
 use Rattle.host.specs.declared.traced.Traced.{Traced}
 use Rattle.host.specs.Stops.{Noted, noted_of}
-use Rattle.commands.specs.declared.outcomes.Outcome.{Outcome}
-use Rattle.commands.specs.declared.outcomes.Outcome.TheVariants.{Done, Faulted}
+use Rattle.commands.specs.declared.outcomes.TaskOutcome.{TaskOutcome}
+use Rattle.commands.specs.declared.outcomes.TaskOutcome.TheVariants.{Done, Faulted}
 
 -- the instruction that begins at the slot, and what the registers held that it reads
 abbrev pub insn_lines : Option Insn → List Value → List ℕ
@@ -59,7 +59,7 @@ abbrev pub first_lines : List FrameStop → List ℕ
 first_lines [] = []
 first_lines (f ∷ fs) = stop_line f ++ first_lines fs
 
--- how many frames there are beside the first ones
+-- how many more frames ended without an action
 abbrev pub more_line : ℕ → List ℕ
 more_line more = if more == 0 then [] else codes "and " ++ (decimal more ++ codes " more frames that ended without an action\n")
 
@@ -78,7 +78,7 @@ TellsStopsOf (Ok traced) why = TellsStops traced.stops why
 TellsStopsOf (Err error) why = why ≡ None
 
 -- the message is written if the run came to its end and all its output was flushed
-abbrev pub at_end : Outcome → Option (String Global) → Option (String Global)
+abbrev pub at_end : TaskOutcome → Option (String Global) → Option (String Global)
 at_end Done why = why
 at_end (Faulted fault form) why = why
 at_end outcome why = None

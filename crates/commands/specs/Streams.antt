@@ -18,26 +18,27 @@ use Rattle.host.specs.Reported.{Reports}
 use Rattle.host.specs.Accepted.{ReportsRun}
 use Rattle.commands.specs.declared.endings.Ending.{Ending}
 use Rattle.commands.specs.declared.forms.FileForm.{FileForm}
-use Rattle.commands.specs.declared.outcomes.Outcome.{Outcome}
-use Rattle.commands.specs.declared.outcomes.Outcome.TheVariants.{Done, Faulted, NoMemory}
+use Rattle.commands.specs.declared.outcomes.TaskOutcome.{TaskOutcome}
+use Rattle.commands.specs.declared.outcomes.TaskOutcome.TheVariants.{Done, Faulted, NoMemory}
 use Rattle.commands.specs.Statuses.{IsOutputFailure, IsWriteFailureBy}
 use Rattle.commands.specs.Stopped.{TellsStopsOf, at_end}
 
 -- a stream that begins so came to its end, or had a fault
-abbrev pub outcome_at : FileForm → Option (Fault × ℕ) → Outcome
+abbrev pub outcome_at : FileForm → Option (Fault × ℕ) → TaskOutcome
 outcome_at form None = Done
 outcome_at form (Some (fault, at)) = Faulted fault form
 
 -- how a task ends by how its run did on a stream that begins so, the frames out going to the file with this name, which
 -- failed for this reason, if it did
-abbrev pub EndsBy : List ℕ → Option ErrorKind → FileForm → Result Tally HostError → Outcome → Type 0
+abbrev pub EndsBy : List ℕ → Option ErrorKind → FileForm → Result Tally HostError → TaskOutcome
+    → Type 0
 EndsBy name cause form (Ok tally) result = result ≡ outcome_at form tally.fault
 EndsBy name cause form (Err failure.Memory) result = result ≡ NoMemory
 EndsBy name cause form (Err failure.Report) result = IsOutputFailure result
 EndsBy name cause form (Err failure.Frames) result = IsWriteFailureBy name cause result
 
 -- the same where the file did not get all of the frames out: it failed, or the report or memory had failed before
-abbrev pub FailsBy : List ℕ → Option ErrorKind → FileForm → Result Tally HostError → Outcome
+abbrev pub FailsBy : List ℕ → Option ErrorKind → FileForm → Result Tally HostError → TaskOutcome
     → Type 0
 FailsBy name cause form (Ok tally) result = IsWriteFailureBy name cause result
 FailsBy name cause form (Err error) result = EndsBy name cause form (Err error) result
@@ -48,7 +49,7 @@ IsBeginningOf got bytes = (lost : List ℕ) × Keeps bytes (append_known got los
 
 -- How a task ends by how its run did, which handed these frames out on for the file with this name. The file got all of
 -- them; or it got a beginning, and then it failed, or something had failed before.
-abbrev pub EndsTask : List ℕ → Option ErrorKind → FileForm → Result Tally HostError → Option (List ℕ) → Option (List ℕ) → Outcome → Type 0
+abbrev pub EndsTask : List ℕ → Option ErrorKind → FileForm → Result Tally HostError → Option (List ℕ) → Option (List ℕ) → TaskOutcome → Type 0
 EndsTask name cause form ended handed got result =
     (Keeps handed got × EndsBy name cause form ended result) ⊎ (IsBeginningOf got handed × FailsBy name cause form ended result)
 
@@ -69,7 +70,7 @@ pub record Traces (p : Program) (limit : ℕ) (source : Option (List ℕ)) (form
 -- A run of an accepted program: what is written is exactly the report of the program and of the frames that were found,
 -- which are those that the source's bytes spell, where it tells them; no run of a frame meets a trap, and each exits
 -- within the bound.
-pub record RunsAccepted (v : Bounded) (source : Option (List ℕ)) (form : FileForm) (name : List ℕ) (cause : Option ErrorKind) (old new : Outputs) (result : Outcome) : Type 0 where
+pub record RunsAccepted (v : Bounded) (source : Option (List ℕ)) (form : FileForm) (name : List ℕ) (cause : Option ErrorKind) (old new : Outputs) (result : TaskOutcome) : Type 0 where
   pub ended : Result Tally HostError
   pub handed : Option (List ℕ)
   pub ends : EndsTask name cause form ended handed new.frames result

@@ -6,7 +6,7 @@ ghost use Rattle.exact_io.specs.Waiting.{held};
 ghost use Rattle.commands.specs.HandingOn.{IsFlushed};
 ghost use Rattle.commands.specs.Executing.{AnswersWords, AnswersError, IsTold, TellsDone, TellsFault};
 
-use super::outcomes::Outcome;
+use super::outcomes::TaskOutcome;
 use super::requests::serve;
 use exact_io::PromptWriter;
 use std::io::Write;
@@ -47,7 +47,7 @@ pub fn execute<R: Files + Clock + AllocGlobal, W1: Write + Drop, W2: Write>(
     let alloc = rt.alloc();
     match read_words(alloc, words) {
         Ok(task) => serve(rt, alloc, task, out).flushed(out).tell(err),
-        Err(error) => Outcome::of_words(&error).tell(err),
+        Err(error) => TaskOutcome::of_words(&error).tell(err),
     }
 }
 
@@ -67,6 +67,6 @@ pub fn answer<R: Files + Clock + AllocGlobal, W1: Write + Drop, W2: Write>(
 {
     match given {
         Ok(words) => execute(rt, words.as_slice(), out, err),
-        Err(error) => Outcome::of_words(&error).tell(err),
+        Err(error) => TaskOutcome::of_words(&error).tell(err),
     }
 }

@@ -8,7 +8,7 @@ ghost use Rattle.commands.specs.Saying.{AppendsPart};
 ghost use Rattle.commands.specs.Known.{IsKnownOfProgram, IsKnownOfText, told_of};
 ghost use Rattle.commands.specs.HandingOn.{Flushes};
 
-use super::outcomes::{Outcome, STANDARD_OUTPUT};
+use super::outcomes::{STANDARD_OUTPUT, TaskOutcome};
 use super::rejections::Rejection;
 use assembler::shown;
 use exact_io::{PromptWriter, write_bytes};
@@ -21,16 +21,16 @@ use std::io::Write;
 /// How a task ended, and what is known where a program was refused.
 #[derive(Drop)]
 pub struct Ending<'a> {
-    pub outcome: Outcome<'a>,
+    pub outcome: TaskOutcome<'a>,
     /// The registers and stack slots that concern the refused instruction, and the last jumps on
-    /// the way there; or the line of a text that was refused, and what helps; or of a trace, where
+    /// the path there; or the line of a text that was refused, and what helps; or of a trace, where
     /// packet frames stopped; in lines.
     pub why: Option<String>,
 }
 
 impl<'a> Ending<'a> {
     /// The task ended so, and nothing is known beside that.
-    pub fn plain(outcome: Outcome<'a>) -> Self
+    pub fn plain(outcome: TaskOutcome<'a>) -> Self
         ensures outcome { result.outcome ≡ outcome.entry }
         ensures why { result.why ≡ None }
     {
@@ -39,12 +39,12 @@ impl<'a> Ending<'a> {
 
     /// A task that judged this program ended so. Where the program was refused, what is known of
     /// that is looked for: nothing is known where memory runs out.
-    pub fn of_program(alloc: Global, image: &Image, outcome: Outcome<'a>) -> Self
+    pub fn of_program(alloc: Global, image: &Image, outcome: TaskOutcome<'a>) -> Self
         ensures outcome { result.outcome ≡ outcome.entry }
         ensures known { IsKnownOfProgram image.now result }
     {
         let why = match outcome {
-            Outcome::Refused(Rejection::Program(refusal, slot, _)) => {
+            TaskOutcome::Refused(Rejection::Program(refusal, slot, _)) => {
                 reason(alloc, image, refusal, slot)
             }
             _ => None,
@@ -54,12 +54,12 @@ impl<'a> Ending<'a> {
 
     /// A task that read this text ended so. Where it was refused, the line is shown, and what
     /// helps; nothing is shown where memory runs out.
-    pub fn of_text(alloc: Global, text: &[u8], outcome: Outcome<'a>) -> Self
+    pub fn of_text(alloc: Global, text: &[u8], outcome: TaskOutcome<'a>) -> Self
         ensures outcome { result.outcome ≡ outcome.entry }
         ensures known { IsKnownOfText text.now result }
     {
         let why = match outcome {
-            Outcome::Refused(Rejection::Text(error)) => shown(alloc, text, error).ok(),
+            TaskOutcome::Refused(Rejection::Text(error)) => shown(alloc, text, error).ok(),
             _ => None,
         };
         Ending { outcome, why }
@@ -76,7 +76,9 @@ impl<'a> Ending<'a> {
         }
         match out.flush() {
             Ok(()) => self,
-            Err(error) => Ending::plain(Outcome::CannotWrite(STANDARD_OUTPUT, Some(error.kind()))),
+            Err(error) => {
+                Ending::plain(TaskOutcome::CannotWrite(STANDARD_OUTPUT, Some(error.kind())))
+            }
         }
     }
 

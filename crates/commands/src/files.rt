@@ -9,7 +9,7 @@ ghost use Rattle.commands.specs.Commands.{LoadsNone, TracesFile, RunsFile, Verif
 use super::endings::Ending;
 use super::forms::FileForm;
 use super::fronts::{Ahead, Watched, read_ahead};
-use super::outcomes::Outcome;
+use super::outcomes::TaskOutcome;
 use super::reading::{read_file, read_start};
 use super::same::is_same_file;
 use super::screens::Screen;
@@ -22,7 +22,7 @@ use std::alloc::Global;
 use std::fs;
 use std::io::{BufReader, Write};
 use std::rt::{Clock, Files};
-use words::{Assembly, Paths, StepLimit};
+use words::{Assembly, RunPaths, StepLimit};
 
 // One byte more than the longest image has: its head, the rows of its maps and its slots. The rest
 // of a longer file changes nothing.
@@ -47,17 +47,17 @@ pub fn create_file<'a, R: Files>(
     rt: &R,
     path: &'a str,
     read: &[&str],
-) -> Result<R::File, Outcome<'a>>
+) -> Result<R::File, TaskOutcome<'a>>
     ensures { IfErr result (IsMakeFailure path.now) }
 {
     for other in read {
         if is_same_file(rt, path, *other) {
-            return Err(Outcome::CannotReplace(path));
+            return Err(TaskOutcome::CannotReplace(path));
         }
     }
     match fs::create(rt, path) {
         Ok(file) => Ok(file),
-        Err(error) => Err(Outcome::of_write(path, &error)),
+        Err(error) => Err(TaskOutcome::of_write(path, &error)),
     }
 }
 
@@ -67,7 +67,7 @@ pub fn load_image<'a, R: Files, W: Write>(
     alloc: Global,
     path: &'a str,
     out: &mut W,
-) -> Result<Image, Outcome<'a>>
+) -> Result<Image, TaskOutcome<'a>>
     ensures ok { OnOk result (W.contents out.new ≡ W.contents out.old) }
     ensures fits { IfOk result IsImage }
     ensures none { IfErr result
@@ -75,7 +75,7 @@ pub fn load_image<'a, R: Files, W: Write>(
 {
     let bytes = match read_start(rt, alloc, path, PAST_ANY_IMAGE) {
         Ok(bytes) => bytes,
-        Err(error) => return Err(Outcome::of_read(path, &error)),
+        Err(error) => return Err(TaskOutcome::of_read(path, &error)),
     };
     image_of(alloc, bytes.as_slice(), out)
 }
@@ -87,24 +87,24 @@ pub fn load_image<'a, R: Files, W: Write>(
 pub fn open_streams<'a, 'b, R: Files + Clock>(
     rt: &'b R,
     alloc: Global,
-    paths: Paths<'a>,
+    paths: RunPaths<'a>,
     read: &[&str],
-) -> Result<Streams<'b, R>, Outcome<'a>>
+) -> Result<Streams<'b, R>, TaskOutcome<'a>>
     ensures { IfErr result
         (λ ended. IsReadFailure paths.entry.frames.now ended
         ⊎ IsMakeFailure paths.entry.out.now ended) }
 {
     let source = match fs::open(rt, paths.frames) {
         Ok(source) => source,
-        Err(error) => return Err(Outcome::of_read(paths.frames, &error)),
+        Err(error) => return Err(TaskOutcome::of_read(paths.frames, &error)),
     };
     let source = Watched::new(source, Screen::shared(rt, alloc));
     let Ok(source) = BufReader::with_capacity(alloc, BUFFER, source) else {
-        return Err(Outcome::NoMemory);
+        return Err(TaskOutcome::NoMemory);
     };
     let file = create_file(rt, paths.out, read)?;
     let Ok(file) = PromptWriter::new(alloc, BUFFER, MAGIC, file) else {
-        return Err(Outcome::NoMemory);
+        return Err(TaskOutcome::NoMemory);
     };
     let (source, form) = read_ahead(source);
     Ok((source, form, file))
@@ -115,7 +115,7 @@ pub fn open_streams<'a, 'b, R: Files + Clock>(
 pub fn trace<'a, R: Files + Clock, W: Write>(
     rt: &R,
     alloc: Global,
-    paths: Paths<'a>,
+    paths: RunPaths<'a>,
     limit: StepLimit,
     out: &mut W,
 ) -> Ending<'a>
@@ -139,7 +139,7 @@ pub fn trace<'a, R: Files + Clock, W: Write>(
 pub fn run_verified<'a, R: Files + Clock, W: Write>(
     rt: &R,
     alloc: Global,
-    paths: Paths<'a>,
+    paths: RunPaths<'a>,
     out: &mut W,
 ) -> Ending<'a>
     ensures { RunsFile (files_of paths.entry) (W.contents out.old) (W.contents out.new) result }
@@ -184,7 +184,7 @@ pub fn disassemble_file<'a, R: Files, W: Write>(
     alloc: Global,
     path: &'a str,
     out: &mut W,
-) -> Outcome<'a>
+) -> TaskOutcome<'a>
     ensures { DisassemblesFile path.now (W.contents out.old) (W.contents out.new) result }
 {
     let image = match load_image(rt, alloc, path, out) {
@@ -201,7 +201,7 @@ fn assemble_text<'a, R: Files, W: Write>(
     text: &[u8],
     paths: Assembly<'a>,
     out: &mut W,
-) -> Outcome<'a>
+) -> TaskOutcome<'a>
     ensures { Assembles text.now paths.entry.image.now (W.contents out.old) (W.contents out.new)
         result }
 {
@@ -210,7 +210,7 @@ fn assemble_text<'a, R: Files, W: Write>(
         Err(outcome) => return outcome,
     };
     let Ok(line) = size_line(alloc, &image) else {
-        return Outcome::NoMemory;
+        return TaskOutcome::NoMemory;
     };
     match create_file(rt, paths.image, &[paths.text]) {
         Ok(mut file) => store_image(&image, line.as_str(), paths.image, out, &mut file),
@@ -231,7 +231,7 @@ pub fn assemble_file<'a, R: Files, W: Write>(
 {
     let text = match read_file(rt, alloc, paths.text) {
         Ok(text) => text,
-        Err(error) => return Ending::plain(Outcome::of_read(paths.text, &error)),
+        Err(error) => return Ending::plain(TaskOutcome::of_read(paths.text, &error)),
     };
     let source = text.as_slice();
     Ending::of_text(alloc, source, assemble_text(rt, alloc, source, paths, out))

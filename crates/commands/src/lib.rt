@@ -30,6 +30,6 @@ pub use answering::{answer, execute};
 pub use buffering::buffered;
 pub use endings::Ending;
 pub use forms::FileForm;
-pub use outcomes::Outcome;
+pub use outcomes::TaskOutcome;
 pub use rejections::Rejection;
 pub use requests::serve;

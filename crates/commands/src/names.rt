@@ -9,7 +9,7 @@ use explorer::Refusal;
 use image::ImageError;
 use rechecking::TableError;
 use std::alloc::{AllocError, Global};
-use table_entries::TableFault;
+use table_entries::TableRefusal;
 
 // The line for what is refused as a whole, with the code of the refusal.
 fn whole_line(alloc: Global, code: &str) -> Result<String, AllocError>
@@ -71,7 +71,7 @@ pub fn table_line(alloc: Global, error: TableError) -> Result<String, AllocError
     let code = error.code();
     match error {
         TableError::Flow(_, slot) => counted_line(alloc, code, " slot ", slot),
-        TableError::Fault(TableFault::Entry(index)) | TableError::Successor(index) => {
+        TableError::Fault(TableRefusal::Entry(index)) | TableError::Successor(index) => {
             counted_line(alloc, code, " entry ", index)
         }
         TableError::Step(index, refusal) => {

@@ -26,9 +26,9 @@ const USAGE: &str = "usage: xdpvm asm|dis|verify|run|trace|prove|recheck\n";
 
 /// How a task ended. A file or output that failed is named.
 #[derive(Clone, Copy)]
-pub enum Outcome<'a> {
+pub enum TaskOutcome<'a> {
     Done,
-    /// The words ask for nothing. The text says why, or is the help.
+    /// No command was given in full. The text says what is wrong, or is the help.
     WrongWords(&'a str),
     /// The image, the program, the table or the text was refused, which standard output says.
     Refused(Rejection),
@@ -44,41 +44,43 @@ pub enum Outcome<'a> {
     NoMemory,
 }
 
-impl<'a> Outcome<'a> {
-    /// The words ask for nothing, or memory ran out before that was known.
+impl<'a> TaskOutcome<'a> {
+    /// No command was given in full, or memory ran out before that was known.
     pub fn of_words(error: &'a WordsError) -> Self
         ensures { IsWordsEnd error.now result }
     {
         match error {
-            WordsError::Wrong(text) => Outcome::WrongWords(text.as_str()),
-            WordsError::Memory => Outcome::NoMemory,
+            WordsError::Wrong(text) => TaskOutcome::WrongWords(text.as_str()),
+            WordsError::Memory => TaskOutcome::NoMemory,
         }
     }
 
     /// A read of the file failed.
     pub fn of_read(path: &'a str, error: &io::Error) -> Self
-        ensures memory { error_kind error.now ≡ ErrorKind.OutOfMemory → result ≡ Outcome.NoMemory }
+        ensures memory { error_kind error.now ≡ ErrorKind.OutOfMemory
+            → result ≡ TaskOutcome.NoMemory }
         ensures file { error_kind error.now ≢ ErrorKind.OutOfMemory
-            → result ≡ Outcome.CannotRead path.entry (error_kind error.now) }
+            → result ≡ TaskOutcome.CannotRead path.entry (error_kind error.now) }
         ensures failed { IsReadFailure path.now result }
     {
         match error.kind() {
-            ErrorKind::OutOfMemory => Outcome::NoMemory,
-            kind => Outcome::CannotRead(path, kind),
+            ErrorKind::OutOfMemory => TaskOutcome::NoMemory,
+            kind => TaskOutcome::CannotRead(path, kind),
         }
     }
 
     /// A write to the file failed, or it could not be made.
     pub fn of_write(path: &'a str, error: &io::Error) -> Self
-        ensures memory { error_kind error.now ≡ ErrorKind.OutOfMemory → result ≡ Outcome.NoMemory }
+        ensures memory { error_kind error.now ≡ ErrorKind.OutOfMemory
+            → result ≡ TaskOutcome.NoMemory }
         ensures file { error_kind error.now ≢ ErrorKind.OutOfMemory
-            → result ≡ Outcome.CannotWrite path.entry (Some (error_kind error.now)) }
+            → result ≡ TaskOutcome.CannotWrite path.entry (Some (error_kind error.now)) }
         ensures unmade { IsMakeFailure path.now result }
         ensures unstored { IsStoreFailure path.now result }
     {
         match error.kind() {
-            ErrorKind::OutOfMemory => Outcome::NoMemory,
-            kind => Outcome::CannotWrite(path, Some(kind)),
+            ErrorKind::OutOfMemory => TaskOutcome::NoMemory,
+            kind => TaskOutcome::CannotWrite(path, Some(kind)),
         }
     }
 
@@ -87,14 +89,14 @@ impl<'a> Outcome<'a> {
         ensures { result ≡ is_silent self.now }
     {
         match self {
-            Outcome::Done
-            | Outcome::Refused(_)
-            | Outcome::Faulted(_, _)
-            | Outcome::CannotWrite(_, _) => false,
-            Outcome::WrongWords(_)
-            | Outcome::CannotRead(_, _)
-            | Outcome::CannotReplace(_)
-            | Outcome::NoMemory => true,
+            TaskOutcome::Done
+            | TaskOutcome::Refused(_)
+            | TaskOutcome::Faulted(_, _)
+            | TaskOutcome::CannotWrite(_, _) => false,
+            TaskOutcome::WrongWords(_)
+            | TaskOutcome::CannotRead(_, _)
+            | TaskOutcome::CannotReplace(_)
+            | TaskOutcome::NoMemory => true,
         }
     }
 
@@ -103,12 +105,14 @@ impl<'a> Outcome<'a> {
         ensures { result ≡ status_of self.entry }
     {
         match self {
-            Outcome::Done => 0,
-            Outcome::WrongWords(_) => 1,
-            Outcome::Refused(_) => 2,
-            Outcome::Faulted(_, _) => 3,
-            Outcome::CannotRead(_, _) | Outcome::CannotWrite(_, _) | Outcome::CannotReplace(_) => 4,
-            Outcome::NoMemory => 5,
+            TaskOutcome::Done => 0,
+            TaskOutcome::WrongWords(_) => 1,
+            TaskOutcome::Refused(_) => 2,
+            TaskOutcome::Faulted(_, _) => 3,
+            TaskOutcome::CannotRead(_, _)
+            | TaskOutcome::CannotWrite(_, _)
+            | TaskOutcome::CannotReplace(_) => 4,
+            TaskOutcome::NoMemory => 5,
         }
     }
 
@@ -121,24 +125,24 @@ impl<'a> Outcome<'a> {
         ensures unsaid { is_unsaid self.entry ≡ true → W.contents err.new ≡ W.contents err.old }
     {
         match self {
-            Outcome::Done => Ok(()),
-            Outcome::Faulted(fault, form) => say_fault(err, fault, form),
-            Outcome::Refused(rejection) => rejection.say(err),
-            Outcome::WrongWords(text) => {
+            TaskOutcome::Done => Ok(()),
+            TaskOutcome::Faulted(fault, form) => say_fault(err, fault, form),
+            TaskOutcome::Refused(rejection) => rejection.say(err),
+            TaskOutcome::WrongWords(text) => {
                 write_bytes(err, text.as_bytes())?;
                 write_bytes(err, USAGE.as_bytes())
             }
-            Outcome::CannotRead(path, kind) => {
+            TaskOutcome::CannotRead(path, kind) => {
                 write_texts(err, "cannot read ", path, cause_line(kind))
             }
-            Outcome::CannotWrite(path, cause) => {
+            TaskOutcome::CannotWrite(path, cause) => {
                 write_texts(err, "cannot write ", path, line_after(cause))
             }
-            Outcome::CannotReplace(path) => {
+            TaskOutcome::CannotReplace(path) => {
                 let why = "\nit is one of the files that are read\n";
                 write_texts(err, "cannot write ", path, why)
             }
-            Outcome::NoMemory => write_bytes(err, b"out of memory\n"),
+            TaskOutcome::NoMemory => write_bytes(err, b"out of memory\n"),
         }
     }
 

@@ -8,7 +8,7 @@ ghost use Rattle.commands.specs.Known.{IsKnownOfTable, place_found, why_found, w
 
 use super::endings::Ending;
 use super::names::table_line;
-use super::outcomes::Outcome;
+use super::outcomes::TaskOutcome;
 use super::rejections::Rejection;
 use super::verdicts::{say_made, say_refused};
 use explanations::{EntryReason, entry_reason};
@@ -17,15 +17,15 @@ use image::Image;
 use rechecking::{TableError, recheck};
 use std::alloc::Global;
 use std::io::Write;
-use table_entries::TableFault;
+use table_entries::TableRefusal;
 
 // How a task ended whose message about a refusal was written so, with what is known.
-fn ending_with<'a>(outcome: Outcome<'a>, why: Option<String>) -> Ending<'a>
+fn ending_with<'a>(outcome: TaskOutcome<'a>, why: Option<String>) -> Ending<'a>
     ensures outcome { result.outcome ≡ outcome.entry }
     ensures why { result.why ≡ with_refusal outcome.entry why }
 {
     match outcome {
-        Outcome::Refused(_) => Ending { outcome, why },
+        TaskOutcome::Refused(_) => Ending { outcome, why },
         _ => Ending::plain(outcome),
     }
 }
@@ -45,7 +45,7 @@ fn say_found<'a, W: Write>(
         Some(found) => (Some((found.slot, found.insn)), Some(found.text)),
         None => (None, None),
     };
-    let refused = Outcome::Refused(Rejection::Table(error, place));
+    let refused = TaskOutcome::Refused(Rejection::Table(error, place));
     let outcome = say_made(table_line(alloc, error), refused, out);
     ending_with(outcome, why)
 }
@@ -67,7 +67,7 @@ fn say_rejected<'a, W: Write>(
             let insn = image.at(slot).copied();
             Ending::plain(say_refused(alloc, Refusal::Flow(flow), slot, insn, out))
         }
-        TableError::Fault(TableFault::Memory) => Ending::plain(Outcome::NoMemory),
+        TableError::Fault(TableRefusal::Memory) => Ending::plain(TaskOutcome::NoMemory),
         _ => say_found(alloc, error, entry_reason(alloc, image, bytes, error), out),
     }
 }
@@ -91,7 +91,7 @@ pub fn shown<'a, W: Write>(
     // A copy, since the tests of the table take the image, and after a refusal the entry is read
     // again.
     let Ok(copy) = image.copy(alloc) else {
-        return Err(Ending::plain(Outcome::NoMemory));
+        return Err(Ending::plain(TaskOutcome::NoMemory));
     };
     match recheck(alloc, image, bytes) {
         Ok(verified) => Ok(verified),

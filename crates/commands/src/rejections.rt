@@ -20,7 +20,7 @@ use proof_table::WriteTableError;
 use rechecking::TableError;
 use std::io;
 use std::io::Write;
-use table_entries::TableFault;
+use table_entries::TableRefusal;
 
 /// What is refused, and why.
 #[derive(Clone, Copy)]
@@ -221,7 +221,7 @@ fn say_table_place<W: Write>(
         (table_place error place)) }
 {
     match error {
-        TableError::Fault(TableFault::Entry(index)) => say_entry_anew(err, index),
+        TableError::Fault(TableRefusal::Entry(index)) => say_entry_anew(err, index),
         TableError::Step(index, refusal) => {
             say_step(err, index, place)?;
             write_texts(err, "", refusal.sentence(), "\n")

@@ -10,13 +10,13 @@ use super::tables::{prove_file, recheck_file, run_shown};
 use std::alloc::Global;
 use std::io::Write;
 use std::rt::{Clock, Files};
-use words::{Paths, Task};
+use words::{RunPaths, Task};
 
 // Runs a program after verifying it, or after testing its table if one is given.
 fn run<'a, R: Files + Clock, W: Write>(
     rt: &R,
     alloc: Global,
-    paths: Paths<'a>,
+    paths: RunPaths<'a>,
     table: Option<&'a str>,
     out: &mut W,
 ) -> Ending<'a>

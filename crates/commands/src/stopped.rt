@@ -6,7 +6,7 @@ ghost use Rattle.isa_model.specs.Text.CanonicalText as canonical;
 ghost use Rattle.host.specs.Stops.{noted_of};
 ghost use Rattle.commands.specs.Stopped.{insn_lines, trap_line, end_line, stop_line, first_lines, more_line, stop_lines, TellsStopsOf, at_end};
 
-use super::outcomes::Outcome;
+use super::outcomes::TaskOutcome;
 use disassembler::write_insn;
 use explanations::value_lines;
 use host::{FrameStop, HostError, Stops, Traced};
@@ -150,11 +150,11 @@ pub fn lines_of_stops(alloc: Global, ended: &Result<Traced, HostError>) -> Optio
 }
 
 /// It is written if all of the run's output was flushed.
-pub fn at_end(outcome: Outcome<'_>, why: Option<String>) -> Option<String>
+pub fn at_end(outcome: TaskOutcome<'_>, why: Option<String>) -> Option<String>
     ensures { result ≡ at_end outcome.entry why }
 {
     match outcome {
-        Outcome::Done | Outcome::Faulted(_, _) => why,
+        TaskOutcome::Done | TaskOutcome::Faulted(_, _) => why,
         _ => None,
     }
 }

@@ -6,7 +6,7 @@ ghost use Rattle.exact_io.specs.Waiting.{behind, failure_of, held};
 
 use super::endings::Ending;
 use super::forms::FileForm;
-use super::outcomes::{Outcome, STANDARD_OUTPUT};
+use super::outcomes::{STANDARD_OUTPUT, TaskOutcome};
 use super::stopped::{at_end, lines_of_stops};
 use super::verdicts::say_line;
 use exact_io::PromptWriter;
@@ -25,24 +25,24 @@ fn outcome_of<'a, W: Write + Drop>(
     form: FileForm,
     ended: Result<Tally, HostError>,
     file: &mut PromptWriter<W>,
-) -> Outcome<'a>
+) -> TaskOutcome<'a>
     ensures { EndsTask path.now (failure_of file.new) form ended
         (held W.contents file.old) (W.contents (behind file.new)) result }
 {
     match ended {
         Ok(tally) => match file.flush() {
             Ok(()) => match tally.fault {
-                None => Outcome::Done,
-                Some((fault, _)) => Outcome::Faulted(fault, form),
+                None => TaskOutcome::Done,
+                Some((fault, _)) => TaskOutcome::Faulted(fault, form),
             },
-            Err(error) => Outcome::CannotWrite(path, Some(error.kind())),
+            Err(error) => TaskOutcome::CannotWrite(path, Some(error.kind())),
         },
-        Err(HostError::Memory) => Outcome::NoMemory,
+        Err(HostError::Memory) => TaskOutcome::NoMemory,
         Err(HostError::Report) => {
             let _ = file.flush();
-            Outcome::CannotWrite(STANDARD_OUTPUT, None)
+            TaskOutcome::CannotWrite(STANDARD_OUTPUT, None)
         }
-        Err(HostError::Frames) => Outcome::CannotWrite(path, file.failure()),
+        Err(HostError::Frames) => TaskOutcome::CannotWrite(path, file.failure()),
     }
 }
 
@@ -83,7 +83,7 @@ pub fn run_stream<'a, R: Read + Drop, W1: Write, W2: Write + Drop>(
     path: &'a str,
     out: &mut W1,
     file: &mut PromptWriter<W2>,
-) -> Outcome<'a>
+) -> TaskOutcome<'a>
     ensures { RunsAccepted verified (R.remaining source) form path.now (failure_of file.new)
         record { report = W1.contents out.old; frames = held W2.contents file.old }
         record { report = W1.contents out.new; frames = W2.contents (behind file.new) } result }
@@ -99,12 +99,12 @@ pub fn store_image<'a, W1: Write, W2: Write>(
     path: &'a str,
     out: &mut W1,
     file: &mut W2,
-) -> Outcome<'a>
+) -> TaskOutcome<'a>
     ensures { StoresImage image.now line.now path.now (W2.contents file.old) (W2.contents file.new)
         (W1.contents out.old) (W1.contents out.new) result }
 {
     match image.write(file) {
-        Ok(()) => say_line(line, Outcome::Done, out),
-        Err(error) => Outcome::of_write(path, &error),
+        Ok(()) => say_line(line, TaskOutcome::Done, out),
+        Err(error) => TaskOutcome::of_write(path, &error),
     }
 }

@@ -8,7 +8,7 @@ ghost use Rattle.commands.specs.Statuses.{IsMakeFailure};
 
 use super::endings::Ending;
 use super::files::{BUFFER, create_file, load_image, open_streams};
-use super::outcomes::Outcome;
+use super::outcomes::TaskOutcome;
 use super::proving::store_table;
 use super::reading::read_file;
 use super::rechecks::shown;
@@ -19,7 +19,7 @@ use explorer::Verified;
 use std::alloc::Global;
 use std::io::Write;
 use std::rt::{Clock, Files};
-use words::{Paths, Proof};
+use words::{Proof, RunPaths};
 
 // The program of an image with the bound that a table shows, or how the task ends without: the
 // image is read and judged, then the table.
@@ -40,7 +40,7 @@ fn load_shown<'a, R: Files, W: Write>(
     };
     match read_file(rt, alloc, proof.table) {
         Ok(bytes) => shown(alloc, image, bytes.as_slice(), out),
-        Err(error) => Err(Ending::plain(Outcome::of_read(proof.table, &error))),
+        Err(error) => Err(Ending::plain(TaskOutcome::of_read(proof.table, &error))),
     }
 }
 
@@ -67,7 +67,7 @@ pub fn recheck_file<'a, R: Files, W: Write>(
 pub fn run_shown<'a, R: Files + Clock, W: Write>(
     rt: &R,
     alloc: Global,
-    paths: Paths<'a>,
+    paths: RunPaths<'a>,
     table: &'a str,
     out: &mut W,
 ) -> Ending<'a>
@@ -93,13 +93,13 @@ fn create_table<'a, R: Files>(
     rt: &R,
     alloc: Global,
     proof: Proof<'a>,
-) -> Result<PromptWriter<R::File>, Outcome<'a>>
+) -> Result<PromptWriter<R::File>, TaskOutcome<'a>>
     ensures { IfErr result (IsMakeFailure proof.entry.table.now) }
 {
     let file = create_file(rt, proof.table, &[proof.image])?;
     match PromptWriter::new(alloc, BUFFER, 0, file) {
         Ok(file) => Ok(file),
-        Err(_) => Err(Outcome::NoMemory),
+        Err(_) => Err(TaskOutcome::NoMemory),
     }
 }
 
@@ -123,7 +123,7 @@ pub fn prove_file<'a, R: Files + Clock, W: Write>(
         Err(ending) => return ending,
     };
     let Ok(line) = bound_line(alloc, &verified) else {
-        return Ending::plain(Outcome::NoMemory);
+        return Ending::plain(TaskOutcome::NoMemory);
     };
     match create_table(rt, alloc, proof) {
         Ok(mut file) => {

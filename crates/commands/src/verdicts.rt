@@ -19,7 +19,7 @@ ghost use Rattle.commands.specs.Known.{IsKnownOfProgram};
 use super::endings::Ending;
 use super::forms::form_of;
 use super::names::{image_line, text_line, verdict_line};
-use super::outcomes::{Outcome, STANDARD_OUTPUT};
+use super::outcomes::{STANDARD_OUTPUT, TaskOutcome};
 use super::rejections::Rejection;
 use super::searches::verify_shown;
 use assembler::{AsmError, AsmErrorKind, assemble};
@@ -33,24 +33,24 @@ use std::alloc::{AllocError, Global};
 use std::io::Write;
 use std::rt::{Clock, Files};
 
-/// Says a line, after which the task has ended so.
-pub fn say_line<'a, W: Write>(line: &str, ended: Outcome<'a>, out: &mut W) -> Outcome<'a>
+/// Writes a line, and ends the task with this outcome.
+pub fn say_line<'a, W: Write>(line: &str, ended: TaskOutcome<'a>, out: &mut W) -> TaskOutcome<'a>
     requires { is_silent ended ≡ false }
     ensures loud { is_silent result ≡ false }
     ensures said { Says (W.contents out.old) (W.contents out.new) line.now ended.entry result }
 {
     match write_bytes(out, line.as_bytes()) {
         Ok(()) => ended,
-        Err(error) => Outcome::CannotWrite(STANDARD_OUTPUT, Some(error.kind())),
+        Err(error) => TaskOutcome::CannotWrite(STANDARD_OUTPUT, Some(error.kind())),
     }
 }
 
-/// Says a line for which there was memory, after which the task has ended so.
+/// Writes a line if there was memory for it, and ends the task with this outcome.
 pub fn say_made<'a, W: Write>(
     line: Result<String, AllocError>,
-    ended: Outcome<'a>,
+    ended: TaskOutcome<'a>,
     out: &mut W,
-) -> Outcome<'a>
+) -> TaskOutcome<'a>
     requires { is_silent ended ≡ false }
     ensures { MatchResult line
         (λ text. Says (W.contents out.old) (W.contents out.new)
@@ -59,57 +59,57 @@ pub fn say_made<'a, W: Write>(
 {
     match line {
         Ok(line) => say_line(line.as_str(), ended, out),
-        Err(_) => Outcome::NoMemory,
+        Err(_) => TaskOutcome::NoMemory,
     }
 }
 
-/// The image that bytes are, or how the task ends without it: a refusal is said.
+/// The image that bytes are. Where they are none, writes why, and answers the task's outcome.
 pub fn image_of<'a, W: Write>(
     alloc: Global,
     bytes: &[u8],
     out: &mut W,
-) -> Result<Image, Outcome<'a>>
+) -> Result<Image, TaskOutcome<'a>>
     ensures ok { OnOk result (W.contents out.new ≡ W.contents out.old) }
     ensures found { IfOk result (λ image. bytes.now ≡ image_bytes image) }
     ensures fits { IfOk result IsImage }
     ensures only { (p : Program) → IsImage p → bytes.now ≡ image_bytes p
-        → MatchResult result (λ image. image ≡ p) (λ ended. ended ≡ Outcome.NoMemory) }
+        → MatchResult result (λ image. image ≡ p) (λ ended. ended ≡ TaskOutcome.NoMemory) }
     ensures refused { IfErr result
         (λ ended. RefusesImage bytes.now (W.contents out.old) (W.contents out.new) ended) }
 {
     match Image::parse(alloc, bytes) {
         Ok(image) => Ok(image),
-        Err(ImageError::Memory) => Err(Outcome::NoMemory),
+        Err(ImageError::Memory) => Err(TaskOutcome::NoMemory),
         Err(error) => Err(say_made(
             image_line(alloc, error),
-            Outcome::Refused(Rejection::Image(error, form_of(bytes))),
+            TaskOutcome::Refused(Rejection::Image(error, form_of(bytes))),
             out,
         )),
     }
 }
 
-/// Says that a program is refused at a slot, where this instruction begins.
+/// Writes that a program is refused at a slot, where this instruction begins.
 pub fn say_refused<'a, W: Write>(
     alloc: Global,
     refusal: Refusal,
     slot: usize,
     insn: Option<Insn>,
     out: &mut W,
-) -> Outcome<'a>
+) -> TaskOutcome<'a>
     ensures { SaysRefused refusal slot insn (W.contents out.old) (W.contents out.new) result }
 {
     match refusal {
-        Refusal::Memory | Refusal::Flow(FlowError::Memory) => Outcome::NoMemory,
+        Refusal::Memory | Refusal::Flow(FlowError::Memory) => TaskOutcome::NoMemory,
         _ => say_made(
             verdict_line(alloc, refusal, slot),
-            Outcome::Refused(Rejection::Program(refusal, slot, insn)),
+            TaskOutcome::Refused(Rejection::Program(refusal, slot, insn)),
             out,
         ),
     }
 }
 
-/// The verifier's answer, or how the task ends without one: a refusal is said, with its slot and
-/// instruction, and what is known there is looked for.
+/// The verifier's answer. Where it refuses, writes why, with the slot, and answers the task's
+/// outcome with what is known there.
 pub fn judge<'a, R: Files + Clock, W: Write>(
     rt: &R,
     alloc: Global,
@@ -129,7 +129,7 @@ pub fn judge<'a, R: Files + Clock, W: Write>(
     // what is known there is looked for. To read it again from the image's bytes would keep those
     // as long, and could run out of memory after the program was judged.
     let Ok(copy) = image.copy(alloc) else {
-        return Err(Ending::plain(Outcome::NoMemory));
+        return Err(Ending::plain(TaskOutcome::NoMemory));
     };
     match verify_shown(rt, alloc, image) {
         Ok(verified) => Ok(verified),
@@ -150,10 +150,10 @@ pub fn bound_line(alloc: Global, verified: &Verified) -> Result<String, AllocErr
 }
 
 /// Says the most steps of a run.
-pub fn accepted<'a, W: Write>(alloc: Global, verified: &Verified, out: &mut W) -> Outcome<'a>
+pub fn accepted<'a, W: Write>(alloc: Global, verified: &Verified, out: &mut W) -> TaskOutcome<'a>
     ensures { Accepts verified.now (W.contents out.old) (W.contents out.new) result }
 {
-    say_made(bound_line(alloc, verified), Outcome::Done, out)
+    say_made(bound_line(alloc, verified), TaskOutcome::Done, out)
 }
 
 /// Verifies a program: standard output says the most steps of a run, or the refusal.
@@ -173,26 +173,26 @@ pub fn say_verdict<'a, R: Files + Clock, W: Write>(
 }
 
 /// Writes the text of an image.
-pub fn say_text<'a, W: Write>(image: &Image, out: &mut W) -> Outcome<'a>
+pub fn say_text<'a, W: Write>(image: &Image, out: &mut W) -> TaskOutcome<'a>
     ensures { Says (W.contents out.old) (W.contents out.new)
-        (canonical_text image.now) Outcome.Done result }
+        (canonical_text image.now) TaskOutcome.Done result }
 {
     match disassemble(image, out) {
-        Ok(()) => Outcome::Done,
-        Err(error) => Outcome::CannotWrite(STANDARD_OUTPUT, Some(error.kind())),
+        Ok(()) => TaskOutcome::Done,
+        Err(error) => TaskOutcome::CannotWrite(STANDARD_OUTPUT, Some(error.kind())),
     }
 }
 
-/// The image of a text, or how the task ends without it: a refusal is said, with its line and
-/// column.
+/// The image of a text. Where it is refused, writes why, with the line and the column, and answers
+/// the task's outcome.
 pub fn assembled<'a, W: Write>(
     alloc: Global,
     text: &[u8],
     out: &mut W,
-) -> Result<Image, Outcome<'a>>
+) -> Result<Image, TaskOutcome<'a>>
     ensures ok { OnOk result (W.contents out.new ≡ W.contents out.old) }
     ensures round_trip { (p : Program) → IsImage p → text.now ≡ canonical_text p
-        → MatchResult result (λ image. image ≡ p) (λ ended. ended ≡ Outcome.NoMemory) }
+        → MatchResult result (λ image. image ≡ p) (λ ended. ended ≡ TaskOutcome.NoMemory) }
     ensures found { IfOk result (λ image. spells.assembled text.now ≡ Ok image) }
     ensures refused { IfErr result
         (λ ended. RefusesText text.now (W.contents out.old) (W.contents out.new) ended) }
@@ -204,10 +204,10 @@ pub fn assembled<'a, W: Write>(
                 kind: AsmErrorKind::Memory,
                 ..
             },
-        ) => Err(Outcome::NoMemory),
+        ) => Err(TaskOutcome::NoMemory),
         Err(error) => Err(say_made(
             text_line(alloc, error),
-            Outcome::Refused(Rejection::Text(error)),
+            TaskOutcome::Refused(Rejection::Text(error)),
             out,
         )),
     }

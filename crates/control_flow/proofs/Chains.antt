@@ -11,7 +11,7 @@ use Rattle.control_flow.specs.Nodes.{fall_from, jump_from, ComesFrom, FallsNear}
 use Rattle.control_flow.specs.Sources.{IsLastBelow, HasJump, AreSources}
 use Rattle.control_flow.specs.Searches.{Extends}
 use Rattle.control_flow.proofs.Graphs.{jump_from-inside}
-use Rattle.control_flow.proofs.Search.{Extends-next, Extends-same}
+use Rattle.control_flow.proofs.SlotSearch.{Extends-next, Extends-same}
 
 -- ---- the last number below
 

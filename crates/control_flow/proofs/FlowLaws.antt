@@ -6,7 +6,7 @@ use Rattle.std.proofs.lemmas.Bool.{cases_lt, cases_order}
 use Rattle.std.proofs.lemmas.Option.{slice_get_past, cond_some}
 use Rattle.isa_model.specs.declared.instructions.Insn.{Insn}
 use Rattle.isa_model.specs.declared.instructions.Insn.TheVariants.{LoadNumber, LoadMap, LoadMapValue}
-use Rattle.isa_model.specs.Code.Instructions.{Program, fetch, slots_of}
+use Rattle.isa_model.specs.Code.Instructions.{Program, fetch, slots_filled}
 use Rattle.isa_model.specs.Machine.Steps.{destination}
 use Rattle.isa_model.specs.Machine.Successors.{jump_distance, falls_through, Follows}
 use Rattle.control_flow.specs.declared.errors.FlowError.{FlowError}
@@ -49,11 +49,11 @@ unfolding call_to
 call_to-insn p slot i by e d =
     ap (λ (o : Option Insn). option_map (destination p slot) (option_and_then call_distance o)) e ∙ ap (option_map (destination p slot)) d
 
-behind : (slot : ℕ) (i : Insn) (b : Bool) → b ≡ true → (if b then Some (slot + slots_of i) else None) ≡ Some (slot + slots_of i)
+behind : (slot : ℕ) (i : Insn) (b : Bool) → b ≡ true → (if b then Some (slot + slots_filled i) else None) ≡ Some (slot + slots_filled i)
 behind slot i true h = refl
 behind slot i false h = absurd cc
 
-pub fall_to-insn : (p : Program) (slot : ℕ) (i : Insn) → fetch p slot ≡ Some i → falls_through i ≡ true → fall_to p slot ≡ Some (slot + slots_of i)
+pub fall_to-insn : (p : Program) (slot : ℕ) (i : Insn) → fetch p slot ≡ Some i → falls_through i ≡ true → fall_to p slot ≡ Some (slot + slots_filled i)
 unfolding fall_to
 fall_to-insn p slot i e h = ap (option_and_then (slot_behind slot)) e ∙ behind slot i (falls_through i) h
 
@@ -61,11 +61,11 @@ abbrev pub some_slot : ℕ → Option ℕ
 some_slot n = Some n
 
 -- it falls through to the slot after an instruction
-pub fall_to-behind : (p : Program) (slot to : ℕ) → fall_to p slot ≡ Some to → (i : Insn) × (fetch p slot ≡ Some i) × (slot + slots_of i ≡ to)
+pub fall_to-behind : (p : Program) (slot to : ℕ) → fall_to p slot ≡ Some to → (i : Insn) × (fetch p slot ≡ Some i) × (slot + slots_filled i ≡ to)
 unfolding fall_to
 fall_to-behind p slot to h = of (fetch p slot) h where
-  of : (o : Option Insn) → option_and_then (slot_behind slot) o ≡ Some to → (i : Insn) × (o ≡ Some i) × (slot + slots_of i ≡ to)
-  of (Some i) e = (i, refl, (cond_some (falls_through i) (slot + slots_of i) to e).1)
+  of : (o : Option Insn) → option_and_then (slot_behind slot) o ≡ Some to → (i : Insn) × (o ≡ Some i) × (slot + slots_filled i ≡ to)
+  of (Some i) e = (i, refl, (cond_some (falls_through i) (slot + slots_filled i) to e).1)
   of None e = absurd cc
 
 -- a successor within the function is an edge of the graph
@@ -104,8 +104,9 @@ pub IsFlow-Follows : (p : Program) (slot next : ℕ) → IsFlow p → Follows p 
 IsFlow-Follows p slot next flow h = IsFlow-next p slot next flow (HasEdge-Follows p slot next h)
 
 -- an instruction begins after each one that falls through
-pub IsFlow-fall : (p : Program) (slot : ℕ) (i : Insn) → IsFlow p → fetch p slot ≡ Some i → falls_through i ≡ true → BeginsInsn p (slot + slots_of i)
-IsFlow-fall p slot i flow e h = (flow.falls slot (slot + slots_of i) (fall_to-insn p slot i e h)).0
+pub IsFlow-fall : (p : Program) (slot : ℕ) (i : Insn) → IsFlow p → fetch p slot ≡ Some i → falls_through i ≡ true → BeginsInsn p (slot + slots_filled i)
+IsFlow-fall p slot i flow e h =
+    (flow.falls slot (slot + slots_filled i) (fall_to-insn p slot i e h)).0
 
 -- an instruction begins where a jump leads, and that is a join
 pub IsFlow-jump : (p : Program) (slot : ℕ) (i : Insn) (by : ℤ) → IsFlow p → fetch p slot ≡ Some i → jump_distance i ≡ Some by → BeginsInsn p (destination p slot by)
@@ -145,17 +146,17 @@ IsFlow-EndsFunction p slot to up begins same (inl past) = let inside = BeginsIns
 IsFlow-EndsFunction p slot to up begins same (inr function) =
     let down : to ≤ slot = (same.none to function).1 (omega arith) in absurd (omega arith)
 
-slots_of-some : (i : Insn) → 1 ≤ slots_of i
-slots_of-some (LoadNumber d n) = omega arith
-slots_of-some (LoadMap d m) = omega arith
-slots_of-some (LoadMapValue d m offset) = omega arith
-slots_of-some i = omega arith
+slots_filled-some : (i : Insn) → 1 ≤ slots_filled i
+slots_filled-some (LoadNumber d n) = omega arith
+slots_filled-some (LoadMap d m) = omega arith
+slots_filled-some (LoadMapValue d m offset) = omega arith
+slots_filled-some i = omega arith
 
 -- control falls through upwards
 fall_to-up : (p : Program) (slot to : ℕ) → fall_to p slot ≡ Some to → slot < to
 fall_to-up p slot to h =
     let found = fall_to-behind p slot to h in
-    let wide = slots_of-some found.0 in
+    let wide = slots_filled-some found.0 in
     omega (arith, found.2)
 
 -- none fails where control flow is good

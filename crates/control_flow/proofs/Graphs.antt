@@ -16,7 +16,7 @@ use Rattle.control_flow.specs.Liveness.{Home, InRegister, InSlot, IsReadBy, IsWr
 use Rattle.control_flow.specs.Nodes.{IsNode, AreNodes, fall_from, jump_from, FallsNear}
 use Rattle.control_flow.proofs.MaskLemmas.{no_home}
 use Rattle.control_flow.proofs.TargetTests.{jump-inside}
-use Rattle.control_flow.proofs.Whole.{slots_of-cases}
+use Rattle.control_flow.proofs.Whole.{slots_filled-cases}
 
 -- ---- making nodes
 
@@ -133,7 +133,7 @@ nodes_near p nodes are slot to h =
     let found = fall_from-node nodes slot to h in
     let is = are.each slot found.0 found.1 in
     let way = fall_to-behind p slot to (sym is.falls ∙ found.2) in
-    elim (slots_of-cases way.0) [
+    elim (slots_filled-cases way.0) [
       | inl one ↦ inl (omega (arith, way.2, one))
       | inr two ↦ inr (omega (arith, way.2, two))
     ]

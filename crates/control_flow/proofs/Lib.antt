@@ -1,7 +1,7 @@
 mod TargetTests
 mod MarkLemmas
 mod Owners
-mod Search
+mod SlotSearch
 mod Whole
 mod Reading
 mod MaskLemmas

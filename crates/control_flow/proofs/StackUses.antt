@@ -4,7 +4,7 @@ use Rattle.std.specs.Prelude.{◌↔◌, ℤ, Bool, IsTrue}
 use Rattle.std.proofs.lemmas.Option.{same_Some}
 use Rattle.isa_model.specs.declared.sizes.Size.{Size}
 use Rattle.isa_model.specs.declared.sizes.Size.TheVariants.{U64}
-use Rattle.isa_model.specs.declared.sizes.Narrow.{Narrow}
+use Rattle.isa_model.specs.declared.sizes.SignedSize.{SignedSize}
 use Rattle.isa_model.specs.declared.registers.Reg.{Reg}
 use Rattle.isa_model.specs.declared.registers.Reg.TheVariants.{R10}
 use Rattle.isa_model.specs.declared.instructions.Place.{Place}
@@ -30,7 +30,7 @@ writes_below i j h = absurd h
 
 -- all but loads and stores hand r10 on where they read it
 pub others_hand_on : (i : Insn) → ((s : Size) (d : Reg) (q : Place) → i ≡ Load s d q → ⊥)
-    → ((s : Narrow) (d : Reg) (q : Place) → i ≡ LoadSx s d q → ⊥)
+    → ((s : SignedSize) (d : Reg) (q : Place) → i ≡ LoadSx s d q → ⊥)
     → ((s : Size) (q : Place) (k : ℤ) → i ≡ StoreConstant s q k → ⊥)
     → ((s : Size) (q : Place) (r : Reg) → i ≡ Store s q r → ⊥)
     → (A B : Type 0) → A ↔ B → B ↔ IsOneOf (read_registers i) R10 → A ↔ TakesFrameAddress i

@@ -4,7 +4,7 @@ use Rattle.std.specs.Prelude.{◌↔◌, ◌⊎◌, ◌≢◌, slice_index_or}
 use Rattle.std.proofs.lemmas.Bool.{cases_lt, cases_eq, cases_Bool}
 use Rattle.isa_model.specs.declared.instructions.Insn.{Insn}
 use Rattle.isa_model.specs.declared.instructions.Insn.TheVariants.{LoadNumber, LoadMap, LoadMapValue}
-use Rattle.isa_model.specs.Code.Instructions.{Program, fetch, slots_of}
+use Rattle.isa_model.specs.Code.Instructions.{Program, fetch, slots_filled}
 use Rattle.image.specs.Images.{IsImage}
 use Rattle.image.proofs.ImageLaws.{fetch-next, fetch-second}
 use Rattle.control_flow.specs.declared.errors.FlowError.{FlowError}
@@ -80,11 +80,11 @@ function-BeginsInsn : (p : Program) → Passes p TargetOutside → Passes p Seco
 function-BeginsInsn p a b f (inl first) other = absurd (other first)
 function-BeginsInsn p a b f (inr (from, call)) other = target-BeginsInsn p a b from f (inr call)
 
-pub slots_of-cases : (i : Insn) → (slots_of i ≡ 1) ⊎ (slots_of i ≡ 2)
-slots_of-cases (LoadNumber d n) = inr refl
-slots_of-cases (LoadMap d m) = inr refl
-slots_of-cases (LoadMapValue d m offset) = inr refl
-slots_of-cases i = inl refl
+pub slots_filled-cases : (i : Insn) → (slots_filled i ≡ 1) ⊎ (slots_filled i ≡ 2)
+slots_filled-cases (LoadNumber d n) = inr refl
+slots_filled-cases (LoadMap d m) = inr refl
+slots_filled-cases (LoadMapValue d m offset) = inr refl
+slots_filled-cases i = inl refl
 
 -- no function begins between a slot and the one after its instruction, nor there
 falls_within : (p : Program) → IsImage p → Passes p TargetOutside → Passes p SecondHalf → Passes p FallsOff → (slot to : ℕ) → fall_to p slot ≡ Some to → SameFunction p slot to
@@ -93,7 +93,7 @@ falls_within p h a b f slot to falls =
     let none : (g : ℕ) → BeginsFunction p g → g ≤ to → slot < g → ⊥ = λ g begins le above.
     elim (cases_eq g to) [
       | inl e ↦ f slot (to, falls, inr (subst (BeginsFunction p) e begins))
-      | inr other ↦ elim (slots_of-cases found.0) [
+      | inr other ↦ elim (slots_filled-cases found.0) [
         | inl one ↦ omega (arith, found.2)
         | inr two ↦
             let e : g ≡ slot + 1 = omega (arith, found.2) in
@@ -114,7 +114,7 @@ falls_on p h f slot to falls =
     let found = fall_to-behind p slot to falls in
     elim (fetch-next p slot found.0 h found.1) [
       | inl end ↦ absurd (f slot (to, falls, inl (omega (arith, found.2))))
-      | inr next ↦ subst (BeginsInsn p) found.2 (fetch-BeginsInsn p (slot + slots_of found.0) next.0 next.1)
+      | inr next ↦ subst (BeginsInsn p) found.2 (fetch-BeginsInsn p (slot + slots_filled found.0) next.0 next.1)
     ]
 
 pub IsFlow-passed : (p : Program) (marks : List Bool) → IsImage p → Passes p TargetOutside → Passes p SecondHalf → Passes p OtherFunction → Passes p FallsOff → Passes p Unreachable → ((slot : ℕ) → IsMarked marks slot ↔ Reached p slot) → IsFlow p

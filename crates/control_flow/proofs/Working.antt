@@ -20,7 +20,7 @@ use Rattle.control_flow.specs.Nodes.{IsNode, AreNodes, ComesFrom, HasBehind, IsL
 use Rattle.control_flow.specs.Searches.{Extends, HasAll}
 use Rattle.control_flow.proofs.MarkLemmas.{IsMarked-inside}
 use Rattle.control_flow.proofs.MaskLemmas.{no_home, mask_at-none}
-use Rattle.control_flow.proofs.Search.{Contains-one, no-Contains, on_top}
+use Rattle.control_flow.proofs.SlotSearch.{Contains-one, no-Contains, on_top}
 use Rattle.control_flow.proofs.Graphs.{node_at, node-fall_from, node-jump_from}
 
 -- ---- one slot

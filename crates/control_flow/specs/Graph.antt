@@ -3,7 +3,7 @@ use Rattle.std.specs.Prelude.{◌≡◌, ℕ, zero, suc, ◌+◌, ◌<◌, lengt
 use Rattle.std.specs.Option.{option_map, option_and_then}
 use Rattle.isa_model.specs.declared.instructions.Insn.{Insn}
 use Rattle.isa_model.specs.declared.instructions.Insn.TheVariants.{CallLocal}
-use Rattle.isa_model.specs.Code.Instructions.{Program, fetch, slots_of}
+use Rattle.isa_model.specs.Code.Instructions.{Program, fetch, slots_filled}
 use Rattle.isa_model.specs.Machine.Steps.{destination}
 use Rattle.isa_model.specs.Machine.Successors.{jump_distance, falls_through}
 
@@ -31,7 +31,7 @@ unfoldable pub call_to : Program → ℕ → Option ℕ
 call_to p slot = option_map (destination p slot) (option_and_then call_distance (fetch p slot))
 
 abbrev pub slot_behind : ℕ → Insn → Option ℕ
-slot_behind slot i = if falls_through i then Some (slot + slots_of i) else None
+slot_behind slot i = if falls_through i then Some (slot + slots_filled i) else None
 
 -- the slot after the instruction at a slot, if it falls through
 unfoldable pub fall_to : Program → ℕ → Option ℕ

@@ -11,7 +11,7 @@ ghost use Rattle.control_flow.specs.Sources.{AreSources};
 use crate::errors::FlowError;
 use crate::homes::{HomeMask, mask_of};
 use crate::nodes::{Node, nodes_of};
-use crate::searches::Search;
+use crate::searches::SlotSearch;
 use crate::sources::{Sources, sources_of};
 use image::Image;
 use std::alloc::{AllocError, Global};
@@ -66,7 +66,7 @@ fn falling(nodes: &[Node], slot: usize, back: usize) -> Option<usize>
 
 /// Finds the predecessors of a slot.
 fn go_back(
-    work: &mut Search,
+    work: &mut SlotSearch,
     nodes: &[Node],
     sources: &Sources,
     slot: usize,
@@ -101,7 +101,7 @@ pub fn live_homes(alloc: Global, image: &Image) -> Result<Vec<HomeMask>, AllocEr
     let nodes = nodes_of(alloc, image)?;
     let sources = sources_of(alloc, &nodes)?;
     let mut masks = vec![in alloc; HomeMask::none(); nodes.len()]?;
-    let mut work = Search::of_all(alloc, nodes.len())?;
+    let mut work = SlotSearch::of_all(alloc, nodes.len())?;
     while let Some(slot) = work.frontier.pop() {
         work.found[slot] = false;
         if add_live(&nodes, masks.as_mut_slice(), slot) {

@@ -7,13 +7,13 @@ ghost use Rattle.control_flow.specs.Searches.{Extends};
 
 use crate::errors::FlowError;
 use crate::marks::is_marked;
-use crate::searches::Search;
+use crate::searches::SlotSearch;
 use crate::targets::{begins_insn, call_target, fall_target, jump_target};
 use image::Image;
 use std::alloc::{AllocError, Global};
 
 /// Finds the successors of a slot.
-fn go_on(search: &mut Search, image: &Image, slot: usize) -> Result<(), AllocError>
+fn go_on(search: &mut SlotSearch, image: &Image, slot: usize) -> Result<(), AllocError>
     requires inside { slot < length image.now.insns }
     requires leads { (to : ℕ) → HasEdge image.now slot to → to < length search.old.found.items }
     ensures { OnOk result (Extends (HasEdge image.now slot)
@@ -33,12 +33,12 @@ pub fn reached(alloc: Global, image: &Image) -> Result<Vec<bool>, AllocError>
     ensures { IfOk result (λ marks. (slot : ℕ) → IsMarked marks.items slot
         ↔ Reached image.now slot) }
 {
-    let mut search = Search::new(alloc, image.slots())?;
+    let mut search = SlotSearch::new(alloc, image.slots())?;
     search.find(Some(0))?;
     while let Some(slot) = search.frontier.pop() {
         go_on(&mut search, image, slot)?;
     }
-    let Search { found, .. } = search;
+    let SlotSearch { found, .. } = search;
     Ok(found)
 }
 

@@ -7,12 +7,12 @@ use std::alloc::{AllocError, Global};
 /// The state of a search: the slots that were found, and those of them whose successors it has not
 /// looked at yet.
 #[derive(Drop)]
-pub struct Search {
+pub struct SlotSearch {
     pub found: Vec<bool>,
     pub frontier: Vec<usize>,
 }
 
-impl Search {
+impl SlotSearch {
     ghost use Rattle.control_flow.specs.Searches.{Extends, HasAll};
 
     /// A search in code of this number of slots, which has found nothing.
@@ -20,7 +20,7 @@ impl Search {
         ensures found { IfOk result (λ search. search.found.items ≡ replicate slots false) }
         ensures frontier { IfOk result (λ search. search.frontier.items ≡ []) }
     {
-        Ok(Search {
+        Ok(SlotSearch {
             found: vec![in alloc; false; slots]?,
             frontier: Vec::with_capacity(alloc, slots)?,
         })
@@ -34,7 +34,7 @@ impl Search {
         for slot in 0..slots {
             frontier.push(slot)?;
         }
-        Ok(Search {
+        Ok(SlotSearch {
             found: vec![in alloc; true; slots]?,
             frontier,
         })

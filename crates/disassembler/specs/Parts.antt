@@ -11,8 +11,8 @@ abbrev pub memory_text : List ℕ → Place → List ℕ
 memory_text size p = codes "*(" ++ size ++ codes " *)(" ++ place_text p ++ codes ")"
 
 -- an atomic instruction whose source register gets the old number: `r1 = xchg_64(r10 - 8, r1)`
-abbrev pub fetch_text : List ℕ → Width → Place → Reg → List ℕ
-fetch_text name w p s =
+abbrev pub fetch_insn_text : List ℕ → Width → Place → Reg → List ℕ
+fetch_insn_text name w p s =
     reg_text Full64 s ++ codes " = " ++ name ++ width_text w ++ codes "(" ++ place_text p
     ++ codes ", "
     ++ reg_text Full64 s ++ codes ")\n"

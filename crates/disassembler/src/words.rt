@@ -4,7 +4,8 @@ ghost use Rattle.std.specs.Prelude.{◌≡◌, ◌≤◌, length};
 ghost use Rattle.isa_model.specs.Text.CanonicalText.{reg_digits, size_text, narrow_text, extension_text, extension_width, span_text, order_text, width_text, op_text, comparison_text, atomic_text, fetch_text, kind_text};
 
 use isa_model::{
-    AluOp, AtomicOp, ByteOrder, Comparison, Extension, MapKind, Narrow, Reg, Size, Span, Width,
+    AluOp, AtomicOp, ByteOrder, Comparison, Extension, MapType, Reg, SignedSize, Size, SwapWidth,
+    Width,
 };
 
 /// A register's number.
@@ -41,14 +42,14 @@ pub fn size_word(size: Size) -> &'static str
 }
 
 /// What a sign-extending load reads.
-pub fn narrow_word(size: Narrow) -> &'static str
+pub fn narrow_word(size: SignedSize) -> &'static str
     ensures text { result.now ≡ narrow_text size }
     ensures short { length result.now ≤ 3 }
 {
     match size {
-        Narrow::S8 => "s8",
-        Narrow::S16 => "s16",
-        Narrow::S32 => "s32",
+        SignedSize::S8 => "s8",
+        SignedSize::S16 => "s16",
+        SignedSize::S32 => "s32",
     }
 }
 
@@ -75,14 +76,14 @@ pub fn extension_width(extension: Extension) -> Width
 }
 
 /// How many bits a byte swap instruction takes.
-pub fn span_word(span: Span) -> &'static str
+pub fn span_word(span: SwapWidth) -> &'static str
     ensures text { result.now ≡ span_text span }
     ensures short { length result.now ≤ 2 }
 {
     match span {
-        Span::B16 => "16",
-        Span::B32 => "32",
-        Span::B64 => "64",
+        SwapWidth::B16 => "16",
+        SwapWidth::B32 => "32",
+        SwapWidth::B64 => "64",
     }
 }
 
@@ -179,12 +180,12 @@ pub fn fetch_word(op: AtomicOp) -> &'static str
 }
 
 /// A type of map.
-pub fn kind_word(kind: MapKind) -> &'static str
+pub fn kind_word(kind: MapType) -> &'static str
     ensures text { result.now ≡ kind_text kind }
     ensures short { length result.now ≤ 5 }
 {
     match kind {
-        MapKind::Hash => "hash",
-        MapKind::Array => "array",
+        MapType::Hash => "hash",
+        MapType::Array => "array",
     }
 }

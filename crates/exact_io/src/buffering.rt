@@ -32,7 +32,7 @@ impl<W: Write + Drop> PromptWriter<W> {
         ensures behind { IfOk result (λ w. behind w ≡ writer) }
         ensures empty { IfOk result (λ w. waiting w ≡ []) }
         ensures prompt { IfOk result (λ w. prompt_left w ≡ prompt) }
-        ensures sound { IfOk result (λ w. failure_of w ≡ None) }
+        ensures unfailed { IfOk result (λ w. failure_of w ≡ None) }
         ensures err { IfErr result (λ e. error_kind e ≡ ErrorKind.OutOfMemory) }
     {
         let buffered = BufWriter::with_capacity(alloc, capacity, writer)?;
@@ -98,7 +98,7 @@ impl<W: Write + Drop> Write for PromptWriter<W> {
         ensures at_once { 0 < prompt_left self.old → OnOk result (waiting self.new ≡ []) }
         ensures left { IfOk result (λ n. prompt_left self.new ≡ prompt_left self.old - n) }
         ensures some { IfOk result (λ n. 0 < length bytes.now → 0 < n) }
-        ensures told { MatchResult result (λ _. failure_of self.new ≡ None)
+        ensures recorded { MatchResult result (λ _. failure_of self.new ≡ None)
             (λ e. failure_of self.new ≡ Some (error_kind e)) }
         ensures last { (kind : ErrorKind) → failure_of self.old ≡ Some kind
             → FailsWith kind result × (self.new ≡ self.old) }
@@ -122,7 +122,7 @@ impl<W: Write + Drop> Write for PromptWriter<W> {
     fn flush(&mut self) -> io::Result<()>
         ensures bytes { Keeps (held W.contents self.old) (held W.contents self.new) }
         ensures ok { OnOk result (waiting self.new ≡ []) }
-        ensures told { MatchResult result (λ _. failure_of self.new ≡ None)
+        ensures recorded { MatchResult result (λ _. failure_of self.new ≡ None)
             (λ e. failure_of self.new ≡ Some (error_kind e)) }
         ensures last { (kind : ErrorKind) → failure_of self.old ≡ Some kind
             → FailsWith kind result × (self.new ≡ self.old) }

@@ -4,7 +4,7 @@ use Rattle.std.proofs.lemmas.Bool.{eq-eqb}
 use Rattle.std.proofs.lemmas.Grind.{flat_map-append}
 use Rattle.std.proofs.lemmas.List.{append-nil, append_assoc}
 use Rattle.std.specs.List.{flat_map}
-use Rattle.stack_state.specs.declared.slots.Slot.{Slot}
+use Rattle.stack_state.specs.declared.slots.StackSlot.{StackSlot}
 use Rattle.stack_state.specs.Slots.{slot_at, marks_of}
 use Rattle.explanations.specs.Slots.{first_open}
 
@@ -25,5 +25,5 @@ flat_map_four f a b c d all is =
 -- ---- slots
 
 -- the first slot of some is not open, so it is one of the others
-pub first_open-next : (slots : List Slot) (at n : ℕ) → marks_of (slot_at slots at) ≡ 255 → first_open slots at (suc n) ≡ first_open slots (at + 1) n
+pub first_open-next : (slots : List StackSlot) (at n : ℕ) → marks_of (slot_at slots at) ≡ 255 → first_open slots at (suc n) ≡ first_open slots (at + 1) n
 first_open-next slots at n written = rw (eq-eqb (marks_of (slot_at slots at)) 255 written) refl

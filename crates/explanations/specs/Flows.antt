@@ -4,7 +4,7 @@ use Rattle.std.specs.Fmt.{signed_decimal}
 use Rattle.std.specs.Option.{option_map, option_and_then}
 use Rattle.isa_model.specs.declared.instructions.Insn.{Insn}
 use Rattle.isa_model.specs.declared.instructions.Insn.TheVariants.{CallLocal}
-use Rattle.isa_model.specs.Code.Instructions.{Program, fetch, slots_of}
+use Rattle.isa_model.specs.Code.Instructions.{Program, fetch, slots_filled}
 use Rattle.isa_model.specs.Machine.Steps.{destination}
 use Rattle.isa_model.specs.Machine.Successors.{jump_distance}
 use Rattle.control_flow.specs.declared.errors.FlowError.{FlowError}
@@ -127,6 +127,6 @@ abbrev pub flow_line : Program → FlowError → ℕ → Insn → List ℕ
 flow_line p TargetOutside slot i = outside_line slot (length p.insns) (distance_of i)
 flow_line p SecondHalf slot i = half_line (target_at p slot)
 flow_line p OtherFunction slot i = other_line p slot (target_at p slot)
-flow_line p FallsOff slot i = end_line p (slot + slots_of i)
+flow_line p FallsOff slot i = end_line p (slot + slots_filled i)
 flow_line p Unreachable slot i = unreached_line (first_leading p slot (length p.insns))
 flow_line p Memory slot i = []

@@ -15,7 +15,7 @@ use Rattle.isa_model.specs.Code.Helpers.{helper_numbered}
 use Rattle.reg_state.specs.declared.kinds.Kind.{Kind}
 use Rattle.reg_state.specs.declared.kinds.Kind.TheVariants.{Number, Stack, Map}
 use Rattle.stack_state.specs.declared.states.State.{State}
-use Rattle.stack_state.specs.Meaning.{slots_of}
+use Rattle.stack_state.specs.Meaning.{stack_slots_of}
 use Rattle.stack_state.specs.Places.{kind_of}
 use Rattle.stack_state.specs.Slots.{frame_slots}
 use Rattle.transfer.specs.declared.refusals.Refusal.TheVariants.{NoAction}
@@ -74,7 +74,8 @@ abbrev pub bytes_from : State → ℕ → Option ℕ → ℕ → List ℕ
 bytes_from a frame None count = []
 bytes_from a frame (Some at) count =
     open_line a frame
-    (first_open (slots_of a frame) (at / 8) (min ((at % 8 + count + 7) / 8) (frame_slots - at / 8)))
+    (first_open (stack_slots_of a frame) (at / 8)
+    (min ((at % 8 + count + 7) / 8) (frame_slots - at / 8)))
 
 abbrev pub bytes_line : State → Kind → ℕ → List ℕ
 bytes_line a (Stack frame offset) count = bytes_from a frame (byte_at offset) count

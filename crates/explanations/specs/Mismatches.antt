@@ -2,7 +2,7 @@
 use Rattle.std.specs.Prelude.{◌≡◌, ◌≢◌, ℕ, ◌-◌, ◌<◌, ◌≤◌, List, ◌++◌, length, Some, None, codes, decimal}
 use Rattle.std.specs.Fmt.{signed_decimal}
 use Rattle.stack_state.specs.declared.states.State.{State}
-use Rattle.stack_state.specs.Meaning.{depth, frame_of, kinds_of, slots_of, kind_at}
+use Rattle.stack_state.specs.Meaning.{depth, abstract_frame_at, kinds_of, stack_slots_of, kind_at}
 use Rattle.stack_state.specs.Slots.{slot_at, frame_slots}
 use Rattle.table_entries.specs.Entries.{Entry}
 use Rattle.rechecking.specs.Tables.{EntryAt}
@@ -26,7 +26,8 @@ Differs e a Missing = ⊥
 Differs e a (NotSmaller number) = ⊥
 Differs e a Slot = e.slot ≢ a.slot
 Differs e a Frames = depth e ≢ depth a
-Differs e a (Returns frame) = (frame_of e frame).return_slot ≢ (frame_of a frame).return_slot
+Differs e a (Returns frame) =
+    (abstract_frame_at e frame).return_slot ≢ (abstract_frame_at a frame).return_slot
 Differs e a m = IsInBoth e a m
 
 -- the entry of that index is there with this state and a smaller number, and differs so
@@ -69,14 +70,14 @@ register_words a frame register =
 
 abbrev pub stack_words : State → ℕ → ℕ → List ℕ
 stack_words a frame slot =
-    slot_words (length a.callers.items) slot (slot_at (slots_of a frame) slot)
+    slot_words (length a.callers.items) slot (slot_at (stack_slots_of a frame) slot)
 
 abbrev pub stack_difference : State → ℕ → ℕ → List ℕ
 stack_difference a frame slot =
     codes "does not cover stack " ++ (signed_decimal (place_of slot 0) ++ up_words a frame)
 
 abbrev pub returns_words : State → ℕ → List ℕ
-returns_words a frame = codes "slot " ++ decimal (frame_of a frame).return_slot
+returns_words a frame = codes "slot " ++ decimal (abstract_frame_at a frame).return_slot
 
 -- about the nth successor a of an entry with that number, for which the entry with that index and
 -- the state e is named

@@ -3,10 +3,10 @@ use Rattle.std.specs.Prelude.{ℕ, zero, suc, ◌+◌, ◌-◌, ◌*◌, ◌/◌
 use Rattle.std.specs.Fmt.{signed_decimal}
 use Rattle.std.specs.Int.{bit_at}
 use Rattle.isa_model.specs.Code.Limits.{frame_size}
-use Rattle.stack_state.specs.declared.slots.Slot.{Slot}
-use Rattle.stack_state.specs.declared.slots.Slot.TheVariants.{Written, Spilled}
+use Rattle.stack_state.specs.declared.slots.StackSlot.{StackSlot}
+use Rattle.stack_state.specs.declared.slots.StackSlot.TheVariants.{Written, Spilled}
 use Rattle.stack_state.specs.declared.states.State.{State}
-use Rattle.stack_state.specs.Meaning.{slots_of}
+use Rattle.stack_state.specs.Meaning.{stack_slots_of}
 use Rattle.stack_state.specs.Slots.{slot_at, marks_of}
 use Rattle.explanations.specs.Kinds.{calls_up, kind_words}
 
@@ -25,7 +25,7 @@ written_words slot marks zero = []
 written_words slot marks (suc n) = byte_word slot marks (7 - n) ++ written_words slot marks n
 
 -- what is known of the slot, where the innermost frame has this number
-abbrev pub slot_words : ℕ → ℕ → Slot → List ℕ
+abbrev pub slot_words : ℕ → ℕ → StackSlot → List ℕ
 slot_words innermost slot (Written marks) =
     if marks == 0 then codes "unset"
     else if marks == 255 then codes "written"
@@ -38,7 +38,8 @@ slot_line a frame slot =
     codes "stack " ++ (signed_decimal (place_of slot 0)
     ++ (calls_up (length a.callers.items - frame)
     ++ (codes ": "
-    ++ (slot_words (length a.callers.items) slot (slot_at (slots_of a frame) slot) ++ codes "\n"))))
+    ++ (slot_words (length a.callers.items) slot (slot_at (stack_slots_of a frame) slot)
+    ++ codes "\n"))))
 
 -- the byte of a frame at that distance from its end
 abbrev pub in_frame : ℤ → Option ℕ
@@ -54,7 +55,7 @@ byte_line a frame None = []
 byte_line a frame (Some at) = slot_line a frame (at / 8)
 
 -- the first slot among this count of them, not all of whose bytes are written number bytes
-abbrev pub first_open : List Slot → ℕ → ℕ → Option ℕ
+abbrev pub first_open : List StackSlot → ℕ → ℕ → Option ℕ
 first_open slots slot zero = None
 first_open slots slot (suc n) =
     if marks_of (slot_at slots slot) == 255 then first_open slots (slot + 1) n else Some slot

@@ -6,7 +6,7 @@ use Rattle.std.specs.List.{flat_map}
 use Rattle.isa_model.specs.declared.registers.Reg.{Reg}
 use Rattle.isa_model.specs.declared.registers.Reg.TheVariants.{R10}
 use Rattle.isa_model.specs.declared.values.Region.{Region}
-use Rattle.isa_model.specs.declared.values.Region.TheVariants.{Context, Packet, PacketEnd, Map, Frame, MapValue}
+use Rattle.isa_model.specs.declared.values.Region.TheVariants.{Context, Packet, PacketEnd, Map, CallFrame, MapValue}
 use Rattle.isa_model.specs.declared.values.Value.{Value}
 use Rattle.isa_model.specs.declared.values.Value.TheVariants.{Unset, Num, Ptr}
 use Rattle.isa_model.specs.declared.instructions.Insn.{Insn}
@@ -16,7 +16,7 @@ use Rattle.explanations.specs.Lines.{concerned}
 
 -- a frame pointer, where r10 holds this: of the function that runs, or of another call
 abbrev pub owner_of : ℕ → Value → List ℕ
-owner_of serial (Ptr (Frame own) offset) =
+owner_of serial (Ptr (CallFrame own) offset) =
     if serial == own then codes "" else codes " of another call"
 owner_of serial value = codes " of another call"
 
@@ -26,7 +26,7 @@ region_words own Context offset = codes "context pointer at " ++ offset
 region_words own Packet offset = codes "packet pointer at " ++ offset
 region_words own PacketEnd offset = codes "packet end at " ++ offset
 region_words own (Map m) offset = codes "map " ++ decimal m
-region_words own (Frame serial) offset =
+region_words own (CallFrame serial) offset =
     codes "frame pointer at " ++ (offset ++ owner_of serial own)
 region_words own (MapValue m serial) offset =
     codes "value of map " ++ (decimal m ++ (codes " at " ++ offset))

@@ -10,20 +10,20 @@ ghost use Rattle.explanations.specs.Cases as spec;
 ghost use Rattle.explanations.specs.Cases.{access, needs_words, last_byte, span_words, behind_words, frame_line, packet_line, value_line, is_map, key_line, update_line, argument_line, row_size, exit_line, cure_line};
 
 use explorer::Refusal;
-use isa_model::{Helper, Insn, MapDef, Narrow, Place, Reg, Size};
+use isa_model::{Helper, Insn, MapDef, Place, Reg, SignedSize, Size};
 use reg_state::Kind;
 use stack_state::State;
 use std::alloc::{AllocError, Global};
 use transfer::Refusal as StepRefusal;
 
 // What a sign-extending load reads.
-fn narrow_size(narrow: Narrow) -> Size
+fn narrow_size(narrow: SignedSize) -> Size
     ensures { result ≡ narrow_size narrow }
 {
     match narrow {
-        Narrow::S8 => Size::U8,
-        Narrow::S16 => Size::U16,
-        Narrow::S32 => Size::U32,
+        SignedSize::S8 => Size::U8,
+        SignedSize::S16 => Size::U16,
+        SignedSize::S32 => Size::U32,
     }
 }
 

@@ -10,7 +10,7 @@ use crate::kinds::{calls_up, kind_words};
 use crate::mismatches::{Mismatch, frame_of};
 use crate::slots::{place_of, slot_words};
 use reg_state::Kind;
-use stack_state::{Slot, State};
+use stack_state::{StackSlot, State};
 use std::alloc::{AllocError, Global};
 
 /// How many calls up from the innermost frame this one is.
@@ -54,7 +54,7 @@ pub fn stack_words(
         .slots
         .get(slot)
         .copied()
-        .unwrap_or(Slot::Written(0));
+        .unwrap_or(StackSlot::Written(0));
     slot_words(alloc, state.callers.len(), slot, known)
 }
 

@@ -16,7 +16,7 @@ use isa_model::Insn;
 use rechecking::TableError;
 use stack_state::State;
 use std::alloc::{AllocError, Global};
-use table_entries::{Head, Named, Table};
+use table_entries::{EntryHead, NamedEntries, Table};
 use transfer::{Ways, step_in_place};
 
 /// What is known of an entry of a table that is refused.
@@ -99,7 +99,7 @@ fn successor_lines(
     alloc: Global,
     image: &Image,
     table: &Table,
-    head: Head,
+    head: EntryHead,
     ways: Ways,
     state: &State,
     other: &State,
@@ -114,9 +114,9 @@ fn successor_lines(
         return count_line(alloc, successors, count);
     }
     match head.named {
-        Named::None => None,
-        Named::One(first) => named_lines(alloc, image, table, number, 0, first, state),
-        Named::Two(first, second) => {
+        NamedEntries::None => None,
+        NamedEntries::One(first) => named_lines(alloc, image, table, number, 0, first, state),
+        NamedEntries::Two(first, second) => {
             match named_lines(alloc, image, table, number, 0, first, state) {
                 Some(text) => Some(text),
                 None => named_lines(alloc, image, table, number, 1, second, other),
@@ -137,13 +137,13 @@ fn ways_in(ways: Ways) -> usize
 }
 
 /// How many entries are named.
-fn named_in(named: Named) -> usize
+fn named_in(named: NamedEntries) -> usize
     ensures { result ≡ length (list_of named) }
 {
     match named {
-        Named::None => 0,
-        Named::One(_) => 1,
-        Named::Two(_, _) => 2,
+        NamedEntries::None => 0,
+        NamedEntries::One(_) => 1,
+        NamedEntries::Two(_, _) => 2,
     }
 }
 

@@ -1,14 +1,14 @@
 //! Why a named entry of a table does not cover a successor.
 
 ghost use Rattle.std.specs.Prelude.{◌≡◌, ◌<◌, IfSome};
-ghost use Rattle.stack_state.specs.Meaning.{depth, frame_of};
+ghost use Rattle.stack_state.specs.Meaning.{depth, abstract_frame_at};
 ghost use Rattle.stack_state.specs.Slots.{frame_slots};
 ghost use Rattle.table_entries.specs.Tables.{entry_at};
 ghost use Rattle.explanations.specs.Mismatches.{IsInBoth, Differs, IsMismatch};
 
 use image::Image;
 use reg_state::Kind;
-use stack_state::{AbstractFrame, FRAME_SLOTS, Slot, StackState, State};
+use stack_state::{AbstractFrame, FRAME_SLOTS, StackSlot, StackState, State};
 use state_cover::covers;
 use table_entries::Table;
 
@@ -34,7 +34,7 @@ pub enum Mismatch {
 /// A frame, counted from the outermost.
 pub fn frame_of(state: &State, frame: usize) -> &AbstractFrame
     requires { frame < depth state.now }
-    ensures { result.now ≡ frame_of state.now frame }
+    ensures { result.now ≡ abstract_frame_at state.now frame }
 {
     match state.callers.as_slice().get(frame) {
         Some(caller) => caller,
@@ -48,7 +48,7 @@ fn front_of(frame: &AbstractFrame, registers: usize, slots: usize) -> AbstractFr
     for index in 0..registers.min(10) {
         kinds[index] = frame.registers[index];
     }
-    let mut stack = [Slot::Written(0); FRAME_SLOTS];
+    let mut stack = [StackSlot::Written(0); FRAME_SLOTS];
     for index in 0..slots.min(FRAME_SLOTS) {
         stack[index] = frame.stack.slots[index];
     }

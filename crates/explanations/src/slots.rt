@@ -2,14 +2,14 @@
 
 ghost use Rattle.std.specs.Prelude.{◌≡◌, ◌<◌, ◌≤◌, IfOk, IfSome, ◌+◌};
 ghost use Rattle.std.specs.String.{string_bytes};
-ghost use Rattle.stack_state.specs.Meaning.{slots_of};
+ghost use Rattle.stack_state.specs.Meaning.{stack_slots_of};
 ghost use Rattle.isa_model.specs.Code.Limits.{frame_size};
 ghost use Rattle.stack_state.specs.Slots.{slot_at, frame_slots};
 ghost use Rattle.explanations.specs.Slots.{place_of, byte_word, written_words, slot_words, slot_line, byte_at, first_open};
 
 use crate::kinds::{calls_up, kind_words};
 use isa_model::FRAME_SIZE;
-use stack_state::{Slot, State};
+use stack_state::{StackSlot, State};
 use std::alloc::{AllocError, Global};
 
 /// Where a byte of a slot is, counted from the end of the frame.
@@ -52,29 +52,33 @@ pub fn slot_words(
     alloc: Global,
     innermost: usize,
     slot: usize,
-    known: Slot,
+    known: StackSlot,
 ) -> Result<String, AllocError>
     requires { slot < frame_slots }
     ensures { IfOk result (λ text. string_bytes text ≡ slot_words innermost slot known) }
 {
     match known {
-        Slot::Written(0) => String::from_str(alloc, "unset"),
-        Slot::Written(255) => String::from_str(alloc, "written"),
-        Slot::Written(marks) => {
+        StackSlot::Written(0) => String::from_str(alloc, "unset"),
+        StackSlot::Written(255) => String::from_str(alloc, "written"),
+        StackSlot::Written(marks) => {
             let places = written_words(alloc, slot, marks)?;
             format!(in alloc; "written bytes{places}")
         }
-        Slot::Spilled(kind) => kind_words(alloc, innermost, kind),
+        StackSlot::Spilled(kind) => kind_words(alloc, innermost, kind),
     }
 }
 
 /// A slot of a frame; if there is no such slot, one about which nothing is known.
-fn slot_of(state: &State, frame: u8, slot: usize) -> Slot
-    ensures { result ≡ slot_at (slots_of state.now frame) slot }
+fn slot_of(state: &State, frame: u8, slot: usize) -> StackSlot
+    ensures { result ≡ slot_at (stack_slots_of state.now frame) slot }
 {
     match state.stack_of(frame) {
-        Some(stack) => stack.slots.get(slot).copied().unwrap_or(Slot::Written(0)),
-        None => Slot::Written(0),
+        Some(stack) => stack
+            .slots
+            .get(slot)
+            .copied()
+            .unwrap_or(StackSlot::Written(0)),
+        None => StackSlot::Written(0),
     }
 }
 
@@ -105,7 +109,7 @@ pub fn byte_at(from_end: i64) -> Option<usize>
 /// The first slot among the first ones, not all of whose bytes are written number bytes.
 pub fn first_open(state: &State, frame: u8, slot: usize, count: usize) -> Option<usize>
     requires { slot + count ≤ frame_slots }
-    ensures found { result ≡ first_open (slots_of state.now frame) slot count }
+    ensures found { result ≡ first_open (stack_slots_of state.now frame) slot count }
     ensures inside { IfSome result (λ at. at < frame_slots) }
 {
     for at in slot..slot + count {

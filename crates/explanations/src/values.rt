@@ -20,7 +20,7 @@ fn owner_of(serial: u64, own: Value) -> &'static str
     ensures { result.now ≡ owner_of serial own }
 {
     match own {
-        Value::Ptr(Region::Frame(running), _) => {
+        Value::Ptr(Region::CallFrame(running), _) => {
             if serial == running {
                 ""
             } else {
@@ -45,7 +45,7 @@ fn region_words(
         Region::Packet => format!(in alloc; "packet pointer at {offset}"),
         Region::PacketEnd => format!(in alloc; "packet end at {offset}"),
         Region::Map(map) => format!(in alloc; "map {map}"),
-        Region::Frame(serial) => {
+        Region::CallFrame(serial) => {
             let owner = owner_of(serial, own);
             format!(in alloc; "frame pointer at {offset}{owner}")
         }

@@ -5,7 +5,7 @@ use Rattle.std.proofs.Math.Seq.{take-append_seam, drop-append_seam}
 use Rattle.std.proofs.lemmas.List.{drop_all, append-nil, get_or_default}
 use Rattle.std.proofs.lemmas.List.Elements.{All-take, All-drop}
 use Rattle.reg_state.specs.declared.kinds.Kind.{Kind}
-use Rattle.stack_state.specs.declared.slots.Slot.{Slot}
+use Rattle.stack_state.specs.declared.slots.StackSlot.{StackSlot}
 use Rattle.stack_state.specs.declared.states.AbstractFrame.{AbstractFrame}
 use Rattle.state_index.specs.declared.parts.Part.{Part}
 use Rattle.state_index.specs.Parts.{register_part, slot_part, register_parts, slot_parts, parts_of, IsPartOf, all_written}
@@ -26,9 +26,9 @@ whole_cut old new first rest more parts pushed cut before =
     ap (λ l. l ++ more) pushed ∙ append_assoc old first more ∙ ap (λ l. old ++ l) (sym cut) ∙ before
 
 -- the pieces from one on, written after the ones before it
-pub written-next : (f : AbstractFrame) (ps : List (List Part)) (i : ℕ) (p : List Part) → i < length ps → p ≡ get_or ps i p
+pub with_part-next : (f : AbstractFrame) (ps : List (List Part)) (i : ℕ) (p : List Part) → i < length ps → p ≡ get_or ps i p
     → all_written f (whole (drop i ps)) ≡ all_written (all_written f p) (whole (drop (i + 1) ps))
-written-next f ps i p inside at =
+with_part-next f ps i p inside at =
     let there : drop i ps ≡ p ∷ drop (suc i) ps = drop-cons ps i p inside ∙ ap (λ q. q ∷ drop (suc i) ps) (sym at) in
     ap (λ l. all_written f (whole l)) there
     ∙ all_written-append f p (whole (drop (suc i) ps))
@@ -69,11 +69,12 @@ pub register_parts-done : (rest : List Part) (ks : List Kind) (n : ℕ) → leng
     → rest ≡ register_parts n (drop n ks) ++ rest
 register_parts-done rest ks n over = ap (λ l. register_parts n l ++ rest) (sym (drop_all n ks over))
 
-pub slot_parts-next : (rest more ys : List Part) (ts : List Slot) (i : ℕ) (d : Slot) → i < length ts
+pub slot_parts-next : (rest more ys : List Part) (ts : List StackSlot) (i : ℕ) (d : StackSlot)
+    → i < length ts
     → rest ≡ option_to_list (slot_part i (get_or ts i d)) ++ more
     → more ≡ slot_parts (i + 1) (drop (i + 1) ts) ++ ys → rest ≡ slot_parts i (drop i ts) ++ ys
 slot_parts-next rest more ys ts i d inside here left =
-    let t : Slot = get_or ts i d in
+    let t : StackSlot = get_or ts i d in
     let there : drop i ts ≡ t ∷ drop (suc i) ts = drop-cons ts i d inside in
     let next : drop (i + 1) ts ≡ drop (suc i) ts = ap (λ n. drop n ts) (add-one i) in
     here
@@ -82,6 +83,6 @@ slot_parts-next rest more ys ts i d inside here left =
     ∙ sym (append_assoc (option_to_list (slot_part i t)) (slot_parts (i + 1) (drop (suc i) ts)) ys)
     ∙ ap (λ l. slot_parts i l ++ ys) (sym there)
 
-pub slot_parts-done : (rest : List Part) (ts : List Slot) (n : ℕ) → length ts ≤ n
+pub slot_parts-done : (rest : List Part) (ts : List StackSlot) (n : ℕ) → length ts ≤ n
     → rest ≡ slot_parts n (drop n ts) ++ rest
 slot_parts-done rest ts n over = ap (λ l. slot_parts n l ++ rest) (sym (drop_all n ts over))

@@ -3,7 +3,7 @@ use Rattle.std.proofs.Common.{◌≡◌, ◌≢◌, ◌∙◌, ℕ, zero, suc, �
 use Rattle.std.proofs.lemmas.Bool.{ne_eqb, eq-eqb}
 use Rattle.std.proofs.lemmas.List.{append-nil, length-append, length-drop, drop-append-le, drop-drop}
 use Rattle.isa_model.specs.declared.instructions.Insn.{Insn}
-use Rattle.isa_model.specs.Code.Instructions.{Program, fetch, slots_of}
+use Rattle.isa_model.specs.Code.Instructions.{Program, fetch, slots_filled}
 use Rattle.stack_state.specs.declared.states.State.{State}
 use Rattle.stack_state.specs.Starts.{start}
 use Rattle.explorer.specs.declared.explanations.Jump.{Jump}
@@ -52,22 +52,22 @@ noted jumps way new j is room full =
 
 -- ---- one more step
 
-by_jump : (p : Program) (a s : State) (i : Insn) (way new : List Jump) → fetch p a.slot ≡ Some i → StepsTo p a s → s.slot ≢ a.slot + slots_of i
+by_jump : (p : Program) (a s : State) (i : Insn) (way new : List Jump) → fetch p a.slot ≡ Some i → StepsTo p a s → s.slot ≢ a.slot + slots_filled i
     → (length way < MOST_JUMPS → new ≡ way ++ record { from = a.slot; to = s.slot } ∷ []) → (length way ≡ MOST_JUMPS → new ≡ drop 1 way ++ record { from = a.slot; to = s.slot } ∷ [])
     → IsLed p a way → IsLed p s new
 by_jump p a s i way new here step away room full h =
     let j : Jump = record { from = a.slot; to = s.slot } in
-    let is : j ∷ [] ≡ jump_of a i s = ap (λ (b : Bool). if b then [] else j ∷ []) (sym (ne_eqb s.slot (a.slot + slots_of i) away)) in
+    let is : j ∷ [] ≡ jump_of a i s = ap (λ (b : Bool). if b then [] else j ∷ []) (sym (ne_eqb s.slot (a.slot + slots_filled i) away)) in
     record {
       jumps = h.jumps ++ j ∷ [];
       comes = OneMore a s i h.jumps (h.jumps ++ j ∷ []) h.comes here step (ap (λ (xs : List Jump). h.jumps ++ xs) is);
       last_are = noted h.jumps way new j h.last_are room full;
     }
 
-by_next : (p : Program) (a s : State) (i : Insn) (way : List Jump) → fetch p a.slot ≡ Some i → StepsTo p a s → s.slot ≡ a.slot + slots_of i → IsLed p a way → IsLed p s way
+by_next : (p : Program) (a s : State) (i : Insn) (way : List Jump) → fetch p a.slot ≡ Some i → StepsTo p a s → s.slot ≡ a.slot + slots_filled i → IsLed p a way → IsLed p s way
 by_next p a s i way here step next h =
     let j : Jump = record { from = a.slot; to = s.slot } in
-    let none : h.jumps ++ jump_of a i s ≡ h.jumps = ap (λ (b : Bool). h.jumps ++ (if b then [] else j ∷ [])) (eq-eqb s.slot (a.slot + slots_of i) next) ∙ append-nil h.jumps in
+    let none : h.jumps ++ jump_of a i s ≡ h.jumps = ap (λ (b : Bool). h.jumps ++ (if b then [] else j ∷ [])) (eq-eqb s.slot (a.slot + slots_filled i) next) ∙ append-nil h.jumps in
     record {
       jumps = h.jumps;
       comes = OneMore a s i h.jumps h.jumps h.comes here step (sym none);
@@ -76,7 +76,7 @@ by_next p a s i way here step next h =
 
 -- the same, where the slots have other names
 
-pub led_by_jump : (p : Program) (a s : State) (i : Insn) (from to : ℕ) (way new : List Jump) → fetch p from ≡ Some i → to ≢ from + slots_of i
+pub led_by_jump : (p : Program) (a s : State) (i : Insn) (from to : ℕ) (way new : List Jump) → fetch p from ≡ Some i → to ≢ from + slots_filled i
     → (length way < MOST_JUMPS → new ≡ way ++ record { from = from; to = to } ∷ []) → (length way ≡ MOST_JUMPS → new ≡ drop 1 way ++ record { from = from; to = to } ∷ [])
     → a.slot ≡ from → s.slot ≡ to → StepsTo p a s → IsLed p a way → IsLed p s new
 led_by_jump p a s i from to way new here away room full at_from at_to step h =
@@ -84,10 +84,10 @@ led_by_jump p a s i from to way new here away room full at_from at_to step h =
     let k : Jump = record { from = a.slot; to = s.slot } in
     let same : j ≡ k = ap (λ (x : ℕ). record { from = x; to = to }) (sym at_from) ∙ ap (λ (y : ℕ). record { from = a.slot; to = y }) (sym at_to) in
     by_jump p a s i way new (subst (λ x. fetch p x ≡ Some i) (sym at_from) here) step
-    (λ e. away (sym at_to ∙ (e ∙ ap (λ x. x + slots_of i) at_from)))
+    (λ e. away (sym at_to ∙ (e ∙ ap (λ x. x + slots_filled i) at_from)))
     (λ few. room few ∙ ap (λ (x : Jump). way ++ x ∷ []) same) (λ many. full many ∙ ap (λ (x : Jump). drop 1 way ++ x ∷ []) same) h
 
-pub led_by_next : (p : Program) (a s : State) (i : Insn) (from to : ℕ) (way : List Jump) → fetch p from ≡ Some i → to ≡ from + slots_of i
+pub led_by_next : (p : Program) (a s : State) (i : Insn) (from to : ℕ) (way : List Jump) → fetch p from ≡ Some i → to ≡ from + slots_filled i
     → a.slot ≡ from → s.slot ≡ to → StepsTo p a s → IsLed p a way → IsLed p s way
 led_by_next p a s i from to way here next at_from at_to step h =
-    by_next p a s i way (subst (λ x. fetch p x ≡ Some i) (sym at_from) here) step (at_to ∙ (next ∙ ap (λ x. x + slots_of i) (sym at_from))) h
+    by_next p a s i way (subst (λ x. fetch p x ≡ Some i) (sym at_from) here) step (at_to ∙ (next ∙ ap (λ x. x + slots_filled i) (sym at_from))) h

@@ -1,7 +1,7 @@
 -- What is known where a program is refused.
 use Rattle.std.specs.Prelude.{◌≡◌, ℕ, ◌+◌, ◌-◌, ◌==◌, suc, List, [], ◌∷◌, ◌++◌, drop, length, Option, Some, None, if◌then◌else◌}
 use Rattle.isa_model.specs.declared.instructions.Insn.{Insn}
-use Rattle.isa_model.specs.Code.Instructions.{Program, fetch, slots_of}
+use Rattle.isa_model.specs.Code.Instructions.{Program, fetch, slots_filled}
 use Rattle.stack_state.specs.declared.states.State.{State}
 use Rattle.stack_state.specs.Starts.{start}
 use Rattle.walks.specs.Forgetting.{Forgets}
@@ -15,7 +15,7 @@ use Rattle.explorer.specs.declared.explanations.TheConstants.{MOST_JUMPS}
 
 -- the jump of a step, if it does not go to the next instruction
 abbrev pub jump_of : State → Insn → State → List Jump
-jump_of a i b = if b.slot == a.slot + slots_of i then [] else record { from = a.slot; to = b.slot } ∷ []
+jump_of a i b = if b.slot == a.slot + slots_filled i then [] else record { from = a.slot; to = b.slot } ∷ []
 
 -- a walk from the start reaches the state, and these are all its jumps
 pub data ComesBy (p : Program) : State → List Jump → Type 0 where
@@ -33,7 +33,8 @@ pub record IsLed (p : Program) (s : State) (way : List Jump) : Type 0 where
   pub comes : ComesBy p s jumps
   pub last_are : way ≡ last MOST_JUMPS jumps
 
--- a walk leads from an earlier state at the same slot, if there is one, to the state
+-- a walk leads to the state from the state of the turn of the loop before, if there is one, which
+-- is at the same slot
 abbrev pub IsTurnBefore : Program → State → Option State → Type 0
 IsTurnBefore p s None = Unit {0}
 IsTurnBefore p s (Some e) = (e.slot ≡ s.slot) × ((more : ℕ) × HasPath p (suc more) e s)
@@ -46,8 +47,8 @@ pub data ComesThrough (p : Program) : State → List ℕ → Type 0 where
   AfterOne : (a s : State) (before slots : List ℕ) → ComesThrough p a before → StepsTo p a s
       → slots ≡ before ++ s.slot ∷ [] → ComesThrough p s slots
 
--- the program is refused so, at the slot; the abstract state there, that of the turn before, the
--- last jumps of a path to it, and all slots of one
+-- the program is refused so, at the slot; the abstract state there, that of the turn of the loop
+-- before, the last jumps of a path to it, and all slots of one
 pub record Explains (p : Program) (e : Refusal) (slot : ℕ) (x : Explanation) : Type 0 where
   pub refused : StopsAt p e slot
   pub led : IsLed p x.state x.way.items

@@ -1,10 +1,10 @@
 -- What a search up to a limit says.
 use Rattle.std.specs.Prelude.{ℕ}
 use Rattle.walks.specs.declared.refusals.Refusal.{Refusal}
-use Rattle.explorer.specs.declared.limited.Stop.{Stop}
-use Rattle.explorer.specs.declared.limited.Stop.TheVariants.{Refused, Limit}
+use Rattle.explorer.specs.declared.limited.NoBound.{NoBound}
+use Rattle.explorer.specs.declared.limited.NoBound.TheVariants.{Refused, Limit}
 
 -- a fact of the refusal and its slot, if the limit did not come first
-abbrev pub IfRefuses : Stop → (Refusal → ℕ → Type 0) → Type 0
+abbrev pub IfRefuses : NoBound → (Refusal → ℕ → Type 0) → Type 0
 IfRefuses (Refused e slot) fact = fact e slot
 IfRefuses Limit fact = Unit {0}

@@ -36,18 +36,19 @@ pub struct Jump {
 pub struct Explanation {
     /// The abstract state in which it is.
     pub state: State,
-    /// The state of the turn before, on the way there: the last one that came to the same slot.
+    /// The state of the turn of the loop before: the last one on the path there that came to the
+    /// same slot.
     pub earlier: Option<State>,
-    /// The last jumps on the way there.
+    /// The last jumps on the path there.
     pub way: ArrayVec<Jump, 8>,
-    /// The slots of all states on the way there, the first one first.
+    /// The slots of all states on the path there, the first one first.
     pub slots: Vec<usize>,
     /// Whether the limit of look-ups or of stored states was reached: from then on states were not
     /// compared, and each was explored as a new one.
     pub is_cut_off: bool,
 }
 
-/// Adds a jump after the others; a full list loses its first one.
+/// Adds a jump at the end; a full list loses its first one.
 fn note(way: &mut ArrayVec<Jump, 8>, jump: Jump)
     ensures room { length way.old.items < MOST_JUMPS
         → way.new.items ≡ way.old.items ++ jump ∷ [] }

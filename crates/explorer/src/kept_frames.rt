@@ -8,7 +8,7 @@ use crate::blanks::clear_frame;
 use crate::pieces::{FEW, KeptParts, Rest, may_cover_all, words_of, write_all};
 use arrayvec::ArrayVec;
 use reg_state::Kind;
-use stack_state::{AbstractFrame, FRAME_SLOTS, MAX_CALLERS, Slot};
+use stack_state::{AbstractFrame, FRAME_SLOTS, MAX_CALLERS, StackSlot};
 use state_index::{Fingerprints, Part, PartLimits, add_limits, take_parts};
 use std::alloc::{AllocError, Global};
 use std::marker::Model;
@@ -167,7 +167,7 @@ fn are_registers(rest: &mut Rest<'_>, registers: &[Kind; 10]) -> bool
 }
 
 /// Takes what is known of slots, if the next parts say just that.
-fn are_slots(rest: &mut Rest<'_>, slots: &[Slot; FRAME_SLOTS]) -> bool
+fn are_slots(rest: &mut Rest<'_>, slots: &[StackSlot; FRAME_SLOTS]) -> bool
     ensures same { IsTrue result → rest.old ≡ slot_parts 0 slots.now ++ rest.new }
     ensures wide { length slots.now ≡ frame_slots }
 {

@@ -24,7 +24,7 @@ pub mod verified;
 pub use bounds::Verified;
 pub use explanations::{Explanation, Jump, explain};
 pub use kept::Kept;
-pub use limited::{Stop, verify_within};
+pub use limited::{NoBound, verify_within};
 pub use listened::{own_words, verify_with};
 pub use listening::Listener;
 pub use listing::{Explored, ExploredInsn, explore};

@@ -8,7 +8,7 @@ ghost use Rattle.walks.specs.Accepting.{AcceptsAll, BoundsAll};
 ghost use Rattle.walks.specs.Counts.{HasNumber};
 ghost use Rattle.stack_state.specs.Starts.{start};
 ghost use Rattle.explorer.specs.Limited.{IfRefuses};
-ghost use Rattle.explorer.specs.declared.limited.Stop.TheVariants as Stop;
+ghost use Rattle.explorer.specs.declared.limited.NoBound.TheVariants as NoBound;
 
 use crate::kept::Kept;
 use crate::listened::verify_with;
@@ -24,7 +24,7 @@ use walks::Refusal;
 
 /// Why a search up to a limit has no bound.
 #[derive(Clone, Copy)]
-pub enum Stop {
+pub enum NoBound {
     /// The program is refused so, at this slot.
     Refused(Refusal, usize),
     /// More instructions than the limit would have to be explored.
@@ -75,25 +75,25 @@ impl Listener for Countdown {
 /// Verifies a program as `verify` does, but explores no more instructions than the limit. Within it
 /// the answer has each clause of `verify`'s, and with a limit of `MAX_EXPLORED` or more it is that
 /// one's.
-pub fn verify_within(alloc: Global, image: Image, limit: u32) -> Result<Verified, Stop>
+pub fn verify_within(alloc: Global, image: Image, limit: u32) -> Result<Verified, NoBound>
     ensures program { IfOk result (λ verified. verified.program ≡ image) }
     ensures verified { IfOk result IsVerified }
     ensures refused { IfErr result (λ stop. IfRefuses stop (IsRefused image)) }
     ensures number { IfOk result (λ verified. HasNumber image start verified.bound) }
     ensures accepts { IfErr result (λ stop. IfRefuses stop (λ e _. AcceptsAll image e)) }
     ensures bounds { IfOk result (λ verified. BoundsAll image verified.bound) }
-    ensures whole { max_explored ≤ limit → result ≢ Err Stop.Limit }
+    ensures whole { max_explored ≤ limit → result ≢ Err NoBound.Limit }
 {
     if limit >= MAX_EXPLORED {
         return match verify(alloc, image) {
             Ok(verified) => Ok(verified),
-            Err((refusal, slot)) => Err(Stop::Refused(refusal, slot)),
+            Err((refusal, slot)) => Err(NoBound::Refused(refusal, slot)),
         };
     }
     let mut countdown = Countdown { left: limit };
     match verify_with(alloc, image, &mut countdown) {
         Ok(verified) => Ok(verified),
-        Err(Halt::Refused(refusal, slot)) => Err(Stop::Refused(refusal, slot)),
-        Err(Halt::Stopped(_)) => Err(Stop::Limit),
+        Err(Halt::Refused(refusal, slot)) => Err(NoBound::Refused(refusal, slot)),
+        Err(Halt::Stopped(_)) => Err(NoBound::Limit),
     }
 }

@@ -6,7 +6,7 @@ ghost use Rattle.state_index.specs.Parts.{IsPartOf, all_written, register_part, 
 ghost use Rattle.explorer.specs.Pieces.{whole, few_of, pieces_of};
 
 use reg_state::Kind;
-use stack_state::{AbstractFrame, Slot};
+use stack_state::{AbstractFrame, StackSlot};
 use state_index::{Part, are_same, may_cover_part, write};
 use std::alloc::{AllocError, Global};
 use std::marker::Model;
@@ -34,11 +34,11 @@ pub fn words_of(parts: &[Part]) -> usize {
 ///
 /// Contracts see the parts.
 #[derive(Drop)]
-pub struct Piece {
+pub struct SharedParts {
     parts: Rc<Vec<Part>>,
 }
 
-impl Model for Piece {
+impl Model for SharedParts {
     ghost use Rattle.std.specs.Prelude.{List};
     ghost use Rattle.state_index.specs.declared.parts.Part.{Part};
 
@@ -47,14 +47,14 @@ impl Model for Piece {
     ghost view = { λ piece. piece.parts.value.items };
 }
 
-impl Piece {
+impl SharedParts {
     /// A piece of its own.
     fn of(alloc: Global, parts: &[Part]) -> Result<Self, AllocError>
         ensures { IfOk result (λ piece. piece ≡ parts.now) }
     {
         let parts = Vec::from_slice(alloc, parts)?;
         match Rc::new(alloc, parts) {
-            Ok(parts) => Ok(Piece { parts }),
+            Ok(parts) => Ok(SharedParts { parts }),
             Err(_) => Err(AllocError),
         }
     }
@@ -64,7 +64,7 @@ impl Piece {
         ensures { IfOk result (λ piece. piece ≡ self.now) }
     {
         let parts = self.parts.clone()?;
-        Ok(Piece { parts })
+        Ok(SharedParts { parts })
     }
 
     /// How many words it takes in a state that has it, as long as no other one shares it.
@@ -108,7 +108,11 @@ fn first_piece(parts: &[Part]) -> usize {
 }
 
 /// A piece that has these parts, one of the others if there is one.
-fn piece_of(alloc: Global, parts: &[Part], others: &[Piece]) -> Result<Piece, AllocError>
+fn piece_of(
+    alloc: Global,
+    parts: &[Part],
+    others: &[SharedParts],
+) -> Result<SharedParts, AllocError>
     ensures { IfOk result (λ piece. piece ≡ parts.now) }
 {
     for index in 0..others.len() {
@@ -116,7 +120,7 @@ fn piece_of(alloc: Global, parts: &[Part], others: &[Piece]) -> Result<Piece, Al
             return others[index].share();
         }
     }
-    Piece::of(alloc, parts)
+    SharedParts::of(alloc, parts)
 }
 
 /// The first piece of parts, and those after it.
@@ -132,9 +136,9 @@ fn split_first(parts: &[Part]) -> (&[Part], &[Part])
 /// Puts a piece after others.
 fn push_piece(
     alloc: Global,
-    pieces: &mut Vec<Piece>,
+    pieces: &mut Vec<SharedParts>,
     parts: &[Part],
-    others: &[Piece],
+    others: &[SharedParts],
 ) -> Result<(), AllocError>
     ensures { OnOk result (whole pieces.new.items ≡ whole pieces.old.items ++ parts.now) }
 {
@@ -149,7 +153,7 @@ pub enum KeptParts {
     /// All of them, if they are few.
     Few(Vec<Part>),
     /// All of them in pieces, if they are more.
-    Many(Vec<Piece>),
+    Many(Vec<SharedParts>),
 }
 
 impl KeptParts {
@@ -158,7 +162,7 @@ impl KeptParts {
     pub fn of(
         alloc: Global,
         parts: &[Part],
-        others: &[Piece],
+        others: &[SharedParts],
         few: usize,
     ) -> Result<Self, AllocError>
         ensures { IfOk result (λ kept. few_of kept ++ whole (pieces_of kept) ≡ parts.now) }
@@ -182,7 +186,7 @@ impl KeptParts {
 
     /// The pieces.
     #[inline(always)]
-    pub fn pieces(&self) -> &[Piece]
+    pub fn pieces(&self) -> &[SharedParts]
         ensures { result.now ≡ pieces_of self.now }
     {
         match self {
@@ -193,7 +197,11 @@ impl KeptParts {
 }
 
 /// The parts in pieces. Another state may share some of them.
-fn cut(alloc: Global, parts: &[Part], others: &[Piece]) -> Result<Vec<Piece>, AllocError>
+fn cut(
+    alloc: Global,
+    parts: &[Part],
+    others: &[SharedParts],
+) -> Result<Vec<SharedParts>, AllocError>
     ensures { IfOk result (λ pieces. whole pieces.items ≡ parts.now) }
 {
     let mut pieces = Vec::new(alloc);
@@ -216,7 +224,7 @@ fn cut(alloc: Global, parts: &[Part], others: &[Piece]) -> Result<Vec<Piece>, Al
 #[derive(Drop)]
 pub struct Rest<'a> {
     parts: &'a [Part],
-    pieces: &'a [Piece],
+    pieces: &'a [SharedParts],
 }
 
 impl<'a> Model for Rest<'a> {
@@ -282,11 +290,11 @@ impl<'a> Rest<'a> {
 
     /// Takes what is known of a slot, if the next part says just that.
     #[inline(always)]
-    pub fn is_slot(&mut self, place: u8, slot: &Slot) -> bool
+    pub fn is_slot(&mut self, place: u8, slot: &StackSlot) -> bool
         ensures { IsTrue result → self.old ≡ option_to_list (slot_part place slot.now) ++ self.new }
     {
         match slot {
-            Slot::Written(0) => true,
+            StackSlot::Written(0) => true,
             slot => are_same(self.next(), &[Part::InSlot(place, *slot)]),
         }
     }

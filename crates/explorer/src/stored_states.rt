@@ -10,7 +10,7 @@ use crate::kept::{Kept, PLACES};
 use control_flow::SlotMask;
 use stack_state::State;
 use state_cover::covers;
-use state_index::{Effort, Index, Key, LONG_SCAN, PartLimits, Rows, Spread, Tree};
+use state_index::{Effort, Key, LONG_SCAN, PartLimits, Rows, Spread, StateIndex, Tree};
 use std::alloc::{AllocError, Global};
 
 /// A state that was met at a join, with its number: 0 until it is finished.
@@ -40,7 +40,7 @@ const CALLER_READINGS: usize = 3;
 #[derive(Drop)]
 pub struct StoredStates {
     pub entries: Vec<StoredState>,
-    index: Index,
+    index: StateIndex,
     /// The key of the state that is looked up.
     key: Key,
     /// The longest scan when a state was looked for last.
@@ -67,7 +67,7 @@ impl StoredStates {
         ensures empty { IfOk result (λ stored. stored.entries.items ≡ []) }
         ensures room { IfOk result (λ stored. HasShapeRoom stored.index slots) }
     {
-        let index = Index::new(alloc, slots)?;
+        let index = StateIndex::new(alloc, slots)?;
         let key = Key::new(alloc)?;
         Ok(StoredStates {
             entries: Vec::new(alloc),

@@ -25,7 +25,7 @@ pub struct Visit {
 
 /// A visit without its pending state.
 #[derive(Clone, Copy, Drop)]
-struct Step {
+struct KeptVisit {
     best: u32,
     stored: Option<u32>,
     /// Whether there is a pending state.
@@ -38,7 +38,7 @@ struct Step {
 /// Contracts see the visits.
 #[derive(Drop)]
 pub struct Trail {
-    steps: Vec<Step>,
+    steps: Vec<KeptVisit>,
     pending: Vec<Kept>,
     /// How many words the pending states take.
     words: u64,
@@ -46,13 +46,13 @@ pub struct Trail {
 
 impl Model for Trail {
     ghost use Rattle.std.specs.Prelude.{◌≡◌, length};
-    ghost use Rattle.explorer.specs.Trail.{Visits, visits_of, waiting};
+    ghost use Rattle.explorer.specs.Trail.{Visits, visits_of, waiting_count};
 
     ghost Value = { Visits };
 
     ghost view = { λ trail. record { items = visits_of trail.steps.items trail.pending.items } };
 
-    ghost invariant = { λ trail. waiting trail.steps.items ≡ length trail.pending.items };
+    ghost invariant = { λ trail. waiting_count trail.steps.items ≡ length trail.pending.items };
 }
 
 /// The place in half the room, if it has room there.
@@ -142,7 +142,7 @@ impl Trail {
         let stored = narrowed(stored)?;
         let waits = pending.is_some();
         put_pending(&mut self.pending, &mut self.words, pending)?;
-        let step = Step {
+        let step = KeptVisit {
             best,
             stored,
             waits,

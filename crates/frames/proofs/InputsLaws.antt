@@ -10,7 +10,7 @@ use Rattle.isa_model.specs.declared.streams.Finish.TheVariants as finish
 use Rattle.isa_model.specs.declared.versions.Version.{Version}
 use Rattle.isa_model.specs.declared.versions.Version.TheVariants.{One}
 use Rattle.isa_model.specs.Code.Versions.{stream_magic}
-use Rattle.isa_model.specs.Reporting.Streams.{Frame, IsFrame, Input, InputEnding, ByEnd, ByError, max_frames, frame_bytes, records_bytes, record_size, opened, stop_at, Stream, stream_with, stream_of, AreOpen, stream_bytes}
+use Rattle.isa_model.specs.Reporting.Streams.{PacketFrame, IsPacketFrame, Input, InputEnding, ByEnd, ByError, max_frames, frame_bytes, records_bytes, record_size, opened, stop_at, Stream, stream_with, stream_of, AreOpen, stream_bytes}
 use Rattle.isa_model.proofs.StreamLaws.{AreOpen-nil, AreOpen-push, size-frame_bytes, offset_after, stream_of-stops, stream_of-unopened}
 use Rattle.frames.specs.Readers.{Position, Fresh, At, Done}
 use Rattle.frames.specs.Reading.{ReadsMagic, MayOpen, OpensStream, position_opened, begun_at, Found, Stopped, StopsReading, FindsNext, IsOpen, CanStop, next_position, Finds}
@@ -18,7 +18,7 @@ use Rattle.frames.specs.Inputs.{AreReadFrom, IsBegunBy, IsBegunVersion}
 
 -- Packet frames of a stream of this version were found by a reader that was fresh at first. Its
 -- source had the bytes `old` then, and has `known` now.
-pub record HasFound (v : Version) (frames : List Frame) (old known : Option (List ℕ)) (position : Position) : Type 0 where
+pub record HasFound (v : Version) (frames : List PacketFrame) (old known : Option (List ℕ)) (position : Position) : Type 0 where
   pub stands : position ≡ At v (length frames) (offset_after v frames)
   pub are_open : AreOpen v frames
   pub lost : Consumes old known (stream_bytes v frames)
@@ -72,17 +72,17 @@ unopened_from (Some bytes) new ReadFailed r may = unopened_error bytes new r
 unopened_from (Some bytes) new TooManyRecords r may = unopened_all bytes TooManyRecords r
 
 -- a source has lost the bytes of a record that was found
-Consumes-found : (v : Version) (number offset : ℕ) (old new : Option (List ℕ)) (f : Frame) → FindsNext (At v number offset) old new (Found f) → Consumes old new (frame_bytes v f)
+Consumes-found : (v : Version) (number offset : ℕ) (old new : Option (List ℕ)) (f : PacketFrame) → FindsNext (At v number offset) old new (Found f) → Consumes old new (frame_bytes v f)
 Consumes-found v number offset None new f r = tt
 Consumes-found v number offset (Some bytes) None f r = absurd r
 Consumes-found v number offset (Some bytes) (Some rest) f r = r
 
 -- the bytes of one more record
-more_bytes : (v : Version) (frames : List Frame) (f : Frame) → records_bytes v (frames ++ f ∷ []) ≡ records_bytes v frames ++ frame_bytes v f
+more_bytes : (v : Version) (frames : List PacketFrame) (f : PacketFrame) → records_bytes v (frames ++ f ∷ []) ≡ records_bytes v frames ++ frame_bytes v f
 more_bytes v frames f = flat_map-append (frame_bytes v) frames (f ∷ []) ∙ ap (λ l. records_bytes v frames ++ l) (append-nil (frame_bytes v f))
 
 -- one more frame was found
-pub HasFound-next : (v : Version) (frames : List Frame) (old known new : Option (List ℕ)) (p : Position) (f : Frame) → HasFound v frames old known p → FindsNext p known new (Found f) → IsOpen p f
+pub HasFound-next : (v : Version) (frames : List PacketFrame) (old known new : Option (List ℕ)) (p : Position) (f : PacketFrame) → HasFound v frames old known p → FindsNext p known new (Found f) → IsOpen p f
     → HasFound v (frames ++ f ∷ []) old new (next_position p (Found f))
 HasFound-next v frames old known new p f s r ok =
     let number = length frames in
@@ -102,11 +102,11 @@ HasFound-next v frames old known new p f s r ok =
     }
 
 -- the reader's number counts the frames that were found
-pub HasFound-count : (v : Version) (frames : List Frame) (old known : Option (List ℕ)) (number offset : ℕ) → HasFound v frames old known (At v number offset) → number ≡ length frames
+pub HasFound-count : (v : Version) (frames : List PacketFrame) (old known : Option (List ℕ)) (number offset : ℕ) → HasFound v frames old known (At v number offset) → number ≡ length frames
 HasFound-count v frames old known number offset s = let h = s.stands in cc
 
 -- the bytes that a source has left
-left_of : (v : Version) (frames : List Frame) (bytes : List ℕ) (known : Option (List ℕ)) → Consumes (Some bytes) known (stream_bytes v frames)
+left_of : (v : Version) (frames : List PacketFrame) (bytes : List ℕ) (known : Option (List ℕ)) → Consumes (Some bytes) known (stream_bytes v frames)
     → (rest : List ℕ) × (known ≡ Some rest) × (bytes ≡ stream_bytes v frames ++ rest)
 left_of v frames bytes None h = absurd h
 left_of v frames bytes (Some rest) h = (rest, refl, h)
@@ -139,11 +139,11 @@ read_stop v number offset rest new (finish.Fault ReadFailed o) h = read_error v 
 read_stop v number offset rest new (finish.Fault TooManyRecords o) h = whole_stop v number offset rest (finish.Fault TooManyRecords o) h
 
 -- the input that begins with these frames
-abbrev input_of : Version → List Frame → List ℕ → InputEnding → Input
+abbrev input_of : Version → List PacketFrame → List ℕ → InputEnding → Input
 input_of v frames rest e = record { bytes = stream_magic v ++ (records_bytes v frames ++ rest); ending = e }
 
 -- Where the reader stops, the frames that it found and that end or fault were read.
-pub HasFound-stops : (v : Version) (frames : List Frame) (old known new : Option (List ℕ)) (p : Position) (stop : Finish) → HasFound v frames old known p → FindsNext p known new (Stopped stop)
+pub HasFound-stops : (v : Version) (frames : List PacketFrame) (old known new : Option (List ℕ)) (p : Position) (stop : Finish) → HasFound v frames old known p → FindsNext p known new (Stopped stop)
     → CanStop p stop → AreReadFrom old (stream_with v (frames, stop))
 HasFound-stops v frames None known new p stop s r can =
     let h : CanStop (At v (length frames) (offset_after v frames)) stop = subst (λ (x : Position). CanStop x stop) s.stands can in
@@ -172,13 +172,13 @@ HasFound-stops v frames (Some bytes) known new p stop s r can =
     }
 
 -- Where nothing more is read, the source begins with the frames that were found.
-pub HasFound-begins : (v : Version) (frames : List Frame) (old known : Option (List ℕ)) (p : Position) → HasFound v frames old known p → IsBegunBy old v frames
+pub HasFound-begins : (v : Version) (frames : List PacketFrame) (old known : Option (List ℕ)) (p : Position) → HasFound v frames old known p → IsBegunBy old v frames
 HasFound-begins v frames None known p s = tt
 HasFound-begins v frames (Some bytes) known p s = let (rest, is_known, split) = left_of v frames bytes known s.lost in (rest, split)
 
 -- No magic could be read: the stream counts as one of the first version, it has no frames, and the
 -- reader is done.
-pub record IsUnopened (v : Version) (frames : List Frame) (old : Option (List ℕ)) (position : Position) : Type 0 where
+pub record IsUnopened (v : Version) (frames : List PacketFrame) (old : Option (List ℕ)) (position : Position) : Type 0 where
   pub fault : Fault
   pub first : v ≡ One
   pub none : frames ≡ []
@@ -186,7 +186,8 @@ pub record IsUnopened (v : Version) (frames : List Frame) (old : Option (List �
   pub read : AreReadFrom old (unopened fault)
 
 -- the reader has read the magic of this version and then these frames, or it found no magic
-abbrev pub HasBegun : Version → List Frame → Option (List ℕ) → Option (List ℕ) → Position → Type 0
+abbrev pub HasBegun : Version → List PacketFrame → Option (List ℕ) → Option (List ℕ) → Position
+    → Type 0
 HasBegun v frames old known position = HasFound v frames old known position ⊎ IsUnopened v frames old position
 
 -- a fresh reader has begun when the magic is read
@@ -208,13 +209,13 @@ HasBegun-opens v old new after opens is = go opens.0 opens.1 opens.2 opens.3
     })
 
 -- these frames are allowed in the stream
-pub HasBegun-open : (v : Version) (frames : List Frame) (old known : Option (List ℕ)) (p : Position) → HasBegun v frames old known p → AreOpen v frames
+pub HasBegun-open : (v : Version) (frames : List PacketFrame) (old known : Option (List ℕ)) (p : Position) → HasBegun v frames old known p → AreOpen v frames
 HasBegun-open v frames old known p (inl s) = s.are_open
 HasBegun-open v frames old known p (inr u) = subst (AreOpen v) (sym u.none) (AreOpen-nil v)
 
 -- a call that finds one more frame, for which there is room
-pub HasBegun-found : (v : Version) (frames : List Frame) (old known new : Option (List ℕ)) (p q : Position) (f : Frame) → HasBegun v frames old known p → Finds p known new q (Found f)
-    → HasFound v (frames ++ f ∷ []) old new q × (length frames < max_frames) × IsFrame v f
+pub HasBegun-found : (v : Version) (frames : List PacketFrame) (old known new : Option (List ℕ)) (p q : Position) (f : PacketFrame) → HasBegun v frames old known p → Finds p known new q (Found f)
+    → HasFound v (frames ++ f ∷ []) old new q × (length frames < max_frames) × IsPacketFrame v f
 HasBegun-found v frames old known new p q f (inl s) h =
     let here = At v (length frames) (offset_after v frames) in
     let (begun_is, left_is) = subst (λ (x : Position). OpensStream x known h.left h.begun) s.stands h.opens in
@@ -233,7 +234,7 @@ done_stops : (v : Version) (stop found : Finish) → CanStop (Done v stop) found
 done_stops v stop found can = let h : Some stop ≡ Some found = can.stops in cc
 
 -- a call that finds the end or a fault: the frames that were found and that end or fault were read
-pub HasBegun-stopped : (v : Version) (frames : List Frame) (old known new : Option (List ℕ)) (p q : Position) (stop : Finish) → HasBegun v frames old known p → Finds p known new q (Stopped stop)
+pub HasBegun-stopped : (v : Version) (frames : List PacketFrame) (old known new : Option (List ℕ)) (p q : Position) (stop : Finish) → HasBegun v frames old known p → Finds p known new q (Stopped stop)
     → AreReadFrom old (stream_with v (frames, stop))
 HasBegun-stopped v frames old known new p q stop (inl s) h =
     let (begun_is, left_is) = subst (λ (x : Position). OpensStream x known h.left h.begun) s.stands h.opens in

@@ -6,7 +6,7 @@ use Rattle.isa_model.specs.declared.streams.Finish.TheVariants as finish
 use Rattle.isa_model.specs.declared.versions.Version.{Version}
 use Rattle.isa_model.specs.declared.versions.Version.TheVariants.{One}
 use Rattle.isa_model.specs.Code.Versions.{version_number}
-use Rattle.isa_model.specs.Reporting.Streams.{Frame, Input, ByEnd, ByError, Stream, stream_of, stream_bytes}
+use Rattle.isa_model.specs.Reporting.Streams.{PacketFrame, Input, ByEnd, ByError, Stream, stream_of, stream_bytes}
 
 -- The input was read from a source with these bytes: all of them and then the end, or the first of them and then an
 -- error. An error is read only where the stream's fault is ReadFailed.
@@ -27,7 +27,7 @@ pub record AreReadFrom (source : Option (List ℕ)) (found : Stream) : Type 0 wh
 
 -- a source begins with the magic of this version and the records of these frames, where its bytes are known; whatever
 -- follows them
-abbrev pub IsBegunBy : Option (List ℕ) → Version → List Frame → Type 0
+abbrev pub IsBegunBy : Option (List ℕ) → Version → List PacketFrame → Type 0
 IsBegunBy source v frames = IfSome source (λ bytes. (rest : List ℕ) × (bytes ≡ stream_bytes v frames ++ rest))
 
 -- ---- a reader that has begun

@@ -9,7 +9,7 @@ use Rattle.isa_model.specs.declared.versions.Version.{Version}
 use Rattle.isa_model.specs.declared.versions.Version.TheVariants.{One}
 use Rattle.isa_model.specs.Code.Versions.{version_number, stream_magic}
 use Rattle.isa_model.specs.Code.Limits.{max_packet}
-use Rattle.isa_model.specs.Reporting.Streams.{Frame, IsFrame, max_frames, frame_bytes, record_size, InputEnding, ByEnd, ByError, opened, stop_at}
+use Rattle.isa_model.specs.Reporting.Streams.{PacketFrame, IsPacketFrame, max_frames, frame_bytes, record_size, InputEnding, ByEnd, ByError, opened, stop_at}
 use Rattle.frames.specs.Readers.{Position, Fresh, At, Done, ReaderState}
 use Rattle.frames.specs.declared.reader.Next.{Next}
 use Rattle.frames.specs.declared.reader.Next.TheVariants as next
@@ -53,7 +53,7 @@ begun_at (Done version (finish.Fault fault offset)) = Err (fault, offset)
 
 -- what one call finds: a record, or why there is none
 pub data Finding : Type 0 where
-  Found : Frame → Finding
+  Found : PacketFrame → Finding
   Stopped : Finish → Finding
 
 -- what a call answered, with what it left in the buffer
@@ -62,7 +62,7 @@ finding_of (next.Frame head n reason) buffer = Found (record { head = head; body
 finding_of next.End buffer = Stopped finish.End
 finding_of (next.Fault f offset) buffer = Stopped (finish.Fault f offset)
 
-abbrev pub after_frame : Position → Frame → Position
+abbrev pub after_frame : Position → PacketFrame → Position
 after_frame (At version number offset) f = At version (number + 1) (offset + record_size version f)
 after_frame position f = position
 
@@ -89,7 +89,7 @@ StopsReading position bytes new (finish.Fault ReadFailed offset) =
 StopsReading position bytes new stop = stop_from position bytes ByEnd ≡ Some stop
 
 -- the bytes begin with this record, and then there are others
-abbrev pub Begins : Position → List ℕ → Frame → List ℕ → Type 0
+abbrev pub Begins : Position → List ℕ → PacketFrame → List ℕ → Type 0
 Begins (At version number offset) bytes f rest = bytes ≡ frame_bytes version f ++ rest
 Begins position bytes f rest = ⊥
 
@@ -102,8 +102,8 @@ FindsNext position (Some bytes) None (Found f) = ⊥
 FindsNext position (Some bytes) (Some rest) (Found f) = Begins position bytes f rest
 
 -- this record is allowed at the position
-abbrev pub IsOpen : Position → Frame → Type 0
-IsOpen (At version number offset) f = (number < max_frames) × IsFrame version f
+abbrev pub IsOpen : Position → PacketFrame → Type 0
+IsOpen (At version number offset) f = (number < max_frames) × IsPacketFrame version f
 IsOpen position f = ⊥
 
 -- there are bytes, and a way in which they end, with which a stream stops so at the position

@@ -9,10 +9,10 @@ use Rattle.isa_model.specs.declared.versions.Version.{Version}
 use Rattle.isa_model.specs.Code.Instructions.{Program}
 use Rattle.isa_model.specs.Code.Versions.{stream_magic}
 use Rattle.isa_model.specs.Machine.States.{KeyValues}
-use Rattle.isa_model.specs.Reporting.Streams.{Frame, Stream, stream_with, AreOpen}
+use Rattle.isa_model.specs.Reporting.Streams.{PacketFrame, Stream, stream_with, AreOpen}
 use Rattle.isa_model.specs.Running.Runs.{Turn, turn}
 use Rattle.isa_model.proofs.RunLaws.{turn-outcome}
-use Rattle.isa_model.specs.Reporting.Reports.{Piece, ToReport, ToFrames, ReportForm, Rule, turns_pieces, contents_after, maps_pieces, last_line, report_of, checked_rule, checked_report, starting_contents, IsReport}
+use Rattle.isa_model.specs.Reporting.Reports.{OutputPart, ToReport, ToFrames, ReportForm, Rule, turns_pieces, contents_after, maps_pieces, last_line, report_of, checked_rule, checked_report, starting_contents, IsReport}
 use Rattle.isa_model.specs.Running.Outcomes.{AllExit}
 use Rattle.isa_model.proofs.ReportLaws.{IsReport-checked}
 use Rattle.image.proofs.Programs.{IsProgram-IsImage, IsImage-starting_contents}
@@ -50,14 +50,14 @@ turn-AnswersRun r head packet clock exit after left coming h =
 -- ---- from what a machine writes to the reports
 
 -- However a stream goes on after these packet frames, its checked report begins with their pieces.
-front_goes_on : (limit : ℕ) (program : Version) (rows : List MapDef) (rule : Rule) (contents : List KeyValues) (v : Version) (frames more : List Frame) (finish : Finish)
-    → (rest : List Piece) × (report_of limit program rows rule contents (stream_with v (frames ++ more, finish)) ≡ front_in (record { limit = limit; program = program; stream = v }) rule contents frames ++ rest)
+front_goes_on : (limit : ℕ) (program : Version) (rows : List MapDef) (rule : Rule) (contents : List KeyValues) (v : Version) (frames more : List PacketFrame) (finish : Finish)
+    → (rest : List OutputPart) × (report_of limit program rows rule contents (stream_with v (frames ++ more, finish)) ≡ front_in (record { limit = limit; program = program; stream = v }) rule contents frames ++ rest)
 front_goes_on limit program rows rule contents v frames more finish =
     let form : ReportForm = record { limit = limit; program = program; stream = v } in
     let later = turns_pieces form rule (0 + length frames) (contents_after rule contents frames) more in
     let closing = maps_pieces 0 rows (contents_after rule contents (frames ++ more)) ++ ToReport (last_line (length (frames ++ more)) finish) ∷ [] in (
       later ++ closing,
-      ap (λ (l : List Piece). (ToFrames (stream_magic v) ∷ l) ++ closing) (turns_pieces-append form rule 0 contents frames more)
+      ap (λ (l : List OutputPart). (ToFrames (stream_magic v) ∷ l) ++ closing) (turns_pieces-append form rule 0 contents frames more)
           ∙ append_assoc (front_in form rule contents frames) later closing,
     )
 
@@ -75,7 +75,7 @@ Reports-By p limit source old new result (inr (error, is, r)) = inr (
     begun = r.begun;
     writes = λ more finish.
         let (rest, whole) = front_goes_on limit p.version p.maps (checked_rule p limit) (starting_contents p.maps) r.version r.frames more finish in
-        subst (λ (l : List Piece). WroteBefore old new l error) (sym whole) (WroteBefore-more old new _ rest error r.writes);
+        subst (λ (l : List OutputPart). WroteBefore old new l error) (sym whole) (WroteBefore-more old new _ rest error r.writes);
   },
 )
 
@@ -130,12 +130,12 @@ ReportsRun-By a source old new result h r = record { some = h.some; most = h.mos
             exits = exits;
             writes = λ more finish pieces report.
                 let (rest, whole) = first_pieces a.program a.bound r.version r.frames more finish pieces exits report in
-                subst (λ (l : List Piece). WroteBefore old new l error) (sym whole) (WroteBefore-more old new _ rest error r.writes);
+                subst (λ (l : List OutputPart). WroteBefore old new l error) (sym whole) (WroteBefore-more old new _ rest error r.writes);
           },
         )
 
 -- what is noted of frames aside
-WritesEach-tallied : (old new : Outputs) (result : Result Traced HostError) (pieces : List Piece) → WritesEach old new result pieces → WritesEach old new (tallied result) pieces
+WritesEach-tallied : (old new : Outputs) (result : Result Traced HostError) (pieces : List OutputPart) → WritesEach old new result pieces → WritesEach old new (tallied result) pieces
 WritesEach-tallied old new (Ok traced) pieces w = w
 WritesEach-tallied old new (Err e) pieces w = w
 

@@ -8,8 +8,8 @@ use Rattle.isa_model.specs.Code.Versions.{stream_magic}
 use Rattle.isa_model.specs.Machine.States.{KeyValues}
 use Rattle.isa_model.specs.Running.Runs.{Outcome, Turn}
 use Rattle.isa_model.proofs.RunLaws.{turn-outcome, HasOutcome-same}
-use Rattle.isa_model.specs.Reporting.Streams.{Frame, stream_with}
-use Rattle.isa_model.specs.Reporting.Reports.{Piece, ToReport, ToFrames, ReportForm, frame_line, frame_pieces, skip_pieces, turn_on, turn_pieces, contents_left, turns_pieces, maps_pieces, last_line, checked_rule, turn_by, starting_contents, ReportsFrame, ReportsFrames, form_of, IsReport}
+use Rattle.isa_model.specs.Reporting.Streams.{PacketFrame, stream_with}
+use Rattle.isa_model.specs.Reporting.Reports.{OutputPart, ToReport, ToFrames, ReportForm, frame_line, frame_pieces, skip_pieces, turn_on, turn_pieces, contents_left, turns_pieces, maps_pieces, last_line, checked_rule, turn_by, starting_contents, ReportsFrame, ReportsFrames, form_of, IsReport}
 use Rattle.isa_model.specs.Running.Outcomes.{ExitsOn, AllExit}
 use Rattle.host.specs.Reported.{front_in}
 
@@ -18,10 +18,10 @@ module _ (p : Program) (n : ℕ) where
   abbrev limited : ReportForm → ReportForm
   limited form = record form { limit = n }
 
-  abbrev turn_if : List KeyValues → Frame → Bool → Option Turn
+  abbrev turn_if : List KeyValues → PacketFrame → Bool → Option Turn
   turn_if contents f runs = if runs then Some (checked_rule p n f.head f.body contents) else None
 
-  module _ (form : ReportForm) (number : ℕ) (contents : List KeyValues) (f : Frame) where
+  module _ (form : ReportForm) (number : ℕ) (contents : List KeyValues) (f : PacketFrame) where
     exit_pieces : (o : Outcome) → frame_pieces form number f (turn_by o) ≡ frame_pieces (limited form) number f (turn_by o)
     unfolding frame_pieces frame_line
     exit_pieces o = refl
@@ -31,7 +31,7 @@ module _ (p : Program) (n : ℕ) where
     kept_pieces = refl
 
     -- one frame's pieces, and what it leaves
-    one_frame : (runs : Bool) (pieces : List Piece) (next after : List KeyValues) → ExitsOn p n contents f runs next → ReportsFrame form p number contents f runs pieces after
+    one_frame : (runs : Bool) (pieces : List OutputPart) (next after : List KeyValues) → ExitsOn p n contents f runs next → ReportsFrame form p number contents f runs pieces after
         → (pieces ≡ turn_pieces (limited form) number f (turn_if contents f runs)) × (after ≡ contents_left contents (turn_if contents f runs)) × (next ≡ contents_left contents (turn_if contents f runs))
     one_frame false pieces next after on h = (h.0 ∙ kept_pieces, h.1, on)
     one_frame true pieces next after on h =
@@ -45,8 +45,8 @@ module _ (p : Program) (n : ℕ) where
         )
 
   -- the pieces of frames whose runs exit, from any number on
-  first_frames : (form : ReportForm) (number : ℕ) (contents : List KeyValues) (fs gs : List Frame) (turns : List Piece) (last : List KeyValues) → AllExit p n contents fs
-      → ReportsFrames form p number contents (fs ++ gs) turns last → (rest : List Piece) × (turns ≡ turns_pieces (limited form) (checked_rule p n) number contents fs ++ rest)
+  first_frames : (form : ReportForm) (number : ℕ) (contents : List KeyValues) (fs gs : List PacketFrame) (turns : List OutputPart) (last : List KeyValues) → AllExit p n contents fs
+      → ReportsFrames form p number contents (fs ++ gs) turns last → (rest : List OutputPart) × (turns ≡ turns_pieces (limited form) (checked_rule p n) number contents fs ++ rest)
   first_frames form number contents [] gs turns last exits h = (turns, refl)
   first_frames form number contents (f ∷ fs) gs turns last exits h =
       let (next, on, all) = exits in
@@ -60,13 +60,13 @@ module _ (p : Program) (n : ℕ) where
       let here = turn_pieces (limited form) number f t in
       let later = turns_pieces (limited form) rule (number + 1) (contents_left contents t) fs in (
         rest,
-        split ∙ ap (λ (l : List Piece). l ++ behind) is ∙ ap (λ (l : List Piece). here ++ l) same ∙ sym (append_assoc here later rest),
+        split ∙ ap (λ (l : List OutputPart). l ++ behind) is ∙ ap (λ (l : List OutputPart). here ++ l) same ∙ sym (append_assoc here later rest),
       )
 
   -- a report begins with the magic and the first frames' pieces
-  pub first_pieces : (v : Version) (frames more : List Frame) (finish : Finish) (pieces : List Piece) → AllExit p n (starting_contents p.maps) frames
+  pub first_pieces : (v : Version) (frames more : List PacketFrame) (finish : Finish) (pieces : List OutputPart) → AllExit p n (starting_contents p.maps) frames
       → IsReport p (stream_with v (frames ++ more, finish)) pieces
-      → (rest : List Piece) × (pieces ≡ front_in (record { limit = n; program = p.version; stream = v }) (checked_rule p n) (starting_contents p.maps) frames ++ rest)
+      → (rest : List OutputPart) × (pieces ≡ front_in (record { limit = n; program = p.version; stream = v }) (checked_rule p n) (starting_contents p.maps) frames ++ rest)
   first_pieces v frames more finish pieces exits h =
       let found = stream_with v (frames ++ more, finish) in
       let form = form_of p found in
@@ -74,5 +74,5 @@ module _ (p : Program) (n : ℕ) where
       let front = turns_pieces (limited form) (checked_rule p n) 0 (starting_contents p.maps) frames in
       let closing = maps_pieces 0 p.maps h.last ++ ToReport (last_line (length (frames ++ more)) finish) ∷ [] in (
         rest ++ closing,
-        h.whole ∙ ap (λ (l : List Piece). (ToFrames (stream_magic v) ∷ l) ++ closing) same ∙ append_assoc (ToFrames (stream_magic v) ∷ front) rest closing,
+        h.whole ∙ ap (λ (l : List OutputPart). (ToFrames (stream_magic v) ∷ l) ++ closing) same ∙ append_assoc (ToFrames (stream_magic v) ∷ front) rest closing,
       )

@@ -13,15 +13,15 @@ use Rattle.std.proofs.lemmas.Option.{slice_get_within, get_or_from_slice_get}
 use Rattle.byteorder.specs.Endian.{little_bytes}
 use Rattle.byteorder.specs.Numbers.{length-bytes_low_first}
 use Rattle.exact_io.specs.Transfers.{AppendsBeginning}
-use Rattle.isa_model.specs.declared.map_defs.MapKind.{MapKind}
-use Rattle.isa_model.specs.declared.map_defs.MapKind.TheVariants.{Hash, Array}
+use Rattle.isa_model.specs.declared.map_defs.MapType.{MapType}
+use Rattle.isa_model.specs.declared.map_defs.MapType.TheVariants.{Hash, Array}
 use Rattle.isa_model.specs.declared.map_defs.MapDef.{MapDef}
 use Rattle.isa_model.specs.Code.Limits.{max_value_size}
 use Rattle.isa_model.specs.Code.MapRows.{KeyFits, IsRow}
 use Rattle.isa_model.specs.Machine.MapContents.{key_order, is_key}
 use Rattle.isa_model.specs.Machine.MachineStates.{IsKeyValue, FitsRow}
 use Rattle.isa_model.specs.Machine.States.{KeyValues}
-use Rattle.isa_model.specs.Reporting.Reports.{Piece, ToReport, map_line, map_pieces, maps_pieces, key_value_by_index, in_report_order}
+use Rattle.isa_model.specs.Reporting.Reports.{OutputPart, ToReport, map_line, map_pieces, maps_pieces, key_value_by_index, in_report_order}
 use Rattle.maps.specs.Maps.{MapState, IsMap, map_at, content_in, ordered_in, rows_of, contents_of}
 use Rattle.maps.proofs.MapsLaws.{KeyFits-most}
 use Rattle.maps.proofs.MapLaws.{FitsRow-IsMap}
@@ -33,26 +33,26 @@ use Rattle.host.specs.Writing.{Wrote, WroteBefore}
 use Rattle.host.proofs.Pieces.{Wrote-append, WroteBefore-append, WroteBefore-more, wrote_report, report_failed}
 
 -- pieces that were written to the report
-abbrev pub WroteReport : Option (List ℕ) → Option (List ℕ) → List Piece → Type 0
+abbrev pub WroteReport : Option (List ℕ) → Option (List ℕ) → List OutputPart → Type 0
 WroteReport old new pieces = (frames : Option (List ℕ)) → Wrote (record { report = old; frames = frames }) (record { report = new; frames = frames }) pieces
 
-abbrev pub FailedReport : Option (List ℕ) → Option (List ℕ) → List Piece → HostError → Type 0
+abbrev pub FailedReport : Option (List ℕ) → Option (List ℕ) → List OutputPart → HostError → Type 0
 FailedReport old new pieces error =
     (frames : Option (List ℕ)) → WroteBefore (record { report = old; frames = frames }) (record { report = new; frames = frames }) pieces error
 
 pub no_piece : (r : Option (List ℕ)) → WroteReport r r []
 no_piece r frames = record { report = Appends-nil r; frames = Appends-nil frames }
 
-pub more_pieces : (r s t : Option (List ℕ)) (ps qs : List Piece) → WroteReport r s ps → WroteReport s t qs → WroteReport r t (ps ++ qs)
+pub more_pieces : (r s t : Option (List ℕ)) (ps qs : List OutputPart) → WroteReport r s ps → WroteReport s t qs → WroteReport r t (ps ++ qs)
 more_pieces r s t ps qs v w frames = Wrote-append _ _ _ ps qs (v frames) (w frames)
 
-pub failed_later : (r s t : Option (List ℕ)) (ps qs rest : List Piece) (e : HostError) → WroteReport r s ps → FailedReport s t qs e → FailedReport r t (ps ++ (qs ++ rest)) e
+pub failed_later : (r s t : Option (List ℕ)) (ps qs rest : List OutputPart) (e : HostError) → WroteReport r s ps → FailedReport s t qs e → FailedReport r t (ps ++ (qs ++ rest)) e
 failed_later r s t ps qs rest e v w frames =
     WroteBefore-append _ _ _ ps (qs ++ rest) e (v frames) (WroteBefore-more _ _ qs rest e (w frames))
 
 -- ---- keys
 
-module _ (line : List ℕ × List ℕ → Piece) (es : KeyValues) where
+module _ (line : List ℕ × List ℕ → OutputPart) (es : KeyValues) where
   pub no_line : (r : Option (List ℕ)) → WroteReport r r (map line (take 0 es))
   no_line r = no_piece r
 
@@ -69,11 +69,11 @@ module _ (line : List ℕ × List ℕ → Piece) (es : KeyValues) where
     lines_around : map line es ≡ map line (take k es) ++ (line e ∷ [] ++ map line (drop (k + 1) es))
     lines_around =
         ap (map line) (sym (take-append-drop (k + 1) es)) ∙ map-append line (take (k + 1) es) (drop (k + 1) es)
-        ∙ ap (λ (l : List Piece). l ++ map line (drop (k + 1) es)) lines_up_to ∙ append_assoc (map line (take k es)) (line e ∷ []) (map line (drop (k + 1) es))
+        ∙ ap (λ (l : List OutputPart). l ++ map line (drop (k + 1) es)) lines_up_to ∙ append_assoc (map line (take k es)) (line e ∷ []) (map line (drop (k + 1) es))
 
     pub line_failed : (r s t : Option (List ℕ)) (error : HostError) → WroteReport r s (map line (take k es)) → FailedReport s t (line e ∷ []) error → FailedReport r t (map line es) error
     line_failed r s t error v w =
-        subst (λ (l : List Piece). FailedReport r t l error) (sym lines_around)
+        subst (λ (l : List OutputPart). FailedReport r t l error) (sym lines_around)
         (failed_later r s t (map line (take k es)) (line e ∷ []) (map line (drop (k + 1) es)) error v w)
 
   -- past the last key all lines were written
@@ -107,7 +107,7 @@ value_short row es k value listed found =
 -- the line of the key that was found
 module _ (index : ℕ) (row : MapDef) (es : KeyValues) (k : ℕ) (old new value : List ℕ) (listed : AreListed row es)
     (found : Some value ≡ option_map (λ e. e.1) (slice_get es k)) (put : new ≡ with_key_of (slice_get es k) old) where
-  abbrev line_at : List ℕ × List ℕ → Piece
+  abbrev line_at : List ℕ × List ℕ → OutputPart
   line_at e = ToReport (map_line index e)
 
   front : (e : List ℕ × List ℕ) → slice_get es k ≡ Some e → take row.key_size new ≡ e.0
@@ -163,7 +163,7 @@ by_index es i e all f = elim (find key_order (little_bytes 4 i) es) as (λ o. fi
           subst (λ (x : List ℕ × List ℕ). (length x.0 ≡ 4) × (length x.1 ≤ max_value_size)) same (length-bytes_low_first 0 4 i, found (λ x. length x ≤ max_value_size) (little_bytes 4 i) es v all g)
     ] refl f
 
-listed_by : (kind : MapKind) (row : MapDef) (es : KeyValues) → row.kind ≡ kind → IsRow row → FitsRow row es → AreListed row (in_report_order kind row.entries es)
+listed_by : (kind : MapType) (row : MapDef) (es : KeyValues) → row.kind ≡ kind → IsRow row → FitsRow row es → AreListed row (in_report_order kind row.entries es)
 listed_by Hash row es k h fits = record {
   short_keys = KeyFits-most row.kind row.key_size h.key;
   room = fits.room;
@@ -171,7 +171,7 @@ listed_by Hash row es k h fits = record {
 }
 listed_by Array row es k h fits =
     let short = All-weaker (IsKeyValue row) (λ e. length e.1 ≤ max_value_size) (λ e m. let a = m.value_size in let b = h.short_value in omega arith) es fits.entries in
-    let four : row.key_size ≡ 4 = subst (λ (x : MapKind). KeyFits x row.key_size) k h.key in
+    let four : row.key_size ≡ 4 = subst (λ (x : MapType). KeyFits x row.key_size) k h.key in
     let (all, few) = filtered (λ (e : List ℕ × List ℕ). (length e.0 ≡ 4) × (length e.1 ≤ max_value_size)) (key_value_by_index es) (λ i e f. by_index es i e short f) (range_with_len 0 row.entries) in
     record {
       short_keys = omega arith;
@@ -189,7 +189,7 @@ AreListed-map_at ms i l all =
 -- ---- maps
 
 -- the lines of maps, by what they are
-abbrev pub lines_of : ℕ → List MapState → List Piece
+abbrev pub lines_of : ℕ → List MapState → List OutputPart
 lines_of n ms = maps_pieces n (rows_of ms) (contents_of ms)
 
 lines_of-append : (n : ℕ) (ms ns : List MapState) → lines_of n (ms ++ ns) ≡ lines_of n ms ++ lines_of (n + length ms) ns
@@ -197,7 +197,7 @@ lines_of-append n [] ns = ap (λ k. lines_of k ns) (sym (add-zero n))
 lines_of-append n (m ∷ ms) ns =
     let same : (n + 1) + length ms ≡ n + suc (length ms) = omega arith in
     let front = map_pieces n m.row (content_in m) in
-    ap (λ (l : List Piece). front ++ l) (lines_of-append (n + 1) ms ns ∙ ap (λ k. lines_of (n + 1) ms ++ lines_of k ns) same)
+    ap (λ (l : List OutputPart). front ++ l) (lines_of-append (n + 1) ms ns ∙ ap (λ k. lines_of (n + 1) ms ++ lines_of k ns) same)
     ∙ sym (append_assoc front (lines_of (n + 1) ms) (lines_of (n + suc (length ms)) ns))
 
 get_or-map_at : (ms : List MapState) (i : ℕ) → i < length ms → (d : MapState) → get_or ms i d ≡ map_at ms i
@@ -211,7 +211,7 @@ length_front (suc i) [] l = absurd (omega arith)
 length_front (suc i) (m ∷ ms) l = let h = length_front i ms (omega arith) in omega arith
 
 module _ (ms : List MapState) (i : ℕ) (inside : i < length ms) where
-  abbrev here : List Piece
+  abbrev here : List OutputPart
   here = map_pieces i (map_at ms i).row (content_in (map_at ms i))
 
   -- the lines of maps up to one, and that one's
@@ -221,7 +221,7 @@ module _ (ms : List MapState) (i : ℕ) (inside : i < length ms) where
       ap (lines_of 0) (take_more ms i (map_at ms i) inside) ∙ lines_of-append 0 (take i ms) (get_or ms i (map_at ms i) ∷ [])
       ∙ ap (λ (k : ℕ). lines_of 0 (take i ms) ++ lines_of k (get_or ms i (map_at ms i) ∷ [])) z
       ∙ ap (λ (m : MapState). lines_of 0 (take i ms) ++ lines_of i (m ∷ [])) (get_or-map_at ms i inside (map_at ms i))
-      ∙ ap (λ (l : List Piece). lines_of 0 (take i ms) ++ l) (append-nil here)
+      ∙ ap (λ (l : List OutputPart). lines_of 0 (take i ms) ++ l) (append-nil here)
 
   map_more : (r s t : Option (List ℕ)) → WroteReport r s (lines_of 0 (take i ms)) → WroteReport s t here → WroteReport r t (lines_of 0 (take (i + 1) ms))
   map_more r s t v w = subst (WroteReport r t) (sym maps_up_to) (more_pieces r s t (lines_of 0 (take i ms)) here v w)
@@ -231,8 +231,8 @@ module _ (ms : List MapState) (i : ℕ) (inside : i < length ms) where
       let rest = lines_of (0 + length (take (i + 1) ms)) (drop (i + 1) ms) in
       let around : lines_of 0 ms ≡ lines_of 0 (take i ms) ++ (here ++ rest) =
       ap (lines_of 0) (sym (take-append-drop (i + 1) ms)) ∙ lines_of-append 0 (take (i + 1) ms) (drop (i + 1) ms)
-      ∙ ap (λ (l : List Piece). l ++ rest) maps_up_to ∙ append_assoc (lines_of 0 (take i ms)) here rest in
-      subst (λ (l : List Piece). FailedReport r t l e) (sym around) (failed_later r s t (lines_of 0 (take i ms)) here rest e v w)
+      ∙ ap (λ (l : List OutputPart). l ++ rest) maps_up_to ∙ append_assoc (lines_of 0 (take i ms)) here rest in
+      subst (λ (l : List OutputPart). FailedReport r t l e) (sym around) (failed_later r s t (lines_of 0 (take i ms)) here rest e v w)
 
 -- the keys and values of one map more were written, or failed
 module _ (ms now : List MapState) (i : ℕ) (inside : i < length ms) (es : KeyValues) (listed : es ≡ ordered_in (map_at now i)) (same : now ≡ ms) where
@@ -245,7 +245,7 @@ module _ (ms now : List MapState) (i : ℕ) (inside : i < length ms) (es : KeyVa
 
   pub entries_failed : (r s t : Option (List ℕ)) (e : HostError) → WroteReport r s (lines_of 0 (take i ms)) → FailedReport s t (map (λ e. ToReport (map_line i e)) es) e
       → FailedReport r t (lines_of 0 ms) e
-  entries_failed r s t e v w = map_failed ms i inside r s t e v (subst (λ (l : List Piece). FailedReport s t l e) lines_here w)
+  entries_failed r s t e v w = map_failed ms i inside r s t e v (subst (λ (l : List OutputPart). FailedReport s t l e) lines_here w)
 
 pub maps_whole : (ms : List MapState) (i : ℕ) (r s : Option (List ℕ)) → length ms ≤ i → WroteReport r s (lines_of 0 (take i ms)) → WroteReport r s (lines_of 0 ms)
 maps_whole ms i r s past v = subst (λ (l : List MapState). WroteReport r s (lines_of 0 l)) (take_all i ms past) v
@@ -256,16 +256,16 @@ module _ (r s : Option (List ℕ)) (ms : List MapState) (rows : List MapDef) (co
   lines_are : lines_of 0 ms ≡ maps_pieces 0 rows contents
   lines_are = λ i. maps_pieces 0 (same i) (kept i)
 
-  pub maps_failed : (last : Piece) (e : HostError) → FailedReport r s (lines_of 0 ms) e → FailedReport r s (maps_pieces 0 rows contents ++ last ∷ []) e
-  maps_failed last e w = subst (λ (l : List Piece). FailedReport r s (l ++ last ∷ []) e) lines_are (λ frames. WroteBefore-more _ _ (lines_of 0 ms) (last ∷ []) e (w frames))
+  pub maps_failed : (last : OutputPart) (e : HostError) → FailedReport r s (lines_of 0 ms) e → FailedReport r s (maps_pieces 0 rows contents ++ last ∷ []) e
+  maps_failed last e w = subst (λ (l : List OutputPart). FailedReport r s (l ++ last ∷ []) e) lines_are (λ frames. WroteBefore-more _ _ (lines_of 0 ms) (last ∷ []) e (w frames))
 
   module _ (t : Option (List ℕ)) (line bytes : List ℕ) (is : line ≡ bytes) (w : WroteReport r s (lines_of 0 ms)) where
     pub last_failed : AppendsBeginning s t line → FailedReport r t (maps_pieces 0 rows contents ++ ToReport bytes ∷ []) failure.Report
     last_failed p =
-        subst (λ (l : List Piece). FailedReport r t (l ++ ToReport bytes ∷ []) failure.Report) lines_are
+        subst (λ (l : List OutputPart). FailedReport r t (l ++ ToReport bytes ∷ []) failure.Report) lines_are
         (λ frames. WroteBefore-append _ _ _ (lines_of 0 ms) (ToReport bytes ∷ []) failure.Report (w frames) (report_failed s t frames bytes [] (subst (AppendsBeginning s t) is p)))
 
     pub last_written : Appends s t line → WroteReport r t (maps_pieces 0 rows contents ++ ToReport bytes ∷ [])
     last_written p =
-        subst (λ (l : List Piece). WroteReport r t (l ++ ToReport bytes ∷ [])) lines_are
+        subst (λ (l : List OutputPart). WroteReport r t (l ++ ToReport bytes ∷ [])) lines_are
         (more_pieces r s t (lines_of 0 ms) (ToReport bytes ∷ []) w (λ frames. wrote_report s t frames bytes (subst (Appends s t) is p)))

@@ -1,12 +1,13 @@
 -- What is noted of the packet frames so far, and of one more.
 use Rattle.std.proofs.Common.{◌≡◌, ℕ, suc, ◌+◌, List, [], ◌∷◌, ◌++◌, length, sym, ap, ◌∙◌, add-zero, zero-add, arith}
 use Rattle.isa_model.specs.Machine.States.{KeyValues}
-use Rattle.isa_model.specs.Reporting.Streams.{Frame}
+use Rattle.isa_model.specs.Reporting.Streams.{PacketFrame}
 use Rattle.isa_model.specs.Reporting.Reports.{Rule, turn_on, contents_left, contents_after}
 use Rattle.host.specs.Stops.{Noted, Noting, noted_on, noted_after}
 
 module _ (notes : Noting) (rule : Rule) where
-  noted_after-append : (none : Noted) (n : ℕ) (c : List KeyValues) (fs : List Frame) (f : Frame)
+  noted_after-append : (none : Noted) (n : ℕ) (c : List KeyValues) (fs : List PacketFrame)
+      (f : PacketFrame)
       → noted_after notes rule none n c (fs ++ f ∷ []) ≡ noted_on notes (noted_after notes rule none n c fs) (n + length fs) (contents_after rule c fs) f
   noted_after-append none n c [] f = ap (λ (m : ℕ). noted_on notes none m c f) (sym (add-zero n))
   noted_after-append none n c (g ∷ fs) f =
@@ -17,7 +18,7 @@ module _ (notes : Noting) (rule : Rule) where
       ∙ ap (λ (m : ℕ). noted_on notes (noted_after notes rule noted (n + 1) next fs) m (contents_after rule next fs) f) same
 
   -- a frame was taken after others
-  pub noted_more : (none : Noted) (start : List KeyValues) (frames : List Frame) (f : Frame) (held : Noting) (now after : Noted) (number : ℕ) (contents : List KeyValues)
+  pub noted_more : (none : Noted) (start : List KeyValues) (frames : List PacketFrame) (f : PacketFrame) (held : Noting) (now after : Noted) (number : ℕ) (contents : List KeyValues)
       → held ≡ notes → now ≡ noted_after notes rule none 0 start frames → number ≡ length frames → contents ≡ contents_after rule start frames
       → after ≡ noted_on held now number contents f → after ≡ noted_after notes rule none 0 start (frames ++ f ∷ [])
   noted_more none start frames f held now after number contents h k n m e =

@@ -5,9 +5,9 @@ use Rattle.std.specs.Io.KnownBytes.{Appends}
 use Rattle.std.proofs.KnownBytes.{Appends-nil, Appends-trans}
 use Rattle.exact_io.specs.Transfers.{AppendsBeginning}
 use Rattle.isa_model.specs.declared.ends.End.{End}
-use Rattle.isa_model.specs.Reporting.Streams.{Frame, frame_bytes}
+use Rattle.isa_model.specs.Reporting.Streams.{PacketFrame, frame_bytes}
 use Rattle.isa_model.specs.Running.Runs.{Turn}
-use Rattle.isa_model.specs.Reporting.Reports.{Piece, ToReport, ToFrames, ReportForm, frame_line, frame_pieces, record_pieces, is_sent, end_reason, skip_line, skip_pieces}
+use Rattle.isa_model.specs.Reporting.Reports.{OutputPart, ToReport, ToFrames, ReportForm, frame_line, frame_pieces, record_pieces, is_sent, end_reason, skip_line, skip_pieces}
 use Rattle.host.specs.declared.errors.HostError.{HostError}
 use Rattle.host.specs.declared.errors.HostError.TheVariants as failure
 use Rattle.host.specs.Writing.{Outputs, Wrote, WroteBefore}
@@ -22,14 +22,14 @@ take-nil zero = refl
 take-nil (suc n) = refl
 
 -- pieces after pieces
-pub Wrote-append : (a b c : Outputs) (p q : List Piece) → Wrote a b p → Wrote b c q → Wrote a c (p ++ q)
+pub Wrote-append : (a b c : Outputs) (p q : List OutputPart) → Wrote a b p → Wrote b c q → Wrote a c (p ++ q)
 Wrote-append a b c p q first second = record {
   report = rw (flat_map-append _ p q) (Appends-trans a.report b.report c.report _ _ first.report second.report);
   frames = rw (flat_map-append _ p q) (Appends-trans a.frames b.frames c.frames _ _ first.frames second.frames);
 }
 
 -- pieces after pieces, where a later one failed
-pub WroteBefore-append : (a b c : Outputs) (p q : List Piece) (e : HostError) → Wrote a b p → WroteBefore b c q e → WroteBefore a c (p ++ q) e
+pub WroteBefore-append : (a b c : Outputs) (p q : List OutputPart) (e : HostError) → Wrote a b p → WroteBefore b c q e → WroteBefore a c (p ++ q) e
 WroteBefore-append a b c p q e first second = record {
   before = p ++ second.before;
   failed = second.failed;
@@ -43,7 +43,7 @@ WroteBefore-append a b c p q e first second = record {
 }
 
 -- after a failure no later piece is written
-pub WroteBefore-more : (a b : Outputs) (p q : List Piece) (e : HostError) → WroteBefore a b p e → WroteBefore a b (p ++ q) e
+pub WroteBefore-more : (a b : Outputs) (p q : List OutputPart) (e : HostError) → WroteBefore a b p e → WroteBefore a b (p ++ q) e
 WroteBefore-more a b p q e w = record {
   before = w.before;
   failed = w.failed;
@@ -64,7 +64,7 @@ wrote_report r s f bytes p = record { report = subst (Appends r s) (sym (append-
 pub wrote_frames : (r f g : Option (List ℕ)) (bytes : List ℕ) → Appends f g bytes → Wrote (record { report = r; frames = f }) (record { report = r; frames = g }) (ToFrames bytes ∷ [])
 wrote_frames r f g bytes p = record { report = Appends-nil r; frames = subst (Appends f g) (sym (append-nil bytes)) p }
 
-pub report_failed : (r s f : Option (List ℕ)) (bytes : List ℕ) (rest : List Piece) → AppendsBeginning r s bytes
+pub report_failed : (r s f : Option (List ℕ)) (bytes : List ℕ) (rest : List OutputPart) → AppendsBeginning r s bytes
     → WroteBefore (record { report = r; frames = f }) (record { report = s; frames = f }) (ToReport bytes ∷ rest) failure.Report
 report_failed r s f bytes rest p = record {
   before = [];
@@ -78,7 +78,7 @@ report_failed r s f bytes rest p = record {
   frames = subst (Appends f f) (sym (take-nil p.0)) (Appends-nil f);
 }
 
-pub frames_failed : (r f g : Option (List ℕ)) (bytes : List ℕ) (rest : List Piece) → AppendsBeginning f g bytes
+pub frames_failed : (r f g : Option (List ℕ)) (bytes : List ℕ) (rest : List OutputPart) → AppendsBeginning f g bytes
     → WroteBefore (record { report = r; frames = f }) (record { report = r; frames = g }) (ToFrames bytes ∷ rest) failure.Frames
 frames_failed r f g bytes rest p = record {
   before = [];
@@ -94,7 +94,7 @@ frames_failed r f g bytes rest p = record {
 
 -- ---- a packet frame's pieces, where its run ended by e and left these bytes
 
-module _ (form : ReportForm) (number : ℕ) (frame : Frame) (t : Turn) (e : End)
+module _ (form : ReportForm) (number : ℕ) (frame : PacketFrame) (t : Turn) (e : End)
     (ended : e ≡ t.ends) where
   module _ (line : List ℕ) (is : line ≡ frame_line form number e (length frame.body)) where
     -- the line as it was made is the turn's
@@ -148,7 +148,7 @@ module _ (form : ReportForm) (number : ℕ) (frame : Frame) (t : Turn) (e : End)
 
 -- ---- the pieces of a frame that is not run
 
-module _ (form : ReportForm) (number : ℕ) (frame : Frame) (line : List ℕ) (is : line ≡ skip_line number (length frame.body) frame.reason) (r s f : Option (List ℕ)) where
+module _ (form : ReportForm) (number : ℕ) (frame : PacketFrame) (line : List ℕ) (is : line ≡ skip_line number (length frame.body) frame.reason) (r s f : Option (List ℕ)) where
   -- the line failed
   pub skip_line_failed : AppendsBeginning r s line → WroteBefore (record { report = r; frames = f }) (record { report = s; frames = f }) (skip_pieces form number frame) failure.Report
   unfolding skip_pieces

@@ -10,9 +10,9 @@ use Rattle.isa_model.specs.declared.versions.Version.TheVariants.{One, Two}
 use Rattle.isa_model.specs.Code.Versions.{stream_magic}
 use Rattle.isa_model.specs.Code.Limits.{max_body, max_packet}
 use Rattle.isa_model.specs.Machine.States.{KeyValues}
-use Rattle.isa_model.specs.Reporting.Streams.{Frame, Stream, max_frames, stream_with}
+use Rattle.isa_model.specs.Reporting.Streams.{PacketFrame, Stream, max_frames, stream_with}
 use Rattle.isa_model.proofs.StreamLaws.{AreOpen-nil}
-use Rattle.isa_model.specs.Reporting.Reports.{Piece, Rule, ReportForm, ToReport, ToFrames, turns_pieces, contents_after, turn_on, turn_pieces, contents_left, maps_pieces, last_line}
+use Rattle.isa_model.specs.Reporting.Reports.{OutputPart, Rule, ReportForm, ToReport, ToFrames, turns_pieces, contents_after, turn_on, turn_pieces, contents_left, maps_pieces, last_line}
 use Rattle.frames.specs.Readers.{Position, Fresh}
 use Rattle.frames.specs.Reading.{OpensStream, begun_at, Found, Stopped, Finds}
 use Rattle.frames.proofs.InputsLaws.{HasBegun, HasBegun-opens, HasBegun-open, HasBegun-found, HasBegun-stopped, HasFound-begins, unopened}
@@ -43,7 +43,7 @@ begin_opens v source old new p after answer fresh same opens answers is =
 -- ---- packet frames in a row
 
 -- the pieces of frames, and of those after them
-pub turns_pieces-append : (form : ReportForm) (rule : Rule) (n : ℕ) (c : List KeyValues) (fs gs : List Frame)
+pub turns_pieces-append : (form : ReportForm) (rule : Rule) (n : ℕ) (c : List KeyValues) (fs gs : List PacketFrame)
     → turns_pieces form rule n c (fs ++ gs) ≡ turns_pieces form rule n c fs ++ turns_pieces form rule (n + length fs) (contents_after rule c fs) gs
 turns_pieces-append form rule n c [] gs = ap (λ m. turns_pieces form rule m c gs) (sym (add-zero n))
 turns_pieces-append form rule n c (f ∷ fs) gs =
@@ -54,7 +54,7 @@ turns_pieces-append form rule n c (f ∷ fs) gs =
     ∙ sym (append_assoc front (turns_pieces form rule (n + 1) next fs) (turns_pieces form rule (n + suc (length fs)) (contents_after rule next fs) gs))
 
 -- the contents after frames and those after them
-contents_after-append : (rule : Rule) (c : List KeyValues) (fs gs : List Frame) → contents_after rule c (fs ++ gs) ≡ contents_after rule (contents_after rule c fs) gs
+contents_after-append : (rule : Rule) (c : List KeyValues) (fs gs : List PacketFrame) → contents_after rule c (fs ++ gs) ≡ contents_after rule (contents_after rule c fs) gs
 contents_after-append rule c [] gs = refl
 contents_after-append rule c (f ∷ fs) gs = contents_after-append rule (contents_left c (turn_on rule c f)) fs gs
 
@@ -62,7 +62,7 @@ contents_after-append rule c (f ∷ fs) gs = contents_after-append rule (content
 
 module _ (form : ReportForm) (rule : Rule) (start : List KeyValues) (source : Option (List ℕ)) (before : Outputs) where
   -- the pieces so far and those of one more frame
-  front_more : (frames : List Frame) (f : Frame) (number : ℕ) (contents : List KeyValues) → number ≡ length frames → contents ≡ contents_after rule start frames
+  front_more : (frames : List PacketFrame) (f : PacketFrame) (number : ℕ) (contents : List KeyValues) → number ≡ length frames → contents ≡ contents_after rule start frames
       → front_in form rule start frames ++ turn_pieces form number f (turn_on rule contents f) ≡ front_in form rule start (frames ++ f ∷ [])
   front_more frames f number contents n m =
       let so_far = turns_pieces form rule 0 start frames in
@@ -82,8 +82,8 @@ module _ (form : ReportForm) (rule : Rule) (start : List KeyValues) (source : Op
     carried = refl;
   }
 
-  module _ (frames : List Frame) (known new : Option (List ℕ)) (p q : Position) (number : ℕ) (contents : List KeyValues) (now : Outputs) (so : WrittenSoFar form rule start source before frames known p number contents now) where
-    module _ (f : Frame) (h : Finds p known new q (Found f)) where
+  module _ (frames : List PacketFrame) (known new : Option (List ℕ)) (p q : Position) (number : ℕ) (contents : List KeyValues) (now : Outputs) (so : WrittenSoFar form rule start source before frames known p number contents now) where
+    module _ (f : PacketFrame) (h : Finds p known new q (Found f)) where
       -- there is a number for the frame, and its body fits
       pub turn_fits : (number < max_frames) × (length f.body ≤ max_body form.stream)
       turn_fits =
@@ -107,7 +107,7 @@ module _ (form : ReportForm) (rule : Rule) (start : List KeyValues) (source : Op
 -- ---- how the loop ends
 
 -- pieces after pieces, where one of the later ones may have failed
-WritesEach-append : (a b c : Outputs) (front more : List Piece) (result : Result Traced HostError) → Wrote a b front → WritesEach b c result more → WritesEach a c result (front ++ more)
+WritesEach-append : (a b c : Outputs) (front more : List OutputPart) (result : Result Traced HostError) → Wrote a b front → WritesEach b c result more → WritesEach a c result (front ++ more)
 WritesEach-append a b c front more (Ok traced) v w = Wrote-append a b c front more v w
 WritesEach-append a b c front more (Err e) v w = WroteBefore-append a b c front more e v w
 
@@ -140,9 +140,9 @@ module _ (limit : ℕ) (program : Version) (rows : List MapDef) (rule : Rule) (s
     tells = tt;
   })
 
-  module _ (v : Version) (before : Outputs) (frames : List Frame) (known new : Option (List ℕ)) (p q : Position) (number : ℕ) (contents : List KeyValues) where
+  module _ (v : Version) (before : Outputs) (frames : List PacketFrame) (known new : Option (List ℕ)) (p q : Position) (number : ℕ) (contents : List KeyValues) where
     -- a turn's piece failed
-    pub turn_failed : (now after : Outputs) (f : Frame) (error : HostError) → WrittenSoFar (form_on v) rule start source before frames known p number contents now → Finds p known new q (Found f)
+    pub turn_failed : (now after : Outputs) (f : PacketFrame) (error : HostError) → WrittenSoFar (form_on v) rule start source before frames known p number contents now → Finds p known new q (Found f)
         → WroteBefore now after (turn_pieces (form_on v) number f (turn_on rule contents f)) error
         → ReportsBy source limit program rows rule start Tells before after (Err error)
     turn_failed now after f error so h w =
@@ -155,7 +155,7 @@ module _ (limit : ℕ) (program : Version) (rows : List MapDef) (rule : Rule) (s
             frames = frames ++ f ∷ [];
             are_open = found.are_open;
             begun = HasFound-begins v (frames ++ f ∷ []) source new q found;
-            writes = subst (λ (l : List Piece). WroteBefore before after l error) (front_more (form_on v) rule start source before frames f number contents so.numbered so.carried)
+            writes = subst (λ (l : List OutputPart). WroteBefore before after l error) (front_more (form_on v) rule start source before frames f number contents so.numbered so.carried)
                 (WroteBefore-append before now after _ _ error so.wrote w);
           },
         )

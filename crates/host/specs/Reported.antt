@@ -5,8 +5,8 @@ use Rattle.isa_model.specs.declared.streams.Finish.{Finish}
 use Rattle.isa_model.specs.declared.versions.Version.{Version}
 use Rattle.isa_model.specs.Code.Versions.{stream_magic}
 use Rattle.isa_model.specs.Machine.States.{KeyValues}
-use Rattle.isa_model.specs.Reporting.Streams.{Frame, Stream, stream_with, AreOpen}
-use Rattle.isa_model.specs.Reporting.Reports.{Piece, ToFrames, ReportForm, Rule, turns_pieces, report_of}
+use Rattle.isa_model.specs.Reporting.Streams.{PacketFrame, Stream, stream_with, AreOpen}
+use Rattle.isa_model.specs.Reporting.Reports.{OutputPart, ToFrames, ReportForm, Rule, turns_pieces, report_of}
 use Rattle.frames.specs.Inputs.{AreReadFrom, IsBegunBy}
 use Rattle.host.specs.declared.errors.HostError.{HostError}
 use Rattle.host.specs.Writing.{Outputs, WritesEach, WroteBefore}
@@ -15,7 +15,7 @@ use Rattle.host.specs.Writing.{Outputs, WritesEach, WroteBefore}
 -- are known. The heads, the lengths of the bodies and the reasons fit, and the bodies are bytes.
 -- The stream's pieces were written, all of them or those before one that failed, and what the run
 -- answers tells of the stream what it is to tell.
-pub record ReportsWhole {X : Type 0} (source : Option (List ℕ)) (pieces : Stream → List Piece)
+pub record ReportsWhole {X : Type 0} (source : Option (List ℕ)) (pieces : Stream → List OutputPart)
     (Tells : Stream → X → Type 0) (old new : Outputs) (result : Result X HostError) : Type 0 where
   pub found : Stream
   pub are_open : AreOpen found.version found.frames
@@ -26,19 +26,20 @@ pub record ReportsWhole {X : Type 0} (source : Option (List ℕ)) (pieces : Stre
 -- An output failed at the magic or at a packet frame, and no more was read: the source begins with
 -- these frames, where its bytes are known. However its stream goes on and ends, the outputs hold a
 -- beginning of that stream's report.
-pub record ReportsFront (source : Option (List ℕ)) (pieces : Stream → List Piece)
+pub record ReportsFront (source : Option (List ℕ)) (pieces : Stream → List OutputPart)
     (old new : Outputs) (error : HostError) : Type 0 where
   pub version : Version
-  pub frames : List Frame
+  pub frames : List PacketFrame
   pub are_open : AreOpen version frames
   pub begun : IsBegunBy source version frames
-  pub writes : (more : List Frame) (finish : Finish)
+  pub writes : (more : List PacketFrame) (finish : Finish)
       → WroteBefore old new (pieces (stream_with version (frames ++ more, finish))) error
 
 -- What was written is the report of the source's stream. After a failed output it is a beginning of
 -- that report; only where the failed piece is the magic or one of a frame was the stream not read
 -- to its end or fault.
-abbrev pub Reports : {X : Type 0} → Option (List ℕ) → (Stream → List Piece) → (Stream → X → Type 0)
+abbrev pub Reports : {X : Type 0} → Option (List ℕ) → (Stream → List OutputPart)
+    → (Stream → X → Type 0)
     → Outputs → Outputs → Result X HostError → Type 0
 Reports source pieces Tells old new result =
     ReportsWhole source pieces Tells old new result
@@ -47,7 +48,7 @@ Reports source pieces Tells old new result =
 -- ---- the same of a machine, which runs frames by a rule
 
 -- the magic and the frames' pieces
-abbrev pub front_in : ReportForm → Rule → List KeyValues → List Frame → List Piece
+abbrev pub front_in : ReportForm → Rule → List KeyValues → List PacketFrame → List OutputPart
 front_in form rule contents frames =
     ToFrames (stream_magic form.stream) ∷ turns_pieces form rule 0 contents frames
 
@@ -55,7 +56,7 @@ front_in form rule contents frames =
 pub record StopsAtFrame (source : Option (List ℕ)) (limit : ℕ) (program : Version) (rule : Rule)
     (contents : List KeyValues) (old new : Outputs) (error : HostError) : Type 0 where
   pub version : Version
-  pub frames : List Frame
+  pub frames : List PacketFrame
   pub are_open : AreOpen version frames
   pub begun : IsBegunBy source version frames
   pub writes : WroteBefore old new

@@ -6,11 +6,11 @@ use Rattle.isa_model.specs.declared.frames.FrameHead.{FrameHead}
 use Rattle.isa_model.specs.declared.ends.End.{End}
 use Rattle.isa_model.specs.declared.ends.End.TheVariants.{Exit, Trap, Limit}
 use Rattle.isa_model.specs.Reporting.Frames.{action_of}
-use Rattle.isa_model.specs.Reporting.Streams.{Frame, Stream}
+use Rattle.isa_model.specs.Reporting.Streams.{PacketFrame, Stream}
 use Rattle.isa_model.specs.Reporting.Reports.{Rule, turn_on, contents_left, checked_rule, starting_contents}
 use Rattle.isa_model.specs.Code.Instructions.{Program}
 use Rattle.isa_model.specs.Machine.States.{KeyValues}
-use Rattle.checked_vm.specs.declared.stops.Stop.{Stop}
+use Rattle.checked_vm.specs.declared.stops.RunEnd.{RunEnd}
 use Rattle.checked_vm.specs.Stops.{stop_of}
 use Rattle.host.specs.declared.stops.FrameStop.{FrameStop}
 use Rattle.host.specs.declared.stops.Stops.{Stops}
@@ -44,7 +44,7 @@ abbrev pub with_first : List FrameStop → FrameStop → List FrameStop
 with_first first stop = if nat_lt (length first) MOST_STOPS then first ++ stop ∷ [] else first
 
 -- the run of a frame with this number stopped; a stream has fewer frames than the count can be
-abbrev pub note : Noted → ℕ → Stop → Noted
+abbrev pub note : Noted → ℕ → RunEnd → Noted
 note noted number stop =
     if is_noted stop.end
     then record {
@@ -60,12 +60,12 @@ abbrev pub Noting : Type 0
 Noting = Noted → ℕ → FrameHead → List ℕ → List KeyValues → Noted
 
 -- a frame that is not run is not noted
-abbrev pub noted_on : Noting → Noted → ℕ → List KeyValues → Frame → Noted
+abbrev pub noted_on : Noting → Noted → ℕ → List KeyValues → PacketFrame → Noted
 noted_on notes noted number contents f =
     if f.reason == 0 then notes noted number f.head f.body contents else noted
 
 -- frames by their numbers, the maps' contents carried along
-abbrev pub noted_after : Noting → Rule → Noted → ℕ → List KeyValues → List Frame → Noted
+abbrev pub noted_after : Noting → Rule → Noted → ℕ → List KeyValues → List PacketFrame → Noted
 noted_after notes rule noted number contents [] = noted
 noted_after notes rule noted number contents (f ∷ frames) =
     noted_after notes rule (noted_on notes noted number contents f) (number + 1)

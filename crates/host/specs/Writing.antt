@@ -2,7 +2,7 @@
 -- of them failed.
 use Rattle.std.specs.Prelude.{◌≡◌, ℕ, ◌<◌, List, ◌∷◌, ◌++◌, length, take, Option, Result, MatchResult}
 use Rattle.std.specs.Io.KnownBytes.{Appends}
-use Rattle.isa_model.specs.Reporting.Reports.{Piece, ToReport, ToFrames, report_part, frames_part, report_bytes, frames_out}
+use Rattle.isa_model.specs.Reporting.Reports.{OutputPart, ToReport, ToFrames, report_part, frames_part, report_bytes, frames_out}
 use Rattle.host.specs.declared.errors.HostError.{HostError}
 use Rattle.host.specs.declared.errors.HostError.TheVariants as failure
 
@@ -12,25 +12,26 @@ pub record Outputs : Type 0 where
   pub frames : Option (List ℕ)
 
 -- the outputs grew by all of the pieces
-pub record Wrote (old new : Outputs) (pieces : List Piece) : Type 0 where
+pub record Wrote (old new : Outputs) (pieces : List OutputPart) : Type 0 where
   pub report : Appends old.report new.report (report_bytes pieces)
   pub frames : Appends old.frames new.frames (frames_out pieces)
 
-abbrev pub piece_bytes : Piece → List ℕ
+abbrev pub piece_bytes : OutputPart → List ℕ
 piece_bytes (ToReport bytes) = bytes
 piece_bytes (ToFrames bytes) = bytes
 
 -- which error tells of a piece that failed
-abbrev pub failure_of : Piece → HostError
+abbrev pub failure_of : OutputPart → HostError
 failure_of (ToReport bytes) = failure.Report
 failure_of (ToFrames bytes) = failure.Frames
 
 -- The outputs grew by the pieces before one that failed, and of that one by a beginning that is
 -- shorter than it; neither output has anything more.
-pub record WroteBefore (old new : Outputs) (pieces : List Piece) (error : HostError) : Type 0 where
-  pub before : List Piece
-  pub failed : Piece
-  pub rest : List Piece
+pub record WroteBefore (old new : Outputs) (pieces : List OutputPart)
+    (error : HostError) : Type 0 where
+  pub before : List OutputPart
+  pub failed : OutputPart
+  pub rest : List OutputPart
   pub count : ℕ
   pub split : pieces ≡ before ++ failed ∷ rest
   pub kind : error ≡ failure_of failed
@@ -40,13 +41,14 @@ pub record WroteBefore (old new : Outputs) (pieces : List Piece) (error : HostEr
   pub frames : Appends old.frames new.frames (frames_out before ++ take count (frames_part failed))
 
 -- all of the pieces were written, or those before one that failed
-abbrev pub WritesEach : {X : Type 0} → Outputs → Outputs → Result X HostError → List Piece → Type 0
+abbrev pub WritesEach : {X : Type 0} → Outputs → Outputs → Result X HostError → List OutputPart
+    → Type 0
 WritesEach old new result pieces =
     MatchResult result (λ _. Wrote old new pieces) (λ error. WroteBefore old new pieces error)
 
 -- the same of pieces for the report only, whatever the frames out have
 abbrev pub WritesReport : {X : Type 0} → Option (List ℕ) → Option (List ℕ) → Result X HostError
-    → List Piece → Type 0
+    → List OutputPart → Type 0
 WritesReport old new result pieces =
     (frames : Option (List ℕ))
     → WritesEach (record { report = old; frames = frames })

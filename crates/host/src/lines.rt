@@ -11,7 +11,7 @@ use isa_model::{Action, End, Finish, Version};
 use itoa::Buffer;
 
 /// A line of the report; none has more than 72 bytes.
-pub type Line = ArrayString<96>;
+pub type ReportLine = ArrayString<96>;
 
 // The text of a number of one digit.
 #[inline(always)]
@@ -37,7 +37,7 @@ fn digit_of(number: u64) -> Option<&'static str>
 
 // Appends a number of any digits in decimal.
 #[inline(never)]
-fn push_digits(line: &mut Line, number: u64)
+fn push_digits(line: &mut ReportLine, number: u64)
     requires { array_string_len line.old + 20 ≤ 96 }
     ensures bytes { line.new.bytes ≡ line.old.bytes ++ decimal number }
     ensures len { array_string_len line.new ≤ array_string_len line.old + 20 }
@@ -49,7 +49,7 @@ fn push_digits(line: &mut Line, number: u64)
 // Appends a number in decimal. Most have one digit, or are the number and the length of a packet
 // frame.
 #[inline(always)]
-fn push_number(line: &mut Line, number: u64)
+fn push_number(line: &mut ReportLine, number: u64)
     requires { array_string_len line.old + 20 ≤ 96 }
     ensures bytes { line.new.bytes ≡ line.old.bytes ++ decimal number }
     ensures len { array_string_len line.new ≤ array_string_len line.old + 20 }
@@ -61,7 +61,7 @@ fn push_number(line: &mut Line, number: u64)
 }
 
 // Appends the field of a reason, in a stream that has reasons.
-fn push_reason(line: &mut Line, stream: Version, reason: u32)
+fn push_reason(line: &mut ReportLine, stream: Version, reason: u32)
     requires { array_string_len line.old + 21 ≤ 96 }
     ensures bytes { line.new.bytes ≡ line.old.bytes ++ reason_text stream reason }
     ensures len { array_string_len line.new ≤ array_string_len line.old + 21 }
@@ -78,10 +78,10 @@ fn push_reason(line: &mut Line, stream: Version, reason: u32)
 /// The line of the frame with this number, by how its run ended and how many bytes it has.
 #[tactic(auto, unfolding(isa_model::specs::Reporting::Reports::frame_line))]
 #[inline(always)]
-pub fn line_of_frame(form: ReportForm, number: u32, end: End, size: usize) -> Line
+pub fn line_of_frame(form: ReportForm, number: u32, end: End, size: usize) -> ReportLine
     ensures { result.bytes ≡ frame_line (form_by form) number end size }
 {
-    let mut line = Line::new();
+    let mut line = ReportLine::new();
     push_number(&mut line, u64::from(number));
     match end {
         End::Exit(value, steps) => {
@@ -114,10 +114,10 @@ pub fn line_of_frame(form: ReportForm, number: u32, end: End, size: usize) -> Li
 
 /// The line of a frame that has a reason already, and is not run.
 #[tactic(auto, unfolding(isa_model::specs::Reporting::Reports::skip_line))]
-pub fn line_of_skip(number: u32, size: usize, reason: u32) -> Line
+pub fn line_of_skip(number: u32, size: usize, reason: u32) -> ReportLine
     ensures { result.bytes ≡ skip_line number size reason }
 {
-    let mut line = Line::new();
+    let mut line = ReportLine::new();
     push_number(&mut line, u64::from(number));
     line.push_str(" SKIP ");
     push_number(&mut line, size as u64);
@@ -129,10 +129,10 @@ pub fn line_of_skip(number: u32, size: usize, reason: u32) -> Line
 
 /// The last line, by how many frames were run and how the stream ended.
 #[tactic(auto, unfolding(isa_model::specs::Reporting::Reports::last_line))]
-pub fn line_of_finish(frames: u32, finish: Finish) -> Line
+pub fn line_of_finish(frames: u32, finish: Finish) -> ReportLine
     ensures { result.bytes ≡ last_line frames finish }
 {
-    let mut line = Line::new();
+    let mut line = ReportLine::new();
     match finish {
         Finish::End => {
             line.push_str("end ");

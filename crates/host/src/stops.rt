@@ -4,7 +4,7 @@ ghost use Rattle.std.specs.Prelude.{◌≡◌, [], ◌∷◌, ◌++◌};
 ghost use Rattle.host.specs.Stops.{nothing_noted, is_noted, with_first, note, noted_of};
 
 use arrayvec::ArrayVec;
-use checked_vm::Stop;
+use checked_vm::RunEnd;
 use isa_model::{Action, End, Value};
 
 /// The most frames that are kept, the first ones.
@@ -14,14 +14,14 @@ pub const MOST_STOPS: usize = 20;
 #[derive(Clone, Copy)]
 pub struct FrameStop {
     pub frame: u32,
-    pub stop: Stop,
+    pub stop: RunEnd,
 }
 
 impl Default for FrameStop {
     fn default() -> Self {
         FrameStop {
             frame: 0,
-            stop: Stop {
+            stop: RunEnd {
                 end: End::Limit,
                 slot: 0,
                 insn: None,
@@ -72,7 +72,7 @@ impl Stops {
     }
 
     /// Notes the run of a frame, if it ended without an action.
-    pub fn note(&mut self, number: u32, stop: Stop)
+    pub fn note(&mut self, number: u32, stop: RunEnd)
         ensures { noted_of self.new ≡ note (noted_of self.old) number stop }
     {
         if is_noted(stop.end) {

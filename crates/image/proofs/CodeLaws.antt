@@ -2,7 +2,7 @@
 use Rattle.std.proofs.Common.{◌≡◌, ◌≢◌, ◌+◌, Bool, true, false, List, [], ◌∷◌, ◌++◌, length, Option, Some, None, refl, ap, ◌∙◌, arith, length-append}
 use Rattle.isa_model.specs.declared.instructions.Insn.{Insn}
 use Rattle.isa_model.specs.declared.instructions.Insn.TheVariants.{LoadNumber, LoadMap, LoadMapValue}
-use Rattle.isa_model.specs.Code.Instructions.{slots, slots_of}
+use Rattle.isa_model.specs.Code.Instructions.{slots, slots_filled}
 use Rattle.isa_model.specs.Code.Spelling.{InsnFits}
 use Rattle.isa_model.specs.Text.CanonicalText.{instructions}
 use Rattle.image.specs.Images.{IsCode, is_wide}
@@ -24,27 +24,27 @@ slots-append (LoadMapValue d m o ∷ is) js =
 slots-append (i ∷ is) js = ap (λ (l : CodeSlots). Some i ∷ l) (slots-append is js)
 
 -- an instruction of two slots
-pub slots-two : (i : Insn) → slots_of i ≡ 2 → slots (i ∷ []) ≡ Some i ∷ None ∷ []
+pub slots-two : (i : Insn) → slots_filled i ≡ 2 → slots (i ∷ []) ≡ Some i ∷ None ∷ []
 slots-two (LoadNumber d n) h = refl
 slots-two (LoadMap d m) h = refl
 slots-two (LoadMapValue d m o) h = refl
 slots-two i h = absurd (omega arith)
 
 -- and of one
-pub slots-one : (i : Insn) → slots_of i ≢ 2 → slots (i ∷ []) ≡ Some i ∷ []
+pub slots-one : (i : Insn) → slots_filled i ≢ 2 → slots (i ∷ []) ≡ Some i ∷ []
 slots-one (LoadNumber d n) h = absurd (h refl)
 slots-one (LoadMap d m) h = absurd (h refl)
 slots-one (LoadMapValue d m o) h = absurd (h refl)
 slots-one i h = refl
 
-pub length-slots : (i : Insn) → length (slots (i ∷ [])) ≡ slots_of i
+pub length-slots : (i : Insn) → length (slots (i ∷ [])) ≡ slots_filled i
 length-slots (LoadNumber d n) = refl
 length-slots (LoadMap d m) = refl
 length-slots (LoadMapValue d m o) = refl
 length-slots i = refl
 
 -- one more instruction adds its slots
-pub length-slots-more : (is : List Insn) (i : Insn) → length (slots (is ++ i ∷ [])) ≡ length (slots is) + slots_of i
+pub length-slots-more : (is : List Insn) (i : Insn) → length (slots (is ++ i ∷ [])) ≡ length (slots is) + slots_filled i
 length-slots-more is i = ap (λ (l : CodeSlots). length l) (slots-append is (i ∷ [])) ∙ length-append (slots is) (slots (i ∷ [])) ∙ ap (λ n. length (slots is) + n) (length-slots i)
 
 pub IsCode-one : (i : Insn) → InsnFits i → IsCode false (slots (i ∷ []))

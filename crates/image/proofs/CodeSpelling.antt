@@ -4,7 +4,7 @@ use Rattle.std.proofs.lemmas.List.{length-drop, length-take, take-append-drop, d
 use Rattle.isa_model.specs.declared.map_defs.MapDef.{MapDef}
 use Rattle.isa_model.specs.declared.instructions.Insn.{Insn}
 use Rattle.isa_model.specs.declared.instructions.Insn.TheVariants.{LoadNumber, LoadMap, LoadMapValue}
-use Rattle.isa_model.specs.Code.Instructions.{slots_of}
+use Rattle.isa_model.specs.Code.Instructions.{slots_filled}
 use Rattle.isa_model.specs.Code.Spelling.{spelling_of, InsnFits}
 use Rattle.insn_codec.specs.declared.errors.CodecError.{CodecError}
 use Rattle.insn_codec.specs.Decoding.{decoded}
@@ -21,7 +21,7 @@ CodeSlots = List (Option Insn)
 
 -- the laws of the decoder
 pub record Laws : Type 0 where
-  pub found : (bytes : List ℕ) (i : Insn) → EachByte bytes → decoded bytes ≡ Ok i → take (8 * slots_of i) bytes ≡ spelling_of i
+  pub found : (bytes : List ℕ) (i : Insn) → EachByte bytes → decoded bytes ≡ Ok i → take (8 * slots_filled i) bytes ≡ spelling_of i
   pub fits : (bytes : List ℕ) (i : Insn) → EachByte bytes → decoded bytes ≡ Ok i → InsnFits i
   pub again : (i : Insn) (rest : List ℕ) → InsnFits i → decoded (spelling_of i ++ rest) ≡ Ok i
 
@@ -74,13 +74,13 @@ nothing true [] h = refl
 nothing false [] h = refl
 nothing half (b ∷ bytes) h = absurd (omega arith)
 
-after : (i : Insn) (bytes : List ℕ) → rest_of (is_wide i) (drop 8 bytes) ≡ drop (8 * slots_of i) bytes
+after : (i : Insn) (bytes : List ℕ) → rest_of (is_wide i) (drop 8 bytes) ≡ drop (8 * slots_filled i) bytes
 after (LoadNumber d n) bytes = drop-drop 8 8 bytes
 after (LoadMap d m) bytes = drop-drop 8 8 bytes
 after (LoadMapValue d m o) bytes = drop-drop 8 8 bytes
 after i bytes = refl
 
-pub length-spelling_of : (i : Insn) → length (spelling_of i) ≡ 8 * slots_of i
+pub length-spelling_of : (i : Insn) → length (spelling_of i) ≡ 8 * slots_filled i
 length-spelling_of (LoadNumber d n) = refl
 length-spelling_of (LoadMap d m) = refl
 length-spelling_of (LoadMapValue d m o) = refl
@@ -91,7 +91,7 @@ abbrev pub HasSecondHalf : Bool → ℕ → Type 0
 HasSecondHalf true n = 1 ≤ n
 HasSecondHalf false n = Unit {0}
 
-has_half : (i : Insn) (n : ℕ) → slots_of i ≤ suc n → HasSecondHalf (is_wide i) n
+has_half : (i : Insn) (n : ℕ) → slots_filled i ≤ suc n → HasSecondHalf (is_wide i) n
 has_half (LoadNumber d m) n h = omega arith
 has_half (LoadMap d m) n h = omega arith
 has_half (LoadMapValue d m o) n h = omega arith
@@ -132,13 +132,13 @@ code_from-found laws rows (suc n) false slot bytes xs small len room e =
     let b = bind_ok (rest a.0) (λ ys. slots_ok (Some a.0 ∷ ys)) xs a.2 in
     let at = insn_at_ok rows slot bytes a.0 a.1 in
     let spelled = laws.found bytes a.0 small at.decoded in
-    let long : slots_of a.0 ≤ suc n = omega (arith, ap length spelled, length-spelling_of a.0, length-take (8 * slots_of a.0) bytes, len) in
+    let long : slots_filled a.0 ≤ suc n = omega (arith, ap length spelled, length-spelling_of a.0, length-take (8 * slots_filled a.0) bytes, len) in
     let more = code_from-found laws rows n (is_wide a.0) (slot + 1) (drop 8 bytes) b.0 (EachByte-drop 8 bytes small) (omega (arith, length-drop 8 bytes)) (has_half a.0 n long) b.1 in
     subst (λ (ys : CodeSlots). IsParsedCode rows (suc n) false bytes ys) (ok_is (Some a.0 ∷ b.0) xs b.2) (record {
       spelled =
           ap (λ l. spelling_of a.0 ++ l) (more.spelled ∙ after a.0 bytes)
-          ∙ ap (λ l. l ++ drop (8 * slots_of a.0) bytes) (sym spelled)
-          ∙ take-append-drop (8 * slots_of a.0) bytes;
+          ∙ ap (λ l. l ++ drop (8 * slots_filled a.0) bytes) (sym spelled)
+          ∙ take-append-drop (8 * slots_filled a.0) bytes;
       count = ap suc more.count;
       code = (laws.fits bytes a.0 small at.decoded, more.code);
       named = (at.named, more.named);
@@ -159,7 +159,7 @@ code_from-code_bytes laws rows (Some i ∷ xs) false slot bytes h k e =
     ap (λ (r : Result Insn CodecError). at_slot slot r >>= λ j. unless (map_refusal rows slot j) j) (ap decoded e ∙ laws.again i (code_bytes xs) h.0)
     ∙ ap (λ (o : Option ImageError). unless o i) (map_refusal-NamesRows rows slot i k.0) in
     let after_is : rest_of (is_wide i) (drop 8 bytes) ≡ code_bytes xs =
-    after i bytes ∙ ap (drop (8 * slots_of i)) e ∙ drop_at (spelling_of i) (code_bytes xs) (8 * slots_of i) (length-spelling_of i) in
+    after i bytes ∙ ap (drop (8 * slots_filled i)) e ∙ drop_at (spelling_of i) (code_bytes xs) (8 * slots_filled i) (length-spelling_of i) in
     ap (λ (r : Result Insn ImageError). r >>= λ j. code_from rows (length xs) (is_wide j) (slot + 1) (drop 8 bytes) >>= λ ys. slots_ok (Some j ∷ ys)) first
     ∙ ap (λ (r : Result CodeSlots ImageError). r >>= λ ys. slots_ok (Some i ∷ ys)) (code_from-code_bytes laws rows xs (is_wide i) (slot + 1) (drop 8 bytes) h.1 k.1 after_is)
 
@@ -168,7 +168,7 @@ abbrev pub spelled_before : Bool → ℕ
 spelled_before true = 8
 spelled_before false = 0
 
-wide_before : (i : Insn) → 8 * slots_of i ≡ 8 + spelled_before (is_wide i)
+wide_before : (i : Insn) → 8 * slots_filled i ≡ 8 + spelled_before (is_wide i)
 wide_before (LoadNumber d n) = refl
 wide_before (LoadMap d m) = refl
 wide_before (LoadMapValue d m o) = refl

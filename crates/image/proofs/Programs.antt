@@ -6,7 +6,7 @@ use Rattle.std.proofs.lemmas.Bool.{cases_lt}
 use Rattle.std.proofs.lemmas.Option.{slice_get_past}
 use Rattle.isa_model.specs.declared.instructions.Insn.{Insn}
 use Rattle.isa_model.specs.declared.instructions.Insn.TheVariants.{LoadNumber, LoadMap, LoadMapValue}
-use Rattle.isa_model.specs.Code.Instructions.{Program, fetch, slots_of}
+use Rattle.isa_model.specs.Code.Instructions.{Program, fetch, slots_filled}
 use Rattle.isa_model.specs.Machine.MachineStates.{IsProgram, FitRows}
 use Rattle.isa_model.specs.Reporting.Reports.{starting_contents}
 use Rattle.isa_model.proofs.StartingContents as starting
@@ -14,11 +14,11 @@ use Rattle.image.specs.Images.{IsImage}
 use Rattle.image.proofs.ImageLaws.{InsnFits-fetch, NamesRows-fetch, fetch-second}
 
 -- an instruction has one slot or two
-slots_of-cases : (i : Insn) → (slots_of i ≡ 1) ⊎ (slots_of i ≡ 2)
-slots_of-cases (LoadNumber d n) = inr refl
-slots_of-cases (LoadMap d m) = inr refl
-slots_of-cases (LoadMapValue d m o) = inr refl
-slots_of-cases i = inl refl
+slots_filled-cases : (i : Insn) → (slots_filled i ≡ 1) ⊎ (slots_filled i ≡ 2)
+slots_filled-cases (LoadNumber d n) = inr refl
+slots_filled-cases (LoadMap d m) = inr refl
+slots_filled-cases (LoadMapValue d m o) = inr refl
+slots_filled-cases i = inl refl
 
 -- an instruction begins inside the code
 fetch-below : (p : Program) (slot : ℕ) (i : Insn) → fetch p slot ≡ Some i → slot < length p.insns
@@ -33,7 +33,7 @@ IsProgram-IsImage p h = record {
   some = h.some_slots;
   most = h.few_slots;
   fits = λ slot i e. InsnFits-fetch p slot i h e;
-  inside = λ slot i e. elim (slots_of-cases i) [
+  inside = λ slot i e. elim (slots_filled-cases i) [
     | inl one ↦ let below = fetch-below p slot i e in omega arith
     | inr two ↦ let half = (fetch-second p slot i h e two).0 in omega arith
   ];

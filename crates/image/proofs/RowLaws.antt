@@ -5,8 +5,8 @@ use Rattle.std.specs.Option.{IsSomeAnd, option_or}
 use Rattle.std.proofs.lemmas.Bool.{and_parts, eqb-true, leb-true, le-leb, ltb-true, lt-ltb}
 use Rattle.std.proofs.lemmas.List.Elements.{All-nil, All-cons, All-head, All-tail}
 use Rattle.isa_model.specs.Code.Limits.{max_key_size, max_value_size, max_map_entries}
-use Rattle.isa_model.specs.declared.map_defs.MapKind.{MapKind}
-use Rattle.isa_model.specs.declared.map_defs.MapKind.TheVariants.{Hash, Array}
+use Rattle.isa_model.specs.declared.map_defs.MapType.{MapType}
+use Rattle.isa_model.specs.declared.map_defs.MapType.TheVariants.{Hash, Array}
 use Rattle.isa_model.specs.declared.map_defs.MapDef.{MapDef}
 use Rattle.isa_model.specs.declared.instructions.Insn.{Insn}
 use Rattle.isa_model.specs.declared.instructions.Insn.TheVariants.{LoadMap, LoadMapValue}
@@ -29,11 +29,11 @@ passes false e h = absurd cc
 
 -- ---- the limits of a row
 
-key_fits-KeyFits : (kind : MapKind) (n : ℕ) → key_fits kind n ≡ true → KeyFits kind n
+key_fits-KeyFits : (kind : MapType) (n : ℕ) → key_fits kind n ≡ true → KeyFits kind n
 key_fits-KeyFits Hash n h = let p = and_parts _ _ h in (leb-true 1 n p.0, leb-true n max_key_size p.1)
 key_fits-KeyFits Array n h = eqb-true n 4 h
 
-KeyFits-key_fits : (kind : MapKind) (n : ℕ) → KeyFits kind n → key_fits kind n ≡ true
+KeyFits-key_fits : (kind : MapType) (n : ℕ) → KeyFits kind n → key_fits kind n ≡ true
 KeyFits-key_fits Hash n h = both _ _ (le-leb 1 n h.0) (le-leb n max_key_size h.1)
 KeyFits-key_fits Array n h = eq-eqb n 4 h
 
@@ -75,7 +75,7 @@ rows_refusal-All index (row ∷ rows) h =
 
 -- ---- the maps that instructions name
 
-is_array-true : (kind : MapKind) → is_array kind ≡ true → kind ≡ Array
+is_array-true : (kind : MapType) → is_array kind ≡ true → kind ≡ Array
 is_array-true Hash h = absurd cc
 is_array-true Array h = refl
 

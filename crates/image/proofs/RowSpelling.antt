@@ -8,8 +8,8 @@ use Rattle.std.proofs.lemmas.List.{length-drop}
 use Rattle.std.proofs.lemmas.List.Elements.{All-nil, All-cons, All-head, All-tail}
 use Rattle.byteorder.specs.Endian.{little_bytes, little_number}
 use Rattle.byteorder.specs.Numbers.{little_number-reads_back}
-use Rattle.isa_model.specs.declared.map_defs.MapKind.{MapKind}
-use Rattle.isa_model.specs.declared.map_defs.MapKind.TheVariants.{Hash, Array}
+use Rattle.isa_model.specs.declared.map_defs.MapType.{MapType}
+use Rattle.isa_model.specs.declared.map_defs.MapType.TheVariants.{Hash, Array}
 use Rattle.isa_model.specs.declared.map_defs.MapDef.{MapDef}
 use Rattle.isa_model.specs.Code.MapRows.{KeyFits, IsRow}
 use Rattle.isa_model.specs.Code.LittleEndian.{EachByte}
@@ -34,26 +34,26 @@ same_rows x y e = cc
 
 -- ---- one row
 
-kind_code-numbered : (n : ℕ) (k : MapKind) → kind_numbered n ≡ Some k → kind_code k ≡ n
+kind_code-numbered : (n : ℕ) (k : MapType) → kind_numbered n ≡ Some k → kind_code k ≡ n
 kind_code-numbered n k e = first (n == 1) refl e
   where
-    second : (b : Bool) → (n == 2) ≡ b → cond b (let o : Option MapKind = Some Array in o) None ≡ Some k → kind_code k ≡ n
+    second : (b : Bool) → (n == 2) ≡ b → cond b (let o : Option MapType = Some Array in o) None ≡ Some k → kind_code k ≡ n
     second true h e = let same : Array ≡ k = cc in ap kind_code (sym same) ∙ sym (eqb-true n 2 h)
     second false h e = absurd cc
 
-    first : (b : Bool) → (n == 1) ≡ b → cond b (let o : Option MapKind = Some Hash in o) (cond (n == 2) (Some Array) None) ≡ Some k → kind_code k ≡ n
+    first : (b : Bool) → (n == 1) ≡ b → cond b (let o : Option MapType = Some Hash in o) (cond (n == 2) (Some Array) None) ≡ Some k → kind_code k ≡ n
     first true h e = let same : Hash ≡ k = cc in ap kind_code (sym same) ∙ sym (eqb-true n 1 h)
     first false h e = second (n == 2) refl e
 
-kind_numbered-code : (k : MapKind) → kind_numbered (kind_code k) ≡ Some k
+kind_numbered-code : (k : MapType) → kind_numbered (kind_code k) ≡ Some k
 kind_numbered-code Hash = refl
 kind_numbered-code Array = refl
 
-kind_code-lt : (k : MapKind) → kind_code k < 2 ^ 16
+kind_code-lt : (k : MapType) → kind_code k < 2 ^ 16
 kind_code-lt Hash = omega arith
 kind_code-lt Array = omega arith
 
-key_size-lt : (k : MapKind) (n : ℕ) → KeyFits k n → n < 2 ^ 16
+key_size-lt : (k : MapType) (n : ℕ) → KeyFits k n → n < 2 ^ 16
 key_size-lt Hash n h = omega (arith, h.1)
 key_size-lt Array n h = omega (arith, h)
 
@@ -67,7 +67,7 @@ four_parts bytes =
     ∙ ap (λ l. take 4 (drop 4 bytes) ++ take 4 l) (drop-drop 4 4 bytes)))
 
 -- a row whose numbers were read has their bytes
-row_bytes-with_kind : (bytes : List ℕ) (k : MapKind) → EachByte bytes → 12 ≤ length bytes → kind_code k ≡ little_number 2 bytes → row_bytes (with_kind bytes k) ≡ take 12 bytes
+row_bytes-with_kind : (bytes : List ℕ) (k : MapType) → EachByte bytes → 12 ≤ length bytes → kind_code k ≡ little_number 2 bytes → row_bytes (with_kind bytes k) ≡ take 12 bytes
 row_bytes-with_kind bytes k small long e =
     let kind : little_bytes 2 (kind_code k) ≡ take 2 bytes = ap (little_bytes 2) e ∙ little_bytes-little_from 2 0 bytes small (omega arith) in
     let key : little_bytes 2 (little_number 2 (drop 2 bytes)) ≡ take 2 (drop 2 bytes) = little_bytes-little_from 2 0 (drop 2 bytes) (EachByte-drop 2 bytes small) (omega (arith, length-drop 2 bytes)) in
@@ -79,13 +79,13 @@ row_bytes-with_kind bytes k small long e =
     ∙ ap (λ l. take 2 bytes ++ (take 2 (drop 2 bytes) ++ (take 4 (drop 4 bytes) ++ l))) entries
     ∙ sym (four_parts bytes)
 
-record IsRowRead (bytes : List ℕ) (o : Option MapKind) (row : MapDef) : Type 0 where
-  kind : MapKind
+record IsRowRead (bytes : List ℕ) (o : Option MapType) (row : MapDef) : Type 0 where
+  kind : MapType
   named : o ≡ Some kind
   same : with_kind bytes kind ≡ row
   fits : row_fits row ≡ true
 
-tested_ok : (index : ℕ) (bytes : List ℕ) (o : Option MapKind) (row : MapDef) → tested index (option_map (with_kind bytes) o) ≡ Ok row → IsRowRead bytes o row
+tested_ok : (index : ℕ) (bytes : List ℕ) (o : Option MapType) (row : MapDef) → tested index (option_map (with_kind bytes) o) ≡ Ok row → IsRowRead bytes o row
 tested_ok index bytes None row e = absurd cc
 tested_ok index bytes (Some k) row e = by_test (row_fits (with_kind bytes k)) refl e
   where
@@ -115,7 +115,7 @@ row_at-row_bytes index row rest h =
     let key : little_number 2 (drop 2 bytes) ≡ row.key_size = little_number-reads_back 2 row.key_size (little_bytes 4 row.value_size ++ (little_bytes 4 row.entries ++ rest)) (key_size-lt row.kind row.key_size h.key) in
     let value : little_number 4 (drop 4 bytes) ≡ row.value_size = little_number-reads_back 4 row.value_size (little_bytes 4 row.entries ++ rest) (omega (arith, h.short_value)) in
     let entries : little_number 4 (drop 8 bytes) ≡ row.entries = little_number-reads_back 4 row.entries rest (omega (arith, h.few_entries)) in
-    ap (λ (o : Option MapKind). tested index (option_map (with_kind bytes) o)) (ap kind_numbered kind ∙ kind_numbered-code row.kind)
+    ap (λ (o : Option MapType). tested index (option_map (with_kind bytes) o)) (ap kind_numbered kind ∙ kind_numbered-code row.kind)
     ∙ ap (λ (r : MapDef). tested index (Some r)) (row_is row _ _ _ key value entries)
     ∙ ap (λ (b : Bool). cond b (row_ok row) (Err (MapRow index))) (row_fits-IsRow row h)
 

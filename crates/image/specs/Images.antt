@@ -4,13 +4,13 @@
 use Rattle.std.specs.Prelude.{◌≡◌, ℕ, ◌+◌, ◌*◌, ◌≤◌, Bool, true, false, List, [], ◌∷◌, ◌++◌, length, sum_by, All, Option, Some, None, codes, ◌==◌}
 use Rattle.std.specs.List.{flat_map}
 use Rattle.byteorder.specs.Endian.{little_bytes}
-use Rattle.isa_model.specs.declared.map_defs.MapKind.{MapKind}
-use Rattle.isa_model.specs.declared.map_defs.MapKind.TheVariants.{Hash, Array}
+use Rattle.isa_model.specs.declared.map_defs.MapType.{MapType}
+use Rattle.isa_model.specs.declared.map_defs.MapType.TheVariants.{Hash, Array}
 use Rattle.isa_model.specs.declared.map_defs.MapDef.{MapDef}
 use Rattle.isa_model.specs.declared.instructions.Insn.{Insn}
 use Rattle.isa_model.specs.declared.versions.Version.{Version}
 use Rattle.isa_model.specs.declared.versions.Version.TheVariants.{One, Two}
-use Rattle.isa_model.specs.Code.Instructions.{Program, slots, slots_of}
+use Rattle.isa_model.specs.Code.Instructions.{Program, slots, slots_filled}
 use Rattle.isa_model.specs.Code.MapRows.{IsRow, NamesRows}
 use Rattle.isa_model.specs.Code.Spelling.{spelling_of, InsnFits}
 use Rattle.isa_model.specs.declared.limits.TheConstants.{MAX_MAPS, MAX_MAP_ROOM, MAX_SLOTS}
@@ -22,7 +22,7 @@ magic One = codes "XBP1"
 magic Two = codes "XBP2"
 
 -- Linux, enum bpf_map_type
-abbrev pub kind_code : MapKind → ℕ
+abbrev pub kind_code : MapType → ℕ
 kind_code Hash = 1
 kind_code Array = 2
 
@@ -55,7 +55,7 @@ abbrev pub room_of : MapDef → ℕ
 room_of row = row.entries * (row.key_size + row.value_size)
 
 abbrev pub is_wide : Insn → Bool
-is_wide i = slots_of i == 2
+is_wide i = slots_filled i == 2
 
 -- slots of code, the first of them a second half or not: there is a second half after each
 -- instruction of two slots and nowhere else, and the numbers in instructions are of their types

@@ -4,8 +4,8 @@ use Rattle.std.specs.List.{starts_with}
 use Rattle.std.specs.Option.{option_or, option_map}
 use Rattle.std.specs.Result.{result_err}
 use Rattle.byteorder.specs.Endian.{little_number}
-use Rattle.isa_model.specs.declared.map_defs.MapKind.{MapKind}
-use Rattle.isa_model.specs.declared.map_defs.MapKind.TheVariants.{Hash, Array}
+use Rattle.isa_model.specs.declared.map_defs.MapType.{MapType}
+use Rattle.isa_model.specs.declared.map_defs.MapType.TheVariants.{Hash, Array}
 use Rattle.isa_model.specs.declared.map_defs.MapDef.{MapDef}
 use Rattle.isa_model.specs.declared.instructions.Insn.{Insn}
 use Rattle.isa_model.specs.declared.instructions.Insn.TheVariants.{LoadMap, LoadMapValue}
@@ -72,7 +72,7 @@ count_refusal slots =
 
 -- ---- the map rows
 
-abbrev pub key_fits : MapKind → ℕ → Bool
+abbrev pub key_fits : MapType → ℕ → Bool
 key_fits Hash n = nat_le 1 n && nat_le n max_key_size
 key_fits Array n = n == 4
 
@@ -83,11 +83,11 @@ row_fits row =
     && (nat_le 1 row.value_size && nat_le row.value_size max_value_size)
     && (nat_le 1 row.entries && nat_le row.entries max_map_entries)
 
-abbrev pub kind_numbered : ℕ → Option MapKind
+abbrev pub kind_numbered : ℕ → Option MapType
 kind_numbered n = if n == 1 then Some Hash else if n == 2 then Some Array else None
 
 -- the rest of a row, which the bytes begin with
-abbrev pub with_kind : List ℕ → MapKind → MapDef
+abbrev pub with_kind : List ℕ → MapType → MapDef
 with_kind bytes kind = record {
   kind = kind;
   key_size = little_number 2 (drop 2 bytes);
@@ -122,7 +122,7 @@ room_refusal rows = if nat_lt MAX_MAP_ROOM (sum_by room_of rows) then Some MapRo
 
 -- ---- the maps that instructions name
 
-abbrev pub is_array : MapKind → Bool
+abbrev pub is_array : MapType → Bool
 is_array Hash = false
 is_array Array = true
 

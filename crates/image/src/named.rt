@@ -4,13 +4,13 @@ ghost use Rattle.std.specs.Prelude.{◌≡◌};
 ghost use Rattle.image.specs.Refusals.{holds_offset, map_refusal, maps_refusal};
 
 use crate::errors::ImageError;
-use isa_model::{Insn, MapDef, MapKind};
+use isa_model::{Insn, MapDef, MapType};
 
 // Whether the map is an array of one key, and the offset is within its value.
 fn holds_offset(offset: u32, row: &MapDef) -> bool
     ensures { result ≡ holds_offset offset row.now }
 {
-    matches!(row.kind, MapKind::Array) && row.entries == 1 && offset < row.value_size
+    matches!(row.kind, MapType::Array) && row.entries == 1 && offset < row.value_size
 }
 
 /// What is wrong with the map that the instruction at a slot names: that it has no row, or that a

@@ -11,19 +11,19 @@ ghost use Rattle.image.specs.Refusals.{ReturnsParsed, key_fits, row_fits, kind_n
 use crate::errors::ImageError;
 use byteorder::{ByteOrder, LittleEndian};
 use exact_io::write_bytes;
-use isa_model::{MAX_KEY_SIZE, MAX_MAP_ENTRIES, MAX_MAP_ROOM, MAX_VALUE_SIZE, MapDef, MapKind};
+use isa_model::{MAX_KEY_SIZE, MAX_MAP_ENTRIES, MAX_MAP_ROOM, MAX_VALUE_SIZE, MapDef, MapType};
 use std::alloc::Global;
 use std::io;
 use std::io::Write;
 
 // ---- limits
 
-fn key_fits(kind: MapKind, size: u16) -> bool
+fn key_fits(kind: MapType, size: u16) -> bool
     ensures { result ≡ key_fits kind size }
 {
     match kind {
-        MapKind::Hash => 1 <= size && size <= MAX_KEY_SIZE,
-        MapKind::Array => size == 4,
+        MapType::Hash => 1 <= size && size <= MAX_KEY_SIZE,
+        MapType::Array => size == 4,
     }
 }
 
@@ -75,12 +75,12 @@ pub fn room_refusal(rows: &[MapDef]) -> Option<ImageError>
 
 // ---- reading
 
-fn kind_numbered(number: u16) -> Option<MapKind>
+fn kind_numbered(number: u16) -> Option<MapType>
     ensures { result ≡ kind_numbered number }
 {
     match number {
-        1 => Some(MapKind::Hash),
-        2 => Some(MapKind::Array),
+        1 => Some(MapType::Hash),
+        2 => Some(MapType::Array),
         _ => None,
     }
 }
@@ -121,12 +121,12 @@ pub fn rows_of(alloc: Global, count: usize, bytes: &[u8]) -> Result<Vec<MapDef>,
 
 // ---- writing
 
-fn kind_code(kind: MapKind) -> u16
+fn kind_code(kind: MapType) -> u16
     ensures { result ≡ kind_code kind }
 {
     match kind {
-        MapKind::Hash => 1,
-        MapKind::Array => 2,
+        MapType::Hash => 1,
+        MapType::Array => 2,
     }
 }
 

@@ -11,10 +11,10 @@ use Rattle.isa_model.specs.declared.registers.Reg.{Reg}
 use Rattle.isa_model.specs.declared.registers.Reg.TheVariants.{R0, R1, R5, R6}
 use Rattle.isa_model.specs.declared.sizes.Size.{Size}
 use Rattle.isa_model.specs.declared.sizes.Size.TheVariants.{U8}
-use Rattle.isa_model.specs.declared.sizes.Narrow.{Narrow}
-use Rattle.isa_model.specs.declared.sizes.Narrow.TheVariants.{S8}
-use Rattle.isa_model.specs.declared.sizes.Span.{Span}
-use Rattle.isa_model.specs.declared.sizes.Span.TheVariants.{B16}
+use Rattle.isa_model.specs.declared.sizes.SignedSize.{SignedSize}
+use Rattle.isa_model.specs.declared.sizes.SignedSize.TheVariants.{S8}
+use Rattle.isa_model.specs.declared.sizes.SwapWidth.{SwapWidth}
+use Rattle.isa_model.specs.declared.sizes.SwapWidth.TheVariants.{B16}
 use Rattle.isa_model.specs.declared.sizes.Extension.{Extension}
 use Rattle.isa_model.specs.declared.sizes.Extension.TheVariants.{Low8, Low16, Full8, Full16, Full32}
 use Rattle.isa_model.specs.declared.sizes.Width.{Width}
@@ -115,7 +115,7 @@ form_load : (size : Size) → form_of (0x61 + size_code size) ≡ Some (form.Loa
 form_load U8 = refl
 form_load size = refl
 
-form_load_signed : (size : Narrow) → form_of (0x81 + narrow_code size) ≡ Some (form.LoadSx size)
+form_load_signed : (size : SignedSize) → form_of (0x81 + narrow_code size) ≡ Some (form.LoadSx size)
 form_load_signed S8 = refl
 form_load_signed size = refl
 
@@ -165,7 +165,7 @@ form_extension Full8 = (Full64, refl, λ d r rest. refl)
 form_extension Full16 = (Full64, refl, λ d r rest. refl)
 form_extension Full32 = (Full64, refl, λ d r rest. refl)
 
-means_end : (order : ByteOrder) (x : Span) (d : Reg) (rest : List ℕ) → meaning (form.ByteSwap order) (fields d R0 0 (span_bits x)) rest ≡ Ok (ByteSwap order x d)
+means_end : (order : ByteOrder) (x : SwapWidth) (d : Reg) (rest : List ℕ) → meaning (form.ByteSwap order) (fields d R0 0 (span_bits x)) rest ≡ Ok (ByteSwap order x d)
 means_end order B16 d rest = refl
 means_end order x d rest = refl
 

@@ -9,8 +9,8 @@ use Rattle.isa_model.specs.declared.sizes.Width.{Width}
 use Rattle.isa_model.specs.declared.sizes.Width.TheVariants.{Low32, Full64}
 use Rattle.isa_model.specs.declared.instructions.AluOp.{AluOp}
 use Rattle.isa_model.specs.declared.instructions.AluOp.TheVariants as ops
-use Rattle.isa_model.specs.declared.sizes.Span.{Span}
-use Rattle.isa_model.specs.declared.sizes.Span.TheVariants.{B16, B32, B64}
+use Rattle.isa_model.specs.declared.sizes.SwapWidth.{SwapWidth}
+use Rattle.isa_model.specs.declared.sizes.SwapWidth.TheVariants.{B16, B32, B64}
 use Rattle.isa_model.specs.declared.sizes.Extension.{Extension}
 use Rattle.isa_model.specs.declared.sizes.Extension.TheVariants.{Low8, Low16, Full8, Full16, Full32}
 use Rattle.isa_model.specs.declared.instructions.Insn.{Insn}
@@ -124,14 +124,16 @@ extension_is Full64 o x e =
       ]
     ]
 
-pub span_is : (k : ℕ) (x : Span) → span_selected k ≡ Some x → span_bits x ≡ k
+pub span_is : (k : ℕ) (x : SwapWidth) → span_selected k ≡ Some x → span_bits x ≡ k
 span_is k x e =
     elim (chosen (k == 16) (Some B16) _ _ e) [
-      | inl p ↦ subst (λ (s : Span). span_bits s ≡ k) (some_is _ _ p.1) (sym (eqb-true k 16 p.0))
+      | inl p ↦
+          subst (λ (s : SwapWidth). span_bits s ≡ k) (some_is _ _ p.1) (sym (eqb-true k 16 p.0))
       | inr p ↦ elim (chosen (k == 32) (Some B32) _ _ p.1) [
-        | inl q ↦ subst (λ (s : Span). span_bits s ≡ k) (some_is _ _ q.1) (sym (eqb-true k 32 q.0))
+        | inl q ↦
+            subst (λ (s : SwapWidth). span_bits s ≡ k) (some_is _ _ q.1) (sym (eqb-true k 32 q.0))
         | inr q ↦ elim (chosen (k == 64) (Some B64) _ _ q.1) [
-          | inl s ↦ subst (λ (y : Span). span_bits y ≡ k) (some_is _ _ s.1) (sym (eqb-true k 64 s.0))
+          | inl s ↦ subst (λ (y : SwapWidth). span_bits y ≡ k) (some_is _ _ s.1) (sym (eqb-true k 64 s.0))
           | inr s ↦ absurd cc
         ]
       ]

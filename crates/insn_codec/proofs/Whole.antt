@@ -17,14 +17,14 @@ use Rattle.isa_model.specs.declared.instructions.AluOp.{AluOp}
 use Rattle.isa_model.specs.declared.instructions.AluOp.TheVariants.{SignedDiv}
 use Rattle.isa_model.specs.declared.sizes.Extension.{Extension}
 use Rattle.isa_model.specs.declared.sizes.Extension.TheVariants.{Low8}
-use Rattle.isa_model.specs.declared.sizes.Span.{Span}
-use Rattle.isa_model.specs.declared.sizes.Span.TheVariants.{B16}
+use Rattle.isa_model.specs.declared.sizes.SwapWidth.{SwapWidth}
+use Rattle.isa_model.specs.declared.sizes.SwapWidth.TheVariants.{B16}
 use Rattle.isa_model.specs.declared.instructions.AtomicOp.{AtomicOp}
 use Rattle.isa_model.specs.declared.instructions.AtomicOp.TheVariants as atomics
 use Rattle.isa_model.specs.declared.slots.Slot.{Slot}
 use Rattle.isa_model.specs.Code.Registers.{reg_number}
 use Rattle.isa_model.specs.Code.Sizes.{span_bits}
-use Rattle.isa_model.specs.Code.Instructions.{slots_of}
+use Rattle.isa_model.specs.Code.Instructions.{slots_filled}
 use Rattle.isa_model.specs.Code.Spelling.{first_slot, next_imm, second_bytes, slot_bytes, spelling_of, alu_offset, extension_bits, atomic_code, fetch_bit, InsnFits, OperandFits, operand_imm}
 use Rattle.isa_model.specs.Code.LittleEndian.{EachByte}
 use Rattle.isa_model.proofs.LittleEndianLaws.{EachByte-drop, EachByte-take, little_bytes-little_from}
@@ -63,7 +63,7 @@ slot_at-fits xs small = record {
   imm = little_from-lt 0 4 (drop 4 xs) (EachByte-drop 4 xs small);
 }
 
-ends : (i : Insn) (bytes : List ℕ) → Continues (next_imm i) (drop 8 bytes) → take (8 * slots_of i) bytes ≡ take 8 bytes ++ second_bytes (next_imm i)
+ends : (i : Insn) (bytes : List ℕ) → Continues (next_imm i) (drop 8 bytes) → take (8 * slots_filled i) bytes ≡ take 8 bytes ++ second_bytes (next_imm i)
 ends (LoadNumber d n) bytes h = take-add 8 8 bytes ∙ ap (λ l. take 8 bytes ++ l) h
 ends (LoadMap d m) bytes h = take-add 8 8 bytes ∙ ap (λ l. take 8 bytes ++ l) h
 ends (LoadMapValue d m o) bytes h = take-add 8 8 bytes ∙ ap (λ l. take 8 bytes ++ l) h
@@ -83,7 +83,7 @@ pub decoded-fits : (bytes : List ℕ) (i : Insn) → EachByte bytes → decoded 
 decoded-fits bytes i small e = (decoded_by bytes i small e).1.fits
 
 -- what is decoded is spelled by a front of the bytes
-pub decoded-spelled : (bytes : List ℕ) (i : Insn) → EachByte bytes → decoded bytes ≡ Ok i → take (8 * slots_of i) bytes ≡ spelling_of i
+pub decoded-spelled : (bytes : List ℕ) (i : Insn) → EachByte bytes → decoded bytes ≡ Ok i → take (8 * slots_filled i) bytes ≡ spelling_of i
 decoded-spelled bytes i small e =
     let m = decoded_by bytes i small e in
     let front = take 8 bytes in
@@ -121,7 +121,7 @@ extension-lt : (x : Extension) → extension_bits x < 2 ^ 16
 extension-lt Low8 = omega arith
 extension-lt x = omega arith
 
-span-lt : (x : Span) → span_bits x < 2 ^ 32
+span-lt : (x : SwapWidth) → span_bits x < 2 ^ 32
 span-lt B16 = omega arith
 span-lt x = omega arith
 

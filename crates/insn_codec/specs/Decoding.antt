@@ -7,8 +7,8 @@ use Rattle.std.specs.Int.{w16, w32, cast_signed}
 use Rattle.byteorder.specs.Endian.{little_number}
 use Rattle.isa_model.specs.declared.registers.Reg.{Reg}
 use Rattle.isa_model.specs.declared.registers.Reg.TheVariants.{R0, R1, R5, R6}
-use Rattle.isa_model.specs.declared.sizes.Span.{Span}
-use Rattle.isa_model.specs.declared.sizes.Span.TheVariants.{B16, B32, B64}
+use Rattle.isa_model.specs.declared.sizes.SwapWidth.{SwapWidth}
+use Rattle.isa_model.specs.declared.sizes.SwapWidth.TheVariants.{B16, B32, B64}
 use Rattle.isa_model.specs.declared.sizes.Extension.{Extension}
 use Rattle.isa_model.specs.declared.sizes.Extension.TheVariants.{Low8, Low16, Full8, Full16, Full32}
 use Rattle.isa_model.specs.declared.sizes.Width.{Width}
@@ -25,7 +25,7 @@ use Rattle.isa_model.specs.declared.instructions.Insn.{Insn}
 use Rattle.isa_model.specs.declared.instructions.Insn.TheVariants.{Alu, Neg, MovSx, ByteSwap, LoadNumber, LoadMap, LoadMapValue, Load, LoadSx, StoreConstant, Store, Atomic, Exchange, CompareExchange, Jump, JumpLong, JumpIf, CallHelper, CallLocal, Exit}
 use Rattle.isa_model.specs.declared.slots.Slot.{Slot}
 use Rattle.isa_model.specs.Code.Registers.{reg_numbered}
-use Rattle.isa_model.specs.Code.Instructions.{slots_of}
+use Rattle.isa_model.specs.Code.Instructions.{slots_filled}
 use Rattle.insn_codec.specs.declared.errors.CodecError.{CodecError}
 use Rattle.insn_codec.specs.declared.errors.CodecError.TheVariants.{Short, UnknownOpcode, UnknownRegister, UnusedField, UnknownSelector, SecondSlot}
 use Rattle.insn_codec.specs.declared.forms.AluCode.{AluCode}
@@ -59,7 +59,7 @@ extension_selected Full64 f =
     if f == 8 then Some Full8 else if f == 16 then Some Full16 else if f == 32 then Some Full32
     else None
 
-abbrev pub span_selected : ℕ → Option Span
+abbrev pub span_selected : ℕ → Option SwapWidth
 span_selected k =
     if k == 16 then Some B16 else if k == 32 then Some B32 else if k == 64 then Some B64 else None
 
@@ -202,5 +202,5 @@ decoded bytes = if nat_lt (length bytes) 8 then Err Short
 
 -- with the number of bytes that it takes
 abbrev pub sized : Result Insn CodecError → Result (Insn × ℕ) CodecError
-sized (Ok i) = Ok (i, 8 * slots_of i)
+sized (Ok i) = Ok (i, 8 * slots_filled i)
 sized (Err e) = Err e

@@ -5,8 +5,8 @@ use Rattle.isa_model.specs.declared.registers.Reg.{Reg}
 use Rattle.isa_model.specs.declared.registers.Reg.TheVariants.{R0}
 use Rattle.isa_model.specs.declared.sizes.Size.{Size}
 use Rattle.isa_model.specs.declared.sizes.Size.TheVariants.{U8, U16, U32, U64}
-use Rattle.isa_model.specs.declared.sizes.Narrow.{Narrow}
-use Rattle.isa_model.specs.declared.sizes.Narrow.TheVariants.{S8, S16, S32}
+use Rattle.isa_model.specs.declared.sizes.SignedSize.{SignedSize}
+use Rattle.isa_model.specs.declared.sizes.SignedSize.TheVariants.{S8, S16, S32}
 use Rattle.isa_model.specs.declared.sizes.Width.{Width}
 use Rattle.isa_model.specs.declared.sizes.Width.TheVariants.{Low32, Full64}
 use Rattle.isa_model.specs.declared.sizes.ByteOrder.TheVariants.{Little, Big, Swap}
@@ -98,7 +98,7 @@ size_numbered c =
     else if c == 0xf then Some U64
     else None
 
-abbrev pub narrow_numbered : ℕ → Option Narrow
+abbrev pub narrow_numbered : ℕ → Option SignedSize
 narrow_numbered c =
     if c == 0x10 then Some S32
     else if c == 0x11 then Some S16

@@ -8,7 +8,8 @@ use crate::fields::Fields;
 use crate::forms::{AluCode, Form};
 use byteorder::{ByteOrder as _, LittleEndian};
 use isa_model::{
-    AluOp, AtomicOp, ByteOrder, Comparison, Cond, Extension, Insn, Operand, Reg, Slot, Span, Width,
+    AluOp, AtomicOp, ByteOrder, Comparison, Cond, Extension, Insn, Operand, Reg, Slot, SwapWidth,
+    Width,
 };
 
 /// The operation that the code and the selector in `offset` name.
@@ -59,13 +60,13 @@ fn extension_selected(width: Width, offset: u16) -> Option<Extension>
 }
 
 /// How many bits are swapped.
-fn span_selected(imm: u32) -> Option<Span>
+fn span_selected(imm: u32) -> Option<SwapWidth>
     ensures { result ≡ span_selected imm }
 {
     match imm {
-        16 => Some(Span::B16),
-        32 => Some(Span::B32),
-        64 => Some(Span::B64),
+        16 => Some(SwapWidth::B16),
+        32 => Some(SwapWidth::B32),
+        64 => Some(SwapWidth::B64),
         _ => None,
     }
 }

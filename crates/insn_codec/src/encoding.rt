@@ -7,8 +7,8 @@ ghost use Rattle.isa_model.specs.Code.Sizes.{span_bits};
 ghost use Rattle.isa_model.specs.Code.Spelling.{first_slot, next_imm, slot, offset16, alu_code, alu_offset, alu_class, jump_code, jump_class, operand_bit, operand_src, operand_imm, extension_class, extension_bits, order_opcode, size_code, narrow_code, atomic_opcode, atomic_code, fetch_bit};
 
 use isa_model::{
-    AluOp, AtomicOp, ByteOrder, Comparison, Cond, Extension, Insn, Narrow, Operand, Place, Reg,
-    Size, Slot, Span, Width,
+    AluOp, AtomicOp, ByteOrder, Comparison, Cond, Extension, Insn, Operand, Place, Reg, SignedSize,
+    Size, Slot, SwapWidth, Width,
 };
 
 fn register_field(register: Reg) -> u8
@@ -122,13 +122,13 @@ fn order_opcode(order: ByteOrder) -> u8
     }
 }
 
-fn span_bits(span: Span) -> u32
+fn span_bits(span: SwapWidth) -> u32
     ensures { result ≡ span_bits span }
 {
     match span {
-        Span::B16 => 16,
-        Span::B32 => 32,
-        Span::B64 => 64,
+        SwapWidth::B16 => 16,
+        SwapWidth::B32 => 32,
+        SwapWidth::B64 => 64,
     }
 }
 
@@ -143,13 +143,13 @@ fn size_code(size: Size) -> u8
     }
 }
 
-fn narrow_code(size: Narrow) -> u8
+fn narrow_code(size: SignedSize) -> u8
     ensures { result ≡ narrow_code size }
 {
     match size {
-        Narrow::S32 => 0x00,
-        Narrow::S16 => 0x08,
-        Narrow::S8 => 0x10,
+        SignedSize::S32 => 0x00,
+        SignedSize::S16 => 0x08,
+        SignedSize::S8 => 0x10,
     }
 }
 

@@ -3,7 +3,7 @@
 ghost use Rattle.std.specs.Prelude.{◌≡◌};
 ghost use Rattle.insn_codec.specs.Forms.{alu_code_numbered, has_selector, comparison_numbered, size_numbered, narrow_numbered, swap_form, arithmetic_form, jump_form, full_only, load_form, store_constant_form, store_form, form_of, uses};
 
-use isa_model::{ByteOrder, Comparison, Narrow, Size, Width};
+use isa_model::{ByteOrder, Comparison, SignedSize, Size, Width};
 
 /// The operations by their codes in an opcode. A selector says whether a division is signed.
 #[derive(Clone, Copy, PartialEq, Eq, Debug)]
@@ -33,7 +33,7 @@ pub enum Form {
     ByteSwap(ByteOrder),
     WideLoad,
     Load(Size),
-    LoadSx(Narrow),
+    LoadSx(SignedSize),
     StoreConstant(Size),
     Store(Size),
     Atomic(Width),
@@ -116,13 +116,13 @@ fn size_numbered(code: u8) -> Option<Size>
     }
 }
 
-fn narrow_numbered(code: u8) -> Option<Narrow>
+fn narrow_numbered(code: u8) -> Option<SignedSize>
     ensures { result ≡ narrow_numbered code }
 {
     match code {
-        0x10 => Some(Narrow::S32),
-        0x11 => Some(Narrow::S16),
-        0x12 => Some(Narrow::S8),
+        0x10 => Some(SignedSize::S32),
+        0x11 => Some(SignedSize::S16),
+        0x12 => Some(SignedSize::S8),
         _ => None,
     }
 }

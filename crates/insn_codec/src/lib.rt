@@ -10,7 +10,7 @@ mod slots;
 
 ghost use Rattle.std.specs.Prelude.{◌≡◌, ◌*◌, ◌++◌, ◌<◌, take, drop, ℕ, List, Ok, IfOk};
 ghost use Rattle.isa_model.specs.declared.instructions.Insn.{Insn};
-ghost use Rattle.isa_model.specs.Code.Instructions.{slots_of};
+ghost use Rattle.isa_model.specs.Code.Instructions.{slots_filled};
 ghost use Rattle.isa_model.specs.Code.LittleEndian.{EachByte};
 ghost use Rattle.isa_model.specs.Code.Spelling.{spelling_of, InsnFits};
 ghost use Rattle.insn_codec.specs.Decoding.{decoded, sized};
@@ -38,7 +38,7 @@ pub fn decode(bytes: &[u8]) -> Result<(Insn, usize), CodecError>
 
     // What is spelled so is decoded, whatever follows it.
     ensures only { (i : Insn) (rest : List ℕ) → InsnFits i → bytes.now ≡ spelling_of i ++ rest
-        → result ≡ Ok (i, 8 * slots_of i) }
+        → result ≡ Ok (i, 8 * slots_filled i) }
 
     // Which refusal it is.
     ensures exact { result ≡ sized (decoded bytes.now) }
@@ -48,7 +48,7 @@ pub fn decode(bytes: &[u8]) -> Result<(Insn, usize), CodecError>
 
 /// Writes the instruction's spelling to the front of the bytes, and says how long it is.
 pub fn encode(insn: &Insn, out: &mut [u8; 16]) -> usize
-    ensures length { result ≡ 8 * slots_of insn.now }
+    ensures length { result ≡ 8 * slots_filled insn.now }
     ensures bytes { out.new ≡ spelling_of insn.now ++ drop result out.old }
 {
     out[..8].copy_from_slice(&slots::bytes_of(&encoding::first_slot(insn)));
@@ -64,7 +64,7 @@ pub fn encode(insn: &Insn, out: &mut [u8; 16]) -> usize
 /// The laws of decoding, for proofs about many instructions in a row.
 pub fn decoding_laws()
     ensures found { (bytes : List ℕ) (i : Insn) → EachByte bytes → decoded bytes ≡ Ok i
-        → take (8 * slots_of i) bytes ≡ spelling_of i }
+        → take (8 * slots_filled i) bytes ≡ spelling_of i }
     ensures fits { (bytes : List ℕ) (i : Insn) → EachByte bytes → decoded bytes ≡ Ok i
         → InsnFits i }
     ensures again { (i : Insn) (rest : List ℕ) → InsnFits i

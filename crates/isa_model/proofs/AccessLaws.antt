@@ -10,7 +10,7 @@ use Rattle.isa_model.specs.declared.registers.Reg.{Reg}
 use Rattle.isa_model.specs.declared.sizes.Width.{Width}
 use Rattle.isa_model.specs.declared.sizes.Size.{Size}
 use Rattle.isa_model.specs.declared.sizes.Size.TheVariants.{U8, U16, U32, U64}
-use Rattle.isa_model.specs.declared.sizes.Narrow.{Narrow}
+use Rattle.isa_model.specs.declared.sizes.SignedSize.{SignedSize}
 use Rattle.isa_model.specs.declared.instructions.Place.{Place}
 use Rattle.isa_model.specs.declared.values.Region.{Region}
 use Rattle.isa_model.specs.declared.values.Region.TheVariants as region
@@ -73,7 +73,7 @@ value_cells_fit rows next content (Some j) within h =
 -- the cells of every live region fit
 region_cells_fit : (p : Program) (s : State) (r : Region) → IsState p s → CellsFit (length p.maps) s.next_serial (region_cells s r)
 region_cells_fit p s region.Packet k = Byte_cells_fit (length p.maps) s.next_serial s.packet k.packet
-region_cells_fit p s (region.Frame n) k = frame_cells_fit p s.next_serial s.frames (frame_index s.frames n) (frame_room s.frames n) k.frames
+region_cells_fit p s (region.CallFrame n) k = frame_cells_fit p s.next_serial s.frames (frame_index s.frames n) (frame_room s.frames n) k.frames
 region_cells_fit p s (region.MapValue m n) k =
     let content = content_of s m in
     let found : slice_index_or (map key_values_of s.maps) m [] ≡ key_values_of content = get_or-map_default key_values_of s.maps m [] in
@@ -132,7 +132,8 @@ load_from_fits p s U64 region.Context o k = tt
 load_from_fits p s size region.Packet o k = memory_load_fits p s size region.Packet o k
 load_from_fits p s size region.PacketEnd o k = memory_load_fits p s size region.PacketEnd o k
 load_from_fits p s size (region.Map m) o k = memory_load_fits p s size (region.Map m) o k
-load_from_fits p s size (region.Frame n) o k = memory_load_fits p s size (region.Frame n) o k
+load_from_fits p s size (region.CallFrame n) o k =
+    memory_load_fits p s size (region.CallFrame n) o k
 load_from_fits p s size (region.MapValue m n) o k = memory_load_fits p s size (region.MapValue m n) o k
 
 -- what a load gives is a value
@@ -146,7 +147,8 @@ load_number_fits p s size (Ptr r z) by k = number_at_fits p s r (index_at r (z +
 load_number_fits p s size (Num n) by k = tt
 load_number_fits p s size Unset by k = tt
 
-pub load_signed_fits : (p : Program) (s : State) (size : Narrow) (v : Value) (by : ℤ) → IsState p s
+pub load_signed_fits : (p : Program) (s : State) (size : SignedSize) (v : Value) (by : ℤ)
+    → IsState p s
     → IfOk (load_signed s size v by) (IsValue (length p.maps) s.next_serial)
 load_signed_fits p s size v by k =
     IfOk-and_then (λ n. n < 2 ^ 64) (IsValue (length p.maps) s.next_serial) (load_number s (narrow_size size) v by)
@@ -170,8 +172,8 @@ store_number_keeps p s size Unset by n k = tt
 
 store_pointer_keeps : (p : Program) (s : State) (size : Size) (v : Value) (by : ℤ) (q : Region) (y : ℤ)
     → IsRegion (length p.maps) s.next_serial q → IsOffset y → IsState p s → IfOk (store_pointer s size v by q y) (IsState p)
-store_pointer_keeps p s U64 (Ptr (region.Frame n) z) by q y h l k =
-    write_keeps p s (region.Frame n) (index_at (region.Frame n) (z +ℤ by)) (pieces q y) (pieces_fit (length p.maps) s.next_serial q y h l) k
+store_pointer_keeps p s U64 (Ptr (region.CallFrame n) z) by q y h l k =
+    write_keeps p s (region.CallFrame n) (index_at (region.CallFrame n) (z +ℤ by)) (pieces q y) (pieces_fit (length p.maps) s.next_serial q y h l) k
 store_pointer_keeps p s U64 (Ptr region.Context z) by q y h l k = tt
 store_pointer_keeps p s U64 (Ptr region.Packet z) by q y h l k = tt
 store_pointer_keeps p s U64 (Ptr region.PacketEnd z) by q y h l k = tt

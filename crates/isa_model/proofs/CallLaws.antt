@@ -14,7 +14,7 @@ use Rattle.isa_model.specs.declared.values.CallFrame.{CallFrame}
 use Rattle.isa_model.specs.Code.Instructions.{Program}
 use Rattle.isa_model.specs.Machine.States.{State, value_at, reg, new_frame, frame_at}
 use Rattle.isa_model.specs.Code.Limits.{max_call_frames, frame_size}
-use Rattle.isa_model.specs.Machine.Calls.{kept, regs_within, regs_after, enter, callers, innermost, leave}
+use Rattle.isa_model.specs.Machine.Calls.{saved_registers, regs_within, regs_after, enter, callers, innermost, leave}
 use Rattle.isa_model.specs.Machine.MachineStates.{IsValue, IsCell, IsCallFrame, IsSlot, value_serials, live_serials, IsState}
 use Rattle.isa_model.proofs.ValueLaws.{IsValue-more, IsCell-more}
 use Rattle.isa_model.proofs.StateLaws.{serial_of, value_at_fits}
@@ -80,14 +80,14 @@ IsState-enter p s target go back room k =
     let V : Value → Type 0 = IsValue rows more in
     let old : (n : ℕ) → IsValue rows more (value_at s.regs n) =
     (λ n. IsValue-more rows next more (value_at s.regs n) (omega arith) (value_at_fits rows next s.regs n k.values)) in
-    let kept_fit : All V (kept s.regs) = All-from_recursion V (kept s.regs) (old 6, (old 7, (old 8, (old 9, tt)))) in
-    let f : CallFrame = new_frame next (s.slot + 1) (kept s.regs) in
+    let kept_fit : All V (saved_registers s.regs) = All-from_recursion V (saved_registers s.regs) (old 6, (old 7, (old 8, (old 9, tt)))) in
+    let f : CallFrame = new_frame next (s.slot + 1) (saved_registers s.regs) in
     let frames : All (IsCallFrame p more) s.frames =
     All-weaker (IsCallFrame p next) (IsCallFrame p more) (λ f h. IsCallFrame-more p next more f (omega arith) h) s.frames k.frames in
     let long = length-append s.frames (f ∷ []) in
     let values = flat_map value_serials s.maps in
     let serials : values ++ map serial_of (s.frames ++ f ∷ []) ≡ live_serials s ++ next ∷ [] =
-    ap (λ l. values ++ l) (map-append serial_of s.frames (f ∷ []) ∙ ap (λ n. map serial_of s.frames ++ n ∷ []) (new_frame-serial next (s.slot + 1) (kept s.regs)))
+    ap (λ l. values ++ l) (map-append serial_of s.frames (f ∷ []) ∙ ap (λ n. map serial_of s.frames ++ n ∷ []) (new_frame-serial next (s.slot + 1) (saved_registers s.regs)))
     ∙ sym (append_assoc values (map serial_of s.frames) (next ∷ [])) in
     let pushed = serials_push (live_serials s) next k.given k.once in
     record {
@@ -97,7 +97,7 @@ IsState-enter p s target go back room k =
           (tt, (old 1, (old 2, (old 3, (old 4, (old 5, (tt, (tt, (tt, (tt, ((omega arith, omega arith), tt)))))))))));
       called = omega arith;
       depth = let most = k.depth in omega arith;
-      frames = All-push (IsCallFrame p more) s.frames f frames (new_frame_fits p more next (s.slot + 1) (kept s.regs) back refl kept_fit);
+      frames = All-push (IsCallFrame p more) s.frames f frames (new_frame_fits p more next (s.slot + 1) (saved_registers s.regs) back refl kept_fit);
       short = k.short;
       packet = k.packet;
       interface = k.interface;

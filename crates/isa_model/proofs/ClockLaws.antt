@@ -48,7 +48,7 @@ abbrev pub SameCalls : State → State → Type 0
 SameCalls s t = t.clock_calls ≡ s.clock_calls
 
 put_calls : (s : State) (r : Region) (i : ℕ) (new : List Cell) → SameCalls s (put s r i new)
-put_calls s (region.Frame n) i new = refl
+put_calls s (region.CallFrame n) i new = refl
 put_calls s region.Packet i new = refl
 put_calls s (region.MapValue m n) i new = refl
 put_calls s region.Context i new = refl
@@ -68,7 +68,7 @@ store_number_calls s size (Num m) by n = tt
 store_number_calls s size Unset by n = tt
 
 store_pointer_calls : (s : State) (size : Size) (v : Value) (by : ℤ) (q : Region) (y : ℤ) → IfOk (store_pointer s size v by q y) (SameCalls s)
-store_pointer_calls s U64 (Ptr (region.Frame n) z) by q y = write_calls s (region.Frame n) (index_at (region.Frame n) (z +ℤ by)) (pieces q y)
+store_pointer_calls s U64 (Ptr (region.CallFrame n) z) by q y = write_calls s (region.CallFrame n) (index_at (region.CallFrame n) (z +ℤ by)) (pieces q y)
 store_pointer_calls s U64 (Ptr region.Context z) by q y = tt
 store_pointer_calls s U64 (Ptr region.Packet z) by q y = tt
 store_pointer_calls s U64 (Ptr region.PacketEnd z) by q y = tt

@@ -10,8 +10,8 @@ use Rattle.std.proofs.Common.{sym, ap, ◌∙◌, subst, arith, inl, inr}
 use Rattle.std.proofs.lemmas.Bool.Decides.{nat_tests}
 use Rattle.std.proofs.lemmas.List.{length-map}
 use Rattle.std.proofs.lemmas.List.Elements.{All-head, All-tail, All-filter}
-use Rattle.isa_model.specs.declared.map_defs.MapKind.{MapKind}
-use Rattle.isa_model.specs.declared.map_defs.MapKind.TheVariants.{Hash, Array}
+use Rattle.isa_model.specs.declared.map_defs.MapType.{MapType}
+use Rattle.isa_model.specs.declared.map_defs.MapType.TheVariants.{Hash, Array}
 use Rattle.isa_model.specs.declared.map_defs.MapDef.{MapDef}
 use Rattle.isa_model.specs.Machine.States.{Stored, Content, KeyValues, key_values_of}
 use Rattle.isa_model.specs.Machine.MapContents.{key_order, is_key, at_key, has_key, with_key, without_key, enoent, e2big, eexist, einval, noexist, exist, hash_update, array_update, update_answer_by, delete_answer_by, update_answer, delete_answer}
@@ -189,7 +189,7 @@ pub update_has_room : (row : MapDef) (key : List ℕ) (flags : ℕ) (content : C
     → HasRoomForKey row key (key_values_of content)
 update_has_room row key flags content h = by row.kind refl h
   where
-    by : (kind : MapKind) → row.kind ≡ kind
+    by : (kind : MapType) → row.kind ≡ kind
         → (update_answer_by kind (has_key key content) (nat_le row.entries (length content)) flags == 0) ≡ true
         → HasRoomForKey row key (key_values_of content)
     by Array e h = inl (has_key-key_values_of key content ∙ array_open (has_key key content) flags h)
@@ -203,7 +203,7 @@ pub deletes_from_hash : (row : MapDef) (key : List ℕ) (content : Content)
     → (delete_answer row content key == 0) ≡ true → row.kind ≡ Hash
 deletes_from_hash row key content h = by row.kind refl h
   where
-    by : (kind : MapKind) → row.kind ≡ kind → (delete_answer_by kind (has_key key content) == 0) ≡ true
+    by : (kind : MapType) → row.kind ≡ kind → (delete_answer_by kind (has_key key content) == 0) ≡ true
         → row.kind ≡ Hash
     by Hash e h = e
     by Array e h = absurd cc
@@ -213,7 +213,7 @@ pub deletes_present : (row : MapDef) (key : List ℕ) (content : Content) → (d
     → has_key key content ≡ true
 deletes_present row key content h = by row.kind (has_key key content) h
   where
-    by : (kind : MapKind) (has : Bool) → (delete_answer_by kind has == 0) ≡ true → has ≡ true
+    by : (kind : MapType) (has : Bool) → (delete_answer_by kind has == 0) ≡ true → has ≡ true
     by kind true h = refl
     by Hash false h = absurd cc
     by Array false h = absurd cc
@@ -229,7 +229,7 @@ pub update_answer_fits : (row : MapDef) (content : Content) (key : List ℕ) (fl
     → update_answer row content key flags < 2 ^ 64
 update_answer_fits row content key flags = by row.kind (has_key key content) (nat_le row.entries (length content))
   where
-    by : (kind : MapKind) (has full : Bool) → update_answer_by kind has full flags < 2 ^ 64
+    by : (kind : MapType) (has full : Bool) → update_answer_by kind has full flags < 2 ^ 64
     by Hash has full =
         either_fits (nat_lt exist flags) einval _ (omega arith)
         (either_fits (has && (flags == noexist)) eexist _ (omega arith)
@@ -243,7 +243,7 @@ update_answer_fits row content key flags = by row.kind (has_key key content) (na
 pub delete_answer_fits : (row : MapDef) (content : Content) (key : List ℕ) → delete_answer row content key < 2 ^ 64
 delete_answer_fits row content key = by row.kind (has_key key content)
   where
-    by : (kind : MapKind) (has : Bool) → delete_answer_by kind has < 2 ^ 64
+    by : (kind : MapType) (has : Bool) → delete_answer_by kind has < 2 ^ 64
     by Hash has = either_fits has 0 enoent (omega arith) (omega arith)
     by Array has = omega arith
 

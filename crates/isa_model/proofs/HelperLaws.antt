@@ -9,8 +9,8 @@ use Rattle.std.proofs.lemmas.List.{length-map}
 use Rattle.std.proofs.lemmas.List.Elements.{All-nil, All-get_or, All-take, All-drop, at_from_Contains}
 use Rattle.byteorder.specs.Endian.{little_bytes}
 use Rattle.isa_model.specs.declared.map_defs.MapDef.{MapDef}
-use Rattle.isa_model.specs.declared.map_defs.MapKind.{MapKind}
-use Rattle.isa_model.specs.declared.map_defs.MapKind.TheVariants.{Array}
+use Rattle.isa_model.specs.declared.map_defs.MapType.{MapType}
+use Rattle.isa_model.specs.declared.map_defs.MapType.TheVariants.{Array}
 use Rattle.isa_model.specs.Code.Instructions.{Program}
 use Rattle.isa_model.specs.Code.MapRows.{IsRow, HoldsOffset}
 use Rattle.isa_model.specs.Machine.States.{Stored, KeyValues, key_values_of, State, content_of}
@@ -60,7 +60,7 @@ pub map_pointer_fits : (rows next m : ℕ) → m < rows → IsValue rows next (m
 map_pointer_fits rows next m h = (h, omega arith)
 
 -- an array of one key has its value
-pub has_value : (kind : MapKind) (entries : ℕ) (keys : List (List ℕ)) → kind ≡ Array → entries ≡ 1
+pub has_value : (kind : MapType) (entries : ℕ) (keys : List (List ℕ)) → kind ≡ Array → entries ≡ 1
     → KeysFit kind entries keys → 0 < length keys
 has_value kind entries keys array one h =
     let there = (subst (λ k. KeysFit k entries keys) array h).0 0 (omega arith) in

@@ -12,7 +12,7 @@ use Rattle.isa_model.specs.declared.values.Region.TheVariants as region
 use Rattle.isa_model.specs.declared.values.Value.{Value}
 use Rattle.isa_model.specs.declared.values.Value.TheVariants.{Unset, Num, Ptr}
 use Rattle.isa_model.specs.declared.values.Cell.{Cell}
-use Rattle.isa_model.specs.declared.map_defs.MapKind.TheVariants.{Hash}
+use Rattle.isa_model.specs.declared.map_defs.MapType.TheVariants.{Hash}
 use Rattle.isa_model.specs.declared.map_defs.MapDef.{MapDef}
 use Rattle.isa_model.specs.declared.ends.TrapReason.{TrapReason}
 use Rattle.isa_model.specs.declared.ends.TrapReason.TheVariants.{UnsetRead, BadAccess}
@@ -46,7 +46,7 @@ map_argument_fits p (Ptr (region.Map m) z) = of_row (slice_get p.maps m) refl
 map_argument_fits p (Ptr region.Context z) = tt
 map_argument_fits p (Ptr region.Packet z) = tt
 map_argument_fits p (Ptr region.PacketEnd z) = tt
-map_argument_fits p (Ptr (region.Frame n) z) = tt
+map_argument_fits p (Ptr (region.CallFrame n) z) = tt
 map_argument_fits p (Ptr (region.MapValue m n) z) = tt
 map_argument_fits p (Num n) = tt
 map_argument_fits p Unset = tt

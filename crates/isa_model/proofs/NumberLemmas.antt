@@ -9,8 +9,8 @@ use Rattle.std.proofs.lemmas.Nat.{mod_below, pow_pos, or_lt, xor_lt, and_le_l}
 use Rattle.std.proofs.lemmas.Bool.{cases_lt, lt-ltb, le-ltb}
 use Rattle.isa_model.specs.declared.sizes.Width.{Width}
 use Rattle.isa_model.specs.declared.sizes.Width.TheVariants.{Low32, Full64}
-use Rattle.isa_model.specs.declared.sizes.Span.{Span}
-use Rattle.isa_model.specs.declared.sizes.Span.TheVariants.{B16, B32, B64}
+use Rattle.isa_model.specs.declared.sizes.SwapWidth.{SwapWidth}
+use Rattle.isa_model.specs.declared.sizes.SwapWidth.TheVariants.{B16, B32, B64}
 use Rattle.isa_model.specs.declared.sizes.ByteOrder.{ByteOrder}
 use Rattle.isa_model.specs.declared.sizes.ByteOrder.TheVariants.{Little, Big, Swap}
 use Rattle.isa_model.specs.declared.instructions.AluOp.{AluOp}
@@ -23,7 +23,7 @@ pub width_fits : (w : Width) → 2 ^ width_bits w ≤ 2 ^ 64
 width_fits Low32 = omega arith
 width_fits Full64 = omega arith
 
-pub span_fits : (span : Span) → 2 ^ span_bits span ≤ 2 ^ 64
+pub span_fits : (span : SwapWidth) → 2 ^ span_bits span ≤ 2 ^ 64
 span_fits B16 = omega arith
 span_fits B32 = omega arith
 span_fits B64 = omega arith
@@ -125,7 +125,7 @@ pub alu_fits : (op : AluOp) (w : Width) (x y : ℕ) → alu op w x y < 2 ^ 64
 alu_fits op w x y = let b = alu_below op w x y in let f = width_fits w in omega arith
 
 -- the low bytes in an order are a number of that many bits
-pub reordered_below : (order : ByteOrder) (span : Span) (x : ℕ) → reordered order span x < 2 ^ span_bits span
+pub reordered_below : (order : ByteOrder) (span : SwapWidth) (x : ℕ) → reordered order span x < 2 ^ span_bits span
 unfolding reordered
 reordered_below Little span x = mod_below x (2 ^ span_bits span) (pow_pos (span_bits span))
 reordered_below Big B16 x = omega arith
@@ -135,7 +135,8 @@ reordered_below Swap B16 x = omega arith
 reordered_below Swap B32 x = omega arith
 reordered_below Swap B64 x = omega arith
 
-pub reordered_fits : (order : ByteOrder) (span : Span) (x : ℕ) → reordered order span x < 2 ^ 64
+pub reordered_fits : (order : ByteOrder) (span : SwapWidth) (x : ℕ)
+    → reordered order span x < 2 ^ 64
 reordered_fits order span x = let b = reordered_below order span x in let f = span_fits span in omega arith
 
 -- bits that are cut off later may be cut off twice

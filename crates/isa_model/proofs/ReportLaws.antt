@@ -13,7 +13,7 @@ use Rattle.isa_model.specs.Code.Versions.{stream_magic, head_size}
 use Rattle.isa_model.specs.Code.Limits.{max_body, max_packet}
 use Rattle.isa_model.specs.Code.Instructions.{Program}
 use Rattle.isa_model.specs.Machine.States.{KeyValues}
-use Rattle.isa_model.specs.Reporting.Streams.{Frame, IsFrame, ReasonFits, reason_field, length_field, InputEnding, ByEnd, ByError, opened, stop_at, frame_of, record_size, frames_from, Input, Stream, stream_opened, stream_of}
+use Rattle.isa_model.specs.Reporting.Streams.{PacketFrame, IsPacketFrame, ReasonFits, reason_field, length_field, InputEnding, ByEnd, ByError, opened, stop_at, packet_frame_of, record_size, frames_from, Input, Stream, stream_opened, stream_of}
 use Rattle.isa_model.proofs.StreamLaws.{frames_from-stops, frames_from-goes_on, frames_behind}
 use Rattle.isa_model.specs.Running.Runs.{Outcome, Turn}
 use Rattle.isa_model.proofs.RunLaws.{turn-outcome, HasOutcome-same}
@@ -21,15 +21,15 @@ use Rattle.isa_model.specs.Machine.MachineStates.{AreBytes, FitRows, IsProgram, 
 use Rattle.isa_model.proofs.ValueLaws.{slice_index_fits}
 use Rattle.isa_model.specs.Running.Outcomes.{StartsEnd, AllExit, ExitsOn}
 use Rattle.isa_model.proofs.OutcomesLaws.{ExitsWithin, ExitsWithin-StartsEnd, FitRows-HasOutcome}
-use Rattle.isa_model.specs.Reporting.Reports.{Piece, ToReport, ToFrames, ReportForm, maps_pieces, last_line, frame_pieces, frame_line, skip_pieces, turn_pieces, contents_left, turns_pieces, contents_after, checked_rule, checked_report, turn_by, starting_contents, ReportsFrame, ReportsFrames, form_of, IsReport}
+use Rattle.isa_model.specs.Reporting.Reports.{OutputPart, ToReport, ToFrames, ReportForm, maps_pieces, last_line, frame_pieces, frame_line, skip_pieces, turn_pieces, contents_left, turns_pieces, contents_after, checked_rule, checked_report, turn_by, starting_contents, ReportsFrame, ReportsFrames, form_of, IsReport}
 
 reason_fits : (v : Version) (bytes : List ℕ) → AreBytes bytes → ReasonFits v (reason_field v bytes)
 reason_fits One bytes h = refl
 reason_fits Two bytes h = little_from-lt 20 4 bytes (slice_index_fits bytes h)
 
 -- the record at the front of bytes is a packet frame, if its body is no longer than it may be
-IsFrame-frame_of : (v : Version) (bytes : List ℕ) → AreBytes bytes → length_field bytes ≤ max_body v → IsFrame v (frame_of v bytes)
-IsFrame-frame_of v bytes h short = record {
+IsPacketFrame-packet_frame_of : (v : Version) (bytes : List ℕ) → AreBytes bytes → length_field bytes ≤ max_body v → IsPacketFrame v (packet_frame_of v bytes)
+IsPacketFrame-packet_frame_of v bytes h short = record {
   short = let cut = length-take (length_field bytes) (drop (head_size v) bytes) in omega arith;
   bytes = All-take (λ b. b < 256) (length_field bytes) (drop (head_size v) bytes) (All-drop (λ b. b < 256) (head_size v) bytes h);
   time = little_from-lt 0 8 bytes (slice_index_fits bytes h);
@@ -45,27 +45,28 @@ length_field-stop_at v number offset [] ByEnd h = absurd (cc)
 length_field-stop_at v number offset [] ByError h = absurd (cc)
 length_field-stop_at v number offset (b ∷ bytes) e h = grind (arith, nat_tests)
 
-frames_fit : (fuel : ℕ) (v : Version) (number offset : ℕ) (bytes : List ℕ) (e : InputEnding) → AreBytes bytes → All (IsFrame v) (frames_from fuel v number offset bytes e).0
+frames_fit : (fuel : ℕ) (v : Version) (number offset : ℕ) (bytes : List ℕ) (e : InputEnding) → AreBytes bytes → All (IsPacketFrame v) (frames_from fuel v number offset bytes e).0
 unfolding frames_from
-frames_fit zero v number offset bytes e h = All-nil (IsFrame v)
+frames_fit zero v number offset bytes e h = All-nil (IsPacketFrame v)
 frames_fit (suc fuel) v number offset bytes e h = go (stop_at v number offset bytes e) refl (λ n o rest k. frames_fit fuel v n o rest e k)
   where
     go : (o : Option Finish) → stop_at v number offset bytes e ≡ o
-        → ((n o : ℕ) (rest : List ℕ) → AreBytes rest → All (IsFrame v) (frames_from fuel v n o rest e).0)
-        → All (IsFrame v) (frames_from (suc fuel) v number offset bytes e).0
+        → ((n o : ℕ) (rest : List ℕ) → AreBytes rest → All (IsPacketFrame v) (frames_from fuel v n o rest e).0)
+        → All (IsPacketFrame v) (frames_from (suc fuel) v number offset bytes e).0
     go (Some stop) s again =
-        subst (λ (t : List Frame × Finish). All (IsFrame v) t.0) (sym (frames_from-stops fuel v number offset bytes e stop s)) (All-nil (IsFrame v))
+        subst (λ (t : List PacketFrame × Finish). All (IsPacketFrame v) t.0) (sym (frames_from-stops fuel v number offset bytes e stop s)) (All-nil (IsPacketFrame v))
     go None s again =
-        let f = frame_of v bytes in
+        let f = packet_frame_of v bytes in
         let size = record_size v f in
-        let here = IsFrame-frame_of v bytes h (length_field-stop_at v number offset bytes e s) in
+        let here = IsPacketFrame-packet_frame_of v bytes h
+        (length_field-stop_at v number offset bytes e s) in
         let more = again (number + 1) (offset + size) (drop size bytes) (All-drop (λ b. b < 256) size bytes h) in
-        subst (λ (t : List Frame × Finish). All (IsFrame v) t.0) (sym (frames_from-goes_on fuel v number offset bytes e s))
-        (All-cons (IsFrame v) f (frames_behind fuel v number offset bytes e).0 here more)
+        subst (λ (t : List PacketFrame × Finish). All (IsPacketFrame v) t.0) (sym (frames_from-goes_on fuel v number offset bytes e s))
+        (All-cons (IsPacketFrame v) f (frames_behind fuel v number offset bytes e).0 here more)
 
 -- the frames of a stream can be spelled
 abbrev pub AreFrames : Stream → Type 0
-AreFrames found = All (IsFrame found.version) found.frames
+AreFrames found = All (IsPacketFrame found.version) found.frames
 
 -- so it is with the stream of an input
 pub stream_of-AreFrames : (input : Input) → AreBytes input.bytes → AreFrames (stream_of input)
@@ -73,45 +74,47 @@ stream_of-AreFrames input h = go (opened input.bytes input.ending)
   where
     go : (r : Result Version Fault) → AreFrames (stream_opened input r)
     go (Ok v) = frames_fit (suc (length input.bytes)) v 0 4 (drop 4 input.bytes) input.ending (All-drop (λ b. b < 256) 4 input.bytes h)
-    go (Err fault) = All-nil (IsFrame One)
+    go (Err fault) = All-nil (IsPacketFrame One)
 
 -- the limit shows in the line of a run that it stopped only
 abbrev with_limit : ℕ → ReportForm → ReportForm
 with_limit n form = record form { limit = n }
 
-frame_pieces-turn_by : (m : ℕ) (form : ReportForm) (number : ℕ) (f : Frame) (o : Outcome)
+frame_pieces-turn_by : (m : ℕ) (form : ReportForm) (number : ℕ) (f : PacketFrame) (o : Outcome)
     → frame_pieces (with_limit m form) number f (turn_by o) ≡ frame_pieces form number f (turn_by o)
 unfolding frame_pieces frame_line
 frame_pieces-turn_by m form number f o = refl
 
-skip_pieces-limit : (m : ℕ) (form : ReportForm) (number : ℕ) (f : Frame) → skip_pieces (with_limit m form) number f ≡ skip_pieces form number f
+skip_pieces-limit : (m : ℕ) (form : ReportForm) (number : ℕ) (f : PacketFrame) → skip_pieces (with_limit m form) number f ≡ skip_pieces form number f
 unfolding skip_pieces
 skip_pieces-limit m form number f = refl
 
 -- a body is a packet
-packet_short : (v : Version) (f : Frame) → length f.body ≤ max_body v → length f.body ≤ max_packet
+packet_short : (v : Version) (f : PacketFrame) → length f.body ≤ max_body v
+    → length f.body ≤ max_packet
 packet_short One f h = omega arith
 packet_short Two f h = h
 
 -- on a frame that can be spelled, a program all of whose runs exit has an outcome
-outcome_on : (p : Program) (n : ℕ) (contents : List KeyValues) (v : Version) (f : Frame) → StartsEnd p n → FitRows p.maps contents → IsFrame v f
+outcome_on : (p : Program) (n : ℕ) (contents : List KeyValues) (v : Version) (f : PacketFrame) → StartsEnd p n → FitRows p.maps contents → IsPacketFrame v f
     → ExitsWithin p n f.head f.body contents (λ k. f.head.time) × IsGiven p f.head f.body contents
 outcome_on p n contents v f h fits here =
     let given : IsGiven p f.head f.body contents = record { short = packet_short v f here.short; bytes = here.bytes; interface = here.interface; queue = here.queue; maps = fits } in
     (ExitsWithin-StartsEnd p n f.head f.body contents (λ k. f.head.time) h (λ k. here.time) given, given)
 
 -- one frame: what its run, if it has one, is, and what it leaves
-abbrev RunsOne : Program → ℕ → ReportForm → ℕ → List KeyValues → Frame → Bool → Option Turn → Type 0
+abbrev RunsOne : Program → ℕ → ReportForm → ℕ → List KeyValues → PacketFrame → Bool → Option Turn
+    → Type 0
 RunsOne p n form number contents f runs t =
     ExitsOn p n contents f runs (contents_left contents t)
     × ReportsFrame form p number contents f runs (turn_pieces (with_limit n form) number f t) (contents_left contents t)
     × FitRows p.maps (contents_left contents t)
 
-abbrev turn_if : Program → ℕ → List KeyValues → Frame → Bool → Option Turn
+abbrev turn_if : Program → ℕ → List KeyValues → PacketFrame → Bool → Option Turn
 turn_if p n contents f runs = if runs then Some (checked_rule p n f.head f.body contents) else None
 
-runs_one : (p : Program) (n : ℕ) (form : ReportForm) (number : ℕ) (contents : List KeyValues) (v : Version) (f : Frame) (runs : Bool) → IsProgram p → StartsEnd p n
-    → FitRows p.maps contents → IsFrame v f → RunsOne p n form number contents f runs (turn_if p n contents f runs)
+runs_one : (p : Program) (n : ℕ) (form : ReportForm) (number : ℕ) (contents : List KeyValues) (v : Version) (f : PacketFrame) (runs : Bool) → IsProgram p → StartsEnd p n
+    → FitRows p.maps contents → IsPacketFrame v f → RunsOne p n form number contents f runs (turn_if p n contents f runs)
 runs_one p n form number contents v f false program h fits here = (refl, (skip_pieces-limit n form number f, refl), fits)
 runs_one p n form number contents v f true program h fits here =
     let (exit, given) = outcome_on p n contents v f h fits here in
@@ -123,19 +126,19 @@ runs_one p n form number contents v f true program h fits here =
     subst (λ (t : Turn). RunsOne p n form number contents f true (Some t)) (sym same)
     ((o, exit.found, exit.few, refl), (o, exit.found, frame_pieces-turn_by n form number f o, refl), left)
 
-abbrev RunsOn : Program → ℕ → ReportForm → ℕ → List KeyValues → List Frame → Type 0
+abbrev RunsOn : Program → ℕ → ReportForm → ℕ → List KeyValues → List PacketFrame → Type 0
 RunsOn p n form number contents frames =
     AllExit p n contents frames
     × ReportsFrames form p number contents frames (turns_pieces (with_limit n form) (checked_rule p n) number contents frames) (contents_after (checked_rule p n) contents frames)
 
-runs_on : (p : Program) (n : ℕ) (form : ReportForm) (number : ℕ) (contents : List KeyValues) (v : Version) (frames : List Frame) → IsProgram p → StartsEnd p n → FitRows p.maps contents
-    → All (IsFrame v) frames → RunsOn p n form number contents frames
+runs_on : (p : Program) (n : ℕ) (form : ReportForm) (number : ℕ) (contents : List KeyValues) (v : Version) (frames : List PacketFrame) → IsProgram p → StartsEnd p n → FitRows p.maps contents
+    → All (IsPacketFrame v) frames → RunsOn p n form number contents frames
 runs_on p n form number contents v [] program h fits each = (tt, (refl, refl))
 runs_on p n form number contents v (f ∷ frames) program h fits each =
     let t = turn_if p n contents f (f.reason == 0) in
     let next = contents_left contents t in
-    let (exits, reports, left) = runs_one p n form number contents v f (f.reason == 0) program h fits (All-head (IsFrame v) f frames each) in
-    let (all, rest) = runs_on p n form (number + 1) next v frames program h left (All-tail (IsFrame v) f frames each) in
+    let (exits, reports, left) = runs_one p n form number contents v f (f.reason == 0) program h fits (All-head (IsPacketFrame v) f frames each) in
+    let (all, rest) = runs_on p n form (number + 1) next v frames program h left (All-tail (IsPacketFrame v) f frames each) in
     ((next, exits, all), (turn_pieces (with_limit n form) number f t, turns_pieces (with_limit n form) (checked_rule p n) (number + 1) next frames, next, reports, refl, rest))
 
 -- Where every run of the program exits within n steps, the checked report with that limit is the
@@ -156,7 +159,7 @@ IsReport-checked p n found program h fits each =
       exits,
     )
 
-ReportsFrame-same : (form : ReportForm) (p : Program) (number : ℕ) (contents : List KeyValues) (f : Frame) (runs : Bool) (pieces others : List Piece) (next after : List KeyValues)
+ReportsFrame-same : (form : ReportForm) (p : Program) (number : ℕ) (contents : List KeyValues) (f : PacketFrame) (runs : Bool) (pieces others : List OutputPart) (next after : List KeyValues)
     → ReportsFrame form p number contents f runs pieces next → ReportsFrame form p number contents f runs others after → (pieces ≡ others) × (next ≡ after)
 ReportsFrame-same form p number contents f false pieces others next after h k = (h.0 ∙ sym k.0, h.1 ∙ sym k.1)
 ReportsFrame-same form p number contents f true pieces others next after h k =
@@ -165,7 +168,7 @@ ReportsFrame-same form p number contents f true pieces others next after h k =
     let one : o ≡ q = HasOutcome-same p f.head f.body contents (λ k. f.head.time) o q found also in
     (is ∙ ap (λ (x : Outcome). frame_pieces form number f (turn_by x)) one ∙ sym was, leaves ∙ ap (λ (x : Outcome). x.contents) one ∙ sym left)
 
-ReportsFrames-same : (form : ReportForm) (p : Program) (number : ℕ) (contents : List KeyValues) (frames : List Frame) (pieces others : List Piece) (last end : List KeyValues)
+ReportsFrames-same : (form : ReportForm) (p : Program) (number : ℕ) (contents : List KeyValues) (frames : List PacketFrame) (pieces others : List OutputPart) (last end : List KeyValues)
     → ReportsFrames form p number contents frames pieces last → ReportsFrames form p number contents frames others end → (pieces ≡ others) × (last ≡ end)
 ReportsFrames-same form p number contents [] pieces others last end h k = (h.0 ∙ sym k.0, h.1 ∙ sym k.1)
 ReportsFrames-same form p number contents (f ∷ frames) pieces others last end h k =
@@ -174,14 +177,14 @@ ReportsFrames-same form p number contents (f ∷ frames) pieces others last end 
     let same = ReportsFrame-same form p number contents f (f.reason == 0) front begin next after one also in
     let behind = subst (λ (c : List KeyValues). ReportsFrames form p (number + 1) c frames rest last) same.1 more in
     let (equal, ends) = ReportsFrames-same form p (number + 1) after frames rest left last end behind others_more in
-    (split ∙ ap (λ (l : List Piece). l ++ rest) same.0 ∙ ap (λ (l : List Piece). begin ++ l) equal ∙ sym cut, ends)
+    (split ∙ ap (λ (l : List OutputPart). l ++ rest) same.0 ∙ ap (λ (l : List OutputPart). begin ++ l) equal ∙ sym cut, ends)
 
 -- a program has at most one report of the same stream
-pub IsReport-same : (p : Program) (found : Stream) (pieces others : List Piece) → IsReport p found pieces → IsReport p found others → pieces ≡ others
+pub IsReport-same : (p : Program) (found : Stream) (pieces others : List OutputPart) → IsReport p found pieces → IsReport p found others → pieces ≡ others
 IsReport-same p found pieces others h k =
     let (turns, last) = ReportsFrames-same (form_of p found) p 0 (starting_contents p.maps) found.frames h.turns k.turns h.last k.last h.frames k.frames in
     let ends = ToReport (last_line (length found.frames) found.finish) ∷ [] in
     h.whole
-    ∙ ap (λ (l : List Piece). (ToFrames (stream_magic found.version) ∷ l) ++ (maps_pieces 0 p.maps h.last ++ ends)) turns
+    ∙ ap (λ (l : List OutputPart). (ToFrames (stream_magic found.version) ∷ l) ++ (maps_pieces 0 p.maps h.last ++ ends)) turns
     ∙ ap (λ (c : List KeyValues). (ToFrames (stream_magic found.version) ∷ k.turns) ++ (maps_pieces 0 p.maps c ++ ends)) last
     ∙ sym k.whole

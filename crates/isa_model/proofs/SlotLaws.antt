@@ -82,13 +82,13 @@ splice_other xs new i j n inside here (inr behind) =
 
 -- ---- the machine: `frame_index` finds the call frame, `index_at` gives 8 * j, `place_in` fits by `wide`
 
-slot_index : (n j : ℕ) → index_at (region.Frame n) (pos 0 +ℤ slot_offset j) ≡ Some (8 * j)
+slot_index : (n j : ℕ) → index_at (region.CallFrame n) (pos 0 +ℤ slot_offset j) ≡ Some (8 * j)
 slot_index n j = let at : (pos 0 +ℤ slot_offset j) +ℤ pos frame_size ≡ pos (8 * j) = omega (arith, ints) in ap index_from at
 
-cells_there : (holds : ℕ → ℕ → Type 0) (t : State) (h : HasKnownSlots holds t) → region_cells t (region.Frame h.frame.serial) ≡ Some h.frame.cells
+cells_there : (holds : ℕ → ℕ → Type 0) (t : State) (h : HasKnownSlots holds t) → region_cells t (region.CallFrame h.frame.serial) ≡ Some h.frame.cells
 cells_there holds t h = let same : (h.frame.serial == h.frame.serial) ≡ true = grind (arith, nat_tests) in rw (h.only, same) refl
 
-place_there : (holds : ℕ → ℕ → Type 0) (t : State) (h : HasKnownSlots holds t) (j : ℕ) → j < 64 → place_of t (region.Frame h.frame.serial) (Some (8 * j)) 8 ≡ Ok (8 * j)
+place_there : (holds : ℕ → ℕ → Type 0) (t : State) (h : HasKnownSlots holds t) (j : ℕ) → j < 64 → place_of t (region.CallFrame h.frame.serial) (Some (8 * j)) 8 ≡ Ok (8 * j)
 place_there holds t h j below =
     let wide = h.wide in
     let fits : nat_le (8 * j + 8) (length h.frame.cells) ≡ true = grind (arith, nat_tests, wide, below) in
@@ -96,7 +96,7 @@ place_there holds t h j below =
 
 load_value : (holds : ℕ → ℕ → Type 0) (t : State) (h : HasKnownSlots holds t) (j : ℕ) → j < 64 → load t U64 (reg t R10) (slot_offset j) ≡ value_in (slot_cells h.frame.cells j)
 load_value holds t h j below =
-    let at = region.Frame h.frame.serial in
+    let at = region.CallFrame h.frame.serial in
     ap (λ v. load t U64 v (slot_offset j)) h.pointer ∙ ap (λ o. memory_load t U64 at o) (slot_index h.frame.serial j)
     ∙ ap (λ p. and_then (and_then p (λ i. Ok (cells_at (region_cells t at) i 8))) value_in) (place_there holds t h j below)
     ∙ ap (λ c. value_in (cells_at c (8 * j) 8)) (cells_there holds t h)
@@ -116,7 +116,7 @@ stored t f j y = record t { frames = record f { cells = splice f.cells (8 * j) (
 store_there : (holds : ℕ → ℕ → Type 0) (t : State) (h : HasKnownSlots holds t) (j y : ℕ) → j < 64 → store t U64 (reg t R10) (slot_offset j) (Num y) ≡ Ok (stored t h.frame j y)
 unfolding stored
 store_there holds t h j y below =
-    let at = region.Frame h.frame.serial in
+    let at = region.CallFrame h.frame.serial in
     let new = map Byte (bytes_of U64 y) in
     let same : (h.frame.serial == h.frame.serial) ≡ true = grind (arith, nat_tests) in
     let puts : put t at (8 * j) new ≡ stored t h.frame j y = rw (h.only, same) refl in

@@ -11,8 +11,8 @@ use Rattle.std.proofs.lemmas.List.{length-replicate}
 use Rattle.std.proofs.lemmas.List.Elements.{All-nil, All-cons, All-head, All-tail, All-map, All-replicate}
 use Rattle.byteorder.specs.Endian.{little_bytes, little_number}
 use Rattle.byteorder.specs.Numbers.{little_number-reads_back, length-bytes_low_first}
-use Rattle.isa_model.specs.declared.map_defs.MapKind.{MapKind}
-use Rattle.isa_model.specs.declared.map_defs.MapKind.TheVariants.{Hash, Array}
+use Rattle.isa_model.specs.declared.map_defs.MapType.{MapType}
+use Rattle.isa_model.specs.declared.map_defs.MapType.TheVariants.{Hash, Array}
 use Rattle.isa_model.specs.declared.map_defs.MapDef.{MapDef}
 use Rattle.isa_model.specs.Code.MapRows.{KeyFits, IsRow}
 use Rattle.isa_model.specs.Machine.States.{KeyValues}
@@ -116,7 +116,7 @@ module _ (row : MapDef) (four : row.key_size ≡ 4) (few : row.entries ≤ max_m
 
 -- ---- rows
 
-FitsRow-starting_by : (kind : MapKind) (row : MapDef) → row.kind ≡ kind → KeyFits kind row.key_size
+FitsRow-starting_by : (kind : MapType) (row : MapDef) → row.kind ≡ kind → KeyFits kind row.key_size
     → row.entries ≤ max_map_entries → FitsRow row (starting_key_values kind row)
 FitsRow-starting_by Hash row e key few = record {
   entries = All-nil (IsKeyValue row);

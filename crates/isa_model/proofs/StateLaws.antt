@@ -189,7 +189,7 @@ frame_room fs n j e = (position-Some (λ f. f.serial == n) fs j (new_frame 0 0 [
 
 pub IsState-put : (p : Program) (s : State) (r : Region) (i : ℕ) (new : List Cell) → HasCells (region_cells s r) i (length new)
     → All (IsCell (length p.maps) s.next_serial) new → IsState p s → IsState p (put s r i new)
-IsState-put p s (region.Frame n) i new room fit k =
+IsState-put p s (region.CallFrame n) i new room fit k =
     let put_in = put_frame_fits p s.next_serial s.frames (frame_index s.frames n) i new (frame_room s.frames n) room fit k.frames in
     let fs : List CallFrame = put_frame s.frames (frame_index s.frames n) i new in
     let serials : flat_map value_serials s.maps ++ map serial_of fs ≡ live_serials s = ap (λ l. flat_map value_serials s.maps ++ l) put_in.2 in

@@ -26,7 +26,7 @@ use Rattle.isa_model.specs.Code.Numbers.{low, unsigned, alu, sign_extended, reor
 use Rattle.isa_model.proofs.NumberLemmas.{alu_fits, reordered_fits}
 use Rattle.isa_model.proofs.ExtensionLemmas.{sign_extended_fits}
 use Rattle.isa_model.specs.Code.Spelling.{InsnFits, OperandFits}
-use Rattle.isa_model.specs.Code.Instructions.{Program, fetch, slots_of, reads, writes, is_frame_pointer}
+use Rattle.isa_model.specs.Code.Instructions.{Program, fetch, slots_filled, reads, writes, is_frame_pointer}
 use Rattle.isa_model.specs.Code.Helpers.{helper_numbered}
 use Rattle.isa_model.specs.Code.MapRows.{IsRow, NamesRows}
 use Rattle.isa_model.specs.Machine.States.{KeyValues, key_values_of, State, reg, set_reg, new_frame}
@@ -62,14 +62,14 @@ with_number P Unset go h = tt
 
 -- ---- results
 
-sets_keeps : (p : Program) (s : State) (i : Insn) (d : Reg) (r : Result Value TrapReason) → IsSlot p (s.slot + slots_of i)
+sets_keeps : (p : Program) (s : State) (i : Insn) (d : Reg) (r : Result Value TrapReason) → IsSlot p (s.slot + slots_filled i)
     → IfOk r (IsValue (length p.maps) s.next_serial) → IsState p s → IfNext (sets s i d r) (IsState p)
-sets_keeps p s i d (Ok v) slot h k = IsState-go_to p (set_reg s d v) (s.slot + slots_of i) slot (IsState-set_reg p s d v h k)
+sets_keeps p s i d (Ok v) slot h k = IsState-go_to p (set_reg s d v) (s.slot + slots_filled i) slot (IsState-set_reg p s d v h k)
 sets_keeps p s i d (Err e) slot h k = tt
 
-goes_on_keeps : (p : Program) (s : State) (i : Insn) (r : Result State TrapReason) → IsSlot p (s.slot + slots_of i) → IfOk r (IsState p)
+goes_on_keeps : (p : Program) (s : State) (i : Insn) (r : Result State TrapReason) → IsSlot p (s.slot + slots_filled i) → IfOk r (IsState p)
     → IfNext (goes_on s i r) (IsState p)
-goes_on_keeps p s i (Ok t) slot h = IsState-go_to p t (s.slot + slots_of i) slot h
+goes_on_keeps p s i (Ok t) slot h = IsState-go_to p t (s.slot + slots_filled i) slot h
 goes_on_keeps p s i (Err e) slot h = tt
 
 -- ---- jumps, calls and exits
@@ -127,7 +127,7 @@ wider : (by : ℤ) → FitsSigned w16 by → FitsSigned w32 by
 wider by h = omega (arith, ints)
 
 -- what a form does, once its registers are set, leaves a state
-pub act_keeps : (p : Program) (clock : ℕ → ℕ) (s : State) (i : Insn) → InsnFits i → s.slot + slots_of i ≤ length p.insns
+pub act_keeps : (p : Program) (clock : ℕ → ℕ) (s : State) (i : Insn) → InsnFits i → s.slot + slots_filled i ≤ length p.insns
     → All IsRow p.maps → NamesRows p.maps i → IsClock clock → IsState p s → IfNext (act p clock s i) (IsState p)
 unfolding act
 act_keeps p clock s (Alu w op d x) fits inside rows named answers k =

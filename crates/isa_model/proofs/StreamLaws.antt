@@ -12,31 +12,31 @@ use Rattle.isa_model.specs.declared.versions.Version.{Version}
 use Rattle.isa_model.specs.declared.versions.Version.TheVariants.{One, Two}
 use Rattle.isa_model.specs.Code.Versions.{stream_magic, head_size}
 use Rattle.isa_model.specs.Code.Limits.{max_body}
-use Rattle.isa_model.specs.Reporting.Streams.{Frame, IsFrame, max_frames, head_bytes, frame_bytes, records_bytes, length_field, reason_field, InputEnding, ByEnd, ByError, Input, opened, stop_at, frame_of, record_size, frames_from, stream_with, stream_opened, stream_of, AreOpen}
+use Rattle.isa_model.specs.Reporting.Streams.{PacketFrame, IsPacketFrame, max_frames, head_bytes, frame_bytes, records_bytes, length_field, reason_field, InputEnding, ByEnd, ByError, Input, opened, stop_at, packet_frame_of, record_size, frames_from, stream_with, stream_opened, stream_of, AreOpen}
 
 -- the length in a record's head is that of its body
-pub length_field-frame_bytes : (v : Version) (f : Frame) (rest : List ℕ) → length f.body ≤ max_body v
+pub length_field-frame_bytes : (v : Version) (f : PacketFrame) (rest : List ℕ) → length f.body ≤ max_body v
     → length_field (frame_bytes v f ++ rest) ≡ length f.body
 unfolding head_bytes
 length_field-frame_bytes One f rest short = little_number-reads_back 4 (length f.body) (f.body ++ rest) (omega arith)
 length_field-frame_bytes Two f rest short = little_number-reads_back 4 (length f.body) [] (omega arith)
 
 -- so is its reason
-pub reason_field-frame_bytes : (v : Version) (f : Frame) (rest : List ℕ) → IsFrame v f → reason_field v (frame_bytes v f ++ rest) ≡ f.reason
+pub reason_field-frame_bytes : (v : Version) (f : PacketFrame) (rest : List ℕ) → IsPacketFrame v f → reason_field v (frame_bytes v f ++ rest) ≡ f.reason
 unfolding head_bytes
 reason_field-frame_bytes One f rest ok = sym ok.reason
 reason_field-frame_bytes Two f rest ok = little_number-reads_back 4 f.reason [] ok.reason
 
 -- what follows a record's head
-pub drop-head_bytes : (v : Version) (f : Frame) (rest : List ℕ) → drop (head_size v) (frame_bytes v f ++ rest) ≡ f.body ++ rest
+pub drop-head_bytes : (v : Version) (f : PacketFrame) (rest : List ℕ) → drop (head_size v) (frame_bytes v f ++ rest) ≡ f.body ++ rest
 unfolding head_bytes
 drop-head_bytes One f rest = refl
 drop-head_bytes Two f rest = refl
 
 -- the record at the front of its own bytes
-pub frame_of-frame_bytes : (v : Version) (f : Frame) (rest : List ℕ) → IsFrame v f → frame_of v (frame_bytes v f ++ rest) ≡ f
+pub packet_frame_of-frame_bytes : (v : Version) (f : PacketFrame) (rest : List ℕ) → IsPacketFrame v f → packet_frame_of v (frame_bytes v f ++ rest) ≡ f
 unfolding head_bytes
-frame_of-frame_bytes v f rest ok =
+packet_frame_of-frame_bytes v f rest ok =
     let time = little_number-reads_back 8 f.head.time [] ok.time in
     let interface = little_number-reads_back 4 f.head.interface [] ok.interface in
     let queue = little_number-reads_back 4 f.head.queue [] ok.queue in
@@ -46,13 +46,13 @@ frame_of-frame_bytes v f rest ok =
     rw (time, interface, queue, body, reason) refl
 
 -- what follows a record
-pub drop-frame_bytes : (v : Version) (f : Frame) (rest : List ℕ) → drop (record_size v f) (frame_bytes v f ++ rest) ≡ rest
+pub drop-frame_bytes : (v : Version) (f : PacketFrame) (rest : List ℕ) → drop (record_size v f) (frame_bytes v f ++ rest) ≡ rest
 drop-frame_bytes v f rest =
     sym (drop-drop (length f.body) (head_size v) (frame_bytes v f ++ rest))
     ∙ ap (λ (l : List ℕ). drop (length f.body) l) (drop-head_bytes v f rest) ∙ drop_at f.body rest (length f.body) refl
 
 -- a record has a head and its body
-pub length-frame_bytes : (v : Version) (f : Frame) (rest : List ℕ) → length (frame_bytes v f ++ rest) ≡ record_size v f + length rest
+pub length-frame_bytes : (v : Version) (f : PacketFrame) (rest : List ℕ) → length (frame_bytes v f ++ rest) ≡ record_size v f + length rest
 unfolding head_bytes
 length-frame_bytes One f rest = let e = length-append f.body rest in let h : 20 + length (f.body ++ rest) ≡ 20 + (length f.body + length rest) = ap (λ n. 20 + n) e in omega (arith, h)
 length-frame_bytes Two f rest = let e = length-append f.body rest in let h : 24 + length (f.body ++ rest) ≡ 24 + (length f.body + length rest) = ap (λ n. 24 + n) e in omega (arith, h)
@@ -63,7 +63,7 @@ some_head One = omega arith
 some_head Two = omega arith
 
 -- a record has as many bytes as its size says
-pub size-frame_bytes : (v : Version) (f : Frame) → length (frame_bytes v f) ≡ record_size v f
+pub size-frame_bytes : (v : Version) (f : PacketFrame) → length (frame_bytes v f) ≡ record_size v f
 unfolding head_bytes
 size-frame_bytes One f = omega arith
 size-frame_bytes Two f = omega arith
@@ -76,7 +76,7 @@ stop_at-none v number offset [] e n p q r = let some = some_head v in absurd (om
 stop_at-none v number offset (b ∷ bytes) e n p q r = grind (arith, nat_tests)
 
 -- the stream does not stop where a record is there
-pub stop_at-frame_bytes : (v : Version) (number offset : ℕ) (f : Frame) (rest : List ℕ) (e : InputEnding) → number < max_frames → IsFrame v f
+pub stop_at-frame_bytes : (v : Version) (number offset : ℕ) (f : PacketFrame) (rest : List ℕ) (e : InputEnding) → number < max_frames → IsPacketFrame v f
     → stop_at v number offset (frame_bytes v f ++ rest) e ≡ None
 stop_at-frame_bytes v number offset f rest e early ok =
     let field = length_field-frame_bytes v f rest ok.short in
@@ -91,18 +91,18 @@ unfolding frames_from
 frames_from-stops fuel v number offset bytes e stop h = rw (h, frames_from) refl
 
 -- the records after the one at the front
-abbrev pub frames_behind : ℕ → Version → ℕ → ℕ → List ℕ → InputEnding → List Frame × Finish
+abbrev pub frames_behind : ℕ → Version → ℕ → ℕ → List ℕ → InputEnding → List PacketFrame × Finish
 frames_behind fuel v number offset bytes e =
-    let size = record_size v (frame_of v bytes) in
+    let size = record_size v (packet_frame_of v bytes) in
     frames_from fuel v (number + 1) (offset + size) (drop size bytes) e
 
-abbrev with_frame : Frame → List Frame × Finish → List Frame × Finish
+abbrev with_frame : PacketFrame → List PacketFrame × Finish → List PacketFrame × Finish
 with_frame f t = (f ∷ t.0, t.1)
 
 -- a stream that goes on has the record at its front, and then those after it
 pub frames_from-goes_on : (fuel : ℕ) (v : Version) (number offset : ℕ) (bytes : List ℕ) (e : InputEnding) → stop_at v number offset bytes e ≡ None
     → frames_from (suc fuel) v number offset bytes e
-    ≡ (frame_of v bytes ∷ (frames_behind fuel v number offset bytes e).0, (frames_behind fuel v number offset bytes e).1)
+    ≡ (packet_frame_of v bytes ∷ (frames_behind fuel v number offset bytes e).0, (frames_behind fuel v number offset bytes e).1)
 unfolding frames_from
 frames_from-goes_on fuel v number offset bytes e h = rw (h, frames_from) refl
 
@@ -120,7 +120,7 @@ frames_from-fuel (suc fuel) zero v number offset bytes e a b = absurd (omega ari
 frames_from-fuel (suc fuel) (suc more) v number offset [] e a b = frames_from-nil fuel more v number offset e
 frames_from-fuel (suc fuel) (suc more) v number offset (x ∷ xs) e a b =
     let bytes = x ∷ xs in
-    let size = record_size v (frame_of v bytes) in
+    let size = record_size v (packet_frame_of v bytes) in
     let some = some_head v in
     let less : length (drop size bytes) < suc (length xs) = omega (arith, length-drop size bytes) in
     let same : frames_behind fuel v number offset bytes e ≡ frames_behind more v number offset bytes e =
@@ -130,12 +130,12 @@ frames_from-fuel (suc fuel) (suc more) v number offset (x ∷ xs) e a b =
     go : (o : Option Finish) → stop_at v number offset (x ∷ xs) e ≡ o → frames_behind fuel v number offset (x ∷ xs) e ≡ frames_behind more v number offset (x ∷ xs) e
         → frames_from (suc fuel) v number offset (x ∷ xs) e ≡ frames_from (suc more) v number offset (x ∷ xs) e
     go None h same =
-        frames_from-goes_on fuel v number offset (x ∷ xs) e h ∙ ap (with_frame (frame_of v (x ∷ xs))) same
+        frames_from-goes_on fuel v number offset (x ∷ xs) e h ∙ ap (with_frame (packet_frame_of v (x ∷ xs))) same
         ∙ sym (frames_from-goes_on more v number offset (x ∷ xs) e h)
     go (Some stop) h same = frames_from-stops fuel v number offset (x ∷ xs) e stop h ∙ sym (frames_from-stops more v number offset (x ∷ xs) e stop h)
 
 -- A stream that begins with a record has that record, and then the records after it.
-pub frames_from-frame_bytes : (fuel more : ℕ) (v : Version) (number offset : ℕ) (f : Frame) (rest : List ℕ) (e : InputEnding) → number < max_frames → IsFrame v f
+pub frames_from-frame_bytes : (fuel more : ℕ) (v : Version) (number offset : ℕ) (f : PacketFrame) (rest : List ℕ) (e : InputEnding) → number < max_frames → IsPacketFrame v f
     → length (frame_bytes v f ++ rest) < fuel → length rest < more
     → frames_from fuel v number offset (frame_bytes v f ++ rest) e
     ≡ with_frame f (frames_from more v (number + 1) (offset + record_size v f) rest e)
@@ -144,30 +144,30 @@ frames_from-frame_bytes (suc fuel) more v number offset f rest e early ok a b =
     let bytes = frame_bytes v f ++ rest in
     let size = length-frame_bytes v f rest in
     let some = some_head v in
-    let here : frame_of v bytes ≡ f = frame_of-frame_bytes v f rest ok in
+    let here : packet_frame_of v bytes ≡ f = packet_frame_of-frame_bytes v f rest ok in
     let left : drop (record_size v f) bytes ≡ rest = drop-frame_bytes v f rest in
     frames_from-goes_on fuel v number offset bytes e (stop_at-frame_bytes v number offset f rest e early ok)
-    ∙ ap (λ (g : Frame). with_frame g (frames_from fuel v (number + 1) (offset + record_size v g) (drop (record_size v g) bytes) e)) here
+    ∙ ap (λ (g : PacketFrame). with_frame g (frames_from fuel v (number + 1) (offset + record_size v g) (drop (record_size v g) bytes) e)) here
     ∙ ap (λ (l : List ℕ). with_frame f (frames_from fuel v (number + 1) (offset + record_size v f) l e)) left
     ∙ ap (with_frame f) (frames_from-fuel fuel more v (number + 1) (offset + record_size v f) rest e (omega arith) b)
 
 -- none was read yet
 pub AreOpen-nil : (v : Version) → AreOpen v []
-AreOpen-nil v = record { few = omega arith; fit = All-nil (IsFrame v) }
+AreOpen-nil v = record { few = omega arith; fit = All-nil (IsPacketFrame v) }
 
 -- one more packet frame is allowed there, while there are not too many
-pub AreOpen-push : (v : Version) (frames : List Frame) (f : Frame) → AreOpen v frames → length frames < max_frames → IsFrame v f → AreOpen v (frames ++ f ∷ [])
+pub AreOpen-push : (v : Version) (frames : List PacketFrame) (f : PacketFrame) → AreOpen v frames → length frames < max_frames → IsPacketFrame v f → AreOpen v (frames ++ f ∷ [])
 AreOpen-push v frames f h more ok = record {
   few = omega (arith, length-append frames (f ∷ []));
-  fit = All-push (IsFrame v) frames f h.fit ok;
+  fit = All-push (IsPacketFrame v) frames f h.fit ok;
 }
 
-abbrev with_frames : List Frame → List Frame × Finish → List Frame × Finish
+abbrev with_frames : List PacketFrame → List PacketFrame × Finish → List PacketFrame × Finish
 with_frames fs t = (fs ++ t.0, t.1)
 
 -- A stream that begins with records in a row has these records, and then those after them.
-pub frames_from-records : (fs : List Frame) (fuel more : ℕ) (v : Version) (number offset : ℕ) (rest : List ℕ) (e : InputEnding)
-    → number + length fs ≤ max_frames → All (IsFrame v) fs → length (records_bytes v fs ++ rest) < fuel → length rest < more
+pub frames_from-records : (fs : List PacketFrame) (fuel more : ℕ) (v : Version) (number offset : ℕ) (rest : List ℕ) (e : InputEnding)
+    → number + length fs ≤ max_frames → All (IsPacketFrame v) fs → length (records_bytes v fs ++ rest) < fuel → length rest < more
     → frames_from fuel v number offset (records_bytes v fs ++ rest) e
     ≡ with_frames fs (frames_from more v (number + length fs) (offset + length (records_bytes v fs)) rest e)
 frames_from-records [] fuel more v number offset rest e few ok a b =
@@ -181,9 +181,9 @@ frames_from-records (f ∷ fs) fuel more v number offset rest e few ok a b =
     let numbers : (number + 1) + length fs ≡ number + length (f ∷ fs) = omega arith in
     let offsets : (offset + record_size v f) + length (records_bytes v fs) ≡ offset + length (records_bytes v (f ∷ fs)) = omega arith in
     ap (λ l. frames_from fuel v number offset l e) apart
-    ∙ frames_from-frame_bytes fuel (suc (length behind)) v number offset f behind e (omega arith) (All-head (IsFrame v) f fs ok) long (omega arith)
+    ∙ frames_from-frame_bytes fuel (suc (length behind)) v number offset f behind e (omega arith) (All-head (IsPacketFrame v) f fs ok) long (omega arith)
     ∙ ap (with_frame f)
-    (frames_from-records fs (suc (length behind)) more v (number + 1) (offset + record_size v f) rest e (omega arith) (All-tail (IsFrame v) f fs ok) (omega arith) b)
+    (frames_from-records fs (suc (length behind)) more v (number + 1) (offset + record_size v f) rest e (omega arith) (All-tail (IsPacketFrame v) f fs ok) (omega arith) b)
     ∙ ap (λ n. with_frames (f ∷ fs) (frames_from more v n ((offset + record_size v f) + length (records_bytes v fs)) rest e)) numbers
     ∙ ap (λ n. with_frames (f ∷ fs) (frames_from more v (number + length (f ∷ fs)) n rest e)) offsets
 
@@ -208,12 +208,12 @@ stream_of-magic v rest e =
     ∙ ap (λ (l : List ℕ). stream_with v (frames_from (suc (length (stream_magic v ++ rest))) v 0 4 l e)) (drop-magic v rest)
 
 -- the position in a stream after these records
-abbrev pub offset_after : Version → List Frame → ℕ
+abbrev pub offset_after : Version → List PacketFrame → ℕ
 offset_after v frames = 4 + length (records_bytes v frames)
 
 -- The stream of an input that begins with records in a row has these records, and then those after
 -- them.
-pub stream_of-records : (v : Version) (fs : List Frame) (rest : List ℕ) (e : InputEnding)
+pub stream_of-records : (v : Version) (fs : List PacketFrame) (rest : List ℕ) (e : InputEnding)
     → AreOpen v fs
     → stream_of (record { bytes = stream_magic v ++ (records_bytes v fs ++ rest); ending = e })
     ≡ stream_with v (with_frames fs (frames_from (suc (length rest)) v (length fs) (offset_after v fs) rest e))
@@ -228,22 +228,22 @@ stream_of-records v fs rest e ok =
     ∙ ap (λ n. stream_with v (with_frames fs (frames_from (suc (length rest)) v n (offset_after v fs) rest e))) number
 
 -- The stream of an input that begins with records in a row has these records, and then more.
-pub stream_of-begins : (v : Version) (fs : List Frame) (rest : List ℕ) (e : InputEnding)
+pub stream_of-begins : (v : Version) (fs : List PacketFrame) (rest : List ℕ) (e : InputEnding)
     → AreOpen v fs
-    → (more : List Frame) × (stop : Finish)
+    → (more : List PacketFrame) × (stop : Finish)
     × (stream_of (record { bytes = stream_magic v ++ (records_bytes v fs ++ rest); ending = e }) ≡ stream_with v (fs ++ more, stop))
 stream_of-begins v fs rest e ok =
     let t = frames_from (suc (length rest)) v (length fs) (offset_after v fs) rest e in
     (t.0, t.1, stream_of-records v fs rest e ok)
 
 -- The stream of an input that stops after records in a row is these records and that stop.
-pub stream_of-stops : (v : Version) (fs : List Frame) (rest : List ℕ) (e : InputEnding) (stop : Finish) → AreOpen v fs
+pub stream_of-stops : (v : Version) (fs : List PacketFrame) (rest : List ℕ) (e : InputEnding) (stop : Finish) → AreOpen v fs
     → stop_at v (length fs) (offset_after v fs) rest e ≡ Some stop
     → stream_of (record { bytes = stream_magic v ++ (records_bytes v fs ++ rest); ending = e }) ≡ stream_with v (fs, stop)
 stream_of-stops v fs rest e stop ok h =
     stream_of-records v fs rest e ok
-    ∙ ap (λ (t : List Frame × Finish). stream_with v (with_frames fs t)) (frames_from-stops (length rest) v (length fs) (offset_after v fs) rest e stop h)
-    ∙ ap (λ (l : List Frame). stream_with v (l, stop)) (append-nil fs)
+    ∙ ap (λ (t : List PacketFrame × Finish). stream_with v (with_frames fs t)) (frames_from-stops (length rest) v (length fs) (offset_after v fs) rest e stop h)
+    ∙ ap (λ (l : List PacketFrame). stream_with v (l, stop)) (append-nil fs)
 
 -- the stream of an input whose magic cannot be read has no frames
 pub stream_of-unopened : (input : Input) (fault : Fault) → opened input.bytes input.ending ≡ Err fault

@@ -57,7 +57,7 @@ IsRegion-more rows next more region.Context le h = tt
 IsRegion-more rows next more region.Packet le h = tt
 IsRegion-more rows next more region.PacketEnd le h = tt
 IsRegion-more rows next more (region.Map m) le h = h
-IsRegion-more rows next more (region.Frame n) le h = omega arith
+IsRegion-more rows next more (region.CallFrame n) le h = omega arith
 IsRegion-more rows next more (region.MapValue m n) le h = (h.0, omega arith)
 
 pub IsValue-more : (rows next more : ℕ) (v : Value) → next ≤ more → IsValue rows next v → IsValue rows more v

@@ -4,11 +4,11 @@
 
 ghost use Rattle.std.specs.Prelude.{◌≡◌, ◌++◌};
 ghost use Rattle.std.specs.Option.{option_to_list};
-ghost use Rattle.isa_model.specs.Code.Instructions.{slots_of, operand_reads, reads, writes, is_frame_pointer};
+ghost use Rattle.isa_model.specs.Code.Instructions.{slots_filled, operand_reads, reads, writes, is_frame_pointer};
 
 use crate::helpers::Helper;
 use crate::registers::Reg;
-use crate::sizes::{ByteOrder, Extension, Narrow, Size, Span, Width};
+use crate::sizes::{ByteOrder, Extension, SignedSize, Size, SwapWidth, Width};
 
 /// The operations of arithmetic on two numbers.
 #[derive(Clone, Copy, PartialEq, Eq, Debug)]
@@ -100,7 +100,7 @@ pub enum Insn {
     /// MOVSX: destination = the low bits of source, sign-extended.
     MovSx(Extension, Reg, Reg),
     /// END: destination = its low bytes in that order, zero-extended.
-    ByteSwap(ByteOrder, Span, Reg),
+    ByteSwap(ByteOrder, SwapWidth, Reg),
     /// A wide load: destination = a 64-bit number. It fills two slots.
     LoadNumber(Reg, u64),
     /// A wide load: destination = the map of an index. It fills two slots.
@@ -111,7 +111,7 @@ pub enum Insn {
     /// LDX MEM: destination = the bytes, zero-extended.
     Load(Size, Reg, Place),
     /// LDX MEMSX: destination = the bytes, sign-extended.
-    LoadSx(Narrow, Reg, Place),
+    LoadSx(SignedSize, Reg, Place),
     /// ST MEM: the bytes = a constant, sign-extended.
     StoreConstant(Size, Place, i32),
     /// STX MEM: the bytes = a register.
@@ -139,7 +139,7 @@ pub enum Insn {
 impl Insn {
     /// How many 8-byte slots it fills: 2 for a wide load, else 1.
     pub fn slots(&self) -> usize
-        ensures { result ≡ slots_of self.now }
+        ensures { result ≡ slots_filled self.now }
     {
         match self {
             Insn::LoadNumber(_, _) | Insn::LoadMap(_, _) | Insn::LoadMapValue(_, _, _) => 2,

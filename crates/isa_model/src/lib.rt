@@ -31,9 +31,9 @@ pub use limits::{
     FRAME_SIZE, MAX_CALL_FRAMES, MAX_EXPLORED, MAX_KEY_SIZE, MAX_MAP_ENTRIES, MAX_MAP_ROOM,
     MAX_MAPS, MAX_PACKET, MAX_SHORT_PACKET, MAX_SLOTS, MAX_STEPS, MAX_VALUE_SIZE, OFFSET_LIMIT,
 };
-pub use map_defs::{MapDef, MapKind};
+pub use map_defs::{MapDef, MapType};
 pub use registers::Reg;
-pub use sizes::{ByteOrder, Extension, Narrow, Size, Span, Width};
+pub use sizes::{ByteOrder, Extension, SignedSize, Size, SwapWidth, Width};
 pub use slots::Slot;
 pub use streams::{Fault, Finish};
 pub use values::{CallFrame, Cell, Region, Value};

@@ -2,7 +2,7 @@
 
 /// The types of map.
 #[derive(Clone, Copy, PartialEq, Eq, Debug)]
-pub enum MapKind {
+pub enum MapType {
     Hash,
     Array,
 }
@@ -10,7 +10,7 @@ pub enum MapKind {
 /// A map row: the type, the sizes in bytes of a key and of a value, and the most keys.
 #[derive(Clone, Copy, PartialEq, Eq, Debug)]
 pub struct MapDef {
-    pub kind: MapKind,
+    pub kind: MapType,
     pub key_size: u16,
     pub value_size: u32,
     pub entries: u32,

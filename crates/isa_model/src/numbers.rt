@@ -6,7 +6,7 @@ ghost use Rattle.std.specs.Prelude.{◌≡◌, ◌%◌, ◌^◌};
 ghost use Rattle.isa_model.specs.Code.Numbers.{low, signed, unsigned, alu, result_of, negated, sign_extended, reordered, holds};
 
 use crate::instructions::{AluOp, Comparison};
-use crate::sizes::{ByteOrder, Extension, Span, Width};
+use crate::sizes::{ByteOrder, Extension, SwapWidth, Width};
 
 /// The low 32 bits.
 pub fn low_word(a: u64) -> u32
@@ -122,16 +122,16 @@ fn low_half(a: u64) -> u16
 
 /// The low bytes in their order or reversed, zero-extended.
 #[tactic(auto, unfolding(crate::specs::Code::Numbers::reordered))]
-pub fn reorder(order: ByteOrder, span: Span, a: u64) -> u64
+pub fn reorder(order: ByteOrder, span: SwapWidth, a: u64) -> u64
     ensures { result ≡ reordered order span a }
 {
     match (order, span) {
-        (ByteOrder::Little, Span::B16) => u64::from(low_half(a)),
-        (ByteOrder::Little, Span::B32) => u64::from(low_word(a)),
-        (ByteOrder::Little, Span::B64) => a,
-        (_, Span::B16) => u64::from(low_half(a).swap_bytes()),
-        (_, Span::B32) => u64::from(low_word(a).swap_bytes()),
-        (_, Span::B64) => a.swap_bytes(),
+        (ByteOrder::Little, SwapWidth::B16) => u64::from(low_half(a)),
+        (ByteOrder::Little, SwapWidth::B32) => u64::from(low_word(a)),
+        (ByteOrder::Little, SwapWidth::B64) => a,
+        (_, SwapWidth::B16) => u64::from(low_half(a).swap_bytes()),
+        (_, SwapWidth::B32) => u64::from(low_word(a).swap_bytes()),
+        (_, SwapWidth::B64) => a.swap_bytes(),
     }
 }
 

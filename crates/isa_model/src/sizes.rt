@@ -56,7 +56,7 @@ impl Size {
 
 /// The sizes that a sign-extending load (MEMSX) has.
 #[derive(Clone, Copy, PartialEq, Eq, Debug)]
-pub enum Narrow {
+pub enum SignedSize {
     S8,
     S16,
     S32,
@@ -74,7 +74,7 @@ pub enum Extension {
 
 /// How many of the low bits a byte swap instruction (END) takes.
 #[derive(Clone, Copy, PartialEq, Eq, Debug)]
-pub enum Span {
+pub enum SwapWidth {
     B16,
     B32,
     B64,

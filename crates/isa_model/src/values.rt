@@ -15,7 +15,7 @@ pub enum Region {
     /// A map itself, by index.
     Map(u32),
     /// A call frame, by serial.
-    Frame(u64),
+    CallFrame(u64),
     /// A value of a map, by the map's index and the value's serial.
     MapValue(u32, u64),
 }

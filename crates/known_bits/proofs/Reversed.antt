@@ -6,8 +6,8 @@ use Rattle.std.proofs.lemmas.Nat.Bits.{bit_at_cat_low, bit_at_cat_high}
 use Rattle.std.proofs.lemmas.Bool.{cases_lt}
 use Rattle.isa_model.specs.declared.sizes.ByteOrder.{ByteOrder}
 use Rattle.isa_model.specs.declared.sizes.ByteOrder.TheVariants.{Little, Big, Swap}
-use Rattle.isa_model.specs.declared.sizes.Span.{Span}
-use Rattle.isa_model.specs.declared.sizes.Span.TheVariants.{B16, B32, B64}
+use Rattle.isa_model.specs.declared.sizes.SwapWidth.{SwapWidth}
+use Rattle.isa_model.specs.declared.sizes.SwapWidth.TheVariants.{B16, B32, B64}
 use Rattle.isa_model.specs.Code.Sizes.{span_bits}
 use Rattle.isa_model.specs.Code.Numbers.{reordered}
 use Rattle.isa_model.proofs.NumberLemmas.{reordered_below, span_fits}
@@ -67,46 +67,46 @@ swapped_64 n =
     eight_bytes (n % 256) (n / 1 % 256) (n / 256 % 256) (n / 256 ^ 2 % 256) (n / 256 ^ 3 % 256)
     (n / 256 ^ 4 % 256) (n / 256 ^ 5 % 256) (n / 256 ^ 6 % 256) (n / 256 ^ 7 % 256) (lowest_byte n)
 
-abbrev bytes_in : Span → ℕ
+abbrev bytes_in : SwapWidth → ℕ
 bytes_in B16 = 2
 bytes_in B32 = 4
 bytes_in B64 = 8
 
 -- the bit of a number that becomes bit i
-abbrev pub bit_from : ByteOrder → Span → ℕ → ℕ
+abbrev pub bit_from : ByteOrder → SwapWidth → ℕ → ℕ
 bit_from Little span i = i
 bit_from Big span i = turned (bytes_in span) i
 bit_from Swap span i = turned (bytes_in span) i
 
-swapped_bit : (span : Span) (x i : ℕ) → i < span_bits span → bit_at (reordered Swap span x) i ≡ bit_at x (turned (bytes_in span) i)
+swapped_bit : (span : SwapWidth) (x i : ℕ) → i < span_bits span → bit_at (reordered Swap span x) i ≡ bit_at x (turned (bytes_in span) i)
 unfolding reordered
 swapped_bit B16 x i i_in = ap (λ n. bit_at n i) (swapped_16 (x % 2 ^ 16)) ∙ reversed_bit 2 (x % 2 ^ 16) i i_in ∙ low_bit x 16 (turned 2 i) (omega arith)
 swapped_bit B32 x i i_in = ap (λ n. bit_at n i) (swapped_32 (x % 2 ^ 32)) ∙ reversed_bit 4 (x % 2 ^ 32) i i_in ∙ low_bit x 32 (turned 4 i) (omega arith)
 swapped_bit B64 x i i_in = ap (λ n. bit_at n i) (swapped_64 (x % 2 ^ 64)) ∙ reversed_bit 8 (x % 2 ^ 64) i i_in ∙ low_bit x 64 (turned 8 i) (omega arith)
 
-reordered_bit : (order : ByteOrder) (span : Span) (x i : ℕ) → i < span_bits span
+reordered_bit : (order : ByteOrder) (span : SwapWidth) (x i : ℕ) → i < span_bits span
     → bit_at (reordered order span x) i ≡ bit_at x (bit_from order span i)
 unfolding reordered
 reordered_bit Little span x i i_in = low_bit x (span_bits span) i i_in
 reordered_bit Big span x i i_in = swapped_bit span x i i_in
 reordered_bit Swap span x i i_in = swapped_bit span x i i_in
 
-turned_in : (span : Span) (i : ℕ) → i < span_bits span → turned (bytes_in span) i < 64
+turned_in : (span : SwapWidth) (i : ℕ) → i < span_bits span → turned (bytes_in span) i < 64
 turned_in B16 i i_in = omega arith
 turned_in B32 i i_in = omega arith
 turned_in B64 i i_in = omega arith
 
-span_in : (span : Span) (i : ℕ) → i < span_bits span → i < 64
+span_in : (span : SwapWidth) (i : ℕ) → i < span_bits span → i < 64
 span_in B16 i i_in = omega arith
 span_in B32 i i_in = omega arith
 span_in B64 i i_in = omega arith
 
-bit_from_in : (order : ByteOrder) (span : Span) (i : ℕ) → i < span_bits span → bit_from order span i < 64
+bit_from_in : (order : ByteOrder) (span : SwapWidth) (i : ℕ) → i < span_bits span → bit_from order span i < 64
 bit_from_in Little span i i_in = span_in span i i_in
 bit_from_in Big span i i_in = turned_in span i i_in
 bit_from_in Swap span i i_in = turned_in span i i_in
 
-pub reorder_copies : (order : ByteOrder) (span : Span) → Copies (span_bits span) (bit_from order span) (reordered order span)
+pub reorder_copies : (order : ByteOrder) (span : SwapWidth) → Copies (span_bits span) (bit_from order span) (reordered order span)
 reorder_copies order span = record {
   fits = span_fits span;
   below = reordered_below order span;
@@ -114,7 +114,7 @@ reorder_copies order span = record {
   bit = reordered_bit order span;
 }
 
-pub reordered_zero : (order : ByteOrder) (span : Span) → reordered order span 0 ≡ 0
+pub reordered_zero : (order : ByteOrder) (span : SwapWidth) → reordered order span 0 ≡ 0
 unfolding reordered
 reordered_zero Little B16 = refl
 reordered_zero Little B32 = refl

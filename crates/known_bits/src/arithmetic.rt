@@ -5,7 +5,7 @@ ghost use Rattle.isa_model.specs.Code.Sizes.{width_bits, span_bits, extension_wi
 ghost use Rattle.isa_model.specs.Code.Numbers.{negated, sign_extended, reordered};
 
 use crate::bits::Bits;
-use isa_model::{AluOp, ByteOrder, Extension, Span, Width, numbers};
+use isa_model::{AluOp, ByteOrder, Extension, SwapWidth, Width, numbers};
 
 impl Bits {
     ghost use Rattle.isa_model.specs.Code.Numbers.{alu};
@@ -68,7 +68,7 @@ impl Bits {
     }
 
     /// The low bytes of the numbers, in an order.
-    pub fn reorder(order: ByteOrder, span: Span, a: Self) -> Self
+    pub fn reorder(order: ByteOrder, span: SwapWidth, a: Self) -> Self
         ensures contains { (x : ℕ) → Has a x → Has result (reordered order span x) }
         ensures sharp { IsSharp a a (λ x y. reordered order span x) result.mask }
         ensures exact { (u : ℕ) → IsConstant a u → IsConstant result (reordered order span u) }

@@ -26,7 +26,7 @@ impl Bits {
     pub fn least(self) -> u64
         ensures value { result ≡ self.value }
         ensures member { Has self result }
-        ensures bound { (x : ℕ) → Has self x → result ≤ x }
+        ensures limit { (x : ℕ) → Has self x → result ≤ x }
     {
         self.value
     }
@@ -35,7 +35,7 @@ impl Bits {
     pub fn greatest(self) -> u64
         ensures value { result ≡ bit_or self.value self.mask }
         ensures member { Has self result }
-        ensures bound { (x : ℕ) → Has self x → x ≤ result }
+        ensures limit { (x : ℕ) → Has self x → x ≤ result }
     {
         self.least() | self.mask
     }
@@ -43,7 +43,7 @@ impl Bits {
     /// The greatest of the low halves of the numbers.
     pub fn low_greatest(self) -> u32
         ensures value { result ≡ greatest_of self % 2 ^ 32 }
-        ensures bound { (x : ℕ) → Has self x → x % 2 ^ 32 ≤ result }
+        ensures limit { (x : ℕ) → Has self x → x % 2 ^ 32 ≤ result }
     {
         numbers::low_word(self.greatest())
     }
@@ -51,7 +51,7 @@ impl Bits {
     /// The least of the numbers, read as signed ones: an unknown sign bit is set.
     pub fn signed_least(self) -> i64
         ensures member { Has self (cast_unsigned w64 result) }
-        ensures bound { (x : ℕ) → Has self x → result ≤ℤ cast_signed w64 x }
+        ensures limit { (x : ℕ) → Has self x → result ≤ℤ cast_signed w64 x }
     {
         if self.mask >= SIGN {
             (self.least() + SIGN).cast_signed()
@@ -63,7 +63,7 @@ impl Bits {
     /// The greatest of the numbers, read as signed ones: an unknown sign bit is clear.
     pub fn signed_greatest(self) -> i64
         ensures member { Has self (cast_unsigned w64 result) }
-        ensures bound { (x : ℕ) → Has self x → cast_signed w64 x ≤ℤ result }
+        ensures limit { (x : ℕ) → Has self x → cast_signed w64 x ≤ℤ result }
     {
         if self.mask >= SIGN {
             (self.greatest() - SIGN).cast_signed()

@@ -1,6 +1,6 @@
 //! The tokens of the text.
 
-use isa_model::{AtomicOp, ByteOrder, MapKind, Narrow, Reg, Size, Span, Width};
+use isa_model::{AtomicOp, ByteOrder, MapType, Reg, SignedSize, Size, SwapWidth, Width};
 
 /// What a word means in an instruction. As a label, a word is only its letters.
 #[derive(Clone, Copy)]
@@ -10,9 +10,9 @@ pub enum Word {
     /// `u8` to `u64`.
     Unsigned(Size),
     /// `s8` to `s32`.
-    SignExtended(Narrow),
+    SignExtended(SignedSize),
     /// `le16` to `bswap64`.
-    Swapped(ByteOrder, Span),
+    Swapped(ByteOrder, SwapWidth),
     /// `atomic_fetch_add_64` and its kin.
     Fetch(AtomicOp, Width),
     /// `xchg_64`, `xchg_32`.
@@ -32,7 +32,7 @@ pub enum Word {
     /// `map`, which begins a map line.
     Map,
     /// `hash`, `array`.
-    Kind(MapKind),
+    Kind(MapType),
     /// `map_by_idx`.
     MapByIndex,
     /// `map_val`.

@@ -4,7 +4,7 @@ ghost use Rattle.std.specs.Prelude.{◌≡◌, bytes_eq};
 ghost use Rattle.lexer.specs.Words.{reg_of, register_word, word_of, key_word, size_word, swap_word, atomic_word, map_word};
 
 use super::tokens::Word;
-use isa_model::{AtomicOp, ByteOrder, MapKind, Narrow, Reg, Size, Span, Width};
+use isa_model::{AtomicOp, ByteOrder, MapType, Reg, SignedSize, Size, SwapWidth, Width};
 
 fn reg_of(digits: &[u8]) -> Option<Reg>
     ensures { result ≡ reg_of digits.now }
@@ -46,9 +46,9 @@ fn map_word(word: &[u8]) -> Word
     if is_text(word, "map") {
         Word::Map
     } else if is_text(word, "hash") {
-        Word::Kind(MapKind::Hash)
+        Word::Kind(MapType::Hash)
     } else if is_text(word, "array") {
-        Word::Kind(MapKind::Array)
+        Word::Kind(MapType::Array)
     } else if is_text(word, "map_by_idx") {
         Word::MapByIndex
     } else if is_text(word, "map_val") {
@@ -96,23 +96,23 @@ fn swap_word(word: &[u8]) -> Word
     ensures { result ≡ swap_word word.now }
 {
     if is_text(word, "le16") {
-        Word::Swapped(ByteOrder::Little, Span::B16)
+        Word::Swapped(ByteOrder::Little, SwapWidth::B16)
     } else if is_text(word, "le32") {
-        Word::Swapped(ByteOrder::Little, Span::B32)
+        Word::Swapped(ByteOrder::Little, SwapWidth::B32)
     } else if is_text(word, "le64") {
-        Word::Swapped(ByteOrder::Little, Span::B64)
+        Word::Swapped(ByteOrder::Little, SwapWidth::B64)
     } else if is_text(word, "be16") {
-        Word::Swapped(ByteOrder::Big, Span::B16)
+        Word::Swapped(ByteOrder::Big, SwapWidth::B16)
     } else if is_text(word, "be32") {
-        Word::Swapped(ByteOrder::Big, Span::B32)
+        Word::Swapped(ByteOrder::Big, SwapWidth::B32)
     } else if is_text(word, "be64") {
-        Word::Swapped(ByteOrder::Big, Span::B64)
+        Word::Swapped(ByteOrder::Big, SwapWidth::B64)
     } else if is_text(word, "bswap16") {
-        Word::Swapped(ByteOrder::Swap, Span::B16)
+        Word::Swapped(ByteOrder::Swap, SwapWidth::B16)
     } else if is_text(word, "bswap32") {
-        Word::Swapped(ByteOrder::Swap, Span::B32)
+        Word::Swapped(ByteOrder::Swap, SwapWidth::B32)
     } else if is_text(word, "bswap64") {
-        Word::Swapped(ByteOrder::Swap, Span::B64)
+        Word::Swapped(ByteOrder::Swap, SwapWidth::B64)
     } else {
         atomic_word(word)
     }
@@ -130,11 +130,11 @@ fn size_word(word: &[u8]) -> Word
     } else if is_text(word, "u64") {
         Word::Unsigned(Size::U64)
     } else if is_text(word, "s8") {
-        Word::SignExtended(Narrow::S8)
+        Word::SignExtended(SignedSize::S8)
     } else if is_text(word, "s16") {
-        Word::SignExtended(Narrow::S16)
+        Word::SignExtended(SignedSize::S16)
     } else if is_text(word, "s32") {
-        Word::SignExtended(Narrow::S32)
+        Word::SignExtended(SignedSize::S32)
     } else {
         swap_word(word)
     }

@@ -6,7 +6,7 @@ use Rattle.std.specs.Option.{option_map}
 use Rattle.std.proofs.Math.ListN.{get_or-map}
 use Rattle.std.proofs.lemmas.List.{length-map}
 use Rattle.live_maps.specs.Live.{Serials, serial_in}
-use Rattle.live_maps.specs.Numbering.{Numbers, NumbersFirst, OnlyThere, place_in, above, all_above, moved}
+use Rattle.live_maps.specs.Numbering.{NumbersAll, NumbersFirst, OnlyThere, place_in, above, all_above, moved}
 use Rattle.live_maps.proofs.KeyValueLaws.{position-cons}
 
 -- the first that passes a test once all are changed
@@ -67,7 +67,7 @@ NumbersFirst-moved from to places s h = record {
 
 -- numbered places whose serials are moved are numbered
 pub numbers-moved : (from to : ℕ) (places : List ℕ) (s : Serials) → from < 2 ^ 64 → to + length places < 2 ^ 64
-    → Numbers from places s → Numbers to places (moved from to s)
+    → NumbersAll from places s → NumbersAll to places (moved from to s)
 numbers-moved from to places s f l h = record {
   there = λ i inside.
       serial_in-above by s (place_in places i) ∙ ap (above by) (h.there i inside)

@@ -15,8 +15,8 @@ use Rattle.map_indexes.specs.Rows.{with_row}
 use Rattle.map_indexes.specs.PlaceKeys.{Places, TakesPlace}
 use Rattle.maps.specs.Maps.{MapState, IsMap, WritesValue, Updated, Deleted, map_at, content_in}
 use Rattle.maps.proofs.UpdateLaws.{delete_answer-places}
-use Rattle.isa_model.specs.declared.map_defs.MapKind.{MapKind}
-use Rattle.isa_model.specs.declared.map_defs.MapKind.TheVariants.{Hash, Array}
+use Rattle.isa_model.specs.declared.map_defs.MapType.{MapType}
+use Rattle.isa_model.specs.declared.map_defs.MapType.TheVariants.{Hash, Array}
 use Rattle.isa_model.specs.Machine.MapHelpers.{serial_given, serial_after}
 use Rattle.isa_model.proofs.ContentLaws.{has_key-key_values_of}
 use Rattle.live_maps.specs.Live.{Serials, serial_in, serials_at, place_if_new, stored, live_content, live_contents, HasSerials, AreLive, content_at, with_content, with_value, with_bytes, without}
@@ -225,7 +225,7 @@ AreLive-more next more maps all le h = record {
 pub deleted_there : (m : MapState) (key : List ℕ) → 0 ≡ delete_answer m.row (content_in m) key → get m.places key ≢ None
 deleted_there m key e none = by m.row.kind (e ∙ delete_answer-places m.row m.places m.block key ∙ ap (λ (o : Option ℕ). delete_answer_by m.row.kind (is_some o)) none)
   where
-    by : (kind : MapKind) → 0 ≡ delete_answer_by kind false → ⊥
+    by : (kind : MapType) → 0 ≡ delete_answer_by kind false → ⊥
     by Hash f = absurd (omega arith)
     by Array f = absurd (omega arith)
 

@@ -18,7 +18,7 @@ use Rattle.maps.proofs.ReportOrderLaws.{get_at}
 use Rattle.maps.specs.Maps.{MapState, IsMap, map_at, content_in, contents_of}
 use Rattle.live_maps.specs.Live.{Serials, serial_in, serials_at, stored, live_content, live_contents, HasSerials, AreLive}
 use Rattle.live_maps.proofs.KeyValueLaws.{AreApart, keys-apart}
-use Rattle.live_maps.specs.Numbering.{AreDistinct, AreNumbered, Numbers, NumbersFirst, OnlyThere, count_before, place_in}
+use Rattle.live_maps.specs.Numbering.{AreDistinct, AreNumbered, NumbersAll, NumbersFirst, OnlyThere, count_before, place_in}
 
 -- one more place of a list has its serial
 pub NumbersFirst-more : (n : ℕ) (places : List ℕ) (i : ℕ) (serials : Serials) → AreDistinct places → i < length places → place_in places i < length serials
@@ -61,7 +61,7 @@ pub OnlyThere-none : (places : List ℕ) (serials : Serials)
 OnlyThere-none places serials none p k e = let f = sym (none p) ∙ e in absurd cc
 
 -- a serial of numbered places is that of a place of the list
-pub numbered_only : (n : ℕ) (places : List ℕ) (serials : Serials) → Numbers n places serials
+pub numbered_only : (n : ℕ) (places : List ℕ) (serials : Serials) → NumbersAll n places serials
     → (p k : ℕ) → serial_in serials p ≡ Some k
     → (i : ℕ) × (i < length places) × (place_in places i ≡ p) × (k ≡ n + i)
 numbered_only n places serials h p k e =
@@ -127,7 +127,7 @@ module _ (P : Places) where
 
 -- a map whose keys' values are numbered
 pub HasSerials-numbered : (n next : ℕ) (m : MapState) (serials : Serials) → IsMap m → length serials ≡ m.row.entries → n + length (values m.places) ≤ next
-    → Numbers n (values m.places) serials → HasSerials next m serials
+    → NumbersAll n (values m.places) serials → HasSerials next m serials
 HasSerials-numbered n next m serials is long room h = record {
   is_map = is;
   long = long;
@@ -167,7 +167,7 @@ content-numbered m serials n (e ∷ es) each =
     (λ i l. let s : n + suc i ≡ suc n + i = omega arith in each (suc i) (omega arith) ∙ ap Some s) in
     λ j. (e.0, record { serial = first j; bytes = row_at m.row.value_size m.block e.1 }) ∷ rest j
 
-pub live_content-numbered : (m : MapState) (serials : Serials) (n : ℕ) → Numbers n (values m.places) serials
+pub live_content-numbered : (m : MapState) (serials : Serials) (n : ℕ) → NumbersAll n (values m.places) serials
     → live_content m serials ≡ numbered n (content_in m)
 live_content-numbered m serials n h =
     let long = length-values m.places in
@@ -190,18 +190,18 @@ count_before-suc (x ∷ maps) (suc m) l =
 
 -- the maps are numbered one after another
 pub live_contents-numbered : (n : ℕ) (maps : List MapState) (all : List Serials) → length all ≡ length maps
-    → ((m : ℕ) → m < length maps → Numbers (n + count_before maps m) (values (map_at maps m).places) (serials_at all m))
+    → ((m : ℕ) → m < length maps → NumbersAll (n + count_before maps m) (values (map_at maps m).places) (serials_at all m))
     → live_contents maps all ≡ numbered_maps n (contents_of maps)
 unfolding live_contents
 live_contents-numbered n [] all long each = refl
 live_contents-numbered n (x ∷ maps) [] long each = absurd (omega arith)
 live_contents-numbered n (x ∷ maps) (s ∷ all) long each =
     let z : n + 0 ≡ n = omega arith in
-    let first = live_content-numbered x s n (subst (λ (k : ℕ). Numbers k (values x.places) s) z (each 0 (omega arith))) in
+    let first = live_content-numbered x s n (subst (λ (k : ℕ). NumbersAll k (values x.places) s) z (each 0 (omega arith))) in
     let rest = live_contents-numbered (n + length (content_in x)) maps all (omega arith)
     (λ m l.
     let a : n + count_before (x ∷ maps) (suc m) ≡ n + length (content_in x) + count_before maps m = omega arith in
-    subst (λ (k : ℕ). Numbers k (values (map_at maps m).places) (serials_at all m)) a (each (suc m) (omega arith))) in
+    subst (λ (k : ℕ). NumbersAll k (values (map_at maps m).places) (serials_at all m)) a (each (suc m) (omega arith))) in
     λ i. first i ∷ rest i
 
 pub count_before-all : (maps : List MapState) → count_before maps (length maps) ≡ count_values (contents_of maps)
@@ -234,7 +234,7 @@ pub numbered-all : (maps : List MapState) (all : List Serials) → AreNumbered m
 numbered-all maps all h =
     live_contents-numbered 0 maps all h.long
     (λ m l. let z : count_before maps m ≡ 0 + count_before maps m = omega arith in
-    subst (λ (k : ℕ). Numbers k (values (map_at maps m).places) (serials_at all m)) z (h.numbers m l))
+    subst (λ (k : ℕ). NumbersAll k (values (map_at maps m).places) (serials_at all m)) z (h.numbers m l))
 
 module _ (m : MapState) (is : IsMap m) where
   -- the places of a map's keys are places of the map
@@ -254,19 +254,19 @@ module _ (m : MapState) (is : IsMap m) where
 
 -- one map more is numbered
 pub numbers-next : (maps : List MapState) (all more : List Serials) (m : ℕ) (s : Serials) → m < length all → more ≡ slice_set all m s
-    → ((k : ℕ) → k < m → Numbers (count_before maps k) (values (map_at maps k).places) (serials_at all k))
-    → Numbers (count_before maps m) (values (map_at maps m).places) s
-    → (k : ℕ) → k < m + 1 → Numbers (count_before maps k) (values (map_at maps k).places) (serials_at more k)
+    → ((k : ℕ) → k < m → NumbersAll (count_before maps k) (values (map_at maps k).places) (serials_at all k))
+    → NumbersAll (count_before maps m) (values (map_at maps m).places) s
+    → (k : ℕ) → k < m + 1 → NumbersAll (count_before maps k) (values (map_at maps k).places) (serials_at more k)
 numbers-next maps all more m s inside is before now k l =
-    subst (λ (a : List Serials). Numbers (count_before maps k) (values (map_at maps k).places) (serials_at a k)) (sym is)
-    (elim (eqb k m) as (λ b. eqb k m ≡ b → Numbers (count_before maps k) (values (map_at maps k).places) (serials_at (slice_set all m s) k)) [
+    subst (λ (a : List Serials). NumbersAll (count_before maps k) (values (map_at maps k).places) (serials_at a k)) (sym is)
+    (elim (eqb k m) as (λ b. eqb k m ≡ b → NumbersAll (count_before maps k) (values (map_at maps k).places) (serials_at (slice_set all m s) k)) [
       | true ↦ λ t.
-          subst (λ (j : ℕ). Numbers (count_before maps j) (values (map_at maps j).places) (serials_at (slice_set all m s) j)) (sym (eqb-true k m t))
-          (subst (λ (r : Serials). Numbers (count_before maps m) (values (map_at maps m).places) r) (sym (get_or-set_same all m s [] inside)) now)
+          subst (λ (j : ℕ). NumbersAll (count_before maps j) (values (map_at maps j).places) (serials_at (slice_set all m s) j)) (sym (eqb-true k m t))
+          (subst (λ (r : Serials). NumbersAll (count_before maps m) (values (map_at maps m).places) r) (sym (get_or-set_same all m s [] inside)) now)
       | false ↦ λ t.
           let d = eqb-false k m t in
           let less : k < m = elim (below_or_above k m d) [ inl h ↦ h | inr h ↦ absurd (omega arith) ] in
-          subst (λ (r : Serials). Numbers (count_before maps k) (values (map_at maps k).places) r) (sym (get_or-set_other all m k s [] d)) (before k less)
+          subst (λ (r : Serials). NumbersAll (count_before maps k) (values (map_at maps k).places) r) (sym (get_or-set_other all m k s [] d)) (before k less)
     ] refl)
 
 -- its serials have a place for each of its values as before

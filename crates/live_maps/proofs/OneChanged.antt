@@ -5,7 +5,7 @@ use Rattle.std.specs.List.{position}
 use Rattle.isa_model.specs.declared.map_defs.MapDef.{MapDef}
 use Rattle.maps.specs.Maps.{MapState, IsMap, map_at}
 use Rattle.live_maps.specs.Live.{Live, Serials, AreLive, content_at, serials_at, has_serial, value_bytes}
-use Rattle.live_maps.specs.Orders.{AreOrders, IsKept, KeyOrder}
+use Rattle.live_maps.specs.Orders.{AreOrders, AreLiveMaps, KeyOrder}
 use Rattle.live_maps.proofs.ContentLaws.{live_of, rows_of-known, rows_of-some, length-changed_maps}
 use Rattle.live_maps.proofs.SearchLaws.{searched-inside, searched-some}
 
@@ -48,9 +48,10 @@ found_at next maps all now view m n p size h found fits =
 -- maps of which one has changed are kept as before, with their serials and their orders
 pub still_kept : (serials_room orders_room next after : ℕ) (maps new : List MapState)
     (all given : List Serials) (orders told : List KeyOrder) (m : ℕ)
-    → IsKept serials_room orders_room next maps all orders → new ≡ slice_set maps m (map_at new m)
+    → AreLiveMaps serials_room orders_room next maps all orders
+    → new ≡ slice_set maps m (map_at new m)
     → AreLive after new given → AreOrders new given told
-    → IsKept serials_room orders_room after new given told
+    → AreLiveMaps serials_room orders_room after new given told
 still_kept serials_room orders_room next after maps new all given orders told m h others live are =
     let few = h.0 in
     let count = length-changed_maps maps new m (map_at new m) others in

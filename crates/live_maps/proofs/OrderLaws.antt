@@ -20,7 +20,7 @@ use Rattle.maps.proofs.ReportOrderLaws.{get_at}
 use Rattle.maps.specs.Maps.{MapState, IsMap, map_at}
 use Rattle.live_maps.specs.Live.{Serials, serials_at}
 use Rattle.live_maps.specs.Numbering.{AreDistinct, OnlyThere}
-use Rattle.live_maps.specs.Orders.{AreListed, AreOrders, IsOrder, KeyOrder, NumbersFrom, order_at, places_without}
+use Rattle.live_maps.specs.Orders.{HaveOrders, AreOrders, IsOrder, KeyOrder, NumbersFrom, order_at, places_without}
 use Rattle.live_maps.proofs.NumberingLaws.{values-distinct, values-few, values-within}
 
 -- ---- one order
@@ -151,7 +151,7 @@ AreOrders-set maps new all orders m x is inside row places h =
 
 -- the orders at the start
 pub AreOrders-listed : (maps : List MapState) (all : List Serials) (orders : List KeyOrder)
-    → length orders ≡ length maps → AreListed (length maps) maps orders → AreOrders maps all orders
+    → length orders ≡ length maps → HaveOrders (length maps) maps orders → AreOrders maps all orders
 AreOrders-listed maps all orders long h = record {
   long = long;
   each = λ k l.

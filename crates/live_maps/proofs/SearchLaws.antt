@@ -20,7 +20,7 @@ use Rattle.maps.specs.ContentLaws.{changed}
 use Rattle.maps.specs.Maps.{MapState, map_at}
 use Rattle.map_indexes.specs.ArrayPlaces.{array_places}
 use Rattle.byteorder.specs.Endian.{little_bytes}
-use Rattle.isa_model.specs.declared.map_defs.MapKind.TheVariants.{Array}
+use Rattle.isa_model.specs.declared.map_defs.MapType.TheVariants.{Array}
 use Rattle.isa_model.specs.Machine.Steps.{one_serial}
 use Rattle.live_maps.specs.Live.{Serials, serial_in, serials_at, has_serial, stored, live_content, value_bytes, AreLive, content_at}
 use Rattle.live_maps.proofs.KeyValueLaws.{position-cons}

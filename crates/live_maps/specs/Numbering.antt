@@ -23,8 +23,8 @@ pub record NumbersFirst (n : ℕ) (places : List ℕ) (count : ℕ) (serials : S
   pub only : OnlyThere places serials
 
 -- all of them do
-abbrev pub Numbers : ℕ → List ℕ → Serials → Type 0
-Numbers n places serials = NumbersFirst n places (length places) serials
+abbrev pub NumbersAll : ℕ → List ℕ → Serials → Type 0
+NumbersAll n places serials = NumbersFirst n places (length places) serials
 
 -- no place is twice in a list
 abbrev pub AreDistinct : List ℕ → Type 0
@@ -52,7 +52,7 @@ count_before maps m = count_values (contents_of (take m maps))
 pub record AreNumbered (maps : List MapState) (all : List Serials) : Type 0 where
   pub long : length all ≡ length maps
   pub rooms : (m : ℕ) → m < length maps → length (serials_at all m) ≡ (map_at maps m).row.entries
-  pub numbers : (m : ℕ) → m < length maps → Numbers (count_before maps m) (values (map_at maps m).places) (serials_at all m)
+  pub numbers : (m : ℕ) → m < length maps → NumbersAll (count_before maps m) (values (map_at maps m).places) (serials_at all m)
 
 -- all maps are numbered from 0 on, and this is the count of their values
 pub record IsNumbered (count : ℕ) (maps : List MapState) (all : List Serials) : Type 0 where

@@ -4,7 +4,7 @@ use Rattle.std.specs.List.{filter}
 use Rattle.std.specs.FinMap.{values}
 use Rattle.maps.specs.Maps.{MapState, map_at}
 use Rattle.live_maps.specs.Live.{Serials, AreLive, serials_at}
-use Rattle.live_maps.specs.Numbering.{Numbers}
+use Rattle.live_maps.specs.Numbering.{NumbersAll}
 
 -- places, how many there is room for, and the serial from which on the values at them are numbered
 -- in this order, if they are
@@ -19,7 +19,7 @@ places_without place places = filter (λ p. not (p == place)) places
 
 -- the values at some places are numbered from a serial on
 abbrev pub NumbersFrom : List ℕ → Serials → ℕ → Type 0
-NumbersFrom places serials first = (first ≤ 2 ^ 32) × Numbers first places serials
+NumbersFrom places serials first = (first ≤ 2 ^ 32) × NumbersAll first places serials
 
 -- these are the places of a map's keys, in the order of the keys' bytes, with room for as many as
 -- the map can have and for no more, and what is known of their numbering is true
@@ -39,16 +39,16 @@ pub record AreOrders (maps : List MapState) (all : List Serials) (orders : List 
       → IsOrder (map_at maps m) (serials_at all m) (order_at orders m)
 
 -- the first maps have their orders, and nothing is known of their numbering
-abbrev pub AreListed : ℕ → List MapState → List KeyOrder → Type 0
-AreListed count maps orders = (m : ℕ) → m < count
+abbrev pub HaveOrders : ℕ → List MapState → List KeyOrder → Type 0
+HaveOrders count maps orders = (m : ℕ) → m < count
     → ((order_at orders m).places ≡ values (map_at maps m).places)
     × ((order_at orders m).room ≡ (map_at maps m).row.entries)
     × ((order_at orders m).first ≡ None)
 
 -- there are few maps, and both lists by map have room for the maps and for no more; the serials are
 -- those of living values, and each map has its order
-abbrev pub IsKept : ℕ → ℕ → ℕ → List MapState → List Serials → List KeyOrder → Type 0
-IsKept serials_room orders_room next maps all orders =
+abbrev pub AreLiveMaps : ℕ → ℕ → ℕ → List MapState → List Serials → List KeyOrder → Type 0
+AreLiveMaps serials_room orders_room next maps all orders =
     (length maps ≤ 2 ^ 16)
     × (serials_room ≡ length maps)
     × (AreLive next maps all)

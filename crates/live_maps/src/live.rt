@@ -3,7 +3,7 @@
 ghost use Rattle.std.specs.Prelude.{◌≡◌, ◌+◌, ◌==◌, ◌<◌, ◌≤◌, ◌^◌, length, map, if◌then◌else◌, IfOk, IfSome, IsSomeAnd, slice_get, option_copied};
 ghost use Rattle.std.specs.Option.{option_map};
 ghost use Rattle.std.specs.FinMap.{get};
-ghost use Rattle.isa_model.specs.declared.map_defs.MapKind.TheVariants.{Array};
+ghost use Rattle.isa_model.specs.declared.map_defs.MapType.TheVariants.{Array};
 ghost use Rattle.isa_model.specs.Code.MapRows.{IsRow};
 ghost use Rattle.isa_model.specs.Machine.States.{key_values_of};
 ghost use Rattle.isa_model.specs.Machine.MachineStates.{FitRows};
@@ -40,7 +40,7 @@ impl Model for LiveMaps {
     ghost use Rattle.std.specs.Prelude.{vec_capacity};
     ghost use Rattle.maps.specs.Maps.{rows_of};
     ghost use Rattle.live_maps.specs.Live.{Live, live_contents};
-    ghost use Rattle.live_maps.specs.Orders.{IsKept};
+    ghost use Rattle.live_maps.specs.Orders.{AreLiveMaps};
 
     ghost Value = { Live };
 
@@ -50,7 +50,7 @@ impl Model for LiveMaps {
       next_serial = l.next;
     } };
 
-    ghost invariant = { λ l. IsKept (vec_capacity l.serials) (vec_capacity l.orders) l.next l.maps
+    ghost invariant = { λ l. AreLiveMaps (vec_capacity l.serials) (vec_capacity l.orders) l.next l.maps
         l.serials.items l.orders.items };
 }
 

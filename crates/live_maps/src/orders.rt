@@ -3,8 +3,8 @@
 ghost use Rattle.std.specs.Prelude.{◌≡◌, ◌<◌, ◌≤◌, ◌^◌, ℕ, length, All, IfOk, IfSome, Some, None, vec_len, vec_capacity};
 ghost use Rattle.std.specs.FinMap.{get, remove, values};
 ghost use Rattle.maps.specs.Maps.{map_at};
-ghost use Rattle.live_maps.specs.Numbering.{AreDistinct, Numbers, OnlyThere};
-ghost use Rattle.live_maps.specs.Orders.{AreListed, NumbersFrom, places_without};
+ghost use Rattle.live_maps.specs.Numbering.{AreDistinct, NumbersAll, OnlyThere};
+ghost use Rattle.live_maps.specs.Orders.{HaveOrders, NumbersFrom, places_without};
 
 use crate::table::SerialTable;
 use maps::Maps;
@@ -20,7 +20,7 @@ fn number_places(places: &[usize], table: &mut SerialTable, from: Option<u64>, t
     requires few { to ≤ 2 ^ 32 }
     requires many { length places.now ≤ 2 ^ 32 }
     requires numbered { IfSome from (NumbersFrom places.now table.old) }
-    ensures numbers { Numbers to places.now table.new }
+    ensures numbers { NumbersAll to places.now table.new }
     ensures len { length table.new ≡ length table.old }
 {
     match from {
@@ -100,7 +100,7 @@ impl Order {
         requires many { length self.old.places ≤ 2 ^ 32 }
         requires numbered { IfSome self.old.first (NumbersFrom self.old.places table.old) }
         ensures count { result ≡ length self.old.places }
-        ensures numbers { Numbers first self.old.places table.new }
+        ensures numbers { NumbersAll first self.old.places table.new }
         ensures len { length table.new ≡ length table.old }
         ensures known { self.new ≡ record self.old { first = Some first } }
     {
@@ -114,7 +114,7 @@ impl Order {
 pub fn orders_for(alloc: Global, maps: &Maps) -> Result<Vec<Order>, AllocError>
     ensures len { IfOk result (λ all. vec_len all ≡ length maps.now) }
     ensures room { IfOk result (λ all. vec_capacity all ≡ length maps.now) }
-    ensures listed { IfOk result (λ all. AreListed (length maps.now) maps.now all.items) }
+    ensures listed { IfOk result (λ all. HaveOrders (length maps.now) maps.now all.items) }
 {
     let mut all = Vec::with_capacity(alloc, maps.count())?;
     for m in 0..maps.count() {

@@ -3,7 +3,7 @@
 ghost use Rattle.std.specs.Prelude.{◌≡◌, ◌+◌, ◌<◌, ◌^◌, ℕ, length, All, IfOk, IfSome, Some, None, slice_set, vec_len, vec_capacity};
 ghost use Rattle.std.specs.List.{position};
 ghost use Rattle.live_maps.specs.Live.{serial_in, has_serial};
-ghost use Rattle.live_maps.specs.Numbering.{Numbers, AreDistinct, OnlyThere, above, all_above, moved};
+ghost use Rattle.live_maps.specs.Numbering.{NumbersAll, AreDistinct, OnlyThere, above, all_above, moved};
 
 use map_indexes::rooms::exact;
 use std::alloc::{AllocError, Global};
@@ -174,7 +174,7 @@ impl SerialTable {
         requires distinct { AreDistinct places.now }
         requires only { OnlyThere places.now self.old }
         requires room { first + length places.now < 2 ^ 64 }
-        ensures numbers { Numbers first places.now self.new }
+        ensures numbers { NumbersAll first places.now self.new }
         ensures len { length self.new ≡ length self.old }
     {
         // What is given now is kept by what it is above `first`.

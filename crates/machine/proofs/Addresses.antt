@@ -64,7 +64,8 @@ start_far a rows next (region.MapValue m n) good h =
     let l = good.low m n in
     let k = h.0 in
     (omega arith, omega arith)
-start_far a rows next (region.Frame n) good h = let l = good.shallow n in (omega arith, omega arith)
+start_far a rows next (region.CallFrame n) good h =
+    let l = good.shallow n in (omega arith, omega arith)
 
 -- the word of a pointer in any region but the packet end
 pub word_plain : (a : Layout) (r : Region) (z : ℤ) → (r ≡ region.PacketEnd → ⊥) → word a r z ≡ moved (region_start a r) z
@@ -73,7 +74,7 @@ word_plain a region.Packet z h = refl
 word_plain a region.PacketEnd z h = absurd (h refl)
 word_plain a (region.Map m) z h = refl
 word_plain a (region.MapValue m n) z h = refl
-word_plain a (region.Frame n) z h = refl
+word_plain a (region.CallFrame n) z h = refl
 
 pub word_far : (a : Layout) (r : Region) (z : ℤ) → 4294967296 ≤ region_start a r → region_start a r < 1099511627776 → IsOffset z
     → (2147483648 ≤ word a r z) × (word a r z < 2199023255552)
@@ -82,7 +83,7 @@ word_far a region.Packet z h g l = moved_far (region_start a region.Packet) z h 
 word_far a region.PacketEnd z h g l = (omega arith, omega arith)
 word_far a (region.Map m) z h g l = moved_far (region_start a (region.Map m)) z h g l
 word_far a (region.MapValue m n) z h g l = moved_far (region_start a (region.MapValue m n)) z h g l
-word_far a (region.Frame n) z h g l = moved_far (region_start a (region.Frame n)) z h g l
+word_far a (region.CallFrame n) z h g l = moved_far (region_start a (region.CallFrame n)) z h g l
 
 -- an offset that is a little over its limit
 pub add_near : (s : ℕ) (z by : ℤ) → 4294967296 ≤ s → s < 1099511627776 → IsOffset z → FitsSigned w16 by

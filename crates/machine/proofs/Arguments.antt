@@ -24,7 +24,7 @@ use Rattle.maps.specs.Maps.{map_at}
 use Rattle.maps.proofs.MapLaws.{length-rows_of}
 use Rattle.word_machine.specs.Addresses.{region_of, map_base}
 use Rattle.word_machine.specs.Words.{Words, word_at, spot_of, IsInside, get}
-use Rattle.word_machine.specs.Helping.{map_named, named, answered as answered_words}
+use Rattle.word_machine.specs.Helping.{map_named, named, words_answered as answered_words}
 use Rattle.machine.specs.Related.{Layout, region_start, moved, Represents, RepresentsCells, RepresentsRegisters, Related}
 use Rattle.machine.proofs.Addresses.{moved_is}
 use Rattle.machine.proofs.Arithmetic.{far}
@@ -105,7 +105,7 @@ module _ (p : Program) (a : Layout) (s : State) (w : Words) (R : Related p a s w
     with_map (Ptr region.Context z) fits shown go next = traps BadHelper
     with_map (Ptr region.Packet z) fits shown go next = traps BadHelper
     with_map (Ptr region.PacketEnd z) fits shown go next = traps BadHelper
-    with_map (Ptr (region.Frame n) z) fits shown go next = traps BadHelper
+    with_map (Ptr (region.CallFrame n) z) fits shown go next = traps BadHelper
     with_map (Ptr (region.MapValue m n) z) fits shown go next = traps BadHelper
     with_map (Ptr (region.Map m) z) fits shown go next =
         let few = R.layout.few in
@@ -125,9 +125,9 @@ module _ (p : Program) (a : Layout) (s : State) (w : Words) (R : Related p a s w
     with_argument (Ptr region.Packet z) x fits shown go next =
         let f = far a (length p.maps) s.next_serial R.layout region.Packet fits.0 in
         next (record { region = region.Packet; offset = z }) (ap pos shown ∙ moved_is (region_start a region.Packet) z f.0 fits.1)
-    with_argument (Ptr (region.Frame n) z) x fits shown go next =
-        let f = far a (length p.maps) s.next_serial R.layout (region.Frame n) fits.0 in
-        next (record { region = region.Frame n; offset = z }) (ap pos shown ∙ moved_is (region_start a (region.Frame n)) z f.0 fits.1)
+    with_argument (Ptr (region.CallFrame n) z) x fits shown go next =
+        let f = far a (length p.maps) s.next_serial R.layout (region.CallFrame n) fits.0 in
+        next (record { region = region.CallFrame n; offset = z }) (ap pos shown ∙ moved_is (region_start a (region.CallFrame n)) z f.0 fits.1)
     with_argument (Ptr (region.MapValue m n) z) x fits shown go next =
         let f = far a (length p.maps) s.next_serial R.layout (region.MapValue m n) fits.0 in
         next (record { region = region.MapValue m n; offset = z }) (ap pos shown ∙ moved_is (region_start a (region.MapValue m n)) z f.0 fits.1)

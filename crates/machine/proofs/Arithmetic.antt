@@ -47,7 +47,7 @@ module _ (a : Layout) (rows next : ℕ) (good : IsLayout a rows) where
   -- a pointer y that may move, moved to x
   shows_to : (r : Region) (z i : ℤ) (f : ℕ → ℕ) → ((m : IsOffset i) → f (moved (region_start a r) z) ≡ moved (region_start a r) i) → OkShows a (moved_to r i) (f (word a r z))
   shows_to region.Packet z i f h = shows_at region.Packet i _ h
-  shows_to (region.Frame n) z i f h = shows_at (region.Frame n) i _ h
+  shows_to (region.CallFrame n) z i f h = shows_at (region.CallFrame n) i _ h
   shows_to (region.MapValue m n) z i f h = shows_at (region.MapValue m n) i _ h
   shows_to region.Context z i f h = tt
   shows_to region.PacketEnd z i f h = tt

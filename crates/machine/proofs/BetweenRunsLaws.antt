@@ -11,8 +11,8 @@ use Rattle.std.proofs.lemmas.List.Elements.{All-nil, All-cons, All-head, All-tai
 use Rattle.std.proofs.lemmas.Option.{slice_get_within, get_or_from_slice_get}
 use Rattle.byteorder.specs.Endian.{little_bytes}
 use Rattle.byteorder.specs.Numbers.{length-bytes_low_first}
-use Rattle.isa_model.specs.declared.map_defs.MapKind.{MapKind}
-use Rattle.isa_model.specs.declared.map_defs.MapKind.TheVariants.{Hash, Array}
+use Rattle.isa_model.specs.declared.map_defs.MapType.{MapType}
+use Rattle.isa_model.specs.declared.map_defs.MapType.TheVariants.{Hash, Array}
 use Rattle.isa_model.specs.declared.map_defs.MapDef.{MapDef}
 use Rattle.isa_model.specs.Code.Instructions.{Program}
 use Rattle.isa_model.specs.Code.MapRows.{KeyFits}
@@ -140,7 +140,7 @@ module _ {X Y : Type 0} (P : Y → Type 0) (h : X → Option Y) (each : (x : X) 
     | Some y ↦ λ e. All-cons P y (filter_map h xs) (each x y e) (filtered xs)
   ] refl
 
-sized_by : (kind : MapKind) (row : MapDef) (es : KeyValues) → KeyFits kind row.key_size → All (IsKeyValue row) es → All (IsSized row) (in_report_order kind row.entries es)
+sized_by : (kind : MapType) (row : MapDef) (es : KeyValues) → KeyFits kind row.key_size → All (IsKeyValue row) es → All (IsSized row) (in_report_order kind row.entries es)
 sized_by Hash row es k are = All-weaker (IsKeyValue row) (IsSized row) (λ e m. (m.key_size, m.value_size)) es are
 sized_by Array row es k are =
     let values = All-weaker (IsKeyValue row) (λ e. length e.1 ≡ row.value_size) (λ e m. m.value_size) es are in

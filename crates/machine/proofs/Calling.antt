@@ -13,7 +13,7 @@ use Rattle.isa_model.specs.declared.values.CallFrame.{CallFrame}
 use Rattle.isa_model.specs.declared.registers.Reg.TheVariants.{R0}
 use Rattle.isa_model.specs.Code.Instructions.{Program}
 use Rattle.isa_model.specs.Machine.States.{State, value_at, reg, frame_at, new_frame}
-use Rattle.isa_model.specs.Machine.Calls.{kept, regs_within, regs_after, enter, leave, callers, innermost}
+use Rattle.isa_model.specs.Machine.Calls.{saved_registers, regs_within, regs_after, enter, leave, callers, innermost}
 use Rattle.isa_model.specs.Machine.MachineStates.{IsState}
 use Rattle.word_machine.specs.Addresses.{frame_end}
 use Rattle.word_machine.specs.declared.memory.Saved.{Saved}
@@ -126,7 +126,7 @@ module _ (p : Program) (a : Layout) (s : State) (w : Words) (R : Related p a s w
   entered = with_depth a s.next_serial (length s.frames)
 
   abbrev f : CallFrame
-  f = new_frame next (s.slot + 1) (kept s.regs)
+  f = new_frame next (s.slot + 1) (saved_registers s.regs)
 
   abbrev c : Saved
   c = record { back = w.at + 1; kept = kept_words w.regs }
@@ -173,7 +173,8 @@ module _ (p : Program) (a : Layout) (s : State) (w : Words) (R : Related p a s w
         }))
   ]
 
-  kept_new : (j : ℕ) → Represents b (value_at (kept s.regs) j) (slice_index (kept_words w.regs) j)
+  kept_new : (j : ℕ)
+      → Represents b (value_at (saved_registers s.regs) j) (slice_index (kept_words w.regs) j)
   kept_new zero = old_register 6
   kept_new (suc zero) = old_register 7
   kept_new (suc (suc zero)) = old_register 8

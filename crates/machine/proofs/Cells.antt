@@ -25,7 +25,8 @@ region_same region.Context region.Context e = refl
 region_same region.Packet region.Packet e = refl
 region_same region.PacketEnd region.PacketEnd e = refl
 region_same (region.Map m) (region.Map n) e = ap region.Map (grind (arith, nat_tests))
-region_same (region.Frame m) (region.Frame n) e = ap region.Frame (grind (arith, nat_tests))
+region_same (region.CallFrame m) (region.CallFrame n) e =
+    ap region.CallFrame (grind (arith, nat_tests))
 region_same (region.MapValue m i) (region.MapValue n j) e =
     let (f, g) = both_true (m == n) (i == j) e in
     let h : m ≡ n = grind (arith, nat_tests) in

@@ -103,7 +103,7 @@ module _ (a b : Layout) (rows next : ℕ) (E : ExtendsLayout a b next) where
   word_old region.PacketEnd z h = ap (λ n. packet_base + n) E.end
   word_old (region.Map m) z h = refl
   word_old (region.MapValue m n) z h = ap (λ v. moved (values_base m + v) z) (E.value m n h.1)
-  word_old (region.Frame n) z h = ap (λ d. moved (frame_end d) z) (E.depth n h)
+  word_old (region.CallFrame n) z h = ap (λ d. moved (frame_end d) z) (E.depth n h)
 
   pub shows_old : (v : Value) (w : ℕ) → IsValue rows next v → Represents a v w → Represents b v w
   shows_old Unset w h s = tt

@@ -7,8 +7,8 @@ use Rattle.isa_model.specs.declared.registers.Reg.TheVariants.{R1, R2, R3, R4}
 use Rattle.isa_model.specs.declared.helpers.Helper.{Helper}
 use Rattle.isa_model.specs.declared.helpers.Helper.TheVariants.{MapLookupElem, MapUpdateElem, MapDeleteElem, KtimeGetNs}
 use Rattle.isa_model.specs.declared.map_defs.MapDef.{MapDef}
-use Rattle.isa_model.specs.declared.map_defs.MapKind.{MapKind}
-use Rattle.isa_model.specs.declared.map_defs.MapKind.TheVariants.{Hash, Array}
+use Rattle.isa_model.specs.declared.map_defs.MapType.{MapType}
+use Rattle.isa_model.specs.declared.map_defs.MapType.TheVariants.{Hash, Array}
 use Rattle.isa_model.specs.declared.values.Value.TheVariants.{Num}
 use Rattle.isa_model.specs.declared.ends.TrapReason.{TrapReason}
 use Rattle.isa_model.specs.Code.Registers.{reg_number}
@@ -30,7 +30,7 @@ use Rattle.machine.specs.Related.{Layout, Represents, Related}
 use Rattle.machine.proofs.Arguments.{answered_related, maps_long, with_map, with_argument, with_number, with_bytes_at}
 use Rattle.machine.proofs.MapCalls.{address, lookup_shown, update_related, delete_related}
 
-some_key : (kind : MapKind) (n : ℕ) → rows.KeyFits kind n → 0 < n
+some_key : (kind : MapType) (n : ℕ) → rows.KeyFits kind n → 0 < n
 some_key Hash n h = let g = h.0 in omega arith
 some_key Array n h = omega arith
 

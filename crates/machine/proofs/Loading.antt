@@ -172,7 +172,7 @@ module _ (p : Program) (a : Layout) (s : State) (w : Words) (R : Related p a s w
   shows_read (region.Map m) z n x some e = tt
   shows_read region.Packet (pos i) n x some e = read_packet i n x (omega (arith, ints))
   shows_read region.Packet (negsuc i) n x some e = tt
-  shows_read (region.Frame m) z n x some e = by_frame (frame_index_of s.frames m) refl (z +ℤ pos frame_size) refl
+  shows_read (region.CallFrame m) z n x some e = by_frame (frame_index_of s.frames m) refl (z +ℤ pos frame_size) refl
     where
       by_frame : (o : Option ℕ) → frame_index_of s.frames m ≡ o → (y : ℤ) → z +ℤ pos frame_size ≡ y
           → OkRead n (found (option_map (λ j. (frame_at s.frames j).cells) o) (index_from y) n) x
@@ -287,7 +287,8 @@ module _ (p : Program) (a : Layout) (s : State) (w : Words) (R : Related p a s w
       by_region region.Context at fit = shows_context_load size (z +ℤ by) _ at
       by_region region.Packet at fit = shows_memory_load size region.Packet (z +ℤ by) _ fit at
       by_region (region.Map m) at fit = shows_memory_load size (region.Map m) (z +ℤ by) _ fit at
-      by_region (region.Frame m) at fit = shows_memory_load size (region.Frame m) (z +ℤ by) _ fit at
+      by_region (region.CallFrame m) at fit =
+          shows_memory_load size (region.CallFrame m) (z +ℤ by) _ fit at
       by_region (region.MapValue m k) at fit = shows_memory_load size (region.MapValue m k) (z +ℤ by) _ fit at
       by_region region.PacketEnd at fit = no_end size
         where

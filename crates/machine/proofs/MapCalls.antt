@@ -15,7 +15,7 @@ use Rattle.isa_model.proofs.HelperLaws.{value_serials_given}
 use Rattle.map_indexes.specs.RowLaws.{row_end}
 use Rattle.map_indexes.specs.PlaceKeys.{Places}
 use Rattle.map_indexes.proofs.SlotLaws.{is_key-itself}
-use Rattle.maps.specs.Changes.{Writes}
+use Rattle.maps.specs.Changes.{WritesPair}
 use Rattle.maps.specs.ContentLaws.{changed, find-changed}
 use Rattle.maps.proofs.UpdateLaws.{update_answer-places, delete_answer-places}
 use Rattle.maps.specs.Maps.{MapState, IsMap, map_at, content_in, Updated, Deleted}
@@ -111,7 +111,7 @@ module _ (a : Layout) (m : ℕ) (content : Content) (state : MapState) (shown : 
       subst (λ r. place * r.value_size < offset_limit) row (omega arith)
 
   module _ (new : MapState) (key value : List ℕ) (is : IsMap new) (row : new.row ≡ state.row) (long : length value ≡ size)
-      (writes : Writes size key value state.places state.block new.places new.block) where
+      (writes : WritesPair size key value state.places state.block new.places new.block) where
     abbrev place : ℕ
     place = writes.place
 

@@ -7,7 +7,7 @@ use Rattle.std.proofs.lemmas.Option.{slice_get_within}
 use Rattle.byteorder.specs.Endian.{little_bytes}
 use Rattle.isa_model.specs.Code.Limits.{max_maps}
 use Rattle.isa_model.specs.declared.map_defs.MapDef.{MapDef}
-use Rattle.isa_model.specs.declared.map_defs.MapKind.TheVariants.{Array}
+use Rattle.isa_model.specs.declared.map_defs.MapType.TheVariants.{Array}
 use Rattle.isa_model.specs.Code.MapRows.{HoldsOffset}
 use Rattle.isa_model.specs.Code.Instructions.{Program}
 use Rattle.isa_model.specs.Machine.States.{State, Content, content_of}

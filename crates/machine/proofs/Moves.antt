@@ -23,7 +23,7 @@ use Rattle.isa_model.specs.Code.Helpers.{helper_numbered}
 use Rattle.isa_model.specs.Code.MapRows.{NamesRows}
 use Rattle.isa_model.specs.Code.Numbers.{alu, low, unsigned, negated, sign_extended, reordered, atomic_alu, holds, bytes_of}
 use Rattle.isa_model.specs.Code.Spelling.{InsnFits, OperandFits}
-use Rattle.isa_model.specs.Code.Instructions.{Program, fetch, slots_of, reads, writes, is_frame_pointer}
+use Rattle.isa_model.specs.Code.Instructions.{Program, fetch, slots_filled, reads, writes, is_frame_pointer}
 use Rattle.isa_model.specs.Machine.States.{State, reg, set_reg, go_to}
 use Rattle.isa_model.specs.Machine.Pointers.{arithmetic, on_number, compared}
 use Rattle.isa_model.specs.Machine.Memory.{and_then, load, load_signed, store}
@@ -88,14 +88,14 @@ module _ (p : Program) (clock : ℕ → ℕ) (a : Layout) (s : State) (w : Words
     going,
     λ u m. (
       a,
-      subst (Related p a (go_to (set_reg s d v) (s.slot + slots_of i))) (sym (same u m))
-          (subst (λ k. Related p a (go_to (set_reg s d v) (k + slots_of i)) (words.sets w i d x)) R.slot
-          (go_related p a (set_reg s d v) (set_word w d x) (w.at + slots_of i) (set_related p a s w d v x K.registers R h))),
+      subst (Related p a (go_to (set_reg s d v) (s.slot + slots_filled i))) (sym (same u m))
+          (subst (λ k. Related p a (go_to (set_reg s d v) (k + slots_filled i)) (words.sets w i d x)) R.slot
+          (go_related p a (set_reg s d v) (set_word w d x) (w.at + slots_filled i) (set_related p a s w d v x K.registers R h))),
     ),
   )
 
   -- a step that changes the state
-  acts_goes : (i : Insn) (r : Result State TrapReason) (u : Words) → slots_of i ≡ 1 → IfOk r (λ t. AccessesFit w i × Related p a t u) → Going w i
+  acts_goes : (i : Insn) (r : Result State TrapReason) (u : Words) → slots_filled i ≡ 1 → IfOk r (λ t. AccessesFit w i × Related p a t u) → Going w i
       → ((v : Words) → WordStep p clock w i v → v ≡ at_slot u (w.at + 1)) → OkMove i (goes_on s i r)
   acts_goes i (Err e) u one h going same = tt
   acts_goes i (Ok t) u one h going same = (
@@ -103,7 +103,7 @@ module _ (p : Program) (clock : ℕ → ℕ) (a : Layout) (s : State) (w : Words
     going,
     λ v m. (
       a,
-      subst (Related p a (go_to t (s.slot + slots_of i))) (sym (same v m))
+      subst (Related p a (go_to t (s.slot + slots_filled i))) (sym (same v m))
           (subst (λ k. Related p a (go_to t k) (at_slot u (w.at + 1))) (let e = R.slot in omega arith)
           (go_related p a t u (w.at + 1) h.1)),
     ),

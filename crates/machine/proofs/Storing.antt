@@ -167,8 +167,8 @@ module _ (p : Program) (a : Layout) (s : State) (w : Words) (R : Related p a s w
       by_test true e = h (grind (arith, nat_tests))
       by_test false e = tt
 
-  shows_write_frame : (m : ℕ) (z : ℤ) (new : List Cell) (bs : List ℕ) (x : ℕ) → 0 < length bs → RepresentsCells a new bs → pos x ≡ pos (region_start a (region.Frame m)) +ℤ z
-      → OkStore (write s (region.Frame m) (index_at (region.Frame m) z) new) x bs
+  shows_write_frame : (m : ℕ) (z : ℤ) (new : List Cell) (bs : List ℕ) (x : ℕ) → 0 < length bs → RepresentsCells a new bs → pos x ≡ pos (region_start a (region.CallFrame m)) +ℤ z
+      → OkStore (write s (region.CallFrame m) (index_at (region.CallFrame m) z) new) x bs
   shows_write_frame m z new bs x some k e = by_frame (frame_index_of s.frames m) refl (z +ℤ pos frame_size) refl
     where
       by_frame : (o : Option ℕ) → frame_index_of s.frames m ≡ o → (y : ℤ) → z +ℤ pos frame_size ≡ y
@@ -223,7 +223,7 @@ module _ (p : Program) (a : Layout) (s : State) (w : Words) (R : Related p a s w
   shows_write_number region.Context z bs x some bytes e = tt
   shows_write_number region.PacketEnd z bs x some bytes e = tt
   shows_write_number (region.Map m) z bs x some bytes e = tt
-  shows_write_number (region.Frame m) z bs x some bytes e = shows_write_frame m z (map Byte bs) bs x some (shows-bytes a bs) e
+  shows_write_number (region.CallFrame m) z bs x some bytes e = shows_write_frame m z (map Byte bs) bs x some (shows-bytes a bs) e
   shows_write_number (region.MapValue m n) z bs x some bytes e = shows_write_value m n z bs x bytes e
   shows_write_number region.Packet (negsuc i) bs x some bytes e = tt
   shows_write_number region.Packet (pos i) bs x some bytes e =
@@ -265,7 +265,7 @@ module _ (p : Program) (a : Layout) (s : State) (w : Words) (R : Related p a s w
       by_region region.PacketEnd at = tt
       by_region (region.Map m) at = tt
       by_region region.Packet at = shows_write_number region.Packet (z +ℤ by) (bytes_of size n) _ (some_bytes size n) (bytes_of_fit size n) at
-      by_region (region.Frame m) at = shows_write_number (region.Frame m) (z +ℤ by) (bytes_of size n) _ (some_bytes size n) (bytes_of_fit size n) at
+      by_region (region.CallFrame m) at = shows_write_number (region.CallFrame m) (z +ℤ by) (bytes_of size n) _ (some_bytes size n) (bytes_of_fit size n) at
       by_region (region.MapValue m k) at = shows_write_number (region.MapValue m k) (z +ℤ by) (bytes_of size n) _ (some_bytes size n) (bytes_of_fit size n) at
 
   -- every store
@@ -278,10 +278,10 @@ module _ (p : Program) (a : Layout) (s : State) (w : Words) (R : Related p a s w
   shows_store size u by (Ptr q i) x y fits small e f = by_size size u e fits
     where
       by_size : (size : Size) (u : Value) → Represents a u x → IsValue (length p.maps) s.next_serial u → OkStore (store_pointer s size u by q i) (alu Add Full64 x (unsigned Full64 by)) (bytes_of size y)
-      by_size U64 (Ptr (region.Frame m) z) e fits =
-          let g = far a (length p.maps) s.next_serial R.layout (region.Frame m) fits.0 in
-          let at = add_near (region_start a (region.Frame m)) z by g.0 g.1 fits.1 small in
-          subst (λ x. OkStore (store_pointer s U64 (Ptr (region.Frame m) z) by q i) (alu Add Full64 x (unsigned Full64 by)) (bytes_of U64 y)) (sym e)
-          (subst (λ y. OkStore (store_pointer s U64 (Ptr (region.Frame m) z) by q i) (alu Add Full64 (word a (region.Frame m) z) (unsigned Full64 by)) (bytes_of U64 y)) (sym f)
+      by_size U64 (Ptr (region.CallFrame m) z) e fits =
+          let g = far a (length p.maps) s.next_serial R.layout (region.CallFrame m) fits.0 in
+          let at = add_near (region_start a (region.CallFrame m)) z by g.0 g.1 fits.1 small in
+          subst (λ x. OkStore (store_pointer s U64 (Ptr (region.CallFrame m) z) by q i) (alu Add Full64 x (unsigned Full64 by)) (bytes_of U64 y)) (sym e)
+          (subst (λ y. OkStore (store_pointer s U64 (Ptr (region.CallFrame m) z) by q i) (alu Add Full64 (word a (region.CallFrame m) z) (unsigned Full64 by)) (bytes_of U64 y)) (sym f)
           (shows_write_frame m (z +ℤ by) (pieces q i) (to_le_bytes w64 (word a q i)) _ (omega arith) (shows-pieces a q i) at))
       by_size size u e fits = tt

@@ -8,7 +8,7 @@ use Rattle.isa_model.specs.declared.sizes.Width.{Width}
 use Rattle.isa_model.specs.declared.sizes.Width.TheVariants.{Full64}
 use Rattle.isa_model.specs.declared.sizes.Size.{Size}
 use Rattle.isa_model.specs.declared.sizes.Size.TheVariants.{U8, U16, U32, U64}
-use Rattle.isa_model.specs.declared.sizes.Narrow.{Narrow}
+use Rattle.isa_model.specs.declared.sizes.SignedSize.{SignedSize}
 use Rattle.isa_model.specs.declared.instructions.Place.{Place}
 use Rattle.isa_model.specs.declared.instructions.AluOp.TheVariants.{Add}
 use Rattle.isa_model.specs.declared.values.Region.{Region}
@@ -76,12 +76,12 @@ module _ (p : Program) (a : Layout) (s : State) (w : Words) (R : Related p a s w
       by_region region.Context at = through region.Context _ at
       by_region region.Packet at = through region.Packet _ at
       by_region (region.Map m) at = through (region.Map m) _ at
-      by_region (region.Frame m) at = through (region.Frame m) _ at
+      by_region (region.CallFrame m) at = through (region.CallFrame m) _ at
       by_region (region.MapValue m k) at = through (region.MapValue m k) _ at
       by_region region.PacketEnd at = tt
 
   -- a load that is sign-extended
-  pub shows_load_signed : (size : Narrow) (v : Value) (by : ℤ) (x : ℕ) → IsValue (length p.maps) s.next_serial v → FitsSigned w16 by → Represents a v x
+  pub shows_load_signed : (size : SignedSize) (v : Value) (by : ℤ) (x : ℕ) → IsValue (length p.maps) s.next_serial v → FitsSigned w16 by → Represents a v x
       → OkShows a (load_signed s size v by) (sign_extended (narrow_extension size) (number_at w (narrow_size size) (alu Add Full64 x (unsigned Full64 by))))
       × IfOk (load_signed s size v by) (λ u. IsInside w (spot_of (alu Add Full64 x (unsigned Full64 by))) (size_bytes (narrow_size size)))
   shows_load_signed size v by x fits small e = signed (load_number s (narrow_size size) v by) (shows_load_number (narrow_size size) v by x fits small e)

@@ -43,7 +43,7 @@ region_start a region.Packet = packet_base
 region_start a region.PacketEnd = packet_base + a.end
 region_start a (region.Map m) = map_base m
 region_start a (region.MapValue m n) = values_base m + a.value m n
-region_start a (region.Frame n) = frame_end (a.depth n)
+region_start a (region.CallFrame n) = frame_end (a.depth n)
 
 -- an address some bytes further on, or back
 abbrev pub moved : ℕ → ℤ → ℕ

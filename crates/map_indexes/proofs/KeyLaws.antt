@@ -3,16 +3,16 @@ use Rattle.std.proofs.Common.{◌≡◌, ℕ, zero, suc, ◌+◌, ◌*◌, ◌<�
 use Rattle.std.specs.Prelude.{slice_index_or, slice_set, is_some, replicate}
 use Rattle.map_indexes.specs.Rows.{row_at, with_row}
 use Rattle.map_indexes.specs.RowLaws.{row_at-other, row_at-with_row}
-use Rattle.map_indexes.specs.PlaceKeys.{PlaceKeys, slots_of, slot}
+use Rattle.map_indexes.specs.PlaceKeys.{PlaceKeys, keys_by_place, slot}
 
 module _ (size : ℕ) (block : List ℕ) where
-  pub length-slots_of : (at : ℕ) (used : List Bool) → length (slots_of size block at used) ≡ length used
-  length-slots_of at [] = refl
-  length-slots_of at (true ∷ used) = ap suc (length-slots_of (at + 1) used)
-  length-slots_of at (false ∷ used) = ap suc (length-slots_of (at + 1) used)
+  pub length-keys_by_place : (at : ℕ) (used : List Bool) → length (keys_by_place size block at used) ≡ length used
+  length-keys_by_place at [] = refl
+  length-keys_by_place at (true ∷ used) = ap suc (length-keys_by_place (at + 1) used)
+  length-keys_by_place at (false ∷ used) = ap suc (length-keys_by_place (at + 1) used)
 
   -- a place has a key where it is in use
-  pub is_some-slot : (at : ℕ) (used : List Bool) (i : ℕ) → is_some (slot (slots_of size block at used) i) ≡ slice_index_or used i false
+  pub is_some-slot : (at : ℕ) (used : List Bool) (i : ℕ) → is_some (slot (keys_by_place size block at used) i) ≡ slice_index_or used i false
   is_some-slot at [] i = refl
   is_some-slot at (true ∷ used) zero = refl
   is_some-slot at (true ∷ used) (suc i) = is_some-slot (at + 1) used i
@@ -20,8 +20,8 @@ module _ (size : ℕ) (block : List ℕ) where
   is_some-slot at (false ∷ used) (suc i) = is_some-slot (at + 1) used i
 
   -- and then its row
-  pub slot-used : (at : ℕ) (used : List Bool) (i : ℕ) → is_some (slot (slots_of size block at used) i) ≡ true
-      → slot (slots_of size block at used) i ≡ Some (row_at size block (at + i))
+  pub slot-used : (at : ℕ) (used : List Bool) (i : ℕ) → is_some (slot (keys_by_place size block at used) i) ≡ true
+      → slot (keys_by_place size block at used) i ≡ Some (row_at size block (at + i))
   slot-used at [] i e = absurd (cc)
   slot-used at (true ∷ used) zero e = let h : at ≡ at + 0 = omega arith in ap (λ (n : ℕ). Some (row_at size block n)) h
   slot-used at (true ∷ used) (suc i) e =
@@ -33,7 +33,7 @@ module _ (size : ℕ) (block : List ℕ) where
       slot-used (at + 1) used i e ∙ ap (λ (n : ℕ). Some (row_at size block n)) h
 
   -- a place with a key is one of the places
-  pub used_inside : (at : ℕ) (used : List Bool) (i : ℕ) → is_some (slot (slots_of size block at used) i) ≡ true → i < length used
+  pub used_inside : (at : ℕ) (used : List Bool) (i : ℕ) → is_some (slot (keys_by_place size block at used) i) ≡ true → i < length used
   used_inside at [] i e = absurd (cc)
   used_inside at (true ∷ used) zero e = omega arith
   used_inside at (true ∷ used) (suc i) e = let h = used_inside (at + 1) used i e in omega arith
@@ -41,39 +41,40 @@ module _ (size : ℕ) (block : List ℕ) where
   used_inside at (false ∷ used) (suc i) e = let h = used_inside (at + 1) used i e in omega arith
 
   -- a place that is no longer in use has no key
-  pub slots_of-unused : (at : ℕ) (used : List Bool) (i : ℕ) → slots_of size block at (slice_set used i false) ≡ slice_set (slots_of size block at used) i None
-  slots_of-unused at [] i = refl
-  slots_of-unused at (true ∷ used) zero = refl
-  slots_of-unused at (true ∷ used) (suc i) = ap (λ (r : PlaceKeys). Some (row_at size block at) ∷ r) (slots_of-unused (at + 1) used i)
-  slots_of-unused at (false ∷ used) zero = refl
-  slots_of-unused at (false ∷ used) (suc i) = ap (λ (r : PlaceKeys). None ∷ r) (slots_of-unused (at + 1) used i)
+  pub keys_by_place-unused : (at : ℕ) (used : List Bool) (i : ℕ) → keys_by_place size block at (slice_set used i false) ≡ slice_set (keys_by_place size block at used) i None
+  keys_by_place-unused at [] i = refl
+  keys_by_place-unused at (true ∷ used) zero = refl
+  keys_by_place-unused at (true ∷ used) (suc i) = ap (λ (r : PlaceKeys). Some (row_at size block at) ∷ r) (keys_by_place-unused (at + 1) used i)
+  keys_by_place-unused at (false ∷ used) zero = refl
+  keys_by_place-unused at (false ∷ used) (suc i) = ap (λ (r : PlaceKeys). None ∷ r) (keys_by_place-unused (at + 1) used i)
 
   -- no place is in use at first
-  pub slots_of-replicate : (at n : ℕ) → slots_of size block at (replicate n false) ≡ replicate n None
-  slots_of-replicate at zero = refl
-  slots_of-replicate at (suc n) = ap (λ (r : PlaceKeys). None ∷ r) (slots_of-replicate (at + 1) n)
+  pub keys_by_place-replicate : (at n : ℕ) → keys_by_place size block at (replicate n false) ≡ replicate n None
+  keys_by_place-replicate at zero = refl
+  keys_by_place-replicate at (suc n) =
+      ap (λ (r : PlaceKeys). None ∷ r) (keys_by_place-replicate (at + 1) n)
 
 module _ (size : ℕ) (block : List ℕ) (p : ℕ) (key : List ℕ) (n : ℕ) (long : length key ≡ size) (whole : length block ≡ n * size) (inside : p < n) where
   abbrev after : List ℕ
   after = with_row size block p key
 
   -- a key that is written shows at no place above its own
-  slots_of-above : (at : ℕ) (used : List Bool) → p < at → slots_of size after at used ≡ slots_of size block at used
+  slots_of-above : (at : ℕ) (used : List Bool) → p < at → keys_by_place size after at used ≡ keys_by_place size block at used
   slots_of-above at [] l = refl
   slots_of-above at (true ∷ used) l =
       λ i. Some (row_at-other size block p key n long whole inside at (λ e. omega arith) i) ∷ slots_of-above (at + 1) used (omega arith) i
   slots_of-above at (false ∷ used) l = ap (λ (r : PlaceKeys). None ∷ r) (slots_of-above (at + 1) used (omega arith))
 
   -- a key that is written at a place, which is then in use, is that place's
-  pub slots_of-put : (at : ℕ) (used : List Bool) (i : ℕ) → at + i ≡ p → i < length used
-      → slots_of size after at (slice_set used i true) ≡ slice_set (slots_of size block at used) i (Some key)
-  slots_of-put at [] i e l = absurd (omega arith)
-  slots_of-put at (true ∷ used) zero e l =
+  pub keys_by_place-put : (at : ℕ) (used : List Bool) (i : ℕ) → at + i ≡ p → i < length used
+      → keys_by_place size after at (slice_set used i true) ≡ slice_set (keys_by_place size block at used) i (Some key)
+  keys_by_place-put at [] i e l = absurd (omega arith)
+  keys_by_place-put at (true ∷ used) zero e l =
       let here : at ≡ p = omega arith in
       λ i. Some ((ap (row_at size after) here ∙ row_at-with_row size block p key n long whole inside) i) ∷ slots_of-above (at + 1) used (omega arith) i
-  slots_of-put at (false ∷ used) zero e l =
+  keys_by_place-put at (false ∷ used) zero e l =
       let here : at ≡ p = omega arith in
       λ i. Some ((ap (row_at size after) here ∙ row_at-with_row size block p key n long whole inside) i) ∷ slots_of-above (at + 1) used (omega arith) i
-  slots_of-put at (true ∷ used) (suc i) e l =
-      λ t. Some (row_at-other size block p key n long whole inside at (λ g. omega arith) t) ∷ slots_of-put (at + 1) used i (omega arith) (omega arith) t
-  slots_of-put at (false ∷ used) (suc i) e l = ap (λ (r : PlaceKeys). None ∷ r) (slots_of-put (at + 1) used i (omega arith) (omega arith))
+  keys_by_place-put at (true ∷ used) (suc i) e l =
+      λ t. Some (row_at-other size block p key n long whole inside at (λ g. omega arith) t) ∷ keys_by_place-put (at + 1) used i (omega arith) (omega arith) t
+  keys_by_place-put at (false ∷ used) (suc i) e l = ap (λ (r : PlaceKeys). None ∷ r) (keys_by_place-put (at + 1) used i (omega arith) (omega arith))

@@ -37,10 +37,10 @@ abbrev pub AreKeys : ℕ → PlaceKeys → Type 0
 AreKeys size slots = (p : ℕ) (key : List ℕ) → slot slots p ≡ Some key → IsKey size key
 
 -- the slots that a block of keys has where its places are in use
-abbrev pub slots_of : ℕ → List ℕ → ℕ → List Bool → PlaceKeys
-slots_of size block at [] = []
-slots_of size block at (true ∷ used) = Some (row_at size block at) ∷ slots_of size block (at + 1) used
-slots_of size block at (false ∷ used) = None ∷ slots_of size block (at + 1) used
+abbrev pub keys_by_place : ℕ → List ℕ → ℕ → List Bool → PlaceKeys
+keys_by_place size block at [] = []
+keys_by_place size block at (true ∷ used) = Some (row_at size block at) ∷ keys_by_place size block (at + 1) used
+keys_by_place size block at (false ∷ used) = None ∷ keys_by_place size block (at + 1) used
 
 -- the keys of one size by place
 pub record KeyTable : Type 0 where

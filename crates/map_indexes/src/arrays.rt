@@ -5,7 +5,7 @@ ghost use Rattle.std.specs.FinMap.{values};
 ghost use Rattle.std.specs.List.{range_with_len};
 ghost use Rattle.std.specs.List.Sorted.{IsSortedByKey};
 ghost use Rattle.byteorder.specs.Endian.{little_bytes};
-ghost use Rattle.isa_model.specs.declared.map_defs.MapKind.TheVariants.{Array};
+ghost use Rattle.isa_model.specs.declared.map_defs.MapType.TheVariants.{Array};
 ghost use Rattle.isa_model.specs.Machine.MapContents.{key_order};
 ghost use Rattle.map_indexes.specs.ArrayPlaces.{array_places};
 

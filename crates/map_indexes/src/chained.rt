@@ -2,7 +2,7 @@
 
 ghost use Rattle.std.specs.Prelude.{◌≡◌, ℕ, ◌+◌, ◌-◌, ◌<◌, ◌≤◌, length, None, IfOk, IfSome, slice_index_or, vec_capacity, is_some, true, Some};
 ghost use Rattle.std.specs.FinMap as map;
-ghost use Rattle.isa_model.specs.declared.map_defs.MapKind.TheVariants.{Hash};
+ghost use Rattle.isa_model.specs.declared.map_defs.MapType.TheVariants.{Hash};
 ghost use Rattle.map_indexes.specs.PlaceKeys.{places, slot, AreKeys};
 ghost use Rattle.map_indexes.specs.KeyOrder.{used_places};
 ghost use Rattle.map_indexes.specs.Chains.{spot, link_in};

@@ -4,7 +4,7 @@ ghost use Rattle.std.specs.Prelude.{◌≡◌, ◌≢◌, ◌+◌, ◌<◌, ◌^
 ghost use Rattle.map_indexes.specs.LastBelow.{last_below};
 ghost use Rattle.map_indexes.specs.Chains.{in_chain, spot, IsChained, StandsBehind, heads_led, nexts_led, led_from, link_in};
 
-use crate::numbers::Numbers;
+use crate::numbers::PlaceNumbers;
 use std::alloc::{AllocError, Global};
 
 /// A place in a chain, and the number of the next link. The number of a link is its place.
@@ -17,8 +17,8 @@ pub struct Link {
 
 // Makes a link of a chain, or its start, lead to another link.
 fn lead(
-    heads: &mut Numbers,
-    nexts: &mut Numbers,
+    heads: &mut PlaceNumbers,
+    nexts: &mut PlaceNumbers,
     chain: usize,
     from: Option<usize>,
     to: Option<usize>,
@@ -39,10 +39,10 @@ fn lead(
 #[derive(Drop)]
 pub struct Chains {
     count: u32,
-    heads: Numbers,
+    heads: PlaceNumbers,
     // By number of a link: its chain, and the next link of that.
-    chains: Numbers,
-    nexts: Numbers,
+    chains: PlaceNumbers,
+    nexts: PlaceNumbers,
     ghost counted: { length heads ≡ count },
     ghost small: { count < 2 ^ 32 },
     ghost few: { length chains < 2 ^ 32 },
@@ -57,9 +57,9 @@ impl Chains {
         ensures empty { IfOk result (λ c. (k : ℕ) → link_in c.chains c.nexts k ≡ None) }
         ensures room { IfOk result (λ c. length c.chains ≡ room) }
     {
-        let heads = Numbers::new(alloc, count)?;
-        let chains = Numbers::new(alloc, room)?;
-        let nexts = Numbers::new(alloc, room)?;
+        let heads = PlaceNumbers::new(alloc, count)?;
+        let chains = PlaceNumbers::new(alloc, room)?;
+        let nexts = PlaceNumbers::new(alloc, room)?;
         Ok(Chains {
             count,
             heads,

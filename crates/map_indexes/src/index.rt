@@ -2,8 +2,8 @@
 
 ghost use Rattle.std.specs.Prelude.{◌≡◌, ◌≢◌, ◌<◌, ◌≤◌, ℕ, List, length, nat_le, None, Some, IsSome, IfSome};
 ghost use Rattle.std.specs.FinMap as map;
-ghost use Rattle.isa_model.specs.declared.map_defs.MapKind.{MapKind};
-ghost use Rattle.isa_model.specs.declared.map_defs.MapKind.TheVariants.{Hash, Array};
+ghost use Rattle.isa_model.specs.declared.map_defs.MapType.{MapType};
+ghost use Rattle.isa_model.specs.declared.map_defs.MapType.TheVariants.{Hash, Array};
 ghost use Rattle.map_indexes.specs.PlaceKeys.{Places, TakesPlace};
 
 /// Which place each key of a map has. The places are the numbers below `room`, and a key keeps its
@@ -11,7 +11,7 @@ ghost use Rattle.map_indexes.specs.PlaceKeys.{Places, TakesPlace};
 pub trait Index: Drop {
     ghost places: { Self → Places };
 
-    ghost kind: { Self → MapKind };
+    ghost kind: { Self → MapType };
 
     ghost key_size: { Self → ℕ };
 

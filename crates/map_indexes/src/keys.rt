@@ -7,7 +7,7 @@ ghost use Rattle.std.specs.List.Sorted.{IsSortedByKey};
 ghost use Rattle.isa_model.specs.Code.LittleEndian.{EachByte};
 ghost use Rattle.isa_model.specs.Machine.MapContents.{key_order};
 ghost use Rattle.map_indexes.specs.KeyOrder.{key_or_none};
-ghost use Rattle.map_indexes.specs.PlaceKeys.{KeyTable, slot, slots_of};
+ghost use Rattle.map_indexes.specs.PlaceKeys.{KeyTable, slot, keys_by_place};
 
 use crate::rooms::exact;
 use byteorder::{ByteOrder, LittleEndian};
@@ -57,7 +57,7 @@ impl Model for Keys {
 
     ghost view = { λ k. record {
       size = k.size;
-      slots = slots_of k.size k.block.items 0
+      slots = keys_by_place k.size k.block.items 0
           k.used.items;
     } };
 

@@ -1,7 +1,7 @@
 //! Lists of numbers in four bytes each.
 
 ghost use Rattle.std.specs.Prelude.{◌≡◌, ◌+◌, ◌<◌, ◌^◌, length, None, IfOk, IfSome, replicate, slice_index_or, slice_set};
-ghost use Rattle.map_indexes.specs.Numbers.{number_of as the_number_of};
+ghost use Rattle.map_indexes.specs.PlaceNumbers.{number_of as the_number_of};
 
 use crate::rooms::exact;
 use std::alloc::{AllocError, Global};
@@ -11,14 +11,14 @@ use std::marker::Model;
 ///
 /// Contracts see the numbers.
 #[derive(Drop)]
-pub struct Numbers {
+pub struct PlaceNumbers {
     // one more than the number, or 0 where there is none
     codes: Vec<u32>,
 }
 
-impl Model for Numbers {
+impl Model for PlaceNumbers {
     ghost use Rattle.std.specs.Prelude.{◌≡◌, ℕ, List, Option, length, map, vec_capacity};
-    ghost use Rattle.map_indexes.specs.Numbers.{number_of};
+    ghost use Rattle.map_indexes.specs.PlaceNumbers.{number_of};
 
     ghost Value = { List (Option ℕ) };
 
@@ -27,14 +27,14 @@ impl Model for Numbers {
     ghost invariant = { λ l. vec_capacity l.codes ≡ length l.codes.items };
 }
 
-impl Numbers {
+impl PlaceNumbers {
     /// A list without numbers.
     pub fn new(alloc: Global, count: u32) -> Result<Self, AllocError>
         ensures { IfOk result (λ l. l ≡ replicate count None) }
     {
         let zeros = vec![in alloc; 0; count as usize]?;
         let codes = exact(zeros)?;
-        Ok(Numbers { codes })
+        Ok(PlaceNumbers { codes })
     }
 
     /// The number at a place.

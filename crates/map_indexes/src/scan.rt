@@ -1,7 +1,7 @@
 //! Keys found by comparing them one after the other.
 
 ghost use Rattle.std.specs.Prelude.{◌≡◌, ◌<◌, length, None, slice_index_or};
-ghost use Rattle.isa_model.specs.declared.map_defs.MapKind.TheVariants.{Hash};
+ghost use Rattle.isa_model.specs.declared.map_defs.MapType.TheVariants.{Hash};
 ghost use Rattle.map_indexes.specs.PlaceKeys.{places, slot, IsScan};
 
 use crate::index::Index;

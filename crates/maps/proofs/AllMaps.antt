@@ -6,7 +6,7 @@ use Rattle.std.proofs.lemmas.List.Elements.{All-set}
 use Rattle.std.specs.Prelude.{◌≤◌, slice_index_or, slice_set}
 use Rattle.std.specs.List.{slice_get}
 use Rattle.std.specs.Option.{option_map}
-use Rattle.isa_model.specs.declared.map_defs.MapKind.TheVariants.{Array, Hash}
+use Rattle.isa_model.specs.declared.map_defs.MapType.TheVariants.{Array, Hash}
 use Rattle.isa_model.specs.declared.map_defs.MapDef.{MapDef}
 use Rattle.maps.specs.declared.either.EitherIndex.{EitherIndex}
 use Rattle.maps.specs.declared.either.EitherIndex.TheVariants as either

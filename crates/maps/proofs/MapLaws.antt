@@ -11,8 +11,8 @@ use Rattle.std.proofs.lemmas.Option.{slice_get-get_or}
 use Rattle.std.proofs.Math.Seq.{map-set_same}
 use Rattle.byteorder.specs.Endian.{little_bytes, little_number}
 use Rattle.byteorder.specs.Numbers.{little_number-reads_back}
-use Rattle.isa_model.specs.declared.map_defs.MapKind.{MapKind}
-use Rattle.isa_model.specs.declared.map_defs.MapKind.TheVariants.{Hash, Array}
+use Rattle.isa_model.specs.declared.map_defs.MapType.{MapType}
+use Rattle.isa_model.specs.declared.map_defs.MapType.TheVariants.{Hash, Array}
 use Rattle.isa_model.specs.declared.map_defs.MapDef.{MapDef}
 use Rattle.isa_model.specs.Machine.States.{KeyValues}
 use Rattle.isa_model.specs.Machine.MapContents.{key_order, with_key}
@@ -63,7 +63,7 @@ module _ (m : MapState) (is : IsMap m) where
   IsIndex : List ℕ → Type 0
   IsIndex key = little_number 4 key < m.row.entries
 
-  keys_fit : (kind : MapKind) → m.row.kind ≡ kind → KeysFit kind m.row.entries (keys_of C)
+  keys_fit : (kind : MapType) → m.row.kind ≡ kind → KeysFit kind m.row.entries (keys_of C)
   keys_fit Hash e = tt
   keys_fit Array e =
       let small : m.row.entries ≤ 2 ^ 32 = let few = is.is_row.few_entries in omega arith in
@@ -125,7 +125,7 @@ content-filled size m (suc n) le =
     ∙ (λ i. with_key (little_bytes 4 n) (zero_row size m n (omega arith) i) (content-filled size m n (omega arith) i))
     ∙ sym (ap (fold (filled size) []) more ∙ fold-append (filled size) [] (range_with_len 0 n) (n ∷ []))
 
-starting_by : (kind : MapKind) (row : MapDef)
+starting_by : (kind : MapType) (row : MapDef)
     → content row.value_size (starting_places kind row.entries) (replicate (row.entries * row.value_size) 0) ≡ starting_key_values kind row
 starting_by Hash row = content-empty row.value_size (replicate (row.entries * row.value_size) 0)
 starting_by Array row = content-filled row.value_size row.entries row.entries (omega arith)

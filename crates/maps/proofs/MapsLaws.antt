@@ -2,16 +2,16 @@
 use Rattle.std.specs.Prelude.{◌≡◌, ℕ, ◌≤◌}
 use Rattle.std.proofs.Common.{arith}
 use Rattle.isa_model.specs.Code.Limits.{max_key_size}
-use Rattle.isa_model.specs.declared.map_defs.MapKind.{MapKind}
-use Rattle.isa_model.specs.declared.map_defs.MapKind.TheVariants.{Hash, Array}
+use Rattle.isa_model.specs.declared.map_defs.MapType.{MapType}
+use Rattle.isa_model.specs.declared.map_defs.MapType.TheVariants.{Hash, Array}
 use Rattle.isa_model.specs.Code.MapRows.{KeyFits}
 
 -- no key has more than `max_key_size` bytes
-pub KeyFits-most : (kind : MapKind) (n : ℕ) → KeyFits kind n → n ≤ max_key_size
+pub KeyFits-most : (kind : MapType) (n : ℕ) → KeyFits kind n → n ≤ max_key_size
 KeyFits-most Hash n fits = fits.1
 KeyFits-most Array n fits = omega arith
 
 -- an array's keys have four
-pub KeyFits-index : (kind : MapKind) (n : ℕ) → KeyFits kind n → kind ≡ Array → n ≡ 4
+pub KeyFits-index : (kind : MapType) (n : ℕ) → KeyFits kind n → kind ≡ Array → n ≡ 4
 KeyFits-index Hash n fits e = absurd (cc)
 KeyFits-index Array n fits e = fits

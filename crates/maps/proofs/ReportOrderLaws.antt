@@ -13,8 +13,8 @@ use Rattle.std.specs.Ordering.{is_eq, is_lt, ordering_reverse}
 use Rattle.std.specs.declared.cmp.Ordering.{Ordering}
 use Rattle.std.specs.declared.cmp.Ordering.TheVariants.{Less, Equal, Greater}
 use Rattle.byteorder.specs.Endian.{little_bytes}
-use Rattle.isa_model.specs.declared.map_defs.MapKind.{MapKind}
-use Rattle.isa_model.specs.declared.map_defs.MapKind.TheVariants.{Hash, Array}
+use Rattle.isa_model.specs.declared.map_defs.MapType.{MapType}
+use Rattle.isa_model.specs.declared.map_defs.MapType.TheVariants.{Hash, Array}
 use Rattle.isa_model.specs.Machine.MapContents.{key_order, is_key}
 use Rattle.isa_model.specs.Machine.States.{KeyValues}
 use Rattle.isa_model.specs.Reporting.Reports.{in_report_order, key_value_by_index}
@@ -129,7 +129,7 @@ listed-none slots k none =
     ] (sym (slice_get-map (λ e. e.1) (entries (places slots)) k) ∙ none)
 
 -- the keys in the order of the report are the values of the keys that are listed
-pub in_report_order-listed : (index : EitherIndex) (kind : MapKind) (n size : ℕ) (block : List ℕ) → kind_of index ≡ kind → room_of index ≡ n
+pub in_report_order-listed : (index : EitherIndex) (kind : MapType) (n size : ℕ) (block : List ℕ) → kind_of index ≡ kind → room_of index ≡ n
     → in_report_order kind n (content size (places_of index) block) ≡ map (λ e. (e.0, row_at size block e.1)) (listed_of index)
 in_report_order-listed (either.Array s) Array n size block k room =
     let small = s.small in
@@ -171,7 +171,7 @@ key_of size block None bytes = refl
 key_of size block (Some e) bytes = refl
 
 -- the k-th key of a map with its value, by the k-th key that is listed
-module _ (index : EitherIndex) (kind : MapKind) (n size : ℕ) (block : List ℕ) (same : kind_of index ≡ kind) (room : room_of index ≡ n) (k : ℕ) where
+module _ (index : EitherIndex) (kind : MapType) (n size : ℕ) (block : List ℕ) (same : kind_of index ≡ kind) (room : room_of index ≡ n) (k : ℕ) where
   abbrev pub reported : KeyValues
   reported = in_report_order kind n (content size (places_of index) block)
 

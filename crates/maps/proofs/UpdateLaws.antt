@@ -2,8 +2,8 @@
 use Rattle.std.proofs.Common.{◌≡◌, ℕ, ◌*◌, ◌<◌, List, length, Option, Some, None, Bool, true, false, refl, sym, ap, ◌∙◌, arith}
 use Rattle.std.specs.Prelude.{◌^◌, ◌-◌, ◌≢◌, ◌==◌, is_some, IsSome, IfSome, nat_lt, nat_le, if◌then◌else◌}
 use Rattle.std.specs.FinMap.{get, len}
-use Rattle.isa_model.specs.declared.map_defs.MapKind.{MapKind}
-use Rattle.isa_model.specs.declared.map_defs.MapKind.TheVariants.{Hash, Array}
+use Rattle.isa_model.specs.declared.map_defs.MapType.{MapType}
+use Rattle.isa_model.specs.declared.map_defs.MapType.TheVariants.{Hash, Array}
 use Rattle.isa_model.specs.declared.map_defs.MapDef.{MapDef}
 use Rattle.isa_model.specs.Machine.States.{KeyValues}
 use Rattle.isa_model.specs.Machine.MapContents.{with_key, without_key, enoent, e2big, exist, update_answer_by, delete_answer_by, update_answer, delete_answer, after_update, after_delete}
@@ -11,7 +11,7 @@ use Rattle.map_indexes.specs.Rows.{with_row}
 use Rattle.maps.specs.Contents.{content}
 use Rattle.maps.proofs.ContentLaws.{has_key-content, length-content, content-written, content-added, content-removed, get-taken}
 use Rattle.map_indexes.specs.PlaceKeys.{Places, TakesPlace}
-use Rattle.maps.specs.Changes.{Writes, Updates, Deletes}
+use Rattle.maps.specs.Changes.{WritesPair, Updates, Deletes}
 
 -- a test of a number for 0
 zero_or_not : (n : ℕ) → (n == 0) ≡ true → n ≡ 0
@@ -25,11 +25,11 @@ refused_array true n d e = d e
 refused_array false n d e = absurd (omega arith)
 
 -- an absent key is added only to a hash map that is not full
-pub added_hash : (kind : MapKind) (full : Bool) (flags : ℕ) → update_answer_by kind false full flags ≡ 0 → (kind ≡ Hash) × (full ≡ false)
+pub added_hash : (kind : MapType) (full : Bool) (flags : ℕ) → update_answer_by kind false full flags ≡ 0 → (kind ≡ Hash) × (full ≡ false)
 added_hash Array full flags e = absurd (refused_array (nat_lt exist flags) (2 ^ 64 - 22) (λ z. omega arith) e)
 added_hash Hash false flags e = (refl, refl)
 added_hash Hash true flags e =
-    elim (nat_lt exist flags) as (λ b. (if b then 2 ^ 64 - 22 else if flags == exist then 2 ^ 64 - 2 else e2big) ≡ 0 → (◌≡◌ {A = MapKind} Hash Hash) × (true ≡ false)) [
+    elim (nat_lt exist flags) as (λ b. (if b then 2 ^ 64 - 22 else if flags == exist then 2 ^ 64 - 2 else e2big) ≡ 0 → (◌≡◌ {A = MapType} Hash Hash) × (true ≡ false)) [
       | true ↦ λ f. absurd (omega arith)
       | false ↦ λ f. absurd (refused_array (flags == exist) (2 ^ 64 - 2) (λ z. omega arith) f)
     ] e
@@ -51,7 +51,7 @@ module _ (row : MapDef) (P : Places) (B : List ℕ) (key : List ℕ) where
   delete_answer-places = ap (delete_answer_by row.kind) (has_key-content size P B key)
 
   -- an answer by the kind, by what was found, and by whether the map is full
-  pub answer_found : (kind : MapKind) (found : Option ℕ) (present full : Bool) (flags answer : ℕ) → kind ≡ row.kind → found ≡ get P key
+  pub answer_found : (kind : MapType) (found : Option ℕ) (present full : Bool) (flags answer : ℕ) → kind ≡ row.kind → found ≡ get P key
       → present ≡ is_some found → full ≡ nat_le row.entries (len P) → answer ≡ update_answer_by kind present full flags
       → answer ≡ update_answer row C key flags
   answer_found kind found present full flags answer k f p n e =
@@ -71,7 +71,7 @@ module _ (row : MapDef) (P : Places) (B : List ℕ) (key : List ℕ) where
     C' = content size P' B'
 
     -- a present key's value is written at its place
-    pub writes_present : (value : List ℕ) (p : ℕ) → get P key ≡ Some p → P' ≡ P → B' ≡ with_row size B p value → Writes size key value P B P' B'
+    pub writes_present : (value : List ℕ) (p : ℕ) → get P key ≡ Some p → P' ≡ P → B' ≡ with_row size B p value → WritesPair size key value P B P' B'
     writes_present value p here same written = record {
       place = p;
       there = ap (λ (m : Places). get m key) same ∙ here;
@@ -82,7 +82,7 @@ module _ (row : MapDef) (P : Places) (B : List ℕ) (key : List ℕ) where
 
     -- an absent key's value is written at the place that it takes
     pub writes_absent : (value : List ℕ) (found : Option ℕ) → get P key ≡ None → IsSome found → IfSome found (λ p. TakesPlace P key p P')
-        → IfSome found (λ p. B' ≡ with_row size B p value) → Writes size key value P B P' B'
+        → IfSome found (λ p. B' ≡ with_row size B p value) → WritesPair size key value P B P' B'
     writes_absent value None none some takes written = absurd (cc)
     writes_absent value (Some p) none some takes written = record {
       place = p;
@@ -95,7 +95,8 @@ module _ (row : MapDef) (P : Places) (B : List ℕ) (key : List ℕ) where
     -- a value that is written is the key's
     pub content-writes : (value : List ℕ) → length value ≡ size → length B ≡ row.entries * size
         → ((j k : List ℕ) (p : ℕ) → get P j ≡ Some p → get P k ≡ Some p → j ≡ k)
-        → (w : Writes size key value P B P' B') → w.place < row.entries → C' ≡ with_key key value C
+        → (w : WritesPair size key value P B P' B') → w.place < row.entries
+        → C' ≡ with_key key value C
     content-writes value long whole apart w inside =
         elim (get P key) as (λ o. get P key ≡ o → C' ≡ with_key key value C) [
           | Some p ↦ λ e.

@@ -33,9 +33,10 @@ abbrev pub replies_of : MapDef → KeyValues → List Command → List Said
 replies_of row content [] = []
 replies_of row content (command ∷ commands) = reply_to row content command ∷ replies_of row (content_after row content command) commands
 
-abbrev pub left_by : MapDef → KeyValues → List Command → KeyValues
-left_by row content [] = content
-left_by row content (command ∷ commands) = left_by row (content_after row content command) commands
+abbrev pub content_left : MapDef → KeyValues → List Command → KeyValues
+content_left row content [] = content
+content_left row content (command ∷ commands) =
+    content_left row (content_after row content command) commands
 
 -- keys and values have the sizes of the row
 abbrev pub Fits : MapDef → Command → Type 0

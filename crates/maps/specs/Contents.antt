@@ -1,8 +1,8 @@
 -- What a map's places and block come to: the finite map from keys to values.
 use Rattle.std.specs.Prelude.{ℕ, List, map}
 use Rattle.std.specs.FinMap.{empty, entries}
-use Rattle.isa_model.specs.declared.map_defs.MapKind.{MapKind}
-use Rattle.isa_model.specs.declared.map_defs.MapKind.TheVariants.{Hash, Array}
+use Rattle.isa_model.specs.declared.map_defs.MapType.{MapType}
+use Rattle.isa_model.specs.declared.map_defs.MapType.TheVariants.{Hash, Array}
 use Rattle.isa_model.specs.declared.map_defs.MapDef.{MapDef}
 use Rattle.isa_model.specs.Machine.States.{KeyValues}
 use Rattle.map_indexes.specs.Rows.{row_at}
@@ -18,6 +18,6 @@ hash_row key_size value_size entries =
     record { kind = Hash; key_size = key_size; value_size = value_size; entries = entries }
 
 -- at the start an array has all its indexes, and a hash map no key
-abbrev pub starting_places : MapKind → ℕ → Places
+abbrev pub starting_places : MapType → ℕ → Places
 starting_places Array entries = array_places entries
 starting_places Hash entries = empty

@@ -1,8 +1,8 @@
 -- Indexes of either kind: an array's or a hash map's.
 use Rattle.std.specs.Prelude.{◌≡◌, ℕ, ◌-◌, ◌<◌, ◌≤◌, List, length, Some}
 use Rattle.std.specs.FinMap.{get, len}
-use Rattle.isa_model.specs.declared.map_defs.MapKind.{MapKind}
-use Rattle.isa_model.specs.declared.map_defs.MapKind.TheVariants.{Hash, Array}
+use Rattle.isa_model.specs.declared.map_defs.MapType.{MapType}
+use Rattle.isa_model.specs.declared.map_defs.MapType.TheVariants.{Hash, Array}
 use Rattle.maps.specs.declared.either.EitherIndex.{EitherIndex}
 use Rattle.maps.specs.declared.either.EitherIndex.TheVariants as either
 use Rattle.map_indexes.specs.ArrayPlaces.{array_places}
@@ -14,7 +14,7 @@ abbrev pub places_of : EitherIndex → Places
 places_of (either.Array s) = array_places s.entries
 places_of (either.Chain s) = places s.keys.slots
 
-abbrev pub kind_of : EitherIndex → MapKind
+abbrev pub kind_of : EitherIndex → MapType
 kind_of (either.Array s) = Array
 kind_of (either.Chain s) = Hash
 

@@ -3,8 +3,8 @@ use Rattle.std.proofs.Common.{◌≡◌, ℕ, ◌*◌, ◌<◌, List, ◌++◌, 
 use Rattle.std.proofs.lemmas.List.{take_at, drop-drop}
 use Rattle.std.proofs.Math.Nat.{ℕ_set}
 use Rattle.std.specs.Coded.{Coded-set}
-use Rattle.isa_model.specs.declared.map_defs.MapKind.{MapKind}
-use Rattle.isa_model.specs.contracts.map_defs.MapKind.{the_row as the_kind}
+use Rattle.isa_model.specs.declared.map_defs.MapType.{MapType}
+use Rattle.isa_model.specs.contracts.map_defs.MapType.{the_row as the_kind}
 use Rattle.std.specs.Prelude.{vec_capacity}
 use Rattle.std.specs.Vec.{with_items}
 use Rattle.std.specs.Borrow.{MutBor, Fml, RattleType}
@@ -15,7 +15,7 @@ use Rattle.map_indexes.specs.RowLaws.{length-with_row}
 use Rattle.maps.specs.declared.store.Store.{Store}
 use Rattle.maps.specs.contracts.store.Store.{the_row}
 
-kind_set : IsSet MapKind
+kind_set : IsSet MapType
 kind_set = Coded-set the_kind.coded
 
 module _ {I : Type 0} {g : Ghosts I} (s : Store I g) where

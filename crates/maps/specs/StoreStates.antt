@@ -1,7 +1,7 @@
 -- A store, as contracts of all maps see it.
 use Rattle.std.specs.Prelude.{◌≡◌, ℕ, ◌≤◌, All, List, length, map}
 use Rattle.isa_model.specs.declared.map_defs.MapDef.{MapDef}
-use Rattle.isa_model.specs.declared.map_defs.MapKind.TheVariants.{Hash}
+use Rattle.isa_model.specs.declared.map_defs.MapType.TheVariants.{Hash}
 use Rattle.map_indexes.specs.declared.index.Index.{Ghosts}
 use Rattle.maps.specs.declared.store.Store.{Store}
 use Rattle.map_indexes.specs.PlaceKeys.{Places}

@@ -6,7 +6,7 @@ ghost use Rattle.std.specs.FinMap as finmap;
 ghost use Rattle.std.specs.FinMap.{values};
 ghost use Rattle.isa_model.specs.Machine.MapContents.{at_key};
 ghost use Rattle.map_indexes.specs.Rows.{row_at};
-ghost use Rattle.isa_model.specs.declared.map_defs.MapKind.TheVariants.{Hash};
+ghost use Rattle.isa_model.specs.declared.map_defs.MapType.TheVariants.{Hash};
 ghost use Rattle.isa_model.specs.Code.MapRows.{IsRow};
 ghost use Rattle.maps.specs.Maps.{IsMap, Updated, Deleted, WritesValue, map_at, content_in, starting_map, ordered_in};
 
@@ -17,7 +17,7 @@ use crate::ordered::Ordered;
 use crate::store::{MapStore, Store};
 use crate::stores::Stores;
 use image::Image;
-use isa_model::{MapDef, MapKind};
+use isa_model::{MapDef, MapType};
 use std::alloc::Global;
 use std::marker::Model;
 
@@ -29,7 +29,7 @@ fn most_keys(rows: &[MapDef]) -> usize
 {
     let mut most = 0;
     for row in rows {
-        if row.kind == MapKind::Hash && row.entries > most {
+        if row.kind == MapType::Hash && row.entries > most {
             most = row.entries;
         }
     }

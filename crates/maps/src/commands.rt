@@ -2,7 +2,7 @@
 
 ghost use Rattle.std.specs.Prelude.{◌≡◌, ℕ, ◌≤◌, length, map, vec_capacity, IfOk, OnOk, All};
 ghost use Rattle.maps.specs.Contents.{content};
-ghost use Rattle.maps.specs.Commands.{said, reply_to, content_after, replies_of, left_by, Fits};
+ghost use Rattle.maps.specs.Commands.{said, reply_to, content_after, replies_of, content_left, Fits};
 
 use crate::helpers::{delete, lookup, update};
 use crate::store::MapStore;
@@ -74,7 +74,7 @@ pub fn replies<S: MapStore>(
         commands.now) }
     ensures content { OnOk result
         (content (S.row_of store.old).value_size (S.places store.new) (S.block store.new)
-        ≡ left_by (S.row_of store.old)
+        ≡ content_left (S.row_of store.old)
         (content (S.row_of store.old).value_size (S.places store.old) (S.block store.old))
         commands.now) }
     ensures row { S.row_of store.new ≡ S.row_of store.old }

@@ -4,11 +4,11 @@ ghost use Rattle.std.specs.Prelude.{◌≡◌, ◌≤◌, IfOk, Some, length, ve
 ghost use Rattle.std.specs.FinMap.{get, remove, values};
 ghost use Rattle.std.specs.List.{slice_get};
 ghost use Rattle.std.specs.Option.{option_map};
-ghost use Rattle.isa_model.specs.declared.map_defs.MapKind.TheVariants.{Hash, Array};
+ghost use Rattle.isa_model.specs.declared.map_defs.MapType.TheVariants.{Hash, Array};
 
 use crate::inserting::insert_place;
 use byteorder::{ByteOrder, LittleEndian};
-use isa_model::{MapDef, MapKind};
+use isa_model::{MapDef, MapType};
 use map_indexes::{ArrayIndex, ChainIndex, Index, put_bytes};
 use std::alloc::{AllocError, Global};
 
@@ -33,8 +33,8 @@ impl EitherIndex {
         ensures places { IfOk result (λ s. places_of s ≡ starting_places row.kind row.entries) }
     {
         match row.kind {
-            MapKind::Array => Ok(EitherIndex::Array(ArrayIndex::new(row.entries))),
-            MapKind::Hash => {
+            MapType::Array => Ok(EitherIndex::Array(ArrayIndex::new(row.entries))),
+            MapType::Hash => {
                 let index = ChainIndex::new(alloc, row.key_size, row.entries)?;
                 Ok(EitherIndex::Chain(index))
             }

@@ -7,7 +7,7 @@ ghost use Rattle.maps.specs.Changes.{Updates, Deletes};
 ghost use Rattle.maps.specs.Contents.{content};
 
 use crate::store::MapStore;
-use isa_model::MapKind;
+use isa_model::MapType;
 
 const NOEXIST: u64 = 1;
 
@@ -22,17 +22,17 @@ const EEXIST: u64 = 0xffff_ffff_ffff_ffef;
 const EINVAL: u64 = 0xffff_ffff_ffff_ffea;
 
 // The answer to an update of a key: 0, or the error of the first test that fails.
-fn update_answer(kind: MapKind, present: bool, full: bool, flags: u64) -> u64
+fn update_answer(kind: MapType, present: bool, full: bool, flags: u64) -> u64
     ensures { result ≡ update_answer_by kind present full flags }
 {
     if flags > EXIST {
         return EINVAL;
     }
     match kind {
-        MapKind::Array if !present => E2BIG,
+        MapType::Array if !present => E2BIG,
         _ if present && flags == NOEXIST => EEXIST,
-        MapKind::Hash if !present && flags == EXIST => ENOENT,
-        MapKind::Hash if !present && full => E2BIG,
+        MapType::Hash if !present && flags == EXIST => ENOENT,
+        MapType::Hash if !present && full => E2BIG,
         _ => 0,
     }
 }
@@ -110,8 +110,8 @@ pub fn delete<S: MapStore>(store: &mut S, key: &[u8]) -> u64
     ensures row { S.row_of store.new ≡ S.row_of store.old }
 {
     match store.row().kind {
-        MapKind::Array => EINVAL,
-        MapKind::Hash => match store.remove(key) {
+        MapType::Array => EINVAL,
+        MapType::Hash => match store.remove(key) {
             Some(_) => 0,
             None => ENOENT,
         },

@@ -10,7 +10,7 @@ use map_indexes::ChainIndex;
 // How many of the listed keys are below a key.
 fn count_below(index: &ChainIndex, list: &[usize], key: &[u8]) -> usize
     requires { list.now ≡ values (remove (places index.now.keys.slots) key.now) }
-    ensures bound { result ≤ length list.now }
+    ensures at_most { result ≤ length list.now }
     ensures inserted { (place : ℕ) → get (places index.now.keys.slots) key.now ≡ Some place
         → insert list.now result place ≡ values (places index.now.keys.slots) }
 {

@@ -5,13 +5,13 @@ ghost use Rattle.std.specs.Borrow.{sem};
 ghost use Rattle.maps.specs.LentBytes.{LendsBytes};
 ghost use Rattle.std.specs.List.{splice};
 ghost use Rattle.std.specs.FinMap as map;
-ghost use Rattle.isa_model.specs.declared.map_defs.MapKind.TheVariants.{Hash, Array};
+ghost use Rattle.isa_model.specs.declared.map_defs.MapType.TheVariants.{Hash, Array};
 ghost use Rattle.isa_model.specs.declared.map_defs.MapDef.{MapDef};
 ghost use Rattle.map_indexes.specs.Rows.{row_at, with_row};
 ghost use Rattle.maps.specs.Contents.{hash_row};
 ghost use Rattle.map_indexes.specs.PlaceKeys.{Places, TakesPlace};
 
-use isa_model::{MapDef, MapKind};
+use isa_model::{MapDef, MapType};
 use map_indexes::rooms::exact;
 use map_indexes::{ArrayIndex, ChainIndex, Index, ScanIndex, put_bytes};
 use std::alloc::{AllocError, Global};
@@ -255,7 +255,7 @@ fn hash_row(key_size: u16, value_size: u32, entries: u32) -> MapDef
     ensures { result ≡ hash_row key_size value_size entries }
 {
     MapDef {
-        kind: MapKind::Hash,
+        kind: MapType::Hash,
         key_size,
         value_size,
         entries,
@@ -278,7 +278,7 @@ impl Store<ArrayIndex> {
             ≡ replicate (entries * value_size) 0) }
     {
         let row = MapDef {
-            kind: MapKind::Array,
+            kind: MapType::Array,
             key_size: 4,
             value_size,
             entries,

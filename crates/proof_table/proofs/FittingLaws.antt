@@ -8,8 +8,8 @@ use Rattle.byteorder.specs.Endian.{little_bytes}
 use Rattle.isa_model.specs.Code.Instructions.{Program}
 use Rattle.isa_model.specs.Code.Limits.{max_call_frames}
 use Rattle.reg_state.specs.declared.kinds.Kind.TheVariants.{Unset, Number, Context, Stack, Packet, PacketEnd, Map, MapValue, MapValueOrNull}
-use Rattle.stack_state.specs.declared.slots.Slot.{Slot}
-use Rattle.stack_state.specs.declared.slots.Slot.TheVariants.{Written, Spilled}
+use Rattle.stack_state.specs.declared.slots.StackSlot.{StackSlot}
+use Rattle.stack_state.specs.declared.slots.StackSlot.TheVariants.{Written, Spilled}
 use Rattle.stack_state.specs.declared.states.AbstractFrame.{AbstractFrame}
 use Rattle.stack_state.specs.Slots.{frame_slots}
 use Rattle.table_entries.specs.Frames.{frame_allowed}
@@ -76,7 +76,7 @@ EntryFits-said p e answer allowed small few callers named indexes innermost =
 
 -- ---- the spelling
 
-slot_bytes-said : (s : Slot) → slot_bytes (slot_said s) ≡ slot_bytes s
+slot_bytes-said : (s : StackSlot) → slot_bytes (slot_said s) ≡ slot_bytes s
 unfolding slot_bytes
 slot_bytes-said (Written marks) = refl
 slot_bytes-said (Spilled Unset) = refl

@@ -7,7 +7,7 @@ use Rattle.std.proofs.lemmas.List.Elements.{All-head, All-tail}
 use Rattle.byteorder.specs.Endian.{little_number}
 use Rattle.byteorder.specs.Numbers.{little_number-reads_back}
 use Rattle.isa_model.specs.Code.Instructions.{Program}
-use Rattle.table_entries.specs.declared.faults.TableFault.{TableFault}
+use Rattle.table_entries.specs.declared.faults.TableRefusal.{TableRefusal}
 use Rattle.isa_model.specs.declared.limits.TheConstants.{MAX_EXPLORED}
 use Rattle.table_entries.specs.Reading.{Read}
 use Rattle.table_entries.specs.Entries.{Entry}
@@ -52,7 +52,8 @@ table_read-table_bytes p es some few h =
     let bytes = table_bytes es in
     let body : entries_in p n 0 (flat_map entry_bytes es) ≡ Ok (map Some es, []) =
     ap (entries_in p n 0) (sym (append-nil (flat_map entry_bytes es))) ∙ entries_in-reads p es n 0 [] refl h in
-    ap (λ (r : Result ℕ TableFault). all_allowed (with_count p bytes r)) (count_in-reads n (flat_map entry_bytes es) some few)
-    ∙ ap (λ (r : Result (List (Option Entry) × List ℕ) TableFault). all_allowed (to_the_end r)) body
+    ap (λ (r : Result ℕ TableRefusal). all_allowed (with_count p bytes r)) (count_in-reads n (flat_map entry_bytes es) some few)
+    ∙ ap (λ (r : Result (List (Option Entry) × List ℕ) TableRefusal). all_allowed (to_the_end r))
+    body
     ∙ ap (λ (o : Option ℕ). unless o (all_of (map Some es))) (all_there es 0)
-    ∙ ap (λ (l : List Entry). let r : Result (List Entry) TableFault = Ok l in r) (all_kept es)
+    ∙ ap (λ (l : List Entry). let r : Result (List Entry) TableRefusal = Ok l in r) (all_kept es)

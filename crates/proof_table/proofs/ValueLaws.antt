@@ -15,8 +15,8 @@ use Rattle.ranges.specs.declared.low.Low.{Low}
 use Rattle.reg_state.specs.declared.scalars.Scalar.{Scalar}
 use Rattle.reg_state.specs.declared.kinds.Kind.{Kind}
 use Rattle.reg_state.specs.declared.kinds.Kind.TheVariants.{Unset, Number, Context, Stack, Packet, PacketEnd, Map, MapValue, MapValueOrNull}
-use Rattle.stack_state.specs.declared.slots.Slot.{Slot}
-use Rattle.stack_state.specs.declared.slots.Slot.TheVariants.{Written, Spilled}
+use Rattle.stack_state.specs.declared.slots.StackSlot.{StackSlot}
+use Rattle.stack_state.specs.declared.slots.StackSlot.TheVariants.{Written, Spilled}
 use Rattle.table_entries.specs.Reading.{sized}
 use Rattle.table_entries.specs.Values.{signed_32, signed_64, bits_of, wide_of, low_of, range_of, scalar_of, bits_in, wide_in, low_in, scalar_in, limits_of, limits_in, has_no_part, lacks_identity, packet_of, packet_in, stack_in, map_in, value_of, value_in, null_in, fields_in, kind_in, spilled_in, slot_in}
 use Rattle.table_entries.proofs.ValueLaws.{bits_of-is, wide_of-is, low_of-is, limits_of-some}
@@ -206,7 +206,7 @@ kind_in-reads rows holder (MapValueOrNull index identity) rest h =
 
 -- ---- stack slots
 
-pub slot_in-reads : (rows holder : ℕ) (s : Slot) (rest : List ℕ) → SlotFits rows holder s → slot_in rows holder (slot_bytes s ++ rest) ≡ Ok (Some s, rest)
+pub slot_in-reads : (rows holder : ℕ) (s : StackSlot) (rest : List ℕ) → SlotFits rows holder s → slot_in rows holder (slot_bytes s ++ rest) ≡ Ok (Some s, rest)
 unfolding slot_in slot_bytes
 slot_in-reads rows holder (Written marks) rest h = refl
 slot_in-reads rows holder (Spilled Unset) rest h = absurd h

@@ -8,8 +8,8 @@ use Rattle.ranges.specs.declared.low.Low.{Low}
 use Rattle.reg_state.specs.declared.scalars.Scalar.{Scalar}
 use Rattle.reg_state.specs.declared.kinds.Kind.{Kind}
 use Rattle.reg_state.specs.declared.kinds.Kind.TheVariants.{Unset, Number, Context, Stack, Packet, PacketEnd, Map, MapValue, MapValueOrNull}
-use Rattle.stack_state.specs.declared.slots.Slot.{Slot}
-use Rattle.stack_state.specs.declared.slots.Slot.TheVariants.{Written, Spilled}
+use Rattle.stack_state.specs.declared.slots.StackSlot.{StackSlot}
+use Rattle.stack_state.specs.declared.slots.StackSlot.TheVariants.{Written, Spilled}
 use Rattle.stack_state.specs.declared.states.AbstractFrame.{AbstractFrame}
 use Rattle.stack_state.specs.Slots.{frame_slots}
 use Rattle.table_entries.specs.Frames.{frame_allowed}
@@ -84,7 +84,7 @@ KindFits rows holder (Map index) = MapFits rows index
 KindFits rows holder (MapValue index least greatest) = ValueFits rows index least greatest
 KindFits rows holder (MapValueOrNull index identity) = NullFits rows index identity
 
-abbrev pub SlotFits : ℕ → ℕ → Slot → Type 0
+abbrev pub SlotFits : ℕ → ℕ → StackSlot → Type 0
 SlotFits rows holder (Written marks) = marks < 2 ^ 8
 SlotFits rows holder (Spilled Unset) = ⊥
 SlotFits rows holder (Spilled kind) = KindFits rows holder kind
@@ -111,7 +111,7 @@ pub record EntryFits (p : Program) (e : Entry) : Type 0 where
 
 -- ---- what a table says of a state: of a slot whose value is unset, that no byte is written
 
-abbrev pub slot_said : Slot → Slot
+abbrev pub slot_said : StackSlot → StackSlot
 slot_said (Spilled Unset) = Written 0
 slot_said slot = slot
 

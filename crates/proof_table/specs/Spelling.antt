@@ -10,8 +10,8 @@ use Rattle.ranges.specs.declared.low.Low.{Low}
 use Rattle.reg_state.specs.declared.scalars.Scalar.{Scalar}
 use Rattle.reg_state.specs.declared.kinds.Kind.{Kind}
 use Rattle.reg_state.specs.declared.kinds.Kind.TheVariants.{Unset, Number, Context, Stack, Packet, PacketEnd, Map, MapValue, MapValueOrNull}
-use Rattle.stack_state.specs.declared.slots.Slot.{Slot}
-use Rattle.stack_state.specs.declared.slots.Slot.TheVariants.{Written, Spilled}
+use Rattle.stack_state.specs.declared.slots.StackSlot.{StackSlot}
+use Rattle.stack_state.specs.declared.slots.StackSlot.TheVariants.{Written, Spilled}
 use Rattle.stack_state.specs.declared.states.AbstractFrame.{AbstractFrame}
 use Rattle.table_entries.specs.Entries.{Entry}
 
@@ -71,7 +71,7 @@ kind_bytes (MapValueOrNull index identity) = null_bytes index identity
 
 -- a stack slot: 0 and the marks of written bytes, or 1 and a value; a spilled value about which
 -- nothing is known is spelled as a slot without marks
-unfoldable pub slot_bytes : Slot → List ℕ
+unfoldable pub slot_bytes : StackSlot → List ℕ
 slot_bytes (Written marks) = 0 ∷ (marks ∷ [])
 slot_bytes (Spilled Unset) = 0 ∷ (0 ∷ [])
 slot_bytes (Spilled kind) = 1 ∷ kind_bytes kind

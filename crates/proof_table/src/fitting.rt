@@ -10,7 +10,7 @@ use image::Image;
 use known_bits::Bits;
 use ranges::{Low, Range, Wide};
 use reg_state::{Kind, Scalar};
-use stack_state::{AbstractFrame, FRAME_SLOTS, Slot, State};
+use stack_state::{AbstractFrame, FRAME_SLOTS, StackSlot, State};
 use table_entries::entries::head_allowed;
 use table_entries::frames::frame_allowed;
 
@@ -100,15 +100,15 @@ fn kind_fits(rows: usize, holder: usize, kind: &Kind) -> bool
     }
 }
 
-fn slot_fits(rows: usize, holder: usize, slot: &Slot) -> bool
+fn slot_fits(rows: usize, holder: usize, slot: &StackSlot) -> bool
     ensures { IsTrue result ↔ SlotFits rows holder (slot_said slot.now) }
 {
     match slot {
-        Slot::Written(marks) => {
+        StackSlot::Written(marks) => {
             let _width = *marks;
             true
         }
-        Slot::Spilled(kind) => kind_fits(rows, holder, kind),
+        StackSlot::Spilled(kind) => kind_fits(rows, holder, kind),
     }
 }
 
@@ -126,7 +126,7 @@ fn kinds_fit(rows: usize, holder: usize, kinds: &[Kind; 10]) -> bool
     true
 }
 
-fn slots_fit(rows: usize, holder: usize, slots: &[Slot; FRAME_SLOTS]) -> bool
+fn slots_fit(rows: usize, holder: usize, slots: &[StackSlot; FRAME_SLOTS]) -> bool
     ensures fit { IsTrue result ↔ All (λ slot. SlotFits rows holder (slot_said slot)) slots.now }
     ensures count { length slots.now ≡ frame_slots }
 {

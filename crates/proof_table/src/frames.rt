@@ -7,7 +7,7 @@ ghost use Rattle.proof_table.specs.Spelling.{kind_bytes, slot_bytes, frame_bytes
 
 use crate::values::{spell_kind, spell_slot};
 use reg_state::Kind;
-use stack_state::{AbstractFrame, FRAME_SLOTS, Slot};
+use stack_state::{AbstractFrame, FRAME_SLOTS, StackSlot};
 use std::alloc::AllocError;
 
 /// Puts the lowest 16 bits of a slot's number after what the buffer has.
@@ -27,7 +27,7 @@ fn spell_registers(registers: &[Kind; 10], buffer: &mut Vec<u8>) -> Result<(), A
     Ok(())
 }
 
-fn spell_slots(slots: &[Slot; FRAME_SLOTS], buffer: &mut Vec<u8>) -> Result<(), AllocError>
+fn spell_slots(slots: &[StackSlot; FRAME_SLOTS], buffer: &mut Vec<u8>) -> Result<(), AllocError>
     ensures { OnOk result (buffer.new.items ≡ buffer.old.items ++ flat_map slot_bytes slots.now) }
 {
     for slot in slots {

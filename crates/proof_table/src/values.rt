@@ -7,7 +7,7 @@ use byteorder::{ByteOrder, LittleEndian};
 use known_bits::Bits;
 use ranges::{Low, Wide};
 use reg_state::{Kind, Scalar};
-use stack_state::Slot;
+use stack_state::StackSlot;
 use std::alloc::AllocError;
 
 // ---- numbers
@@ -140,13 +140,13 @@ pub fn spell_kind(kind: &Kind, buffer: &mut Vec<u8>) -> Result<(), AllocError>
 /// An exit leaves an unset value where a pointer into its frame was spilled. A table has no
 /// spelling for it: it says that no byte of the slot is written, which is as little.
 #[tactic(auto, unfolding(crate::specs::Spelling::slot_bytes))]
-pub fn spell_slot(slot: &Slot, buffer: &mut Vec<u8>) -> Result<(), AllocError>
+pub fn spell_slot(slot: &StackSlot, buffer: &mut Vec<u8>) -> Result<(), AllocError>
     ensures { OnOk result (buffer.new.items ≡ buffer.old.items ++ slot_bytes slot.now) }
 {
     match slot {
-        Slot::Written(marks) => buffer.extend_from_slice(&[0, *marks]),
-        Slot::Spilled(Kind::Unset) => buffer.extend_from_slice(&[0, 0]),
-        Slot::Spilled(kind) => {
+        StackSlot::Written(marks) => buffer.extend_from_slice(&[0, *marks]),
+        StackSlot::Spilled(Kind::Unset) => buffer.extend_from_slice(&[0, 0]),
+        StackSlot::Spilled(kind) => {
             buffer.extend_from_slice(&[1])?;
             spell_kind(kind, buffer)
         }

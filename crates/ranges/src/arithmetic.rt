@@ -12,7 +12,7 @@ use crate::low::Low;
 use crate::range::Range;
 use crate::shifts::distance;
 use crate::wide::Wide;
-use isa_model::{AluOp, ByteOrder, Span, Width, numbers};
+use isa_model::{AluOp, ByteOrder, SwapWidth, Width, numbers};
 
 impl Range {
     ghost use Rattle.ranges.specs.Ranges.{Has, IsConstant, IsTight};
@@ -167,7 +167,7 @@ impl Range {
     }
 
     /// The low bytes of the numbers, in an order. What they are reversed is left open.
-    pub fn reorder(order: ByteOrder, span: Span, a: Self) -> Self
+    pub fn reorder(order: ByteOrder, span: SwapWidth, a: Self) -> Self
         ensures contains { (x : ℕ) → Has a x → Has result (reordered order span x) }
         ensures exact { (u : ℕ) → IsConstant a u → IsConstant result (reordered order span u) }
         ensures fits { result.wide.greatest < 2 ^ span_bits span }
@@ -208,12 +208,12 @@ fn reads_low(op: AluOp, width: Width, b: Wide) -> bool
 }
 
 // The greatest number with this number of bits.
-fn greatest_read(span: Span) -> u64
+fn greatest_read(span: SwapWidth) -> u64
     ensures { result + 1 ≡ 2 ^ span_bits span }
 {
     match span {
-        Span::B16 => 0xffff,
-        Span::B32 => 0xffff_ffff,
-        Span::B64 => u64::MAX,
+        SwapWidth::B16 => 0xffff,
+        SwapWidth::B32 => 0xffff_ffff,
+        SwapWidth::B64 => u64::MAX,
     }
 }

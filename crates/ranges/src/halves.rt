@@ -12,7 +12,7 @@ ghost use Rattle.ranges.specs.Wides as W;
 use crate::low::Low;
 use crate::shifts::distance;
 use crate::wide::Wide;
-use isa_model::{AluOp, Extension, Span, Width};
+use isa_model::{AluOp, Extension, SwapWidth, Width};
 
 impl Low {
     ghost use Rattle.ranges.specs.Lows.{Has, IsBetween, IsSignedBetween, IsSignedOf};
@@ -161,13 +161,13 @@ impl Low {
     }
 
     // The low bytes.
-    pub(crate) fn low_part(self, span: Span) -> Self
+    pub(crate) fn low_part(self, span: SwapWidth) -> Self
         ensures contains { (x : ℕ) → Has self (x % 2 ^ 32)
             → Has result ((x % 2 ^ span_bits span) % 2 ^ 32) }
         ensures same { self.greatest < 2 ^ span_bits span → result ≡ self }
     {
         match span {
-            Span::B16 if self.greatest > 0xffff => Low::between(0, 0xffff),
+            SwapWidth::B16 if self.greatest > 0xffff => Low::between(0, 0xffff),
             _ => self,
         }
     }

@@ -6,7 +6,7 @@ ghost use Rattle.isa_model.specs.Code.Sizes.{width_bits, span_bits};
 ghost use Rattle.isa_model.specs.Code.Numbers.{result_of, shift};
 
 use crate::wide::Wide;
-use isa_model::{AluOp, Span, Width};
+use isa_model::{AluOp, SwapWidth, Width};
 
 impl Wide {
     ghost use Rattle.ranges.specs.Wides.{Has, IsBetween, IsSignedBetween, KeepsLimits};
@@ -51,15 +51,15 @@ impl Wide {
     }
 
     // The low bytes.
-    pub(crate) fn low(self, span: Span) -> Self
+    pub(crate) fn low(self, span: SwapWidth) -> Self
         ensures contains { (x : ℕ) → Has self x → Has result (x % 2 ^ span_bits span) }
         ensures fits { result.greatest < 2 ^ span_bits span }
         ensures same { self.greatest < 2 ^ span_bits span → result ≡ self }
     {
         match span {
-            Span::B16 => self.low_half(),
-            Span::B32 => self.low_word(),
-            Span::B64 => self,
+            SwapWidth::B16 => self.low_half(),
+            SwapWidth::B32 => self.low_word(),
+            SwapWidth::B64 => self,
         }
     }
 

@@ -20,7 +20,7 @@ use Rattle.transfer.specs.declared.refusals.Refusal.{Refusal}
 use Rattle.transfer.specs.Exact.{Steps}
 use Rattle.transfer.specs.Leading.{LeadsTo, InSome}
 use Rattle.isa_model.specs.declared.limits.TheConstants.{MAX_STEPS}
-use Rattle.table_entries.specs.declared.entries.Head.{Head}
+use Rattle.table_entries.specs.declared.entries.EntryHead.{EntryHead}
 use Rattle.table_entries.specs.Entries.{Entry, entry_of}
 use Rattle.rechecking.specs.Tables.{EntryAt, EntersSmaller, IsClosedEntry, MeansStarts}
 use Rattle.rechecking.specs.declared.errors.TableError.TheVariants.{Step, Successor}
@@ -79,7 +79,7 @@ same_entry o d e h k = cc
 -- ---- an entry that covers a state, or not
 
 -- a state covers itself
-pub Enters-same : (p : Program) (t : EntryAt) (number index : ℕ) (a : State) (head : Head) → HasEntry p t index head a
+pub Enters-same : (p : Program) (t : EntryAt) (number index : ℕ) (a : State) (head : EntryHead) → HasEntry p t index head a
     → ((e : Entry) → t index ≡ Some e → e.number < number) → Enters t number index a
 unfolding Covers
 Enters-same p t number index a head stands smaller = record {

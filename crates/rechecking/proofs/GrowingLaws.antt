@@ -5,7 +5,7 @@ use Rattle.isa_model.specs.Code.Instructions.{Program}
 use Rattle.isa_model.specs.Machine.Steps.{step}
 use Rattle.isa_model.proofs.EndsLaws.{After-weaker}
 use Rattle.stack_state.specs.declared.states.State.{State}
-use Rattle.table_entries.specs.declared.entries.Head.{Head}
+use Rattle.table_entries.specs.declared.entries.EntryHead.{EntryHead}
 use Rattle.table_entries.specs.Entries.{Entry, IsAllowed, entry_of}
 use Rattle.table_entries.specs.Tables.{entry_at, count_of}
 use Rattle.table_entries.specs.Growing.{Grown, Grows}
@@ -33,7 +33,7 @@ IsClosedEntry-stays p t u e each fine = record {
       (fine.steps clock fits s m);
 }
 
-pub HasEntry-grows : (p : Program) (g h : Grown) (index : ℕ) (head : Head) (a : State) → Grows p g h → HasEntry p (entry_at p g.table) index head a
+pub HasEntry-grows : (p : Program) (g h : Grown) (index : ℕ) (head : EntryHead) (a : State) → Grows p g h → HasEntry p (entry_at p g.table) index head a
     → HasEntry p (entry_at p h.table) index head a
 HasEntry-grows p g h index head a grows s =
     record { allowed = s.allowed; there = entry_at-stays p g h index (entry_of head a) grows s.there }
@@ -52,7 +52,7 @@ HasStart-grows p g h n grows s = record {
 }
 
 -- an entry that spells the state
-pub Enters-spelled : (p : Program) (t : EntryAt) (number index : ℕ) (a : State) (head : Head) → IsAllowed p head.number a.slot → t index ≡ Some (entry_of head a)
+pub Enters-spelled : (p : Program) (t : EntryAt) (number index : ℕ) (a : State) (head : EntryHead) → IsAllowed p head.number a.slot → t index ≡ Some (entry_of head a)
     → head.number < number → Enters t number index a
 Enters-spelled p t number index a head allowed there less =
     Enters-same p t number index a head (record { allowed = allowed; there = there })

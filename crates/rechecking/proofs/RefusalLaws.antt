@@ -3,8 +3,8 @@ use Rattle.std.specs.Prelude.{◌≡◌, ℕ, ◌<◌, List, slice_get, Some, Is
 use Rattle.std.proofs.Common.{inl, inr, arith, subst, sym}
 use Rattle.isa_model.specs.Code.Instructions.{Program}
 use Rattle.control_flow.specs.Flows.{IsFlow}
-use Rattle.table_entries.specs.declared.faults.TableFault.{TableFault}
-use Rattle.table_entries.specs.declared.faults.TableFault.TheVariants as fault
+use Rattle.table_entries.specs.declared.faults.TableRefusal.{TableRefusal}
+use Rattle.table_entries.specs.declared.faults.TableRefusal.TheVariants as fault
 use Rattle.table_entries.specs.Entries.{Entry}
 use Rattle.table_entries.specs.Tables.{TableView, KeepsEntries, count_of, entry_at, table_read}
 use Rattle.table_entries.proofs.GrowingLaws.{inside_some}
@@ -38,7 +38,7 @@ shows_of p bytes t entries n read h start each =
       number_is = s.number_is;
     }
 
-pub refused_fault : (p : Program) (bytes : List ℕ) (f : TableFault) → IsFlow p → (f ≡ fault.Memory) ⊎ (table_read p bytes ≡ Err f) → TableIsRefused p bytes (Fault f)
+pub refused_fault : (p : Program) (bytes : List ℕ) (f : TableRefusal) → IsFlow p → (f ≡ fault.Memory) ⊎ (table_read p bytes ≡ Err f) → TableIsRefused p bytes (Fault f)
 refused_fault p bytes f flow (inl memory) = subst (IsFault p bytes) (sym memory) tt
 refused_fault p bytes fault.Memory flow (inr read) = tt
 refused_fault p bytes fault.Magic flow (inr read) = (flow, read)

@@ -2,14 +2,15 @@
 use Rattle.std.specs.Prelude.{◌≡◌, ℕ, Some}
 use Rattle.isa_model.specs.Code.Instructions.{Program}
 use Rattle.stack_state.specs.declared.states.State.{State}
-use Rattle.table_entries.specs.declared.entries.Head.{Head}
+use Rattle.table_entries.specs.declared.entries.EntryHead.{EntryHead}
 use Rattle.table_entries.specs.Entries.{IsAllowed, entry_of}
 use Rattle.rechecking.specs.declared.entries.Known.{Known}
 use Rattle.rechecking.specs.declared.entries.Known.TheVariants as known
 use Rattle.rechecking.specs.Tables.{EntryAt}
 
 -- the entry with this index has this state, and this head beside it
-pub record HasEntry (p : Program) (t : EntryAt) (index : ℕ) (head : Head) (a : State) : Type 0 where
+pub record HasEntry (p : Program) (t : EntryAt) (index : ℕ) (head : EntryHead)
+    (a : State) : Type 0 where
   pub allowed : IsAllowed p head.number a.slot
   pub there : t index ≡ Some (entry_of head a)
 

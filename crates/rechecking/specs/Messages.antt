@@ -1,12 +1,12 @@
 -- The code of each refusal of a table, and the sentence that says what is wrong.
 use Rattle.std.specs.Prelude.{ℕ, List, codes}
 use Rattle.control_flow.specs.Messages as flow
-use Rattle.table_entries.specs.declared.faults.TableFault.{TableFault}
-use Rattle.table_entries.specs.declared.faults.TableFault.TheVariants as fault
+use Rattle.table_entries.specs.declared.faults.TableRefusal.{TableRefusal}
+use Rattle.table_entries.specs.declared.faults.TableRefusal.TheVariants as fault
 use Rattle.rechecking.specs.declared.errors.TableError.{TableError}
 use Rattle.rechecking.specs.declared.errors.TableError.TheVariants.{Flow, Fault, Start, Step, Successor}
 
-abbrev pub fault_code : TableFault → List ℕ
+abbrev pub fault_code : TableRefusal → List ℕ
 fault_code fault.Magic = codes "P1"
 fault_code fault.Short = codes "P2"
 fault_code fault.Long = codes "P3"
@@ -21,7 +21,7 @@ code_of Start = codes "P6"
 code_of (Step k refusal) = codes "P7"
 code_of (Successor k) = codes "P8"
 
-abbrev pub fault_sentence : TableFault → List ℕ
+abbrev pub fault_sentence : TableRefusal → List ℕ
 fault_sentence fault.Magic = codes "the bytes do not begin with XPT1"
 fault_sentence fault.Short = codes "the table is shorter than its head, or than its entries"
 fault_sentence fault.Long = codes "the table is longer than its entries"

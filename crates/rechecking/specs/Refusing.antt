@@ -2,8 +2,8 @@
 use Rattle.std.specs.Prelude.{◌≡◌, ℕ, List, slice_get, Ok, Err}
 use Rattle.isa_model.specs.Code.Instructions.{Program}
 use Rattle.control_flow.specs.Flows.{IsFlow, IsRefusal}
-use Rattle.table_entries.specs.declared.faults.TableFault.{TableFault}
-use Rattle.table_entries.specs.declared.faults.TableFault.TheVariants as fault
+use Rattle.table_entries.specs.declared.faults.TableRefusal.{TableRefusal}
+use Rattle.table_entries.specs.declared.faults.TableRefusal.TheVariants as fault
 use Rattle.table_entries.specs.Entries.{Entry}
 use Rattle.table_entries.specs.Tables.{table_read}
 use Rattle.rechecking.specs.declared.errors.TableError.{TableError}
@@ -33,7 +33,7 @@ HasFault p bytes error = (entries : List Entry) × AreEntries p bytes entries
     × ((n : ℕ) × HasStart p (slice_get entries) n) × IsFirstFault p (slice_get entries) error
 
 -- the bytes are not of the form, or memory ran out
-abbrev pub IsFault : Program → List ℕ → TableFault → Type 0
+abbrev pub IsFault : Program → List ℕ → TableRefusal → Type 0
 IsFault p bytes fault.Memory = Unit {0}
 IsFault p bytes f = IsFlow p × (table_read p bytes ≡ Err f)
 

@@ -14,15 +14,15 @@ use crate::errors::TableError;
 use image::Image;
 use stack_state::State;
 use state_cover::covers;
-use table_entries::{Growing, Head, Named, Table};
+use table_entries::{EntryHead, Growing, NamedEntries, Table};
 use transfer::{Ways, step_in_place};
 
 /// An entry whose state is in one of two rooms, by its index: it is not read again.
 #[derive(Clone, Copy, PartialEq, Eq, Debug, Drop)]
 pub enum Known {
     None,
-    First(usize, Head),
-    Second(usize, Head),
+    First(usize, EntryHead),
+    Second(usize, EntryHead),
 }
 
 /// The same, where the rooms have changed places.
@@ -57,7 +57,7 @@ fn read_covering(
     index: usize,
     state: &State,
     room: &mut State,
-) -> Option<Head>
+) -> Option<EntryHead>
     ensures stands { IfSome result
         (λ head. HasEntry image.now (entry_at image.now table.now) index head room.new) }
     ensures covers { IfSome result
@@ -105,7 +105,7 @@ fn enters(
 fn follows(
     image: &Image,
     table: &Table,
-    head: Head,
+    head: EntryHead,
     ways: Ways,
     state: &State,
     other: &State,
@@ -121,11 +121,11 @@ fn follows(
         (list_of head.named) ways state.now other.now → ⊥ }
 {
     match (head.named, ways) {
-        (Named::None, Ways::None) => Some(Known::None),
-        (Named::One(first), Ways::One) => {
+        (NamedEntries::None, Ways::None) => Some(Known::None),
+        (NamedEntries::One(first), Ways::One) => {
             enters(image, table, head.number, first as usize, state, room)
         }
-        (Named::Two(first, second), Ways::Two) => {
+        (NamedEntries::Two(first, second), Ways::Two) => {
             enters(image, table, head.number, second as usize, other, room)?;
             enters(image, table, head.number, first as usize, state, room)
         }
@@ -138,7 +138,7 @@ fn follows(
 fn next_follows(
     image: &Image,
     growing: &mut Growing,
-    head: Head,
+    head: EntryHead,
     ways: Ways,
     state: &State,
 ) -> Option<Known>
@@ -152,7 +152,7 @@ fn next_follows(
         → IsKnownEntry image.now (entry_at image.now growing.new.table) state.now room known) }
 {
     match (head.named, ways) {
-        (Named::One(only), Ways::One) => {
+        (NamedEntries::One(only), Ways::One) => {
             let index = only as usize;
             let next = growing.take(image, index, state)?;
             if next.number < head.number {
@@ -166,16 +166,16 @@ fn next_follows(
 }
 
 /// Places the entries that an entry names.
-fn place_named(image: &Image, growing: &mut Growing, named: Named)
+fn place_named(image: &Image, growing: &mut Growing, named: NamedEntries)
     requires { MayGrow image.now growing.old }
     ensures { Grows image.now growing.old growing.new }
 {
     match named {
-        Named::None => {}
-        Named::One(first) => {
+        NamedEntries::None => {}
+        NamedEntries::One(first) => {
             let _there = growing.reach(image, first as usize);
         }
-        Named::Two(first, second) => {
+        NamedEntries::Two(first, second) => {
             let _there = growing.reach(image, first as usize);
             let _other = growing.reach(image, second as usize);
         }
@@ -187,7 +187,7 @@ fn test_standing(
     image: &Image,
     growing: &mut Growing,
     index: usize,
-    head: Head,
+    head: EntryHead,
     state: &mut State,
     other: &mut State,
     room: &mut State,

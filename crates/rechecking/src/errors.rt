@@ -6,7 +6,7 @@ ghost use Rattle.rechecking.specs.Messages.{fault_code, fault_sentence, code_of,
 use control_flow::FlowError;
 use std::error::Error;
 use std::fmt;
-use table_entries::TableFault;
+use table_entries::TableRefusal;
 use transfer::Refusal;
 
 /// Why a table is refused; entries by their index.
@@ -15,7 +15,7 @@ pub enum TableError {
     /// The program's control flow is not good, with the slot: G1 to G6.
     Flow(FlowError, usize),
     /// The bytes are not of the form, or memory ran out: P1 to P5 and P9.
-    Fault(TableFault),
+    Fault(TableRefusal),
     /// P6: entry 0 does not cover the start state.
     Start,
     /// P7: the step of an entry is refused.
@@ -24,29 +24,29 @@ pub enum TableError {
     Successor(usize),
 }
 
-fn fault_code(fault: TableFault) -> &'static str
+fn fault_code(fault: TableRefusal) -> &'static str
     ensures { result.now ≡ fault_code fault }
 {
     match fault {
-        TableFault::Magic => "P1",
-        TableFault::Short => "P2",
-        TableFault::Long => "P3",
-        TableFault::Count => "P4",
-        TableFault::Entry(_) => "P5",
-        TableFault::Memory => "P9",
+        TableRefusal::Magic => "P1",
+        TableRefusal::Short => "P2",
+        TableRefusal::Long => "P3",
+        TableRefusal::Count => "P4",
+        TableRefusal::Entry(_) => "P5",
+        TableRefusal::Memory => "P9",
     }
 }
 
-fn fault_sentence(fault: TableFault) -> &'static str
+fn fault_sentence(fault: TableRefusal) -> &'static str
     ensures { result.now ≡ fault_sentence fault }
 {
     match fault {
-        TableFault::Magic => "the bytes do not begin with XPT1",
-        TableFault::Short => "the table is shorter than its head, or than its entries",
-        TableFault::Long => "the table is longer than its entries",
-        TableFault::Count => "the table has no entries, or more than 1000000",
-        TableFault::Entry(_) => "a field of the entry has a value that is not allowed",
-        TableFault::Memory => "out of memory",
+        TableRefusal::Magic => "the bytes do not begin with XPT1",
+        TableRefusal::Short => "the table is shorter than its head, or than its entries",
+        TableRefusal::Long => "the table is longer than its entries",
+        TableRefusal::Count => "the table has no entries, or more than 1000000",
+        TableRefusal::Entry(_) => "a field of the entry has a value that is not allowed",
+        TableRefusal::Memory => "out of memory",
     }
 }
 

@@ -15,7 +15,7 @@ use Rattle.explanations.specs.Reasons.{IsReason}
 use Rattle.assembler.specs.declared.errors.AsmError.{AsmError}
 use Rattle.assembler.specs.Messages as assembler
 use Rattle.transfer.specs.Messages as transfer
-use Rattle.table_entries.specs.declared.faults.TableFault.TheVariants as fault
+use Rattle.table_entries.specs.declared.faults.TableRefusal.TheVariants as fault
 use Rattle.rechecking.specs.declared.errors.TableError.{TableError}
 use Rattle.rechecking.specs.declared.errors.TableError.TheVariants as table
 use Rattle.rechecking.specs.Messages as rechecking

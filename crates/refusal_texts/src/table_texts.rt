@@ -14,7 +14,7 @@ use isa_model::Insn;
 use rechecking::TableError;
 use std::alloc::{AllocError, Global};
 use std::io;
-use table_entries::TableFault;
+use table_entries::TableRefusal;
 use walks::Refusal;
 
 fn entry_place(alloc: Global, index: usize) -> Result<String, AllocError>
@@ -30,7 +30,7 @@ fn fault_front(alloc: Global, error: TableError) -> Result<String, AllocError>
     let code = error.code();
     let why = error.sentence();
     match error {
-        TableError::Fault(TableFault::Entry(index)) | TableError::Successor(index) => {
+        TableError::Fault(TableRefusal::Entry(index)) | TableError::Successor(index) => {
             told_at(alloc, code, "entry ", index, why)
         }
         TableError::Step(index, refusal) => {

@@ -4,7 +4,7 @@ use Rattle.std.specs.Int.{w32, w64, cast_signed, bit_at}
 use Rattle.isa_model.specs.declared.sizes.Width.{Width}
 use Rattle.isa_model.specs.declared.sizes.Width.TheVariants.{Full64}
 use Rattle.isa_model.specs.declared.sizes.Extension.{Extension}
-use Rattle.isa_model.specs.declared.sizes.Span.{Span}
+use Rattle.isa_model.specs.declared.sizes.SwapWidth.{SwapWidth}
 use Rattle.isa_model.specs.declared.sizes.ByteOrder.{ByteOrder}
 use Rattle.isa_model.specs.declared.sizes.ByteOrder.TheVariants.{Little}
 use Rattle.isa_model.specs.declared.instructions.AluOp.{AluOp}
@@ -87,7 +87,7 @@ pub record IsSignExtended (e : Extension) (a c : Scalar) : Type 0 where
       → (z : ℕ) → Has c z → L.Has a.range.low (z % 2 ^ 32)
   pub sharp : IsSharp a a (λ x y. sign_extended e x) c
 
-pub record IsReordered (order : ByteOrder) (span : Span) (a c : Scalar) : Type 0 where
+pub record IsReordered (order : ByteOrder) (span : SwapWidth) (a c : Scalar) : Type 0 where
   pub contains : (x : ℕ) → Has a x → Has c (reordered order span x)
   pub exact : (u : ℕ) → IsConstant a u → IsConstant c (reordered order span u)
   pub fits : (x : ℕ) → Has c x → x < 2 ^ span_bits span

@@ -55,7 +55,7 @@ abbrev pub Allows : Assigned → Kind → Value → Type 0
 Allows e Unset v = Unit {0}
 Allows e (Number numbers) v = (x : ℕ) × (v ≡ Num x) × Has numbers x
 Allows e Context v = v ≡ Ptr region.Context (pos 0)
-Allows e (Stack frame offset) v = (n : ℕ) × (slice_get e.frames frame ≡ Some n) × (v ≡ Ptr (region.Frame n) offset)
+Allows e (Stack frame offset) v = (n : ℕ) × (slice_get e.frames frame ≡ Some n) × (v ≡ Ptr (region.CallFrame n) offset)
 Allows e (Packet fixed identity least greatest proved) v = AllowsPacket e fixed identity least greatest proved v
 Allows e PacketEnd v = v ≡ Ptr region.PacketEnd (pos 0)
 Allows e (Map m) v = v ≡ Ptr (region.Map m) (pos 0)

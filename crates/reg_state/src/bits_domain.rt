@@ -6,7 +6,7 @@ ghost use Rattle.isa_model.specs.Code.Sizes.{width_bits};
 
 use crate::domains::Domain;
 use crate::low_bits::{plain_halves, plain_pair, same, signed_halves, signed_pair};
-use isa_model::{AluOp, ByteOrder, Extension, Span, Width};
+use isa_model::{AluOp, ByteOrder, Extension, SwapWidth, Width};
 use known_bits::Bits;
 
 impl Domain for Bits {
@@ -71,7 +71,7 @@ impl Domain for Bits {
         Bits::sign_extend(extension, a)
     }
 
-    fn reorder(order: ByteOrder, span: Span, a: Bits) -> Bits {
+    fn reorder(order: ByteOrder, span: SwapWidth, a: Bits) -> Bits {
         Bits::reorder(order, span, a)
     }
 

@@ -9,7 +9,7 @@ ghost use Rattle.isa_model.specs.declared.sizes.Width.{Width};
 ghost use Rattle.isa_model.specs.declared.sizes.Width.TheVariants.{Full64};
 ghost use Rattle.reg_state.specs.Reach.{IsWithinLimits, IsLimit, IsAlone};
 
-use isa_model::{AluOp, ByteOrder, Extension, Span, Width};
+use isa_model::{AluOp, ByteOrder, Extension, SwapWidth, Width};
 
 /// Sets of numbers below 2^64, each of which a register may hold. `has` says which numbers are
 /// members; `is_constant` that a set is represented as a single number, `encloses` that the
@@ -50,7 +50,7 @@ pub trait Domain: Copy {
 
     /// A number that no member is greater than.
     fn greatest(self) -> u64
-        ensures bound { (x : ℕ) → has self x → x ≤ result }
+        ensures members { (x : ℕ) → has self x → x ≤ result }
         ensures exact { (u : ℕ) → is_constant self u → result ≡ u }
         ensures limit { pos result ≤ℤ (limits Full64 self).greatest }
         ensures possible { result ≤ possible self };
@@ -75,7 +75,7 @@ pub trait Domain: Copy {
         ensures fits { (x : ℕ) → has result x → x < 2 ^ width_bits (extension_width extension) };
 
     /// The low bytes of the members, in an order.
-    fn reorder(order: ByteOrder, span: Span, a: Self) -> Self
+    fn reorder(order: ByteOrder, span: SwapWidth, a: Self) -> Self
         ensures contains { (x : ℕ) → has a x → has result (reordered order span x) }
         ensures exact { (u : ℕ) → is_constant a u → is_constant result (reordered order span u) }
         ensures fits { (x : ℕ) → has result x → x < 2 ^ span_bits span };

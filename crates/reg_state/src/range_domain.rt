@@ -4,7 +4,7 @@ ghost use Rattle.std.specs.Prelude.{ℕ, ◌≤◌, ◌-◌, ◌^◌, IsSomeAnd,
 ghost use Rattle.ranges.specs.Ranges as R;
 
 use crate::domains::Domain;
-use isa_model::{AluOp, ByteOrder, Extension, Span, Width};
+use isa_model::{AluOp, ByteOrder, Extension, SwapWidth, Width};
 use ranges::Range;
 
 impl Domain for Range {
@@ -63,7 +63,7 @@ impl Domain for Range {
         Range::sign_extend(extension, a)
     }
 
-    fn reorder(order: ByteOrder, span: Span, a: Range) -> Range {
+    fn reorder(order: ByteOrder, span: SwapWidth, a: Range) -> Range {
         Range::reorder(order, span, a)
     }
 

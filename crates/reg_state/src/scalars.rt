@@ -6,7 +6,7 @@ ghost use Rattle.isa_model.specs.Code.Sizes.{width_bits};
 ghost use Rattle.ranges.specs.Ranges as R;
 
 use crate::domains::Domain;
-use isa_model::{AluOp, ByteOrder, Extension, Span, Width};
+use isa_model::{AluOp, ByteOrder, Extension, SwapWidth, Width};
 use known_bits::Bits;
 use ranges::{Low, Range, Wide};
 
@@ -331,7 +331,7 @@ impl Domain for Scalar {
         both.settled()
     }
 
-    fn reorder(order: ByteOrder, span: Span, a: Scalar) -> Scalar
+    fn reorder(order: ByteOrder, span: SwapWidth, a: Scalar) -> Scalar
         ensures contains { (x : ℕ) → Has a x → Has result (reordered order span x) }
         ensures exact { (u : ℕ) → IsConstant a u → IsConstant result (reordered order span u) }
         ensures fits { (x : ℕ) → Has result x → x < 2 ^ span_bits span }

@@ -14,7 +14,7 @@ use machine::Machine;
 use maps::Maps;
 use std::alloc::Global;
 use verdict_calls::judging::verified_of;
-use verdict_calls::statuses::{Failure, MEMORY, OK, REFUSED, WRONG};
+use verdict_calls::statuses::{MEMORY, NotAccepted, OK, REFUSED, WRONG};
 
 /// What a frame's record says beside its bytes: a time in nanoseconds, which helper 5 answers, and
 /// the interface and queue that it came in by.
@@ -70,8 +70,8 @@ pub fn run_once(alloc: Global, image: &[u8], head: &Head, packet: &mut [u8], out
     }
     let verified = match verified_of(alloc, image) {
         Ok(verified) => verified,
-        Err(Failure::Refused) => return REFUSED,
-        Err(Failure::Memory) => return MEMORY,
+        Err(NotAccepted::Refused) => return REFUSED,
+        Err(NotAccepted::Memory) => return MEMORY,
     };
     let Some(mut machine) = machine_of(alloc, verified) else {
         return MEMORY;

@@ -11,7 +11,7 @@ use isa_model::Fault;
 use std::alloc::Global;
 use verdict_calls::filling::fill;
 use verdict_calls::judging::verified_of;
-use verdict_calls::statuses::{Failure, MEMORY, OK, REFUSED};
+use verdict_calls::statuses::{MEMORY, NotAccepted, OK, REFUSED};
 
 /// What a run over a stream comes to: how many bytes the report and the frames out have, how many
 /// frames were found, and the number of the fault that ended the stream, with the offset of its
@@ -102,8 +102,8 @@ pub fn run_stream(
 {
     let verified = match verified_of(alloc, image) {
         Ok(verified) => verified,
-        Err(Failure::Refused) => return REFUSED,
-        Err(Failure::Memory) => return MEMORY,
+        Err(NotAccepted::Refused) => return REFUSED,
+        Err(NotAccepted::Memory) => return MEMORY,
     };
     let Some(written) = stream_written(alloc, verified, frames) else {
         return MEMORY;

@@ -16,7 +16,7 @@ use run_calls::running::{Ended, Head, machine_of};
 use std::alloc::Global;
 use table_calls::rechecks::table_verified;
 use verdict_calls::judging::verified_of;
-use verdict_calls::statuses::{Failure, MEMORY, OK, REFUSED, WRONG};
+use verdict_calls::statuses::{MEMORY, NotAccepted, OK, REFUSED, WRONG};
 
 // Opens a session on an accepted program, with maps as they start.
 fn open(alloc: Global, verified: Verified, session: &mut Session) -> u32
@@ -68,8 +68,8 @@ pub fn open_image(alloc: Global, image: &[u8], session: &mut Session) -> u32
     }
     match verified_of(alloc, image) {
         Ok(verified) => open(alloc, verified, session),
-        Err(Failure::Refused) => REFUSED,
-        Err(Failure::Memory) => MEMORY,
+        Err(NotAccepted::Refused) => REFUSED,
+        Err(NotAccepted::Memory) => MEMORY,
     }
 }
 
@@ -86,8 +86,8 @@ pub fn open_with_table(alloc: Global, image: &[u8], table: &[u8], session: &mut 
     }
     match table_verified(alloc, image, table) {
         Ok(verified) => open(alloc, verified, session),
-        Err(Failure::Refused) => REFUSED,
-        Err(Failure::Memory) => MEMORY,
+        Err(NotAccepted::Refused) => REFUSED,
+        Err(NotAccepted::Memory) => MEMORY,
     }
 }
 

@@ -11,16 +11,16 @@ use Rattle.isa_model.specs.declared.values.CallFrame.{CallFrame}
 use Rattle.isa_model.specs.Code.Instructions.{Program}
 use Rattle.isa_model.specs.Machine.States.{value_at, new_frame, frame_at}
 use Rattle.isa_model.specs.Machine.States as Machine
-use Rattle.isa_model.specs.Machine.Calls.{kept, regs_within, enter, innermost}
+use Rattle.isa_model.specs.Machine.Calls.{saved_registers, regs_within, enter, innermost}
 use Rattle.isa_model.specs.Machine.MachineStates.{IsState}
 use Rattle.reg_state.specs.declared.kinds.Kind.{Kind}
 use Rattle.reg_state.specs.declared.kinds.Kind.TheVariants.{Unset, Number, Context, Stack, Packet, PacketEnd, Map, MapValue, MapValueOrNull}
 use Rattle.reg_state.specs.Kinds.{Assigned, Allows, AllowsOrNull}
-use Rattle.stack_state.specs.declared.slots.Slot.{Slot}
-use Rattle.stack_state.specs.declared.slots.Slot.TheVariants.{Written, Spilled}
+use Rattle.stack_state.specs.declared.slots.StackSlot.{StackSlot}
+use Rattle.stack_state.specs.declared.slots.StackSlot.TheVariants.{Written, Spilled}
 use Rattle.stack_state.specs.declared.states.State.{State}
-use Rattle.stack_state.specs.Meaning.{frames_of, no_frame, frame_of, kind_at, kinds_of, slots_of, depth, registers_of, MeansBy}
-use Rattle.stack_state.proofs.MeaningLaws.{frame_of-caller, frame_of-innermost, depth_is_length}
+use Rattle.stack_state.specs.Meaning.{frames_of, no_frame, abstract_frame_at, kind_at, kinds_of, stack_slots_of, depth, registers_of, MeansBy}
+use Rattle.stack_state.proofs.MeaningLaws.{abstract_frame_at-caller, abstract_frame_at-innermost, depth_is_length}
 use Rattle.stack_state.specs.StackMeaning.{SlotMeans, StackMeans}
 use Rattle.stack_state.proofs.StackLaws.{StackMeans-change, SlotMeans-spilled, StackMeans-new}
 use Rattle.stack_state.specs.Calls.{kept_kinds, handed_kinds, unset_slots, caller_of, callee_of, entered, with_new_frame}
@@ -49,11 +49,11 @@ Allows-deeper e serial (MapValue m l g) v h =
     record { serial = h.serial; offset = h.offset; points = h.points; from = h.from; to = h.to; live = h.live }
 Allows-deeper e serial (MapValueOrNull m i) v h = null_deeper e serial m (e.value i) v h
 
-SlotMeans-deeper : (e : Assigned) (serial : ℕ) (t : Slot) (cs : List Cell) → SlotMeans e t cs → SlotMeans (with_new_frame e serial) t cs
+SlotMeans-deeper : (e : Assigned) (serial : ℕ) (t : StackSlot) (cs : List Cell) → SlotMeans e t cs → SlotMeans (with_new_frame e serial) t cs
 SlotMeans-deeper e serial (Written marks) cs h = h
 SlotMeans-deeper e serial (Spilled k) cs h = SlotMeans-spilled e (with_new_frame e serial) k k cs (Allows-deeper e serial k) h
 
-StackMeans-deeper : (e : Assigned) (serial : ℕ) (slots : List Slot) (cells : List Cell) → StackMeans e slots cells
+StackMeans-deeper : (e : Assigned) (serial : ℕ) (slots : List StackSlot) (cells : List Cell) → StackMeans e slots cells
     → StackMeans (with_new_frame e serial) slots cells
 StackMeans-deeper e serial slots cells m =
     StackMeans-change e (with_new_frame e serial) slots slots cells (λ k cs below. SlotMeans-deeper e serial _ cs) m
@@ -88,7 +88,7 @@ handed_allowed e ks regs serial (suc (suc (suc (suc (suc (suc (suc (suc (suc zer
 handed_allowed e ks regs serial (suc (suc (suc (suc (suc (suc (suc (suc (suc (suc k)))))))))) all = tt
 
 kept_allowed : (e : Assigned) (ks : List Kind) (regs : List Value) (k : ℕ) → k < 4 → ((i : ℕ) → Allows e (kind_at ks i) (value_at regs i))
-    → Allows e (kind_at (kept_kinds ks) (6 + k)) (value_at (kept regs) k)
+    → Allows e (kind_at (kept_kinds ks) (6 + k)) (value_at (saved_registers regs) k)
 kept_allowed e ks regs zero below all = all 6
 kept_allowed e ks regs (suc zero) below all = all 7
 kept_allowed e ks regs (suc (suc zero)) below all = all 8
@@ -101,27 +101,27 @@ depth-entered : (a : State) (target : ℕ) → depth (entered a target) ≡ dept
 depth-entered a target = ap (λ n. n + 1) (length-append a.callers.items (caller_of a.innermost ∷ []))
 
 -- the callers of the caller
-frame_of-entered_outer : (a : State) (target j : ℕ) → suc j < depth a → frame_of (entered a target) j ≡ frame_of a j
-frame_of-entered_outer a target j below =
+abstract_frame_at-entered_outer : (a : State) (target j : ℕ) → suc j < depth a → abstract_frame_at (entered a target) j ≡ abstract_frame_at a j
+abstract_frame_at-entered_outer a target j below =
     let deep = depth-entered a target in
-    frame_of-caller (entered a target) j (omega arith)
+    abstract_frame_at-caller (entered a target) j (omega arith)
     ∙ get_or_append_left a.callers.items (caller_of a.innermost ∷ []) no_frame j (omega arith)
-    ∙ sym (frame_of-caller a j below)
+    ∙ sym (abstract_frame_at-caller a j below)
 
 -- the caller
-frame_of-entered_caller : (a : State) (target : ℕ) → frame_of (entered a target) (length a.callers.items) ≡ caller_of a.innermost
-frame_of-entered_caller a target =
+abstract_frame_at-entered_caller : (a : State) (target : ℕ) → abstract_frame_at (entered a target) (length a.callers.items) ≡ caller_of a.innermost
+abstract_frame_at-entered_caller a target =
     let n : ℕ = length a.callers.items in
     let deep = depth-entered a target in
     let here : n - n ≡ 0 = omega arith in
-    frame_of-caller (entered a target) n (omega arith)
+    abstract_frame_at-caller (entered a target) n (omega arith)
     ∙ get_or-append_right a.callers.items (caller_of a.innermost ∷ []) n n no_frame refl (omega arith)
     ∙ ap (λ i. slice_index_or (caller_of a.innermost ∷ []) i no_frame) here
 
 -- the function that is called
-frame_of-entered_callee : (a : State) (target : ℕ) → frame_of (entered a target) (depth a) ≡ callee_of a.innermost (a.slot + 1)
-frame_of-entered_callee a target =
-    ap (frame_of (entered a target)) (sym (length-append a.callers.items (caller_of a.innermost ∷ []))) ∙ frame_of-innermost (entered a target)
+abstract_frame_at-entered_callee : (a : State) (target : ℕ) → abstract_frame_at (entered a target) (depth a) ≡ callee_of a.innermost (a.slot + 1)
+abstract_frame_at-entered_callee a target =
+    ap (abstract_frame_at (entered a target)) (sym (length-append a.callers.items (caller_of a.innermost ∷ []))) ∙ abstract_frame_at-innermost (entered a target)
 
 pub returns-entered : (a : State) (target : ℕ) → map (λ f. f.return_slot) (frames_of (entered a target))
     ≡ map (λ f. f.return_slot) (frames_of a) ++ (a.slot + 1) ∷ []
@@ -133,32 +133,35 @@ returns-entered a target =
 -- ---- the meaning after a call
 
 stack_entered : (p : Program) (e : Assigned) (a : State) (s : Machine.State) (target j : ℕ) → j < depth (entered a target) → MeansBy p e a s
-    → StackMeans (with_new_frame e s.next_serial) (slots_of (entered a target) j) (frame_at (enter s target).frames j).cells
+    → StackMeans (with_new_frame e s.next_serial) (stack_slots_of (entered a target) j) (frame_at (enter s target).frames j).cells
 unfolding new_frame unset_slots
 stack_entered p e a s target j below m =
     let n : ℕ = length a.callers.items in
     let more : Assigned = with_new_frame e s.next_serial in
-    let new : CallFrame = new_frame s.next_serial (s.slot + 1) (kept s.regs) in
+    let new : CallFrame = new_frame s.next_serial (s.slot + 1) (saved_registers s.regs) in
     let count = depth_is_length p e a s m in
     let deep = depth-entered a target in
     elim (cases_lt j (depth a)) [
       | inl inside ↦
           let old : frame_at (s.frames ++ new ∷ []) j ≡ frame_at s.frames j = get_or_append_left s.frames (new ∷ []) (new_frame 0 0 []) j (omega arith) in
-          let same : slots_of (entered a target) j ≡ slots_of a j = elim (cases_lt j n) [
-            | inl outer ↦ ap (λ f. f.stack.slots) (frame_of-entered_outer a target j (omega arith))
+          let same : stack_slots_of (entered a target) j
+          ≡ stack_slots_of a j = elim (cases_lt j n) [
+            | inl outer ↦
+                ap (λ f. f.stack.slots) (abstract_frame_at-entered_outer a target j (omega arith))
             | inr last ↦ let here : j ≡ n = omega arith in
-                ap (slots_of (entered a target)) here ∙ ap (λ f. f.stack.slots) (frame_of-entered_caller a target)
-                ∙ ap (λ f. f.stack.slots) (sym (frame_of-innermost a)) ∙ ap (slots_of a) (sym here)
+                ap (stack_slots_of (entered a target)) here ∙ ap (λ f. f.stack.slots) (abstract_frame_at-entered_caller a target)
+                ∙ ap (λ f. f.stack.slots) (sym (abstract_frame_at-innermost a))
+                ∙ ap (stack_slots_of a) (sym here)
           ] in
-          subst (λ f. StackMeans more (slots_of (entered a target) j) f.cells) (sym old)
+          subst (λ f. StackMeans more (stack_slots_of (entered a target) j) f.cells) (sym old)
           (subst (λ slots. StackMeans more slots (frame_at s.frames j).cells) (sym same)
-          (StackMeans-deeper e s.next_serial (slots_of a j) (frame_at s.frames j).cells (m.stacks j inside)))
+          (StackMeans-deeper e s.next_serial (stack_slots_of a j) (frame_at s.frames j).cells (m.stacks j inside)))
       | inr past ↦
           let here : j ≡ length s.frames = omega arith in
           let callee : j ≡ depth a = omega arith in
           let cells : frame_at (s.frames ++ new ∷ []) j ≡ new = ap (frame_at (s.frames ++ new ∷ [])) here ∙ last_frame s.frames new in
-          let slots : slots_of (entered a target) j ≡ unset_slots = ap (slots_of (entered a target)) callee ∙ ap (λ f. f.stack.slots) (frame_of-entered_callee a target) in
-          subst (λ f. StackMeans more (slots_of (entered a target) j) f.cells) (sym cells)
+          let slots : stack_slots_of (entered a target) j ≡ unset_slots = ap (stack_slots_of (entered a target)) callee ∙ ap (λ f. f.stack.slots) (abstract_frame_at-entered_callee a target) in
+          subst (λ f. StackMeans more (stack_slots_of (entered a target) j) f.cells) (sym cells)
           (subst (λ l. StackMeans more l new.cells) (sym slots) (StackMeans-new more new.cells (length-replicate frame_size Unwritten)))
     ]
 
@@ -168,22 +171,22 @@ unfolding new_frame
 kept_entered p e a s target j k below within m =
     let n : ℕ = length a.callers.items in
     let more : Assigned = with_new_frame e s.next_serial in
-    let new : CallFrame = new_frame s.next_serial (s.slot + 1) (kept s.regs) in
+    let new : CallFrame = new_frame s.next_serial (s.slot + 1) (saved_registers s.regs) in
     let count = depth_is_length p e a s m in
     let deep = depth-entered a target in
     elim (cases_lt j n) [
       | inl outer ↦
           let old : frame_at (s.frames ++ new ∷ []) (suc j) ≡ frame_at s.frames (suc j) = get_or_append_left s.frames (new ∷ []) (new_frame 0 0 []) (suc j) (omega arith) in
           subst (λ f. Allows more (kind_at (kinds_of (entered a target) j) (6 + k)) (value_at f.saved k)) (sym old)
-          (subst (λ f. Allows more (kind_at f.registers (6 + k)) (value_at (frame_at s.frames (suc j)).saved k)) (sym (frame_of-entered_outer a target j (omega arith)))
+          (subst (λ f. Allows more (kind_at f.registers (6 + k)) (value_at (frame_at s.frames (suc j)).saved k)) (sym (abstract_frame_at-entered_outer a target j (omega arith)))
           (Allows-deeper e s.next_serial (kind_at (kinds_of a j) (6 + k)) _ (m.kept j k (omega arith) within)))
       | inr last ↦
           let here : j ≡ n = omega arith in
           let top : suc j ≡ length s.frames = omega arith in
           let frame : frame_at (s.frames ++ new ∷ []) (suc j) ≡ new = ap (frame_at (s.frames ++ new ∷ [])) top ∙ last_frame s.frames new in
           subst (λ f. Allows more (kind_at (kinds_of (entered a target) j) (6 + k)) (value_at f.saved k)) (sym frame)
-          (subst (λ f. Allows more (kind_at f.registers (6 + k)) (value_at (kept s.regs) k)) (sym (ap (frame_of (entered a target)) here ∙ frame_of-entered_caller a target))
-          (Allows-deeper e s.next_serial (kind_at (kept_kinds (registers_of a)) (6 + k)) (value_at (kept s.regs) k)
+          (subst (λ f. Allows more (kind_at f.registers (6 + k)) (value_at (saved_registers s.regs) k)) (sym (ap (abstract_frame_at (entered a target)) here ∙ abstract_frame_at-entered_caller a target))
+          (Allows-deeper e s.next_serial (kind_at (kept_kinds (registers_of a)) (6 + k)) (value_at (saved_registers s.regs) k)
           (kept_allowed e (registers_of a) s.regs k within m.registers)))
     ]
 
@@ -192,7 +195,7 @@ pub MeansBy-enter : (p : Program) (e : Assigned) (a : State) (s : Machine.State)
     → MeansBy p (with_new_frame e s.next_serial) (entered a target) (enter s target)
 unfolding new_frame
 MeansBy-enter p e a s target is m =
-    let new : CallFrame = new_frame s.next_serial (s.slot + 1) (kept s.regs) in
+    let new : CallFrame = new_frame s.next_serial (s.slot + 1) (saved_registers s.regs) in
     record {
       is_state = is;
       assigned = record {

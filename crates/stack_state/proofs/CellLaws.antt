@@ -26,10 +26,10 @@ use Rattle.isa_model.specs.Code.LittleEndian.{EachByte}
 use Rattle.reg_state.specs.declared.kinds.Kind.{Kind}
 use Rattle.reg_state.specs.declared.kinds.Kind.TheVariants.{Unset, Number, Context, Stack, Packet, PacketEnd, Map, MapValue, MapValueOrNull}
 use Rattle.reg_state.specs.Kinds.{Assigned, Allows, AllowsOrNull}
-use Rattle.stack_state.specs.declared.slots.Slot.{Slot}
-use Rattle.stack_state.specs.declared.slots.Slot.TheVariants.{Written, Spilled}
+use Rattle.stack_state.specs.declared.slots.StackSlot.{StackSlot}
+use Rattle.stack_state.specs.declared.slots.StackSlot.TheVariants.{Written, Spilled}
 use Rattle.stack_state.specs.Slots.{marks_of, mask_of}
-use Rattle.stack_state.specs.StackMeaning.{part_of, chunk_of, written, stored_cells, Marked, SlotMeans}
+use Rattle.stack_state.specs.StackMeaning.{part_of, chunk_of, cells_with, stored_cells, Marked, SlotMeans}
 use Rattle.stack_state.proofs.SpelledBytes.{number_from-fits}
 use Rattle.stack_state.proofs.SpliceLaws.{chunk_kept, chunk_written}
 
@@ -83,14 +83,16 @@ no_marks cs = λ i within bit. absurd (grind arith)
 kept_byte : (marks k : ℕ) (cells : List Cell) (bytes : List ℕ) (at i : ℕ) → i < 8
     → (8 * k + i < at) ⊎ (at + length (map Byte bytes) ≤ 8 * k + i) → at + length (map Byte bytes) ≤ length cells
     → Marked marks (chunk_of k cells) → bit_at marks i ≡ 1
-    → is_byte (slice_index_or (chunk_of k (written cells at (map Byte bytes))) i Unwritten) ≡ true
+    → is_byte (slice_index_or (chunk_of k (cells_with cells at (map Byte bytes))) i Unwritten) ≡
+    true
 kept_byte marks k cells bytes at i within outside fits h bit =
     ap is_byte (chunk_kept cells (map Byte bytes) at k i Unwritten within outside fits) ∙ h i within bit
 
 -- one that it writes
 new_byte : (k : ℕ) (cells : List Cell) (bytes : List ℕ) (at i : ℕ) → i < 8 → at ≤ 8 * k + i
     → 8 * k + i < at + length (map Byte bytes) → at + length (map Byte bytes) ≤ length cells
-    → is_byte (slice_index_or (chunk_of k (written cells at (map Byte bytes))) i Unwritten) ≡ true
+    → is_byte (slice_index_or (chunk_of k (cells_with cells at (map Byte bytes))) i Unwritten) ≡
+    true
 new_byte k cells bytes at i within from to fits =
     let long : length (map Byte bytes) ≡ length bytes = length-map bytes Byte in
     ap is_byte (chunk_written cells (map Byte bytes) at k i Unwritten within from to fits)
@@ -99,7 +101,7 @@ new_byte k cells bytes at i within from to fits =
 -- the marks after bytes were written inside the slot
 pub marked_after : (marks at : ℕ) (cells : List Cell) (bytes : List ℕ) → at % 8 + length bytes ≤ 8 → at + length bytes ≤ length cells
     → Marked marks (chunk_of (at / 8) cells)
-    → Marked (bit_or marks (mask_of (at % 8) (at % 8 + length bytes))) (chunk_of (at / 8) (written cells at (map Byte bytes)))
+    → Marked (bit_or marks (mask_of (at % 8) (at % 8 + length bytes))) (chunk_of (at / 8) (cells_with cells at (map Byte bytes)))
 marked_after marks at cells bytes inside fits h = λ i within bit.
     let long : length (map Byte bytes) ≡ length bytes = length-map bytes Byte in
     let both = bit_at_or marks (mask_of (at % 8) (at % 8 + length bytes)) i in
@@ -120,7 +122,7 @@ marked_number n cs same = λ i within bit.
     subst (λ (c : List Cell). is_byte (slice_index_or c i Unwritten) ≡ true) (sym same) (written_byte (bytes_of U64 n) i within)
 
 -- the marks of any slot are of number bytes
-pub marked_slot : (e : Assigned) (s : Slot) (cs : List Cell) → SlotMeans e s cs → Marked (marks_of s) cs
+pub marked_slot : (e : Assigned) (s : StackSlot) (cs : List Cell) → SlotMeans e s cs → Marked (marks_of s) cs
 marked_slot e (Written marks) cs h = h
 marked_slot e (Spilled (Number numbers)) cs h = marked_number h.1.0 cs (h.2 ∙ ap stored_cells h.1.1)
 marked_slot e (Spilled k) cs h = no_marks cs
@@ -183,7 +185,7 @@ same_region-refl region.Context = refl
 same_region-refl region.Packet = refl
 same_region-refl region.PacketEnd = refl
 same_region-refl (region.Map m) = grind (arith, nat_tests)
-same_region-refl (region.Frame n) = grind (arith, nat_tests)
+same_region-refl (region.CallFrame n) = grind (arith, nat_tests)
 same_region-refl (region.MapValue m n) = grind (arith, nat_tests)
 
 same_int-refl : (z : ℤ) → same_int z z ≡ true

@@ -28,12 +28,12 @@ use Rattle.reg_state.specs.declared.kinds.Kind.{Kind}
 use Rattle.reg_state.specs.declared.kinds.Kind.TheVariants.{Unset, Packet, MapValue, MapValueOrNull}
 use Rattle.reg_state.specs.Scalars.{Has}
 use Rattle.reg_state.specs.Kinds.{Assigned, Allows, AllowsPacket, AllowsOrNull}
-use Rattle.stack_state.specs.declared.slots.Slot.{Slot}
-use Rattle.stack_state.specs.declared.slots.Slot.TheVariants.{Written, Spilled}
+use Rattle.stack_state.specs.declared.slots.StackSlot.{StackSlot}
+use Rattle.stack_state.specs.declared.slots.StackSlot.TheVariants.{Written, Spilled}
 use Rattle.stack_state.specs.declared.states.AbstractFrame.{AbstractFrame}
 use Rattle.stack_state.specs.declared.states.State.{State}
-use Rattle.stack_state.specs.Meaning.{frames_of, no_frame, frame_of, kind_at, kinds_of, slots_of, depth, registers_of, IsOf, MeansBy}
-use Rattle.stack_state.proofs.MeaningLaws.{length-frames_of, frame_of-innermost, depth_is_length, FrameKeeps, MeansBy-onto}
+use Rattle.stack_state.specs.Meaning.{frames_of, no_frame, abstract_frame_at, kind_at, kinds_of, stack_slots_of, depth, registers_of, AssignmentFits, MeansBy}
+use Rattle.stack_state.proofs.MeaningLaws.{length-frames_of, abstract_frame_at-innermost, depth_is_length, FrameKeeps, MeansBy-onto}
 use Rattle.stack_state.specs.Slots.{slot_at, kind_in, forgotten_slot}
 use Rattle.stack_state.specs.StackMeaning.{SlotMeans, StackMeans, StoresBytes, Spills, LoadsNumber, LoadsSlot, KeepsOtherMaps, with_maps}
 use Rattle.stack_state.proofs.StackLaws.{SlotMeans-spilled}
@@ -63,35 +63,36 @@ pub depth-with_frame : (a : State) (j : ℕ) (f : AbstractFrame) → j < depth a
 depth-with_frame a j f inside =
     sym (length-frames_of (with_frame a j f)) ∙ ap length (frames_of-with_frame a j f inside) ∙ length-set (frames_of a) j f ∙ length-frames_of a
 
-pub frame_of-with_frame_same : (a : State) (j : ℕ) (f : AbstractFrame) → j < depth a → frame_of (with_frame a j f) j ≡ f
-frame_of-with_frame_same a j f inside =
+pub abstract_frame_at-with_frame_same : (a : State) (j : ℕ) (f : AbstractFrame) → j < depth a → abstract_frame_at (with_frame a j f) j ≡ f
+abstract_frame_at-with_frame_same a j f inside =
     let long = length-frames_of a in
     ap (λ fs. slice_index_or fs j no_frame) (frames_of-with_frame a j f inside) ∙ get_or-set_same (frames_of a) j f no_frame (omega arith)
 
-pub frame_of-with_frame_other : (a : State) (j i : ℕ) (f : AbstractFrame) → j < depth a → i ≢ j → frame_of (with_frame a j f) i ≡ frame_of a i
-frame_of-with_frame_other a j i f inside other =
+pub abstract_frame_at-with_frame_other : (a : State) (j i : ℕ) (f : AbstractFrame) → j < depth a → i ≢ j → abstract_frame_at (with_frame a j f) i ≡ abstract_frame_at a i
+abstract_frame_at-with_frame_other a j i f inside other =
     ap (λ fs. slice_index_or fs i no_frame) (frames_of-with_frame a j f inside) ∙ get_or-set_other (frames_of a) j i f no_frame other
 
 -- the registers as they are stay
-registers-with_frame_slots : (a : State) (j : ℕ) (slots : List Slot) → registers_of (with_frame_slots a j slots) ≡ registers_of a
+registers-with_frame_slots : (a : State) (j : ℕ) (slots : List StackSlot) → registers_of (with_frame_slots a j slots) ≡ registers_of a
 registers-with_frame_slots a j slots =
     let n : ℕ = length a.callers.items in
-    let f : AbstractFrame = with_slots (frame_of a j) slots in
+    let f : AbstractFrame = with_slots (abstract_frame_at a j) slots in
     elim (j == n) as (λ b. (j == n) ≡ b
     → (if b then record a { innermost = f } else record a { callers = record { items = slice_set a.callers.items j f } }).innermost.registers ≡ a.innermost.registers) [
       | true ↦ λ e. let same : j ≡ n = grind (arith, nat_tests) in
-          ap (λ k. (frame_of a k).registers) same ∙ ap (λ g. g.registers) (frame_of-innermost a)
+          ap (λ k. (abstract_frame_at a k).registers) same
+          ∙ ap (λ g. g.registers) (abstract_frame_at-innermost a)
       | false ↦ λ e. refl
     ] refl
 
 -- what a frame has beside its slots stays
-kept_in_frame : {X : Type 0} (view : AbstractFrame → X) (a : State) (j i : ℕ) (f : AbstractFrame) → j < depth a → view f ≡ view (frame_of a j)
-    → view (frame_of (with_frame a j f) i) ≡ view (frame_of a i)
+kept_in_frame : {X : Type 0} (view : AbstractFrame → X) (a : State) (j i : ℕ) (f : AbstractFrame) → j < depth a → view f ≡ view (abstract_frame_at a j)
+    → view (abstract_frame_at (with_frame a j f) i) ≡ view (abstract_frame_at a i)
 kept_in_frame view a j i f inside same =
     elim (cases_eq i j) [
-      | inl here ↦ ap (λ k. view (frame_of (with_frame a j f) k)) here ∙ ap view (frame_of-with_frame_same a j f inside) ∙ same
-          ∙ ap (λ k. view (frame_of a k)) (sym here)
-      | inr other ↦ ap view (frame_of-with_frame_other a j i f inside other)
+      | inl here ↦ ap (λ k. view (abstract_frame_at (with_frame a j f) k)) here ∙ ap view (abstract_frame_at-with_frame_same a j f inside) ∙ same
+          ∙ ap (λ k. view (abstract_frame_at a k)) (sym here)
+      | inr other ↦ ap view (abstract_frame_at-with_frame_other a j i f inside other)
     ]
 
 -- what a call frame has beside its cells stays
@@ -106,26 +107,26 @@ kept_in_call view fs j i f inside same =
 
 -- ---- a write into the jth frame
 
-stack_written : (e : Assigned) (a : State) (s : Machine.State) (j i : ℕ) (slots : List Slot) (cells : List Cell) → j < depth a → j < length s.frames
-    → StackMeans e slots cells → StackMeans e (slots_of a i) (frame_at s.frames i).cells
-    → StackMeans e (slots_of (with_frame_slots a j slots) i) (frame_at (with_cells s j cells).frames i).cells
+stack_written : (e : Assigned) (a : State) (s : Machine.State) (j i : ℕ) (slots : List StackSlot) (cells : List Cell) → j < depth a → j < length s.frames
+    → StackMeans e slots cells → StackMeans e (stack_slots_of a i) (frame_at s.frames i).cells
+    → StackMeans e (stack_slots_of (with_frame_slots a j slots) i) (frame_at (with_cells s j cells).frames i).cells
 stack_written e a s j i slots cells inside live new old =
-    let f : AbstractFrame = with_slots (frame_of a j) slots in
+    let f : AbstractFrame = with_slots (abstract_frame_at a j) slots in
     let g : CallFrame = record (frame_at s.frames j) { cells = cells } in
     elim (cases_eq i j) [
-      | inl here ↦ subst (λ k. StackMeans e (slots_of (with_frame_slots a j slots) k) (frame_at (slice_set s.frames j g) k).cells) (sym here)
-          (subst (λ h. StackMeans e h.stack.slots (frame_at (slice_set s.frames j g) j).cells) (sym (frame_of-with_frame_same a j f inside))
+      | inl here ↦ subst (λ k. StackMeans e (stack_slots_of (with_frame_slots a j slots) k) (frame_at (slice_set s.frames j g) k).cells) (sym here)
+          (subst (λ h. StackMeans e h.stack.slots (frame_at (slice_set s.frames j g) j).cells) (sym (abstract_frame_at-with_frame_same a j f inside))
           (subst (λ h. StackMeans e slots h.cells) (sym (get_or-set_same s.frames j g (new_frame 0 0 []) live)) new))
-      | inr other ↦ subst (λ h. StackMeans e h.stack.slots (frame_at (slice_set s.frames j g) i).cells) (sym (frame_of-with_frame_other a j i f inside other))
-          (subst (λ h. StackMeans e (slots_of a i) h.cells) (sym (get_or-set_other s.frames j i g (new_frame 0 0 []) other)) old)
+      | inr other ↦ subst (λ h. StackMeans e h.stack.slots (frame_at (slice_set s.frames j g) i).cells) (sym (abstract_frame_at-with_frame_other a j i f inside other))
+          (subst (λ h. StackMeans e (stack_slots_of a i) h.cells) (sym (get_or-set_other s.frames j i g (new_frame 0 0 []) other)) old)
     ]
 
 -- the jth frame has other cells, and slots that mean them
-pub MeansBy-cells : (p : Program) (e : Assigned) (a : State) (s : Machine.State) (j : ℕ) (slots : List Slot) (cells : List Cell) → j < depth a
+pub MeansBy-cells : (p : Program) (e : Assigned) (a : State) (s : Machine.State) (j : ℕ) (slots : List StackSlot) (cells : List Cell) → j < depth a
     → IsState p (with_cells s j cells) → StackMeans e slots cells → MeansBy p e a s
     → MeansBy p e (with_frame_slots a j slots) (with_cells s j cells)
 MeansBy-cells p e a s j slots cells inside is stack m =
-    let f : AbstractFrame = with_slots (frame_of a j) slots in
+    let f : AbstractFrame = with_slots (abstract_frame_at a j) slots in
     let g : CallFrame = record (frame_at s.frames j) { cells = cells } in
     let none : CallFrame = new_frame 0 0 [] in
     let count = depth_is_length p e a s m in
@@ -162,19 +163,20 @@ abbrev pub IfLeft : Program → Assigned → State → Result Machine.State Trap
 IfLeft p e b went = (t : Machine.State) × (went ≡ Ok t) × (IsState p t → MeansBy p e b t)
 
 -- bytes of a number are stored
-pub MeansBy-stores : (p : Program) (e : Assigned) (a : State) (s : Machine.State) (new : List Slot) (size : Size) (serial j at n : ℕ) (z by : ℤ)
-    → j < depth a → IsHere s serial j at (size_bytes size) z by → StoresBytes (slots_of a j) at size new → MeansBy p e a s
-    → IfLeft p e (with_frame_slots a j new) (store s size (Ptr (region.Frame serial) z) by (Num n))
+pub MeansBy-stores : (p : Program) (e : Assigned) (a : State) (s : Machine.State) (new : List StackSlot) (size : Size) (serial j at n : ℕ) (z by : ℤ)
+    → j < depth a → IsHere s serial j at (size_bytes size) z by → StoresBytes (stack_slots_of a j) at size new → MeansBy p e a s
+    → IfLeft p e (with_frame_slots a j new)
+    (store s size (Ptr (region.CallFrame serial) z) by (Num n))
 MeansBy-stores p e a s new size serial j at n z by inside here stores m =
-    let (cells, went, stack) = stores_here e s (slots_of a j) new size serial j at n z by here (m.stacks j inside) stores in
+    let (cells, went, stack) = stores_here e s (stack_slots_of a j) new size serial j at n z by here (m.stacks j inside) stores in
     (with_cells s j cells, went, λ is. MeansBy-cells p e a s j new cells inside is stack m)
 
 -- a value is spilled
-pub MeansBy-spills : (p : Program) (e : Assigned) (a : State) (s : Machine.State) (new : List Slot) (serial j k : ℕ) (z by : ℤ) (kind : Kind) (v : Value)
-    → j < depth a → IsHere s serial j (8 * k) 8 z by → v ≢ value.Unset → Allows e kind v → Spills (slots_of a j) k kind new → MeansBy p e a s
-    → IfLeft p e (with_frame_slots a j new) (store s U64 (Ptr (region.Frame serial) z) by v)
+pub MeansBy-spills : (p : Program) (e : Assigned) (a : State) (s : Machine.State) (new : List StackSlot) (serial j k : ℕ) (z by : ℤ) (kind : Kind) (v : Value)
+    → j < depth a → IsHere s serial j (8 * k) 8 z by → v ≢ value.Unset → Allows e kind v → Spills (stack_slots_of a j) k kind new → MeansBy p e a s
+    → IfLeft p e (with_frame_slots a j new) (store s U64 (Ptr (region.CallFrame serial) z) by v)
 MeansBy-spills p e a s new serial j k z by kind v inside here set allowed spills m =
-    let (cells, went, stack) = spills_here e s (slots_of a j) new serial j k z by kind v here set allowed (m.stacks j inside) spills in
+    let (cells, went, stack) = spills_here e s (stack_slots_of a j) new serial j k z by kind v here set allowed (m.stacks j inside) spills in
     (with_cells s j cells, went, λ is. MeansBy-cells p e a s j new cells inside is stack m)
 
 -- ---- a read of the jth frame
@@ -188,25 +190,25 @@ cells_fit p e a s j inside m =
 
 -- bytes are loaded: their number is one of those that `load` answers
 pub MeansBy-loads : (p : Program) (e : Assigned) (a : State) (s : Machine.State) (size : Size) (serial j at : ℕ) (z by : ℤ) (numbers : Scalar)
-    → j < depth a → IsHere s serial j at (size_bytes size) z by → LoadsNumber (slots_of a j) at size (Some numbers) → MeansBy p e a s
-    → (n : ℕ) × (load_number s size (Ptr (region.Frame serial) z) by ≡ Ok n) × Has numbers n
+    → j < depth a → IsHere s serial j at (size_bytes size) z by → LoadsNumber (stack_slots_of a j) at size (Some numbers) → MeansBy p e a s
+    → (n : ℕ) × (load_number s size (Ptr (region.CallFrame serial) z) by ≡ Ok n) × Has numbers n
 MeansBy-loads p e a s size serial j at z by numbers inside here loads m =
-    loads_here e s (slots_of a j) size serial j at (length p.maps) s.next_serial z by numbers here (cells_fit p e a s j inside m) (m.stacks j inside) loads
+    loads_here e s (stack_slots_of a j) size serial j at (length p.maps) s.next_serial z by numbers here (cells_fit p e a s j inside m) (m.stacks j inside) loads
 
 -- a slot is read back: its value is one that the kind allows
 pub MeansBy-fills : (p : Program) (e : Assigned) (a : State) (s : Machine.State) (serial j k : ℕ) (z by : ℤ) (kind : Kind)
-    → j < depth a → IsHere s serial j (8 * k) 8 z by → LoadsSlot (slots_of a j) k (Some kind) → MeansBy p e a s
-    → (v : Value) × (load s U64 (Ptr (region.Frame serial) z) by ≡ Ok v) × Allows e kind v
+    → j < depth a → IsHere s serial j (8 * k) 8 z by → LoadsSlot (stack_slots_of a j) k (Some kind) → MeansBy p e a s
+    → (v : Value) × (load s U64 (Ptr (region.CallFrame serial) z) by ≡ Ok v) × Allows e kind v
 MeansBy-fills p e a s serial j k z by kind inside here fills m =
-    fills_here e s (slots_of a j) serial j k (length p.maps) s.next_serial z by kind here (cells_fit p e a s j inside m) (m.stacks j inside) fills
+    fills_here e s (stack_slots_of a j) serial j k (length p.maps) s.next_serial z by kind here (cells_fit p e a s j inside m) (m.stacks j inside) fills
 
 -- ---- every frame
 
 pub frames_of-map : (g : AbstractFrame → AbstractFrame) (a : State) → frames_of (map_frames g a) ≡ map g (frames_of a)
 frames_of-map g a = sym (map-append g a.callers.items (a.innermost ∷ []))
 
-pub frame_of-map : (g : AbstractFrame → AbstractFrame) (a : State) (j : ℕ) → j < depth a → frame_of (map_frames g a) j ≡ g (frame_of a j)
-frame_of-map g a j inside =
+pub abstract_frame_at-map : (g : AbstractFrame → AbstractFrame) (a : State) (j : ℕ) → j < depth a → abstract_frame_at (map_frames g a) j ≡ g (abstract_frame_at a j)
+abstract_frame_at-map g a j inside =
     let long = length-frames_of a in
     ap (λ fs. slice_index_or fs j no_frame) (frames_of-map g a) ∙ get_or-map g (frames_of a) j no_frame no_frame (omega arith)
 
@@ -217,16 +219,16 @@ same_returns g (f ∷ fs) same = rw (same f, same_returns g fs same) refl
 
 -- the same is done to each frame, and in the machine maps may change
 MeansBy-map : (p : Program) (e f : Assigned) (g : AbstractFrame → AbstractFrame) (a : State) (s t : Machine.State) → t.slot ≡ s.slot
-    → t.regs ≡ s.regs → t.frames ≡ s.frames → IsState p t → IsOf f t → ((x : AbstractFrame) → (g x).return_slot ≡ x.return_slot)
+    → t.regs ≡ s.regs → t.frames ≡ s.frames → IsState p t → AssignmentFits f t → ((x : AbstractFrame) → (g x).return_slot ≡ x.return_slot)
     → ((x : AbstractFrame) → FrameKeeps e f x (g x)) → MeansBy p e a s → MeansBy p f (map_frames g a) t
 MeansBy-map p e f g a s t slot regs frames is of same each m =
     MeansBy-onto p e f a (map_frames g a) s t slot regs frames is of refl
     (ap (λ fs. map (λ f. f.return_slot) fs) (frames_of-map g a) ∙ same_returns g (frames_of a) same)
-    (λ j below. subst (FrameKeeps e f (frame_of a j)) (sym (frame_of-map g a j below)) (each (frame_of a j))) m
+    (λ j below. subst (FrameKeeps e f (abstract_frame_at a j)) (sym (abstract_frame_at-map g a j below)) (each (abstract_frame_at a j))) m
 
 -- ---- more known of every copy of an identity
 
-SlotMeans-with : (e f : Assigned) (g : Kind → Kind) (t : Slot) (cs : List Cell) → ((k : Kind) (v : Value) → Allows e k v → Allows f (g k) v)
+SlotMeans-with : (e f : Assigned) (g : Kind → Kind) (t : StackSlot) (cs : List Cell) → ((k : Kind) (v : Value) → Allows e k v → Allows f (g k) v)
     → SlotMeans e t cs → SlotMeans f (with_spilled g t) cs
 SlotMeans-with e f g (Written marks) cs each h = h
 SlotMeans-with e f g (Spilled k) cs each h = SlotMeans-spilled e f k (g k) cs (each k) h

@@ -12,17 +12,17 @@ use Rattle.isa_model.specs.Machine.MachineStates.{IsState}
 use Rattle.reg_state.specs.declared.kinds.Kind.{Kind}
 use Rattle.reg_state.specs.declared.kinds.Kind.TheVariants.{Unset, Stack}
 use Rattle.reg_state.specs.Kinds.{Assigned, Allows}
-use Rattle.stack_state.specs.declared.slots.Slot.{Slot}
-use Rattle.stack_state.specs.declared.slots.Slot.TheVariants.{Written, Spilled}
+use Rattle.stack_state.specs.declared.slots.StackSlot.{StackSlot}
+use Rattle.stack_state.specs.declared.slots.StackSlot.TheVariants.{Written, Spilled}
 use Rattle.stack_state.specs.declared.states.AbstractFrame.{AbstractFrame}
 use Rattle.stack_state.specs.declared.states.State.{State}
-use Rattle.stack_state.specs.Meaning.{frames_of, frame_of, kind_at, depth, MeansBy}
+use Rattle.stack_state.specs.Meaning.{frames_of, abstract_frame_at, kind_at, depth, MeansBy}
 use Rattle.stack_state.proofs.MeaningLaws.{depth_is_length, FrameKeeps}
 use Rattle.stack_state.specs.Slots.{slot_at}
 use Rattle.stack_state.specs.StackMeaning.{SlotMeans}
 use Rattle.stack_state.proofs.StackLaws.{SlotMeans-spilled}
 use Rattle.stack_state.specs.Effects.{with_spilled, with_kinds, map_kinds}
-use Rattle.stack_state.proofs.EffectLaws.{frame_of-map, same_returns, MeansBy-map_kinds}
+use Rattle.stack_state.proofs.EffectLaws.{abstract_frame_at-map, same_returns, MeansBy-map_kinds}
 use Rattle.stack_state.specs.Calls.{without_last, without_frame, ended}
 use Rattle.stack_state.proofs.ExitLaws.{Allows-without_frame, returns-left, MeansBy-leave}
 
@@ -38,7 +38,7 @@ Allows-forgotten e n k v h = h
 
 -- ---- what is left does not depend on the frame
 
-SlotMeans-without_frame : (e : Assigned) (n : ℕ) (t : Slot) (cs : List Cell) → length e.frames ≡ suc n
+SlotMeans-without_frame : (e : Assigned) (n : ℕ) (t : StackSlot) (cs : List Cell) → length e.frames ≡ suc n
     → SlotMeans e (with_spilled (without_frame n) t) cs → SlotMeans (without_last e) (with_spilled (without_frame n) t) cs
 SlotMeans-without_frame e n (Written marks) cs long h = h
 SlotMeans-without_frame e n (Spilled k) cs long h =
@@ -70,8 +70,8 @@ MeansBy-ended p e a s called is m =
     let long : length e.frames ≡ length s.frames = ap length m.assigned.serials ∙ length-map s.frames (λ h. h.serial) in
     let top : length e.frames ≡ suc n = omega arith in
     MeansBy-leave p e b s (omega arith) is
-    (λ j below. subst (λ x. FrameKeeps e (without_last e) x x) (sym (frame_of-map (with_kinds (without_frame n)) a j (omega arith)))
-    (FrameKeeps-without_frame e n (frame_of a j) top)) forgotten
+    (λ j below. subst (λ x. FrameKeeps e (without_last e) x x) (sym (abstract_frame_at-map (with_kinds (without_frame n)) a j (omega arith)))
+    (FrameKeeps-without_frame e n (abstract_frame_at a j) top)) forgotten
 
 -- the exits of the frames that are left lead where they did, and the run goes on where that of the frame that ends leads
 pub returns-ended : (a : State) → 1 < depth a

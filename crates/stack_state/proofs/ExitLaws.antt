@@ -19,8 +19,8 @@ use Rattle.reg_state.specs.declared.kinds.Kind.TheVariants.{Unset, Number, Conte
 use Rattle.reg_state.specs.Kinds.{Assigned, Allows, AllowsOrNull}
 use Rattle.stack_state.specs.declared.states.AbstractFrame.{AbstractFrame}
 use Rattle.stack_state.specs.declared.states.State.{State}
-use Rattle.stack_state.specs.Meaning.{frames_of, no_frame, frame_of, kind_at, kinds_of, slots_of, depth, registers_of, MeansBy}
-use Rattle.stack_state.proofs.MeaningLaws.{length-frames_of, frame_of-caller, frame_of-innermost, depth_is_length, FrameKeeps}
+use Rattle.stack_state.specs.Meaning.{frames_of, no_frame, abstract_frame_at, kind_at, kinds_of, stack_slots_of, depth, registers_of, MeansBy}
+use Rattle.stack_state.proofs.MeaningLaws.{length-frames_of, abstract_frame_at-caller, abstract_frame_at-innermost, depth_is_length, FrameKeeps}
 use Rattle.stack_state.specs.StackMeaning.{StackMeans}
 use Rattle.stack_state.proofs.StackLaws.{StackMeans-change}
 use Rattle.stack_state.specs.Calls.{left_kinds, resumed_of, left, without_last, without_frame}
@@ -86,19 +86,19 @@ depth-left a called =
     omega arith
 
 -- the callers of the caller
-frame_of-left_outer : (a : State) (j : ℕ) → 1 < depth a → suc j < depth (left a) → frame_of (left a) j ≡ frame_of a j
-frame_of-left_outer a j called below =
+abstract_frame_at-left_outer : (a : State) (j : ℕ) → 1 < depth a → suc j < depth (left a) → abstract_frame_at (left a) j ≡ abstract_frame_at a j
+abstract_frame_at-left_outer a j called below =
     let deep = depth-left a called in
-    frame_of-caller (left a) j below
+    abstract_frame_at-caller (left a) j below
     ∙ get_or-take (length a.callers.items - 1) a.callers.items j no_frame (omega arith)
-    ∙ sym (frame_of-caller a j (omega arith))
+    ∙ sym (abstract_frame_at-caller a j (omega arith))
 
 -- the caller
-frame_of-left_last : (a : State) → 1 < depth a
-    → frame_of (left a) (length a.callers.items - 1) ≡ resumed_of (frame_of a (length a.callers.items - 1)) (kind_at (registers_of a) 0)
-frame_of-left_last a called =
+abstract_frame_at-left_last : (a : State) → 1 < depth a
+    → abstract_frame_at (left a) (length a.callers.items - 1) ≡ resumed_of (abstract_frame_at a (length a.callers.items - 1)) (kind_at (registers_of a) 0)
+abstract_frame_at-left_last a called =
     let long = length-take-le (length a.callers.items - 1) a.callers.items (omega arith) in
-    ap (frame_of (left a)) (sym long) ∙ frame_of-innermost (left a)
+    ap (abstract_frame_at (left a)) (sym long) ∙ abstract_frame_at-innermost (left a)
 
 abbrev return_slot_of : AbstractFrame → ℕ
 return_slot_of f = f.return_slot
@@ -108,8 +108,9 @@ returns-left a called =
     let n : ℕ = length a.callers.items - 1 in
     let fs : List AbstractFrame = a.callers.items in
     let one_more : suc n ≡ length fs = omega arith in
-    let last : frame_of a n ≡ slice_index_or fs n no_frame = frame_of-caller a n (omega arith) in
-    map-append return_slot_of (take n fs) (resumed_of (frame_of a n) (kind_at (registers_of a) 0) ∷ [])
+    let last : abstract_frame_at a n
+    ≡ slice_index_or fs n no_frame = abstract_frame_at-caller a n (omega arith) in
+    map-append return_slot_of (take n fs) (resumed_of (abstract_frame_at a n) (kind_at (registers_of a) 0) ∷ [])
     ∙ ap (λ f. map return_slot_of (take n fs) ++ f.return_slot ∷ []) last
     ∙ sym (map-append return_slot_of (take n fs) (slice_index_or fs n no_frame ∷ []))
     ∙ ap (map return_slot_of) (sym (take-suc fs n no_frame (omega arith)) ∙ take_all (suc n) fs (omega arith))
@@ -133,24 +134,24 @@ returns_last a d =
     let inside = length-map (frames_of a) return_slot_of in
     let whole = length-frames_of a in
     get_or_any (map return_slot_of (frames_of a)) n d no_frame.return_slot (omega arith)
-    ∙ get_or-map_default return_slot_of (frames_of a) n no_frame ∙ ap return_slot_of (frame_of-innermost a)
+    ∙ get_or-map_default return_slot_of (frames_of a) n no_frame ∙ ap return_slot_of (abstract_frame_at-innermost a)
 
 -- the slots of the frames that are left stay
-slots_left : (a : State) (j : ℕ) → 1 < depth a → j < depth (left a) → slots_of (left a) j ≡ slots_of a j
+slots_left : (a : State) (j : ℕ) → 1 < depth a → j < depth (left a) → stack_slots_of (left a) j ≡ stack_slots_of a j
 slots_left a j called below =
     let n : ℕ = length a.callers.items - 1 in
     let deep = depth-left a called in
     elim (cases_lt j n) [
-      | inl outer ↦ ap (λ h. h.stack.slots) (frame_of-left_outer a j called (omega arith))
+      | inl outer ↦ ap (λ h. h.stack.slots) (abstract_frame_at-left_outer a j called (omega arith))
       | inr top ↦ let here : j ≡ n = omega arith in
-          ap (slots_of (left a)) here ∙ ap (λ h. h.stack.slots) (frame_of-left_last a called) ∙ ap (slots_of a) (sym here)
+          ap (stack_slots_of (left a)) here ∙ ap (λ h. h.stack.slots) (abstract_frame_at-left_last a called) ∙ ap (stack_slots_of a) (sym here)
     ]
 
 -- ---- the meaning after an exit
 
 -- a frame is popped: nothing that is left points into it, and r6 to r9 are as they were kept
 pub MeansBy-leave : (p : Program) (e : Assigned) (a : State) (s : Machine.State) → 1 < depth a → IsState p (leave s)
-    → ((j : ℕ) → j < depth a → FrameKeeps e (without_last e) (frame_of a j) (frame_of a j)) → MeansBy p e a s
+    → ((j : ℕ) → j < depth a → FrameKeeps e (without_last e) (abstract_frame_at a j) (abstract_frame_at a j)) → MeansBy p e a s
     → MeansBy p (without_last e) (left a) (leave s)
 MeansBy-leave p e a s called is each m =
     let n : ℕ = length a.callers.items in
@@ -183,20 +184,21 @@ MeansBy-leave p e a s called is each m =
           ∙ ap (λ i. take i (map return_slot_of (frames_of a))) most ∙ returns_taken a ∙ sym (returns-left a called);
       pointer = refl;
       registers = λ k. left_allowed f (kinds_of a (n - 1)) (kind_at (registers_of a) 0) (value_at s.regs 0) (innermost fs).saved _ k
-          (subst (λ ks. Allows f (kind_at ks 0) (value_at s.regs 0)) (ap (λ h. h.registers) (frame_of-innermost a))
+          (subst (λ ks. Allows f (kind_at ks 0) (value_at s.regs 0)) (ap (λ h. h.registers) (abstract_frame_at-innermost a))
           ((each n (omega arith)).registers 0 (value_at s.regs 0)
-          (subst (λ ks. Allows e (kind_at ks 0) (value_at s.regs 0)) (sym (ap (λ h. h.registers) (frame_of-innermost a))) (m.registers 0))))
+          (subst (λ ks. Allows e (kind_at ks 0) (value_at s.regs 0)) (sym (ap (λ h. h.registers) (abstract_frame_at-innermost a))) (m.registers 0))))
           (λ i within. (each (n - 1) (omega arith)).registers (6 + i) (value_at (innermost fs).saved i)
           (subst (λ h. Allows e (kind_at (kinds_of a (n - 1)) (6 + i)) (value_at h.saved i)) top (m.kept (n - 1) i (omega arith) within)));
       kept = λ j k below within.
           let inner : frame_at (callers fs) (suc j) ≡ frame_at fs (suc j) = get_or-take (length fs - 1) fs (suc j) none (omega arith) in
           subst (λ h. Allows f (kind_at (kinds_of (left a) j) (6 + k)) (value_at h.saved k)) (sym inner)
-          (subst (λ h. Allows f (kind_at h.registers (6 + k)) (value_at (frame_at fs (suc j)).saved k)) (sym (frame_of-left_outer a j called below))
+          (subst (λ h. Allows f (kind_at h.registers (6 + k)) (value_at (frame_at fs (suc j)).saved k)) (sym (abstract_frame_at-left_outer a j called below))
           ((each j (omega arith)).registers (6 + k) (value_at (frame_at fs (suc j)).saved k) (m.kept j k (omega arith) within)));
       stacks = λ j below.
           let same : frame_at (callers fs) j ≡ frame_at fs j = get_or-take (length fs - 1) fs j none (omega arith) in
-          let slots : slots_of (left a) j ≡ slots_of a j = slots_left a j called below in
-          subst (λ h. StackMeans f (slots_of (left a) j) h.cells) (sym same)
+          let slots : stack_slots_of (left a) j
+          ≡ stack_slots_of a j = slots_left a j called below in
+          subst (λ h. StackMeans f (stack_slots_of (left a) j) h.cells) (sym same)
           (subst (λ l. StackMeans f l (frame_at fs j).cells) (sym slots)
-          (StackMeans-change e f (slots_of a j) (slots_of a j) (frame_at fs j).cells (λ k cs inside. (each j (omega arith)).slots k cs inside) (m.stacks j (omega arith))));
+          (StackMeans-change e f (stack_slots_of a j) (stack_slots_of a j) (frame_at fs j).cells (λ k cs inside. (each j (omega arith)).slots k cs inside) (m.stacks j (omega arith))));
     }

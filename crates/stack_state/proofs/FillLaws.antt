@@ -13,8 +13,8 @@ use Rattle.isa_model.specs.Machine.Memory.{number_of, value_in}
 use Rattle.reg_state.specs.declared.kinds.Kind.{Kind}
 use Rattle.reg_state.specs.declared.kinds.Kind.TheVariants.{Unset, Number, Context, Stack, Packet, PacketEnd, Map, MapValue, MapValueOrNull}
 use Rattle.reg_state.specs.Kinds.{Assigned, Allows, AllowsOrNull}
-use Rattle.stack_state.specs.declared.slots.Slot.{Slot}
-use Rattle.stack_state.specs.declared.slots.Slot.TheVariants.{Written, Spilled}
+use Rattle.stack_state.specs.declared.slots.StackSlot.{StackSlot}
+use Rattle.stack_state.specs.declared.slots.StackSlot.TheVariants.{Written, Spilled}
 use Rattle.stack_state.specs.Slots.{slot_at, IsAnyNumber, IsWrittenFill, IsFill, spilled_kind, forgotten_slot, forgotten, frame_slots}
 use Rattle.stack_state.specs.StackMeaning.{chunk_of, Marked, SlotMeans, LoadsSlot, KeepsOtherMaps, with_maps, ForgetsMap}
 use Rattle.stack_state.proofs.SpliceLaws.{length-chunk}
@@ -27,26 +27,26 @@ pub any_number : (e : Assigned) (k : Kind) (n : ℕ) → n < 2 ^ 64 → IsAnyNum
 any_number e (Number numbers) n below any = (n, refl, any n below)
 any_number e k n below any = absurd any
 
-fills_written : (slots : List Slot) (k marks : ℕ) (answer : Option Kind) → k < frame_slots → slot_at slots k ≡ Written marks
+fills_written : (slots : List StackSlot) (k marks : ℕ) (answer : Option Kind) → k < frame_slots → slot_at slots k ≡ Written marks
     → IsWrittenFill marks answer → LoadsSlot slots k answer
 unfolding LoadsSlot
 fills_written slots k marks None within here is = tt
 fills_written slots k marks (Some kind) within here is = λ e rows next cells fit m.
     let wide : length cells ≡ frame_size = m.size in
     let marked : Marked 255 (chunk_of k cells) =
-    subst (λ (s : Slot). SlotMeans e s (chunk_of k cells)) (here ∙ ap Written is.0) (m.each k within) in
+    subst (λ (s : StackSlot). SlotMeans e s (chunk_of k cells)) (here ∙ ap Written is.0) (m.each k within) in
     let eight = length-chunk k cells (omega arith) in
     let all = all_bytes (chunk_of k cells) (λ i below. marked i (omega arith) (bit_at_ones 8 i (omega arith))) in
     let below : number_of (chunk_of k cells) < 2 ^ 64 = part_below U64 rows next cells (8 * k) (omega arith) fit in
     (Num (number_of (chunk_of k cells)), value_in-bytes (chunk_of k cells) all, any_number e kind _ below is.1)
 
-fills_spilled : (slots : List Slot) (k : ℕ) (kind : Kind) → k < frame_slots → kind ≢ Unset → slot_at slots k ≡ Spilled kind → LoadsSlot slots k (Some kind)
+fills_spilled : (slots : List StackSlot) (k : ℕ) (kind : Kind) → k < frame_slots → kind ≢ Unset → slot_at slots k ≡ Spilled kind → LoadsSlot slots k (Some kind)
 unfolding LoadsSlot
 fills_spilled slots k kind within set here = λ e rows next cells fit m.
-    let h : SlotMeans e (Spilled kind) (chunk_of k cells) = subst (λ (s : Slot). SlotMeans e s (chunk_of k cells)) here (m.each k within) in
+    let h : SlotMeans e (Spilled kind) (chunk_of k cells) = subst (λ (s : StackSlot). SlotMeans e s (chunk_of k cells)) here (m.each k within) in
     (h.0, ap value_in h.2 ∙ value_stored e kind h.0 set h.1, h.1)
 
-fills_kind : (slots : List Slot) (k : ℕ) (kind : Kind) → k < frame_slots → slot_at slots k ≡ Spilled kind → LoadsSlot slots k (spilled_kind kind)
+fills_kind : (slots : List StackSlot) (k : ℕ) (kind : Kind) → k < frame_slots → slot_at slots k ≡ Spilled kind → LoadsSlot slots k (spilled_kind kind)
 unfolding LoadsSlot
 fills_kind slots k Unset within here = tt
 fills_kind slots k (Number numbers) within here = fills_spilled slots k (Number numbers) within (λ e. cc e) here
@@ -58,12 +58,12 @@ fills_kind slots k (Map m) within here = fills_spilled slots k (Map m) within (�
 fills_kind slots k (MapValue m l g) within here = fills_spilled slots k (MapValue m l g) within (λ e. cc e) here
 fills_kind slots k (MapValueOrNull m i) within here = fills_spilled slots k (MapValueOrNull m i) within (λ e. cc e) here
 
-fills_slot : (slots : List Slot) (k : ℕ) (s : Slot) (answer : Option Kind) → k < frame_slots → slot_at slots k ≡ s → IsFill s answer → LoadsSlot slots k answer
+fills_slot : (slots : List StackSlot) (k : ℕ) (s : StackSlot) (answer : Option Kind) → k < frame_slots → slot_at slots k ≡ s → IsFill s answer → LoadsSlot slots k answer
 fills_slot slots k (Written marks) answer within here is = fills_written slots k marks answer within here is
 fills_slot slots k (Spilled kind) answer within here is =
     subst (λ (o : Option Kind). LoadsSlot slots k o) (sym is) (fills_kind slots k kind within here)
 
-pub fills : (slots : List Slot) (k : ℕ) (answer : Option Kind) → k < frame_slots → IsFill (slot_at slots k) answer → LoadsSlot slots k answer
+pub fills : (slots : List StackSlot) (k : ℕ) (answer : Option Kind) → k < frame_slots → IsFill (slot_at slots k) answer → LoadsSlot slots k answer
 fills slots k answer within is = fills_slot slots k (slot_at slots k) answer within refl is
 
 -- ---- forgotten
@@ -93,7 +93,7 @@ forgets_null e maps m n i cs false is keeps h =
     let other : n ≢ m = grind (arith, nat_tests) in
     (h.0, null_kept e maps m n (e.value i) h.0 other keeps h.1, h.2)
 
-pub SlotMeans-forgotten : (e : Assigned) (maps : List Content) (m : ℕ) (s : Slot) (cs : List Cell) → KeepsOtherMaps m e.maps maps
+pub SlotMeans-forgotten : (e : Assigned) (maps : List Content) (m : ℕ) (s : StackSlot) (cs : List Cell) → KeepsOtherMaps m e.maps maps
     → SlotMeans e s cs → SlotMeans (with_maps e maps) (forgotten_slot m s) cs
 SlotMeans-forgotten e maps m (Written marks) cs keeps h = h
 SlotMeans-forgotten e maps m (Spilled (MapValue n l g)) cs keeps h = forgets_value e maps m n l g cs (n == m) refl keeps h
@@ -102,7 +102,7 @@ SlotMeans-forgotten e maps m (Spilled (Packet f i l g p)) cs keeps h =
     let x = h.1 in (h.0, record { points = x.points; from = x.from; to = x.to; inside = x.inside }, h.2)
 SlotMeans-forgotten e maps m (Spilled k) cs keeps h = h
 
-pub forgets : (slots : List Slot) (m : ℕ) → length slots ≡ frame_slots → ForgetsMap m slots (forgotten m slots)
+pub forgets : (slots : List StackSlot) (m : ℕ) → length slots ≡ frame_slots → ForgetsMap m slots (forgotten m slots)
 unfolding ForgetsMap
 forgets slots m count = λ e maps cells keeps means.
     StackMeans-map (forgotten_slot m) e (with_maps e maps) slots cells count

@@ -23,8 +23,8 @@ use Rattle.reg_state.specs.declared.kinds.Kind.TheVariants.{MapValueOrNull}
 use Rattle.reg_state.specs.Kinds.{Assigned, Allows, AllowsOrNull, HasLiveValue}
 use Rattle.reg_state.proofs.KindLaws.{with_value}
 use Rattle.stack_state.specs.declared.states.State.{State}
-use Rattle.stack_state.specs.Meaning.{frames_of, frame_of, kind_at, slots_of, depth, registers_of, MeansBy}
-use Rattle.stack_state.proofs.MeaningLaws.{frame_of-caller, stack_at-last, MeansBy-fresh_null}
+use Rattle.stack_state.specs.Meaning.{frames_of, abstract_frame_at, kind_at, stack_slots_of, depth, registers_of, MeansBy}
+use Rattle.stack_state.proofs.MeaningLaws.{abstract_frame_at-caller, stack_at-last, MeansBy-fresh_null}
 use Rattle.stack_state.specs.Identities.{IsFreshNull}
 use Rattle.stack_state.specs.StackMeaning.{StackMeans, KeepsOtherMaps, with_maps}
 use Rattle.stack_state.specs.Effects.{forgotten_in}
@@ -61,11 +61,12 @@ returns-with_answer a k =
     map-append (λ f. f.return_slot) a.callers.items (resumed_of a.innermost k ∷ [])
     ∙ sym (map-append (λ f. f.return_slot) a.callers.items (a.innermost ∷ []))
 
-frame_of-with_answer : (a : State) (k : Kind) (j : ℕ) → suc j < depth a → frame_of (with_answer a k) j ≡ frame_of a j
-frame_of-with_answer a k j below = frame_of-caller (with_answer a k) j below ∙ sym (frame_of-caller a j below)
+abstract_frame_at-with_answer : (a : State) (k : Kind) (j : ℕ) → suc j < depth a → abstract_frame_at (with_answer a k) j ≡ abstract_frame_at a j
+abstract_frame_at-with_answer a k j below = abstract_frame_at-caller (with_answer a k) j below ∙ sym (abstract_frame_at-caller a j below)
 
-slots_of-with_answer : (a : State) (k : Kind) (j : ℕ) → slots_of (with_answer a k) j ≡ slots_of a j
-slots_of-with_answer a k j =
+stack_slots_of-with_answer : (a : State) (k : Kind) (j : ℕ)
+    → stack_slots_of (with_answer a k) j ≡ stack_slots_of a j
+stack_slots_of-with_answer a k j =
     ap (λ s. s.slots) (stack_at-last a.callers.items (resumed_of a.innermost k) a.innermost j refl)
 
 -- r0 holds the answer, which its kind allows, and r1 to r5 are unset
@@ -86,8 +87,8 @@ MeansBy-answered p e a helped k is new m =
       pointer = get_or-drop 6 s.regs 4 value.Unset ∙ m.pointer;
       registers = λ j. answered_allowed e k (registers_of a) helped.answer s.regs j new m.registers;
       kept = λ j i below within. subst (λ f. Allows e (kind_at f.registers (6 + i)) (value_at (frame_at s.frames (suc j)).saved i))
-          (sym (frame_of-with_answer a k j below)) (m.kept j i below within);
-      stacks = λ j below. subst (λ slots. StackMeans e slots (frame_at s.frames j).cells) (sym (slots_of-with_answer a k j)) (m.stacks j below);
+          (sym (abstract_frame_at-with_answer a k j below)) (m.kept j i below within);
+      stacks = λ j below. subst (λ slots. StackMeans e slots (frame_at s.frames j).cells) (sym (stack_slots_of-with_answer a k j)) (m.stacks j below);
     }
 
 -- ---- keys looked up

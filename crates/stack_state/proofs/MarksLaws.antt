@@ -8,12 +8,12 @@ use Rattle.reg_state.specs.declared.kinds.Kind.{Kind}
 use Rattle.reg_state.specs.declared.kinds.Kind.TheVariants.{Unset}
 use Rattle.stack_state.specs.declared.identities.Names.{Names}
 use Rattle.stack_state.specs.declared.identities.Names.TheVariants.{Packets, Nulls}
-use Rattle.stack_state.specs.declared.slots.Slot.{Slot}
-use Rattle.stack_state.specs.declared.slots.Slot.TheVariants.{Written}
+use Rattle.stack_state.specs.declared.slots.StackSlot.{StackSlot}
+use Rattle.stack_state.specs.declared.slots.StackSlot.TheVariants.{Written}
 use Rattle.stack_state.specs.declared.states.AbstractFrame.{AbstractFrame}
 use Rattle.stack_state.specs.declared.states.State.{State}
-use Rattle.stack_state.specs.Meaning.{frames_of, no_frame, frame_of}
-use Rattle.stack_state.proofs.MeaningLaws.{length-frames_of, frame_of-caller, frame_of-innermost}
+use Rattle.stack_state.specs.Meaning.{frames_of, no_frame, abstract_frame_at}
+use Rattle.stack_state.proofs.MeaningLaws.{length-frames_of, abstract_frame_at-caller, abstract_frame_at-innermost}
 use Rattle.stack_state.specs.Identities.{named_by, IsFresh, IsLeastFresh}
 use Rattle.stack_state.specs.Marks.{AreFree, HoldsOther, IsFreshAt, IsFreshIn, NamesOther, Marks, is_marked, marked}
 
@@ -114,7 +114,7 @@ Marks-registers names kinds n m old new all =
       | inr past ↦ rw (get_or_past kinds k Unset (omega arith)) (unset_names names i)
     ]) (λ i free k below. free k)
 
-pub Marks-slots : (names : Names) (slots : List Slot) (n m : ℕ) (old new : List Bool) → length slots ≤ n → Marks (AreFree (HoldsOther names slots) n) m old new
+pub Marks-slots : (names : Names) (slots : List StackSlot) (n m : ℕ) (old new : List Bool) → length slots ≤ n → Marks (AreFree (HoldsOther names slots) n) m old new
     → Marks (λ i. (k : ℕ) → HoldsOther names slots k i) m old new
 Marks-slots names slots n m old new all =
     Marks-same (AreFree (HoldsOther names slots) n) (λ i. (k : ℕ) → HoldsOther names slots k i) m old new
@@ -156,14 +156,14 @@ Marks-other names k marks none =
 nothing_names : (names : Names) (i : ℕ) → IsFreshIn names no_frame i
 nothing_names names i = record { registers = λ k. unset_names names i; slots = λ k. unset_names names i }
 
-fresh_at : (names : Names) (a : State) (i j : ℕ) → AreFree (IsFreshAt names a.callers.items) (length a.callers.items) i → IsFreshIn names a.innermost i → IsFreshIn names (frame_of a j) i
+fresh_at : (names : Names) (a : State) (i j : ℕ) → AreFree (IsFreshAt names a.callers.items) (length a.callers.items) i → IsFreshIn names a.innermost i → IsFreshIn names (abstract_frame_at a j) i
 fresh_at names a i j callers innermost =
     let n : ℕ = length a.callers.items in
     let long = length-frames_of a in
     elim (cases_lt j n) [
-      | inl below ↦ subst (λ f. IsFreshIn names f i) (sym (frame_of-caller a j (omega arith))) (callers j below)
+      | inl below ↦ subst (λ f. IsFreshIn names f i) (sym (abstract_frame_at-caller a j (omega arith))) (callers j below)
       | inr not ↦ elim (cases_eq j n) [
-        | inl last ↦ subst (λ f. IsFreshIn names f i) (sym (ap (frame_of a) last ∙ frame_of-innermost a)) innermost
+        | inl last ↦ subst (λ f. IsFreshIn names f i) (sym (ap (abstract_frame_at a) last ∙ abstract_frame_at-innermost a)) innermost
         | inr past ↦ subst (λ f. IsFreshIn names f i) (sym (get_or_past (frames_of a) j no_frame (omega arith))) (nothing_names names i)
       ]
     ]
@@ -179,13 +179,13 @@ IsFresh-all names a i callers innermost =
 
 pub IsFreshAt-callers : (names : Names) (a : State) (i : ℕ) → IsFresh names a i → AreFree (IsFreshAt names a.callers.items) (length a.callers.items) i
 IsFreshAt-callers names a i h j below =
-    let same = frame_of-caller a j (omega arith) in
+    let same = abstract_frame_at-caller a j (omega arith) in
     subst (λ f. IsFreshIn names f i) same (record { registers = h.registers j; slots = h.slots j })
 
 pub IsFreshIn-innermost : (names : Names) (a : State) (i : ℕ) → IsFresh names a i → IsFreshIn names a.innermost i
 IsFreshIn-innermost names a i h =
     let n : ℕ = length a.callers.items in
-    subst (λ f. IsFreshIn names f i) (frame_of-innermost a) (record { registers = h.registers n; slots = h.slots n })
+    subst (λ f. IsFreshIn names f i) (abstract_frame_at-innermost a) (record { registers = h.registers n; slots = h.slots n })
 
 -- the first one from 1 up without a mark, after a search of all frames
 pub IsLeastFresh-marks : (names : Names) (a : State) (m n i : ℕ) (none mid marks : List Bool)

@@ -22,11 +22,11 @@ use Rattle.reg_state.specs.declared.kinds.Kind.TheVariants.{Stack}
 use Rattle.reg_state.specs.Kinds.{Assigned, Allows}
 use Rattle.reg_state.proofs.KindLaws.{with_offset, with_value, Allows-fresh_offset, Allows-fresh_value}
 use Rattle.reg_state.specs.KindCover.{packet_identity_of, null_identity_of}
-use Rattle.stack_state.specs.declared.slots.Slot.{Slot}
-use Rattle.stack_state.specs.declared.slots.Slot.TheVariants.{Written, Spilled}
+use Rattle.stack_state.specs.declared.slots.StackSlot.{StackSlot}
+use Rattle.stack_state.specs.declared.slots.StackSlot.TheVariants.{Written, Spilled}
 use Rattle.stack_state.specs.declared.states.AbstractFrame.{AbstractFrame}
 use Rattle.stack_state.specs.declared.states.State.{State}
-use Rattle.stack_state.specs.Meaning.{frames_of, no_frame, frame_of, kind_at, kinds_of, slots_of, depth, registers_of, IsOf, MeansBy}
+use Rattle.stack_state.specs.Meaning.{frames_of, no_frame, abstract_frame_at, kind_at, kinds_of, stack_slots_of, depth, registers_of, AssignmentFits, MeansBy}
 use Rattle.stack_state.specs.Identities.{IsFreshPacket, IsFreshNull}
 use Rattle.stack_state.specs.Places.{kind_of, with_kind, with_register, go_to}
 use Rattle.stack_state.specs.Slots.{slot_at, kind_in, frame_slots}
@@ -39,12 +39,13 @@ pub length-frames_of : (a : State) → length (frames_of a) ≡ depth a
 length-frames_of a = length-append a.callers.items (a.innermost ∷ [])
 
 -- a caller's frame
-pub frame_of-caller : (a : State) (j : ℕ) → suc j < depth a → frame_of a j ≡ slice_index_or a.callers.items j no_frame
-frame_of-caller a j below = get_or_append_left a.callers.items (a.innermost ∷ []) no_frame j (omega arith)
+pub abstract_frame_at-caller : (a : State) (j : ℕ) → suc j < depth a → abstract_frame_at a j ≡ slice_index_or a.callers.items j no_frame
+abstract_frame_at-caller a j below = get_or_append_left a.callers.items (a.innermost ∷ []) no_frame j (omega arith)
 
 -- the frame after the callers'
-pub frame_of-innermost : (a : State) → frame_of a (length a.callers.items) ≡ a.innermost
-frame_of-innermost a =
+pub abstract_frame_at-innermost : (a : State)
+    → abstract_frame_at a (length a.callers.items) ≡ a.innermost
+abstract_frame_at-innermost a =
     let last : ℕ = length a.callers.items in
     let here : last - last ≡ 0 = omega arith in
     get_or-append_right a.callers.items (a.innermost ∷ []) last last no_frame refl (omega arith)
@@ -123,8 +124,8 @@ returns-with a r k =
     ∙ sym (map-append (λ f. f.return_slot) a.callers.items (a.innermost ∷ []))
 
 -- a caller's frame stays
-pub frame_of-with : (a : State) (r : Reg) (k : Kind) (j : ℕ) → suc j < depth a → frame_of (with_register a r k) j ≡ frame_of a j
-frame_of-with a r k j below = frame_of-caller (with_register a r k) j below ∙ sym (frame_of-caller a j below)
+pub abstract_frame_at-with : (a : State) (r : Reg) (k : Kind) (j : ℕ) → suc j < depth a → abstract_frame_at (with_register a r k) j ≡ abstract_frame_at a j
+abstract_frame_at-with a r k j below = abstract_frame_at-caller (with_register a r k) j below ∙ sym (abstract_frame_at-caller a j below)
 
 -- where the last of two lists of frames have one stack, all frames have those that they had
 pub stack_at-last : (fs : List AbstractFrame) (f g : AbstractFrame) (j : ℕ) → f.stack ≡ g.stack
@@ -135,8 +136,8 @@ stack_at-last (x ∷ fs) f g zero same = refl
 stack_at-last (x ∷ fs) f g (suc j) same = stack_at-last fs f g j same
 
 -- each frame's slots stay
-pub slots_of-with : (a : State) (r : Reg) (k : Kind) (j : ℕ) → slots_of (with_register a r k) j ≡ slots_of a j
-slots_of-with a r k j =
+pub stack_slots_of-with : (a : State) (r : Reg) (k : Kind) (j : ℕ) → stack_slots_of (with_register a r k) j ≡ stack_slots_of a j
+stack_slots_of-with a r k j =
     ap (λ s. s.slots) (stack_at-last a.callers.items (with_kind a.innermost (reg_number r) k) a.innermost j refl)
 
 -- a kind and a value are written to the same place
@@ -179,8 +180,8 @@ MeansBy-set p e a s r k v own new fits m =
       pointer = get_or-set_other s.regs (reg_number r) 10 v _ (λ same. own (reg_number-R10 r (sym same))) ∙ m.pointer;
       registers = λ j. Allows-set e (registers_of a) s.regs (reg_number r) k v (omega arith) m.registers new j;
       kept = λ j i below within. subst (λ f. Allows e (kind_at f.registers (6 + i)) (value_at (frame_at s.frames (suc j)).saved i))
-          (sym (frame_of-with a r k j below)) (m.kept j i below within);
-      stacks = λ j below. subst (λ slots. StackMeans e slots (frame_at s.frames j).cells) (sym (slots_of-with a r k j)) (m.stacks j below);
+          (sym (abstract_frame_at-with a r k j below)) (m.kept j i below within);
+      stacks = λ j below. subst (λ slots. StackMeans e slots (frame_at s.frames j).cells) (sym (stack_slots_of-with a r k j)) (m.stacks j below);
     }
 
 -- ---- the same machine state
@@ -201,17 +202,17 @@ pub record FrameKeeps (e f : Assigned) (g h : AbstractFrame) : Type 0 where
 -- other kinds and slots, or another assignment, that allow in each frame all that was allowed there, for a machine state
 -- with the same slot, registers and frames
 pub MeansBy-onto : (p : Program) (e f : Assigned) (a b : State) (s t : Machine.State) → t.slot ≡ s.slot → t.regs ≡ s.regs
-    → t.frames ≡ s.frames → IsState p t → IsOf f t → b.slot ≡ a.slot
+    → t.frames ≡ s.frames → IsState p t → AssignmentFits f t → b.slot ≡ a.slot
     → map (λ g. g.return_slot) (frames_of b) ≡ map (λ g. g.return_slot) (frames_of a)
-    → ((j : ℕ) → j < depth a → FrameKeeps e f (frame_of a j) (frame_of b j)) → MeansBy p e a s → MeansBy p f b t
+    → ((j : ℕ) → j < depth a → FrameKeeps e f (abstract_frame_at a j) (abstract_frame_at b j)) → MeansBy p e a s → MeansBy p f b t
 MeansBy-onto p e f a b s t same_slot regs frames is of slot returns each m =
     let same : depth b ≡ depth a =
     sym (length-frames_of b) ∙ sym (length-map (frames_of b) (λ g. g.return_slot)) ∙ ap length returns
     ∙ length-map (frames_of a) (λ g. g.return_slot) ∙ length-frames_of a in
     let callers : length a.callers.items ≡ length b.callers.items = omega arith in
     let last : FrameKeeps e f a.innermost b.innermost =
-    subst (λ g. FrameKeeps e f g b.innermost) (frame_of-innermost a)
-    (subst (λ g. FrameKeeps e f (frame_of a (length a.callers.items)) g) (ap (frame_of b) callers ∙ frame_of-innermost b)
+    subst (λ g. FrameKeeps e f g b.innermost) (abstract_frame_at-innermost a)
+    (subst (λ g. FrameKeeps e f (abstract_frame_at a (length a.callers.items)) g) (ap (abstract_frame_at b) callers ∙ abstract_frame_at-innermost b)
     (each (length a.callers.items) (omega arith))) in
     record {
       is_state = is;
@@ -224,15 +225,16 @@ MeansBy-onto p e f a b s t same_slot regs frames is of slot returns each m =
       kept = λ j k below within. subst (λ fs. Allows f (kind_at (kinds_of b j) (6 + k)) (value_at (frame_at fs (suc j)).saved k)) (sym frames)
           ((each j (omega arith)).registers (6 + k) (value_at (frame_at s.frames (suc j)).saved k) (m.kept j k (omega arith) within));
       stacks = λ j below. let within : j < depth a = omega arith in
-          subst (λ fs. StackMeans f (slots_of b j) (frame_at fs j).cells) (sym frames)
-          (StackMeans-change e f (slots_of a j) (slots_of b j) (frame_at s.frames j).cells
+          subst (λ fs. StackMeans f (stack_slots_of b j) (frame_at fs j).cells) (sym frames)
+          (StackMeans-change e f (stack_slots_of a j) (stack_slots_of b j)
+          (frame_at s.frames j).cells
           (λ k cs inside. (each j within).slots k cs inside) (m.stacks j within));
     }
 
 -- for the same machine state
-pub MeansBy-change : (p : Program) (e f : Assigned) (a b : State) (s : Machine.State) → IsOf f s → b.slot ≡ a.slot
+pub MeansBy-change : (p : Program) (e f : Assigned) (a b : State) (s : Machine.State) → AssignmentFits f s → b.slot ≡ a.slot
     → map (λ g. g.return_slot) (frames_of b) ≡ map (λ g. g.return_slot) (frames_of a)
-    → ((j : ℕ) → j < depth a → FrameKeeps e f (frame_of a j) (frame_of b j)) → MeansBy p e a s → MeansBy p f b s
+    → ((j : ℕ) → j < depth a → FrameKeeps e f (abstract_frame_at a j) (abstract_frame_at b j)) → MeansBy p e a s → MeansBy p f b s
 MeansBy-change p e f a b s of slot returns each m = MeansBy-onto p e f a b s s refl refl refl m.is_state of slot returns each m
 
 -- ---- a fresh identity
@@ -241,13 +243,13 @@ MeansBy-change p e f a b s of slot returns each m = MeansBy-onto p e f a b s s r
 offset_none : (e : Assigned) (i : ℕ) (z : ℤ) → i ≢ 0 → (with_offset e i z).offset 0 ≡ e.offset 0
 offset_none e i z some = grind (arith, nat_tests)
 
-SlotMeans-fresh_offset : (e : Assigned) (i : ℕ) (z : ℤ) (t : Slot) (cs : List Cell) → packet_identity_of (kind_in t) ≢ Some i
+SlotMeans-fresh_offset : (e : Assigned) (i : ℕ) (z : ℤ) (t : StackSlot) (cs : List Cell) → packet_identity_of (kind_in t) ≢ Some i
     → SlotMeans e t cs → SlotMeans (with_offset e i z) t cs
 SlotMeans-fresh_offset e i z (Written marks) cs fresh h = h
 SlotMeans-fresh_offset e i z (Spilled k) cs fresh h =
     SlotMeans-spilled e (with_offset e i z) k k cs (λ v. Allows-fresh_offset k e i z v fresh) h
 
-SlotMeans-fresh_value : (e : Assigned) (i : ℕ) (o : Option ℕ) (t : Slot) (cs : List Cell) → null_identity_of (kind_in t) ≢ Some i
+SlotMeans-fresh_value : (e : Assigned) (i : ℕ) (o : Option ℕ) (t : StackSlot) (cs : List Cell) → null_identity_of (kind_in t) ≢ Some i
     → SlotMeans e t cs → SlotMeans (with_value e i o) t cs
 SlotMeans-fresh_value e i o (Written marks) cs fresh h = h
 SlotMeans-fresh_value e i o (Spilled k) cs fresh h =
@@ -267,7 +269,7 @@ MeansBy-fresh p e a s i z some fresh m =
     refl refl
     (λ j below. record {
       registers = λ k v h. Allows-fresh_offset (kind_at (kinds_of a j) k) e i z v (fresh.registers j k) h;
-      slots = λ k cs inside h. SlotMeans-fresh_offset e i z (slot_at (slots_of a j) k) cs (fresh.slots j k) h;
+      slots = λ k cs inside h. SlotMeans-fresh_offset e i z (slot_at (stack_slots_of a j) k) cs (fresh.slots j k) h;
     }) m
 
 -- and a null identity for null or for any value
@@ -284,5 +286,5 @@ MeansBy-fresh_null p e a s i o fresh m =
     refl refl
     (λ j below. record {
       registers = λ k v h. Allows-fresh_value (kind_at (kinds_of a j) k) e i o v (fresh.registers j k) h;
-      slots = λ k cs inside h. SlotMeans-fresh_value e i o (slot_at (slots_of a j) k) cs (fresh.slots j k) h;
+      slots = λ k cs inside h. SlotMeans-fresh_value e i o (slot_at (stack_slots_of a j) k) cs (fresh.slots j k) h;
     }) m

@@ -18,10 +18,10 @@ use Rattle.isa_model.specs.Machine.MachineStates.{IsCell, IsCallFrame}
 use Rattle.reg_state.specs.declared.scalars.Scalar.{Scalar}
 use Rattle.reg_state.specs.Scalars.{Has}
 use Rattle.reg_state.specs.Kinds.{Assigned}
-use Rattle.stack_state.specs.declared.slots.Slot.{Slot}
+use Rattle.stack_state.specs.declared.slots.StackSlot.{StackSlot}
 use Rattle.stack_state.specs.declared.states.State.{State}
-use Rattle.stack_state.specs.Meaning.{depth, slots_of, MeansBy}
-use Rattle.stack_state.specs.StackMeaning.{written, StackMeans}
+use Rattle.stack_state.specs.Meaning.{depth, stack_slots_of, MeansBy}
+use Rattle.stack_state.specs.StackMeaning.{cells_with, StackMeans}
 use Rattle.stack_state.specs.NumberStores.{StoresNumber}
 use Rattle.stack_state.specs.Effects.{with_frame_slots}
 use Rattle.stack_state.proofs.MeaningLaws.{depth_is_length}
@@ -30,23 +30,23 @@ use Rattle.stack_state.proofs.FrameLaws.{IsHere, with_cells, LeavesFrame}
 use Rattle.stack_state.proofs.EffectLaws.{IfLeft, MeansBy-cells}
 
 write_there : (s : Machine.State) (serial j at : ℕ) (z by : ℤ) (new : List Cell) → IsHere s serial j at (length new) z by
-    → write s (region.Frame serial) (index_at (region.Frame serial) (z +ℤ by)) new
-    ≡ Ok (with_cells s j (written (frame_at s.frames j).cells at new))
+    → write s (region.CallFrame serial) (index_at (region.CallFrame serial) (z +ℤ by)) new
+    ≡ Ok (with_cells s j (cells_with (frame_at s.frames j).cells at new))
 write_there s serial j at z by new h =
     let inside : nat_le (at + length new) (length (frame_at s.frames j).cells) ≡ true =
     le-leb (at + length new) (length (frame_at s.frames j).cells) h.inside in
     rw (h.index, h.found, inside)
 
-stores_number_here : (e : Assigned) (s : Machine.State) (old new : List Slot) (size : Size) (serial j at n rows next : ℕ) (z by : ℤ) (numbers : Scalar)
+stores_number_here : (e : Assigned) (s : Machine.State) (old new : List StackSlot) (size : Size) (serial j at n rows next : ℕ) (z by : ℤ) (numbers : Scalar)
     → IsHere s serial j at (size_bytes size) z by → All (IsCell rows next) (frame_at s.frames j).cells → Has numbers n
     → StackMeans e old (frame_at s.frames j).cells → StoresNumber old at size numbers new
-    → LeavesFrame s j e new (store s size (Ptr (region.Frame serial) z) by (Num n))
+    → LeavesFrame s j e new (store s size (Ptr (region.CallFrame serial) z) by (Num n))
 unfolding StoresNumber
 stores_number_here e s old new size serial j at n rows next z by numbers h fit has m stores =
     let bytes : List Cell = map Byte (bytes_of size n) in
     let long : length bytes ≡ size_bytes size = length-map (bytes_of size n) Byte ∙ length-bytes_of size n in
     let here : IsHere s serial j at (length bytes) z by = subst (λ (k : ℕ). IsHere s serial j at k z by) (sym long) h in (
-      written (frame_at s.frames j).cells at bytes,
+      cells_with (frame_at s.frames j).cells at bytes,
       write_there s serial j at z by bytes here,
       stores e rows next (frame_at s.frames j).cells n fit has m,
     )
@@ -59,11 +59,12 @@ frame_cells_fit p e a s j inside m =
     fits.cells
 
 -- bytes of one of the numbers are stored
-pub MeansBy-stores_number : (p : Program) (e : Assigned) (a : State) (s : Machine.State) (new : List Slot) (size : Size) (serial j at n : ℕ) (z by : ℤ)
+pub MeansBy-stores_number : (p : Program) (e : Assigned) (a : State) (s : Machine.State) (new : List StackSlot) (size : Size) (serial j at n : ℕ) (z by : ℤ)
     (numbers : Scalar) → j < depth a → IsHere s serial j at (size_bytes size) z by → Has numbers n
-    → StoresNumber (slots_of a j) at size numbers new → MeansBy p e a s
-    → IfLeft p e (with_frame_slots a j new) (store s size (Ptr (region.Frame serial) z) by (Num n))
+    → StoresNumber (stack_slots_of a j) at size numbers new → MeansBy p e a s
+    → IfLeft p e (with_frame_slots a j new)
+    (store s size (Ptr (region.CallFrame serial) z) by (Num n))
 MeansBy-stores_number p e a s new size serial j at n z by numbers inside here has stores m =
-    let (cells, went, stack) = stores_number_here e s (slots_of a j) new size serial j at n (length p.maps) s.next_serial z by numbers here
+    let (cells, went, stack) = stores_number_here e s (stack_slots_of a j) new size serial j at n (length p.maps) s.next_serial z by numbers here
     (frame_cells_fit p e a s j inside m) has (m.stacks j inside) stores in
     (with_cells s j cells, went, λ is. MeansBy-cells p e a s j new cells inside is stack m)

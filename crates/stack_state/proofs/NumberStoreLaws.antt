@@ -26,13 +26,13 @@ use Rattle.reg_state.specs.declared.scalars.Scalar.{Scalar}
 use Rattle.reg_state.specs.declared.kinds.Kind.TheVariants.{Number}
 use Rattle.reg_state.specs.Scalars.{Has}
 use Rattle.reg_state.specs.Kinds.{Assigned}
-use Rattle.stack_state.specs.declared.slots.Slot.{Slot}
-use Rattle.stack_state.specs.declared.slots.Slot.TheVariants.{Written, Spilled}
+use Rattle.stack_state.specs.declared.slots.StackSlot.{StackSlot}
+use Rattle.stack_state.specs.declared.slots.StackSlot.TheVariants.{Written, Spilled}
 use Rattle.stack_state.specs.Slots.{slot_at, marks_of, mask_of, frame_slots}
-use Rattle.stack_state.specs.StackMeaning.{chunk_of, written, stored_cells, Marked, SlotMeans}
+use Rattle.stack_state.specs.StackMeaning.{chunk_of, cells_with, stored_cells, Marked, SlotMeans}
 use Rattle.stack_state.specs.NumberStores.{AreWhole, marks_after, IsSplicedSlot, IsSlotStored, StoresNumber}
 use Rattle.stack_state.proofs.SpelledBytes.{AreSpliced, spliced_number}
-use Rattle.stack_state.proofs.SpliceLaws.{chunk_kept, chunk_written, length-chunk, length-written}
+use Rattle.stack_state.proofs.SpliceLaws.{chunk_kept, chunk_written, length-chunk, length-cells_with}
 use Rattle.stack_state.proofs.CellLaws.{length-bytes_of, marked_after, marked_slot, number_of-stored_cells, number_of-part}
 use Rattle.stack_state.proofs.StackLaws.{slot_changed, SlotMeans-spill}
 
@@ -66,11 +66,11 @@ stored_bytes cs long each all =
 
 -- a write inside a slot, by its bytes
 chunk_spliced : (cells : List Cell) (at : ℕ) (ys : List ℕ) → at % 8 + length ys ≤ 8 → at + length ys ≤ length cells
-    → AreSpliced (at % 8) (length ys) (map byte_in (chunk_of (at / 8) cells)) ys (map byte_in (chunk_of (at / 8) (written cells at (map Byte ys))))
+    → AreSpliced (at % 8) (length ys) (map byte_in (chunk_of (at / 8) cells)) ys (map byte_in (chunk_of (at / 8) (cells_with cells at (map Byte ys))))
 chunk_spliced cells at ys inside fits =
     let k : ℕ = at / 8 in
     let old : List Cell = chunk_of k cells in
-    let new : List Cell = chunk_of k (written cells at (map Byte ys)) in
+    let new : List Cell = chunk_of k (cells_with cells at (map Byte ys)) in
     let long : length (map Byte ys) ≡ length ys = length-map ys Byte in
     record {
       below = λ i lt. byte_at_place new i
@@ -90,12 +90,12 @@ chunk_spliced cells at ys inside fits =
 -- the number of a slot's cells after the bytes of another were written inside it
 number_of-spliced : (cells : List Cell) (at y : ℕ) (size : Size) → at % 8 + size_bytes size ≤ 8
     → at + size_bytes size ≤ length cells → y < 2 ^ 64 → EachByte (map byte_in (chunk_of (at / 8) cells))
-    → number_of (chunk_of (at / 8) (written cells at (map Byte (bytes_of size y))))
+    → number_of (chunk_of (at / 8) (cells_with cells at (map Byte (bytes_of size y))))
     ≡ spliced (8 * (at % 8)) (8 * size_bytes size) (number_of (chunk_of (at / 8) cells)) y
 number_of-spliced cells at y size inside fits small old =
     let ys : List ℕ = bytes_of size y in
     let bs : List ℕ = map byte_in (chunk_of (at / 8) cells) in
-    let cs : List ℕ = map byte_in (chunk_of (at / 8) (written cells at (map Byte ys))) in
+    let cs : List ℕ = map byte_in (chunk_of (at / 8) (cells_with cells at (map Byte ys))) in
     let long : length ys ≡ size_bytes size = length-bytes_of size y in
     let places = chunk_spliced cells at ys (omega arith) (omega arith) in
     spliced_number (at % 8) (size_bytes size) (8 - (at % 8 + size_bytes size)) bs ys cs y
@@ -128,7 +128,7 @@ spliced_bytes r n bs ys cs long old new h i =
 -- ---- slots
 
 -- what the cells of a slot spell is one of its numbers
-whole_has : (e : Assigned) (s : Slot) (cs : List Cell) (old : Scalar) → AreWhole s old → SlotMeans e s cs → number_of cs < 2 ^ 64 → Has old (number_of cs)
+whole_has : (e : Assigned) (s : StackSlot) (cs : List Cell) (old : Scalar) → AreWhole s old → SlotMeans e s cs → number_of cs < 2 ^ 64 → Has old (number_of cs)
 whole_has e (Written marks) cs old whole h fits = whole (number_of cs) fits
 whole_has e (Spilled (Number numbers)) cs old whole h fits =
     let same : number_of cs ≡ h.1.0 = ap number_of (h.2 ∙ ap stored_cells h.1.1) ∙ number_of-stored_cells h.1.0 h.1.2.0.below in
@@ -136,18 +136,18 @@ whole_has e (Spilled (Number numbers)) cs old whole h fits =
 whole_has e (Spilled k) cs old whole h fits = whole (number_of cs) fits
 
 -- the slot that is left stands for its cells
-slot_stored : (e : Assigned) (rows next : ℕ) (s t : Slot) (cells : List Cell) (at n : ℕ) (size : Size) (numbers : Scalar)
+slot_stored : (e : Assigned) (rows next : ℕ) (s t : StackSlot) (cells : List Cell) (at n : ℕ) (size : Size) (numbers : Scalar)
     → at % 8 + size_bytes size ≤ 8 → at + size_bytes size ≤ length cells → 8 * (at / 8) + 8 ≤ length cells → All (IsCell rows next) cells
     → Has numbers n → SlotMeans e s (chunk_of (at / 8) cells) → marks_after s (at % 8) size ≡ 255 → IsSplicedSlot s (at % 8) size numbers t
-    → SlotMeans e t (chunk_of (at / 8) (written cells at (map Byte (bytes_of size n))))
+    → SlotMeans e t (chunk_of (at / 8) (cells_with cells at (map Byte (bytes_of size n))))
 slot_stored e rows next s t cells at n size numbers inside fits eight fit has h all is =
     let small : n < 2 ^ 64 = has.0.below in
     let bytes : List ℕ = bytes_of size n in
     let some : length bytes ≡ size_bytes size = length-bytes_of size n in
     let long : length (map Byte bytes) ≡ length bytes = length-map bytes Byte in
     let old : List Cell = chunk_of (at / 8) cells in
-    let new : List Cell = chunk_of (at / 8) (written cells at (map Byte bytes)) in
-    let wide = length-written cells (map Byte bytes) at (omega arith) in
+    let new : List Cell = chunk_of (at / 8) (cells_with cells at (map Byte bytes)) in
+    let wide = length-cells_with cells (map Byte bytes) at (omega arith) in
     let old_fit : All (IsCell rows next) old = All-take (IsCell rows next) 8 _ (All-drop (IsCell rows next) (8 * (at / 8)) cells fit) in
     let old_bytes : EachByte (map byte_in old) = slice_index_fits (map byte_in old) (bytes_in_fit rows next old old_fit) in
     let before : Marked (marks_of s) old = marked_slot e s old h in
@@ -157,14 +157,14 @@ slot_stored e rows next s t cells at n size numbers inside fits eight fit has h 
     let number = number_of-spliced cells at n size inside fits small old_bytes in
     let places = chunk_spliced cells at bytes (omega arith) (omega arith) in
     let new_bytes : EachByte (map byte_in new) = spliced_bytes (at % 8) (length bytes) (map byte_in old) bytes (map byte_in new)
-    (length-map new byte_in ∙ length-chunk (at / 8) (written cells at (map Byte bytes)) (omega arith)) old_bytes (each_byte_of size n) places in
-    let same : new ≡ stored_cells (Num (number_of new)) = stored_bytes new (length-chunk (at / 8) (written cells at (map Byte bytes)) (omega arith)) new_bytes
+    (length-map new byte_in ∙ length-chunk (at / 8) (cells_with cells at (map Byte bytes)) (omega arith)) old_bytes (each_byte_of size n) places in
+    let same : new ≡ stored_cells (Num (number_of new)) = stored_bytes new (length-chunk (at / 8) (cells_with cells at (map Byte bytes)) (omega arith)) new_bytes
     (λ i below. whole i below (bit_at_ones 8 i below)) in
     let one : Has is.new (number_of new) = subst (Has is.new) (sym number)
     (is.spliced.contains (number_of old) n (whole_has e s old is.old is.whole h (number_of_fits rows next old old_fit)) has) in
     SlotMeans-spill e (Number is.new) t (Num (number_of new)) new is.left (number_of new, refl, one) same
 
-pub stores_number : (slots : List Slot) (at : ℕ) (size : Size) (numbers : Scalar) (t : Slot) → length slots ≡ frame_slots → at < frame_size
+pub stores_number : (slots : List StackSlot) (at : ℕ) (size : Size) (numbers : Scalar) (t : StackSlot) → length slots ≡ frame_slots → at < frame_size
     → at % 8 + size_bytes size ≤ 8 → IsSlotStored (slot_at slots (at / 8)) (at % 8) size numbers t
     → StoresNumber slots at size numbers (slice_set slots (at / 8) t)
 unfolding StoresNumber
@@ -174,17 +174,17 @@ stores_number slots at size numbers t count below inside is = λ e rows next cel
     let some : length bytes ≡ size_bytes size = length-bytes_of size n in
     let long : length (map Byte bytes) ≡ length bytes = length-map bytes Byte in
     let within : at / 8 < frame_slots = omega arith in
-    let s : Slot = slot_at slots (at / 8) in
+    let s : StackSlot = slot_at slots (at / 8) in
     let before = m.each (at / 8) within in
-    let marked : SlotMeans e (Written (marks_after s (at % 8) size)) (chunk_of (at / 8) (written cells at (map Byte bytes))) =
-    subst (λ k. Marked (bit_or (marks_of s) (mask_of (at % 8) (at % 8 + k))) (chunk_of (at / 8) (written cells at (map Byte bytes)))) some
+    let marked : SlotMeans e (Written (marks_after s (at % 8) size)) (chunk_of (at / 8) (cells_with cells at (map Byte bytes))) =
+    subst (λ k. Marked (bit_or (marks_of s) (mask_of (at % 8) (at % 8 + k))) (chunk_of (at / 8) (cells_with cells at (map Byte bytes)))) some
     (marked_after (marks_of s) at cells bytes (omega arith) (omega arith) (marked_slot e s (chunk_of (at / 8) cells) before)) in
-    let after : SlotMeans e t (chunk_of (at / 8) (written cells at (map Byte bytes))) = elim (cases_eq (marks_after s (at % 8) size) 255) [
+    let after : SlotMeans e t (chunk_of (at / 8) (cells_with cells at (map Byte bytes))) = elim (cases_eq (marks_after s (at % 8) size) 255) [
       | inl all ↦ elim (is.whole all) [
         | inl known ↦ slot_stored e rows next s t cells at n size numbers inside (omega arith) (omega arith) fit has before all known
-        | inr blank ↦ subst (λ (u : Slot). SlotMeans e u (chunk_of (at / 8) (written cells at (map Byte bytes)))) (ap Written all ∙ sym blank.1) marked
+        | inr blank ↦ subst (λ (u : StackSlot). SlotMeans e u (chunk_of (at / 8) (cells_with cells at (map Byte bytes)))) (ap Written all ∙ sym blank.1) marked
       ]
-      | inr other ↦ subst (λ (u : Slot). SlotMeans e u (chunk_of (at / 8) (written cells at (map Byte bytes)))) (sym (is.parts other)) marked
+      | inr other ↦ subst (λ (u : StackSlot). SlotMeans e u (chunk_of (at / 8) (cells_with cells at (map Byte bytes)))) (sym (is.parts other)) marked
     ] in
     slot_changed e slots cells (map Byte bytes) at (at / 8) t count within (omega arith) (omega arith) m after
 

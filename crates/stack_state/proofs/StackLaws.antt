@@ -24,11 +24,11 @@ use Rattle.reg_state.specs.declared.kinds.Kind.TheVariants.{Unset, Number}
 use Rattle.reg_state.specs.Scalars.{Has}
 use Rattle.reg_state.specs.Arithmetic.{IsPart}
 use Rattle.reg_state.specs.Kinds.{Assigned, Allows}
-use Rattle.stack_state.specs.declared.slots.Slot.{Slot}
-use Rattle.stack_state.specs.declared.slots.Slot.TheVariants.{Written, Spilled}
+use Rattle.stack_state.specs.declared.slots.StackSlot.{StackSlot}
+use Rattle.stack_state.specs.declared.slots.StackSlot.TheVariants.{Written, Spilled}
 use Rattle.stack_state.specs.Slots.{slot_at, marks_of, mask_of, AreMarked, after_store, AreNumbers, IsLoad, IsNumberSpill, IsSpill, frame_slots}
-use Rattle.stack_state.specs.StackMeaning.{part_of, chunk_of, written, stored_cells, Marked, SlotMeans, StackMeans, StoresBytes, Spills, LoadsNumber, AreNumberBytes}
-use Rattle.stack_state.proofs.SpliceLaws.{length-written, get_or-chunk, chunk_other, chunk_whole, part_of-chunk}
+use Rattle.stack_state.specs.StackMeaning.{part_of, chunk_of, cells_with, stored_cells, Marked, SlotMeans, StackMeans, StoresBytes, Spills, LoadsNumber, AreNumberBytes}
+use Rattle.stack_state.proofs.SpliceLaws.{length-cells_with, get_or-chunk, chunk_other, chunk_whole, part_of-chunk}
 use Rattle.stack_state.proofs.CellLaws.{all_bytes, number_in-bytes, length-bytes_of, number_from_below, no_marks, marked_after, marked_number, marked_slot, number_of-stored_cells, number_of-part, length-stored_cells}
 
 -- ---- one slot changed
@@ -38,27 +38,29 @@ apart : (at n k j : ℕ) → 8 * k ≤ at → at + n ≤ 8 * k + 8 → j ≢ k �
 apart at n k j from to other =
     elim (cases_lt j k) [ inl below ↦ inl (omega arith) | inr above ↦ inr (let more : k < j = omega arith in omega arith) ]
 
-same_slot : (e : Assigned) (slots : List Slot) (k : ℕ) (s : Slot) (cs : List Cell) → k < length slots → SlotMeans e s cs
+same_slot : (e : Assigned) (slots : List StackSlot) (k : ℕ) (s : StackSlot) (cs : List Cell) → k < length slots → SlotMeans e s cs
     → SlotMeans e (slot_at (slice_set slots k s) k) cs
 same_slot e slots k s cs within h =
-    subst (λ (t : Slot). SlotMeans e t cs) (sym (get_or-set_same slots k s (Written 0) within)) h
+    subst (λ (t : StackSlot). SlotMeans e t cs)
+    (sym (get_or-set_same slots k s (Written 0) within)) h
 
-other_slot : (e : Assigned) (slots : List Slot) (k j : ℕ) (s : Slot) (cs ds : List Cell) → j ≢ k → ds ≡ cs
+other_slot : (e : Assigned) (slots : List StackSlot) (k j : ℕ) (s : StackSlot) (cs ds : List Cell) → j ≢ k → ds ≡ cs
     → SlotMeans e (slot_at slots j) cs → SlotMeans e (slot_at (slice_set slots k s) j) ds
 other_slot e slots k j s cs ds other same h =
-    subst (λ (t : Slot). SlotMeans e t ds) (sym (get_or-set_other slots k j s (Written 0) other))
+    subst (λ (t : StackSlot). SlotMeans e t ds)
+    (sym (get_or-set_other slots k j s (Written 0) other))
     (subst (λ (c : List Cell). SlotMeans e (slot_at slots j) c) (sym same) h)
 
 -- cells are written inside one slot, which then means what is there
-pub slot_changed : (e : Assigned) (slots : List Slot) (cells new : List Cell) (at k : ℕ) (s : Slot) → length slots ≡ frame_slots → k < frame_slots
-    → 8 * k ≤ at → at + length new ≤ 8 * k + 8 → StackMeans e slots cells → SlotMeans e s (chunk_of k (written cells at new))
-    → StackMeans e (slice_set slots k s) (written cells at new)
+pub slot_changed : (e : Assigned) (slots : List StackSlot) (cells new : List Cell) (at k : ℕ) (s : StackSlot) → length slots ≡ frame_slots → k < frame_slots
+    → 8 * k ≤ at → at + length new ≤ 8 * k + 8 → StackMeans e slots cells → SlotMeans e s (chunk_of k (cells_with cells at new))
+    → StackMeans e (slice_set slots k s) (cells_with cells at new)
 slot_changed e slots cells new at k s count within from to m h =
     let size : length cells ≡ frame_size = m.size in
     record {
-      size = length-written cells new at (omega arith) ∙ m.size;
+      size = length-cells_with cells new at (omega arith) ∙ m.size;
       each = λ j below. elim (cases_eq j k) [
-        | inl same ↦ subst (λ (i : ℕ). SlotMeans e (slot_at (slice_set slots k s) i) (chunk_of i (written cells at new))) (sym same)
+        | inl same ↦ subst (λ (i : ℕ). SlotMeans e (slot_at (slice_set slots k s) i) (chunk_of i (cells_with cells at new))) (sym same)
             (same_slot e slots k s _ (omega arith) h)
         | inr other ↦ other_slot e slots k j s _ _ other
             (chunk_other cells new at j (omega arith) (omega arith) (apart at (length new) k j from to other)) (m.each j below)
@@ -68,17 +70,17 @@ slot_changed e slots cells new at k s count within from to m h =
 -- ---- every slot changed
 
 -- other slots, under another assignment, which mean all that the slots meant
-pub StackMeans-change : (e f : Assigned) (old new : List Slot) (cells : List Cell)
+pub StackMeans-change : (e f : Assigned) (old new : List StackSlot) (cells : List Cell)
     → ((k : ℕ) (cs : List Cell) → k < frame_slots → SlotMeans e (slot_at old k) cs → SlotMeans f (slot_at new k) cs)
     → StackMeans e old cells → StackMeans f new cells
 StackMeans-change e f old new cells each m = record { size = m.size; each = λ k below. each k (chunk_of k cells) below (m.each k below) }
 
 -- each slot changed alike
-pub StackMeans-map : (g : Slot → Slot) (e f : Assigned) (slots : List Slot) (cells : List Cell) → length slots ≡ frame_slots
-    → ((s : Slot) (cs : List Cell) → SlotMeans e s cs → SlotMeans f (g s) cs) → StackMeans e slots cells → StackMeans f (map g slots) cells
+pub StackMeans-map : (g : StackSlot → StackSlot) (e f : Assigned) (slots : List StackSlot) (cells : List Cell) → length slots ≡ frame_slots
+    → ((s : StackSlot) (cs : List Cell) → SlotMeans e s cs → SlotMeans f (g s) cs) → StackMeans e slots cells → StackMeans f (map g slots) cells
 StackMeans-map g e f slots cells count each m =
     StackMeans-change e f slots (map g slots) cells
-    (λ k cs below h. subst (λ (s : Slot). SlotMeans f s cs) (sym (get_or-map g slots k (Written 0) (Written 0) (omega arith)))
+    (λ k cs below h. subst (λ (s : StackSlot). SlotMeans f s cs) (sym (get_or-map g slots k (Written 0) (Written 0) (omega arith)))
     (each (slot_at slots k) cs h)) m
 
 -- a spilled kind, and one that allows what it allowed
@@ -87,7 +89,7 @@ pub SlotMeans-spilled : (e f : Assigned) (k l : Kind) (cs : List Cell) → ((v :
 SlotMeans-spilled e f k l cs more h = (h.0, more h.0 h.1, h.2)
 
 -- marks of bytes that are marked in the slot, whatever it is
-pub SlotMeans-marks : (e f : Assigned) (s : Slot) (marks : ℕ) (cs : List Cell)
+pub SlotMeans-marks : (e f : Assigned) (s : StackSlot) (marks : ℕ) (cs : List Cell)
     → ((i : ℕ) → i < 8 → bit_at marks i ≡ 1 → bit_at (marks_of s) i ≡ 1) → SlotMeans e s cs → SlotMeans f (Written marks) cs
 SlotMeans-marks e f s marks cs fewer h = λ i within bit. marked_slot e s cs h i within (fewer i within bit)
 
@@ -95,13 +97,13 @@ SlotMeans-marks e f s marks cs fewer h = λ i within bit. marked_slot e s cs h i
 pub StackMeans-new : (e : Assigned) (cells : List Cell) → length cells ≡ frame_size → StackMeans e (replicate frame_slots (Written 0)) cells
 StackMeans-new e cells wide = record {
   size = wide;
-  each = λ k below. subst (λ (s : Slot). SlotMeans e s (chunk_of k cells)) (sym (get_or-replicate frame_slots k (Written 0) (Written 0) below))
+  each = λ k below. subst (λ (s : StackSlot). SlotMeans e s (chunk_of k cells)) (sym (get_or-replicate frame_slots k (Written 0) (Written 0) below))
       (no_marks (chunk_of k cells));
 }
 
 -- ---- writes
 
-pub stores : (slots new : List Slot) (at : ℕ) (size : Size) → length slots ≡ frame_slots → at < frame_size → at % 8 + size_bytes size ≤ 8
+pub stores : (slots new : List StackSlot) (at : ℕ) (size : Size) → length slots ≡ frame_slots → at < frame_size → at % 8 + size_bytes size ≤ 8
     → new ≡ after_store slots at (size_bytes size) → StoresBytes slots at size new
 unfolding StoresBytes
 stores slots new at size count below inside is = λ e cells n m.
@@ -112,40 +114,42 @@ stores slots new at size count below inside is = λ e cells n m.
     let within : at / 8 < frame_slots = omega arith in
     let marks : ℕ = marks_of (slot_at slots (at / 8)) in
     let before = marked_slot e (slot_at slots (at / 8)) (chunk_of (at / 8) cells) (m.each (at / 8) within) in
-    let after : Marked (bit_or marks (mask_of (at % 8) (at % 8 + length bytes))) (chunk_of (at / 8) (written cells at (map Byte bytes))) =
+    let after : Marked (bit_or marks (mask_of (at % 8) (at % 8 + length bytes))) (chunk_of (at / 8) (cells_with cells at (map Byte bytes))) =
     marked_after marks at cells bytes (omega arith) (omega arith) before in
-    let all : StackMeans e (after_store slots at (length bytes)) (written cells at (map Byte bytes)) =
+    let all : StackMeans e (after_store slots at (length bytes)) (cells_with cells at (map Byte bytes)) =
     slot_changed e slots cells (map Byte bytes) at (at / 8) (Written (bit_or marks (mask_of (at % 8) (at % 8 + length bytes))))
     count within (omega arith) (omega arith) m after in
-    subst (λ (l : List Slot). StackMeans e l (written cells at (map Byte bytes))) (ap (after_store slots at) some ∙ sym is) all
+    subst (λ (l : List StackSlot). StackMeans e l (cells_with cells at (map Byte bytes))) (ap (after_store slots at) some ∙ sym is) all
 
-number_spill : (e : Assigned) (numbers : Scalar) (s : Slot) (v : Value) (cs : List Cell) → IsNumberSpill numbers s
+number_spill : (e : Assigned) (numbers : Scalar) (s : StackSlot) (v : Value) (cs : List Cell) → IsNumberSpill numbers s
     → Allows e (Number numbers) v → cs ≡ stored_cells v → SlotMeans e s cs
 number_spill e numbers (Written marks) v cs is h same =
     subst (λ (m : ℕ). Marked m cs) (sym is.0) (marked_number h.0 cs (same ∙ ap stored_cells h.1))
 number_spill e numbers (Spilled k) v cs is h same = (v, subst (λ (j : Kind). Allows e j v) (sym is.0) h, same)
 
 -- the slot that a spill leaves means what an 8-byte store of the value writes
-pub SlotMeans-spill : (e : Assigned) (k : Kind) (s : Slot) (v : Value) (cs : List Cell) → IsSpill k s → Allows e k v → cs ≡ stored_cells v
+pub SlotMeans-spill : (e : Assigned) (k : Kind) (s : StackSlot) (v : Value) (cs : List Cell) → IsSpill k s → Allows e k v → cs ≡ stored_cells v
     → SlotMeans e s cs
-SlotMeans-spill e Unset s v cs is h same = subst (λ (t : Slot). SlotMeans e t cs) (sym is) (no_marks cs)
+SlotMeans-spill e Unset s v cs is h same = subst (λ (t : StackSlot). SlotMeans e t cs) (sym is) (no_marks cs)
 SlotMeans-spill e (Number numbers) s v cs is h same = number_spill e numbers s v cs is h same
-SlotMeans-spill e k s v cs is h same = subst (λ (t : Slot). SlotMeans e t cs) (sym is) (v, h, same)
+SlotMeans-spill e k s v cs is h same =
+    subst (λ (t : StackSlot). SlotMeans e t cs) (sym is) (v, h, same)
 
-pub spills : (slots new : List Slot) (k : ℕ) (kind : Kind) → length slots ≡ frame_slots → k < frame_slots → IsSpill kind (slot_at new k)
+pub spills : (slots new : List StackSlot) (k : ℕ) (kind : Kind) → length slots ≡ frame_slots → k < frame_slots → IsSpill kind (slot_at new k)
     → new ≡ slice_set slots k (slot_at new k) → Spills slots k kind new
 unfolding Spills
 spills slots new k kind count within is others = λ e cells v set allowed m.
     let wide : length cells ≡ frame_size = m.size in
     let eight : length (stored_cells v) ≡ 8 = length-stored_cells v set in
-    subst (λ (l : List Slot). StackMeans e l (written cells (8 * k) (stored_cells v))) (sym others)
+    subst (λ (l : List StackSlot). StackMeans e l (cells_with cells (8 * k) (stored_cells v)))
+    (sym others)
     (slot_changed e slots cells (stored_cells v) (8 * k) k (slot_at new k) count within (omega arith) (omega arith) m
     (SlotMeans-spill e kind (slot_at new k) v _ is allowed (chunk_whole cells (stored_cells v) k eight (omega arith))))
 
 -- ---- reads
 
 -- a byte that is marked
-byte_at : (e : Assigned) (slots : List Slot) (cells : List Cell) (i : ℕ) → i < frame_size → StackMeans e slots cells
+byte_at : (e : Assigned) (slots : List StackSlot) (cells : List Cell) (i : ℕ) → i < frame_size → StackMeans e slots cells
     → bit_at (marks_of (slot_at slots (i / 8))) (i % 8) ≡ 1 → is_byte (slice_index_or cells i Unwritten) ≡ true
 byte_at e slots cells i below m bit =
     let within : i / 8 < frame_slots = omega arith in
@@ -155,7 +159,7 @@ byte_at e slots cells i below m bit =
     subst (λ (j : ℕ). is_byte (slice_index_or cells j Unwritten) ≡ true) same
     (subst (λ (c : Cell). is_byte c ≡ true) (get_or-chunk (i / 8) (i % 8) cells Unwritten inside) here)
 
-pub marked_are_bytes : (e : Assigned) (slots : List Slot) (cells : List Cell) (from n : ℕ) → from + n ≤ frame_size
+pub marked_are_bytes : (e : Assigned) (slots : List StackSlot) (cells : List Cell) (from n : ℕ) → from + n ≤ frame_size
     → AreMarked slots from (from + n) → StackMeans e slots cells → list_all is_byte (part_of cells from n) ≡ true
 marked_are_bytes e slots cells from n inside marked m =
     let wide : length cells ≡ frame_size = m.size in
@@ -164,7 +168,7 @@ marked_are_bytes e slots cells from n inside marked m =
     ap is_byte (get_or-take n (drop from cells) i Unwritten short ∙ get_or-drop from cells i Unwritten)
     ∙ byte_at e slots cells (from + i) (omega arith) m (marked (from + i) (omega arith) (omega arith)))
 
-pub are_bytes : (slots : List Slot) (from n : ℕ) → from + n ≤ frame_size → AreMarked slots from (from + n) → AreNumberBytes slots from n
+pub are_bytes : (slots : List StackSlot) (from n : ℕ) → from + n ≤ frame_size → AreMarked slots from (from + n) → AreNumberBytes slots from n
 unfolding AreNumberBytes
 are_bytes slots from n inside marked = λ e cells m.
     let all = marked_are_bytes e slots cells from n inside marked m in
@@ -210,7 +214,7 @@ spelled_part e numbers answer cells at size inside are h =
     let spelled = ap (λ (cs : List Cell). number_of (part_of cs (at % 8) (size_bytes size))) stays ∙ number_of-part h.1.0 (at % 8) size h.1.2.0.below inside in
     subst (Has answer) (sym (ap number_of here ∙ spelled)) (are.contains h.1.0 h.1.2)
 
-part_number : (e : Assigned) (s : Slot) (cells : List Cell) (at : ℕ) (size : Size) (answer : Scalar) → at % 8 + size_bytes size ≤ 8
+part_number : (e : Assigned) (s : StackSlot) (cells : List Cell) (at : ℕ) (size : Size) (answer : Scalar) → at % 8 + size_bytes size ≤ 8
     → AreNumbers s (at % 8) size answer → SlotMeans e s (chunk_of (at / 8) cells)
     → number_of (part_of cells at (size_bytes size)) < 2 ^ (8 * size_bytes size)
     → Has answer (number_of (part_of cells at (size_bytes size)))
@@ -221,7 +225,7 @@ part_number e (Spilled (Number numbers)) cells at U32 answer inside are h below 
 part_number e (Spilled (Number numbers)) cells at U64 answer inside are h below = whole_part e numbers answer cells at inside are h
 part_number e (Spilled k) cells at size answer inside are h below = (are _).1 below
 
-pub loads : (slots : List Slot) (at : ℕ) (size : Size) (answer : Option Scalar) → at < frame_size → at % 8 + size_bytes size ≤ 8
+pub loads : (slots : List StackSlot) (at : ℕ) (size : Size) (answer : Option Scalar) → at < frame_size → at % 8 + size_bytes size ≤ 8
     → IsLoad slots at size answer → LoadsNumber slots at size answer
 unfolding LoadsNumber
 loads slots at size None below inside is = tt

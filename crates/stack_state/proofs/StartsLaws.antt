@@ -12,7 +12,7 @@ use Rattle.isa_model.specs.Running.Runs.{count_values, numbered_maps, start_regs
 use Rattle.isa_model.specs.Machine.MachineStates.{IsProgram, IsGiven}
 use Rattle.isa_model.proofs.StepLaws.{start_is_state}
 use Rattle.reg_state.specs.Kinds.{Assigned, Allows}
-use Rattle.stack_state.specs.Meaning.{kind_at, slots_of, MeansBy, Means}
+use Rattle.stack_state.specs.Meaning.{kind_at, stack_slots_of, MeansBy, Means}
 use Rattle.stack_state.specs.StackMeaning.{StackMeans}
 use Rattle.stack_state.proofs.StackLaws.{StackMeans-new}
 use Rattle.stack_state.specs.Starts.{first_registers, start}
@@ -43,7 +43,7 @@ first_allowed e serial (suc (suc (suc (suc (suc (suc (suc (suc (suc (suc k))))))
 
 -- all bytes of the first frame are unset
 first_stack : (e : Assigned) (serial j : ℕ) (saved : List Value) → j < 1
-    → StackMeans e (slots_of start j) (frame_at (new_frame serial 0 saved ∷ []) j).cells
+    → StackMeans e (stack_slots_of start j) (frame_at (new_frame serial 0 saved ∷ []) j).cells
 unfolding start new_frame
 first_stack e serial zero saved below = StackMeans-new e (replicate frame_size Unwritten) (length-replicate frame_size Unwritten)
 first_stack e serial (suc j) saved below = absurd (omega arith)

@@ -10,10 +10,10 @@ use Rattle.reg_state.specs.declared.kinds.Kind.{Kind}
 use Rattle.reg_state.specs.Kinds.{Assigned, HasLiveValue}
 use Rattle.reg_state.specs.KindCover.{packet_identity_of, null_identity_of}
 use Rattle.reg_state.proofs.KindLaws.{frame_of as frame_in, map_of, KeepsAssigned, Allows-kept}
-use Rattle.stack_state.specs.declared.slots.Slot.{Slot}
-use Rattle.stack_state.specs.declared.slots.Slot.TheVariants.{Written, Spilled}
+use Rattle.stack_state.specs.declared.slots.StackSlot.{StackSlot}
+use Rattle.stack_state.specs.declared.slots.StackSlot.TheVariants.{Written, Spilled}
 use Rattle.stack_state.specs.declared.states.State.{State}
-use Rattle.stack_state.specs.Meaning.{kind_at, kinds_of, slots_of, MeansBy}
+use Rattle.stack_state.specs.Meaning.{kind_at, kinds_of, stack_slots_of, MeansBy}
 use Rattle.stack_state.specs.Slots.{slot_at}
 use Rattle.stack_state.specs.StackMeaning.{SlotMeans, with_maps}
 use Rattle.stack_state.proofs.StackLaws.{SlotMeans-spilled}
@@ -36,7 +36,7 @@ KeepsAssigned-live k e maps keeps = record {
   live = each_some (map_of k) (λ m. (n : ℕ) → HasLiveValue e.maps m n → HasLiveValue maps m n) keeps;
 }
 
-SlotMeans-live : (e : Assigned) (maps : List Content) (t : Slot) (cs : List Cell) → KeepsLive e.maps maps → SlotMeans e t cs
+SlotMeans-live : (e : Assigned) (maps : List Content) (t : StackSlot) (cs : List Cell) → KeepsLive e.maps maps → SlotMeans e t cs
     → SlotMeans (with_maps e maps) t cs
 SlotMeans-live e maps (Written marks) cs keeps h = h
 SlotMeans-live e maps (Spilled k) cs keeps h =
@@ -54,7 +54,7 @@ MeansBy-given p e a s maps next calls keeps is m =
     refl refl
     (λ j below. record {
       registers = λ k v h. Allows-kept (kind_at (kinds_of a j) k) e (with_maps e maps) v (KeepsAssigned-live (kind_at (kinds_of a j) k) e maps kept) h;
-      slots = λ k cs inside h. SlotMeans-live e maps (slot_at (slots_of a j) k) cs kept h;
+      slots = λ k cs inside h. SlotMeans-live e maps (slot_at (stack_slots_of a j) k) cs kept h;
     }) m
 
 -- the same, where only the contents changed

@@ -4,11 +4,11 @@ use Rattle.stack_state.specs.Slots.{frame_slots}
 use Rattle.reg_state.specs.declared.kinds.Kind.{Kind}
 use Rattle.reg_state.specs.declared.kinds.Kind.TheVariants.{Unset, Stack}
 use Rattle.reg_state.specs.Kinds.{Assigned}
-use Rattle.stack_state.specs.declared.slots.Slot.{Slot}
-use Rattle.stack_state.specs.declared.slots.Slot.TheVariants.{Written}
+use Rattle.stack_state.specs.declared.slots.StackSlot.{StackSlot}
+use Rattle.stack_state.specs.declared.slots.StackSlot.TheVariants.{Written}
 use Rattle.stack_state.specs.declared.states.AbstractFrame.{AbstractFrame}
 use Rattle.stack_state.specs.declared.states.State.{State}
-use Rattle.stack_state.specs.Meaning.{kind_at, frame_of, registers_of}
+use Rattle.stack_state.specs.Meaning.{kind_at, abstract_frame_at, registers_of}
 use Rattle.stack_state.specs.Effects.{map_kinds}
 
 -- ---- calls
@@ -26,7 +26,7 @@ handed_kinds ks =
     ∷ Unset ∷ Unset ∷ []
 
 -- a call frame whose bytes are all unknown
-unfoldable pub unset_slots : List Slot
+unfoldable pub unset_slots : List StackSlot
 unset_slots = replicate frame_slots (Written 0)
 
 -- the call frame of a caller
@@ -74,7 +74,7 @@ left a =
     record {
       slot = a.innermost.return_slot;
       callers = record { items = take n a.callers.items };
-      innermost = resumed_of (frame_of a n) (kind_at (registers_of a) 0);
+      innermost = resumed_of (abstract_frame_at a n) (kind_at (registers_of a) 0);
     }
 
 -- the assignment without the innermost call frame

@@ -5,16 +5,16 @@ use Rattle.arrayvec.specs.ArrayVec.{with_item}
 use Rattle.reg_state.specs.declared.scalars.Scalar.{Scalar}
 use Rattle.reg_state.specs.declared.kinds.Kind.{Kind}
 use Rattle.reg_state.specs.declared.kinds.Kind.TheVariants.{Number, Packet, MapValue, MapValueOrNull}
-use Rattle.stack_state.specs.declared.slots.Slot.{Slot}
-use Rattle.stack_state.specs.declared.slots.Slot.TheVariants.{Written, Spilled}
+use Rattle.stack_state.specs.declared.slots.StackSlot.{StackSlot}
+use Rattle.stack_state.specs.declared.slots.StackSlot.TheVariants.{Written, Spilled}
 use Rattle.stack_state.specs.declared.states.AbstractFrame.{AbstractFrame}
 use Rattle.stack_state.specs.declared.states.State.{State}
-use Rattle.stack_state.specs.Meaning.{frame_of}
+use Rattle.stack_state.specs.Meaning.{abstract_frame_at}
 use Rattle.stack_state.specs.Slots.{kind_in, forgotten_kind, forgotten}
 
 -- ---- the slots of a frame
 
-abbrev pub with_slots : AbstractFrame → List Slot → AbstractFrame
+abbrev pub with_slots : AbstractFrame → List StackSlot → AbstractFrame
 with_slots f slots = record f { stack = record { slots = slots } }
 
 -- another frame in the jth place
@@ -24,8 +24,8 @@ with_frame a j f =
     else record a { callers = with_item a.callers j f }
 
 -- other slots in the jth frame
-abbrev pub with_frame_slots : State → ℕ → List Slot → State
-with_frame_slots a j slots = with_frame a j (with_slots (frame_of a j) slots)
+abbrev pub with_frame_slots : State → ℕ → List StackSlot → State
+with_frame_slots a j slots = with_frame a j (with_slots (abstract_frame_at a j) slots)
 
 -- ---- every frame
 
@@ -34,7 +34,7 @@ map_frames g a =
     record a { callers = record { items = map g a.callers.items }; innermost = g a.innermost }
 
 -- another kind for a spilled value
-abbrev pub with_spilled : (Kind → Kind) → Slot → Slot
+abbrev pub with_spilled : (Kind → Kind) → StackSlot → StackSlot
 with_spilled g (Written marks) = Written marks
 with_spilled g (Spilled k) = Spilled (g k)
 

@@ -4,9 +4,9 @@ use Rattle.isa_model.specs.Code.Limits.{frame_size}
 use Rattle.isa_model.specs.declared.sizes.Size.{Size}
 use Rattle.isa_model.specs.Code.Sizes.{size_bytes}
 use Rattle.reg_state.specs.declared.kinds.Kind.{Kind}
-use Rattle.stack_state.specs.declared.slots.Slot.{Slot}
+use Rattle.stack_state.specs.declared.slots.StackSlot.{StackSlot}
 use Rattle.stack_state.specs.declared.states.State.{State}
-use Rattle.stack_state.specs.Meaning.{slots_of}
+use Rattle.stack_state.specs.Meaning.{stack_slots_of}
 use Rattle.stack_state.specs.Slots.{after_store, IsSpill}
 use Rattle.stack_state.specs.StackMeaning.{StoresBytes, Spills}
 use Rattle.stack_state.specs.Effects.{with_frame_slots}
@@ -29,12 +29,13 @@ FindsPlace z size None = (at : ℕ) → ¬ IsPlace z size at
 
 -- bytes of a number are written in the jth frame
 pub record IsStoredIn (a : State) (j at : ℕ) (size : Size) (b : State) : Type 0 where
-  pub left : b ≡ with_frame_slots a j (after_store (slots_of a j) at (size_bytes size))
-  pub meant : StoresBytes (slots_of a j) at size (after_store (slots_of a j) at (size_bytes size))
+  pub left : b ≡ with_frame_slots a j (after_store (stack_slots_of a j) at (size_bytes size))
+  pub meant : StoresBytes (stack_slots_of a j) at size
+      (after_store (stack_slots_of a j) at (size_bytes size))
 
 -- a value of the kind is written into the whole slot k of the jth frame
 pub record IsSpilledIn (a : State) (j k : ℕ) (kind : Kind) (b : State) : Type 0 where
-  pub slot : Slot
+  pub slot : StackSlot
   pub spill : IsSpill kind slot
-  pub left : b ≡ with_frame_slots a j (slice_set (slots_of a j) k slot)
-  pub meant : Spills (slots_of a j) k kind (slice_set (slots_of a j) k slot)
+  pub left : b ≡ with_frame_slots a j (slice_set (stack_slots_of a j) k slot)
+  pub meant : Spills (stack_slots_of a j) k kind (slice_set (stack_slots_of a j) k slot)

@@ -5,7 +5,7 @@ use Rattle.reg_state.specs.KindCover.{packet_identity_of, null_identity_of}
 use Rattle.stack_state.specs.declared.identities.Names.{Names}
 use Rattle.stack_state.specs.declared.identities.Names.TheVariants.{Packets, Nulls}
 use Rattle.stack_state.specs.declared.states.State.{State}
-use Rattle.stack_state.specs.Meaning.{kind_at, kinds_of, slots_of}
+use Rattle.stack_state.specs.Meaning.{kind_at, kinds_of, stack_slots_of}
 use Rattle.stack_state.specs.Slots.{slot_at, kind_in}
 
 -- the identity of a sort that a kind names
@@ -16,7 +16,7 @@ named_by Nulls k = null_identity_of k
 -- no register and no slot of any frame names the identity
 pub record IsFresh (names : Names) (a : State) (i : ℕ) : Type 0 where
   pub registers : (j k : ℕ) → named_by names (kind_at (kinds_of a j) k) ≢ Some i
-  pub slots : (j k : ℕ) → named_by names (kind_in (slot_at (slots_of a j) k)) ≢ Some i
+  pub slots : (j k : ℕ) → named_by names (kind_in (slot_at (stack_slots_of a j) k)) ≢ Some i
 
 -- the least one from 1 up that none names
 pub record IsLeastFresh (names : Names) (a : State) (i : ℕ) : Type 0 where

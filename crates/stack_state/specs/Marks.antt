@@ -3,7 +3,7 @@
 use Rattle.std.specs.Prelude.{◌≡◌, ◌≢◌, ℕ, suc, ◌+◌, ◌<◌, ◌≤◌, ◌⊎◌, Bool, true, false, List, [], ◌∷◌, length, slice_index_or, Some}
 use Rattle.reg_state.specs.declared.kinds.Kind.{Kind}
 use Rattle.stack_state.specs.declared.identities.Names.{Names}
-use Rattle.stack_state.specs.declared.slots.Slot.{Slot}
+use Rattle.stack_state.specs.declared.slots.StackSlot.{StackSlot}
 use Rattle.stack_state.specs.declared.states.AbstractFrame.{AbstractFrame}
 use Rattle.stack_state.specs.Meaning.{no_frame, kind_at}
 use Rattle.stack_state.specs.Identities.{named_by}
@@ -26,7 +26,7 @@ abbrev pub NamesOther : Names → List Kind → ℕ → ℕ → Type 0
 NamesOther names kinds k i = named_by names (kind_at kinds k) ≢ Some i
 
 -- a slot
-abbrev pub HoldsOther : Names → List Slot → ℕ → ℕ → Type 0
+abbrev pub HoldsOther : Names → List StackSlot → ℕ → ℕ → Type 0
 HoldsOther names slots k i = named_by names (kind_in (slot_at slots k)) ≢ Some i
 
 -- a frame

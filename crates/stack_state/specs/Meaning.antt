@@ -10,7 +10,7 @@ use Rattle.isa_model.specs.Machine.MachineStates.{IsState, IsClock}
 use Rattle.reg_state.specs.declared.kinds.Kind.{Kind}
 use Rattle.reg_state.specs.declared.kinds.Kind.TheVariants.{Unset}
 use Rattle.reg_state.specs.Kinds.{Assigned, Allows}
-use Rattle.stack_state.specs.declared.slots.Slot.{Slot}
+use Rattle.stack_state.specs.declared.slots.StackSlot.{StackSlot}
 use Rattle.stack_state.specs.declared.states.AbstractFrame.{AbstractFrame}
 use Rattle.stack_state.specs.declared.states.State.{State}
 use Rattle.stack_state.specs.StackMeaning.{StackMeans}
@@ -29,16 +29,16 @@ abbrev pub no_frame : AbstractFrame
 no_frame = record { return_slot = 0; registers = []; stack = record { slots = [] } }
 
 -- a frame, counted from the outermost, 0
-abbrev pub frame_of : State → ℕ → AbstractFrame
-frame_of a j = slice_index_or (frames_of a) j no_frame
+abbrev pub abstract_frame_at : State → ℕ → AbstractFrame
+abstract_frame_at a j = slice_index_or (frames_of a) j no_frame
 
 -- its registers
 abbrev pub kinds_of : State → ℕ → List Kind
-kinds_of a j = (frame_of a j).registers
+kinds_of a j = (abstract_frame_at a j).registers
 
 -- and its stack slots
-abbrev pub slots_of : State → ℕ → List Slot
-slots_of a j = (frame_of a j).stack.slots
+abbrev pub stack_slots_of : State → ℕ → List StackSlot
+stack_slots_of a j = (abstract_frame_at a j).stack.slots
 
 -- the registers as they are
 abbrev pub registers_of : State → List Kind
@@ -51,7 +51,7 @@ kind_at kinds k = slice_index_or kinds k Unset
 -- ---- meaning
 
 -- the assignment fits this machine state
-pub record IsOf (e : Assigned) (s : Machine.State) : Type 0 where
+pub record AssignmentFits (e : Assigned) (s : Machine.State) : Type 0 where
   pub none : e.offset 0 ≡ pos 0
   pub length_is : e.packet_length ≡ length s.packet
   pub serials : e.frames ≡ map (λ f. f.serial) s.frames
@@ -60,7 +60,7 @@ pub record IsOf (e : Assigned) (s : Machine.State) : Type 0 where
 -- under the assignment, the machine state is a member of the abstract state
 pub record MeansBy (p : Program) (e : Assigned) (a : State) (s : Machine.State) : Type 0 where
   pub is_state : IsState p s
-  pub assigned : IsOf e s
+  pub assigned : AssignmentFits e s
   pub slot_is : s.slot ≡ a.slot
   pub returns : map (λ f. f.return_slot) s.frames ≡ map (λ f. f.return_slot) (frames_of a)
   pub pointer : reg s R10 ≡ frame_pointer (innermost s.frames).serial
@@ -69,7 +69,7 @@ pub record MeansBy (p : Program) (e : Assigned) (a : State) (s : Machine.State) 
   pub kept : (j k : ℕ) → suc j < depth a → k < 4
       → Allows e (kind_at (kinds_of a j) (6 + k)) (value_at (frame_at s.frames (suc j)).saved k)
   -- each live frame's stack slots mean its cells
-  pub stacks : (j : ℕ) → j < depth a → StackMeans e (slots_of a j) (frame_at s.frames j).cells
+  pub stacks : (j : ℕ) → j < depth a → StackMeans e (stack_slots_of a j) (frame_at s.frames j).cells
 
 -- one assignment is used for the whole state
 unfoldable pub Means : Program → State → Machine.State → Type 0

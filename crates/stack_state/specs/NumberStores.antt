@@ -12,12 +12,12 @@ use Rattle.reg_state.specs.declared.kinds.Kind.TheVariants.{Number}
 use Rattle.reg_state.specs.Scalars.{Has}
 use Rattle.reg_state.specs.Splices as S
 use Rattle.reg_state.specs.Kinds.{Assigned}
-use Rattle.stack_state.specs.declared.slots.Slot.{Slot}
-use Rattle.stack_state.specs.declared.slots.Slot.TheVariants.{Written, Spilled}
+use Rattle.stack_state.specs.declared.slots.StackSlot.{StackSlot}
+use Rattle.stack_state.specs.declared.slots.StackSlot.TheVariants.{Written, Spilled}
 use Rattle.stack_state.specs.declared.states.State.{State}
-use Rattle.stack_state.specs.Meaning.{slots_of}
+use Rattle.stack_state.specs.Meaning.{stack_slots_of}
 use Rattle.stack_state.specs.Slots.{slot_at, marks_of, mask_of, IsAny, IsSpill}
-use Rattle.stack_state.specs.StackMeaning.{written, StackMeans}
+use Rattle.stack_state.specs.StackMeaning.{cells_with, StackMeans}
 use Rattle.stack_state.specs.Effects.{with_frame_slots}
 
 -- the numbers that the eight bytes of a slot may spell
@@ -25,16 +25,16 @@ abbrev pub AreKindWhole : Kind → Scalar → Type 0
 AreKindWhole (Number numbers) answer = answer ≡ numbers
 AreKindWhole k answer = IsAny answer
 
-abbrev pub AreWhole : Slot → Scalar → Type 0
+abbrev pub AreWhole : StackSlot → Scalar → Type 0
 AreWhole (Written marks) answer = IsAny answer
 AreWhole (Spilled k) answer = AreKindWhole k answer
 
 -- the marks of a slot after bytes from one on are written
-abbrev pub marks_after : Slot → ℕ → Size → ℕ
+abbrev pub marks_after : StackSlot → ℕ → Size → ℕ
 marks_after s from size = bit_or (marks_of s) (mask_of from (from + size_bytes size))
 
 -- the slot's number with other bytes
-pub record IsSplicedSlot (s : Slot) (from : ℕ) (size : Size) (numbers : Scalar) (t : Slot)
+pub record IsSplicedSlot (s : StackSlot) (from : ℕ) (size : Size) (numbers : Scalar) (t : StackSlot)
     : Type 0 where
   pub old : Scalar
   pub new : Scalar
@@ -48,29 +48,30 @@ HaveAll size numbers = (x : ℕ) → x < 2 ^ (8 * size_bytes size) → Has numbe
 
 -- nothing is known of the slot's bytes but which are written, nor of the bytes that are written
 -- into it
-abbrev pub IsBlank : Slot → Size → Scalar → Type 0
+abbrev pub IsBlank : StackSlot → Size → Scalar → Type 0
 IsBlank (Written marks) size numbers = HaveAll size numbers
 IsBlank (Spilled k) size numbers = ⊥
 
 -- bytes of a number are written: where all eight bytes of the slot then are number bytes, what is
 -- known of their number is kept, if anything is, and else which are written
-pub record IsSlotStored (s : Slot) (from : ℕ) (size : Size) (numbers : Scalar) (t : Slot)
+pub record IsSlotStored (s : StackSlot) (from : ℕ) (size : Size) (numbers : Scalar) (t : StackSlot)
     : Type 0 where
   pub whole : marks_after s from size ≡ 255 → IsSplicedSlot s from size numbers t
       ⊎ (IsBlank s size numbers × (t ≡ Written 255))
   pub parts : marks_after s from size ≢ 255 → t ≡ Written (marks_after s from size)
 
 -- the bytes of one of the numbers, stored at a place in cells of a state
-unfoldable pub StoresNumber : List Slot → ℕ → Size → Scalar → List Slot → Type 0
+unfoldable pub StoresNumber : List StackSlot → ℕ → Size → Scalar → List StackSlot → Type 0
 StoresNumber old at size numbers new =
     (e : Assigned) (rows next : ℕ) (cells : List Cell) (n : ℕ) → All (IsCell rows next) cells
     → Has numbers n → StackMeans e old cells
-    → StackMeans e new (written cells at (map Byte (bytes_of size n)))
+    → StackMeans e new (cells_with cells at (map Byte (bytes_of size n)))
 
 -- bytes of one of the numbers are written in the jth frame
 pub record IsNumberStoredIn (a : State) (j at : ℕ) (size : Size) (numbers : Scalar) (b : State)
     : Type 0 where
-  pub slot : Slot
-  pub stored : IsSlotStored (slot_at (slots_of a j) (at / 8)) (at % 8) size numbers slot
-  pub left : b ≡ with_frame_slots a j (slice_set (slots_of a j) (at / 8) slot)
-  pub meant : StoresNumber (slots_of a j) at size numbers (slice_set (slots_of a j) (at / 8) slot)
+  pub slot : StackSlot
+  pub stored : IsSlotStored (slot_at (stack_slots_of a j) (at / 8)) (at % 8) size numbers slot
+  pub left : b ≡ with_frame_slots a j (slice_set (stack_slots_of a j) (at / 8) slot)
+  pub meant : StoresNumber (stack_slots_of a j) at size numbers
+      (slice_set (stack_slots_of a j) (at / 8) slot)

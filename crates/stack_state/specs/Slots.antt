@@ -10,18 +10,18 @@ use Rattle.reg_state.specs.declared.kinds.Kind.{Kind}
 use Rattle.reg_state.specs.declared.kinds.Kind.TheVariants.{Unset, Number, MapValue, MapValueOrNull}
 use Rattle.reg_state.specs.Scalars.{Has}
 use Rattle.reg_state.specs.Arithmetic.{IsPart}
-use Rattle.stack_state.specs.declared.slots.Slot.{Slot}
-use Rattle.stack_state.specs.declared.slots.Slot.TheVariants.{Written, Spilled}
+use Rattle.stack_state.specs.declared.slots.StackSlot.{StackSlot}
+use Rattle.stack_state.specs.declared.slots.StackSlot.TheVariants.{Written, Spilled}
 
 -- slots of 8 bytes in a call frame
 abbrev pub frame_slots : ℕ
 frame_slots = frame_size / 8
 
-abbrev pub slot_at : List Slot → ℕ → Slot
+abbrev pub slot_at : List StackSlot → ℕ → StackSlot
 slot_at slots k = slice_index_or slots k (Written 0)
 
 -- the kind of the value that was spilled there; Unset where none was
-abbrev pub kind_in : Slot → Kind
+abbrev pub kind_in : StackSlot → Kind
 kind_in (Written marks) = Unset
 kind_in (Spilled k) = k
 
@@ -34,7 +34,7 @@ kind_marks (Number numbers) = 255
 kind_marks k = 0
 
 -- bit i: byte i of the slot is a written number byte
-abbrev pub marks_of : Slot → ℕ
+abbrev pub marks_of : StackSlot → ℕ
 marks_of (Written marks) = marks
 marks_of (Spilled k) = kind_marks k
 
@@ -43,15 +43,15 @@ abbrev pub mask_of : ℕ → ℕ → ℕ
 mask_of from end = 2 ^ end - 2 ^ from
 
 -- byte i of the frame is a written number byte
-abbrev pub IsNumberByte : List Slot → ℕ → Type 0
+abbrev pub IsNumberByte : List StackSlot → ℕ → Type 0
 IsNumberByte slots i = bit_at (marks_of (slot_at slots (i / 8))) (i % 8) ≡ 1
 
-abbrev pub AreMarked : List Slot → ℕ → ℕ → Type 0
+abbrev pub AreMarked : List StackSlot → ℕ → ℕ → Type 0
 AreMarked slots from end = (i : ℕ) → from ≤ i → i < end → IsNumberByte slots i
 
 -- n number bytes were written: a value that was spilled there is no longer whole, and of a spilled
 -- number the other bytes stay
-abbrev pub after_store : List Slot → ℕ → ℕ → List Slot
+abbrev pub after_store : List StackSlot → ℕ → ℕ → List StackSlot
 after_store slots at n =
     slice_set slots (at / 8)
     (Written (bit_or (marks_of (slot_at slots (at / 8))) (mask_of (at % 8) (at % 8 + n))))
@@ -81,12 +81,12 @@ AreSpilled (Number numbers) from size answer = ArePart numbers from size answer
 AreSpilled k from size answer = AreAll size answer
 
 -- the numbers that marked bytes of a slot, from one on, may spell
-abbrev pub AreNumbers : Slot → ℕ → Size → Scalar → Type 0
+abbrev pub AreNumbers : StackSlot → ℕ → Size → Scalar → Type 0
 AreNumbers (Written marks) from size answer = AreAll size answer
 AreNumbers (Spilled k) from size answer = AreSpilled k from size answer
 
 -- the bytes can be loaded if all of them are marked
-abbrev pub IsLoad : List Slot → ℕ → Size → Option Scalar → Type 0
+abbrev pub IsLoad : List StackSlot → ℕ → Size → Option Scalar → Type 0
 IsLoad slots at size None = ¬ AreMarked slots at (at + size_bytes size)
 IsLoad slots at size (Some answer) =
     AreMarked slots at (at + size_bytes size)
@@ -95,12 +95,12 @@ IsLoad slots at size (Some answer) =
 -- ---- whole values
 
 -- a number about which nothing is known is eight written bytes
-abbrev pub IsNumberSpill : Scalar → Slot → Type 0
+abbrev pub IsNumberSpill : Scalar → StackSlot → Type 0
 IsNumberSpill numbers (Written marks) = (marks ≡ 255) × IsAny numbers
 IsNumberSpill numbers (Spilled k) = (k ≡ Number numbers) × (¬ IsAny numbers)
 
 -- what a spill of the kind leaves in its slot
-abbrev pub IsSpill : Kind → Slot → Type 0
+abbrev pub IsSpill : Kind → StackSlot → Type 0
 IsSpill Unset slot = slot ≡ Written 0
 IsSpill (Number numbers) slot = IsNumberSpill numbers slot
 IsSpill k slot = slot ≡ Spilled k
@@ -115,16 +115,16 @@ spilled_kind Unset = None
 spilled_kind k = Some k
 
 -- the kind of the value that is read back whole from a slot
-abbrev pub IsFill : Slot → Option Kind → Type 0
+abbrev pub IsFill : StackSlot → Option Kind → Type 0
 IsFill (Written marks) answer = IsWrittenFill marks answer
 IsFill (Spilled k) answer = answer ≡ spilled_kind k
 
 -- ---- forgotten maps
 
-abbrev pub forgotten_if : ℕ → ℕ → Kind → Slot
+abbrev pub forgotten_if : ℕ → ℕ → Kind → StackSlot
 forgotten_if m index k = if index == m then Written 0 else Spilled k
 
-abbrev pub forgotten_kind : ℕ → Kind → Slot
+abbrev pub forgotten_kind : ℕ → Kind → StackSlot
 forgotten_kind m (MapValue index least greatest) =
     forgotten_if m index (MapValue index least greatest)
 forgotten_kind m (MapValueOrNull index identity) =
@@ -132,9 +132,9 @@ forgotten_kind m (MapValueOrNull index identity) =
 forgotten_kind m k = Spilled k
 
 -- pointers to values of the map are forgotten
-abbrev pub forgotten_slot : ℕ → Slot → Slot
+abbrev pub forgotten_slot : ℕ → StackSlot → StackSlot
 forgotten_slot m (Written marks) = Written marks
 forgotten_slot m (Spilled k) = forgotten_kind m k
 
-abbrev pub forgotten : ℕ → List Slot → List Slot
+abbrev pub forgotten : ℕ → List StackSlot → List StackSlot
 forgotten m slots = map (forgotten_slot m) slots

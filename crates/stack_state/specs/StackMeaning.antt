@@ -19,8 +19,8 @@ use Rattle.reg_state.specs.declared.scalars.Scalar.{Scalar}
 use Rattle.reg_state.specs.declared.kinds.Kind.{Kind}
 use Rattle.reg_state.specs.Scalars.{Has}
 use Rattle.reg_state.specs.Kinds.{Assigned, Allows, HasLiveValue}
-use Rattle.stack_state.specs.declared.slots.Slot.{Slot}
-use Rattle.stack_state.specs.declared.slots.Slot.TheVariants.{Written, Spilled}
+use Rattle.stack_state.specs.declared.slots.StackSlot.{StackSlot}
+use Rattle.stack_state.specs.declared.slots.StackSlot.TheVariants.{Written, Spilled}
 use Rattle.stack_state.specs.Slots.{slot_at, frame_slots}
 
 -- ---- cells
@@ -34,8 +34,8 @@ abbrev pub chunk_of : {X : Type 0} → ℕ → List X → List X
 chunk_of k cells = part_of cells (8 * k) 8
 
 -- the cells with new ones written at a place
-abbrev pub written : {X : Type 0} → List X → ℕ → List X → List X
-written cells at new = splice cells at (at + length new) new
+abbrev pub cells_with : {X : Type 0} → List X → ℕ → List X → List X
+cells_with cells at new = splice cells at (at + length new) new
 
 -- the eight cells that an 8-byte store of the value writes; an unset one cannot be stored
 abbrev pub stored_cells : Value → List Cell
@@ -50,44 +50,44 @@ abbrev pub Marked : ℕ → List Cell → Type 0
 Marked marks cs =
     (i : ℕ) → i < 8 → bit_at marks i ≡ 1 → is_byte (slice_index_or cs i Unwritten) ≡ true
 
-abbrev pub SlotMeans : Assigned → Slot → List Cell → Type 0
+abbrev pub SlotMeans : Assigned → StackSlot → List Cell → Type 0
 SlotMeans e (Written marks) cs = Marked marks cs
 SlotMeans e (Spilled k) cs = (v : Value) × Allows e k v × (cs ≡ stored_cells v)
 
 -- under the assignment, the cells are members of the slots
-pub record StackMeans (e : Assigned) (slots : List Slot) (cells : List Cell) : Type 0 where
+pub record StackMeans (e : Assigned) (slots : List StackSlot) (cells : List Cell) : Type 0 where
   pub size : length cells ≡ frame_size
   pub each : (k : ℕ) → k < frame_slots → SlotMeans e (slot_at slots k) (chunk_of k cells)
 
 -- ---- what the calls keep
 
 -- the bytes of any number, stored at a place
-unfoldable pub StoresBytes : List Slot → ℕ → Size → List Slot → Type 0
+unfoldable pub StoresBytes : List StackSlot → ℕ → Size → List StackSlot → Type 0
 StoresBytes old at size new = (e : Assigned) (cells : List Cell) (n : ℕ) → StackMeans e old cells
-    → StackMeans e new (written cells at (map Byte (bytes_of size n)))
+    → StackMeans e new (cells_with cells at (map Byte (bytes_of size n)))
 
 -- any value that the kind allows, stored into a slot
-unfoldable pub Spills : List Slot → ℕ → Kind → List Slot → Type 0
+unfoldable pub Spills : List StackSlot → ℕ → Kind → List StackSlot → Type 0
 Spills old k kind new =
     (e : Assigned) (cells : List Cell) (v : Value) → v ≢ Unset → Allows e kind v
     → StackMeans e old cells
-    → StackMeans e new (written cells (8 * k) (stored_cells v))
+    → StackMeans e new (cells_with cells (8 * k) (stored_cells v))
 
 -- the number that a load answers is one of these
-unfoldable pub LoadsNumber : List Slot → ℕ → Size → Option Scalar → Type 0
+unfoldable pub LoadsNumber : List StackSlot → ℕ → Size → Option Scalar → Type 0
 LoadsNumber slots at size answer =
     IfSome answer (λ numbers. (e : Assigned) (rows next : ℕ) (cells : List Cell)
     → All (IsCell rows next) cells → StackMeans e slots cells
     → (n : ℕ) × (number_in (part_of cells at (size_bytes size)) ≡ Ok n) × Has numbers n)
 
 -- the value that a load of a whole slot answers is one that the kind allows
-unfoldable pub LoadsSlot : List Slot → ℕ → Option Kind → Type 0
+unfoldable pub LoadsSlot : List StackSlot → ℕ → Option Kind → Type 0
 LoadsSlot slots k answer = IfSome answer (λ kind. (e : Assigned) (rows next : ℕ) (cells : List Cell)
     → All (IsCell rows next) cells → StackMeans e slots cells
     → (v : Value) × (value_in (chunk_of k cells) ≡ Ok v) × Allows e kind v)
 
 -- the cells are number bytes, and a load of them answers their number
-unfoldable pub AreNumberBytes : List Slot → ℕ → ℕ → Type 0
+unfoldable pub AreNumberBytes : List StackSlot → ℕ → ℕ → Type 0
 AreNumberBytes slots from n = (e : Assigned) (cells : List Cell) → StackMeans e slots cells
     → (list_all is_byte (part_of cells from n) ≡ true)
     × (number_in (part_of cells from n) ≡ Ok (number_of (part_of cells from n)))
@@ -100,7 +100,7 @@ abbrev pub with_maps : Assigned → List Content → Assigned
 with_maps e maps = record e { maps = maps }
 
 -- whatever happens to the values of the map
-unfoldable pub ForgetsMap : ℕ → List Slot → List Slot → Type 0
+unfoldable pub ForgetsMap : ℕ → List StackSlot → List StackSlot → Type 0
 ForgetsMap m old new =
     (e : Assigned) (maps : List Content) (cells : List Cell) → KeepsOtherMaps m e.maps maps
     → StackMeans e old cells → StackMeans (with_maps e maps) new cells

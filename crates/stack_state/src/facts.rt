@@ -5,7 +5,7 @@ ghost use Rattle.stack_state.specs.Effects.{proved_kind, tested_kind, with_spill
 ghost use Rattle.stack_state.specs.Calls.{without_frame};
 ghost use Rattle.stack_state.specs.Facts.{learned, is_plain};
 
-use crate::slots::Slot;
+use crate::slots::StackSlot;
 use crate::states::{AbstractFrame, State};
 use reg_state::{Kind, Scalar};
 
@@ -129,12 +129,12 @@ fn learn_kind(fact: Fact, kind: &mut Kind)
 }
 
 #[inline(always)]
-fn learn_slot(fact: Fact, slot: &mut Slot)
+fn learn_slot(fact: Fact, slot: &mut StackSlot)
     ensures { slot.new ≡ with_spilled (learned fact) slot.old }
 {
     match slot {
-        Slot::Spilled(kind) => learn_kind(fact, kind),
-        Slot::Written(_) => {}
+        StackSlot::Spilled(kind) => learn_kind(fact, kind),
+        StackSlot::Written(_) => {}
     }
 }
 
@@ -146,7 +146,7 @@ fn learn_kinds(fact: Fact, kinds: &mut [Kind])
     }
 }
 
-fn learn_slots(fact: Fact, slots: &mut [Slot])
+fn learn_slots(fact: Fact, slots: &mut [StackSlot])
     ensures { slots.new ≡ map (with_spilled (learned fact)) slots.old }
 {
     for index in 0..slots.len() {

@@ -4,7 +4,7 @@ ghost use Rattle.std.specs.Prelude.{◌≡◌, map};
 ghost use Rattle.stack_state.specs.Effects.{forgotten_register, forgotten_frame, forgotten_in};
 ghost use Rattle.stack_state.specs.Answers.{with_answer};
 
-use crate::slots::{Slot, forgotten};
+use crate::slots::{StackSlot, forgotten};
 use crate::states::{AbstractFrame, State};
 use reg_state::Kind;
 
@@ -12,7 +12,7 @@ use reg_state::Kind;
 fn forgotten_kind(kind: Kind, index: u8) -> Kind
     ensures { result ≡ forgotten_register index kind }
 {
-    forgotten(Slot::Spilled(kind), index).kind()
+    forgotten(StackSlot::Spilled(kind), index).kind()
 }
 
 fn forget_in_registers(kinds: &mut [Kind], index: u8)

@@ -5,7 +5,7 @@ ghost use Rattle.stack_state.specs.Slots.{frame_slots};
 ghost use Rattle.stack_state.specs.Identities.{named_by, IsLeastFresh, IsLeastFreshPacket, IsLeastFreshNull};
 ghost use Rattle.stack_state.specs.Marks.{AreFree, NamesOther, HoldsOther, IsFreshIn, IsFreshAt, Marks, is_marked, marked};
 
-use crate::slots::Slot;
+use crate::slots::StackSlot;
 use crate::stacks::FRAME_SLOTS;
 use crate::states::{AbstractFrame, State};
 use reg_state::Kind;
@@ -53,7 +53,7 @@ fn mark_registers(names: Names, named: &mut Named, registers: &[Kind; 10])
     }
 }
 
-fn mark_slots(names: Names, named: &mut Named, slots: &[Slot; FRAME_SLOTS])
+fn mark_slots(names: Names, named: &mut Named, slots: &[StackSlot; FRAME_SLOTS])
     ensures { Marks (λ i. (k : ℕ) → HoldsOther names slots.now k i) frame_slots
         named.old named.new }
 {

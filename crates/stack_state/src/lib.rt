@@ -13,6 +13,6 @@ pub mod states;
 
 pub use facts::Fact;
 pub use live_frames::{frame_bytes, stack_place};
-pub use slots::Slot;
+pub use slots::StackSlot;
 pub use stacks::{FRAME_SLOTS, StackState};
 pub use states::{AbstractFrame, MAX_CALLERS, State};

@@ -4,7 +4,7 @@ ghost use Rattle.std.specs.Prelude.{◌≡◌, ℤ, ◌+◌, ◌%◌, ◌<◌, �
 ghost use Rattle.stack_state.specs.Slots.{frame_slots};
 ghost use Rattle.isa_model.specs.Code.Limits.{frame_size};
 ghost use Rattle.isa_model.specs.Code.Sizes.{size_bytes};
-ghost use Rattle.stack_state.specs.Meaning.{depth, frame_of};
+ghost use Rattle.stack_state.specs.Meaning.{depth, abstract_frame_at};
 ghost use Rattle.stack_state.specs.FramePlaces.{FindsBytes, FindsPlace, IsStoredIn, IsSpilledIn};
 
 use crate::stacks::StackState;
@@ -56,7 +56,7 @@ impl State {
     /// such frame.
     pub fn stack_of(&self, frame: u8) -> Option<&StackState>
         ensures { MatchOption result (depth self.now ≤ frame)
-            (λ stack. (frame < depth self.now) × (stack.now ≡ (frame_of self.now frame).stack)) }
+            (λ stack. (frame < depth self.now) × (stack.now ≡ (abstract_frame_at self.now frame).stack)) }
     {
         let index = usize::from(frame);
         if index == self.callers.len() {

@@ -7,7 +7,7 @@ ghost use Rattle.stack_state.specs.Meaning.{depth};
 ghost use Rattle.stack_state.specs.Slots.{slot_at, IsAny};
 ghost use Rattle.stack_state.specs.NumberStores.{AreKindWhole, AreWhole, HaveAll, IsBlank, IsSlotStored, StoresNumber, IsNumberStoredIn};
 
-use crate::slots::{Slot, all, mask, spilled};
+use crate::slots::{StackSlot, all, mask, spilled};
 use crate::stacks::StackState;
 use crate::states::State;
 use isa_model::{Size, Width};
@@ -31,12 +31,12 @@ fn kind_whole(kind: Kind) -> Scalar
 }
 
 /// The numbers that the eight bytes of a slot may spell.
-fn whole(slot: Slot) -> Scalar
+fn whole(slot: StackSlot) -> Scalar
     ensures { AreWhole slot result }
 {
     match slot {
-        Slot::Written(_) => any(),
-        Slot::Spilled(kind) => kind_whole(kind),
+        StackSlot::Written(_) => any(),
+        StackSlot::Spilled(kind) => kind_whole(kind),
     }
 }
 
@@ -48,26 +48,26 @@ fn are_all(size: Size, numbers: Scalar) -> bool
 }
 
 /// Whether nothing is known of a slot, nor of what is written into it.
-fn is_blank(slot: Slot, size: Size, numbers: Scalar) -> bool
+fn is_blank(slot: StackSlot, size: Size, numbers: Scalar) -> bool
     ensures { IsTrue result → IsBlank slot size numbers }
 {
     match slot {
-        Slot::Written(_) => are_all(size, numbers),
-        Slot::Spilled(_) => false,
+        StackSlot::Written(_) => are_all(size, numbers),
+        StackSlot::Spilled(_) => false,
     }
 }
 
 /// The slot after bytes from one on were written, those of one of the numbers.
-fn stored(slot: Slot, from: usize, size: Size, numbers: Scalar) -> Slot
+fn stored(slot: StackSlot, from: usize, size: Size, numbers: Scalar) -> StackSlot
     requires { from + size_bytes size ≤ 8 }
     ensures { IsSlotStored slot from size numbers result }
 {
     let marks = slot.marks() | mask(from, size.bytes());
     if marks != 255 {
-        return Slot::Written(marks);
+        return StackSlot::Written(marks);
     }
     if is_blank(slot, size, numbers) {
-        return Slot::Written(255);
+        return StackSlot::Written(255);
     }
     let bits = 8 * size.bytes() as u32;
     spilled(Kind::Number(whole(slot).spliced(8 * from as u64, bits, numbers)))

@@ -10,22 +10,22 @@ use reg_state::{Domain, Kind, Scalar};
 
 /// What is known of eight bytes of a call frame.
 #[derive(Clone, Copy, PartialEq, Eq, Debug)]
-pub enum Slot {
+pub enum StackSlot {
     /// Bit i says that byte i is a written number byte. Nothing is known of the other bytes.
     Written(u8),
     /// They are what an 8-byte store of a value of this kind wrote.
     Spilled(Kind),
 }
 
-impl Slot {
+impl StackSlot {
     /// The bytes of the slot that are written number bytes: bit i for byte i.
     pub fn marks(&self) -> u8
         ensures { result ≡ marks_of self.now }
     {
         match self {
-            Slot::Written(marks) => *marks,
-            Slot::Spilled(Kind::Number(_)) => 255,
-            Slot::Spilled(_) => 0,
+            StackSlot::Written(marks) => *marks,
+            StackSlot::Spilled(Kind::Number(_)) => 255,
+            StackSlot::Spilled(_) => 0,
         }
     }
 
@@ -34,8 +34,8 @@ impl Slot {
         ensures { result ≡ kind_in self.now }
     {
         match self {
-            Slot::Written(_) => Kind::Unset,
-            Slot::Spilled(kind) => *kind,
+            StackSlot::Written(_) => Kind::Unset,
+            StackSlot::Spilled(kind) => *kind,
         }
     }
 }
@@ -93,13 +93,13 @@ fn spilled_numbers(kind: Kind, from: usize, size: Size) -> Scalar
 }
 
 /// The numbers that marked bytes of the slot may spell.
-pub(crate) fn numbers(slot: Slot, from: usize, size: Size) -> Scalar
+pub(crate) fn numbers(slot: StackSlot, from: usize, size: Size) -> Scalar
     requires { from + size_bytes size ≤ 8 }
     ensures { AreNumbers slot from size result }
 {
     match slot {
-        Slot::Written(_) => all(size),
-        Slot::Spilled(kind) => spilled_numbers(kind, from, size),
+        StackSlot::Written(_) => all(size),
+        StackSlot::Spilled(kind) => spilled_numbers(kind, from, size),
     }
 }
 
@@ -111,41 +111,45 @@ fn is_any(numbers: Scalar) -> bool
 }
 
 /// What a spill of the kind leaves.
-pub(crate) fn spilled(kind: Kind) -> Slot
+pub(crate) fn spilled(kind: Kind) -> StackSlot
     ensures { IsSpill kind result }
 {
     match kind {
-        Kind::Unset => Slot::Written(0),
+        Kind::Unset => StackSlot::Written(0),
         Kind::Number(numbers) => {
             if is_any(numbers) {
-                Slot::Written(255)
+                StackSlot::Written(255)
             } else {
-                Slot::Spilled(kind)
+                StackSlot::Spilled(kind)
             }
         }
-        kind => Slot::Spilled(kind),
+        kind => StackSlot::Spilled(kind),
     }
 }
 
 /// The kind of the value that is read back whole, if it can be.
-pub(crate) fn filled(slot: Slot) -> Option<Kind>
+pub(crate) fn filled(slot: StackSlot) -> Option<Kind>
     ensures { IsFill slot result }
 {
     match slot {
-        Slot::Written(255) => Some(Kind::Number(Scalar::any(Width::Full64))),
-        Slot::Written(_) => None,
-        Slot::Spilled(Kind::Unset) => None,
-        Slot::Spilled(kind) => Some(kind),
+        StackSlot::Written(255) => Some(Kind::Number(Scalar::any(Width::Full64))),
+        StackSlot::Written(_) => None,
+        StackSlot::Spilled(Kind::Unset) => None,
+        StackSlot::Spilled(kind) => Some(kind),
     }
 }
 
 /// The slot without what points to values of the map.
-pub(crate) fn forgotten(slot: Slot, map: u8) -> Slot
+pub(crate) fn forgotten(slot: StackSlot, map: u8) -> StackSlot
     ensures { result ≡ forgotten_slot map slot }
 {
     match slot {
-        Slot::Spilled(Kind::MapValue { index, .. } | Kind::MapValueOrNull { index, .. }) => {
-            if index == map { Slot::Written(0) } else { slot }
+        StackSlot::Spilled(Kind::MapValue { index, .. } | Kind::MapValueOrNull { index, .. }) => {
+            if index == map {
+                StackSlot::Written(0)
+            } else {
+                slot
+            }
         }
         slot => slot,
     }

@@ -9,7 +9,7 @@ ghost use Rattle.stack_state.specs.Slots as slot_words;
 ghost use Rattle.stack_state.specs.Slots.{slot_at, IsNumberByte, AreMarked, after_store, IsLoad, IsSpill, IsFill, frame_slots};
 ghost use Rattle.stack_state.specs.StackMeaning.{StackMeans, StoresBytes, Spills, LoadsNumber, LoadsSlot, AreNumberBytes, ForgetsMap};
 
-use crate::slots::{Slot, filled, forgotten, mask, numbers, spilled};
+use crate::slots::{StackSlot, filled, forgotten, mask, numbers, spilled};
 use isa_model::{FRAME_SIZE, Size};
 use reg_state::{Kind, Scalar};
 
@@ -20,12 +20,12 @@ pub const FRAME_SLOTS: usize = FRAME_SIZE / 8;
 /// end.
 #[derive(Clone, Copy, PartialEq, Eq, Debug, Drop)]
 pub struct StackState {
-    pub slots: [Slot; FRAME_SLOTS],
+    pub slots: [StackSlot; FRAME_SLOTS],
 }
 
 impl Default for StackState {
     fn default() -> Self
-        ensures { result.slots ≡ replicate frame_slots (Slot.Written 0) }
+        ensures { result.slots ≡ replicate frame_slots (StackSlot.Written 0) }
     {
         StackState::new()
     }
@@ -34,20 +34,20 @@ impl Default for StackState {
 impl StackState {
     /// A frame about which nothing is known.
     pub fn new() -> StackState
-        ensures exact { result.slots ≡ replicate frame_slots (Slot.Written 0) }
+        ensures exact { result.slots ≡ replicate frame_slots (StackSlot.Written 0) }
         ensures meant { (e : Assigned) (cells : List Cell) → length cells ≡ frame_size
             → StackMeans e result.slots cells }
     {
         StackState {
-            slots: [Slot::Written(0); FRAME_SLOTS],
+            slots: [StackSlot::Written(0); FRAME_SLOTS],
         }
     }
 
     /// Nothing is known of it any longer.
     pub fn clear(&mut self)
-        ensures { self.new.slots ≡ replicate frame_slots (Slot.Written 0) }
+        ensures { self.new.slots ≡ replicate frame_slots (StackSlot.Written 0) }
     {
-        self.slots = [Slot::Written(0); FRAME_SLOTS];
+        self.slots = [StackSlot::Written(0); FRAME_SLOTS];
     }
 
     /// Bytes of a number are written.
@@ -59,7 +59,7 @@ impl StackState {
     {
         let slot = self.slots[at / 8];
         let written = slot.marks() | mask(at % 8, size.bytes());
-        self.slots[at / 8] = Slot::Written(written);
+        self.slots[at / 8] = StackSlot::Written(written);
     }
 
     /// The numbers that a load of the bytes may answer. None: not all of them are written number

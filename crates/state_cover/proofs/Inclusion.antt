@@ -9,14 +9,14 @@ use Rattle.reg_state.specs.declared.kinds.Kind.TheVariants.{Unset}
 use Rattle.reg_state.specs.Kinds.{Assigned}
 use Rattle.reg_state.specs.KindCover.{KindCovers}
 use Rattle.reg_state.proofs.KindCoverLaws.{Allows-covered, renamed}
-use Rattle.stack_state.specs.declared.slots.Slot.{Slot}
-use Rattle.stack_state.specs.declared.slots.Slot.TheVariants.{Written, Spilled}
+use Rattle.stack_state.specs.declared.slots.StackSlot.{StackSlot}
+use Rattle.stack_state.specs.declared.slots.StackSlot.TheVariants.{Written, Spilled}
 use Rattle.stack_state.specs.declared.states.AbstractFrame.{AbstractFrame}
 use Rattle.stack_state.specs.declared.states.State.{State}
 use Rattle.stack_state.specs.Slots.{slot_at}
 use Rattle.stack_state.specs.StackMeaning.{SlotMeans}
 use Rattle.stack_state.proofs.StackLaws.{SlotMeans-spilled, SlotMeans-marks}
-use Rattle.stack_state.specs.Meaning.{Covers, Means, kind_at, frames_of, no_frame, frame_of}
+use Rattle.stack_state.specs.Meaning.{Covers, Means, kind_at, frames_of, no_frame, abstract_frame_at}
 use Rattle.stack_state.proofs.MeaningLaws.{FrameKeeps, MeansBy-change}
 use Rattle.state_cover.specs.FrameCover.{FrameCovers, KindsCover, SlotCovers}
 
@@ -75,7 +75,7 @@ frame_covers_at packet null (f ∷ fs) (g ∷ gs) (suc j) c = frame_covers_at pa
 
 -- ---- what a frame covers it allows
 
-SlotMeans-covered : (packet null : ℕ → ℕ) (e : Assigned) (s t : Slot) (cs : List Cell) → SlotCovers packet null s t
+SlotMeans-covered : (packet null : ℕ → ℕ) (e : Assigned) (s t : StackSlot) (cs : List Cell) → SlotCovers packet null s t
     → SlotMeans e t cs → SlotMeans (renamed packet null e) s cs
 SlotMeans-covered packet null e (Written marks) t cs c h = SlotMeans-marks e (renamed packet null e) t marks cs c h
 SlotMeans-covered packet null e (Spilled k) (Spilled l) cs c h =
@@ -100,7 +100,8 @@ Covers-from p a b packet null none slot frames = λ s means.
       MeansBy-change p e (renamed packet null e) b a s
           (record { none = ap e.offset none ∙ of.none; length_is = of.length_is; serials = of.serials; contents = of.contents }) slot
           (same_returns packet null (frames_of a) (frames_of b) frames)
-          (λ j below. FrameKeeps-covered packet null e (frame_of a j) (frame_of b j)
+          (λ j below. FrameKeeps-covered packet null e (abstract_frame_at a j)
+          (abstract_frame_at b j)
           (frame_covers_at packet null (frames_of a) (frames_of b) j frames))
           m,
     )

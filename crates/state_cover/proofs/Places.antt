@@ -4,7 +4,7 @@ use Rattle.std.specs.List.{find, zip}
 use Rattle.std.specs.Option.{option_or}
 use Rattle.std.proofs.lemmas.List.Folds.{find-append}
 use Rattle.reg_state.specs.declared.kinds.Kind.{Kind}
-use Rattle.stack_state.specs.declared.slots.Slot.{Slot}
+use Rattle.stack_state.specs.declared.slots.StackSlot.{StackSlot}
 use Rattle.stack_state.specs.declared.states.AbstractFrame.{AbstractFrame}
 use Rattle.stack_state.specs.Slots.{kind_in}
 use Rattle.state_cover.specs.Names.{spilled_kinds, frame_places, places}
@@ -16,7 +16,7 @@ pub find-zip : (p : Kind × Kind → Bool) (xs ys : List Kind) (n : ℕ) (x y : 
 find-zip p xs ys n x y in_xs in_ys at_x at_y = rw (add-one, drop-cons xs n x, drop-cons ys n y, ← at_x, ← at_y) refl
 
 -- one slot more
-pub find-slots : (p : Kind × Kind → Bool) (xs ys : List Slot) (n : ℕ) (x y : Slot)
+pub find-slots : (p : Kind × Kind → Bool) (xs ys : List StackSlot) (n : ℕ) (x y : StackSlot)
     → n < length xs → n < length ys → x ≡ get_or xs n x → y ≡ get_or ys n y
     → find p (zip (spilled_kinds (drop n xs)) (spilled_kinds (drop n ys)))
     ≡ cond (p (kind_in x, kind_in y)) (Some (kind_in x, kind_in y))

@@ -11,13 +11,13 @@ use Rattle.reg_state.specs.declared.kinds.Kind.{Kind}
 use Rattle.reg_state.specs.declared.kinds.Kind.TheVariants.{Unset, Number, Context, Stack, Packet, PacketEnd, Map, MapValue, MapValueOrNull}
 use Rattle.reg_state.specs.KindCover.{packet_identity_of, null_identity_of, KindEncloses}
 use Rattle.reg_state.proofs.Numbers.{if_some}
-use Rattle.stack_state.specs.declared.slots.Slot.{Slot}
-use Rattle.stack_state.specs.declared.slots.Slot.TheVariants.{Written, Spilled}
+use Rattle.stack_state.specs.declared.slots.StackSlot.{StackSlot}
+use Rattle.stack_state.specs.declared.slots.StackSlot.TheVariants.{Written, Spilled}
 use Rattle.stack_state.specs.declared.states.AbstractFrame.{AbstractFrame}
 use Rattle.stack_state.specs.declared.states.State.{State}
 use Rattle.stack_state.specs.Slots.{slot_at, kind_in}
-use Rattle.stack_state.specs.Meaning.{frames_of, no_frame, frame_of, kind_at, kinds_of, slots_of}
-use Rattle.stack_state.proofs.MeaningLaws.{length-frames_of, frame_of-caller, frame_of-innermost}
+use Rattle.stack_state.specs.Meaning.{frames_of, no_frame, abstract_frame_at, kind_at, kinds_of, stack_slots_of}
+use Rattle.stack_state.proofs.MeaningLaws.{length-frames_of, abstract_frame_at-caller, abstract_frame_at-innermost}
 use Rattle.state_cover.specs.declared.names.Sort.{Sort}
 use Rattle.state_cover.specs.declared.names.Sort.TheVariants as sort
 use Rattle.state_cover.specs.Names.{identity_of, is_number, is_named, spilled_kinds, frame_places, places, first_named, name_at, name_of, packet_name, null_name}
@@ -115,19 +115,19 @@ some_registers s m i (x ∷ xs) (y ∷ ys) (suc k) h e =
 
 -- ---- slots
 
-opposite_in_slot : (s : Sort) (m : ℕ → ℕ) (packet null : ℕ → ℕ) (x y : Slot) → ((k l : Kind) → KindEncloses packet null k l → IsOpposite s m k l)
+opposite_in_slot : (s : Sort) (m : ℕ → ℕ) (packet null : ℕ → ℕ) (x y : StackSlot) → ((k l : Kind) → KindEncloses packet null k l → IsOpposite s m k l)
     → SlotEncloses packet null x y → IsOpposite s m (kind_in x) (kind_in y)
 opposite_in_slot s m packet null (Written marks) y each c = unset_opposite s m (kind_in y)
 opposite_in_slot s m packet null (Spilled k) (Spilled l) each c = each k l c
 opposite_in_slot s m packet null (Spilled k) (Written marks) each c = absurd c
 
 -- the kinds in two lists of slots
-kind_in_slot : (slots : List Slot) (k : ℕ) → kind_at (spilled_kinds slots) k ≡ kind_in (slot_at slots k)
+kind_in_slot : (slots : List StackSlot) (k : ℕ) → kind_at (spilled_kinds slots) k ≡ kind_in (slot_at slots k)
 kind_in_slot [] k = refl
 kind_in_slot (x ∷ slots) zero = refl
 kind_in_slot (x ∷ slots) (suc k) = kind_in_slot slots k
 
-opposite_slots : (s : Sort) (m : ℕ → ℕ) (packet null : ℕ → ℕ) (xs ys : List Slot) → ((k l : Kind) → KindEncloses packet null k l → IsOpposite s m k l)
+opposite_slots : (s : Sort) (m : ℕ → ℕ) (packet null : ℕ → ℕ) (xs ys : List StackSlot) → ((k l : Kind) → KindEncloses packet null k l → IsOpposite s m k l)
     → SlotsEnclose packet null xs ys → AreOpposite s m (spilled_kinds xs) (spilled_kinds ys)
 opposite_slots s m packet null xs ys each c = λ k.
     rw (kind_in_slot xs k, kind_in_slot ys k) (opposite_in_slot s m packet null (slot_at xs k) (slot_at ys k) each (c k))
@@ -208,7 +208,7 @@ name_at-stands s m i (Some place) some h = rw h refl
 
 -- an identity that a frame names has the name that the map gives
 name_of-opposite : (s : Sort) (m : ℕ → ℕ) (i : ℕ) (a b : State) (j : ℕ) → AllOpposite s m (frames_of a) (frames_of b)
-    → NamedIn s (frame_of a j) i → name_of s a b i ≡ m i
+    → NamedIn s (abstract_frame_at a j) i → name_of s a b i ≡ m i
 unfolding name_of
 name_of-opposite s m i a b j h named =
     name_at-stands s m i (first_named s i (places (frames_of a) (frames_of b))) (some_frames s m i (frames_of a) (frames_of b) j h named)
@@ -241,7 +241,7 @@ record AgreeOn (packet null names nulls : ℕ → ℕ) (x : Kind) : Type 0 where
   packets : IfSome (packet_identity_of x) (λ i. names i ≡ packet i)
   values : IfSome (null_identity_of x) (λ i. nulls i ≡ null i)
 
-renamed_slot : (packet null names nulls : ℕ → ℕ) (x y : Slot) → AgreeOn packet null names nulls (kind_in x) → SlotEncloses packet null x y
+renamed_slot : (packet null names nulls : ℕ → ℕ) (x y : StackSlot) → AgreeOn packet null names nulls (kind_in x) → SlotEncloses packet null x y
     → SlotEncloses names nulls x y
 renamed_slot packet null names nulls (Written marks) y agree c = c
 renamed_slot packet null names nulls (Spilled k) (Spilled l) agree c = renamed_kind packet null names nulls k l agree.packets agree.values c
@@ -250,17 +250,17 @@ renamed_slot packet null names nulls (Spilled k) (Written marks) agree c = absur
 all_opposite_packet : (packet null : ℕ → ℕ) (a b : State) → StateEncloses packet null a b → AllOpposite sort.Packet packet (frames_of a) (frames_of b)
 all_opposite_packet packet null a b c = λ j. record {
   registers = λ k. opposite_packet packet null (kind_at (kinds_of a j) k) (kind_at (kinds_of b j) k) (c.registers j k);
-  slots = opposite_slots sort.Packet packet packet null (slots_of a j) (slots_of b j) (opposite_packet packet null) (c.slots j);
+  slots = opposite_slots sort.Packet packet packet null (stack_slots_of a j) (stack_slots_of b j) (opposite_packet packet null) (c.slots j);
 }
 
 all_opposite_null : (packet null : ℕ → ℕ) (a b : State) → StateEncloses packet null a b → AllOpposite sort.Null null (frames_of a) (frames_of b)
 all_opposite_null packet null a b c = λ j. record {
   registers = λ k. opposite_null packet null (kind_at (kinds_of a j) k) (kind_at (kinds_of b j) k) (c.registers j k);
-  slots = opposite_slots sort.Null null packet null (slots_of a j) (slots_of b j) (opposite_null packet null) (c.slots j);
+  slots = opposite_slots sort.Null null packet null (stack_slots_of a j) (stack_slots_of b j) (opposite_null packet null) (c.slots j);
 }
 
 agree : (packet null : ℕ → ℕ) (a b : State) (j : ℕ) (x : Kind) → StateEncloses packet null a b
-    → ((s : Sort) (i : ℕ) → identity_of s x ≡ Some i → NamedIn s (frame_of a j) i)
+    → ((s : Sort) (i : ℕ) → identity_of s x ≡ Some i → NamedIn s (abstract_frame_at a j) i)
     → AgreeOn packet null (packet_name a b) (null_name a b) x
 agree packet null a b j x c named = record {
   packets = if_some (packet_identity_of x) (λ i. packet_name a b i ≡ packet i) (λ i e. packet_name-is a b packet i c.none
@@ -278,10 +278,11 @@ StateEncloses-names packet null a b c = record {
   registers = λ j k. let x : Kind = kind_at (kinds_of a j) k in
       let here = agree packet null a b j x c (λ s i e. inl (k, e)) in
       renamed_kind packet null (packet_name a b) (null_name a b) x (kind_at (kinds_of b j) k) here.packets here.values (c.registers j k);
-  slots = λ j k. let x : Slot = slot_at (slots_of a j) k in
-      renamed_slot packet null (packet_name a b) (null_name a b) x (slot_at (slots_of b j) k)
+  slots = λ j k. let x : StackSlot = slot_at (stack_slots_of a j) k in
+      renamed_slot packet null (packet_name a b) (null_name a b) x (slot_at (stack_slots_of b j) k)
       (agree packet null a b j (kind_in x) c
-      (λ s i e. inr (k, ap (identity_of s) (kind_in_slot (slots_of a j) k) ∙ e))) (c.slots j k);
+      (λ s i e. inr (k, ap (identity_of s) (kind_in_slot (stack_slots_of a j) k) ∙ e)))
+      (c.slots j k);
 }
 
 -- ---- equal states
@@ -300,7 +301,7 @@ own_kind (Map m) = refl
 own_kind (MapValue m l g) = (refl, omega (arith, ints), omega (arith, ints))
 own_kind (MapValueOrNull m i) = (refl, refl)
 
-own_slot : (x : Slot) → SlotEncloses (λ i. i) (λ i. i) x x
+own_slot : (x : StackSlot) → SlotEncloses (λ i. i) (λ i. i) x x
 own_slot (Written marks) = λ i within bit. bit
 own_slot (Spilled k) = own_kind k
 
@@ -310,7 +311,7 @@ StateEncloses-own a = record {
   slot = refl;
   returns = refl;
   registers = λ j k. own_kind (kind_at (kinds_of a j) k);
-  slots = λ j k. own_slot (slot_at (slots_of a j) k);
+  slots = λ j k. own_slot (slot_at (stack_slots_of a j) k);
 }
 
 -- an equal state is found where all is that can be
@@ -345,7 +346,7 @@ pub record IsFound (a b : State) (f g : AbstractFrame) : Type 0 where
   pub registers : KindsEnclose (packet_name a b) (null_name a b) f.registers g.registers
   pub slots : SlotsEnclose (packet_name a b) (null_name a b) f.stack.slots g.stack.slots
 
-found_at : (a b : State) (packet null : ℕ → ℕ) (j : ℕ) → StateEncloses packet null a b → IsFound a b (frame_of a j) (frame_of b j)
+found_at : (a b : State) (packet null : ℕ → ℕ) (j : ℕ) → StateEncloses packet null a b → IsFound a b (abstract_frame_at a j) (abstract_frame_at b j)
 found_at a b packet null j c =
     let named = StateEncloses-names packet null a b c in
     record { returns = returns_at (frames_of a) (frames_of b) j c.returns; registers = named.registers j; slots = named.slots j }
@@ -353,8 +354,8 @@ found_at a b packet null j c =
 pub innermost_found : (a b : State) (packet null : ℕ → ℕ) → StateEncloses packet null a b → IsFound a b a.innermost b.innermost
 innermost_found a b packet null c =
     let same = callers-same a b packet null c in
-    subst (λ f. IsFound a b f b.innermost) (frame_of-innermost a)
-    (subst (λ g. IsFound a b (frame_of a (length a.callers.items)) g) (ap (frame_of b) same ∙ frame_of-innermost b)
+    subst (λ f. IsFound a b f b.innermost) (abstract_frame_at-innermost a)
+    (subst (λ g. IsFound a b (abstract_frame_at a (length a.callers.items)) g) (ap (abstract_frame_at b) same ∙ abstract_frame_at-innermost b)
     (found_at a b packet null (length a.callers.items) c))
 
 -- a caller's frame
@@ -364,8 +365,8 @@ pub caller_found : (a b : State) (fs gs : List AbstractFrame) (packet null : ℕ
 caller_found a b fs gs packet null n f g is_a is_b c in_a in_b at_f at_g =
     let of_a : n < length a.callers.items = rw is_a at in_a in
     let of_b : n < length b.callers.items = rw is_b at in_b in
-    let left : f ≡ frame_of a n =
-    at_f ∙ get_or_default fs n f no_frame in_a ∙ ap (λ fs. get_or fs n no_frame) is_a ∙ sym (frame_of-caller a n (omega arith)) in
-    let right : g ≡ frame_of b n =
-    at_g ∙ get_or_default gs n g no_frame in_b ∙ ap (λ gs. get_or gs n no_frame) is_b ∙ sym (frame_of-caller b n (omega arith)) in
-    subst (λ f. IsFound a b f g) (sym left) (subst (λ g. IsFound a b (frame_of a n) g) (sym right) (found_at a b packet null n c))
+    let left : f ≡ abstract_frame_at a n =
+    at_f ∙ get_or_default fs n f no_frame in_a ∙ ap (λ fs. get_or fs n no_frame) is_a ∙ sym (abstract_frame_at-caller a n (omega arith)) in
+    let right : g ≡ abstract_frame_at b n =
+    at_g ∙ get_or_default gs n g no_frame in_b ∙ ap (λ gs. get_or gs n no_frame) is_b ∙ sym (abstract_frame_at-caller b n (omega arith)) in
+    subst (λ f. IsFound a b f g) (sym left) (subst (λ g. IsFound a b (abstract_frame_at a n) g) (sym right) (found_at a b packet null n c))

@@ -5,10 +5,10 @@ use Rattle.std.specs.Prelude.{◌≡◌, ℕ, ◌<◌, List, map}
 use Rattle.std.specs.Int.{bit_at}
 use Rattle.reg_state.specs.declared.kinds.Kind.{Kind}
 use Rattle.reg_state.specs.KindCover.{KindCovers, KindEncloses}
-use Rattle.stack_state.specs.declared.slots.Slot.{Slot}
-use Rattle.stack_state.specs.declared.slots.Slot.TheVariants.{Written, Spilled}
+use Rattle.stack_state.specs.declared.slots.StackSlot.{StackSlot}
+use Rattle.stack_state.specs.declared.slots.StackSlot.TheVariants.{Written, Spilled}
 use Rattle.stack_state.specs.Slots.{slot_at, marks_of, frame_slots}
-use Rattle.stack_state.specs.Meaning.{frames_of, kind_at, kinds_of, slots_of}
+use Rattle.stack_state.specs.Meaning.{frames_of, kind_at, kinds_of, stack_slots_of}
 use Rattle.stack_state.specs.declared.states.AbstractFrame.{AbstractFrame}
 use Rattle.stack_state.specs.declared.states.State.{State}
 
@@ -20,13 +20,13 @@ AreAmong marks others = (i : ℕ) → i < 8 → bit_at marks i ≡ 1 → bit_at 
 
 -- the bytes that are known to be written in a are in b, where a spilled number is eight written
 -- bytes; a spilled value covers a spilled one
-abbrev pub SlotCovers : (ℕ → ℕ) → (ℕ → ℕ) → Slot → Slot → Type 0
+abbrev pub SlotCovers : (ℕ → ℕ) → (ℕ → ℕ) → StackSlot → StackSlot → Type 0
 SlotCovers packet null (Written marks) b = AreAmong marks (marks_of b)
 SlotCovers packet null (Spilled k) (Spilled l) = KindCovers packet null k l
 SlotCovers packet null (Spilled k) (Written marks) = ⊥
 
 -- a covers b, and of numbers what is written of them shows it: their bits and their limits
-abbrev pub SlotEncloses : (ℕ → ℕ) → (ℕ → ℕ) → Slot → Slot → Type 0
+abbrev pub SlotEncloses : (ℕ → ℕ) → (ℕ → ℕ) → StackSlot → StackSlot → Type 0
 SlotEncloses packet null (Written marks) b = AreAmong marks (marks_of b)
 SlotEncloses packet null (Spilled k) (Spilled l) = KindEncloses packet null k l
 SlotEncloses packet null (Spilled k) (Written marks) = ⊥
@@ -38,7 +38,7 @@ abbrev pub KindsCover : (ℕ → ℕ) → (ℕ → ℕ) → List Kind → List K
 KindsCover packet null xs ys = (k : ℕ) → KindCovers packet null (kind_at xs k) (kind_at ys k)
 
 -- of each slot
-abbrev pub SlotsCover : (ℕ → ℕ) → (ℕ → ℕ) → List Slot → List Slot → Type 0
+abbrev pub SlotsCover : (ℕ → ℕ) → (ℕ → ℕ) → List StackSlot → List StackSlot → Type 0
 SlotsCover packet null xs ys =
     (k : ℕ) → k < frame_slots → SlotCovers packet null (slot_at xs k) (slot_at ys k)
 
@@ -52,7 +52,7 @@ abbrev pub KindsEnclose : (ℕ → ℕ) → (ℕ → ℕ) → List Kind → List
 KindsEnclose packet null xs ys = (k : ℕ) → KindEncloses packet null (kind_at xs k) (kind_at ys k)
 
 -- of each slot
-abbrev pub SlotsEnclose : (ℕ → ℕ) → (ℕ → ℕ) → List Slot → List Slot → Type 0
+abbrev pub SlotsEnclose : (ℕ → ℕ) → (ℕ → ℕ) → List StackSlot → List StackSlot → Type 0
 SlotsEnclose packet null xs ys = (k : ℕ) → SlotEncloses packet null (slot_at xs k) (slot_at ys k)
 
 -- ---- states
@@ -64,4 +64,4 @@ pub record StateEncloses (packet null : ℕ → ℕ) (a b : State) : Type 0 wher
   pub slot : a.slot ≡ b.slot
   pub returns : map (λ f. f.return_slot) (frames_of a) ≡ map (λ f. f.return_slot) (frames_of b)
   pub registers : (j : ℕ) → KindsEnclose packet null (kinds_of a j) (kinds_of b j)
-  pub slots : (j : ℕ) → SlotsEnclose packet null (slots_of a j) (slots_of b j)
+  pub slots : (j : ℕ) → SlotsEnclose packet null (stack_slots_of a j) (stack_slots_of b j)

@@ -4,7 +4,7 @@ use Rattle.std.specs.Prelude.{ℕ, List, [], ◌∷◌, ◌++◌, map, Bool, fal
 use Rattle.std.specs.List.{find, zip}
 use Rattle.reg_state.specs.declared.kinds.Kind.{Kind}
 use Rattle.reg_state.specs.KindCover.{packet_identity_of, null_identity_of}
-use Rattle.stack_state.specs.declared.slots.Slot.{Slot}
+use Rattle.stack_state.specs.declared.slots.StackSlot.{StackSlot}
 use Rattle.stack_state.specs.declared.states.AbstractFrame.{AbstractFrame}
 use Rattle.stack_state.specs.declared.states.State.{State}
 use Rattle.stack_state.specs.Meaning.{frames_of}
@@ -24,7 +24,7 @@ abbrev pub is_named : Sort → ℕ → Kind → Bool
 is_named sort i k = is_number (identity_of sort k) i
 
 -- the kinds of spilled values, slot by slot
-abbrev pub spilled_kinds : List Slot → List Kind
+abbrev pub spilled_kinds : List StackSlot → List Kind
 spilled_kinds slots = map kind_in slots
 
 -- the kinds of two frames, place by place: registers, then slots

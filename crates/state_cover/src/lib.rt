@@ -13,7 +13,7 @@ mod names;
 
 use names::name_in;
 use reg_state::Kind;
-use stack_state::{AbstractFrame, FRAME_SLOTS, Slot, State};
+use stack_state::{AbstractFrame, FRAME_SLOTS, StackSlot, State};
 
 /// A yes says that `a` means every machine state that `b` means.
 pub fn covers(a: &State, b: &State) -> bool
@@ -81,8 +81,8 @@ fn registers_cover(left: &[Kind; 10], right: &[Kind; 10], a: &State, b: &State) 
 }
 
 fn slots_cover(
-    left: &[Slot; FRAME_SLOTS],
-    right: &[Slot; FRAME_SLOTS],
+    left: &[StackSlot; FRAME_SLOTS],
+    right: &[StackSlot; FRAME_SLOTS],
     a: &State,
     b: &State,
 ) -> bool
@@ -101,7 +101,7 @@ fn slots_cover(
 }
 
 #[inline(always)]
-fn slot_covers(left: &Slot, right: &Slot, a: &State, b: &State) -> bool
+fn slot_covers(left: &StackSlot, right: &StackSlot, a: &State, b: &State) -> bool
     requires { length a.now.callers.items ≡ length b.now.callers.items }
     ensures yes { IsTrue result
         → SlotCovers (packet_name a.now b.now) (null_name a.now b.now) left.now right.now }
@@ -109,17 +109,17 @@ fn slot_covers(left: &Slot, right: &Slot, a: &State, b: &State) -> bool
         → IsTrue result }
 {
     match left {
-        Slot::Written(marks) => are_written(*marks, right),
-        Slot::Spilled(kind) => match right {
-            Slot::Spilled(other) => kind_covers(kind, other, a, b),
-            Slot::Written(_) => false,
+        StackSlot::Written(marks) => are_written(*marks, right),
+        StackSlot::Spilled(kind) => match right {
+            StackSlot::Spilled(other) => kind_covers(kind, other, a, b),
+            StackSlot::Written(_) => false,
         },
     }
 }
 
 // Whether the bytes that the marks name are written in the slot. Most slots have no marks.
 #[inline(always)]
-fn are_written(marks: u8, slot: &Slot) -> bool
+fn are_written(marks: u8, slot: &StackSlot) -> bool
     ensures { IsTrue result ↔ AreAmong marks (marks_of slot.now) }
 {
     if marks == 0 {

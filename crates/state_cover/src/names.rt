@@ -7,7 +7,7 @@ ghost use Rattle.stack_state.specs.Meaning.{frames_of};
 ghost use Rattle.state_cover.specs.Names.{identity_of, is_named, spilled_kinds, frame_places, places, first_named, name_of, packet_name, null_name};
 
 use reg_state::Kind;
-use stack_state::{AbstractFrame, FRAME_SLOTS, Slot, State};
+use stack_state::{AbstractFrame, FRAME_SLOTS, StackSlot, State};
 
 /// The two sorts of identities, which are numbered apart.
 #[derive(Clone, Copy)]
@@ -58,8 +58,8 @@ impl Sort {
     fn find_in_slots(
         self,
         identity: u32,
-        left: &[Slot; FRAME_SLOTS],
-        right: &[Slot; FRAME_SLOTS],
+        left: &[StackSlot; FRAME_SLOTS],
+        right: &[StackSlot; FRAME_SLOTS],
     ) -> Option<(Kind, Kind)>
         ensures { result
             ≡ first_named self identity (zip (spilled_kinds left.now) (spilled_kinds right.now)) }

@@ -7,14 +7,14 @@ use Rattle.std.proofs.lemmas.List.{drop_all, append-nil, get_or_append_left, get
 use Rattle.std.proofs.Math.Seq.{set-append_seam}
 use Rattle.reg_state.specs.declared.kinds.Kind.{Kind}
 use Rattle.reg_state.specs.declared.kinds.Kind.TheVariants.{Unset}
-use Rattle.stack_state.specs.declared.slots.Slot.{Slot}
-use Rattle.stack_state.specs.declared.slots.Slot.TheVariants.{Written, Spilled}
+use Rattle.stack_state.specs.declared.slots.StackSlot.{StackSlot}
+use Rattle.stack_state.specs.declared.slots.StackSlot.TheVariants.{Written, Spilled}
 use Rattle.stack_state.specs.declared.states.AbstractFrame.{AbstractFrame}
 use Rattle.stack_state.specs.Meaning.{kind_at}
 use Rattle.stack_state.specs.Slots.{slot_at, frame_slots}
 use Rattle.state_index.specs.declared.parts.Part.{Part}
 use Rattle.state_index.specs.declared.parts.Part.TheVariants.{InRegister, InSlot}
-use Rattle.state_index.specs.Parts.{register_part, slot_part, register_parts, slot_parts, parts_of, IsPartOf, unset_frame, written, all_written}
+use Rattle.state_index.specs.Parts.{register_part, slot_part, register_parts, slot_parts, parts_of, IsPartOf, unset_frame, with_part, all_written}
 
 -- ---- one part more
 
@@ -31,11 +31,12 @@ register_parts-more now new all ks i d inside pushed before =
     ∙ ap (λ l. now ++ register_parts i l) (sym there)
     ∙ before
 
-pub slot_parts-more : (now new all : List Part) (ts : List Slot) (i : ℕ) (d : Slot) → i < length ts
+pub slot_parts-more : (now new all : List Part) (ts : List StackSlot) (i : ℕ) (d : StackSlot)
+    → i < length ts
     → new ≡ now ++ option_to_list (slot_part i (get_or ts i d)) → now ++ slot_parts i (drop i ts) ≡ all
     → new ++ slot_parts (i + 1) (drop (i + 1) ts) ≡ all
 slot_parts-more now new all ts i d inside pushed before =
-    let t : Slot = get_or ts i d in
+    let t : StackSlot = get_or ts i d in
     let there : drop i ts ≡ t ∷ drop (suc i) ts = drop-cons ts i d inside in
     let next : drop (i + 1) ts ≡ drop (suc i) ts = ap (λ n. drop n ts) (add-one i) in
     ap (λ l. l ++ slot_parts (i + 1) (drop (i + 1) ts)) pushed
@@ -44,18 +45,18 @@ slot_parts-more now new all ts i d inside pushed before =
     ∙ ap (λ l. now ++ slot_parts i l) (sym there)
     ∙ before
 
--- a slot of which nothing is known has no part
-slot_parts-skip : (now all : List Part) (ts : List Slot) (i : ℕ) → i < length ts
+-- a stack slot of which nothing is known has no part
+slot_parts-skip : (now all : List Part) (ts : List StackSlot) (i : ℕ) → i < length ts
     → slot_at ts i ≡ Written 0 → now ++ slot_parts i (drop i ts) ≡ all
     → now ++ slot_parts (i + 1) (drop (i + 1) ts) ≡ all
 slot_parts-skip now all ts i inside blank before =
     let none : option_to_list (slot_part i (get_or ts i (Written 0))) ≡ [] =
-    ap (λ (t : Slot). option_to_list (slot_part i t)) blank in
+    ap (λ (t : StackSlot). option_to_list (slot_part i t)) blank in
     slot_parts-more now now all ts i (Written 0) inside
     (sym (append-nil now) ∙ ap (λ l. now ++ l) (sym none)) before
 
 -- nor have some of them in a row
-pub slot_parts-skip_all : (now all : List Part) (ts : List Slot) (i n : ℕ) → i + n ≤ length ts
+pub slot_parts-skip_all : (now all : List Part) (ts : List StackSlot) (i n : ℕ) → i + n ≤ length ts
     → ((j : ℕ) → i ≤ j → j < i + n → slot_at ts j ≡ Written 0)
     → now ++ slot_parts i (drop i ts) ≡ all
     → now ++ slot_parts (i + n) (drop (i + n) ts) ≡ all
@@ -69,23 +70,23 @@ slot_parts-skip_all now all ts i (suc n) inside blank before =
     ∙ slot_parts-skip now all ts (i + n) (omega arith) (blank (i + n) (omega arith) (omega arith)) shorter
 
 -- as far as n, or as m, which is n
-pub slot_parts-from : (now all : List Part) (ts : List Slot) (n m : ℕ) → m ≡ n
+pub slot_parts-from : (now all : List Part) (ts : List StackSlot) (n m : ℕ) → m ≡ n
     → now ++ slot_parts n (drop n ts) ≡ all → now ++ slot_parts m (drop m ts) ≡ all
 slot_parts-from now all ts n m same before = ap (λ k. now ++ slot_parts k (drop k ts)) same ∙ before
 
--- slots of which nothing is known have no parts
-pub slot_parts-blank : (ts : List Slot) (n : ℕ)
+-- stack slots of which nothing is known have no parts
+pub slot_parts-blank : (ts : List StackSlot) (n : ℕ)
     → ((j : ℕ) → j < length ts → slot_at ts j ≡ Written 0) → slot_parts n ts ≡ []
 slot_parts-blank [] n blank = refl
 slot_parts-blank (t ∷ ts) n blank =
     let first : t ≡ Written 0 = blank zero (omega arith) in
-    ap (λ (x : Slot). option_to_list (slot_part n x) ++ slot_parts (n + 1) ts) first
+    ap (λ (x : StackSlot). option_to_list (slot_part n x) ++ slot_parts (n + 1) ts) first
     ∙ slot_parts-blank ts (n + 1) (λ j below. blank (suc j) (omega arith))
 
 pub register_parts-all : (now all : List Part) (ks : List Kind) (n : ℕ) → length ks ≤ n → now ++ register_parts n (drop n ks) ≡ all → now ≡ all
 register_parts-all now all ks n over h = sym (append-nil now) ∙ ap (λ l. now ++ register_parts n l) (sym (drop_all n ks over)) ∙ h
 
-pub slot_parts-all : (now all : List Part) (ts : List Slot) (n : ℕ) → length ts ≤ n → now ++ slot_parts n (drop n ts) ≡ all → now ≡ all
+pub slot_parts-all : (now all : List Part) (ts : List StackSlot) (n : ℕ) → length ts ≤ n → now ++ slot_parts n (drop n ts) ≡ all → now ≡ all
 slot_parts-all now all ts n over h = sym (append-nil now) ∙ ap (λ l. now ++ slot_parts n l) (sym (drop_all n ts over)) ∙ h
 
 -- ---- writes, one after the other
@@ -93,14 +94,14 @@ slot_parts-all now all ts n over h = sym (append-nil now) ∙ ap (λ l. now ++ s
 pub all_written-append : (f : AbstractFrame) (ps qs : List Part) → all_written f (ps ++ qs) ≡ all_written (all_written f ps) qs
 unfolding all_written
 all_written-append f [] qs = refl
-all_written-append f (p ∷ ps) qs = all_written-append (written f p) ps qs
+all_written-append f (p ∷ ps) qs = all_written-append (with_part f p) ps qs
 
 pub all_written-more : (f : AbstractFrame) (ps : List Part) (i : ℕ) (p : Part) → i < length ps → p ≡ get_or ps i p
-    → all_written f (drop i ps) ≡ all_written (written f p) (drop (i + 1) ps)
+    → all_written f (drop i ps) ≡ all_written (with_part f p) (drop (i + 1) ps)
 unfolding all_written
 all_written-more f ps i p inside at =
     let there : drop i ps ≡ p ∷ drop (suc i) ps = drop-cons ps i p inside ∙ ap (λ q. q ∷ drop (suc i) ps) (sym at) in
-    ap (all_written f) there ∙ ap (λ n. all_written (written f p) (drop n ps)) (sym (add-one i))
+    ap (all_written f) there ∙ ap (λ n. all_written (with_part f p) (drop n ps)) (sym (add-one i))
 
 pub all_written-all : (f : AbstractFrame) (ps : List Part) (n : ℕ) → length ps ≤ n → all_written f (drop n ps) ≡ f
 unfolding all_written
@@ -132,10 +133,10 @@ registers_made f n done (k ∷ ks) long same =
 
 -- ---- slots
 
-abbrev with_slots : AbstractFrame → List Slot → AbstractFrame
+abbrev with_slots : AbstractFrame → List StackSlot → AbstractFrame
 with_slots f slots = record f { stack = record { slots = slots } }
 
-slot_made : (f : AbstractFrame) (n : ℕ) (done rest : List Slot) (t : Slot) (ps : List Part) → length done ≡ n → f.stack.slots ≡ done ++ Written 0 ∷ rest
+slot_made : (f : AbstractFrame) (n : ℕ) (done rest : List StackSlot) (t : StackSlot) (ps : List Part) → length done ≡ n → f.stack.slots ≡ done ++ Written 0 ∷ rest
     → all_written f (option_to_list (slot_part n t) ++ ps) ≡ all_written (with_slots f (done ++ t ∷ rest)) ps
 unfolding all_written
 slot_made f n done rest (Spilled k) ps long same =
@@ -148,12 +149,12 @@ slot_made f n done rest (Written marks) ps long same =
       | false ↦ λ e. ap (λ l. all_written (with_slots f l) ps) (set_here f.stack.slots done rest n (Written 0) (Written marks) long same)
     ] refl
 
-slots_made : (f : AbstractFrame) (n : ℕ) (done ts : List Slot) → length done ≡ n → f.stack.slots ≡ done ++ replicate (length ts) (Written 0)
+slots_made : (f : AbstractFrame) (n : ℕ) (done ts : List StackSlot) → length done ≡ n → f.stack.slots ≡ done ++ replicate (length ts) (Written 0)
     → all_written f (slot_parts n ts) ≡ with_slots f (done ++ ts)
 unfolding all_written
 slots_made f n done [] long same = ap (with_slots f) same
 slots_made f n done (t ∷ ts) long same =
-    let rest : List Slot = replicate (length ts) (Written 0) in
+    let rest : List StackSlot = replicate (length ts) (Written 0) in
     let longer : length (done ++ t ∷ []) ≡ n + 1 = length-append done (t ∷ []) ∙ ap (λ m. m + 1) long in
     slot_made f n done rest t (slot_parts (n + 1) ts) long same
     ∙ slots_made (with_slots f (done ++ t ∷ rest)) (n + 1) (done ++ t ∷ []) ts longer (sym (append_assoc done (t ∷ []) rest))
@@ -198,7 +199,7 @@ register_part_is : (f : AbstractFrame) (n : ℕ) (k : Kind) → kind_at f.regist
 register_part_is f n Unset at p is = absurd (cc)
 register_part_is f n k at p is = let same : InRegister n k ≡ p = cc in subst (IsPartOf f) same at
 
-slot_part_is : (f : AbstractFrame) (n : ℕ) (t : Slot) → slot_at f.stack.slots n ≡ t → (p : Part) → slot_part n t ≡ Some p → IsPartOf f p
+slot_part_is : (f : AbstractFrame) (n : ℕ) (t : StackSlot) → slot_at f.stack.slots n ≡ t → (p : Part) → slot_part n t ≡ Some p → IsPartOf f p
 slot_part_is f n (Spilled k) at p is = let same : InSlot n (Spilled k) ≡ p = cc in subst (IsPartOf f) same at
 slot_part_is f n (Written marks) at p is =
     elim (marks == 0) as (λ b. (if b then None else Some (InSlot n (Written marks))) ≡ Some p → IsPartOf f p) [
@@ -214,7 +215,7 @@ register_part_at f n done (k ∷ ks) long same i d inside =
     part_in_option f (register_part n k) (register_parts (n + 1) ks) (register_part_is f n k (get_or-seam f.registers done ks n k Unset long same))
     (register_part_at f (n + 1) (done ++ k ∷ []) ks longer (same ∙ sym (append_assoc done (k ∷ []) ks))) i d inside
 
-slot_part_at : (f : AbstractFrame) (n : ℕ) (done ts : List Slot) → length done ≡ n → f.stack.slots ≡ done ++ ts
+slot_part_at : (f : AbstractFrame) (n : ℕ) (done ts : List StackSlot) → length done ≡ n → f.stack.slots ≡ done ++ ts
     → (i : ℕ) (d : Part) → i < length (slot_parts n ts) → IsPartOf f (get_or (slot_parts n ts) i d)
 slot_part_at f n done [] long same i d inside = absurd (omega arith)
 slot_part_at f n done (t ∷ ts) long same i d inside =

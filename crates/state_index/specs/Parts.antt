@@ -2,8 +2,8 @@
 use Rattle.std.specs.Prelude.{◌≡◌, ℕ, ◌+◌, ◌<◌, ◌==◌, List, [], ◌∷◌, ◌++◌, length, replicate, slice_set, Option, Some, None, option_to_list, if◌then◌else◌}
 use Rattle.reg_state.specs.declared.kinds.Kind.{Kind}
 use Rattle.reg_state.specs.declared.kinds.Kind.TheVariants.{Unset}
-use Rattle.stack_state.specs.declared.slots.Slot.{Slot}
-use Rattle.stack_state.specs.declared.slots.Slot.TheVariants.{Written, Spilled}
+use Rattle.stack_state.specs.declared.slots.StackSlot.{StackSlot}
+use Rattle.stack_state.specs.declared.slots.StackSlot.TheVariants.{Written, Spilled}
 use Rattle.stack_state.specs.declared.states.AbstractFrame.{AbstractFrame}
 use Rattle.stack_state.specs.Meaning.{kind_at}
 use Rattle.stack_state.specs.Places.{with_kind}
@@ -21,7 +21,7 @@ register_part n Unset = None
 register_part n k = Some (InRegister n k)
 
 -- nor of a slot about which nothing is known
-abbrev pub slot_part : ℕ → Slot → Option Part
+abbrev pub slot_part : ℕ → StackSlot → Option Part
 slot_part n (Written marks) = if marks == 0 then None else Some (InSlot n (Written marks))
 slot_part n (Spilled k) = Some (InSlot n (Spilled k))
 
@@ -31,7 +31,7 @@ register_parts n [] = []
 register_parts n (k ∷ ks) = option_to_list (register_part n k) ++ register_parts (n + 1) ks
 
 -- of slots from the nth on
-abbrev pub slot_parts : ℕ → List Slot → List Part
+abbrev pub slot_parts : ℕ → List StackSlot → List Part
 slot_parts n [] = []
 slot_parts n (t ∷ ts) = option_to_list (slot_part n t) ++ slot_parts (n + 1) ts
 
@@ -44,8 +44,8 @@ pub record AreParts (parts : List Part) (f : AbstractFrame) : Type 0 where
   pub ten : length f.registers ≡ 10
   pub wide : length f.stack.slots ≡ frame_slots
 
--- nothing is known of the slots of a stack but these
-abbrev pub AreBlankBeside : SlotMask → List Slot → Type 0
+-- nothing is known of the other stack slots
+abbrev pub AreBlankBeside : SlotMask → List StackSlot → Type 0
 AreBlankBeside known slots = (j : ℕ) → j < 64 → (¬ HasSlot known j) → slot_at slots j ≡ Written 0
 
 -- what is known there in the frame
@@ -60,14 +60,14 @@ unfoldable pub unset_frame : ℕ → AbstractFrame
 unset_frame slot =
     record { return_slot = slot; registers = replicate 10 Unset; stack = record { slots = replicate frame_slots (Written 0) } }
 
-abbrev pub with_slot : AbstractFrame → ℕ → Slot → AbstractFrame
+abbrev pub with_slot : AbstractFrame → ℕ → StackSlot → AbstractFrame
 with_slot f n t = record f { stack = record { slots = slice_set f.stack.slots n t } }
 
 -- the frame with a part written where it belongs
-abbrev pub written : AbstractFrame → Part → AbstractFrame
-written f (InRegister n k) = with_kind f n k
-written f (InSlot n t) = with_slot f n t
+abbrev pub with_part : AbstractFrame → Part → AbstractFrame
+with_part f (InRegister n k) = with_kind f n k
+with_part f (InSlot n t) = with_slot f n t
 
 unfoldable pub all_written : AbstractFrame → List Part → AbstractFrame
 all_written f [] = f
-all_written f (p ∷ ps) = all_written (written f p) ps
+all_written f (p ∷ ps) = all_written (with_part f p) ps

@@ -13,7 +13,7 @@ pub enum Stage {
 
 /// A stored state, which is in one bucket at a time.
 #[derive(Clone, Copy, Drop)]
-pub struct Link {
+pub struct StateLink {
     /// A fingerprint of all that is known.
     pub fingerprint: u64,
     /// A fingerprint of the state's shape, and of what is known in it.

@@ -2,7 +2,7 @@
 
 ghost use Rattle.std.specs.Iterator.{at_most};
 
-use crate::buckets::Link;
+use crate::buckets::StateLink;
 use crate::efforts::Effort;
 use crate::limits::PartLimits;
 use crate::shapes::ShapeLink;
@@ -36,7 +36,7 @@ impl<'a> Iterator for ShapesAt<'a> {
 /// them.
 #[derive(Drop)]
 pub struct UnfinishedCandidates<'a> {
-    pub links: &'a [Link],
+    pub links: &'a [StateLink],
     pub next: Option<u32>,
     pub left: usize,
 }
@@ -60,7 +60,7 @@ impl<'a> Iterator for UnfinishedCandidates<'a> {
 /// Finished states that may cover a state: all that do are among them.
 #[derive(Drop)]
 pub struct FinishedCandidates<'a> {
-    pub links: &'a [Link],
+    pub links: &'a [StateLink],
     /// What is known of the state.
     pub known: u64,
     pub limits: &'a [PartLimits],

@@ -6,7 +6,7 @@ use crate::parts::Part;
 use known_bits::Bits;
 use ranges::{Low, Wide};
 use reg_state::{Kind, Scalar};
-use stack_state::Slot;
+use stack_state::StackSlot;
 
 fn are_same_bits(bits: &Bits, other: &Bits) -> bool
     ensures { IsTrue result → bits.now ≡ other.now }
@@ -116,12 +116,12 @@ fn is_same_kind(kind: &Kind, other: &Kind) -> bool
     is_same_pointer(kind, other) || is_same_map(kind, other)
 }
 
-fn is_same_slot(slot: &Slot, other: &Slot) -> bool
+fn is_same_slot(slot: &StackSlot, other: &StackSlot) -> bool
     ensures { IsTrue result → slot.now ≡ other.now }
 {
     match (slot, other) {
-        (Slot::Written(marks), Slot::Written(others)) => *marks == *others,
-        (Slot::Spilled(kind), Slot::Spilled(others)) => is_same_kind(kind, others),
+        (StackSlot::Written(marks), StackSlot::Written(others)) => *marks == *others,
+        (StackSlot::Spilled(kind), StackSlot::Spilled(others)) => is_same_kind(kind, others),
         _ => false,
     }
 }

@@ -4,7 +4,7 @@
 
 use crate::parts::Part;
 use reg_state::{Kind, Scalar};
-use stack_state::{AbstractFrame, FRAME_SLOTS, Slot};
+use stack_state::{AbstractFrame, FRAME_SLOTS, StackSlot};
 
 /// Fingerprints of frames from the outermost on.
 #[derive(Clone, Copy, Drop)]
@@ -45,7 +45,7 @@ impl Fingerprints {
         }
         for index in 0..FRAME_SLOTS {
             let slot = &frame.stack.slots[index];
-            if !matches!(slot, Slot::Written(0)) {
+            if !matches!(slot, StackSlot::Written(0)) {
                 whole = with_slot(whole, index as u8, slot);
             }
         }
@@ -158,10 +158,12 @@ fn with_register(print: u64, number: u8, kind: &Kind) -> u64 {
     with_kind(mixed(print, u64::from(number)), kind)
 }
 
-fn with_slot(print: u64, number: u8, slot: &Slot) -> u64 {
+fn with_slot(print: u64, number: u8, slot: &StackSlot) -> u64 {
     match slot {
-        Slot::Written(marks) => mixed(mixed(print, 128 + u64::from(number)), u64::from(*marks)),
-        Slot::Spilled(kind) => with_kind(mixed(print, 64 + u64::from(number)), kind),
+        StackSlot::Written(marks) => {
+            mixed(mixed(print, 128 + u64::from(number)), u64::from(*marks))
+        }
+        StackSlot::Spilled(kind) => with_kind(mixed(print, 64 + u64::from(number)), kind),
     }
 }
 

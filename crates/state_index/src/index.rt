@@ -4,7 +4,8 @@ ghost use Rattle.std.specs.Prelude.{IfOk};
 ghost use Rattle.state_index.specs.Rooms.{HasShapeRoom};
 
 use crate::buckets::{
-    FinishedBucket, Link, NO_FINISHED, NO_UNFINISHED, Stage, UnfinishedBucket, bucket_of, mark_of,
+    FinishedBucket, NO_FINISHED, NO_UNFINISHED, Stage, StateLink, UnfinishedBucket, bucket_of,
+    mark_of,
 };
 use crate::candidates::{FinishedCandidates, ShapesAt, UnfinishedCandidates};
 use crate::efforts::Effort;
@@ -27,8 +28,8 @@ const SHAPES: usize = 256;
 /// An index of stored states, which are known by their positions: 0, 1, .. in the order in which
 /// they were added.
 #[derive(Drop)]
-pub struct Index {
-    links: Vec<Link>,
+pub struct StateIndex {
+    links: Vec<StateLink>,
     shapes: Vec<ShapeLink>,
     /// By slot, the first of its shapes.
     first_shapes: Vec<Option<u32>>,
@@ -41,12 +42,12 @@ pub struct Index {
     tree_sets: TreeSets,
 }
 
-impl Index {
+impl StateIndex {
     /// An empty index, for code of this number of slots.
     pub fn new(alloc: Global, slots: usize) -> Result<Self, AllocError>
         ensures room { IfOk result (λ index. HasShapeRoom index slots) }
     {
-        Ok(Index {
+        Ok(StateIndex {
             links: Vec::new(alloc),
             shapes: Vec::new(alloc),
             first_shapes: vec![in alloc; None; slots]?,
@@ -231,7 +232,7 @@ impl Index {
         let shape = self.shape_of(alloc, slot, key, effort)?;
         let known = self.known_in(shape, key, effort).unwrap_or(0);
         let index = self.links.len();
-        self.links.push(Link {
+        self.links.push(StateLink {
             fingerprint: key.fingerprints.whole,
             known,
             next: None,

@@ -24,7 +24,7 @@ pub use candidates::{FinishedCandidates, ShapesAt, UnfinishedCandidates};
 pub use efforts::Effort;
 pub use equality::are_same;
 pub use fingerprints::Fingerprints;
-pub use index::Index;
+pub use index::StateIndex;
 pub use keys::Key;
 pub use limits::{PartLimits, add_limits};
 pub use parts::{Part, may_cover_part, take_parts, take_parts_in, write};

@@ -6,7 +6,7 @@
 use crate::parts::Part;
 use ranges::{Low, Wide};
 use reg_state::{Kind, Scalar};
-use stack_state::Slot;
+use stack_state::StackSlot;
 use std::alloc::AllocError;
 
 /// How many measures a part has.
@@ -45,7 +45,7 @@ pub struct Measure {
 /// How wide what is known of a part is in some states: limits that enclose those of each, and
 /// beside them the least of each measure.
 #[derive(Clone, Copy, Drop)]
-pub struct Span {
+pub struct PartSpan {
     pub limits: PartLimits,
     least: [u64; MEASURES],
 }
@@ -150,10 +150,12 @@ impl PartLimits {
     fn of(level: u32, part: &Part) -> Option<Self> {
         let (number, (sort, measures)) = match part {
             Part::InRegister(number, kind) => (u32::from(*number), of_kind(kind)?),
-            Part::InSlot(number, Slot::Written(marks)) => {
+            Part::InSlot(number, StackSlot::Written(marks)) => {
                 (16 + u32::from(*number), (Sort::Written, of_marks(*marks)))
             }
-            Part::InSlot(number, Slot::Spilled(kind)) => (16 + u32::from(*number), of_kind(kind)?),
+            Part::InSlot(number, StackSlot::Spilled(kind)) => {
+                (16 + u32::from(*number), of_kind(kind)?)
+            }
         };
         Some(PartLimits {
             number: level.wrapping_mul(LEVEL).wrapping_add(number),
@@ -177,10 +179,10 @@ impl PartLimits {
     }
 }
 
-impl Span {
+impl PartSpan {
     /// Of one state.
     pub fn of(limits: &PartLimits) -> Self {
-        Span {
+        PartSpan {
             limits: *limits,
             least: limits.measures,
         }
@@ -257,7 +259,7 @@ pub fn measured(limits: &[PartLimits], measure: Measure) -> u64 {
 }
 
 /// Widens spans by the limits of one more state, and leaves out parts where they say nothing.
-pub fn widen(spans: &mut Vec<Span>, others: &[PartLimits]) {
+pub fn widen(spans: &mut Vec<PartSpan>, others: &[PartLimits]) {
     let mut rest = others;
     let mut kept = 0;
     for index in 0..spans.len() {

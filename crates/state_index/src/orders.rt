@@ -18,7 +18,7 @@ struct Row {
 
 /// Rows in an order, by their numbers.
 #[derive(Drop)]
-pub struct Order {
+pub struct RowOrder {
     order: Vec<Row>,
 }
 
@@ -75,14 +75,14 @@ fn split(order: &mut [Row], half: usize, turn: usize, rows: &[u64], width: usize
     let _halves = order.select_nth_unstable_by_key(half, |row| row.word);
 }
 
-impl Order {
+impl RowOrder {
     /// This number of rows, in the order that they have.
     pub fn of(alloc: Global, count: usize) -> Result<Self, AllocError> {
         let mut order = Vec::with_capacity(alloc, count)?;
         for number in 0..count {
             order.push(Row { number, word: 0 })?;
         }
-        Ok(Order { order })
+        Ok(RowOrder { order })
     }
 
     /// Puts rows of such a width into order.

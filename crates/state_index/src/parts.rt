@@ -1,21 +1,21 @@
-//! What is known of a frame, part by part.
+//! What is known of a call frame, part by part.
 
 ghost use Rattle.std.specs.Prelude.{◌≡◌, ℕ, ◌+◌, ◌*◌, ◌<◌, ◌≤◌, ◌++◌, OnOk, IsTrue, length, slice_set, option_to_list};
 ghost use Rattle.stack_state.specs.Slots.{frame_slots, slot_at};
-ghost use Rattle.state_index.specs.Parts.{register_part, slot_part, register_parts, slot_parts, AreParts, AreBlankBeside, written, IsPartOf};
+ghost use Rattle.state_index.specs.Parts.{register_part, slot_part, register_parts, slot_parts, AreParts, AreBlankBeside, with_part, IsPartOf};
 
 use control_flow::SlotMask;
 use reg_state::{Domain, Kind};
-use stack_state::{AbstractFrame, FRAME_SLOTS, Slot};
+use stack_state::{AbstractFrame, FRAME_SLOTS, StackSlot};
 use std::alloc::AllocError;
 
-/// What is known of one part of a frame.
+/// What is known of one part of a call frame.
 #[derive(Clone, Copy, Drop)]
 pub enum Part {
     /// Of a register, by its number.
     InRegister(u8, Kind),
-    /// Of a slot of the stack, by its number.
-    InSlot(u8, Slot),
+    /// Of a stack slot, by its index.
+    InSlot(u8, StackSlot),
 }
 
 // ---- from a frame
@@ -31,17 +31,17 @@ fn push_register(parts: &mut Vec<Part>, number: u8, kind: &Kind) -> Result<(), A
     Ok(())
 }
 
-fn push_slot(parts: &mut Vec<Part>, number: u8, slot: &Slot) -> Result<(), AllocError>
+fn push_slot(parts: &mut Vec<Part>, number: u8, slot: &StackSlot) -> Result<(), AllocError>
     ensures { OnOk result (parts.new.items
         ≡ parts.old.items ++ option_to_list (slot_part number slot.now)) }
 {
     match slot {
-        Slot::Written(marks) => {
+        StackSlot::Written(marks) => {
             if *marks != 0 {
                 parts.push(Part::InSlot(number, *slot))?;
             }
         }
-        Slot::Spilled(_) => parts.push(Part::InSlot(number, *slot))?,
+        StackSlot::Spilled(_) => parts.push(Part::InSlot(number, *slot))?,
     }
     Ok(())
 }
@@ -58,31 +58,31 @@ fn push_registers(parts: &mut Vec<Part>, registers: &[Kind; 10]) -> Result<(), A
     Ok(())
 }
 
-/// Whether nothing is known of eight slots, from a multiple of eight on. Nothing is known of any
-/// that is not told.
+/// Whether nothing is known of eight stack slots, from a multiple of eight on. Nothing is known of
+/// a slot that is not in `known`.
 #[inline(always)]
-fn are_blank(slots: &[Slot; FRAME_SLOTS], known: SlotMask, block: usize) -> bool
+fn are_blank(slots: &[StackSlot; FRAME_SLOTS], known: SlotMask, block: usize) -> bool
     requires inside { block < 8 }
     requires blank { AreBlankBeside known slots.now }
     ensures { IsTrue result → (j : ℕ) → 8 * block ≤ j → j < 8 * block + 8
-        → slot_at slots.now j ≡ Slot.Written 0 }
+        → slot_at slots.now j ≡ StackSlot.Written 0 }
 {
     if known.is_empty_in(block as u8) {
         return true;
     }
     for number in 0..8 {
-        let Slot::Written(0) = &slots[8 * block + number] else {
+        let StackSlot::Written(0) = &slots[8 * block + number] else {
             return false;
         };
     }
     true
 }
 
-/// Appends the slots about which something is known, none of which is outside those that are told.
-/// Most often nothing is known of eight in a row, which are skipped.
+/// Appends the stack slots of which something is known; all of them are in `known`. Most often
+/// nothing is known of eight in a row, which are skipped.
 fn push_slots(
     parts: &mut Vec<Part>,
-    slots: &[Slot; FRAME_SLOTS],
+    slots: &[StackSlot; FRAME_SLOTS],
     known: SlotMask,
 ) -> Result<(), AllocError>
     requires { AreBlankBeside known slots.now }
@@ -103,7 +103,7 @@ fn push_slots(
     Ok(())
 }
 
-/// Becomes the parts of the frame. Nothing is known of its slots but those that are told.
+/// Becomes the parts of the frame. Nothing is known of the stack slots that are not in `known`.
 pub fn take_parts_in(
     parts: &mut Vec<Part>,
     frame: &AbstractFrame,
@@ -137,7 +137,7 @@ fn set_register(registers: &mut [Kind; 10], number: u8, kind: Kind)
     registers[number] = kind;
 }
 
-fn set_slot(slots: &mut [Slot; FRAME_SLOTS], number: u8, slot: Slot)
+fn set_slot(slots: &mut [StackSlot; FRAME_SLOTS], number: u8, slot: StackSlot)
     ensures { slots.new ≡ slice_set slots.old number slot }
 {
     let number = usize::from(number);
@@ -149,7 +149,7 @@ fn set_slot(slots: &mut [Slot; FRAME_SLOTS], number: u8, slot: Slot)
 
 /// Writes a part where it belongs.
 pub fn write(frame: &mut AbstractFrame, part: &Part)
-    ensures { frame.new ≡ written frame.old part.now }
+    ensures { frame.new ≡ with_part frame.old part.now }
 {
     match *part {
         Part::InRegister(number, kind) => set_register(&mut frame.registers, number, kind),
@@ -159,7 +159,7 @@ pub fn write(frame: &mut AbstractFrame, part: &Part)
 
 // ---- a quick test
 
-/// Whether a kind may allow all that the other one does: a no says that it does not.
+/// Whether a kind may allow all that the other one does. `false` says that it does not.
 fn may_allow(kind: &Kind, other: &Kind) -> bool
     ensures { kind.now ≡ other.now → IsTrue result }
 {
@@ -174,19 +174,20 @@ fn may_allow(kind: &Kind, other: &Kind) -> bool
 }
 
 /// The same of a slot and what may be there.
-fn may_hold(slot: &Slot, other: &Slot) -> bool
+fn may_hold(slot: &StackSlot, other: &StackSlot) -> bool
     ensures { slot.now ≡ other.now → IsTrue result }
 {
     match slot {
-        Slot::Written(_) => true,
-        Slot::Spilled(kind) => match other {
-            Slot::Spilled(known) => may_allow(kind, known),
-            Slot::Written(_) => false,
+        StackSlot::Written(_) => true,
+        StackSlot::Spilled(kind) => match other {
+            StackSlot::Spilled(known) => may_allow(kind, known),
+            StackSlot::Written(_) => false,
         },
     }
 }
 
-/// Whether what is known of a part may cover what a frame knows of it: a no says that it does not.
+/// Whether what is known of a part may cover what a frame knows of it. `false` says that it does
+/// not.
 pub fn may_cover_part(part: &Part, frame: &AbstractFrame) -> bool
     ensures { IsPartOf frame.now part.now → IsTrue result }
 {

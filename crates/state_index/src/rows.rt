@@ -1,6 +1,6 @@
 //! Rows of words that tell stored states apart: what a tree is made of.
 
-use crate::limits::{MEASURES, Measure, PartLimits, Span, from_part, measured, widen};
+use crate::limits::{MEASURES, Measure, PartLimits, PartSpan, from_part, measured, widen};
 use std::alloc::{AllocError, Global};
 
 /// How many words a row has at most.
@@ -9,7 +9,7 @@ pub const WIDTH: usize = 32;
 /// How wide what is known of each part is in the states that come into a tree.
 #[derive(Drop)]
 pub struct Spread {
-    spans: Vec<Span>,
+    spans: Vec<PartSpan>,
     /// How many states there are.
     count: usize,
 }
@@ -39,7 +39,7 @@ impl Spread {
     pub fn add(&mut self, limits: &[PartLimits]) -> Result<(), AllocError> {
         if self.count == 0 {
             for own in limits {
-                self.spans.push(Span::of(own))?;
+                self.spans.push(PartSpan::of(own))?;
             }
         } else {
             widen(&mut self.spans, limits);

@@ -8,7 +8,7 @@ use crate::fingerprints::mixed;
 use crate::keys::Key;
 use crate::parts::Part;
 use reg_state::{Kind, Scalar};
-use stack_state::Slot;
+use stack_state::StackSlot;
 use std::alloc::{AllocError, Global};
 
 /// A register or a slot that is known to hold a number.
@@ -30,7 +30,7 @@ pub struct Shape {
 fn number_in(part: &Part) -> Option<(u64, &Scalar)> {
     match part {
         Part::InRegister(number, Kind::Number(numbers)) => Some((u64::from(*number), numbers)),
-        Part::InSlot(number, Slot::Spilled(Kind::Number(numbers))) => {
+        Part::InSlot(number, StackSlot::Spilled(Kind::Number(numbers))) => {
             Some((16 + u64::from(*number), numbers))
         }
         _ => None,

@@ -4,7 +4,7 @@
 
 use crate::efforts::Effort;
 use crate::limits::{Measure, PartLimits, may_enclose};
-use crate::orders::Order;
+use crate::orders::RowOrder;
 use crate::rows::{Rows, WIDTH, put_measured};
 use std::alloc::{AllocError, Global};
 
@@ -93,7 +93,7 @@ impl Tree {
     pub fn of(alloc: Global, rows: Rows) -> Result<Self, AllocError> {
         let width = width(&rows.measures);
         let count = rows.positions.len();
-        let mut order = Order::of(alloc, count)?;
+        let mut order = RowOrder::of(alloc, count)?;
         order.arrange(&rows.words, width);
         let mut positions = Vec::with_capacity(alloc, count)?;
         let mut nodes = Vec::with_capacity(alloc, rows.words.len())?;

@@ -2,7 +2,7 @@
 
 ghost use Rattle.std.specs.Prelude.{◌≤◌, IfOk};
 
-use crate::failures::Failure;
+use crate::failures::SurveyError;
 use crate::looks::{Look, look_at};
 use crate::surveying::survey;
 use exact_io::PromptWriter;
@@ -18,7 +18,7 @@ fn serve<R: Files + Clock + AllocGlobal + Clone + Drop, W1: Write, W2: Write>(
     has_progress: bool,
     out: &mut W1,
     err: &mut W2,
-) -> Result<u8, Failure>
+) -> Result<u8, SurveyError>
     ensures { IfOk result (λ status. status ≤ 5) }
 {
     match asked {
@@ -32,16 +32,16 @@ fn serve<R: Files + Clock + AllocGlobal + Clone + Drop, W1: Write, W2: Write>(
 /// Flushes standard output after a task that ended so.
 fn flushed<R: AllocGlobal, W: Write + Drop>(
     rt: &R,
-    ended: Result<u8, Failure>,
+    ended: Result<u8, SurveyError>,
     out: &mut PromptWriter<W>,
-) -> Result<u8, Failure>
+) -> Result<u8, SurveyError>
     requires { IfOk ended (λ status. status ≤ 5) }
     ensures { IfOk result (λ status. status ≤ 5) }
 {
     let status = ended?;
     match out.flush() {
         Ok(()) => Ok(status),
-        Err(error) => Err(Failure::of_output(rt.alloc(), &error)),
+        Err(error) => Err(SurveyError::of_output(rt.alloc(), &error)),
     }
 }
 
@@ -59,7 +59,7 @@ pub fn execute<R: Files + Clock + AllocGlobal + Clone + Drop, W1: Write + Drop, 
 {
     let asked = match read_words(rt.alloc(), words) {
         Ok(asked) => asked,
-        Err(error) => return Failure::of_words(error).tell(err),
+        Err(error) => return SurveyError::of_words(error).tell(err),
     };
     let ended = serve(rt, &asked, has_progress, out, err);
     match flushed(rt, ended, out) {
@@ -81,6 +81,6 @@ pub fn answer<R: Files + Clock + AllocGlobal + Clone + Drop, W1: Write + Drop, W
 {
     match given {
         Ok(words) => execute(rt, words.as_slice(), has_progress, out, err),
-        Err(error) => Failure::of_words(error).tell(err),
+        Err(error) => SurveyError::of_words(error).tell(err),
     }
 }

@@ -13,7 +13,7 @@ const USAGE: &str = "usage: xdpvm_survey IMAGE|FOLDER .. | log IMAGE | dis IMAGE
 
 /// Why the program ends early.
 #[derive(Drop)]
-pub enum Failure {
+pub enum SurveyError {
     /// No command was given in full. The text says what is wrong, or is the help.
     Words(String),
     /// A file or an output failed, as the text says.
@@ -21,14 +21,14 @@ pub enum Failure {
     Memory,
 }
 
-impl From<AllocError> for Failure {
+impl From<AllocError> for SurveyError {
     ghost use Rattle.std.specs.Prelude.{◌≡◌};
-    ghost use Rattle.survey_commands.specs.declared.failures.Failure.TheVariants.{Memory};
+    ghost use Rattle.survey_commands.specs.declared.failures.SurveyError.TheVariants.{Memory};
 
     ghost from_gives = { λ _ e. e ≡ Memory };
 
-    fn from(_error: AllocError) -> Failure {
-        Failure::Memory
+    fn from(_error: AllocError) -> SurveyError {
+        SurveyError::Memory
     }
 }
 
@@ -48,29 +48,29 @@ pub fn file_line(
     }
 }
 
-impl Failure {
+impl SurveyError {
     /// No command was given in full, or memory ran out before that was known.
     pub fn of_words(error: WordsError) -> Self {
         match error {
-            WordsError::Wrong(text) => Failure::Words(text),
-            WordsError::Memory => Failure::Memory,
+            WordsError::Wrong(text) => SurveyError::Words(text),
+            WordsError::Memory => SurveyError::Memory,
         }
     }
 
     /// A file or an output failed.
     pub fn of_file(alloc: Global, what: &str, path: &str, error: &io::Error) -> Self {
         match error.kind() {
-            ErrorKind::OutOfMemory => Failure::Memory,
+            ErrorKind::OutOfMemory => SurveyError::Memory,
             kind => match file_line(alloc, what, path, kind) {
-                Ok(line) => Failure::File(line),
-                Err(_) => Failure::Memory,
+                Ok(line) => SurveyError::File(line),
+                Err(_) => SurveyError::Memory,
             },
         }
     }
 
     /// Standard output failed.
     pub fn of_output(alloc: Global, error: &io::Error) -> Self {
-        Failure::of_file(alloc, "write", "standard output", error)
+        SurveyError::of_file(alloc, "write", "standard output", error)
     }
 
     /// Says on standard error what went wrong, and answers the status. Nothing can be said of a
@@ -79,7 +79,7 @@ impl Failure {
         ensures { result ≤ 5 }
     {
         match self {
-            Failure::Words(text) => {
+            SurveyError::Words(text) => {
                 let text = if text.is_empty() {
                     USAGE
                 } else {
@@ -88,11 +88,11 @@ impl Failure {
                 let _ = write_bytes(err, text.as_bytes());
                 1
             }
-            Failure::File(line) => {
+            SurveyError::File(line) => {
                 let _ = write_bytes(err, line.as_bytes());
                 4
             }
-            Failure::Memory => {
+            SurveyError::Memory => {
                 let _ = write_bytes(err, b"out of memory\n");
                 5
             }

@@ -10,16 +10,20 @@ const ENDING: &str = ".image";
 
 /// What a path names: an image, or a folder that cannot be read, or only in part.
 #[derive(Drop)]
-pub struct Named {
+pub struct NamedPath {
     pub path: String,
     /// Why the folder cannot be read.
     pub failure: Option<ErrorKind>,
 }
 
 /// Adds images.
-pub fn add_images(alloc: Global, paths: &[String], all: &mut Vec<Named>) -> Result<(), AllocError> {
+pub fn add_images(
+    alloc: Global,
+    paths: &[String],
+    all: &mut Vec<NamedPath>,
+) -> Result<(), AllocError> {
     for path in paths {
-        all.push(Named {
+        all.push(NamedPath {
             path: String::from_str(alloc, path.as_str())?,
             failure: None,
         })?;
@@ -32,9 +36,9 @@ pub fn add_folder(
     alloc: Global,
     path: &str,
     kind: ErrorKind,
-    all: &mut Vec<Named>,
+    all: &mut Vec<NamedPath>,
 ) -> Result<(), AllocError> {
-    all.push(Named {
+    all.push(NamedPath {
         path: String::from_str(alloc, path)?,
         failure: Some(kind),
     })?;

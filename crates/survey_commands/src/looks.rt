@@ -2,7 +2,7 @@
 
 ghost use Rattle.std.specs.Prelude.{◌≤◌, IfOk};
 
-use crate::failures::Failure;
+use crate::failures::SurveyError;
 use crate::files::read_image;
 use control_flow::FlowError;
 use exact_io::write_bytes;
@@ -25,10 +25,10 @@ pub enum Look {
 }
 
 /// Says a line or more.
-fn say<W: Write>(alloc: Global, text: &str, out: &mut W) -> Result<(), Failure> {
+fn say<W: Write>(alloc: Global, text: &str, out: &mut W) -> Result<(), SurveyError> {
     match write_bytes(out, text.as_bytes()) {
         Ok(()) => Ok(()),
-        Err(error) => Err(Failure::of_output(alloc, &error)),
+        Err(error) => Err(SurveyError::of_output(alloc, &error)),
     }
 }
 
@@ -67,16 +67,23 @@ fn write_look<W: Write>(
 }
 
 /// Looks into an image, and answers the status: 2 where it is refused.
-fn look_into<W: Write>(alloc: Global, image: &Image, look: Look, out: &mut W) -> Result<u8, Failure>
+fn look_into<W: Write>(
+    alloc: Global,
+    image: &Image,
+    look: Look,
+    out: &mut W,
+) -> Result<u8, SurveyError>
     ensures { IfOk result (λ status. status ≤ 2) }
 {
     match write_look(alloc, image, look, out) {
         Ok(()) => Ok(0),
-        Err(LookError::Memory) => Err(Failure::Memory),
+        Err(LookError::Memory) => Err(SurveyError::Memory),
         Err(LookError::Refused(Refusal::Memory | Refusal::Flow(FlowError::Memory), _)) => Err(
-            Failure::Memory,
+            SurveyError::Memory,
         ),
-        Err(LookError::Writer(kind)) => { Err(Failure::of_output(alloc, &io::Error::from(kind))) }
+        Err(LookError::Writer(kind)) => {
+            Err(SurveyError::of_output(alloc, &io::Error::from(kind)))
+        }
         Err(LookError::Refused(refusal, slot)) => {
             let text = refused_text(alloc, image, refusal, slot)?;
             say(alloc, text.as_str(), out)?;
@@ -91,17 +98,17 @@ pub fn look_at<R: Files + AllocGlobal, W: Write>(
     path: &str,
     look: Look,
     out: &mut W,
-) -> Result<u8, Failure>
+) -> Result<u8, SurveyError>
     ensures { IfOk result (λ status. status ≤ 2) }
 {
     let alloc = rt.alloc();
     let bytes = match read_image(rt, alloc, path) {
         Ok(bytes) => bytes,
-        Err(error) => return Err(Failure::of_file(alloc, "read", path, &error)),
+        Err(error) => return Err(SurveyError::of_file(alloc, "read", path, &error)),
     };
     match Image::parse(alloc, bytes.as_slice()) {
         Ok(image) => look_into(alloc, &image, look, out),
-        Err(ImageError::Memory) => Err(Failure::Memory),
+        Err(ImageError::Memory) => Err(SurveyError::Memory),
         Err(error) => {
             let text = malformed_text(alloc, error)?;
             say(alloc, text.as_str(), out)?;

@@ -2,9 +2,9 @@
 
 ghost use Rattle.std.specs.Prelude.{◌≤◌, IfOk};
 
-use crate::failures::{Failure, file_line};
+use crate::failures::{SurveyError, file_line};
 use crate::files::read_image;
-use crate::folders::{Named, add_folder, add_images, images};
+use crate::folders::{NamedPath, add_folder, add_images, images};
 use crate::progress::SurveyProgress;
 use crate::tables::store_table;
 use crate::writing::{Sheet, sheet_of, write_head, write_row, write_waiting};
@@ -12,7 +12,7 @@ use exact_io::write_bytes;
 use std::alloc::{AllocError, Global};
 use std::io::{ErrorKind, Write};
 use std::rt::{Clock, Files};
-use survey_rows::{Counts, Row, Summary, Verdict};
+use survey_rows::{Counts, Judgement, Row, Summary};
 use survey_words::Survey;
 use surveys::{Judged, judge};
 
@@ -22,13 +22,13 @@ fn unread<W: Write>(
     path: &str,
     kind: ErrorKind,
     err: &mut W,
-) -> Result<Verdict, AllocError> {
+) -> Result<Judgement, AllocError> {
     if let ErrorKind::OutOfMemory = kind {
-        return Ok(Verdict::NoMemory);
+        return Ok(Judgement::NoMemory);
     }
     let line = file_line(alloc, "read", path, kind)?;
     let _ = write_bytes(err, line.as_bytes());
-    Ok(Verdict::Unreadable)
+    Ok(Judgement::Unreadable)
 }
 
 /// The row of a file or a folder that cannot be read.
@@ -49,9 +49,9 @@ fn row_unread<W: Write>(
 
 /// How an image is judged. One that is accepted, but without the table that is wanted, is not judged
 /// to the end: memory ran out.
-fn verdict_of(judged: &Judged, has_table: bool) -> Verdict {
+fn verdict_of(judged: &Judged, has_table: bool) -> Judgement {
     match judged.verdict {
-        Verdict::Accepted if has_table && judged.table.is_none() => Verdict::NoMemory,
+        Judgement::Accepted if has_table && judged.table.is_none() => Judgement::NoMemory,
         verdict => verdict,
     }
 }
@@ -62,7 +62,7 @@ fn row_of<R: Files + Clock + AllocGlobal, W: Write>(
     path: &str,
     tables: Option<&str>,
     err: &mut W,
-) -> Result<Row, Failure> {
+) -> Result<Row, SurveyError> {
     let alloc = rt.alloc();
     let bytes = match read_image(rt, alloc, path) {
         Ok(bytes) => bytes,
@@ -83,10 +83,10 @@ fn row_of<R: Files + Clock + AllocGlobal, W: Write>(
 /// The row of what a path names.
 fn row_named<R: Files + Clock + AllocGlobal, W: Write>(
     rt: &R,
-    named: &Named,
+    named: &NamedPath,
     tables: Option<&str>,
     err: &mut W,
-) -> Result<Row, Failure> {
+) -> Result<Row, SurveyError> {
     match named.failure {
         Some(kind) => Ok(row_unread(rt.alloc(), named.path.as_str(), kind, err)?),
         None => row_of(rt, named.path.as_str(), tables, err),
@@ -102,7 +102,7 @@ fn keep(rows: &mut Vec<Row>, row: Row) -> Result<(), AllocError> {
 fn all_named<R: Files + AllocGlobal + Clone + Drop>(
     rt: &R,
     survey: &Survey<'_>,
-) -> Result<Vec<Named>, Failure> {
+) -> Result<Vec<NamedPath>, SurveyError> {
     let alloc = rt.alloc();
     let mut all = Vec::new(alloc);
     for path in survey.paths.as_slice() {
@@ -135,11 +135,11 @@ fn summary_line(alloc: Global, summary: &Summary) -> Result<String, AllocError> 
 fn judge_all<R: Files + Clock + AllocGlobal, W1: Write, W2: Write>(
     rt: &R,
     sheet: &Sheet<'_>,
-    named: &[Named],
+    named: &[NamedPath],
     progress: &mut SurveyProgress,
     out: &mut W1,
     err: &mut W2,
-) -> Result<(Vec<Row>, Summary), Failure> {
+) -> Result<(Vec<Row>, Summary), SurveyError> {
     let alloc = rt.alloc();
     let mut waiting = Vec::new(alloc);
     let mut summary = Summary::default();
@@ -169,7 +169,7 @@ pub fn survey<R: Files + Clock + AllocGlobal + Clone + Drop, W1: Write, W2: Writ
     has_progress: bool,
     out: &mut W1,
     err: &mut W2,
-) -> Result<u8, Failure>
+) -> Result<u8, SurveyError>
     ensures { IfOk result (λ status. status ≤ 5) }
 {
     let alloc = rt.alloc();

@@ -1,6 +1,6 @@
 //! Proof tables that a survey writes.
 
-use crate::failures::Failure;
+use crate::failures::SurveyError;
 use exact_io::write_bytes;
 use std::alloc::{AllocError, Global};
 use std::fs;
@@ -20,14 +20,14 @@ pub fn store_table<R: Files>(
     folder: &str,
     image: &str,
     table: &[u8],
-) -> Result<(), Failure> {
+) -> Result<(), SurveyError> {
     let path = table_path(alloc, folder, image)?;
     let mut file = match fs::create(rt, path.as_str()) {
         Ok(file) => file,
-        Err(error) => return Err(Failure::of_file(alloc, "write", path.as_str(), &error)),
+        Err(error) => return Err(SurveyError::of_file(alloc, "write", path.as_str(), &error)),
     };
     match write_bytes(&mut file, table) {
         Ok(()) => Ok(()),
-        Err(error) => Err(Failure::of_file(alloc, "write", path.as_str(), &error)),
+        Err(error) => Err(SurveyError::of_file(alloc, "write", path.as_str(), &error)),
     }
 }

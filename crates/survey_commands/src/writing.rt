@@ -1,15 +1,15 @@
 //! How the rows of a survey are written.
 
-use crate::failures::Failure;
+use crate::failures::SurveyError;
 use crate::files::read_file;
-use crate::folders::Named;
+use crate::folders::NamedPath;
 use exact_io::write_bytes;
 use std::alloc::{AllocError, Global};
 use std::io::Write;
 use std::rt::Files;
 use survey_rows::{
     COLUMNS, Column, EarlierError, Grid, Row, RowLayout, changes_since, csv_text, grid_of,
-    json_text, shown_width, sort, table_text,
+    grid_text, json_text, shown_width, sort,
 };
 use survey_words::{Format, Survey};
 
@@ -40,7 +40,7 @@ fn columns_of(alloc: Global, survey: &Survey<'_>) -> Result<Vec<Column>, AllocEr
 }
 
 /// How many characters the longest path has, but at least as many as the name of its column.
-fn longest_of(named: &[Named]) -> usize {
+fn longest_of(named: &[NamedPath]) -> usize {
     let mut longest = Column::File.width();
     for one in named {
         longest = longest.max(shown_width(one.path.as_str()));
@@ -52,7 +52,7 @@ fn longest_of(named: &[Named]) -> usize {
 pub fn sheet_of<'a>(
     alloc: Global,
     survey: &'a Survey<'a>,
-    named: &[Named],
+    named: &[NamedPath],
 ) -> Result<Sheet<'a>, AllocError> {
     let columns = columns_of(alloc, survey)?;
     Ok(Sheet {
@@ -74,7 +74,7 @@ fn text_of(
 ) -> Result<Vec<u8>, AllocError> {
     match format {
         Format::Csv => csv_text(alloc, grid, has_header),
-        Format::Table => Ok(table_text(alloc, grid, has_header)?.into_bytes()),
+        Format::Table => Ok(grid_text(alloc, grid, has_header)?.into_bytes()),
         Format::Json => Ok(json_text(alloc, grid)?.into_bytes()),
     }
 }
@@ -85,16 +85,20 @@ fn write_grid<W: Write>(
     has_header: bool,
     grid: &Grid,
     out: &mut W,
-) -> Result<(), Failure> {
+) -> Result<(), SurveyError> {
     let text = text_of(alloc, sheet.survey.format, has_header, grid)?;
     match write_bytes(out, text.as_slice()) {
         Ok(()) => Ok(()),
-        Err(error) => Err(Failure::of_output(alloc, &error)),
+        Err(error) => Err(SurveyError::of_output(alloc, &error)),
     }
 }
 
 /// Writes the names of the columns, where rows need not wait.
-pub fn write_head<W: Write>(alloc: Global, sheet: &Sheet<'_>, out: &mut W) -> Result<(), Failure> {
+pub fn write_head<W: Write>(
+    alloc: Global,
+    sheet: &Sheet<'_>,
+    out: &mut W,
+) -> Result<(), SurveyError> {
     if sheet.has_to_wait() {
         return Ok(());
     }
@@ -115,24 +119,29 @@ pub fn write_row<W: Write>(
     sheet: &Sheet<'_>,
     row: Row,
     out: &mut W,
-) -> Result<(), Failure> {
+) -> Result<(), SurveyError> {
     let rows = one(alloc, row)?;
     let grid = grid_of(alloc, rows.as_slice(), &sheet.layout)?;
     write_grid(alloc, sheet, false, &grid, out)
 }
 
 /// The differences from the earlier survey in a file.
-fn compared<R: Files>(rt: &R, alloc: Global, path: &str, rows: &[Row]) -> Result<Grid, Failure> {
+fn compared<R: Files>(
+    rt: &R,
+    alloc: Global,
+    path: &str,
+    rows: &[Row],
+) -> Result<Grid, SurveyError> {
     let bytes = match read_file(rt, alloc, path) {
         Ok(bytes) => bytes,
-        Err(error) => return Err(Failure::of_file(alloc, "read", path, &error)),
+        Err(error) => return Err(SurveyError::of_file(alloc, "read", path, &error)),
     };
     match changes_since(alloc, bytes.as_slice(), rows) {
         Ok(grid) => Ok(grid),
-        Err(EarlierError::Memory) => Err(Failure::Memory),
+        Err(EarlierError::Memory) => Err(SurveyError::Memory),
         Err(EarlierError::Form) => {
             let line = format!(in alloc; "cannot compare with {path}: it is no survey as csv\n")?;
-            Err(Failure::File(line))
+            Err(SurveyError::File(line))
         }
     }
 }
@@ -143,7 +152,7 @@ pub fn write_waiting<R: Files + AllocGlobal, W: Write>(
     sheet: &Sheet<'_>,
     rows: &mut Vec<Row>,
     out: &mut W,
-) -> Result<(), Failure> {
+) -> Result<(), SurveyError> {
     if !sheet.has_to_wait() {
         return Ok(());
     }

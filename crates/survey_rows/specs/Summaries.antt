@@ -1,7 +1,7 @@
 -- The status that says how many images were accepted, refused, and not judged.
 use Rattle.std.specs.Prelude.{◌+◌, ◌==◌, ◌-◌, ◌^◌, ℕ, min, if◌then◌else◌}
-use Rattle.survey_rows.specs.declared.rows.Verdict.{Verdict}
-use Rattle.survey_rows.specs.declared.rows.Verdict.TheVariants as verdict
+use Rattle.survey_rows.specs.declared.rows.Judgement.{Judgement}
+use Rattle.survey_rows.specs.declared.rows.Judgement.TheVariants as verdict
 use Rattle.survey_rows.specs.declared.summaries.Summary.{Summary}
 
 -- 5 where memory ran out, else 4 where a file was not read, else 2 where one is refused, else 0
@@ -14,7 +14,7 @@ abbrev pub one_more : ℕ → ℕ
 one_more count = min (count + 1) (2 ^ 64 - 1)
 
 -- an image is counted as what it was judged
-abbrev pub with_image : Summary → Verdict → Summary
+abbrev pub with_image : Summary → Judgement → Summary
 with_image s verdict.Accepted = record s { accepted = one_more s.accepted }
 with_image s (verdict.Refused code) = record s { refused = one_more s.refused }
 with_image s verdict.Unreadable = record s { unreadable = one_more s.unreadable }

@@ -4,7 +4,7 @@ use std::alloc::{AllocError, Global};
 
 /// What a row has under a head.
 #[derive(Drop)]
-pub enum Cell {
+pub enum RowCell {
     Text(String),
     Number(u64),
     /// A number of thousandths.
@@ -14,7 +14,7 @@ pub enum Cell {
 
 /// The head of a column.
 #[derive(Clone, Copy, Drop)]
-pub struct Head {
+pub struct ColumnHead {
     pub name: &'static str,
     /// Whether its cells begin at the left in a grid for people, as those of texts do.
     pub is_left: bool,
@@ -25,28 +25,28 @@ pub struct Head {
 /// Rows of cells under heads, each row with as many cells as there are heads.
 #[derive(Drop)]
 pub struct Grid {
-    pub heads: Vec<Head>,
-    pub rows: Vec<Vec<Cell>>,
+    pub heads: Vec<ColumnHead>,
+    pub rows: Vec<Vec<RowCell>>,
 }
 
 /// A cell as text.
-pub fn cell_text(alloc: Global, cell: &Cell) -> Result<String, AllocError> {
+pub fn cell_text(alloc: Global, cell: &RowCell) -> Result<String, AllocError> {
     match cell {
-        Cell::Text(text) => String::from_str(alloc, text.as_str()),
-        Cell::Number(number) => {
+        RowCell::Text(text) => String::from_str(alloc, text.as_str()),
+        RowCell::Number(number) => {
             let number = *number;
             format!(in alloc; "{number}")
         }
-        Cell::Thousandths(number) => {
+        RowCell::Thousandths(number) => {
             let (whole, rest) = (*number / 1000, *number % 1000);
             format!(in alloc; "{whole}.{rest:03}")
         }
-        Cell::Nothing => Ok(String::new(alloc)),
+        RowCell::Nothing => Ok(String::new(alloc)),
     }
 }
 
 /// The cells of a row as texts.
-pub fn row_texts(alloc: Global, row: &[Cell]) -> Result<Vec<String>, AllocError> {
+pub fn row_texts(alloc: Global, row: &[RowCell]) -> Result<Vec<String>, AllocError> {
     let mut texts = Vec::new(alloc);
     for cell in row {
         texts.push(cell_text(alloc, cell)?)?;
@@ -55,7 +55,7 @@ pub fn row_texts(alloc: Global, row: &[Cell]) -> Result<Vec<String>, AllocError>
 }
 
 /// The names in the heads.
-pub fn head_texts(alloc: Global, heads: &[Head]) -> Result<Vec<String>, AllocError> {
+pub fn head_texts(alloc: Global, heads: &[ColumnHead]) -> Result<Vec<String>, AllocError> {
     let mut texts = Vec::new(alloc);
     for head in heads {
         texts.push(String::from_str(alloc, head.name)?)?;

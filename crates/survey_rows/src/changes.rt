@@ -1,6 +1,6 @@
 //! The differences from an earlier survey.
 
-use crate::cells::{Cell, Grid, Head, cell_text};
+use crate::cells::{ColumnHead, Grid, RowCell, cell_text};
 use crate::columns::{COLUMNS, Column};
 use crate::earlier::{Earlier, EarlierError};
 use crate::rows::Row;
@@ -8,28 +8,28 @@ use csv::ByteRecord;
 use indexmap::IndexSet;
 use std::alloc::{AllocError, Global};
 
-const HEADS: [Head; 5] = [
-    Head {
+const HEADS: [ColumnHead; 5] = [
+    ColumnHead {
         name: "file",
         is_left: true,
         width: 0,
     },
-    Head {
+    ColumnHead {
         name: "column",
         is_left: true,
         width: 0,
     },
-    Head {
+    ColumnHead {
         name: "old",
         is_left: false,
         width: 0,
     },
-    Head {
+    ColumnHead {
         name: "new",
         is_left: false,
         width: 0,
     },
-    Head {
+    ColumnHead {
         name: "difference",
         is_left: false,
         width: 0,
@@ -45,27 +45,27 @@ fn number_of(field: &[u8]) -> Option<u64> {
 }
 
 /// A field as a cell.
-fn cell_of(alloc: Global, field: &[u8]) -> Result<Cell, AllocError> {
+fn cell_of(alloc: Global, field: &[u8]) -> Result<RowCell, AllocError> {
     if let Some(number) = number_of(field) {
-        return Ok(Cell::Number(number));
+        return Ok(RowCell::Number(number));
     }
     match std::str::from_utf8(field) {
-        Ok("") => Ok(Cell::Nothing),
-        Ok(text) => Ok(Cell::Text(String::from_str(alloc, text)?)),
-        Err(_) => Ok(Cell::Nothing),
+        Ok("") => Ok(RowCell::Nothing),
+        Ok(text) => Ok(RowCell::Text(String::from_str(alloc, text)?)),
+        Err(_) => Ok(RowCell::Nothing),
     }
 }
 
 /// By how much a number changed, with its sign.
-fn difference(alloc: Global, old: &Cell, new: &Cell) -> Result<Cell, AllocError> {
+fn difference(alloc: Global, old: &RowCell, new: &RowCell) -> Result<RowCell, AllocError> {
     match (old, new) {
-        (Cell::Number(old), Cell::Number(new)) => {
+        (RowCell::Number(old), RowCell::Number(new)) => {
             let (old, new) = (*old, *new);
             let sign = if new < old { "-" } else { "+" };
             let by = new.abs_diff(old);
-            Ok(Cell::Text(format!(in alloc; "{sign}{by}")?))
+            Ok(RowCell::Text(format!(in alloc; "{sign}{by}")?))
         }
-        _ => Ok(Cell::Nothing),
+        _ => Ok(RowCell::Nothing),
     }
 }
 
@@ -74,12 +74,12 @@ fn change(
     alloc: Global,
     file: &str,
     column: Column,
-    old: Cell,
-    new: Cell,
-) -> Result<Vec<Cell>, AllocError> {
+    old: RowCell,
+    new: RowCell,
+) -> Result<Vec<RowCell>, AllocError> {
     let by = difference(alloc, &old, &new)?;
-    let file = Cell::Text(String::from_str(alloc, file)?);
-    let column = Cell::Text(String::from_str(alloc, column.name())?);
+    let file = RowCell::Text(String::from_str(alloc, file)?);
+    let column = RowCell::Text(String::from_str(alloc, column.name())?);
     let mut cells = Vec::new(alloc);
     cells.push(file)?;
     cells.push(column)?;
@@ -95,7 +95,7 @@ fn add_column(
     row: &Row,
     column: Column,
     old: &[u8],
-    rows: &mut Vec<Vec<Cell>>,
+    rows: &mut Vec<Vec<RowCell>>,
 ) -> Result<(), AllocError> {
     let new = row.cell(alloc, column)?;
     let text = cell_text(alloc, &new)?;
@@ -112,7 +112,7 @@ fn add_changes(
     earlier: &Earlier,
     record: &ByteRecord,
     row: &Row,
-    rows: &mut Vec<Vec<Cell>>,
+    rows: &mut Vec<Vec<RowCell>>,
 ) -> Result<(), AllocError> {
     for column in COLUMNS {
         if column == Column::File || column.is_time() {
@@ -126,10 +126,10 @@ fn add_changes(
 }
 
 /// Adds that an image is new.
-fn add_new(alloc: Global, row: &Row, rows: &mut Vec<Vec<Cell>>) -> Result<(), AllocError> {
+fn add_new(alloc: Global, row: &Row, rows: &mut Vec<Vec<RowCell>>) -> Result<(), AllocError> {
     let verdict = row.cell(alloc, Column::Verdict)?;
     let file = row.file.as_str();
-    rows.push(change(alloc, file, Column::Verdict, Cell::Nothing, verdict)?)?;
+    rows.push(change(alloc, file, Column::Verdict, RowCell::Nothing, verdict)?)?;
     Ok(())
 }
 
@@ -138,14 +138,14 @@ fn add_gone(
     alloc: Global,
     earlier: &Earlier,
     record: &ByteRecord,
-    rows: &mut Vec<Vec<Cell>>,
+    rows: &mut Vec<Vec<RowCell>>,
 ) -> Result<(), AllocError> {
     let verdict = match earlier.field(record, Column::Verdict) {
         Some(field) => cell_of(alloc, field)?,
-        None => Cell::Nothing,
+        None => RowCell::Nothing,
     };
     let file = std::str::from_utf8(earlier.file(record)).unwrap_or("");
-    rows.push(change(alloc, file, Column::Verdict, verdict, Cell::Nothing)?)?;
+    rows.push(change(alloc, file, Column::Verdict, verdict, RowCell::Nothing)?)?;
     Ok(())
 }
 

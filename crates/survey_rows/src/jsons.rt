@@ -1,22 +1,22 @@
 //! Grids as JSON: a line with an object for each row.
 
-use crate::cells::{Cell, Grid, Head};
+use crate::cells::{ColumnHead, Grid, RowCell};
 use serde_json::{Map, Value};
 use std::alloc::{AllocError, Global};
 use std::num::nearest_u64_to_f64;
 
 /// A cell as a value.
-fn value_of(alloc: Global, cell: &Cell) -> Result<Value, AllocError> {
+fn value_of(alloc: Global, cell: &RowCell) -> Result<Value, AllocError> {
     match cell {
-        Cell::Text(text) => Ok(Value::from(String::from_str(alloc, text.as_str())?)),
-        Cell::Number(number) => Ok(Value::from(*number)),
-        Cell::Thousandths(number) => Ok(Value::from(nearest_u64_to_f64(*number) / 1000.0)),
-        Cell::Nothing => Ok(Value::Null),
+        RowCell::Text(text) => Ok(Value::from(String::from_str(alloc, text.as_str())?)),
+        RowCell::Number(number) => Ok(Value::from(*number)),
+        RowCell::Thousandths(number) => Ok(Value::from(nearest_u64_to_f64(*number) / 1000.0)),
+        RowCell::Nothing => Ok(Value::Null),
     }
 }
 
 /// A row as an object, whose members have the names of the columns.
-fn object_of(alloc: Global, heads: &[Head], row: &[Cell]) -> Result<Value, AllocError> {
+fn object_of(alloc: Global, heads: &[ColumnHead], row: &[RowCell]) -> Result<Value, AllocError> {
     let mut members = Map::new(alloc);
     for index in 0..heads.len() {
         if let Some(cell) = row.get(index) {

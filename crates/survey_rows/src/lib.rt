@@ -11,12 +11,12 @@ mod rows;
 mod summaries;
 mod tables;
 
-pub use cells::{Cell, Grid, Head};
+pub use cells::{ColumnHead, Grid, RowCell};
 pub use changes::changes_since;
 pub use columns::{COLUMNS, Column};
 pub use csvs::csv_text;
 pub use earlier::EarlierError;
 pub use jsons::json_text;
-pub use rows::{Counts, Row, RowLayout, Verdict, grid_of, sort};
+pub use rows::{Counts, Judgement, Row, RowLayout, grid_of, sort};
 pub use summaries::Summary;
-pub use tables::{shown, shown_width, table_text};
+pub use tables::{grid_text, shown, shown_width};

@@ -2,13 +2,13 @@
 
 ghost use Rattle.std.specs.Prelude.{◌≡◌, false, length, IfOk, IsPermutation};
 
-use crate::cells::{Cell, Grid, Head};
+use crate::cells::{ColumnHead, Grid, RowCell};
 use crate::columns::Column;
 use std::alloc::{AllocError, Global};
 
 /// How an image was judged.
 #[derive(Clone, Copy, Drop)]
-pub enum Verdict {
+pub enum Judgement {
     Accepted,
     /// With the code of the refusal.
     Refused(&'static str),
@@ -18,20 +18,20 @@ pub enum Verdict {
     NoMemory,
 }
 
-impl Verdict {
+impl Judgement {
     /// Its word in a row.
     pub fn name(self) -> &'static str {
         match self {
-            Verdict::Accepted => "ok",
-            Verdict::Refused(code) => code,
-            Verdict::Unreadable => "unreadable",
-            Verdict::NoMemory => "memory",
+            Judgement::Accepted => "ok",
+            Judgement::Refused(code) => code,
+            Judgement::Unreadable => "unreadable",
+            Judgement::NoMemory => "memory",
         }
     }
 
     /// Whether the image is refused.
     pub fn is_refused(self) -> bool {
-        matches!(self, Verdict::Refused(_))
+        matches!(self, Judgement::Refused(_))
     }
 }
 
@@ -56,7 +56,7 @@ pub struct Counts {
 #[derive(Drop)]
 pub struct Row {
     pub file: String,
-    pub verdict: Verdict,
+    pub verdict: Judgement,
     pub counts: Counts,
 }
 
@@ -83,19 +83,19 @@ impl Counts {
 
 impl Row {
     /// The cell in a column.
-    pub fn cell(&self, alloc: Global, column: Column) -> Result<Cell, AllocError> {
+    pub fn cell(&self, alloc: Global, column: Column) -> Result<RowCell, AllocError> {
         match column {
-            Column::File => Ok(Cell::Text(String::from_str(alloc, self.file.as_str())?)),
-            Column::Verdict => Ok(Cell::Text(String::from_str(alloc, self.verdict.name())?)),
+            Column::File => Ok(RowCell::Text(String::from_str(alloc, self.file.as_str())?)),
+            Column::Verdict => Ok(RowCell::Text(String::from_str(alloc, self.verdict.name())?)),
             _ => match self.counts.number(column) {
-                Some(number) if column.is_time() => Ok(Cell::Thousandths(number)),
-                Some(number) => Ok(Cell::Number(number)),
-                None => Ok(Cell::Nothing),
+                Some(number) if column.is_time() => Ok(RowCell::Thousandths(number)),
+                Some(number) => Ok(RowCell::Number(number)),
+                None => Ok(RowCell::Nothing),
             },
         }
     }
 
-    fn cells(&self, alloc: Global, columns: &[Column]) -> Result<Vec<Cell>, AllocError> {
+    fn cells(&self, alloc: Global, columns: &[Column]) -> Result<Vec<RowCell>, AllocError> {
         let mut cells = Vec::new(alloc);
         for column in columns {
             cells.push(self.cell(alloc, *column)?)?;
@@ -105,14 +105,18 @@ impl Row {
 }
 
 /// The heads of columns, with room for paths of this number of characters.
-fn heads_of(alloc: Global, columns: &[Column], longest: usize) -> Result<Vec<Head>, AllocError> {
+fn heads_of(
+    alloc: Global,
+    columns: &[Column],
+    longest: usize,
+) -> Result<Vec<ColumnHead>, AllocError> {
     let mut heads = Vec::new(alloc);
     for column in columns {
         let width = match *column {
             Column::File => longest,
             other => other.width(),
         };
-        heads.push(Head {
+        heads.push(ColumnHead {
             name: column.name(),
             is_left: matches!(*column, Column::File | Column::Verdict),
             width,
@@ -153,7 +157,9 @@ pub fn sort(rows: &mut Vec<Row>, column: Column) -> Result<(), AllocError>
 {
     match column {
         Column::File => rows.sort_by(|one, other| one.file.as_str().cmp(other.file.as_str())),
-        Column::Verdict => rows.sort_by(|one, other| one.verdict.name().cmp(other.verdict.name())),
+        Column::Verdict => {
+            rows.sort_by(|one, other| one.verdict.name().cmp(other.verdict.name()))
+        }
         _ => rows.sort_by(|one, other| other.counts.number(column).cmp(&one.counts.number(column))),
     }
 }

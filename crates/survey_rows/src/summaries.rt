@@ -3,7 +3,7 @@
 ghost use Rattle.std.specs.Prelude.{◌≡◌, ◌≤◌};
 ghost use Rattle.survey_rows.specs.Summaries.{status_of, with_image};
 
-use crate::rows::Verdict;
+use crate::rows::Judgement;
 
 /// How many images were judged in which way.
 #[derive(Clone, Copy, Default, Drop)]
@@ -33,14 +33,14 @@ impl Summary {
     }
 
     /// Counts an image.
-    pub fn count(&mut self, verdict: Verdict)
+    pub fn count(&mut self, verdict: Judgement)
         ensures { self.new ≡ with_image self.old verdict }
     {
         match verdict {
-            Verdict::Accepted => self.accepted = self.accepted.saturating_add(1),
-            Verdict::Refused(_) => self.refused = self.refused.saturating_add(1),
-            Verdict::Unreadable => self.unreadable = self.unreadable.saturating_add(1),
-            Verdict::NoMemory => self.unjudged = self.unjudged.saturating_add(1),
+            Judgement::Accepted => self.accepted = self.accepted.saturating_add(1),
+            Judgement::Refused(_) => self.refused = self.refused.saturating_add(1),
+            Judgement::Unreadable => self.unreadable = self.unreadable.saturating_add(1),
+            Judgement::NoMemory => self.unjudged = self.unjudged.saturating_add(1),
         }
     }
 }

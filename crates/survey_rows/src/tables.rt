@@ -1,6 +1,6 @@
 //! Grids as text for people: each column has one width, and numbers are at the right.
 
-use crate::cells::{Cell, Grid, Head, head_texts, row_texts};
+use crate::cells::{ColumnHead, Grid, RowCell, head_texts, row_texts};
 use std::alloc::{AllocError, Global};
 
 /// Adds a character as it is shown: a control character, which a terminal would obey, as an escape.
@@ -65,7 +65,7 @@ fn put(line: &mut String, text: &str, is_left: bool, width: usize) -> Result<(),
 /// A row, two spaces between its texts.
 fn row_line(
     alloc: Global,
-    heads: &[Head],
+    heads: &[ColumnHead],
     texts: &[String],
     widths: &[usize],
 ) -> Result<String, AllocError> {
@@ -86,7 +86,7 @@ fn row_line(
 fn put_row(
     alloc: Global,
     text: &mut String,
-    heads: &[Head],
+    heads: &[ColumnHead],
     texts: &[String],
     widths: &[usize],
 ) -> Result<(), AllocError> {
@@ -96,7 +96,7 @@ fn put_row(
 }
 
 /// The texts of a row, as they are shown.
-fn shown_texts(alloc: Global, row: &[Cell]) -> Result<Vec<String>, AllocError> {
+fn shown_texts(alloc: Global, row: &[RowCell]) -> Result<Vec<String>, AllocError> {
     let mut texts = Vec::new(alloc);
     for text in &row_texts(alloc, row)? {
         texts.push(shown(alloc, text.as_str())?)?;
@@ -105,7 +105,7 @@ fn shown_texts(alloc: Global, row: &[Cell]) -> Result<Vec<String>, AllocError> {
 }
 
 /// The texts of all rows.
-fn all_texts(alloc: Global, rows: &[Vec<Cell>]) -> Result<Vec<Vec<String>>, AllocError> {
+fn all_texts(alloc: Global, rows: &[Vec<RowCell>]) -> Result<Vec<Vec<String>>, AllocError> {
     let mut texts = Vec::new(alloc);
     for row in rows {
         texts.push(shown_texts(alloc, row.as_slice())?)?;
@@ -114,7 +114,7 @@ fn all_texts(alloc: Global, rows: &[Vec<Cell>]) -> Result<Vec<Vec<String>>, Allo
 }
 
 /// The least widths of the columns, by their heads.
-fn least_widths(alloc: Global, heads: &[Head]) -> Result<Vec<usize>, AllocError> {
+fn least_widths(alloc: Global, heads: &[ColumnHead]) -> Result<Vec<usize>, AllocError> {
     let mut widths = Vec::new(alloc);
     for head in heads {
         widths.push(head.width)?;
@@ -123,7 +123,7 @@ fn least_widths(alloc: Global, heads: &[Head]) -> Result<Vec<usize>, AllocError>
 }
 
 /// A grid as text, with the names of its columns above it where they are wanted.
-pub fn table_text(alloc: Global, grid: &Grid, has_header: bool) -> Result<String, AllocError> {
+pub fn grid_text(alloc: Global, grid: &Grid, has_header: bool) -> Result<String, AllocError> {
     let heads = grid.heads.as_slice();
     let names = head_texts(alloc, heads)?;
     let texts = all_texts(alloc, grid.rows.as_slice())?;

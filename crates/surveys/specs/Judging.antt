@@ -11,8 +11,8 @@ use Rattle.image.specs.declared.errors.ImageError.{ImageError}
 use Rattle.image.specs.declared.errors.ImageError.TheVariants as error
 use Rattle.image.specs.Messages.{code_of as image_code_of}
 use Rattle.survey_rows.specs.declared.rows.Counts.{Counts}
-use Rattle.survey_rows.specs.declared.rows.Verdict.{Verdict}
-use Rattle.survey_rows.specs.declared.rows.Verdict.TheVariants as verdict
+use Rattle.survey_rows.specs.declared.rows.Judgement.{Judgement}
+use Rattle.survey_rows.specs.declared.rows.Judgement.TheVariants as verdict
 
 -- the bound that is given is the number of the start, within which every run exits
 pub record Bounds (p : Program) (bound : ℕ) : Type 0 where
@@ -32,7 +32,7 @@ pub record RefusesWith (p : Program) (code : List ℕ) (slot : Option ℕ) : Typ
   pub is_slot : slot ≡ Some at
 
 -- what a row says of a program: accepted with a bound, or refused with a code at a slot
-abbrev pub SaysVerdict : Program → Verdict → Counts → Type 0
+abbrev pub SaysVerdict : Program → Judgement → Counts → Type 0
 SaysVerdict p verdict.Accepted counts = IfBound p counts.bound
 SaysVerdict p (verdict.Refused code) counts = RefusesWith p code.now counts.slot
 SaysVerdict p verdict.Unreadable counts = ⊥
@@ -47,7 +47,7 @@ slot_of _ = None
 
 -- what a row says of bytes that are no image: the code of what is wrong, at its slot;
 -- or that memory ran out
-abbrev pub SaysMalformed : ImageError → Verdict → Counts → Type 0
+abbrev pub SaysMalformed : ImageError → Judgement → Counts → Type 0
 SaysMalformed wrong verdict.Accepted counts = ⊥
 SaysMalformed wrong (verdict.Refused code) counts =
     (code.now ≡ image_code_of wrong) × (counts.slot ≡ slot_of wrong)

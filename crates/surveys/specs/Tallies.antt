@@ -2,9 +2,9 @@
 use Rattle.std.specs.Prelude.{◌≡◌, ℕ, ◌+◌, ◌-◌, ◌*◌, ◌<◌, ◌^◌, min, length, Bool, true, false, Some, None}
 use Rattle.isa_model.specs.{Program}
 use Rattle.survey_rows.specs.declared.rows.Counts.{Counts}
-use Rattle.survey_rows.specs.declared.rows.Verdict.{Verdict}
-use Rattle.survey_rows.specs.declared.rows.Verdict.TheVariants as verdict
-use Rattle.surveys.specs.declared.tallies.Tally.{Tally}
+use Rattle.survey_rows.specs.declared.rows.Judgement.{Judgement}
+use Rattle.survey_rows.specs.declared.rows.Judgement.TheVariants as verdict
+use Rattle.surveys.specs.declared.tallies.SearchTally.{SearchTally}
 
 -- a count of 64 bits that stays at the greatest one
 abbrev pub saturated : ℕ → ℕ
@@ -28,7 +28,7 @@ CountsBytes old false new = new ≡ old
 CountsBytes old true new = GrowsByWords old new
 
 -- counts with those of a search
-abbrev pub with_tally : Counts → Tally → Counts
+abbrev pub with_tally : Counts → SearchTally → Counts
 with_tally counts t = record counts {
   explored = Some t.explored;
   stored = Some t.stored;
@@ -56,6 +56,6 @@ pub record HasSizes (p : Program) (counts : Counts) : Type 0 where
   pub maps : counts.maps ≡ Some (length p.maps)
 
 -- the sizes are said of a program unless memory ran out
-abbrev pub SaysSizes : Program → Verdict → Counts → Type 0
+abbrev pub SaysSizes : Program → Judgement → Counts → Type 0
 SaysSizes p verdict.NoMemory counts = Unit {0}
 SaysSizes p v counts = HasSizes p counts

@@ -12,7 +12,7 @@ ghost use Rattle.image.specs.declared.errors.ImageError.{ImageError};
 ghost use Rattle.surveys.specs.Judging.{SaysVerdict, SaysMalformed, slot_of};
 ghost use Rattle.surveys.specs.Tallies.{HasSizes, SaysSizes, searched, with_bound, with_tally};
 
-use crate::tallies::Tally;
+use crate::tallies::SearchTally;
 use bounds::Verified;
 use control_flow::FlowError;
 use explorer::{Halt, Refusal, verify_with};
@@ -20,12 +20,12 @@ use image::{Image, ImageError};
 use proof_table::{WriteTableError, recheck, write_table};
 use std::alloc::Global;
 use std::time::{Clock, Instant};
-use survey_rows::{Counts, Verdict};
+use survey_rows::{Counts, Judgement};
 
 /// How an image was judged, and what was counted and measured.
 #[derive(Drop)]
 pub struct Judged {
-    pub verdict: Verdict,
+    pub verdict: Judgement,
     pub counts: Counts,
     /// The proof table, where one was wanted and made.
     pub table: Option<Vec<u8>>,
@@ -39,11 +39,11 @@ fn microseconds_since<C: Clock>(clock: &C, start: Option<Instant>) -> Option<u64
 
 /// Nothing is known, since memory ran out.
 fn unjudged(counts: Counts) -> Judged
-    ensures verdict { result.verdict ≡ Verdict.NoMemory }
+    ensures verdict { result.verdict ≡ Judgement.NoMemory }
     ensures counts { result.counts ≡ counts }
 {
     Judged {
-        verdict: Verdict::NoMemory,
+        verdict: Judgement::NoMemory,
         counts,
         table: None,
     }
@@ -62,13 +62,13 @@ fn slot_of(error: ImageError) -> Option<u64>
 
 /// Bytes that are no image.
 fn malformed(error: ImageError) -> Judged
-    ensures memory { error ≡ ImageError.Memory → result.verdict ≡ Verdict.NoMemory }
+    ensures memory { error ≡ ImageError.Memory → result.verdict ≡ Judgement.NoMemory }
     ensures says { SaysMalformed error result.verdict result.counts }
 {
     match error {
         ImageError::Memory => unjudged(Counts::default()),
         _ => Judged {
-            verdict: Verdict::Refused(error.code()),
+            verdict: Judgement::Refused(error.code()),
             counts: Counts {
                 slot: slot_of(error),
                 ..Counts::default()
@@ -90,7 +90,7 @@ fn sizes_of(image: &Image) -> Counts
 }
 
 /// What was counted of a search.
-fn counted(tally: Tally, counts: Counts) -> Counts
+fn counted(tally: SearchTally, counts: Counts) -> Counts
     ensures { result ≡ with_tally counts tally }
 {
     Counts {
@@ -111,7 +111,7 @@ fn refused(refusal: Refusal, slot: usize, counts: Counts) -> Judged
     match refusal {
         Refusal::Memory | Refusal::Flow(FlowError::Memory) => unjudged(counts),
         _ => Judged {
-            verdict: Verdict::Refused(refusal.code()),
+            verdict: Judgement::Refused(refusal.code()),
             counts: Counts {
                 slot: Some(slot as u64),
                 ..counts
@@ -139,7 +139,7 @@ fn accepted(verified: &Verified, counts: Counts) -> Judged
     ensures counts { result.counts ≡ with_bound counts verified.now.bound }
 {
     Judged {
-        verdict: Verdict::Accepted,
+        verdict: Judgement::Accepted,
         counts: bounded(verified, counts),
         table: None,
     }
@@ -195,7 +195,7 @@ fn judge_image<C: Clock>(clock: &C, alloc: Global, image: Image, has_table: bool
     ensures sizes { HasSizes image result.counts }
 {
     let sizes = sizes_of(&image);
-    let mut tally = Tally::default();
+    let mut tally = SearchTally::default();
     let start = Instant::now(clock).ok();
     let answer = verify_with(alloc, image, &mut tally);
     let counts = counted(

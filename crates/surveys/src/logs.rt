@@ -1,7 +1,7 @@
 //! All that a search explores, as text.
 
 use crate::states::put_state;
-use crate::tallies::Tally;
+use crate::tallies::SearchTally;
 use crate::texts::insn_text;
 use crate::writing::LookError;
 use exact_io::write_bytes;
@@ -21,7 +21,7 @@ struct Log<'a, W: Write + Drop> {
     /// The slot whose instructions are written, if not all are.
     only: Option<usize>,
     out: W,
-    tally: Tally,
+    tally: SearchTally,
     /// The slot of the state that arrived last.
     arrived: usize,
     /// The numbers of the path's instructions, and those of the stored states.
@@ -152,7 +152,7 @@ pub fn write_log<W: Write>(
         image,
         only,
         out: &mut *out,
-        tally: Tally::default(),
+        tally: SearchTally::default(),
         arrived: 0,
         path: Vec::new(alloc),
         stored: Vec::new(alloc),

@@ -3,7 +3,7 @@
 use explanations::{kind_words, slot_line};
 use isa_model::{FRAME_SIZE, MAX_CALL_FRAMES, Reg};
 use reg_state::Kind;
-use stack_state::{Slot, State};
+use stack_state::{StackSlot, State};
 use std::alloc::{AllocError, Global};
 
 const REGISTERS: [Reg; 10] = [
@@ -38,7 +38,7 @@ fn put_registers(alloc: Global, state: &State, text: &mut String) -> Result<(), 
 fn is_known(state: &State, frame: u8, slot: usize) -> bool {
     match state.stack_of(frame) {
         Some(stack) => match stack.slots.get(slot) {
-            Some(known) => *known != Slot::Written(0),
+            Some(known) => *known != StackSlot::Written(0),
             None => false,
         },
         None => false,

@@ -13,7 +13,7 @@ const WORD: u64 = 8;
 
 /// What is counted of a search. A count that would overflow stays at the greatest number.
 #[derive(Clone, Copy, Default, Drop)]
-pub struct Tally {
+pub struct SearchTally {
     /// The explored instructions.
     pub explored: u64,
     /// How many of them were explored in a state that was stored, at a join.
@@ -34,7 +34,7 @@ fn own_bytes(kept: &Kept) -> u64
     u64::from(own_words(kept)).saturating_mul(WORD)
 }
 
-impl Tally {
+impl SearchTally {
     /// An instruction is explored, in a state that is stored at this place, and then was kept last.
     pub fn explore(&mut self, stored: Option<usize>, kept: Option<&Kept>)
         ensures explored { self.new.explored ≡ saturated (self.old.explored + 1) }
@@ -65,7 +65,7 @@ impl Tally {
     }
 }
 
-impl Listener for Tally {
+impl Listener for SearchTally {
     type Stop = Infallible;
 
     ghost follows = { λ _ _ _ _. Unit {0} };

@@ -3,7 +3,7 @@ use Rattle.std.specs.Prelude.{◌≡◌, ℕ, Bool, true, false, List, Some, ◌
 use Rattle.isa_model.specs.Code.Instructions.{Program}
 use Rattle.control_flow.specs.declared.errors.FlowError.TheVariants as flow
 use Rattle.image.specs.Images.{image_bytes}
-use Rattle.table_entries.specs.declared.faults.TableFault.TheVariants as fault
+use Rattle.table_entries.specs.declared.faults.TableRefusal.TheVariants as fault
 use Rattle.rechecking.specs.declared.errors.TableError.{TableError}
 use Rattle.rechecking.specs.declared.errors.TableError.TheVariants.{Flow, Fault, Start, Step, Successor}
 use Rattle.rechecking.specs.Refusing.{ShowsBound, TableIsRefused}

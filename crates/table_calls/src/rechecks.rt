@@ -5,7 +5,7 @@ ghost use Rattle.image.specs.Images.{image_bytes};
 ghost use Rattle.bounds.specs.Bounds.{IsVerified};
 ghost use Rattle.rechecking.specs.Refusing.{ShowsBound};
 ghost use Rattle.verdict_calls.specs.Crossing.{IsVerdict};
-ghost use Rattle.verdict_calls.specs.declared.statuses.Failure.TheVariants as Failure;
+ghost use Rattle.verdict_calls.specs.declared.statuses.NotAccepted.TheVariants as NotAccepted;
 ghost use Rattle.table_calls.specs.Tables.{AnswersShownBound, bound_alone, FillsTableRefusal, TellsRefusedTable, IsRefusedTable, broken, is_table_memory};
 
 use bounds::Verified;
@@ -14,9 +14,9 @@ use image::{Image, ImageError};
 use rechecking::{TableError, recheck};
 use refusal_texts::{image_text, table_text};
 use std::alloc::Global;
-use table_entries::TableFault;
+use table_entries::TableRefusal;
 use verdict_calls::filling::fill;
-use verdict_calls::statuses::{Failure, MEMORY, OK, REFUSED};
+use verdict_calls::statuses::{MEMORY, NotAccepted, OK, REFUSED};
 
 /// What a table shows: the most steps of a run. If it is refused, the number of the rule that it
 /// breaks, 6 for P6, and for P5, P7 and P8 the entry; 0 where the image or its control flow is
@@ -36,7 +36,7 @@ fn is_memory(error: TableError) -> bool
 {
     matches!(
         error,
-        TableError::Fault(TableFault::Memory) | TableError::Flow(FlowError::Memory, _)
+        TableError::Fault(TableRefusal::Memory) | TableError::Flow(FlowError::Memory, _)
     )
 }
 
@@ -46,15 +46,15 @@ fn broken(error: TableError, said: usize) -> Rechecked
 {
     let (rule, entry) = match error {
         TableError::Flow(_, _) => (0, 0),
-        TableError::Fault(TableFault::Magic) => (1, 0),
-        TableError::Fault(TableFault::Short) => (2, 0),
-        TableError::Fault(TableFault::Long) => (3, 0),
-        TableError::Fault(TableFault::Count) => (4, 0),
-        TableError::Fault(TableFault::Entry(index)) => (5, index),
+        TableError::Fault(TableRefusal::Magic) => (1, 0),
+        TableError::Fault(TableRefusal::Short) => (2, 0),
+        TableError::Fault(TableRefusal::Long) => (3, 0),
+        TableError::Fault(TableRefusal::Count) => (4, 0),
+        TableError::Fault(TableRefusal::Entry(index)) => (5, index),
         TableError::Start => (6, 0),
         TableError::Step(index, _) => (7, index),
         TableError::Successor(index) => (8, index),
-        TableError::Fault(TableFault::Memory) => (9, 0),
+        TableError::Fault(TableRefusal::Memory) => (9, 0),
     };
     Rechecked {
         said,
@@ -65,24 +65,24 @@ fn broken(error: TableError, said: usize) -> Rechecked
 }
 
 /// The program of an image, if a proof table shows that it is accepted.
-pub fn table_verified(alloc: Global, image: &[u8], table: &[u8]) -> Result<Verified, Failure>
+pub fn table_verified(alloc: Global, image: &[u8], table: &[u8]) -> Result<Verified, NotAccepted>
     ensures spelled { IfOk result (λ verified. image.now ≡ image_bytes verified.program) }
     ensures verified { IfOk result IsVerified }
-    ensures refused { result ≡ Err Failure.Refused → IsRefusedTable image.now table.now }
+    ensures refused { result ≡ Err NotAccepted.Refused → IsRefusedTable image.now table.now }
 {
     let program = match Image::parse(alloc, image) {
         Ok(program) => program,
-        Err(ImageError::Memory) => return Err(Failure::Memory),
-        Err(_) => return Err(Failure::Refused),
+        Err(ImageError::Memory) => return Err(NotAccepted::Memory),
+        Err(_) => return Err(NotAccepted::Refused),
     };
     let shown = recheck(alloc, program, table);
     match shown {
         Ok(verified) => Ok(verified),
         Err(error) => {
             if is_memory(error) {
-                Err(Failure::Memory)
+                Err(NotAccepted::Memory)
             } else {
-                Err(Failure::Refused)
+                Err(NotAccepted::Refused)
             }
         }
     }

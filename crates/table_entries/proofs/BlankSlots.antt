@@ -5,8 +5,8 @@ use Rattle.std.proofs.Common.{inl, inr, ap, sym, ◌∙◌, subst, arith, get_or
 use Rattle.std.proofs.lemmas.Bool.{cases_lt}
 use Rattle.std.proofs.lemmas.List.{get_or-drop, length-drop, drop-drop, replicate_more}
 use Rattle.byteorder.specs.Endian.{little_number}
-use Rattle.stack_state.specs.declared.slots.Slot.{Slot}
-use Rattle.stack_state.specs.declared.slots.Slot.TheVariants.{Written}
+use Rattle.stack_state.specs.declared.slots.StackSlot.{StackSlot}
+use Rattle.stack_state.specs.declared.slots.StackSlot.TheVariants.{Written}
 use Rattle.table_entries.specs.Blanks.{AreZeros}
 use Rattle.table_entries.specs.Reading.{Read, seen, many}
 use Rattle.table_entries.specs.Values.{slot_in}
@@ -113,7 +113,7 @@ blank_so_far rows holder n (suc j) bytes le z =
     let after = many-goes_on (λ k. slot_in rows holder) (Some (replicate j (Written 0))) n j rest (Some (Written 0)) (drop 2 rest) _ (omega arith) read before in
     subst (λ (k : ℕ). with_front (Some (replicate (suc j) (Written 0))) (many (λ k. slot_in rows holder) (n - k) k (drop (2 * suc j) bytes)) ≡ many (λ k. slot_in rows holder) n 0 bytes) one
     (subst (λ (r : List ℕ). with_front (Some (replicate (suc j) (Written 0))) (many (λ k. slot_in rows holder) (n - (j + 1)) (j + 1) r) ≡ many (λ k. slot_in rows holder) n 0 bytes) next
-    (subst (λ (xs : List Slot). with_front (Some xs) (many (λ k. slot_in rows holder) (n - (j + 1)) (j + 1) (drop 2 rest)) ≡ many (λ k. slot_in rows holder) n 0 bytes) slots after))
+    (subst (λ (xs : List StackSlot). with_front (Some xs) (many (λ k. slot_in rows holder) (n - (j + 1)) (j + 1) (drop 2 rest)) ≡ many (λ k. slot_in rows holder) n 0 bytes) slots after))
 
 seen_front : {X : Type 0} (front : List X) (read : Read (List X)) → seen (with_front (Some front) read) ≡ seen read
 seen_front front (Ok x) = ap (λ (b : Bool). Ok (b, x.1)) (of x.0) where

@@ -6,7 +6,7 @@ use Rattle.std.specs.Option.{option_map}
 use Rattle.byteorder.specs.Endian.{little_number}
 use Rattle.reg_state.specs.declared.kinds.Kind.TheVariants.{Number}
 use Rattle.stack_state.specs.Slots.{frame_slots}
-use Rattle.table_entries.specs.declared.stops.Stop.TheVariants.{Form}
+use Rattle.table_entries.specs.declared.stops.StopReason.TheVariants.{Form}
 use Rattle.isa_model.specs.Code.Instructions.{Program}
 use Rattle.table_entries.specs.Deciding.{decide}
 use Rattle.table_entries.specs.Reading.{Read, sized, then_read, joined, many}

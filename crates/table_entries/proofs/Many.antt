@@ -2,7 +2,7 @@
 use Rattle.std.specs.Prelude.{◌≡◌, ℕ, suc, ◌+◌, ◌-◌, ◌<◌, ◌≤◌, ◌&&◌, Bool, true, false, List, [], ◌∷◌, ◌++◌, length, take, slice_set, Option, Some, None, Ok, Err, refl}
 use Rattle.std.proofs.Common.{sym, ap, ◌∙◌, append_assoc, arith, subst, get_or, take_all}
 use Rattle.std.proofs.lemmas.List.{append-nil, take_more, take_more_set}
-use Rattle.table_entries.specs.declared.stops.Stop.{Stop}
+use Rattle.table_entries.specs.declared.stops.StopReason.{StopReason}
 use Rattle.table_entries.specs.Reading.{Read, kept, then_read, joined, many, one_more}
 
 abbrev pub appended : {X : Type 0} → Option (List X) → Option (List X) → Option (List X)
@@ -35,7 +35,7 @@ many-goes_on one front n i bytes x after total lt h so_far =
     rw (k, h) (regroup_read front x (many one (n - (i + 1)) (i + 1) after)) in
     sym first ∙ so_far
 
-pub many-stops : {X : Type 0} (one : ℕ → List ℕ → Read X) (front : Option (List X)) (n i : ℕ) (bytes : List ℕ) (stop : Stop) (total : Read (List X))
+pub many-stops : {X : Type 0} (one : ℕ → List ℕ → Read X) (front : Option (List X)) (n i : ℕ) (bytes : List ℕ) (stop : StopReason) (total : Read (List X))
     → i < n → one i bytes ≡ Err stop → with_front front (many one (n - i) i bytes) ≡ total → total ≡ Err stop
 unfolding many
 many-stops one front n i bytes stop total lt h so_far =

@@ -4,8 +4,8 @@ use Rattle.std.proofs.Common.{sym, ap, ◌∙◌, subst, arith, get_or}
 use Rattle.std.proofs.lemmas.Option.{slice_get-get_or}
 use Rattle.std.specs.Option.{is_some, option_map}
 use Rattle.stack_state.specs.declared.states.State.{State}
-use Rattle.table_entries.specs.declared.entries.Head.{Head}
-use Rattle.table_entries.specs.declared.stops.Stop.{Stop}
+use Rattle.table_entries.specs.declared.entries.EntryHead.{EntryHead}
+use Rattle.table_entries.specs.declared.stops.StopReason.{StopReason}
 use Rattle.byteorder.specs.Endian.{little_number}
 use Rattle.isa_model.specs.Code.Instructions.{Program, fetch}
 use Rattle.isa_model.specs.declared.limits.TheConstants.{MAX_STEPS}
@@ -117,13 +117,14 @@ pub found-at : (xs ys : List ℕ) (i x : ℕ) → ys ≡ xs → i < length ys �
 found-at xs ys i x same less is = rw (← same) (slice_get-get_or ys i x less ∙ ap Some (sym is))
 
 -- what is read at its place
-pub read-at : (p : Program) (t : TableView) (k place : ℕ) (head : Option Head) (a : State) (after : List ℕ) → slice_get t.places k ≡ Some place
-    → entry_in p (drop place t.bytes) ≡ Ok (option_map (λ (h : Head). entry_of h a) head, after)
+pub read-at : (p : Program) (t : TableView) (k place : ℕ) (head : Option EntryHead) (a : State) (after : List ℕ) → slice_get t.places k ≡ Some place
+    → entry_in p (drop place t.bytes) ≡ Ok
+    (option_map (λ (h : EntryHead). entry_of h a) head, after)
     → MatchOption head (entry_at p t k ≡ None) (λ h. entry_at p t k ≡ Some (entry_of h a))
 read-at p t k place None a after there read = rw (there, read)
 read-at p t k place (Some h) a after there read = rw (there, read)
 
-pub stop-at : (p : Program) (t : TableView) (k place : ℕ) (stop : Stop) → slice_get t.places k ≡ Some place → entry_in p (drop place t.bytes) ≡ Err stop
+pub stop-at : (p : Program) (t : TableView) (k place : ℕ) (stop : StopReason) → slice_get t.places k ≡ Some place → entry_in p (drop place t.bytes) ≡ Err stop
     → entry_at p t k ≡ None
 stop-at p t k place stop there read = rw (there, read)
 

@@ -6,15 +6,15 @@ use Rattle.std.proofs.lemmas.Bool.{le-ltb}
 use Rattle.byteorder.specs.Endian.{little_number}
 use Rattle.isa_model.specs.Code.Instructions.{Program}
 use Rattle.reg_state.specs.declared.kinds.Kind.{Kind}
-use Rattle.stack_state.specs.declared.slots.Slot.{Slot}
+use Rattle.stack_state.specs.declared.slots.StackSlot.{StackSlot}
 use Rattle.stack_state.specs.declared.states.AbstractFrame.{AbstractFrame}
 use Rattle.stack_state.specs.declared.states.State.{State}
 use Rattle.stack_state.specs.Slots.{frame_slots}
-use Rattle.table_entries.specs.declared.entries.Named.{Named}
-use Rattle.table_entries.specs.declared.entries.Head.{Head}
+use Rattle.table_entries.specs.declared.entries.NamedEntries.{NamedEntries}
+use Rattle.table_entries.specs.declared.entries.EntryHead.{EntryHead}
 use Rattle.table_entries.specs.Reading.{kept, many}
 use Rattle.table_entries.specs.Values.{kind_in, slot_in}
-use Rattle.table_entries.specs.Frames.{frame_allowed, frame_of, frame_in, callers_in}
+use Rattle.table_entries.specs.Frames.{frame_allowed, allowed_frame, frame_in, callers_in}
 use Rattle.table_entries.specs.Entries.{Entry, list_of, entry_of, named_in, head_allowed, entry_with, rest_in}
 
 pub kept-if : {X : Type 0} (b : Bool) (x : X) → (if b then Some x else None) ≡ kept b x
@@ -25,23 +25,23 @@ pub kept-map : {X Y : Type 0} (f : X → Y) (b : Bool) (x : X) → option_map f 
 kept-map f true x = refl
 kept-map f false x = refl
 
-frame_of-kept : (holder : ℕ) (outer : Bool) (slot : ℕ) (values : Bool) (kinds : List Kind) (marks : Bool) (slots : List Slot)
-    → frame_of holder outer slot (kept values kinds) (kept marks slots)
+allowed_frame-kept : (holder : ℕ) (outer : Bool) (slot : ℕ) (values : Bool) (kinds : List Kind) (marks : Bool) (slots : List StackSlot)
+    → allowed_frame holder outer slot (kept values kinds) (kept marks slots)
     ≡ kept ((values && marks) && frame_allowed holder outer slot kinds) (record { return_slot = slot; registers = kinds; stack = record { slots = slots } })
-frame_of-kept holder outer slot true kinds true slots =
+allowed_frame-kept holder outer slot true kinds true slots =
     kept-if (frame_allowed holder outer slot kinds) (record { return_slot = slot; registers = kinds; stack = record { slots = slots } })
-frame_of-kept holder outer slot true kinds false slots = refl
-frame_of-kept holder outer slot false kinds marks slots = refl
+allowed_frame-kept holder outer slot true kinds false slots = refl
+allowed_frame-kept holder outer slot false kinds marks slots = refl
 
 -- the values and the slots of a frame are read
-pub frame_in-read : (rows holder : ℕ) (outer : Bool) (bytes : List ℕ) (values : Bool) (kinds : List Kind) (rest : List ℕ) (marks : Bool) (slots : List Slot) (after : List ℕ)
+pub frame_in-read : (rows holder : ℕ) (outer : Bool) (bytes : List ℕ) (values : Bool) (kinds : List Kind) (rest : List ℕ) (marks : Bool) (slots : List StackSlot) (after : List ℕ)
     → 2 ≤ length bytes → many (λ k. kind_in rows holder) 10 0 (drop 2 bytes) ≡ Ok (kept values kinds, rest)
     → many (λ k. slot_in rows holder) frame_slots 0 rest ≡ Ok (kept marks slots, after)
     → frame_in rows holder outer bytes
     ≡ Ok (kept ((values && marks) && frame_allowed holder outer (little_number 2 bytes) kinds) (record { return_slot = little_number 2 bytes; registers = kinds; stack = record { slots = slots } }), after)
 unfolding frame_in
 frame_in-read rows holder outer bytes values kinds rest marks slots after long first second =
-    rw (le-ltb (length bytes) 2 long, first, second) (ap (λ (f : Option AbstractFrame). Ok (f, after)) (frame_of-kept holder outer (little_number 2 bytes) values kinds marks slots))
+    rw (le-ltb (length bytes) 2 long, first, second) (ap (λ (f : Option AbstractFrame). Ok (f, after)) (allowed_frame-kept holder outer (little_number 2 bytes) values kinds marks slots))
 
 entry_with-kept : (p : Program) (number slot : ℕ) (whole : Bool) (callers : List AbstractFrame) (fits : Bool) (innermost : AbstractFrame) (successors : List ℕ)
     → entry_with p number slot (kept whole callers) (kept fits innermost) (Some successors)
@@ -53,7 +53,7 @@ entry_with-kept p number slot true callers false innermost successors = refl
 entry_with-kept p number slot false callers fits innermost successors = refl
 
 -- the parts of an entry are read
-pub rest_in-read : (p : Program) (number outer : ℕ) (bytes : List ℕ) (whole : Bool) (a : State) (rest : List ℕ) (fits : Bool) (others : List ℕ) (n : Named) (after : List ℕ)
+pub rest_in-read : (p : Program) (number outer : ℕ) (bytes : List ℕ) (whole : Bool) (a : State) (rest : List ℕ) (fits : Bool) (others : List ℕ) (n : NamedEntries) (after : List ℕ)
     → callers_in (length p.maps) outer bytes ≡ Ok (kept whole a.callers.items, rest)
     → frame_in (length p.maps) outer false rest ≡ Ok (kept fits a.innermost, others)
     → named_in others ≡ Ok (Some (list_of n), after)
@@ -62,7 +62,7 @@ pub rest_in-read : (p : Program) (number outer : ℕ) (bytes : List ℕ) (whole 
 rest_in-read p number outer bytes whole a rest fits others n after first second third =
     rw (first, second, third)
     (ap (λ (e : Option Entry). Ok (e, after)) (entry_with-kept p number a.slot whole a.callers.items fits a.innermost (list_of n)
-    ∙ (let head : Head = record { number = number; named = n } in
-    let same : option_map (λ (h : Head). entry_of h a) (kept ((whole && fits) && head_allowed p number a.slot) head)
-    ≡ kept ((whole && fits) && head_allowed p number a.slot) (entry_of head a) = kept-map (λ (h : Head). entry_of h a) ((whole && fits) && head_allowed p number a.slot) head in
+    ∙ (let head : EntryHead = record { number = number; named = n } in
+    let same : option_map (λ (h : EntryHead). entry_of h a) (kept ((whole && fits) && head_allowed p number a.slot) head)
+    ≡ kept ((whole && fits) && head_allowed p number a.slot) (entry_of head a) = kept-map (λ (h : EntryHead). entry_of h a) ((whole && fits) && head_allowed p number a.slot) head in
     sym same)))

@@ -5,21 +5,21 @@ use Rattle.std.proofs.Common.{sym, ap, ◌∙◌, append_assoc, arith}
 use Rattle.std.proofs.lemmas.List.{append-nil, map-append, length-map, length-append}
 use Rattle.std.proofs.lemmas.Option.{slice_get-map}
 use Rattle.isa_model.specs.Code.Instructions.{Program}
-use Rattle.table_entries.specs.declared.faults.TableFault.{TableFault}
-use Rattle.table_entries.specs.declared.faults.TableFault.TheVariants as fault
-use Rattle.table_entries.specs.declared.stops.Stop.{Stop}
+use Rattle.table_entries.specs.declared.faults.TableRefusal.{TableRefusal}
+use Rattle.table_entries.specs.declared.faults.TableRefusal.TheVariants as fault
+use Rattle.table_entries.specs.declared.stops.StopReason.{StopReason}
 use Rattle.table_entries.specs.Entries.{Entry, entry_in}
 use Rattle.table_entries.specs.Tables.{before, fault_of, entries_in, to_the_end, earlier, first_none, all_of, entry_from, TableView, KeepsEntries}
 use Rattle.table_entries.specs.Growing.{with_entries, IsEnd}
 use Rattle.table_entries.proofs.Ends.{IsEnd-place}
 
-regroup : (front : List (Option Entry)) (e : Option Entry) (read : Result (List (Option Entry) × List ℕ) TableFault)
+regroup : (front : List (Option Entry)) (e : Option Entry) (read : Result (List (Option Entry) × List ℕ) TableRefusal)
     → with_entries front (before e read) ≡ with_entries (front ++ e ∷ []) read
 regroup front e (Ok x) = ap (λ (xs : List (Option Entry)). Ok (xs, x.1)) (sym (append_assoc front (e ∷ []) x.0))
 regroup front e (Err wrong) = refl
 
 pub entries-goes_on : (p : Program) (front : List (Option Entry)) (n i : ℕ) (bytes : List ℕ) (e : Option Entry) (after : List ℕ)
-    (total : Result (List (Option Entry) × List ℕ) TableFault) → i < n → entry_in p bytes ≡ Ok (e, after)
+    (total : Result (List (Option Entry) × List ℕ) TableRefusal) → i < n → entry_in p bytes ≡ Ok (e, after)
     → with_entries front (entries_in p (n - i) i bytes) ≡ total → with_entries (front ++ e ∷ []) (entries_in p (n - (i + 1)) (i + 1) after) ≡ total
 unfolding entries_in
 entries-goes_on p front n i bytes e after total lt h so_far =
@@ -28,7 +28,7 @@ entries-goes_on p front n i bytes e after total lt h so_far =
     rw (k, h) (regroup front e (entries_in p (n - (i + 1)) (i + 1) after)) in
     sym first ∙ so_far
 
-pub entries-stops : (p : Program) (front : List (Option Entry)) (n i : ℕ) (bytes : List ℕ) (stop : Stop) (total : Result (List (Option Entry) × List ℕ) TableFault)
+pub entries-stops : (p : Program) (front : List (Option Entry)) (n i : ℕ) (bytes : List ℕ) (stop : StopReason) (total : Result (List (Option Entry) × List ℕ) TableRefusal)
     → i < n → entry_in p bytes ≡ Err stop → with_entries front (entries_in p (n - i) i bytes) ≡ total → total ≡ Err (fault_of stop i)
 unfolding entries_in
 entries-stops p front n i bytes stop total lt h so_far =
@@ -36,7 +36,7 @@ entries-stops p front n i bytes stop total lt h so_far =
     let first : with_entries front (entries_in p (n - i) i bytes) ≡ Err (fault_of stop i) = rw (k, h) refl in
     sym so_far ∙ first
 
-pub entries-done : (p : Program) (front : List (Option Entry)) (n i : ℕ) (bytes : List ℕ) (total : Result (List (Option Entry) × List ℕ) TableFault)
+pub entries-done : (p : Program) (front : List (Option Entry)) (n i : ℕ) (bytes : List ℕ) (total : Result (List (Option Entry) × List ℕ) TableRefusal)
     → n ≤ i → with_entries front (entries_in p (n - i) i bytes) ≡ total → total ≡ Ok (front, bytes)
 unfolding entries_in
 entries-done p front n i bytes total le so_far =
@@ -45,7 +45,7 @@ entries-done p front n i bytes total le so_far =
     rw k (ap (λ (xs : List (Option Entry)). Ok (xs, bytes)) (append-nil front)) in
     sym so_far ∙ first
 
-begins : (read : Result (List (Option Entry) × List ℕ) TableFault) → with_entries [] read ≡ read
+begins : (read : Result (List (Option Entry) × List ℕ) TableRefusal) → with_entries [] read ≡ read
 begins (Ok x) = refl
 begins (Err e) = refl
 

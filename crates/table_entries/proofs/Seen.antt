@@ -6,17 +6,17 @@ use Rattle.std.proofs.lemmas.Bool.{le-ltb}
 use Rattle.byteorder.specs.Endian.{little_number}
 use Rattle.isa_model.specs.Code.Instructions.{Program}
 use Rattle.reg_state.specs.declared.kinds.Kind.{Kind}
-use Rattle.stack_state.specs.declared.slots.Slot.{Slot}
+use Rattle.stack_state.specs.declared.slots.StackSlot.{StackSlot}
 use Rattle.stack_state.specs.declared.states.AbstractFrame.{AbstractFrame}
 use Rattle.stack_state.specs.Slots.{frame_slots}
-use Rattle.table_entries.specs.declared.stops.Stop.{Stop}
+use Rattle.table_entries.specs.declared.stops.StopReason.{StopReason}
 use Rattle.table_entries.specs.Reading.{Read, kept, seen, then_read, joined, many}
 use Rattle.table_entries.specs.Values.{kind_in, slot_in}
-use Rattle.table_entries.specs.Frames.{frame_allowed, frame_of, frame_in, callers_in}
+use Rattle.table_entries.specs.Frames.{frame_allowed, allowed_frame, frame_in, callers_in}
 use Rattle.table_entries.specs.Entries.{named_in, head_allowed, entry_with, rest_in}
 
 abbrev pub Seen : Type 0
-Seen = Result (Bool × List ℕ) Stop
+Seen = Result (Bool × List ℕ) StopReason
 
 -- what was allowed before, and what is still passed over
 abbrev pub and_seen : Bool → Seen → Seen
@@ -56,7 +56,7 @@ seen-goes_on one whole n i bytes fits after total lt h so_far =
     let second = ap (λ (r : Seen). then_seen r (λ fits rest. and_seen (whole && fits) (seen (many one m (i + 1) rest)))) h in
     sym (ap (λ (j : ℕ). and_seen whole (seen (many one j i bytes))) k ∙ first ∙ second) ∙ so_far
 
-pub seen-stops : {X : Type 0} (one : ℕ → List ℕ → Read X) (whole : Bool) (n i : ℕ) (bytes : List ℕ) (stop : Stop) (total : Seen)
+pub seen-stops : {X : Type 0} (one : ℕ → List ℕ → Read X) (whole : Bool) (n i : ℕ) (bytes : List ℕ) (stop : StopReason) (total : Seen)
     → i < n → seen (one i bytes) ≡ Err stop → and_seen whole (seen (many one (n - i) i bytes)) ≡ total → total ≡ Err stop
 unfolding many
 seen-stops one whole n i bytes stop total lt h so_far =
@@ -91,8 +91,8 @@ some-if : {X : Type 0} (b : Bool) (x : X) → is_some (if b then Some x else Non
 some-if true x = refl
 some-if false x = refl
 
-some-frame : (holder slot : ℕ) (kinds : Option (List Kind)) (slots : Option (List Slot))
-    → is_some (frame_of holder false slot kinds slots) ≡ ((is_some kinds && is_some slots) && (not (holder == 0) || slot == 0))
+some-frame : (holder slot : ℕ) (kinds : Option (List Kind)) (slots : Option (List StackSlot))
+    → is_some (allowed_frame holder false slot kinds slots) ≡ ((is_some kinds && is_some slots) && (not (holder == 0) || slot == 0))
 some-frame holder slot (Some kinds) (Some slots) =
     some-if (frame_allowed holder false slot kinds) (record { return_slot = slot; registers = kinds; stack = record { slots = slots } })
     ∙ and-true (not (holder == 0) || slot == 0)
@@ -115,8 +115,9 @@ seen-frame rows holder bytes long =
     (λ slots after. Ok ((is_some kinds && slots) && (not (holder == 0) || little_number 2 bytes == 0), after))
     (λ slots after. ap (λ (b : Bool). Ok (b, after)) (some-frame holder (little_number 2 bytes) kinds slots))))
 
-some-kept : (holder slot : ℕ) (outer values : Bool) (kinds : List Kind) (slots : Option (List Slot))
-    → is_some (frame_of holder outer slot (kept values kinds) slots) ≡ ((values && is_some slots) && frame_allowed holder outer slot kinds)
+some-kept : (holder slot : ℕ) (outer values : Bool) (kinds : List Kind)
+    (slots : Option (List StackSlot))
+    → is_some (allowed_frame holder outer slot (kept values kinds) slots) ≡ ((values && is_some slots) && frame_allowed holder outer slot kinds)
 some-kept holder slot outer true kinds (Some slots) =
     some-if (frame_allowed holder outer slot kinds) (record { return_slot = slot; registers = kinds; stack = record { slots = slots } })
 some-kept holder slot outer true kinds None = refl
@@ -136,7 +137,8 @@ seen-caller rows holder outer bytes values kinds rest long read =
     (λ slots after. ap (λ (b : Bool). Ok (b, after)) (some-kept holder (little_number 2 bytes) outer values kinds slots)))
 
 -- one whose values could not be read
-pub stop-caller : (rows holder : ℕ) (outer : Bool) (bytes : List ℕ) (stop : Stop) → 2 ≤ length bytes
+pub stop-caller : (rows holder : ℕ) (outer : Bool) (bytes : List ℕ) (stop : StopReason)
+    → 2 ≤ length bytes
     → many (λ k. kind_in rows holder) 10 0 (drop 2 bytes) ≡ Err stop → frame_in rows holder outer bytes ≡ Err stop
 unfolding frame_in
 stop-caller rows holder outer bytes stop long read = rw (le-ltb (length bytes) 2 long, read) refl
@@ -183,7 +185,7 @@ abbrev of_ok : Bool × List ℕ → Seen → Bool × List ℕ
 of_ok d (Ok x) = x
 of_ok d (Err stop) = d
 
-abbrev of_err : Stop → Seen → Stop
+abbrev of_err : StopReason → Seen → StopReason
 of_err d (Ok x) = d
 of_err d (Err stop) = stop
 
@@ -195,6 +197,7 @@ read-seen (Ok (x, rest)) fits after h =
     (x, ap (λ (b : List ℕ). Ok (x, b)) (ap (λ (y : Bool × List ℕ). y.1) same), ap (λ (y : Bool × List ℕ). y.0) same)
 read-seen (Err stop) fits after h = grind arith
 
-pub stop-seen : {X : Type 0} (read : Read X) (stop : Stop) → seen read ≡ Err stop → read ≡ Err stop
+pub stop-seen : {X : Type 0} (read : Read X) (stop : StopReason) → seen read ≡ Err stop
+    → read ≡ Err stop
 stop-seen (Ok x) stop h = grind arith
-stop-seen (Err other) stop h = ap (λ (s : Stop). Err s) (ap (of_err other) h)
+stop-seen (Err other) stop h = ap (λ (s : StopReason). Err s) (ap (of_err other) h)

@@ -4,15 +4,15 @@ use Rattle.std.proofs.Common.{ap, subst, sym, arith}
 use Rattle.byteorder.specs.Endian.{little_number}
 use Rattle.reg_state.specs.declared.kinds.Kind.{Kind}
 use Rattle.reg_state.specs.declared.kinds.Kind.TheVariants.{Unset}
-use Rattle.stack_state.specs.declared.slots.Slot.{Slot}
+use Rattle.stack_state.specs.declared.slots.StackSlot.{StackSlot}
 use Rattle.stack_state.specs.declared.states.AbstractFrame.{AbstractFrame}
 use Rattle.stack_state.specs.Meaning.{kind_at}
 use Rattle.stack_state.specs.Slots.{frame_slots}
-use Rattle.table_entries.specs.declared.stops.Stop.TheVariants.{Short}
+use Rattle.table_entries.specs.declared.stops.StopReason.TheVariants.{Short}
 use Rattle.table_entries.specs.Blanks.{AreZeros}
 use Rattle.table_entries.specs.Reading.{Read, then_read, joined, many}
 use Rattle.table_entries.specs.Values.{kind_in, fields_in, slot_in}
-use Rattle.table_entries.specs.Frames.{frame_of, frame_in}
+use Rattle.table_entries.specs.Frames.{allowed_frame, frame_in}
 
 -- the first j of those that were read
 abbrev AreUnset : ℕ → Option (List Kind) → Type 0
@@ -62,8 +62,8 @@ zeros_unset rows holder (suc j) (suc m) k (b ∷ rest) le z =
     subst (FirstUnset (suc j)) (sym (unset_read rows holder m k rest)) (unset_then j (many (λ k. kind_in rows holder) m (k + 1) rest) others) in
     subst (λ (x : ℕ). FirstUnset (suc j) (many (λ k. kind_in rows holder) (suc m) k (x ∷ rest))) (sym zero_first) all
 
-frame_same : (holder slot : ℕ) (kinds : Option (List Kind)) (slots : Option (List Slot)) → AreUnset 6 kinds
-    → frame_of holder true slot kinds slots ≡ frame_of holder false slot kinds slots
+frame_same : (holder slot : ℕ) (kinds : Option (List Kind)) (slots : Option (List StackSlot)) → AreUnset 6 kinds
+    → allowed_frame holder true slot kinds slots ≡ allowed_frame holder false slot kinds slots
 frame_same holder slot None slots each = refl
 frame_same holder slot (Some kinds) None each = refl
 frame_same holder slot (Some kinds) (Some slots) each =
@@ -76,7 +76,7 @@ then_same (Err stop) f g each = refl
 
 abbrev then_slots : ℕ → ℕ → Bool → ℕ → Option (List Kind) → List ℕ → Read AbstractFrame
 then_slots rows holder outer leads kinds rest =
-    then_read (many (λ k. slot_in rows holder) frame_slots 0 rest) (λ slots after. Ok (frame_of holder outer leads kinds slots, after))
+    then_read (many (λ k. slot_in rows holder) frame_slots 0 rest) (λ slots after. Ok (allowed_frame holder outer leads kinds slots, after))
 
 pub unset_outer : (rows holder : ℕ) (bytes : List ℕ) → AreZeros 6 (drop 2 bytes) → frame_in rows holder true bytes ≡ frame_in rows holder false bytes
 unfolding frame_in
@@ -86,6 +86,6 @@ unset_outer rows holder bytes z =
     let unset : FirstUnset 6 kinds = zeros_unset rows holder 6 10 0 (drop 2 bytes) (omega arith) z in
     ap (λ (r : Read AbstractFrame). if nat_lt (length bytes) 2 then Err Short else r)
     (then_same kinds (then_slots rows holder true leads) (then_slots rows holder false leads) (λ ks rest read.
-    then_same (many (λ k. slot_in rows holder) frame_slots 0 rest) (λ slots after. Ok (frame_of holder true leads ks slots, after))
-    (λ slots after. Ok (frame_of holder false leads ks slots, after)) (λ slots after other.
+    then_same (many (λ k. slot_in rows holder) frame_slots 0 rest) (λ slots after. Ok (allowed_frame holder true leads ks slots, after))
+    (λ slots after. Ok (allowed_frame holder false leads ks slots, after)) (λ slots after other.
     ap (λ (f : Option AbstractFrame). Ok (f, after)) (frame_same holder leads ks slots (subst (FirstUnset 6) read unset)))))

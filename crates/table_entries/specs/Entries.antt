@@ -7,10 +7,10 @@ use Rattle.isa_model.specs.Code.Instructions.{Program, fetch}
 use Rattle.isa_model.specs.declared.limits.TheConstants.{MAX_STEPS}
 use Rattle.stack_state.specs.declared.states.AbstractFrame.{AbstractFrame}
 use Rattle.stack_state.specs.declared.states.State.{State}
-use Rattle.table_entries.specs.declared.entries.Named.{Named}
-use Rattle.table_entries.specs.declared.entries.Named.TheVariants as named
-use Rattle.table_entries.specs.declared.entries.Head.{Head}
-use Rattle.table_entries.specs.declared.stops.Stop.TheVariants.{Short, Form}
+use Rattle.table_entries.specs.declared.entries.NamedEntries.{NamedEntries}
+use Rattle.table_entries.specs.declared.entries.NamedEntries.TheVariants as named
+use Rattle.table_entries.specs.declared.entries.EntryHead.{EntryHead}
+use Rattle.table_entries.specs.declared.stops.StopReason.TheVariants.{Short, Form}
 use Rattle.table_entries.specs.Reading.{Read, sized, then_read}
 use Rattle.table_entries.specs.Frames.{frame_in, callers_in}
 
@@ -21,12 +21,12 @@ pub record Entry : Type 0 where
   pub successors : List ℕ
 
 -- the entries that are named
-abbrev pub list_of : Named → List ℕ
+abbrev pub list_of : NamedEntries → List ℕ
 list_of named.None = []
 list_of (named.One i) = i ∷ []
 list_of (named.Two i j) = i ∷ (j ∷ [])
 
-abbrev pub entry_of : Head → State → Entry
+abbrev pub entry_of : EntryHead → State → Entry
 entry_of h a = record { number = h.number; state = a; successors = list_of h.named }
 
 -- u8 count, and a u32 for each

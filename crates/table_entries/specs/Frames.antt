@@ -4,11 +4,11 @@ use Rattle.std.specs.Prelude.{ℕ, nat_lt, ◌==◌, ◌&&◌, ◌||◌, not, Bo
 use Rattle.byteorder.specs.Endian.{little_number}
 use Rattle.reg_state.specs.declared.kinds.Kind.{Kind}
 use Rattle.reg_state.specs.declared.kinds.Kind.TheVariants.{Unset}
-use Rattle.stack_state.specs.declared.slots.Slot.{Slot}
+use Rattle.stack_state.specs.declared.slots.StackSlot.{StackSlot}
 use Rattle.stack_state.specs.declared.states.AbstractFrame.{AbstractFrame}
 use Rattle.stack_state.specs.Meaning.{kind_at}
 use Rattle.stack_state.specs.Slots.{frame_slots}
-use Rattle.table_entries.specs.declared.stops.Stop.TheVariants.{Short}
+use Rattle.table_entries.specs.declared.stops.StopReason.TheVariants.{Short}
 use Rattle.table_entries.specs.Reading.{Read, then_read, many}
 use Rattle.table_entries.specs.Values.{kind_in, slot_in}
 
@@ -28,15 +28,16 @@ abbrev pub frame_allowed : ℕ → Bool → ℕ → List Kind → Bool
 frame_allowed holder outer slot kinds =
     (not (holder == 0) || slot == 0) && (not outer || are_unset kinds)
 
-abbrev pub frame_of : ℕ → Bool → ℕ → Option (List Kind) → Option (List Slot) → Option AbstractFrame
-frame_of holder outer slot (Some kinds) (Some slots) =
+abbrev pub allowed_frame : ℕ → Bool → ℕ → Option (List Kind) → Option (List StackSlot)
+    → Option AbstractFrame
+allowed_frame holder outer slot (Some kinds) (Some slots) =
     if frame_allowed holder outer slot kinds
     then Some (record {
       return_slot = slot;
       registers = kinds;
       stack = record { slots = slots };
     }) else None
-frame_of holder outer slot kinds slots = None
+allowed_frame holder outer slot kinds slots = None
 
 -- u16 return slot, ten values, the stack slots
 unfoldable pub frame_in : ℕ → ℕ → Bool → List ℕ → Read AbstractFrame
@@ -44,7 +45,7 @@ frame_in rows holder outer bytes =
     if nat_lt (length bytes) 2 then Err Short
     else then_read (many (λ k. kind_in rows holder) 10 0 (drop 2 bytes)) (λ kinds rest.
     then_read (many (λ k. slot_in rows holder) frame_slots 0 rest) (λ slots after.
-    Ok (frame_of holder outer (little_number 2 bytes) kinds slots, after)))
+    Ok (allowed_frame holder outer (little_number 2 bytes) kinds slots, after)))
 
 -- n outer call frames
 abbrev pub callers_in : ℕ → ℕ → List ℕ → Read (List AbstractFrame)

@@ -1,7 +1,7 @@
 -- Tables whose entries are placed as they are asked for, from the first on.
 use Rattle.std.specs.Prelude.{◌≡◌, ℕ, ◌-◌, ◌<◌, ◌≤◌, List, [], ◌∷◌, ◌++◌, drop, map, Option, None, IsSome, Result, Ok, Err}
 use Rattle.isa_model.specs.Code.Instructions.{Program}
-use Rattle.table_entries.specs.declared.faults.TableFault.{TableFault}
+use Rattle.table_entries.specs.declared.faults.TableRefusal.{TableRefusal}
 use Rattle.table_entries.specs.Entries.{Entry}
 use Rattle.table_entries.specs.Tables.{TableView, count_of, count_in, entries_in, entry_at, entry_from, first_none}
 
@@ -13,8 +13,8 @@ pub record Grown : Type 0 where
   pub count : ℕ
 
 -- what was read before, and what is still read
-abbrev pub with_entries : List (Option Entry) → Result (List (Option Entry) × List ℕ) TableFault
-    → Result (List (Option Entry) × List ℕ) TableFault
+abbrev pub with_entries : List (Option Entry) → Result (List (Option Entry) × List ℕ) TableRefusal
+    → Result (List (Option Entry) × List ℕ) TableRefusal
 with_entries front (Ok x) = Ok (front ++ x.0, x.1)
 with_entries front (Err e) = Err e
 

@@ -1,15 +1,16 @@
 -- Readings of bytes, one and several in a row.
 use Rattle.std.specs.Prelude.{◌≡◌, ℕ, zero, suc, ◌+◌, nat_lt, Bool, true, false, if◌then◌else◌, List, [], ◌∷◌, ◌++◌, length, drop, Option, Some, None, Result, Ok, Err}
 use Rattle.std.specs.Option.{is_some}
-use Rattle.table_entries.specs.declared.stops.Stop.{Stop}
-use Rattle.table_entries.specs.declared.stops.Stop.TheVariants.{Short}
+use Rattle.table_entries.specs.declared.stops.StopReason.{StopReason}
+use Rattle.table_entries.specs.declared.stops.StopReason.TheVariants.{Short}
 
 -- what is read, and the bytes after it. None: it is of the form, but a field is not allowed
 abbrev pub Read : Type 0 → Type 0
-Read X = Result (Option X × List ℕ) Stop
+Read X = Result (Option X × List ℕ) StopReason
 
 -- the view of what a function returned is what is read
-abbrev pub ReturnsRead : {X Y : Type 0} → (X → Y) → Result X Stop → Result Y Stop → Type 0
+abbrev pub ReturnsRead : {X Y : Type 0} → (X → Y) → Result X StopReason → Result Y StopReason
+    → Type 0
 ReturnsRead view (Ok x) read = read ≡ Ok (view x)
 ReturnsRead view (Err stop) read = read ≡ Err stop
 
@@ -19,7 +20,7 @@ kept true x = Some x
 kept false x = None
 
 -- whether what is read is allowed, and the bytes after it
-abbrev pub seen : {X : Type 0} → Read X → Result (Bool × List ℕ) Stop
+abbrev pub seen : {X : Type 0} → Read X → Result (Bool × List ℕ) StopReason
 seen (Ok x) = Ok (is_some x.0, x.1)
 seen (Err stop) = Err stop
 

@@ -4,46 +4,46 @@ use Rattle.std.specs.List.{starts_with}
 use Rattle.std.specs.Option.{option_and_then}
 use Rattle.byteorder.specs.Endian.{little_number}
 use Rattle.isa_model.specs.Code.Instructions.{Program}
-use Rattle.table_entries.specs.declared.faults.TableFault.{TableFault}
-use Rattle.table_entries.specs.declared.faults.TableFault.TheVariants as fault
-use Rattle.table_entries.specs.declared.stops.Stop.{Stop}
-use Rattle.table_entries.specs.declared.stops.Stop.TheVariants.{Short, Form}
+use Rattle.table_entries.specs.declared.faults.TableRefusal.{TableRefusal}
+use Rattle.table_entries.specs.declared.faults.TableRefusal.TheVariants as fault
+use Rattle.table_entries.specs.declared.stops.StopReason.{StopReason}
+use Rattle.table_entries.specs.declared.stops.StopReason.TheVariants.{Short, Form}
 use Rattle.isa_model.specs.declared.limits.TheConstants.{MAX_EXPLORED}
 use Rattle.table_entries.specs.Reading.{Read, allowed}
 use Rattle.table_entries.specs.Entries.{Entry, entry_in}
 
 -- bytes that end, and a byte without a meaning in the entry of index k
-abbrev pub fault_of : Stop → ℕ → TableFault
+abbrev pub fault_of : StopReason → ℕ → TableRefusal
 fault_of Short k = fault.Short
 fault_of Form k = fault.Entry k
 
-abbrev pub before : Option Entry → Result (List (Option Entry) × List ℕ) TableFault
-    → Result (List (Option Entry) × List ℕ) TableFault
+abbrev pub before : Option Entry → Result (List (Option Entry) × List ℕ) TableRefusal
+    → Result (List (Option Entry) × List ℕ) TableRefusal
 before first (Ok x) = Ok (first ∷ x.0, x.1)
 before first (Err e) = Err e
 
 -- the entry of index k, and what is read after it
 abbrev pub then_entries : ℕ → Read Entry
-    → (List ℕ → Result (List (Option Entry) × List ℕ) TableFault)
-    → Result (List (Option Entry) × List ℕ) TableFault
+    → (List ℕ → Result (List (Option Entry) × List ℕ) TableRefusal)
+    → Result (List (Option Entry) × List ℕ) TableRefusal
 then_entries k (Err stop) others = Err (fault_of stop k)
 then_entries k (Ok x) others = before x.0 (others x.1)
 
 -- n entries, from index k on
 unfoldable pub entries_in : Program → ℕ → ℕ → List ℕ
-    → Result (List (Option Entry) × List ℕ) TableFault
+    → Result (List (Option Entry) × List ℕ) TableRefusal
 entries_in p zero k bytes = Ok ([], bytes)
 entries_in p (suc n) k bytes =
     then_entries k (entry_in p bytes) (λ rest. entries_in p n (k + 1) rest)
 
 -- no bytes are left over
-abbrev pub to_the_end : Result (List (Option Entry) × List ℕ) TableFault
-    → Result (List (Option Entry)) TableFault
+abbrev pub to_the_end : Result (List (Option Entry) × List ℕ) TableRefusal
+    → Result (List (Option Entry)) TableRefusal
 to_the_end (Ok x) = if length x.1 == 0 then Ok x.0 else Err fault.Long
 to_the_end (Err e) = Err e
 
 -- how many entries the first 8 bytes say that there are
-abbrev pub count_in : List ℕ → Result ℕ TableFault
+abbrev pub count_in : List ℕ → Result ℕ TableRefusal
 count_in bytes =
     if nat_lt (length bytes) 8 then Err fault.Short
     else if not (starts_with nat_eq bytes (codes "XPT1")) then Err fault.Magic
@@ -51,16 +51,16 @@ count_in bytes =
     if count == 0 || nat_lt MAX_EXPLORED count then Err fault.Count else Ok count
 
 -- this number of entries after the first 8 bytes, and nothing more
-abbrev pub body_in : Program → List ℕ → ℕ → Result (List (Option Entry)) TableFault
+abbrev pub body_in : Program → List ℕ → ℕ → Result (List (Option Entry)) TableRefusal
 body_in p bytes count = to_the_end (entries_in p count 0 (drop 8 bytes))
 
-abbrev pub with_count : Program → List ℕ → Result ℕ TableFault
-    → Result (List (Option Entry)) TableFault
+abbrev pub with_count : Program → List ℕ → Result ℕ TableRefusal
+    → Result (List (Option Entry)) TableRefusal
 with_count p bytes (Ok count) = body_in p bytes count
 with_count p bytes (Err e) = Err e
 
 -- the entries of a table; None: an entry has a field that is not allowed
-abbrev pub table_in : Program → List ℕ → Result (List (Option Entry)) TableFault
+abbrev pub table_in : Program → List ℕ → Result (List (Option Entry)) TableRefusal
 table_in p bytes = with_count p bytes (count_in bytes)
 
 -- the first of them that is None, where the first has index k
@@ -74,16 +74,17 @@ all_of [] = []
 all_of (None ∷ entries) = all_of entries
 all_of (Some e ∷ entries) = e ∷ all_of entries
 
-abbrev pub unless : Option ℕ → List Entry → Result (List Entry) TableFault
+abbrev pub unless : Option ℕ → List Entry → Result (List Entry) TableRefusal
 unless (Some k) entries = Err (fault.Entry k)
 unless None entries = Ok entries
 
-abbrev pub all_allowed : Result (List (Option Entry)) TableFault → Result (List Entry) TableFault
+abbrev pub all_allowed : Result (List (Option Entry)) TableRefusal
+    → Result (List Entry) TableRefusal
 all_allowed (Ok entries) = unless (first_none 0 entries) (all_of entries)
 all_allowed (Err e) = Err e
 
 -- the entries of a table, all of whose fields are allowed; else the first that is not
-abbrev pub table_read : Program → List ℕ → Result (List Entry) TableFault
+abbrev pub table_read : Program → List ℕ → Result (List Entry) TableRefusal
 table_read p bytes = all_allowed (table_in p bytes)
 
 -- ---- tables that are kept

@@ -13,9 +13,9 @@ use Rattle.ranges.specs.declared.range.Range.{Range}
 use Rattle.reg_state.specs.declared.scalars.Scalar.{Scalar}
 use Rattle.reg_state.specs.declared.kinds.Kind.{Kind}
 use Rattle.reg_state.specs.declared.kinds.Kind.TheVariants.{Unset, Number, Context, Stack, Packet, PacketEnd, Map, MapValue, MapValueOrNull}
-use Rattle.stack_state.specs.declared.slots.Slot.{Slot}
-use Rattle.stack_state.specs.declared.slots.Slot.TheVariants.{Written, Spilled}
-use Rattle.table_entries.specs.declared.stops.Stop.TheVariants.{Short, Form}
+use Rattle.stack_state.specs.declared.slots.StackSlot.{StackSlot}
+use Rattle.stack_state.specs.declared.slots.StackSlot.TheVariants.{Written, Spilled}
+use Rattle.table_entries.specs.declared.stops.StopReason.TheVariants.{Short, Form}
 use Rattle.table_entries.specs.Deciding.{decide, decide_less, decide_z}
 use Rattle.table_entries.specs.Reading.{Read, sized, then_read}
 
@@ -183,21 +183,21 @@ kind_in rows holder [] = Err Short
 kind_in rows holder (kind ∷ bytes) = fields_in rows holder kind bytes
 
 -- a value in a slot: it is set
-abbrev pub spilled : Option Kind → Option Slot
+abbrev pub spilled : Option Kind → Option StackSlot
 spilled None = None
 spilled (Some Unset) = None
 spilled (Some k) = Some (Spilled k)
 
-abbrev pub spilled_in : Read Kind → Read Slot
+abbrev pub spilled_in : Read Kind → Read StackSlot
 spilled_in kind = then_read kind (λ k rest. Ok (spilled k, rest))
 
 -- the marks of written bytes: 1 byte
-abbrev pub marks_in : List ℕ → Read Slot
+abbrev pub marks_in : List ℕ → Read StackSlot
 marks_in [] = Err Short
 marks_in (marks ∷ bytes) = Ok (Some (Written marks), bytes)
 
 -- a stack slot: 0 and marks, or 1 and a value
-unfoldable pub slot_in : ℕ → ℕ → List ℕ → Read Slot
+unfoldable pub slot_in : ℕ → ℕ → List ℕ → Read StackSlot
 slot_in rows holder [] = Err Short
 slot_in rows holder (form ∷ bytes) =
     if form == 0 then marks_in bytes

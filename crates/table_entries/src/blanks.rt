@@ -5,7 +5,7 @@ ghost use Rattle.stack_state.specs.Slots.{frame_slots};
 ghost use Rattle.table_entries.specs.Blanks.{AreZeros};
 
 use crate::slices::{skip, u16_at, u32_at, u64_at};
-use stack_state::{FRAME_SLOTS, Slot};
+use stack_state::{FRAME_SLOTS, StackSlot};
 
 // Whether the first 32 bytes are there, and are zeros.
 #[inline(always)]
@@ -98,19 +98,19 @@ pub fn begins_unset(bytes: &[u8]) -> bool
 }
 
 #[inline(always)]
-fn is_blank(slot: &Slot) -> bool
-    ensures { IsTrue result → slot.now ≡ Slot.Written 0 }
+fn is_blank(slot: &StackSlot) -> bool
+    ensures { IsTrue result → slot.now ≡ StackSlot.Written 0 }
 {
     match slot {
-        Slot::Written(marks) => *marks == 0,
-        Slot::Spilled(_) => false,
+        StackSlot::Written(marks) => *marks == 0,
+        StackSlot::Spilled(_) => false,
     }
 }
 
 /// Whether nothing is known of the first slots.
-pub fn are_blank(slots: &[Slot; FRAME_SLOTS], count: usize) -> bool
+pub fn are_blank(slots: &[StackSlot; FRAME_SLOTS], count: usize) -> bool
     requires { count ≤ frame_slots }
-    ensures { IsTrue result → take count slots.now ≡ replicate count (Slot.Written 0) }
+    ensures { IsTrue result → take count slots.now ≡ replicate count (StackSlot.Written 0) }
 {
     for index in 0..count {
         if !is_blank(&slots[index]) {

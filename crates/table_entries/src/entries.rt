@@ -9,14 +9,14 @@ ghost use Rattle.table_entries.specs.Reading.{ReturnsRead, kept};
 use crate::frames::{read_callers, read_frame};
 use crate::loops::both;
 use crate::slices::{skip, u16_at, u32_at};
-use crate::stops::Stop;
+use crate::stops::StopReason;
 use image::Image;
 use isa_model::{MAX_CALL_FRAMES, MAX_STEPS};
 use stack_state::State;
 
 /// The entries that an entry names, the fall-through first.
 #[derive(Clone, Copy, PartialEq, Eq, Debug, Drop)]
-pub enum Named {
+pub enum NamedEntries {
     None,
     One(u32),
     Two(u32, u32),
@@ -24,34 +24,37 @@ pub enum Named {
 
 /// What an entry says beside its state.
 #[derive(Clone, Copy, PartialEq, Eq, Debug, Drop)]
-pub struct Head {
+pub struct EntryHead {
     /// How many steps a run makes at most from the state on.
     pub number: u32,
     /// The entries to which its step leads.
-    pub named: Named,
+    pub named: NamedEntries,
 }
 
 /// The entries that are named, and the bytes after them.
 #[tactic(auto, unfolding(crate::specs::Entries::named_in))]
-pub fn named_in(bytes: &[u8]) -> Result<(Named, &[u8]), Stop>
+pub fn named_in(bytes: &[u8]) -> Result<(NamedEntries, &[u8]), StopReason>
     ensures { ReturnsRead (λ x. (Some (list_of x.0), x.1.now)) result (named_in bytes.now) }
 {
     match bytes {
-        [] => Err(Stop::Short),
-        [0, rest @ ..] => Ok((Named::None, rest)),
+        [] => Err(StopReason::Short),
+        [0, rest @ ..] => Ok((NamedEntries::None, rest)),
         [1, rest @ ..] => {
             if rest.len() < 4 {
-                return Err(Stop::Short);
+                return Err(StopReason::Short);
             }
-            Ok((Named::One(u32_at(rest, 0)), skip(rest, 4)))
+            Ok((NamedEntries::One(u32_at(rest, 0)), skip(rest, 4)))
         }
         [2, rest @ ..] => {
             if rest.len() < 8 {
-                return Err(Stop::Short);
+                return Err(StopReason::Short);
             }
-            Ok((Named::Two(u32_at(rest, 0), u32_at(rest, 4)), skip(rest, 8)))
+            Ok((
+                NamedEntries::Two(u32_at(rest, 0), u32_at(rest, 4)),
+                skip(rest, 8),
+            ))
         }
-        [_, ..] => Err(Stop::Form),
+        [_, ..] => Err(StopReason::Form),
     }
 }
 
@@ -61,7 +64,7 @@ pub fn head_allowed(image: &Image, number: u32, slot: usize) -> bool
     number != 0 && number <= MAX_STEPS && image.at(slot).is_some()
 }
 
-fn head_if(allowed: bool, head: Head) -> Option<Head>
+fn head_if(allowed: bool, head: EntryHead) -> Option<EntryHead>
     ensures { result ≡ kept allowed head }
 {
     if allowed { Some(head) } else { None }
@@ -74,7 +77,7 @@ fn read_rest<'a>(
     outer: usize,
     bytes: &'a [u8],
     state: &mut State,
-) -> Result<(Option<Head>, &'a [u8]), Stop>
+) -> Result<(Option<EntryHead>, &'a [u8]), StopReason>
     requires { outer < max_call_frames }
     ensures { ReturnsRead (λ x. (option_map (λ head. entry_of head state.new) x.0, x.1.now)) result
         (rest_in image.now number state.old.slot outer bytes.now) }
@@ -90,7 +93,10 @@ fn read_rest<'a>(
     let (innermost, rest) = read_frame(rows, outer, false, rest, &mut state.innermost)?;
     let (named, rest) = named_in(rest)?;
     let fits = head_allowed(image, number, state.slot);
-    let head = head_if(both(both(callers, innermost), fits), Head { number, named });
+    let head = head_if(
+        both(both(callers, innermost), fits),
+        EntryHead { number, named },
+    );
     Ok((head, rest))
 }
 
@@ -101,16 +107,16 @@ pub fn read_entry<'a>(
     image: &Image,
     bytes: &'a [u8],
     state: &mut State,
-) -> Result<(Option<Head>, &'a [u8]), Stop>
+) -> Result<(Option<EntryHead>, &'a [u8]), StopReason>
     ensures { ReturnsRead (λ x. (option_map (λ head. entry_of head state.new) x.0, x.1.now)) result
         (entry_in image.now bytes.now) }
 {
     if bytes.len() < 7 {
-        return Err(Stop::Short);
+        return Err(StopReason::Short);
     }
     let frames = usize::from(bytes[6]);
     if frames == 0 || frames > MAX_CALL_FRAMES {
-        return Err(Stop::Form);
+        return Err(StopReason::Form);
     }
     let number = u32_at(bytes, 0);
     state.slot = usize::from(u16_at(bytes, 4));

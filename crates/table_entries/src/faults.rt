@@ -2,7 +2,7 @@
 
 /// What is wrong with the bytes of a table.
 #[derive(Clone, Copy, PartialEq, Eq, Debug, Drop)]
-pub enum TableFault {
+pub enum TableRefusal {
     /// P1: they do not begin with `XPT1`.
     Magic,
     /// P2: they end too early.

@@ -7,7 +7,7 @@ ghost use Rattle.table_entries.specs.Reading.{ReturnsRead, kept};
 
 use crate::loops::{both, read_registers, read_slots};
 use crate::slices::{skip, u16_at};
-use crate::stops::Stop;
+use crate::stops::StopReason;
 use arrayvec::ArrayVec;
 use reg_state::Kind;
 use stack_state::{AbstractFrame, MAX_CALLERS};
@@ -44,12 +44,12 @@ pub fn read_frame<'a>(
     outer: bool,
     bytes: &'a [u8],
     frame: &mut AbstractFrame,
-) -> Result<(bool, &'a [u8]), Stop>
+) -> Result<(bool, &'a [u8]), StopReason>
     ensures { ReturnsRead (λ x. (kept x.0 frame.new, x.1.now)) result
         (frame_in rows holder outer bytes.now) }
 {
     if bytes.len() < 2 {
-        return Err(Stop::Short);
+        return Err(StopReason::Short);
     }
     frame.return_slot = usize::from(u16_at(bytes, 0));
     let (values, rest) = read_registers(rows, holder, skip(bytes, 2), &mut frame.registers)?;
@@ -66,7 +66,7 @@ pub fn read_callers<'a>(
     bytes: &'a [u8],
     callers: &mut ArrayVec<AbstractFrame, MAX_CALLERS>,
     free: &mut AbstractFrame,
-) -> Result<(bool, &'a [u8]), Stop>
+) -> Result<(bool, &'a [u8]), StopReason>
     requires { count < max_call_frames }
     ensures { ReturnsRead (λ x. (kept x.0 callers.new.items, x.1.now)) result
         (callers_in rows count bytes.now) }

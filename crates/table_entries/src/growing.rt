@@ -9,7 +9,7 @@ ghost use Rattle.table_entries.specs.Entries.{IsAllowed, entry_of};
 ghost use Rattle.table_entries.specs.Tables.{entry_at, count_of};
 ghost use Rattle.table_entries.specs.Growing.{IsBegun, MayGrow, Grows, with_place};
 
-use crate::entries::Head;
+use crate::entries::EntryHead;
 use crate::passing::pass_entry;
 use crate::slices::skip;
 use crate::spelling::after_entry;
@@ -163,7 +163,7 @@ impl<'a> Growing<'a> {
 
     /// What the entry of that index says beside its state, if it is the next one to be placed, and
     /// its bytes spell this state: then it is placed. None says nothing.
-    pub fn take(&mut self, image: &Image, index: usize, state: &State) -> Option<Head>
+    pub fn take(&mut self, image: &Image, index: usize, state: &State) -> Option<EntryHead>
         requires { MayGrow image.now self.old }
         ensures grows { Grows image.now self.old self.new }
         ensures allowed { IfSome result (λ head. IsAllowed image.now head.number state.now.slot) }

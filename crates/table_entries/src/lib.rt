@@ -18,7 +18,7 @@ pub mod stops;
 pub mod tables;
 pub mod values;
 
-pub use entries::{Head, Named};
-pub use faults::TableFault;
+pub use entries::{EntryHead, NamedEntries};
+pub use faults::TableRefusal;
 pub use growing::Growing;
 pub use tables::Table;

@@ -7,10 +7,10 @@ ghost use Rattle.table_entries.specs.Reading.{ReturnsRead, kept, many};
 
 use crate::blanks::blank_slots;
 use crate::slices::skip;
-use crate::stops::Stop;
+use crate::stops::StopReason;
 use crate::values::{kind_in, slot_in};
 use reg_state::Kind;
-use stack_state::{FRAME_SLOTS, Slot};
+use stack_state::{FRAME_SLOTS, StackSlot};
 
 /// Whether both are so.
 pub fn both(first: bool, second: bool) -> bool
@@ -27,7 +27,7 @@ fn read_kind<'a>(
     holder: usize,
     bytes: &'a [u8],
     kind: &mut Kind,
-) -> Result<(bool, &'a [u8]), Stop>
+) -> Result<(bool, &'a [u8]), StopReason>
     ensures { ReturnsRead (λ x. (kept x.0 kind.new, x.1.now)) result
         (kind_in rows holder bytes.now) }
 {
@@ -51,12 +51,12 @@ fn read_kind<'a>(
 
 // Marks the written bytes of a slot; a whole slot is written only where one was spilled.
 #[inline(always)]
-fn mark(slot: &mut Slot, marks: u8)
-    ensures { slot.new ≡ Slot.Written marks }
+fn mark(slot: &mut StackSlot, marks: u8)
+    ensures { slot.new ≡ StackSlot.Written marks }
 {
     match slot {
-        Slot::Written(old) => *old = marks,
-        Slot::Spilled(_) => *slot = Slot::Written(marks),
+        StackSlot::Written(old) => *old = marks,
+        StackSlot::Spilled(_) => *slot = StackSlot::Written(marks),
     }
 }
 
@@ -69,8 +69,8 @@ fn read_slot<'a>(
     rows: usize,
     holder: usize,
     bytes: &'a [u8],
-    slot: &mut Slot,
-) -> Result<(bool, &'a [u8]), Stop>
+    slot: &mut StackSlot,
+) -> Result<(bool, &'a [u8]), StopReason>
     ensures { ReturnsRead (λ x. (kept x.0 slot.new, x.1.now)) result
         (slot_in rows holder bytes.now) }
 {
@@ -99,7 +99,7 @@ pub fn read_registers<'a>(
     holder: usize,
     bytes: &'a [u8],
     registers: &mut [Kind; 10],
-) -> Result<(bool, &'a [u8]), Stop>
+) -> Result<(bool, &'a [u8]), StopReason>
     ensures { ReturnsRead (λ x. (kept x.0 registers.new, x.1.now)) result
         (many (λ k. kind_in rows holder) 10 0 bytes.now) }
 {
@@ -114,9 +114,9 @@ pub fn read_registers<'a>(
 }
 
 // Marks no byte of the first slots.
-fn clear(slots: &mut [Slot; FRAME_SLOTS], count: usize)
+fn clear(slots: &mut [StackSlot; FRAME_SLOTS], count: usize)
     requires { count ≤ frame_slots }
-    ensures { take count slots.new ≡ replicate count (Slot.Written 0) }
+    ensures { take count slots.new ≡ replicate count (StackSlot.Written 0) }
 {
     for index in 0..count {
         mark(&mut slots[index], 0);
@@ -129,8 +129,8 @@ pub fn read_slots<'a>(
     rows: usize,
     holder: usize,
     bytes: &'a [u8],
-    slots: &mut [Slot; FRAME_SLOTS],
-) -> Result<(bool, &'a [u8]), Stop>
+    slots: &mut [StackSlot; FRAME_SLOTS],
+) -> Result<(bool, &'a [u8]), StopReason>
     ensures { ReturnsRead (λ x. (kept x.0 slots.new, x.1.now)) result
         (many (λ k. slot_in rows holder) frame_slots 0 bytes.now) }
 {

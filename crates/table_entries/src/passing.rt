@@ -13,7 +13,7 @@ use crate::entries::{head_allowed, named_in};
 use crate::frames::frame_allowed;
 use crate::loops::{both, read_registers};
 use crate::slices::{skip, u16_at, u32_at};
-use crate::stops::Stop;
+use crate::stops::StopReason;
 use crate::values::{kind_in, packet_in, scalar_in, slot_in};
 use image::Image;
 use isa_model::MAX_CALL_FRAMES;
@@ -22,7 +22,7 @@ use stack_state::FRAME_SLOTS;
 
 // A value of one of the rare kinds, or one that is not allowed or of no kind.
 #[inline(never)]
-fn pass_other(rows: usize, holder: usize, bytes: &[u8]) -> Result<(bool, &[u8]), Stop>
+fn pass_other(rows: usize, holder: usize, bytes: &[u8]) -> Result<(bool, &[u8]), StopReason>
     ensures { ReturnsRead (λ x. (x.0, x.1.now)) result (seen (kind_in rows holder bytes.now)) }
 {
     let (kind, rest) = kind_in(rows, holder, bytes)?;
@@ -45,27 +45,27 @@ fn is_stack(holder: usize, bytes: &[u8]) -> bool
 
 #[inline(always)]
 #[tactic(auto, using(crate::proofs::NumberSlots::number_there), unfolding(crate::specs::Values::kind_in, crate::specs::Values::fields_in))]
-fn pass_kind(rows: usize, holder: usize, bytes: &[u8]) -> Result<(bool, &[u8]), Stop>
+fn pass_kind(rows: usize, holder: usize, bytes: &[u8]) -> Result<(bool, &[u8]), StopReason>
     ensures { ReturnsRead (λ x. (x.0, x.1.now)) result (seen (kind_in rows holder bytes.now)) }
 {
     match bytes {
         [0, rest @ ..] => Ok((true, rest)),
         [1, rest @ ..] => {
             if rest.len() < 64 {
-                return Err(Stop::Short);
+                return Err(StopReason::Short);
             }
             Ok((scalar_in(rest).is_some(), skip(rest, 64)))
         }
         [2, rest @ ..] => Ok((true, rest)),
         [3, rest @ ..] => {
             if rest.len() < 5 {
-                return Err(Stop::Short);
+                return Err(StopReason::Short);
             }
             Ok((is_stack(holder, rest), skip(rest, 5)))
         }
         [4, rest @ ..] => {
             if rest.len() < 20 {
-                return Err(Stop::Short);
+                return Err(StopReason::Short);
             }
             Ok((packet_in(rest).is_some(), skip(rest, 20)))
         }
@@ -76,7 +76,7 @@ fn pass_kind(rows: usize, holder: usize, bytes: &[u8]) -> Result<(bool, &[u8]), 
 
 // A slot with a spilled value, or of no form.
 #[inline(never)]
-fn pass_spilled(rows: usize, holder: usize, bytes: &[u8]) -> Result<(bool, &[u8]), Stop>
+fn pass_spilled(rows: usize, holder: usize, bytes: &[u8]) -> Result<(bool, &[u8]), StopReason>
     ensures { ReturnsRead (λ x. (x.0, x.1.now)) result (seen (slot_in rows holder bytes.now)) }
 {
     let (slot, rest) = slot_in(rows, holder, bytes)?;
@@ -85,14 +85,14 @@ fn pass_spilled(rows: usize, holder: usize, bytes: &[u8]) -> Result<(bool, &[u8]
 
 #[inline(always)]
 #[tactic(auto, using(crate::proofs::NumberSlots::spilled_number), unfolding(crate::specs::Values::slot_in, crate::specs::Values::kind_in, crate::specs::Values::fields_in))]
-fn pass_slot(rows: usize, holder: usize, bytes: &[u8]) -> Result<(bool, &[u8]), Stop>
+fn pass_slot(rows: usize, holder: usize, bytes: &[u8]) -> Result<(bool, &[u8]), StopReason>
     ensures { ReturnsRead (λ x. (x.0, x.1.now)) result (seen (slot_in rows holder bytes.now)) }
 {
     match bytes {
         [0, _, rest @ ..] => Ok((true, rest)),
         [1, 1, rest @ ..] => {
             if rest.len() < 64 {
-                return Err(Stop::Short);
+                return Err(StopReason::Short);
             }
             Ok((scalar_in(rest).is_some(), skip(rest, 64)))
         }
@@ -102,7 +102,7 @@ fn pass_slot(rows: usize, holder: usize, bytes: &[u8]) -> Result<(bool, &[u8]), 
     }
 }
 
-fn pass_kinds(rows: usize, holder: usize, bytes: &[u8]) -> Result<(bool, &[u8]), Stop>
+fn pass_kinds(rows: usize, holder: usize, bytes: &[u8]) -> Result<(bool, &[u8]), StopReason>
     ensures { ReturnsRead (λ x. (x.0, x.1.now)) result
         (seen (many (λ k. kind_in rows holder) 10 0 bytes.now)) }
 {
@@ -116,7 +116,7 @@ fn pass_kinds(rows: usize, holder: usize, bytes: &[u8]) -> Result<(bool, &[u8]),
     Ok((allowed, rest))
 }
 
-fn pass_slots(rows: usize, holder: usize, bytes: &[u8]) -> Result<(bool, &[u8]), Stop>
+fn pass_slots(rows: usize, holder: usize, bytes: &[u8]) -> Result<(bool, &[u8]), StopReason>
     ensures { ReturnsRead (λ x. (x.0, x.1.now)) result
         (seen (many (λ k. slot_in rows holder) frame_slots 0 bytes.now)) }
 {
@@ -138,12 +138,12 @@ fn returns_right(holder: usize, slot: u16) -> bool
 }
 
 /// The innermost frame.
-fn pass_frame(rows: usize, holder: usize, bytes: &[u8]) -> Result<(bool, &[u8]), Stop>
+fn pass_frame(rows: usize, holder: usize, bytes: &[u8]) -> Result<(bool, &[u8]), StopReason>
     ensures { ReturnsRead (λ x. (x.0, x.1.now)) result
         (seen (frame_in rows holder false bytes.now)) }
 {
     if bytes.len() < 2 {
-        return Err(Stop::Short);
+        return Err(StopReason::Short);
     }
     let fits = returns_right(holder, u16_at(bytes, 0));
     let (values, rest) = pass_kinds(rows, holder, skip(bytes, 2))?;
@@ -157,12 +157,12 @@ fn pass_registers<'a>(
     holder: usize,
     bytes: &'a [u8],
     room: &mut [Kind; 10],
-) -> Result<(bool, &'a [u8]), Stop>
+) -> Result<(bool, &'a [u8]), StopReason>
     ensures { ReturnsRead (λ x. (x.0, x.1.now)) result
         (seen (frame_in rows holder true bytes.now)) }
 {
     if bytes.len() < 2 {
-        return Err(Stop::Short);
+        return Err(StopReason::Short);
     }
     let (values, rest) = read_registers(rows, holder, skip(bytes, 2), room)?;
     let (slots, rest) = pass_slots(rows, holder, rest)?;
@@ -177,7 +177,7 @@ fn pass_caller<'a>(
     holder: usize,
     bytes: &'a [u8],
     room: &mut [Kind; 10],
-) -> Result<(bool, &'a [u8]), Stop>
+) -> Result<(bool, &'a [u8]), StopReason>
     ensures { ReturnsRead (λ x. (x.0, x.1.now)) result
         (seen (frame_in rows holder true bytes.now)) }
 {
@@ -193,7 +193,7 @@ fn pass_callers<'a>(
     count: usize,
     bytes: &'a [u8],
     room: &mut [Kind; 10],
-) -> Result<(bool, &'a [u8]), Stop>
+) -> Result<(bool, &'a [u8]), StopReason>
     ensures { ReturnsRead (λ x. (x.0, x.1.now)) result (seen (callers_in rows count bytes.now)) }
 {
     let mut rest = bytes;
@@ -214,7 +214,7 @@ fn pass_rest<'a>(
     outer: usize,
     bytes: &'a [u8],
     room: &mut [Kind; 10],
-) -> Result<(bool, &'a [u8]), Stop>
+) -> Result<(bool, &'a [u8]), StopReason>
     ensures { ReturnsRead (λ x. (x.0, x.1.now)) result
         (seen (rest_in image.now number slot outer bytes.now)) }
 {
@@ -233,15 +233,15 @@ pub fn pass_entry<'a>(
     image: &Image,
     bytes: &'a [u8],
     room: &mut [Kind; 10],
-) -> Result<(bool, &'a [u8]), Stop>
+) -> Result<(bool, &'a [u8]), StopReason>
     ensures { ReturnsRead (λ x. (x.0, x.1.now)) result (seen (entry_in image.now bytes.now)) }
 {
     if bytes.len() < 7 {
-        return Err(Stop::Short);
+        return Err(StopReason::Short);
     }
     let frames = usize::from(bytes[6]);
     if frames == 0 || frames > MAX_CALL_FRAMES {
-        return Err(Stop::Form);
+        return Err(StopReason::Form);
     }
     let number = u32_at(bytes, 0);
     let slot = usize::from(u16_at(bytes, 4));

@@ -11,7 +11,7 @@ ghost use Rattle.table_entries.specs.Entries.{entry_in, entry_of, rest_in};
 ghost use Rattle.table_entries.specs.Reading.{many};
 
 use crate::blanks::{are_blank, blank_slots};
-use crate::entries::{Head, head_allowed, named_in};
+use crate::entries::{EntryHead, head_allowed, named_in};
 use crate::frames::frame_allowed;
 use crate::slices::{skip, u16_at, u32_at, u64_at};
 use crate::values::{kind_in, packet_in, stack_in};
@@ -19,7 +19,7 @@ use image::Image;
 use known_bits::Bits;
 use ranges::{Low, Wide};
 use reg_state::{Kind, Scalar};
-use stack_state::{AbstractFrame, FRAME_SLOTS, Slot, State};
+use stack_state::{AbstractFrame, FRAME_SLOTS, StackSlot, State};
 
 #[inline(always)]
 fn are_bits(bytes: &[u8], bits: &Bits) -> bool
@@ -246,16 +246,16 @@ fn after_kind<'a>(rows: usize, holder: usize, bytes: &'a [u8], kind: &Kind) -> O
 
 #[inline(always)]
 #[tactic(auto, unfolding(crate::specs::Values::slot_in))]
-fn after_slot<'a>(rows: usize, holder: usize, bytes: &'a [u8], slot: &Slot) -> Option<&'a [u8]>
+fn after_slot<'a>(rows: usize, holder: usize, bytes: &'a [u8], slot: &StackSlot) -> Option<&'a [u8]>
     ensures { IfSome result
         (λ rest. slot_in rows holder bytes.now ≡ Ok (Some slot.now, rest.now)) }
 {
     match (slot, bytes) {
-        (Slot::Written(marks), [0, there, rest @ ..]) => {
+        (StackSlot::Written(marks), [0, there, rest @ ..]) => {
             if *there == *marks { Some(rest) } else { None }
         }
-        (Slot::Spilled(Kind::Unset), _) => None,
-        (Slot::Spilled(kind), [1, rest @ ..]) => after_kind(rows, holder, rest, kind),
+        (StackSlot::Spilled(Kind::Unset), _) => None,
+        (StackSlot::Spilled(kind), [1, rest @ ..]) => after_kind(rows, holder, rest, kind),
         _ => None,
     }
 }
@@ -280,7 +280,7 @@ fn after_slots<'a>(
     rows: usize,
     holder: usize,
     bytes: &'a [u8],
-    slots: &[Slot; FRAME_SLOTS],
+    slots: &[StackSlot; FRAME_SLOTS],
 ) -> Option<&'a [u8]>
     ensures { IfSome result (λ rest. many (λ k. slot_in rows holder) frame_slots 0 bytes.now
         ≡ Ok (Some slots.now, rest.now)) }
@@ -335,7 +335,7 @@ fn after_rest<'a>(
     number: u32,
     bytes: &'a [u8],
     state: &State,
-) -> Option<(Head, &'a [u8])>
+) -> Option<(EntryHead, &'a [u8])>
     ensures { IfSome result (λ x. rest_in image.now number state.now.slot
         (length state.now.callers.items) bytes.now
         ≡ Ok (Some (entry_of x.0 state.now), x.1.now)) }
@@ -348,7 +348,7 @@ fn after_rest<'a>(
         return None;
     }
     match named_in(rest) {
-        Ok((named, after)) => Some((Head { number, named }, after)),
+        Ok((named, after)) => Some((EntryHead { number, named }, after)),
         Err(_) => None,
     }
 }
@@ -360,7 +360,7 @@ pub(crate) fn after_entry<'a>(
     image: &Image,
     bytes: &'a [u8],
     state: &State,
-) -> Option<(Head, &'a [u8])>
+) -> Option<(EntryHead, &'a [u8])>
     ensures { IfSome result (λ x. entry_in image.now bytes.now
         ≡ Ok (Some (entry_of x.0 state.now), x.1.now)) }
 {

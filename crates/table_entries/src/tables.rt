@@ -4,17 +4,17 @@ ghost use Rattle.std.specs.Prelude.{◌≡◌, ◌⊎◌, ◌≤◌, ◌-◌, Is
 ghost use Rattle.table_entries.specs.Reading.{seen};
 ghost use Rattle.isa_model.specs.Code.Instructions.{Program};
 ghost use Rattle.table_entries.specs.Entries.{Entry, IsAllowed, entry_in, entry_of};
-ghost use Rattle.table_entries.specs.declared.entries.Head.{Head};
-ghost use Rattle.table_entries.specs.declared.stops.Stop.{Stop};
+ghost use Rattle.table_entries.specs.declared.entries.EntryHead.{EntryHead};
+ghost use Rattle.table_entries.specs.declared.stops.StopReason.{StopReason};
 ghost use Rattle.table_entries.specs.Growing.{with_place};
 ghost use Rattle.table_entries.specs.Tables.{TableView, KeepsEntries, table_read, entry_at, count_of, ArePlaced, count_in, body_in, fault_of, earlier};
 
-use crate::entries::{Head, read_entry};
-use crate::faults::TableFault;
+use crate::entries::{EntryHead, read_entry};
+use crate::faults::TableRefusal;
 use crate::passing::pass_entry;
 use crate::slices::{skip, u32_at};
 use crate::spelling::after_entry;
-use crate::stops::Stop;
+use crate::stops::StopReason;
 use image::Image;
 use isa_model::MAX_EXPLORED;
 use reg_state::Kind;
@@ -41,31 +41,31 @@ impl<'a> Model for Table<'a> {
 }
 
 // What is wrong with the first bytes, or how many entries there are.
-pub(crate) fn count_in(bytes: &[u8]) -> Result<usize, TableFault>
+pub(crate) fn count_in(bytes: &[u8]) -> Result<usize, TableRefusal>
     ensures { MatchResult result (λ count. count_in bytes.now ≡ Ok count)
         (λ fault. count_in bytes.now ≡ Err fault) }
 {
     if bytes.len() < 8 {
-        return Err(TableFault::Short);
+        return Err(TableRefusal::Short);
     }
     if !bytes.starts_with(b"XPT1") {
-        return Err(TableFault::Magic);
+        return Err(TableRefusal::Magic);
     }
     let count = u32_at(bytes, 4);
     if count == 0 || count > MAX_EXPLORED {
-        return Err(TableFault::Count);
+        return Err(TableRefusal::Count);
     }
     Ok(count as usize)
 }
 
 // Notes a place.
-fn push_place(places: &mut Vec<usize>, place: usize) -> Result<(), TableFault>
+fn push_place(places: &mut Vec<usize>, place: usize) -> Result<(), TableRefusal>
     ensures ok { OnOk result (places.new.items ≡ places.old.items ++ place ∷ []) }
-    ensures err { IfErr result (λ fault. fault ≡ TableFault.Memory) }
+    ensures err { IfErr result (λ fault. fault ≡ TableRefusal.Memory) }
 {
     match places.push(place) {
         Ok(()) => Ok(()),
-        Err(_) => Err(TableFault::Memory),
+        Err(_) => Err(TableRefusal::Memory),
     }
 }
 
@@ -75,9 +75,9 @@ fn pass_or_fault<'a>(
     index: usize,
     bytes: &'a [u8],
     room: &mut [Kind; 10],
-) -> Result<(bool, &'a [u8]), TableFault>
+) -> Result<(bool, &'a [u8]), TableRefusal>
     ensures { MatchResult result (λ x. seen (entry_in image.now bytes.now) ≡ Ok (x.0, x.1.now))
-        (λ fault. (stop : Stop) × (seen (entry_in image.now bytes.now) ≡ Err stop)
+        (λ fault. (stop : StopReason) × (seen (entry_in image.now bytes.now) ≡ Err stop)
         × (fault ≡ fault_of stop index)) }
 {
     match pass_entry(image, bytes, room) {
@@ -92,11 +92,11 @@ fn places_in(
     image: &Image,
     count: usize,
     bytes: &[u8],
-) -> Result<(Vec<usize>, Option<usize>), TableFault>
+) -> Result<(Vec<usize>, Option<usize>), TableRefusal>
     requires { 8 ≤ length bytes.now }
     ensures { MatchResult result
         (λ x. ArePlaced image.now bytes.now count x.0.items x.1)
-        (λ fault. (fault ≡ TableFault.Memory)
+        (λ fault. (fault ≡ TableRefusal.Memory)
         ⊎ (body_in image.now bytes.now count ≡ Err fault)) }
 {
     let mut places = Vec::new(alloc);
@@ -112,7 +112,7 @@ fn places_in(
     if rest.is_empty() {
         Ok((places, first))
     } else {
-        Err(TableFault::Long)
+        Err(TableRefusal::Long)
     }
 }
 
@@ -137,12 +137,12 @@ fn earlier(first: Option<usize>, allowed: bool, index: usize) -> Option<usize>
     }
 }
 
-fn fault_of(stop: Stop, index: usize) -> TableFault
+fn fault_of(stop: StopReason, index: usize) -> TableRefusal
     ensures { result ≡ fault_of stop index }
 {
     match stop {
-        Stop::Short => TableFault::Short,
-        Stop::Form => TableFault::Entry(index),
+        StopReason::Short => TableRefusal::Short,
+        StopReason::Form => TableRefusal::Entry(index),
     }
 }
 
@@ -151,16 +151,16 @@ impl<'a> Table<'a> {
     ///
     /// A byte that has no meaning ends the reading, with P5 of its entry; a field that is not
     /// allowed does not, and its P5 comes last.
-    pub fn of(alloc: Global, image: &Image, bytes: &'a [u8]) -> Result<Table<'a>, TableFault>
+    pub fn of(alloc: Global, image: &Image, bytes: &'a [u8]) -> Result<Table<'a>, TableRefusal>
         ensures { MatchResult result
             (λ table. (entries : List Entry) × (table_read image.now bytes.now ≡ Ok entries)
             × KeepsEntries image.now table entries)
-            (λ fault. (fault ≡ TableFault.Memory) ⊎ (table_read image.now bytes.now ≡ Err fault)) }
+            (λ fault. (fault ≡ TableRefusal.Memory) ⊎ (table_read image.now bytes.now ≡ Err fault)) }
     {
         let count = count_in(bytes)?;
         let (places, first) = places_in(alloc, image, count, bytes)?;
         match first {
-            Some(index) => Err(TableFault::Entry(index)),
+            Some(index) => Err(TableRefusal::Entry(index)),
             None => Ok(Table { bytes, places }),
         }
     }
@@ -212,8 +212,8 @@ impl<'a> Table<'a> {
     /// The entry of that index, whose state is put into the room for it.
     ///
     /// The image is the one that the table was made with.
-    pub fn read(&self, image: &Image, index: usize, state: &mut State) -> Option<Head>
-        ensures allowed { (head : Head) → result ≡ Some head
+    pub fn read(&self, image: &Image, index: usize, state: &mut State) -> Option<EntryHead>
+        ensures allowed { (head : EntryHead) → result ≡ Some head
             → IsAllowed image.now head.number state.new.slot }
         ensures entry { MatchOption result (entry_at image.now self.now index ≡ None)
             (λ head. entry_at image.now self.now index ≡ Some (entry_of head state.new)) }
@@ -229,7 +229,7 @@ impl<'a> Table<'a> {
     /// nothing.
     ///
     /// The image is the one that the table was made with.
-    pub fn head_of(&self, image: &Image, index: usize, state: &State) -> Option<Head>
+    pub fn head_of(&self, image: &Image, index: usize, state: &State) -> Option<EntryHead>
         ensures allowed { IfSome result
             (λ head. IsAllowed image.now head.number state.now.slot) }
         ensures entry { IfSome result

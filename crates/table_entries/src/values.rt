@@ -6,11 +6,11 @@ ghost use Rattle.std.specs.Option.{option_map};
 ghost use Rattle.table_entries.specs.Reading.{ReturnsRead};
 
 use crate::slices::{skip, u32_at, u64_at};
-use crate::stops::Stop;
+use crate::stops::StopReason;
 use known_bits::Bits;
 use ranges::{Low, Range, Wide};
 use reg_state::{Kind, Scalar};
-use stack_state::Slot;
+use stack_state::StackSlot;
 
 #[tactic(auto, unfolding(crate::specs::Values::bits_of))]
 #[inline(always)]
@@ -273,96 +273,104 @@ fn fields_in(
     holder: usize,
     kind: u8,
     bytes: &[u8],
-) -> Result<(Option<Kind>, &[u8]), Stop>
+) -> Result<(Option<Kind>, &[u8]), StopReason>
     ensures { ReturnsRead (λ x. (x.0, x.1.now)) result (fields_in rows holder kind bytes.now) }
 {
     match kind {
         0 => Ok((Some(Kind::Unset), bytes)),
         1 => {
             if bytes.len() < 64 {
-                return Err(Stop::Short);
+                return Err(StopReason::Short);
             }
             Ok((number_in(bytes), skip(bytes, 64)))
         }
         2 => Ok((Some(Kind::Context), bytes)),
         3 => {
             if bytes.len() < 5 {
-                return Err(Stop::Short);
+                return Err(StopReason::Short);
             }
             Ok((stack_in(holder, bytes), skip(bytes, 5)))
         }
         4 => {
             if bytes.len() < 20 {
-                return Err(Stop::Short);
+                return Err(StopReason::Short);
             }
             Ok((packet_in(bytes), skip(bytes, 20)))
         }
         5 => Ok((Some(Kind::PacketEnd), bytes)),
         6 => {
             if bytes.is_empty() {
-                return Err(Stop::Short);
+                return Err(StopReason::Short);
             }
             Ok((map_in(rows, bytes), skip(bytes, 1)))
         }
         7 => {
             if bytes.len() < 9 {
-                return Err(Stop::Short);
+                return Err(StopReason::Short);
             }
             Ok((value_in(rows, bytes), skip(bytes, 9)))
         }
         8 => {
             if bytes.len() < 5 {
-                return Err(Stop::Short);
+                return Err(StopReason::Short);
             }
             Ok((null_in(rows, bytes), skip(bytes, 5)))
         }
-        _ => Err(Stop::Form),
+        _ => Err(StopReason::Form),
     }
 }
 
 /// A value.
 #[tactic(auto, unfolding(crate::specs::Values::kind_in))]
-pub fn kind_in(rows: usize, holder: usize, bytes: &[u8]) -> Result<(Option<Kind>, &[u8]), Stop>
+pub fn kind_in(
+    rows: usize,
+    holder: usize,
+    bytes: &[u8],
+) -> Result<(Option<Kind>, &[u8]), StopReason>
     ensures { ReturnsRead (λ x. (x.0, x.1.now)) result (kind_in rows holder bytes.now) }
 {
     match bytes {
-        [] => Err(Stop::Short),
+        [] => Err(StopReason::Short),
         [kind, rest @ ..] => fields_in(rows, holder, *kind, rest),
     }
 }
 
 /// The marks of written bytes.
-fn marks_in(bytes: &[u8]) -> Result<(Option<Slot>, &[u8]), Stop>
+fn marks_in(bytes: &[u8]) -> Result<(Option<StackSlot>, &[u8]), StopReason>
     ensures { ReturnsRead (λ x. (x.0, x.1.now)) result (marks_in bytes.now) }
 {
     match bytes {
-        [] => Err(Stop::Short),
-        [marks, rest @ ..] => Ok((Some(Slot::Written(*marks)), rest)),
+        [] => Err(StopReason::Short),
+        [marks, rest @ ..] => Ok((Some(StackSlot::Written(*marks)), rest)),
     }
 }
 
 /// A value in a slot, which is set.
-fn spilled(kind: Option<Kind>) -> Option<Slot>
+fn spilled(kind: Option<Kind>) -> Option<StackSlot>
     ensures { result ≡ spilled kind }
 {
     match kind {
         None | Some(Kind::Unset) => None,
-        Some(kind) => Some(Slot::Spilled(kind)),
+        Some(kind) => Some(StackSlot::Spilled(kind)),
     }
 }
 
 /// A stack slot: what is known of its bytes.
 #[tactic(auto, unfolding(crate::specs::Values::slot_in))]
-pub fn slot_in(rows: usize, holder: usize, bytes: &[u8]) -> Result<(Option<Slot>, &[u8]), Stop>
+pub fn slot_in(
+    rows: usize,
+    holder: usize,
+    bytes: &[u8],
+) -> Result<(Option<StackSlot>, &[u8]), StopReason>
     ensures { ReturnsRead (λ x. (x.0, x.1.now)) result (slot_in rows holder bytes.now) }
 {
     match bytes {
-        [] => Err(Stop::Short),
+        [] => Err(StopReason::Short),
         [0, rest @ ..] => marks_in(rest),
         [1, rest @ ..] => {
             let (kind, rest) = kind_in(rows, holder, rest)?;
             Ok((spilled(kind), rest))
         }
-        [_, ..] => Err(Stop::Form),
+        [_, ..] => Err(StopReason::Form),
     }
 }

@@ -2,7 +2,7 @@
 use Rattle.std.specs.Prelude.{ℤ, length, Ok}
 use Rattle.std.proofs.Common.{sym, subst}
 use Rattle.isa_model.specs.declared.sizes.Size.{Size}
-use Rattle.isa_model.specs.declared.sizes.Narrow.{Narrow}
+use Rattle.isa_model.specs.declared.sizes.SignedSize.{SignedSize}
 use Rattle.isa_model.specs.declared.values.Value.{Value}
 use Rattle.isa_model.specs.Code.Instructions.{Program}
 use Rattle.isa_model.specs.Machine.States as Machine
@@ -32,7 +32,7 @@ load_yields p e a s size (MapValue j least greatest) k by v m h allowed =
     value_load_yields p e a s size j least greatest by k v m h allowed
 load_yields p e a s size base k by v m h allowed = absurd (cc)
 
-pub load_signed_yields : (p : Program) (e : Assigned) (a : State) (s : Machine.State) (size : Narrow) (base k : Kind) (by : ℤ) (v : Value) → MeansBy p e a s
+pub load_signed_yields : (p : Program) (e : Assigned) (a : State) (s : Machine.State) (size : SignedSize) (base k : Kind) (by : ℤ) (v : Value) → MeansBy p e a s
     → LoadsSigned p.maps a size base by (Ok k) → Allows e base v → Yields e k (load_signed s size v by)
 load_signed_yields p e a s size (Stack frame offset) k by v m h allowed = stack_load_signed_yields p e a s frame offset by size k v m allowed h
 load_signed_yields p e a s size (Packet fixed identity least greatest proved) k by v m h allowed =

@@ -30,7 +30,7 @@ use Rattle.transfer.proofs.ValueLaws.{value_moves_yields}
 
 stack_moves_yields : (p : Program) (e : Assigned) (a : State) (s : Machine.State) (back : Bool) (frame : ℕ) (offset : ℤ) (by : Scalar) (k : Kind) (x : ℕ) (v : Value)
     → MeansBy p e a s → MovesPointer a back (Stack frame offset) by (Ok k) → Has by x → Allows e (Stack frame offset) v
-    → (n : ℕ) × (v ≡ value.Ptr (region.Frame n) offset) × YieldsUnder p a s k (moved_to (region.Frame n) (moved_offset back offset x))
+    → (n : ℕ) × (v ≡ value.Ptr (region.CallFrame n) offset) × YieldsUnder p a s k (moved_to (region.CallFrame n) (moved_offset back offset x))
 stack_moves_yields p e a s back frame offset by k x v m h member allowed =
     let (n, found, is) = allowed in
     let (o, only, left) = h in

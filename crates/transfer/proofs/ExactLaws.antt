@@ -27,7 +27,7 @@ use Rattle.isa_model.specs.declared.versions.Version.{Version}
 use Rattle.isa_model.specs.Code.Registers.{reg_number}
 use Rattle.isa_model.specs.Code.Numbers.{alu, low, unsigned, atomic_alu, negated, sign_extended, reordered}
 use Rattle.isa_model.specs.Code.Spelling.{InsnFits, OperandFits}
-use Rattle.isa_model.specs.Code.Instructions.{Program, fetch, slots_of, operand_reads, alu_reads, reads, writes, is_frame_pointer}
+use Rattle.isa_model.specs.Code.Instructions.{Program, fetch, slots_filled, operand_reads, alu_reads, reads, writes, is_frame_pointer}
 use Rattle.isa_model.specs.Code.Helpers.{helper_numbered}
 use Rattle.isa_model.specs.Code.MapRows.{IsRow, NamesRows}
 use Rattle.isa_model.specs.Machine.Pointers.{arithmetic, on_number}
@@ -184,9 +184,9 @@ below_eleven r = omega arith
 -- where it is, the machine goes on into the state with that kind in the register
 sets_goes : (p : Program) (clock : ℕ → ℕ) (e : Assigned) (a : State) (s : Machine.State) (i : Insn) (d : Reg) (k : Kind) (r : Result Value TrapReason)
     → IfNext (act p clock s i) (IsState p) → MeansBy p e a s → d ≢ R10 → act p clock s i ≡ sets s i d r → Yields e k r
-    → After (MeansBy p e (go_to (with_register a d k) (a.slot + slots_of i))) (act p clock s i)
+    → After (MeansBy p e (go_to (with_register a d k) (a.slot + slots_filled i))) (act p clock s i)
 sets_goes p clock e a s i d k (Ok v) keeps m own is yields =
-    let n : ℕ = s.slot + slots_of i in
+    let n : ℕ = s.slot + slots_filled i in
     let t : Machine.State = Machine.go_to (set_reg s d v) n in
     let t_is : IsState p t = subst (λ r. IfNext r (IsState p)) is keeps in
     let eleven = m.is_state.registers in
@@ -195,8 +195,8 @@ sets_goes p clock e a s i d k (Ok v) keeps m own is yields =
     let v_fits : IsValue (length p.maps) s.next_serial v = subst (IsValue (length p.maps) s.next_serial) held (reg_fits p t d t_is) in
     let set = MeansBy-set p e a s d k v own yields v_fits m in
     let gone = MeansBy-go_to p e (with_register a d k) (set_reg s d v) n t_is.slot set in
-    subst (After (MeansBy p e (go_to (with_register a d k) (a.slot + slots_of i)))) (sym is)
-    (subst (λ m. MeansBy p e (go_to (with_register a d k) (m + slots_of i)) t) m.slot_is gone)
+    subst (After (MeansBy p e (go_to (with_register a d k) (a.slot + slots_filled i)))) (sym is)
+    (subst (λ m. MeansBy p e (go_to (with_register a d k) (m + slots_filled i)) t) m.slot_is gone)
 sets_goes p clock e a s i d k (Err reason) keeps m own is yields = absurd yields
 
 -- the one successor's meaning
@@ -209,7 +209,7 @@ sets_in : (p : Program) (clock : ℕ → ℕ) (e : Assigned) (a : State) (s : Ma
     → w ≡ ways.One → SetsRegister p.maps a i b → After (InSome p w b c) (act p clock s i)
 sets_in p clock e a s i w b c fits names keeps m set one h =
     let (r, is, y) = puts_yields p clock e a s i h.register h.kind fits m set h.written names h.puts in
-    let next : State = go_to (with_register a h.register h.kind) (a.slot + slots_of i) in
+    let next : State = go_to (with_register a h.register h.kind) (a.slot + slots_filled i) in
     After-weaker (MeansBy p y.0 next) (InSome p w b c) (act p clock s i) (λ t means. one_means p y.0 w b c next t one h.next means)
     (sets_goes p clock y.0 a s i h.register h.kind r keeps y.1 h.own is y.2)
 
@@ -217,10 +217,10 @@ sets_in p clock e a s i w b c fits names keeps m set one h =
 
 -- the machine goes on with what is left
 left_goes : (p : Program) (e f : Assigned) (a : State) (s : Machine.State) (i : Insn) (went : Result Machine.State TrapReason) (w : Ways) (b c left : State)
-    → slots_of i ≡ 1 → IfNext (goes_on s i went) (IsState p) → MeansBy p e a s → ContinuesIn p f left went → w ≡ ways.One → b ≡ go_to left (a.slot + 1)
+    → slots_filled i ≡ 1 → IfNext (goes_on s i went) (IsState p) → MeansBy p e a s → ContinuesIn p f left went → w ≡ ways.One → b ≡ go_to left (a.slot + 1)
     → After (InSome p w b c) (goes_on s i went)
 left_goes p e f a s i (Ok t) w b c left one is m goes way next =
-    let n : ℕ = s.slot + slots_of i in
+    let n : ℕ = s.slot + slots_filled i in
     let gone = MeansBy-go_to p f left t n is.slot goes in
     let same : n ≡ a.slot + 1 = ap (λ k. s.slot + k) one ∙ ap (λ k. k + 1) m.slot_is in
     one_means p f w b c (go_to left (a.slot + 1)) (Machine.go_to t n) way next
@@ -228,7 +228,7 @@ left_goes p e f a s i (Ok t) w b c left one is m goes way next =
 left_goes p e f a s i (Err reason) w b c left one is m goes way next = absurd goes
 
 goes_in : (p : Program) (e : Assigned) (a : State) (s : Machine.State) (i : Insn) (leaves : State → Result (Unit {0}) Refusal → Type 0)
-    (went : Result Machine.State TrapReason) (w : Ways) (b c : State) → slots_of i ≡ 1 → MeansBy p e a s
+    (went : Result Machine.State TrapReason) (w : Ways) (b c : State) → slots_filled i ≡ 1 → MeansBy p e a s
     → ((left : State) → leaves left (Ok tt) → GoesIntoSome p left went) → IfNext (goes_on s i went) (IsState p) → GoesOn a leaves (Ok w) b
     → After (InSome p w b c) (goes_on s i went)
 goes_in p e a s i leaves went w b c one m goes is h =
@@ -236,7 +236,8 @@ goes_in p e a s i leaves went w b c one m goes is h =
     left_goes p e f a s i went w b c h.1.left one is m left h.0 h.1.next
 
 stores_in : (p : Program) (e : Assigned) (a : State) (s : Machine.State) (i : Insn) (size : Size) (place : Place) (source : Kind) (u : Value) (w : Ways) (b c : State)
-    → slots_of i ≡ 1 → MeansBy p e a s → Allows e source u → IsValue (length p.maps) s.next_serial u
+    → slots_filled i ≡ 1 → MeansBy p e a s → Allows e source u
+    → IsValue (length p.maps) s.next_serial u
     → IfNext (goes_on s i (store s size (base_of s place) place.offset u)) (IsState p) → GoesOn a (StoresAt p.maps a size place source) (Ok w) b
     → After (InSome p w b c) (goes_on s i (store s size (base_of s place) place.offset u))
 stores_in p e a s i size place source u w b c one m allowed fits is h =

@@ -6,7 +6,7 @@ use Rattle.isa_model.specs.declared.instructions.Cond.{Cond}
 use Rattle.isa_model.specs.declared.instructions.Insn.{Insn}
 use Rattle.isa_model.specs.declared.instructions.Insn.TheVariants.{StoreConstant, Store, Atomic, Exchange, CompareExchange, Jump, JumpLong, JumpIf, CallHelper, CallLocal, Exit}
 use Rattle.isa_model.specs.Code.Sizes.{width_size}
-use Rattle.isa_model.specs.Code.Instructions.{Program, fetch, slots_of, writes, is_frame_pointer}
+use Rattle.isa_model.specs.Code.Instructions.{Program, fetch, slots_filled, writes, is_frame_pointer}
 use Rattle.isa_model.specs.Machine.Steps.{destination}
 use Rattle.isa_model.specs.Machine.Successors.{falls_through, jump_distance}
 use Rattle.stack_state.specs.declared.states.State.{State}
@@ -41,7 +41,7 @@ each_side false false stay go w b c P h x y = subst (λ v. EachWay v b c P) (sym
 
 -- all that an instruction leaves at the next one
 one_after : (p : Program) (a : State) (i : Insn) (w : Ways) (b c left : State) → fetch p a.slot ≡ Some i → falls_through i ≡ true → w ≡ ways.One
-    → b ≡ go_to left (a.slot + slots_of i) → returns_of left ≡ returns_of a → EachWay w b c (GoesOnTo p a)
+    → b ≡ go_to left (a.slot + slots_filled i) → returns_of left ≡ returns_of a → EachWay w b c (GoesOnTo p a)
 one_after p a i w b c left here falls one next returns =
     each_one w b c (GoesOnTo p a) one (inl (record {
       follows = (i, here, inl (falls, ap (λ s. s.slot) next));
@@ -54,7 +54,7 @@ sets_follows p a i w b c here falls one h =
     one_after p a i w b c (with_register a h.register h.kind) here falls one h.next (returns-with a h.register h.kind)
 
 goes_follows : (p : Program) (a : State) (i : Insn) (leaves : State → Result (Unit {0}) Refusal → Type 0) (w : Ways) (b c : State)
-    → fetch p a.slot ≡ Some i → falls_through i ≡ true → slots_of i ≡ 1 → ((left : State) → leaves left (Ok tt) → returns_of left ≡ returns_of a)
+    → fetch p a.slot ≡ Some i → falls_through i ≡ true → slots_filled i ≡ 1 → ((left : State) → leaves left (Ok tt) → returns_of left ≡ returns_of a)
     → GoesOn a leaves (Ok w) b → EachWay w b c (GoesOnTo p a)
 goes_follows p a i leaves w b c here falls one returns h =
     one_after p a i w b c h.1.left here falls h.0 (h.1.next ∙ ap (λ k. go_to h.1.left (a.slot + k)) (sym one)) (returns h.1.left h.1.leaving)

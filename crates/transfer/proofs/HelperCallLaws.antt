@@ -10,8 +10,8 @@ use Rattle.isa_model.specs.Code.Limits.{frame_size}
 use Rattle.isa_model.specs.declared.registers.Reg.TheVariants.{R1, R2, R3, R4}
 use Rattle.isa_model.specs.declared.helpers.Helper.{Helper}
 use Rattle.isa_model.specs.declared.helpers.Helper.TheVariants.{MapLookupElem, MapUpdateElem, MapDeleteElem, KtimeGetNs}
-use Rattle.isa_model.specs.declared.map_defs.MapKind.{MapKind}
-use Rattle.isa_model.specs.declared.map_defs.MapKind.TheVariants.{Hash, Array}
+use Rattle.isa_model.specs.declared.map_defs.MapType.{MapType}
+use Rattle.isa_model.specs.declared.map_defs.MapType.TheVariants.{Hash, Array}
 use Rattle.isa_model.specs.declared.map_defs.MapDef.{MapDef}
 use Rattle.isa_model.specs.declared.values.Region.TheVariants as region
 use Rattle.isa_model.specs.declared.values.Value.{Value}
@@ -36,7 +36,7 @@ use Rattle.reg_state.specs.declared.kinds.Kind.{Kind}
 use Rattle.reg_state.specs.declared.kinds.Kind.TheVariants.{Number, Stack, Packet, Map, MapValue, MapValueOrNull}
 use Rattle.reg_state.specs.Kinds.{Assigned, Allows}
 use Rattle.stack_state.specs.declared.states.State.{State}
-use Rattle.stack_state.specs.Meaning.{slots_of, MeansBy}
+use Rattle.stack_state.specs.Meaning.{stack_slots_of, MeansBy}
 use Rattle.stack_state.proofs.MeaningLaws.{reg_allowed, depth_is_length}
 use Rattle.stack_state.specs.Places.{kind_of}
 use Rattle.stack_state.specs.StackMeaning.{part_of}
@@ -112,7 +112,7 @@ no_move z = omega (arith, ints)
 
 -- written number bytes of a live frame
 frame_points : (p : Program) (e : Assigned) (a : State) (s : Machine.State) (frame n serial : ℕ) (z : ℤ) → MeansBy p e a s
-    → slice_get e.frames frame ≡ Some serial → AreInFrame a frame z n → Points s (Ptr (region.Frame serial) z) n
+    → slice_get e.frames frame ≡ Some serial → AreInFrame a frame z n → Points s (Ptr (region.CallFrame serial) z) n
 frame_points p e a s frame n serial z m found h =
     let mine : slice_get (map (λ f. f.serial) s.frames) frame ≡ Some serial = rw (sym m.assigned.serials) found in
     let count = depth_is_length p e a s m in
@@ -126,11 +126,11 @@ frame_points p e a s frame n serial z m found h =
       inside = omega arith;
     } in
     let cs : List Cell = part_of (frame_at s.frames frame).cells h.at n in
-    let is : read s (region.Frame serial) (index_at (region.Frame serial) z) n ≡ Ok cs =
-    subst (λ y. read s (region.Frame serial) (index_at (region.Frame serial) y) n ≡ Ok cs) (no_move z)
+    let is : read s (region.CallFrame serial) (index_at (region.CallFrame serial) z) n ≡ Ok cs =
+    subst (λ y. read s (region.CallFrame serial) (index_at (region.CallFrame serial) y) n ≡ Ok cs) (no_move z)
     (read_here s serial frame h.at n z (pos 0) here) in
-    let at : BytesArgument = record { region = region.Frame serial; offset = z } in
-    (at, refl, read_there s at n cs is (marked_are_bytes e (slots_of a frame) (frame_at s.frames frame).cells h.at n inside h.marked (m.stacks frame live)))
+    let at : BytesArgument = record { region = region.CallFrame serial; offset = z } in
+    (at, refl, read_there s at n cs is (marked_are_bytes e (stack_slots_of a frame) (frame_at s.frames frame).cells h.at n inside h.marked (m.stacks frame live)))
 
 -- bytes of the packet
 packet_points : (s : Machine.State) (n i : ℕ) (z : ℤ) → index_from z ≡ Some i → i + n ≤ length s.packet → Points s (Ptr region.Packet z) n
@@ -169,7 +169,7 @@ known_points p e a s (MapValue j least greatest) v n some m allowed h =
     (value_points p s j allowed.serial n allowed.offset (subst (λ y. HasBytesAt p s j allowed.serial y n) (no_move allowed.offset) at))
 known_points p e a s k v n some m allowed h = absurd h
 
-some_key : (kind : MapKind) (n : ℕ) → KeyFits kind n → 0 < n
+some_key : (kind : MapType) (n : ℕ) → KeyFits kind n → 0 < n
 some_key Hash n h = omega arith
 some_key Array n h = omega arith
 
@@ -266,7 +266,7 @@ updated p e a s m b rows means fits is number key value left =
     number_goes p f a b (update_answer m.row (content_of s m.index) h.key flags) (update_call p s) helped.state done fits left kept
 
 -- nothing is deleted from an array
-deleted_means : (p : Program) (e : Assigned) (a : State) (s : Machine.State) (m : ℕ) (row : MapDef) (kind : MapKind) (key : List ℕ) → row.kind ≡ kind
+deleted_means : (p : Program) (e : Assigned) (a : State) (s : Machine.State) (m : ℕ) (row : MapDef) (kind : MapType) (key : List ℕ) → row.kind ≡ kind
     → IsState p (map_delete_elem row s m key).state → MeansBy p e a s
     → (f : Assigned) × MeansBy p f (without_values kind m a) (map_delete_elem row s m key).state
 deleted_means p e a s m row Hash key is state means = MeansBy-delete p e a s m row key state means

@@ -10,8 +10,8 @@ use Rattle.std.proofs.Math.Facts.{sfits_to_z}
 use Rattle.std.proofs.lemmas.List.{length-map, length-take-le, length-drop}
 use Rattle.isa_model.specs.declared.sizes.Size.{Size}
 use Rattle.isa_model.specs.declared.sizes.Size.TheVariants.{U8, U16, U32, U64}
-use Rattle.isa_model.specs.declared.sizes.Narrow.{Narrow}
-use Rattle.isa_model.specs.declared.sizes.Narrow.TheVariants.{S8, S16, S32}
+use Rattle.isa_model.specs.declared.sizes.SignedSize.{SignedSize}
+use Rattle.isa_model.specs.declared.sizes.SignedSize.TheVariants.{S8, S16, S32}
 use Rattle.isa_model.specs.declared.values.Region.TheVariants as region
 use Rattle.isa_model.specs.declared.values.Value.{Value}
 use Rattle.isa_model.specs.declared.values.Value.TheVariants.{Num, Ptr}
@@ -41,7 +41,7 @@ use Rattle.reg_state.proofs.ConstantsLaws.{IsNumber-only}
 use Rattle.reg_state.proofs.KindLaws.{with_offset}
 use Rattle.stack_state.specs.declared.states.State.{State}
 use Rattle.stack_state.proofs.CellLaws.{length-bytes_of, number_from_below}
-use Rattle.stack_state.specs.Meaning.{IsOf, MeansBy}
+use Rattle.stack_state.specs.Meaning.{AssignmentFits, MeansBy}
 use Rattle.stack_state.proofs.MeaningLaws.{MeansBy-fresh}
 use Rattle.stack_state.proofs.EffectLaws.{IfLeft}
 use Rattle.stack_state.proofs.PacketEffects.{MeansBy-packet}
@@ -74,7 +74,7 @@ field_yields e s by k h (inr (inr (inl at))) none interface queue = rw at (word_
 field_yields e s by k h (inr (inr (inr at))) none interface queue = rw at (word_allowed e k s.queue (h.queue at) queue)
 
 pub context_load_yields : (e : Assigned) (s : Machine.State) (size : Size) (by : ℤ) (k : Kind) (v : Value) → ContextLoads size by (Ok k)
-    → IsOf e s → s.interface < 2 ^ 32 → s.queue < 2 ^ 32 → Allows e Context v → Yields e k (load s size v by)
+    → AssignmentFits e s → s.interface < 2 ^ 32 → s.queue < 2 ^ 32 → Allows e Context v → Yields e k (load s size v by)
 context_load_yields e s U32 by k v h of interface queue allowed = rw allowed (field_yields e s by k h h.field of.none interface queue)
 context_load_yields e s size by k v h of interface queue allowed = absurd (cc h)
 
@@ -86,7 +86,7 @@ place_from (pos i) n m from to = (i, refl, omega (arith, ints))
 place_from (negsuc i) n m from to = absurd (omega (arith, ints))
 
 -- bytes that are known to be in the packet are there
-pub packet_place : (e : Assigned) (s : Machine.State) (fixed least greatest : ℤ) (identity proved bytes : ℕ) (by : ℤ) (v : Value) → IsOf e s
+pub packet_place : (e : Assigned) (s : Machine.State) (fixed least greatest : ℤ) (identity proved bytes : ℕ) (by : ℤ) (v : Value) → AssignmentFits e s
     → AreInPacket fixed least proved by bytes → AllowsPacket e fixed identity least greatest proved v
     → (i : ℕ) × (index_from ((fixed +ℤ e.offset identity) +ℤ by) ≡ Some i) × (i + bytes ≤ length s.packet)
 packet_place e s fixed least greatest identity proved bytes by v of h allowed =
@@ -139,7 +139,7 @@ number_yields e says (Number c) x each h = (x, refl, each c h)
 number_yields e says k x each h = absurd h
 
 pub packet_load_yields : (p : Program) (e : Assigned) (s : Machine.State) (size : Size) (fixed least greatest : ℤ) (identity proved : ℕ)
-    (by : ℤ) (k : Kind) (v : Value) → IsState p s → IsOf e s → PacketLoads size fixed least proved by (Ok k)
+    (by : ℤ) (k : Kind) (v : Value) → IsState p s → AssignmentFits e s → PacketLoads size fixed least proved by (Ok k)
     → Allows e (Packet fixed identity least greatest proved) v → Yields e k (load s size v by)
 packet_load_yields p e s size fixed least greatest identity proved by k v is of (inside, number) allowed =
     let (i, found, room) = packet_place e s fixed least greatest identity proved (size_bytes size) by v of inside allowed in
@@ -157,15 +157,15 @@ back_16 z f = let wide : FitsSigned w64 z = record { sfits = let s = f.sfits in 
 back_32 : (z : ℤ) → FitsSigned w32 z → FitsSigned w32 (cast_signed w64 (cast_unsigned w64 z))
 back_32 z f = let wide : FitsSigned w64 z = record { sfits = let s = f.sfits in omega arith } in rw (to_z-of_z w64 z wide) f
 
-pub extended_fits : (size : Narrow) (n : ℕ)
+pub extended_fits : (size : SignedSize) (n : ℕ)
     → FitsSigned (extension_signed (narrow_extension size)) (cast_signed w64 (sign_extended (narrow_extension size) n))
 unfolding sign_extended
 extended_fits S8 n = back_8 (cast_signed w8 (n % 2 ^ 8)) (sfits_to_z {w = w8} {n = n % 2 ^ 8} (record { fits = omega arith }))
 extended_fits S16 n = back_16 (cast_signed w16 (n % 2 ^ 16)) (sfits_to_z {w = w16} {n = n % 2 ^ 16} (record { fits = omega arith }))
 extended_fits S32 n = back_32 (cast_signed w32 (n % 2 ^ 32)) (sfits_to_z {w = w32} {n = n % 2 ^ 32} (record { fits = omega arith }))
 
-pub packet_load_signed_yields : (p : Program) (e : Assigned) (s : Machine.State) (size : Narrow) (fixed least greatest : ℤ)
-    (identity proved : ℕ) (by : ℤ) (k : Kind) (v : Value) → IsState p s → IsOf e s → PacketLoadsSigned size fixed least proved by (Ok k)
+pub packet_load_signed_yields : (p : Program) (e : Assigned) (s : Machine.State) (size : SignedSize) (fixed least greatest : ℤ)
+    (identity proved : ℕ) (by : ℤ) (k : Kind) (v : Value) → IsState p s → AssignmentFits e s → PacketLoadsSigned size fixed least proved by (Ok k)
     → Allows e (Packet fixed identity least greatest proved) v → Yields e k (load_signed s size v by)
 packet_load_signed_yields p e s size fixed least greatest identity proved by k v is of (inside, number) allowed =
     let bytes : ℕ = size_bytes (narrow_size size) in

@@ -59,11 +59,11 @@ frame_there frame z k false test is = absurd (cc)
 
 pub frame_moves : (e : Assigned) (back : Bool) (frame : ℕ) (offset : ℤ) (by : Scalar) (k : Kind) (x n : ℕ) (o : Option ℕ) → LeavesNumber by o → Has by x
     → Ok k ≡ moved_frame back frame offset o → slice_get e.frames frame ≡ Some n
-    → Yields e k (moved_to (region.Frame n) (moved_offset back offset x))
+    → Yields e k (moved_to (region.CallFrame n) (moved_offset back offset x))
 frame_moves e back frame offset by k x n (Some m) only member h found =
     let to : ℤ = moved_offset back offset m in
     let (is, within) = frame_there frame to k (nat_le (unsigned_abs to) offset_limit) refl h in
-    let there = pointer_at_within (region.Frame n) to within in
+    let there = pointer_at_within (region.CallFrame n) to within in
     rw (IsNumber-only by m x only member, there, is) (n, found, refl)
 frame_moves e back frame offset by k x n None only member h found = absurd (cc)
 

@@ -12,9 +12,9 @@ use Rattle.isa_model.specs.declared.map_defs.MapDef.{MapDef}
 use Rattle.reg_state.specs.declared.scalars.Scalar.{Scalar}
 use Rattle.reg_state.specs.declared.kinds.Kind.{Kind}
 use Rattle.reg_state.specs.declared.kinds.Kind.TheVariants as kind
-use Rattle.stack_state.specs.declared.slots.Slot.{Slot}
+use Rattle.stack_state.specs.declared.slots.StackSlot.{StackSlot}
 use Rattle.stack_state.specs.declared.states.State.{State}
-use Rattle.stack_state.specs.Meaning.{frames_of, frame_of, no_frame, depth}
+use Rattle.stack_state.specs.Meaning.{frames_of, abstract_frame_at, no_frame, depth}
 use Rattle.stack_state.proofs.MeaningLaws.{returns-with}
 use Rattle.stack_state.specs.Effects.{with_slots, with_frame_slots, forgotten_frame, with_kinds, map_kinds, proved_kind}
 use Rattle.stack_state.proofs.EffectLaws.{frames_of-with_frame, frames_of-map, same_returns}
@@ -26,8 +26,8 @@ use Rattle.branch_refine.specs.declared.comparing.Compared.TheVariants as compar
 use Rattle.transfer.specs.StackAccesses.{IsLeft}
 use Rattle.transfer.specs.Accesses.{StoresKind}
 use Rattle.transfer.specs.Atomics.{with_old, IsSwapped, SwapsAt, Swaps, ComparesIn}
-use Rattle.isa_model.specs.declared.map_defs.MapKind.{MapKind}
-use Rattle.isa_model.specs.declared.map_defs.MapKind.TheVariants.{Hash, Array}
+use Rattle.isa_model.specs.declared.map_defs.MapType.{MapType}
+use Rattle.isa_model.specs.declared.map_defs.MapType.TheVariants.{Hash, Array}
 use Rattle.isa_model.specs.declared.helpers.Helper.{Helper}
 use Rattle.isa_model.specs.declared.helpers.Helper.TheVariants.{MapLookupElem, MapUpdateElem, MapDeleteElem, KtimeGetNs}
 use Rattle.isa_model.specs.Code.Helpers.{helper_numbered}
@@ -39,10 +39,10 @@ use Rattle.transfer.specs.Following.{returns_of}
 
 -- ---- memory
 
-returns-with_frame_slots : (a : State) (j : ℕ) (slots : List Slot) → j < depth a → returns_of (with_frame_slots a j slots) ≡ returns_of a
+returns-with_frame_slots : (a : State) (j : ℕ) (slots : List StackSlot) → j < depth a → returns_of (with_frame_slots a j slots) ≡ returns_of a
 returns-with_frame_slots a j slots inside =
-    ap (λ fs. map (λ f. f.return_slot) fs) (frames_of-with_frame a j (with_slots (frame_of a j) slots) inside)
-    ∙ map-set_same (λ f. f.return_slot) (frames_of a) j (with_slots (frame_of a j) slots) no_frame refl
+    ap (λ fs. map (λ f. f.return_slot) fs) (frames_of-with_frame a j (with_slots (abstract_frame_at a j) slots) inside)
+    ∙ map-set_same (λ f. f.return_slot) (frames_of a) j (with_slots (abstract_frame_at a j) slots) no_frame refl
 
 returns-left : (a b : State) (frame at : ℕ) (size : Size) (source : Kind) → frame < depth a → IsLeft a frame at size source b → returns_of b ≡ returns_of a
 returns-left a b frame at U64 source live h = ap returns_of h.left ∙ returns-with_frame_slots a frame _ live
@@ -115,7 +115,7 @@ returns-refines cond taken a some b h = returns-leaves cond taken a some b (comp
 
 -- ---- helpers
 
-returns-without_values : (kind : MapKind) (m : ℕ) (a : State) → returns_of (without_values kind m a) ≡ returns_of a
+returns-without_values : (kind : MapType) (m : ℕ) (a : State) → returns_of (without_values kind m a) ≡ returns_of a
 returns-without_values Hash m a =
     ap (λ fs. map (λ f. f.return_slot) fs) (frames_of-map (forgotten_frame m) a)
     ∙ same_returns (forgotten_frame m) (frames_of a) (λ f. refl)

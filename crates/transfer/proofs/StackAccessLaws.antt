@@ -3,7 +3,7 @@ use Rattle.std.specs.Prelude.{◌≡◌, ◌≢◌, ℕ, suc, ◌*◌, ◌/◌, 
 use Rattle.std.proofs.Common.{sym, subst, arith}
 use Rattle.isa_model.specs.declared.sizes.Size.{Size}
 use Rattle.isa_model.specs.declared.sizes.Size.TheVariants.{U8, U16, U32, U64}
-use Rattle.isa_model.specs.declared.sizes.Narrow.{Narrow}
+use Rattle.isa_model.specs.declared.sizes.SignedSize.{SignedSize}
 use Rattle.isa_model.specs.declared.values.Region.TheVariants as region
 use Rattle.isa_model.specs.declared.values.Value.{Value}
 use Rattle.isa_model.specs.declared.values.Value.TheVariants as value
@@ -21,7 +21,7 @@ use Rattle.reg_state.specs.declared.kinds.Kind.TheVariants.{Unset, Number, Conte
 use Rattle.reg_state.specs.Scalars.{Has}
 use Rattle.reg_state.specs.Kinds.{Assigned, Allows, AllowsOrNull}
 use Rattle.stack_state.specs.declared.states.State.{State}
-use Rattle.stack_state.specs.Meaning.{depth, slots_of, MeansBy}
+use Rattle.stack_state.specs.Meaning.{depth, stack_slots_of, MeansBy}
 use Rattle.stack_state.specs.Slots.{slot_at, IsLoad, IsFill}
 use Rattle.stack_state.specs.StackMeaning.{LoadsNumber, LoadsSlot}
 use Rattle.stack_state.proofs.StackLaws.{loads}
@@ -43,18 +43,18 @@ use Rattle.transfer.specs.StackAccesses.{IsFramePlace, IsNumberLoad, IsStackLoad
 -- bytes that are known to be number bytes answer a number
 pub number_read : (p : Program) (e : Assigned) (a : State) (s : Machine.State) (frame at serial : ℕ) (z by : ℤ) (size : Size) (c : Scalar)
     → MeansBy p e a s → slice_get e.frames frame ≡ Some serial → IsFramePlace a frame (z +ℤ by) size at
-    → IsLoad (slots_of a frame) at size (Some c)
-    → (n : ℕ) × (load_number s size (value.Ptr (region.Frame serial) z) by ≡ Ok n) × Has c n
+    → IsLoad (stack_slots_of a frame) at size (Some c)
+    → (n : ℕ) × (load_number s size (value.Ptr (region.CallFrame serial) z) by ≡ Ok n) × Has c n
 number_read p e a s frame at serial z by size c m found place h =
     let here : IsHere s serial frame at (size_bytes size) z by = IsHere-place p e a s size serial frame at z by m found place.place in
-    let all : LoadsNumber (slots_of a frame) at size (Some c) =
-    loads (slots_of a frame) at size (Some c) (place_below (z +ℤ by) size at place.place) (place_in_slot (z +ℤ by) size at place.place) h in
+    let all : LoadsNumber (stack_slots_of a frame) at size (Some c) =
+    loads (stack_slots_of a frame) at size (Some c) (place_below (z +ℤ by) size at place.place) (place_in_slot (z +ℤ by) size at place.place) h in
     MeansBy-loads p e a s size serial frame at z by c place.live here all m
 
 number_yields : (p : Program) (e : Assigned) (a : State) (s : Machine.State) (frame at serial : ℕ) (z by : ℤ) (size : Size) (k : Kind)
     → MeansBy p e a s → slice_get e.frames frame ≡ Some serial → IsFramePlace a frame (z +ℤ by) size at
-    → IsNumberLoad (slots_of a frame) at size (Some k)
-    → Yields e k (as_number (load_number s size (value.Ptr (region.Frame serial) z) by))
+    → IsNumberLoad (stack_slots_of a frame) at size (Some k)
+    → Yields e k (as_number (load_number s size (value.Ptr (region.CallFrame serial) z) by))
 number_yields p e a s frame at serial z by size (Number c) m found place h =
     let (n, read, has) = number_read p e a s frame at serial z by size c m found place h in
     subst (λ r. Yields e (Number c) (as_number r)) (sym read) (n, refl, has)
@@ -63,20 +63,20 @@ number_yields p e a s frame at serial z by size k m found place h = absurd h
 -- a slot that is read back answers the value that was stored whole
 whole_yields : (p : Program) (e : Assigned) (a : State) (s : Machine.State) (frame at serial : ℕ) (z by : ℤ) (k : Kind)
     → MeansBy p e a s → slice_get e.frames frame ≡ Some serial → IsFramePlace a frame (z +ℤ by) U64 at
-    → IsFill (slot_at (slots_of a frame) (at / 8)) (Some k)
-    → Yields e k (load s U64 (value.Ptr (region.Frame serial) z) by)
+    → IsFill (slot_at (stack_slots_of a frame) (at / 8)) (Some k)
+    → Yields e k (load s U64 (value.Ptr (region.CallFrame serial) z) by)
 whole_yields p e a s frame at serial z by k m found place h =
     let below = place_below (z +ℤ by) U64 at place.place in
     let here : IsHere s serial frame at 8 z by = IsHere-place p e a s U64 serial frame at z by m found place.place in
     let there : IsHere s serial frame (8 * (at / 8)) 8 z by =
     subst (λ i. IsHere s serial frame i 8 z by) (sym (place_whole (z +ℤ by) at place.place)) here in
-    let all : LoadsSlot (slots_of a frame) (at / 8) (Some k) = fills (slots_of a frame) (at / 8) (Some k) (omega arith) h in
+    let all : LoadsSlot (stack_slots_of a frame) (at / 8) (Some k) = fills (stack_slots_of a frame) (at / 8) (Some k) (omega arith) h in
     let (v, read, allowed) = MeansBy-fills p e a s serial frame (at / 8) z by k place.live there all m in
     subst (λ r. Yields e k r) (sym read) allowed
 
 at_yields : (p : Program) (e : Assigned) (a : State) (s : Machine.State) (frame at serial : ℕ) (z by : ℤ) (size : Size) (k : Kind)
     → MeansBy p e a s → slice_get e.frames frame ≡ Some serial → IsFramePlace a frame (z +ℤ by) size at
-    → IsStackLoad (slots_of a frame) at size (Some k) → Yields e k (load s size (value.Ptr (region.Frame serial) z) by)
+    → IsStackLoad (stack_slots_of a frame) at size (Some k) → Yields e k (load s size (value.Ptr (region.CallFrame serial) z) by)
 at_yields p e a s frame at serial z by U8 k m found place h = number_yields p e a s frame at serial z by U8 k m found place h
 at_yields p e a s frame at serial z by U16 k m found place h = number_yields p e a s frame at serial z by U16 k m found place h
 at_yields p e a s frame at serial z by U32 k m found place h = number_yields p e a s frame at serial z by U32 k m found place h
@@ -90,9 +90,9 @@ stack_load_yields p e a s frame z by size k v m base h =
     let (at, place, given) = h in
     subst (λ x. Yields e k (load s size x by)) (sym is) (at_yields p e a s frame at serial z by size k m found place given)
 
-signed_yields : (p : Program) (e : Assigned) (a : State) (s : Machine.State) (frame at serial : ℕ) (z by : ℤ) (size : Narrow) (k : Kind)
+signed_yields : (p : Program) (e : Assigned) (a : State) (s : Machine.State) (frame at serial : ℕ) (z by : ℤ) (size : SignedSize) (k : Kind)
     → MeansBy p e a s → slice_get e.frames frame ≡ Some serial → IsFramePlace a frame (z +ℤ by) (narrow_size size) at
-    → IsSignedLoad (slots_of a frame) at size (Some k) → Yields e k (load_signed s size (value.Ptr (region.Frame serial) z) by)
+    → IsSignedLoad (stack_slots_of a frame) at size (Some k) → Yields e k (load_signed s size (value.Ptr (region.CallFrame serial) z) by)
 signed_yields p e a s frame at serial z by size (Number c) m found place h =
     let (b, whole, extended) = h in
     let (n, read, has) = number_read p e a s frame at serial z by (narrow_size size) b m found place whole in
@@ -101,7 +101,7 @@ signed_yields p e a s frame at serial z by size (Number c) m found place h =
     (sign_extended (narrow_extension size) n, refl, extended.contains n has)
 signed_yields p e a s frame at serial z by size k m found place h = absurd h
 
-pub stack_load_signed_yields : (p : Program) (e : Assigned) (a : State) (s : Machine.State) (frame : ℕ) (z by : ℤ) (size : Narrow) (k : Kind) (v : Value)
+pub stack_load_signed_yields : (p : Program) (e : Assigned) (a : State) (s : Machine.State) (frame : ℕ) (z by : ℤ) (size : SignedSize) (k : Kind) (v : Value)
     → MeansBy p e a s → Allows e (Stack frame z) v → StackLoadsSigned a frame (z +ℤ by) size (Ok k) → Yields e k (load_signed s size v by)
 stack_load_signed_yields p e a s frame z by size k v m base h =
     let (serial, found, is) = base in
@@ -159,37 +159,38 @@ narrow_number a frame size k other pass = let some = narrow_refused PointerStore
 -- number bytes are left
 pub stored_left : (p : Program) (e : Assigned) (a : State) (s : Machine.State) (frame at serial n : ℕ) (z by : ℤ) (size : Size) (b : State)
     → MeansBy p e a s → slice_get e.frames frame ≡ Some serial → IsFramePlace a frame (z +ℤ by) size at → IsStoredIn a frame at size b
-    → IfLeft p e b (store s size (value.Ptr (region.Frame serial) z) by (value.Num n))
+    → IfLeft p e b (store s size (value.Ptr (region.CallFrame serial) z) by (value.Num n))
 stored_left p e a s frame at serial n z by size b m found place h =
     let here : IsHere s serial frame at (size_bytes size) z by = IsHere-place p e a s size serial frame at z by m found place.place in
-    subst (λ c. IfLeft p e c (store s size (value.Ptr (region.Frame serial) z) by (value.Num n))) (sym h.left)
+    subst (λ c. IfLeft p e c (store s size (value.Ptr (region.CallFrame serial) z) by (value.Num n))) (sym h.left)
     (MeansBy-stores p e a s _ size serial frame at n z by place.live here h.meant m)
 
 spilled_left : (p : Program) (e : Assigned) (a : State) (s : Machine.State) (frame at serial : ℕ) (z by : ℤ) (source : Kind) (v : Value) (b : State)
     → MeansBy p e a s → slice_get e.frames frame ≡ Some serial → IsFramePlace a frame (z +ℤ by) U64 at → v ≢ value.Unset → Allows e source v
-    → IsSpilledIn a frame (at / 8) source b → IfLeft p e b (store s U64 (value.Ptr (region.Frame serial) z) by v)
+    → IsSpilledIn a frame (at / 8) source b → IfLeft p e b (store s U64 (value.Ptr (region.CallFrame serial) z) by v)
 spilled_left p e a s frame at serial z by source v b m found place set allowed h =
     let here : IsHere s serial frame at 8 z by = IsHere-place p e a s U64 serial frame at z by m found place.place in
     let there : IsHere s serial frame (8 * (at / 8)) 8 z by =
     subst (λ i. IsHere s serial frame i 8 z by) (sym (place_whole (z +ℤ by) at place.place)) here in
-    subst (λ c. IfLeft p e c (store s U64 (value.Ptr (region.Frame serial) z) by v)) (sym h.left)
+    subst (λ c. IfLeft p e c (store s U64 (value.Ptr (region.CallFrame serial) z) by v))
+    (sym h.left)
     (MeansBy-spills p e a s _ serial frame (at / 8) z by source v place.live there set allowed h.meant m)
 
 -- and so are those of one of the numbers
 number_left : (p : Program) (e : Assigned) (a : State) (s : Machine.State) (frame at serial : ℕ) (z by : ℤ) (size : Size) (c : Scalar) (v : Value) (b : State)
     → MeansBy p e a s → slice_get e.frames frame ≡ Some serial → IsFramePlace a frame (z +ℤ by) size at → Allows e (Number c) v
-    → IsNumberStoredIn a frame at size c b → IfLeft p e b (store s size (value.Ptr (region.Frame serial) z) by v)
+    → IsNumberStoredIn a frame at size c b → IfLeft p e b (store s size (value.Ptr (region.CallFrame serial) z) by v)
 number_left p e a s frame at serial z by size c v b m found place allowed h =
     let (n, is, has) = allowed in
     let here : IsHere s serial frame at (size_bytes size) z by = IsHere-place p e a s size serial frame at z by m found place.place in
-    subst (λ x. IfLeft p e b (store s size (value.Ptr (region.Frame serial) z) by x)) (sym is)
-    (subst (λ t. IfLeft p e t (store s size (value.Ptr (region.Frame serial) z) by (value.Num n))) (sym h.left)
+    subst (λ x. IfLeft p e b (store s size (value.Ptr (region.CallFrame serial) z) by x)) (sym is)
+    (subst (λ t. IfLeft p e t (store s size (value.Ptr (region.CallFrame serial) z) by (value.Num n))) (sym h.left)
     (MeansBy-stores_number p e a s _ size serial frame at n z by c place.live here has h.meant m))
 
 left : (p : Program) (e : Assigned) (a : State) (s : Machine.State) (frame at serial : ℕ) (z by : ℤ) (size : Size) (source : Kind) (v : Value) (b : State)
     → MeansBy p e a s → slice_get e.frames frame ≡ Some serial → IsFramePlace a frame (z +ℤ by) size at
     → store_refusal a frame size source ≡ None → Allows e source v → IsLeft a frame at size source b
-    → IfLeft p e b (store s size (value.Ptr (region.Frame serial) z) by v)
+    → IfLeft p e b (store s size (value.Ptr (region.CallFrame serial) z) by v)
 left p e a s frame at serial z by U64 source v b m found place pass allowed h =
     spilled_left p e a s frame at serial z by source v b m found place (stored_set e a frame U64 source v pass allowed) allowed h
 left p e a s frame at serial z by U8 (Number c) v b m found place pass allowed h = number_left p e a s frame at serial z by U8 c v b m found place allowed h

@@ -15,7 +15,7 @@ use Rattle.std.proofs.Math.ListN.{get_or-map as get_or-map_default}
 use Rattle.isa_model.specs.Code.Limits.{max_value_size}
 use Rattle.isa_model.specs.declared.sizes.Size.{Size}
 use Rattle.isa_model.specs.declared.sizes.Size.TheVariants.{U8, U16, U32, U64}
-use Rattle.isa_model.specs.declared.sizes.Narrow.{Narrow}
+use Rattle.isa_model.specs.declared.sizes.SignedSize.{SignedSize}
 use Rattle.isa_model.specs.declared.sizes.Width.TheVariants.{Full64}
 use Rattle.isa_model.specs.declared.values.Region.TheVariants as region
 use Rattle.isa_model.specs.declared.values.Value.{Value}
@@ -201,7 +201,7 @@ value_load_yields p e a s size m least greatest by k v means (inside, number) al
     rw (allowed.points, value_load p s size m allowed.serial allowed.offset by h)
     (number_yields e (IsOfSize size) k x (λ c is. (is.members x).1 (value_number_below p s size m allowed.serial (allowed.offset +ℤ by) h)) number)
 
-pub value_load_signed_yields : (p : Program) (e : Assigned) (a : State) (s : Machine.State) (size : Narrow) (m : ℕ) (least greatest by : ℤ) (k : Kind)
+pub value_load_signed_yields : (p : Program) (e : Assigned) (a : State) (s : Machine.State) (size : SignedSize) (m : ℕ) (least greatest by : ℤ) (k : Kind)
     (v : Value) → MeansBy p e a s → ValueLoadsSigned size (value_size (slice_get p.maps m)) least greatest by (Ok k)
     → Allows e (MapValue m least greatest) v → Yields e k (load_signed s size v by)
 value_load_signed_yields p e a s size m least greatest by k v means (inside, number) allowed =

@@ -1,7 +1,7 @@
 -- Loads and stores by what the base points to; `rows` are the rows of the maps.
 use Rattle.std.specs.Prelude.{◌≡◌, ℤ, ◌+ℤ◌, List, slice_get, Result, Err}
 use Rattle.isa_model.specs.declared.sizes.Size.{Size}
-use Rattle.isa_model.specs.declared.sizes.Narrow.{Narrow}
+use Rattle.isa_model.specs.declared.sizes.SignedSize.{SignedSize}
 use Rattle.isa_model.specs.declared.map_defs.MapDef.{MapDef}
 use Rattle.reg_state.specs.declared.kinds.Kind.{Kind}
 use Rattle.reg_state.specs.declared.kinds.Kind.TheVariants.{Context, Stack, Packet, MapValue}
@@ -23,7 +23,7 @@ LoadsKind rows a size (MapValue m least greatest) by result = ValueLoads size (v
 LoadsKind rows a size base by result = result ≡ Err (access_refusal base)
 
 -- with the sign extended
-abbrev pub LoadsSigned : List MapDef → State → Narrow → Kind → ℤ → Result Kind Refusal → Type 0
+abbrev pub LoadsSigned : List MapDef → State → SignedSize → Kind → ℤ → Result Kind Refusal → Type 0
 LoadsSigned rows a size (Stack frame offset) by result = StackLoadsSigned a frame (offset +ℤ by) size result
 LoadsSigned rows a size (Packet fixed identity least greatest proved) by result = PacketLoadsSigned size fixed least proved by result
 LoadsSigned rows a size (MapValue m least greatest) by result = ValueLoadsSigned size (value_size (slice_get rows m)) least greatest by result

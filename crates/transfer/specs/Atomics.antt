@@ -9,7 +9,7 @@ use Rattle.reg_state.specs.declared.scalars.Scalar.{Scalar}
 use Rattle.reg_state.specs.declared.kinds.Kind.{Kind}
 use Rattle.reg_state.specs.declared.kinds.Kind.TheVariants.{Number, Context, Stack, Packet, MapValue, MapValueOrNull}
 use Rattle.stack_state.specs.declared.states.State.{State}
-use Rattle.stack_state.specs.Meaning.{slots_of}
+use Rattle.stack_state.specs.Meaning.{stack_slots_of}
 use Rattle.stack_state.specs.Places.{kind_of, with_register}
 use Rattle.stack_state.specs.Slots.{IsLoad}
 use Rattle.stack_state.specs.FramePlaces.{IsStoredIn}
@@ -29,7 +29,7 @@ with_old (Some register) old a = with_register a register (Number old)
 -- number bytes are replaced by others
 pub record IsSwapped (a : State) (frame at : ℕ) (size : Size) (register : Option Reg) (b : State) : Type 0 where
   pub old : Scalar
-  pub loaded : IsLoad (slots_of a frame) at size (Some old)
+  pub loaded : IsLoad (stack_slots_of a frame) at size (Some old)
   pub after : State
   pub stored : IsStoredIn a frame at size after
   pub kept : b ≡ with_old register old after
@@ -39,7 +39,8 @@ abbrev pub StackSwaps : State → ℕ → ℤ → Size → Option Reg → State 
 StackSwaps a frame z size register b (Ok done) = (at : ℕ) × IsFramePlace a frame z size at × IsSwapped a frame at size register b
 StackSwaps a frame z size register b (Err StackPlace) = (b ≡ a) × IsNoFramePlace a frame z size
 StackSwaps a frame z size register b (Err StackBytes) =
-    (at : ℕ) × (b ≡ a) × IsFramePlace a frame z size at × IsLoad (slots_of a frame) at size None
+    (at : ℕ) × (b ≡ a) × IsFramePlace a frame z size at
+    × IsLoad (stack_slots_of a frame) at size None
 StackSwaps a frame z size register b (Err e) = ⊥
 
 -- ---- all places

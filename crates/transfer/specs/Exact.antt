@@ -16,7 +16,7 @@ use Rattle.isa_model.specs.declared.versions.Version.{Version}
 use Rattle.isa_model.specs.declared.versions.Version.TheVariants as version
 use Rattle.isa_model.specs.Code.Sizes.{width_size}
 use Rattle.isa_model.specs.Code.Numbers.{unsigned}
-use Rattle.isa_model.specs.Code.Instructions.{Program, slots_of, writes}
+use Rattle.isa_model.specs.Code.Instructions.{Program, slots_filled, writes}
 use Rattle.isa_model.specs.Code.Limits.{max_call_frames}
 use Rattle.isa_model.specs.Machine.Steps.{destination}
 use Rattle.known_bits.specs.Bits.{greatest_of}
@@ -80,7 +80,7 @@ pub record SetsRegister (rows : List MapDef) (a : State) (i : Insn) (b : State) 
   pub own : register ≢ R10
   pub kind : Kind
   pub puts : ResultKind rows a i (Ok kind)
-  pub next : b ≡ go_to (with_register a register kind) (a.slot + slots_of i)
+  pub next : b ≡ go_to (with_register a register kind) (a.slot + slots_filled i)
 
 abbrev pub SetsOrRefuses : List MapDef → State → Insn → Result Ways Refusal → State → Type 0
 SetsOrRefuses rows a i (Ok w) b = (w ≡ ways.One) × SetsRegister rows a i b
@@ -153,9 +153,9 @@ shows_action version.Two numbers =
     || (nat_le numbers.range.low.greatest 4 || nat_le numbers.range.wide.greatest 4)
 
 -- what the program answers: a number, and an action
-abbrev pub answered : Version → Kind → Result Ways Refusal
-answered v (Number numbers) = if shows_action v numbers then Ok ways.None else Err NoAction
-answered v k = Err ExitValue
+abbrev pub exit_answer : Version → Kind → Result Ways Refusal
+exit_answer v (Number numbers) = if shows_action v numbers then Ok ways.None else Err NoAction
+exit_answer v k = Err ExitValue
 
 -- whether the kind points into the nth frame
 abbrev pub points_into : ℕ → Kind → Bool
@@ -168,7 +168,7 @@ StepsReturn a (Ok w) b = (points_into (length a.callers.items) (kind_of a R0) �
 StepsReturn a (Err e) b = (points_into (length a.callers.items) (kind_of a R0) ≡ true) × (e ≡ ExitValue)
 
 abbrev pub ExitsFrom : Version → ℕ → State → Result Ways Refusal → State → Type 0
-ExitsFrom v zero a result b = result ≡ answered v (kind_of a R0)
+ExitsFrom v zero a result b = result ≡ exit_answer v (kind_of a R0)
 ExitsFrom v (suc n) a result b = StepsReturn a result b
 
 -- the first frame, which has no callers, answers

@@ -5,14 +5,14 @@ use Rattle.isa_model.specs.Code.Limits.{frame_size}
 use Rattle.isa_model.specs.declared.registers.Reg.TheVariants.{R1, R2, R3, R4}
 use Rattle.isa_model.specs.declared.helpers.Helper.{Helper}
 use Rattle.isa_model.specs.declared.helpers.Helper.TheVariants.{MapLookupElem, MapUpdateElem, MapDeleteElem, KtimeGetNs}
-use Rattle.isa_model.specs.declared.map_defs.MapKind.{MapKind}
-use Rattle.isa_model.specs.declared.map_defs.MapKind.TheVariants.{Hash, Array}
+use Rattle.isa_model.specs.declared.map_defs.MapType.{MapType}
+use Rattle.isa_model.specs.declared.map_defs.MapType.TheVariants.{Hash, Array}
 use Rattle.isa_model.specs.declared.map_defs.MapDef.{MapDef}
 use Rattle.isa_model.specs.Code.Helpers.{helper_numbered}
 use Rattle.reg_state.specs.declared.kinds.Kind.{Kind}
 use Rattle.reg_state.specs.declared.kinds.Kind.TheVariants.{Number, Stack, Packet, Map, MapValue, MapValueOrNull}
 use Rattle.stack_state.specs.declared.states.State.{State}
-use Rattle.stack_state.specs.Meaning.{depth, slots_of}
+use Rattle.stack_state.specs.Meaning.{depth, stack_slots_of}
 use Rattle.stack_state.specs.Places.{kind_of}
 use Rattle.stack_state.specs.Slots.{AreMarked, IsAnyNumber}
 use Rattle.stack_state.specs.Identities.{IsLeastFreshNull}
@@ -72,7 +72,7 @@ pub record AreInFrame (a : State) (frame : ℕ) (z : ℤ) (n : ℕ) : Type 0 whe
   pub at : ℕ
   pub from_start : (z +ℤ pos frame_size) ≡ pos at
   pub inside : at + n ≤ frame_size
-  pub marked : AreMarked (slots_of a frame) at (at + n)
+  pub marked : AreMarked (stack_slots_of a frame) at (at + n)
 
 -- n bytes at a pointer are known to be there, and to be number bytes
 abbrev pub AreKnown : List MapDef → State → Kind → ℕ → Type 0
@@ -98,7 +98,7 @@ abbrev pub AnswersValue : State → CalledMap → State → Type 0
 AnswersValue a m b = (i : ℕ) × IsLeastFreshNull a i × (b ≡ with_answer a (MapValueOrNull m.index i))
 
 -- an array keeps its values
-abbrev pub without_values : MapKind → ℕ → State → State
+abbrev pub without_values : MapType → ℕ → State → State
 without_values Hash m a = forgotten_in m a
 without_values Array m a = a
 

@@ -3,7 +3,7 @@
 use Rattle.std.specs.Prelude.{◌≡◌, ℕ, ◌+◌, ◌*◌, ◌^◌, ◌<◌, ◌≤◌, ◌⊎◌, ◌↔◌, ℤ, pos, ◌+ℤ◌, ◌-ℤ◌, ◌≤ℤ◌, FitsSigned, unsigned_abs, Bool, true, false, Option, Some, None, Result, Ok, Err}
 use Rattle.std.specs.Int.{w32, w64, cast_signed, bit_at}
 use Rattle.isa_model.specs.declared.sizes.Size.{Size}
-use Rattle.isa_model.specs.declared.sizes.Narrow.{Narrow}
+use Rattle.isa_model.specs.declared.sizes.SignedSize.{SignedSize}
 use Rattle.isa_model.specs.declared.sizes.Width.TheVariants.{Full64}
 use Rattle.isa_model.specs.Code.Numbers.{signed}
 use Rattle.isa_model.specs.Code.Sizes.{size_bytes, narrow_size, narrow_extension}
@@ -41,7 +41,7 @@ pub record IsOfSize (size : Size) (c : Scalar) : Type 0 where
   pub signed_greatest : size_bytes size < 8 → c.range.wide.signed_greatest ≡ pos c.range.wide.greatest
 
 -- any number with this number of bytes and a sign, in 64 bits
-pub record IsOfSignedSize (size : Narrow) (c : Scalar) : Type 0 where
+pub record IsOfSignedSize (size : SignedSize) (c : Scalar) : Type 0 where
   pub members : (x : ℕ)
       → (Has c x ↔ ((x < 2 ^ 64) × FitsSigned (extension_signed (narrow_extension size)) (cast_signed w64 x)))
   pub signed_least : FitsSigned (extension_signed (narrow_extension size)) c.range.wide.signed_least
@@ -60,7 +60,7 @@ abbrev pub PacketLoads : Size → ℤ → ℤ → ℕ → ℤ → Result Kind Re
 PacketLoads size fixed least proved by answer =
     GivesIf PacketBytes (AreInPacket fixed least proved by (size_bytes size)) (IsOfSize size) answer
 
-abbrev pub PacketLoadsSigned : Narrow → ℤ → ℤ → ℕ → ℤ → Result Kind Refusal → Type 0
+abbrev pub PacketLoadsSigned : SignedSize → ℤ → ℤ → ℕ → ℤ → Result Kind Refusal → Type 0
 PacketLoadsSigned size fixed least proved by answer =
     GivesIf PacketBytes (AreInPacket fixed least proved by (size_bytes (narrow_size size))) (IsOfSignedSize size) answer
 

@@ -2,15 +2,15 @@
 use Rattle.std.specs.Prelude.{◌≡◌, ℕ, suc, ◌/◌, ◌<◌, ◌==◌, ℤ, List, Option, Some, None, Result, Ok, Err, if◌then◌else◌}
 use Rattle.isa_model.specs.declared.sizes.Size.{Size}
 use Rattle.isa_model.specs.declared.sizes.Size.TheVariants.{U64}
-use Rattle.isa_model.specs.declared.sizes.Narrow.{Narrow}
+use Rattle.isa_model.specs.declared.sizes.SignedSize.{SignedSize}
 use Rattle.isa_model.specs.Code.Sizes.{narrow_size, narrow_extension}
 use Rattle.reg_state.specs.declared.scalars.Scalar.{Scalar}
 use Rattle.reg_state.specs.declared.kinds.Kind.{Kind}
 use Rattle.reg_state.specs.declared.kinds.Kind.TheVariants.{Unset, Number, Stack, MapValueOrNull}
 use Rattle.reg_state.specs.Arithmetic.{IsSignExtended}
-use Rattle.stack_state.specs.declared.slots.Slot.{Slot}
+use Rattle.stack_state.specs.declared.slots.StackSlot.{StackSlot}
 use Rattle.stack_state.specs.declared.states.State.{State}
-use Rattle.stack_state.specs.Meaning.{depth, slots_of}
+use Rattle.stack_state.specs.Meaning.{depth, stack_slots_of}
 use Rattle.stack_state.specs.Slots.{slot_at, IsLoad, IsFill}
 use Rattle.stack_state.specs.FramePlaces.{IsPlace, IsStoredIn, IsSpilledIn}
 use Rattle.stack_state.specs.NumberStores.{IsNumberStoredIn}
@@ -34,34 +34,34 @@ FindsFramePlace a frame z size None = IsNoFramePlace a frame z size
 -- ---- loads
 
 -- the number that the bytes spell; None: not all of them are written number bytes
-abbrev pub IsNumberLoad : List Slot → ℕ → Size → Option Kind → Type 0
+abbrev pub IsNumberLoad : List StackSlot → ℕ → Size → Option Kind → Type 0
 IsNumberLoad slots at size None = IsLoad slots at size None
 IsNumberLoad slots at size (Some (Number c)) = IsLoad slots at size (Some c)
 IsNumberLoad slots at size (Some k) = ⊥
 
 -- 8 bytes give the value that was stored whole
-abbrev pub IsStackLoad : List Slot → ℕ → Size → Option Kind → Type 0
+abbrev pub IsStackLoad : List StackSlot → ℕ → Size → Option Kind → Type 0
 IsStackLoad slots at U64 answer = IsFill (slot_at slots (at / 8)) answer
 IsStackLoad slots at size answer = IsNumberLoad slots at size answer
 
 -- the number, sign-extended
-abbrev pub IsSignedLoad : List Slot → ℕ → Narrow → Option Kind → Type 0
+abbrev pub IsSignedLoad : List StackSlot → ℕ → SignedSize → Option Kind → Type 0
 IsSignedLoad slots at size None = IsLoad slots at (narrow_size size) None
 IsSignedLoad slots at size (Some (Number c)) =
     (b : Scalar) × IsLoad slots at (narrow_size size) (Some b) × IsSignExtended (narrow_extension size) b c
 IsSignedLoad slots at size (Some k) = ⊥
 
 -- a load is refused for where it leads, and then for its bytes
-abbrev pub LoadsIn : State → ℕ → ℤ → Size → (List Slot → ℕ → Option Kind → Type 0) → Result Kind Refusal → Type 0
-LoadsIn a frame z size gives (Ok k) = (at : ℕ) × IsFramePlace a frame z size at × gives (slots_of a frame) at (Some k)
+abbrev pub LoadsIn : State → ℕ → ℤ → Size → (List StackSlot → ℕ → Option Kind → Type 0) → Result Kind Refusal → Type 0
+LoadsIn a frame z size gives (Ok k) = (at : ℕ) × IsFramePlace a frame z size at × gives (stack_slots_of a frame) at (Some k)
 LoadsIn a frame z size gives (Err StackPlace) = IsNoFramePlace a frame z size
-LoadsIn a frame z size gives (Err StackBytes) = (at : ℕ) × IsFramePlace a frame z size at × gives (slots_of a frame) at None
+LoadsIn a frame z size gives (Err StackBytes) = (at : ℕ) × IsFramePlace a frame z size at × gives (stack_slots_of a frame) at None
 LoadsIn a frame z size gives (Err e) = ⊥
 
 abbrev pub StackLoads : State → ℕ → ℤ → Size → Result Kind Refusal → Type 0
 StackLoads a frame z size result = LoadsIn a frame z size (λ slots at. IsStackLoad slots at size) result
 
-abbrev pub StackLoadsSigned : State → ℕ → ℤ → Narrow → Result Kind Refusal → Type 0
+abbrev pub StackLoadsSigned : State → ℕ → ℤ → SignedSize → Result Kind Refusal → Type 0
 StackLoadsSigned a frame z size result = LoadsIn a frame z (narrow_size size) (λ slots at. IsSignedLoad slots at size) result
 
 -- ---- stores

@@ -2,7 +2,7 @@
 -- bpf(2) (maps); Linux, Documentation/bpf/verifier.rst (pointers to map values).
 use Rattle.std.specs.Prelude.{◌≡◌, ℕ, ◌^◌, ◌<◌, ℤ, pos, ◌+ℤ◌, ◌-ℤ◌, ◌≤ℤ◌, Bool, true, false, Option, Some, None, Result, Ok, Err}
 use Rattle.isa_model.specs.declared.sizes.Size.{Size}
-use Rattle.isa_model.specs.declared.sizes.Narrow.{Narrow}
+use Rattle.isa_model.specs.declared.sizes.SignedSize.{SignedSize}
 use Rattle.isa_model.specs.declared.sizes.Width.TheVariants.{Full64}
 use Rattle.isa_model.specs.declared.instructions.Insn.{Insn}
 use Rattle.isa_model.specs.declared.instructions.Insn.TheVariants.{LoadMap, LoadMapValue}
@@ -43,7 +43,7 @@ abbrev pub ValueLoads : Size → ℕ → ℤ → ℤ → ℤ → Result Kind Ref
 ValueLoads size room least greatest by answer =
     GivesIf MapValueBytes (AreInValue room least greatest by (size_bytes size)) (IsOfSize size) answer
 
-abbrev pub ValueLoadsSigned : Narrow → ℕ → ℤ → ℤ → ℤ → Result Kind Refusal → Type 0
+abbrev pub ValueLoadsSigned : SignedSize → ℕ → ℤ → ℤ → ℤ → Result Kind Refusal → Type 0
 ValueLoadsSigned size room least greatest by answer =
     GivesIf MapValueBytes (AreInValue room least greatest by (size_bytes (narrow_size size))) (IsOfSignedSize size) answer
 

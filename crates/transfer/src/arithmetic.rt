@@ -6,7 +6,7 @@ ghost use Rattle.transfer.specs.Results.{OfNumber, IsLowWord, NumberAnd, Pointer
 
 use crate::pointers::{number_and_pointer, pointer_and_number};
 use crate::refusals::Refusal;
-use isa_model::{AluOp, ByteOrder, Extension, Span, Width};
+use isa_model::{AluOp, ByteOrder, Extension, SwapWidth, Width};
 use reg_state::{Domain, Kind, Scalar};
 use stack_state::State;
 
@@ -38,7 +38,7 @@ pub fn sign_extended(extension: Extension, kind: Kind) -> Result<Kind, Refusal>
 }
 
 /// END.
-pub fn reordered(order: ByteOrder, span: Span, kind: Kind) -> Result<Kind, Refusal>
+pub fn reordered(order: ByteOrder, span: SwapWidth, kind: Kind) -> Result<Kind, Refusal>
     ensures { OfNumber (IsReordered order span) kind result }
 {
     match kind {

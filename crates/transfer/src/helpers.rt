@@ -7,7 +7,7 @@ ghost use Rattle.transfer.specs.HelperCalls.{called_map, points_to_bytes, is_num
 use crate::bytes::are_known;
 use crate::jumps::is_untested;
 use crate::refusals::Refusal;
-use isa_model::{Helper, MapDef, MapKind, Reg, Width};
+use isa_model::{Helper, MapDef, MapType, Reg, Width};
 use reg_state::{Domain, Kind, Scalar};
 use stack_state::State;
 
@@ -123,8 +123,8 @@ fn forget_values(state: &mut State, map: CalledMap)
     ensures { state.new ≡ without_values map.row.kind map.index state.old }
 {
     match map.row.kind {
-        MapKind::Hash => state.forget_map(map.index),
-        MapKind::Array => {}
+        MapType::Hash => state.forget_map(map.index),
+        MapType::Array => {}
     }
 }
 

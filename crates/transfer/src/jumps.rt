@@ -10,7 +10,7 @@ ghost use Rattle.transfer.specs.Exact.{Sides, BranchesOr};
 
 use crate::Ways;
 use crate::refusals::Refusal;
-use branch_refine::{Compared, Outcome, compared_by, outcome_of};
+use branch_refine::{BranchOutcome, Compared, compared_by, outcome_of};
 use isa_model::{Cond, Operand, destination};
 use reg_state::Kind;
 use stack_state::State;
@@ -59,7 +59,7 @@ fn comparison_refusal(cond: Cond, state: &State) -> Refusal
 /// is copied.
 fn part(
     cond: Cond,
-    ways: (Outcome, Outcome),
+    ways: (BranchOutcome, BranchOutcome),
     slots: (usize, usize),
     state: &mut State,
     other: &mut State,

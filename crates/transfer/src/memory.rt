@@ -10,7 +10,7 @@ use crate::packets::{packet_load, packet_load_signed, packet_store};
 use crate::refusals::Refusal;
 use crate::stacks::{stack_load, stack_load_signed, stack_store};
 use crate::values::{value_load, value_load_signed, value_store};
-use isa_model::{MapDef, Narrow, Size};
+use isa_model::{MapDef, SignedSize, Size};
 use reg_state::Kind;
 use stack_state::State;
 
@@ -57,7 +57,7 @@ pub fn load(
 pub fn load_signed(
     maps: &[MapDef],
     state: &State,
-    size: Narrow,
+    size: SignedSize,
     base: Kind,
     by: i16,
 ) -> Result<Kind, Refusal>

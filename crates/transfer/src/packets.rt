@@ -9,7 +9,7 @@ use crate::bytes::are_in_packet;
 use crate::offsets::{limits, moved_by, sum};
 use crate::refusals::Refusal;
 use crate::stacks::narrow_size;
-use isa_model::{Narrow, Size, Width};
+use isa_model::{SignedSize, Size, Width};
 use known_bits::Bits;
 use ranges::Range;
 use reg_state::{Domain, Kind, Scalar};
@@ -49,20 +49,20 @@ pub fn of_size(size: Size) -> Scalar
 }
 
 /// The least and the greatest number with this number of bytes and a sign.
-fn signed_limits(size: Narrow) -> (i64, i64)
+fn signed_limits(size: SignedSize) -> (i64, i64)
     ensures fits { (z : ℤ) → (((result.0 ≤ℤ z) × (z ≤ℤ result.1))
         ↔ FitsSigned (extension_signed (narrow_extension size)) z) }
     ensures ordered { result.0 ≤ℤ result.1 }
 {
     match size {
-        Narrow::S8 => (-0x80, 0x7f),
-        Narrow::S16 => (-0x8000, 0x7fff),
-        Narrow::S32 => (-0x8000_0000, 0x7fff_ffff),
+        SignedSize::S8 => (-0x80, 0x7f),
+        SignedSize::S16 => (-0x8000, 0x7fff),
+        SignedSize::S32 => (-0x8000_0000, 0x7fff_ffff),
     }
 }
 
 /// Any number with this number of bytes and a sign.
-pub fn of_signed_size(size: Narrow) -> Scalar
+pub fn of_signed_size(size: SignedSize) -> Scalar
     ensures { IsOfSignedSize size result }
 {
     let (least, greatest) = signed_limits(size);
@@ -91,7 +91,7 @@ pub fn packet_load(
 
 /// What a load with a sign gives.
 pub fn packet_load_signed(
-    size: Narrow,
+    size: SignedSize,
     fixed: i32,
     least: i32,
     proved: u32,

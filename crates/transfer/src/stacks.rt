@@ -7,7 +7,7 @@ ghost use Rattle.transfer.specs.StackAccesses.{FindsFramePlace, IsNumberLoad, Is
 ghost use Rattle.stack_state.specs.Meaning.{depth};
 
 use crate::refusals::Refusal;
-use isa_model::{Extension, Narrow, Size};
+use isa_model::{Extension, SignedSize, Size};
 use reg_state::{Domain, Kind, Scalar};
 use stack_state::{StackState, State, stack_place};
 
@@ -24,23 +24,23 @@ pub fn frame_place(state: &State, frame: u8, offset: i32, by: i16, size: Size) -
 // ---- loads
 
 /// The size of a sign-extending load.
-pub fn narrow_size(size: Narrow) -> Size
+pub fn narrow_size(size: SignedSize) -> Size
     ensures { result ≡ narrow_size size }
 {
     match size {
-        Narrow::S8 => Size::U8,
-        Narrow::S16 => Size::U16,
-        Narrow::S32 => Size::U32,
+        SignedSize::S8 => Size::U8,
+        SignedSize::S16 => Size::U16,
+        SignedSize::S32 => Size::U32,
     }
 }
 
-fn narrow_extension(size: Narrow) -> Extension
+fn narrow_extension(size: SignedSize) -> Extension
     ensures { result ≡ narrow_extension size }
 {
     match size {
-        Narrow::S8 => Extension::Full8,
-        Narrow::S16 => Extension::Full16,
-        Narrow::S32 => Extension::Full32,
+        SignedSize::S8 => Extension::Full8,
+        SignedSize::S16 => Extension::Full16,
+        SignedSize::S32 => Extension::Full32,
     }
 }
 
@@ -69,7 +69,7 @@ fn loaded(stack: &StackState, at: usize, size: Size) -> Option<Kind>
 }
 
 /// The same with the sign extended.
-fn loaded_signed(stack: &StackState, at: usize, size: Narrow) -> Option<Kind>
+fn loaded_signed(stack: &StackState, at: usize, size: SignedSize) -> Option<Kind>
     requires inside { at < frame_size }
     requires in_slot { at % 8 + size_bytes (narrow_size size) ≤ 8 }
     ensures { IsSignedLoad stack.now.slots at size result }
@@ -108,7 +108,7 @@ pub fn stack_load_signed(
     frame: u8,
     offset: i32,
     by: i16,
-    size: Narrow,
+    size: SignedSize,
 ) -> Result<Kind, Refusal>
     ensures { StackLoadsSigned state.now frame (offset +ℤ by) size result }
 {

@@ -3,7 +3,7 @@
 ghost use Rattle.std.specs.Prelude.{false, ◌≡◌, ◌+◌, ◌<◌, ◌^◌, length};
 ghost use Rattle.std.specs.List.{list_any};
 ghost use Rattle.std.specs.Option.{option_to_list};
-ghost use Rattle.isa_model.specs.Code.Instructions.{Program, slots_of, writes, is_frame_pointer};
+ghost use Rattle.isa_model.specs.Code.Instructions.{Program, slots_filled, writes, is_frame_pointer};
 ghost use Rattle.transfer.specs.Refusing.{is_unset_in, reads_unset};
 ghost use Rattle.transfer.specs.Exact.{OperandKind, IsSetter, ResultKind, SetsOrRefuses, StepsForm, GoesOn, StoresAt, SwapsAtPlace, ComparesAtPlace};
 ghost use Rattle.transfer.specs.HelperCalls.{CallsHelper};
@@ -92,7 +92,7 @@ fn result_kind(maps: &[MapDef], state: &State, insn: &Insn) -> Result<Kind, Refu
 /// Sets the register that a form writes, and moves to the next instruction.
 fn set(maps: &[MapDef], state: &mut State, insn: &Insn) -> Result<Ways, Refusal>
     requires writable { is_frame_pointer (writes insn.now) ≡ false }
-    requires slot { state.old.slot + slots_of insn.now < 2 ^ 63 }
+    requires slot { state.old.slot + slots_filled insn.now < 2 ^ 63 }
     requires named { NamesFit insn.now }
     requires setter { IsSetter insn.now }
     ensures { SetsOrRefuses maps.now state.old insn.now result state.new }
@@ -199,7 +199,7 @@ pub fn perform(
     other: &mut State,
 ) -> Result<Ways, Refusal>
     requires writable { is_frame_pointer (writes insn.now) ≡ false }
-    requires slot { state.old.slot + slots_of insn.now < 2 ^ 63 }
+    requires slot { state.old.slot + slots_filled insn.now < 2 ^ 63 }
     requires named { NamesFit insn.now }
     ensures { (p : Program) → length p.insns ≡ slots → p.maps ≡ maps.now → p.version ≡ version
         → StepsForm p state.old insn.now result state.new other.new }

@@ -9,7 +9,7 @@ use crate::offsets::{limits, moved_by};
 use crate::packets::{of_signed_size, of_size, stored};
 use crate::refusals::Refusal;
 use crate::stacks::narrow_size;
-use isa_model::{MapDef, Narrow, Size};
+use isa_model::{MapDef, SignedSize, Size};
 use reg_state::{Kind, Scalar};
 
 // ---- wide loads
@@ -56,7 +56,7 @@ pub fn value_load(
 
 /// What a load with a sign gives.
 pub fn value_load_signed(
-    size: Narrow,
+    size: SignedSize,
     room: u32,
     least: i32,
     greatest: i32,

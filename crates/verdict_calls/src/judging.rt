@@ -10,12 +10,12 @@ ghost use Rattle.walks.specs.Accepting.{BoundsAll};
 ghost use Rattle.walks.specs.Counts.{HasNumber};
 ghost use Rattle.verdict_calls.specs.Crossing.{IsDecision, is_memory};
 ghost use Rattle.verdict_calls.specs.Verdicts.{AnswersBound, bound_alone, IsRefusedImage, FillsImageRefusal, TellsRefusal, IsUndecided};
-ghost use Rattle.verdict_calls.specs.declared.statuses.Failure.TheVariants as Failure;
+ghost use Rattle.verdict_calls.specs.declared.statuses.NotAccepted.TheVariants as NotAccepted;
 
 use crate::filling::fill;
-use crate::statuses::{Failure, MEMORY, OK, REFUSED, UNDECIDED, WRONG};
+use crate::statuses::{MEMORY, NotAccepted, OK, REFUSED, UNDECIDED, WRONG};
 use control_flow::FlowError;
-use explorer::{Refusal, Stop, Verified, verify, verify_within};
+use explorer::{NoBound, Refusal, Verified, verify, verify_within};
 use image::{Image, ImageError};
 use isa_model::MAX_EXPLORED;
 use refusal_texts::{image_text, program_text};
@@ -40,23 +40,23 @@ fn is_memory(refusal: Refusal) -> bool
 }
 
 /// The program of an image, if it is accepted.
-pub fn verified_of(alloc: Global, image: &[u8]) -> Result<Verified, Failure>
+pub fn verified_of(alloc: Global, image: &[u8]) -> Result<Verified, NotAccepted>
     ensures spelled { IfOk result (λ verified. image.now ≡ image_bytes verified.program) }
     ensures verified { IfOk result IsVerified }
-    ensures refused { result ≡ Err Failure.Refused → IsRefusedImage image.now }
+    ensures refused { result ≡ Err NotAccepted.Refused → IsRefusedImage image.now }
 {
     let program = match Image::parse(alloc, image) {
         Ok(program) => program,
-        Err(ImageError::Memory) => return Err(Failure::Memory),
-        Err(_) => return Err(Failure::Refused),
+        Err(ImageError::Memory) => return Err(NotAccepted::Memory),
+        Err(_) => return Err(NotAccepted::Refused),
     };
     match verify(alloc, program) {
         Ok(verified) => Ok(verified),
         Err((refusal, _)) => {
             if is_memory(refusal) {
-                Err(Failure::Memory)
+                Err(NotAccepted::Memory)
             } else {
-                Err(Failure::Refused)
+                Err(NotAccepted::Refused)
             }
         }
     }
@@ -120,8 +120,8 @@ fn judge(alloc: Global, program: Image, limit: u32, why: &mut [u8], out: &mut Ve
             };
             OK
         }
-        Err(Stop::Limit) => UNDECIDED,
-        Err(Stop::Refused(refusal, slot)) => tell(alloc, &copy, refusal, slot, why, out),
+        Err(NoBound::Limit) => UNDECIDED,
+        Err(NoBound::Refused(refusal, slot)) => tell(alloc, &copy, refusal, slot, why, out),
     }
 }
 

@@ -20,7 +20,7 @@ pub const ABSENT: u32 = 7;
 
 /// Why there is no accepted program.
 #[derive(Clone, Copy)]
-pub enum Failure {
+pub enum NotAccepted {
     /// The bytes are no image, or its program is refused.
     Refused,
     /// Out of memory.

@@ -7,7 +7,7 @@ use Rattle.isa_model.specs.declared.registers.Reg.{Reg}
 use Rattle.isa_model.specs.declared.registers.Reg.TheVariants.{R10}
 use Rattle.isa_model.specs.declared.instructions.Insn.{Insn}
 use Rattle.isa_model.specs.declared.instructions.Insn.TheVariants.{CallLocal, Exit}
-use Rattle.isa_model.specs.Code.Instructions.{Program, fetch, slots_of, reads, writes, is_frame_pointer}
+use Rattle.isa_model.specs.Code.Instructions.{Program, fetch, slots_filled, reads, writes, is_frame_pointer}
 use Rattle.isa_model.specs.Machine.Steps.{destination}
 use Rattle.isa_model.specs.Machine.Successors.{falls_through, jump_distance}
 use Rattle.reg_state.specs.declared.kinds.Kind.{Kind}
@@ -56,12 +56,12 @@ pub record Fallen (p : Program) (slot to : ℕ) : Type 0 where
   pub insn : Insn
   pub here : fetch p slot ≡ Some insn
   pub falls : falls_through insn ≡ true
-  pub at : slot + slots_of insn ≡ to
+  pub at : slot + slots_filled insn ≡ to
 
 fall_to-by : (p : Program) (slot to : ℕ) → fall_to p slot ≡ Some to → Fallen p slot to
 unfolding fall_to
 fall_to-by p slot to h = of (fetch p slot) refl h where
-  far : (i : Insn) (b : Bool) → fetch p slot ≡ Some i → falls_through i ≡ b → (if b then Some (slot + slots_of i) else None) ≡ Some to → Fallen p slot to
+  far : (i : Insn) (b : Bool) → fetch p slot ≡ Some i → falls_through i ≡ b → (if b then Some (slot + slots_filled i) else None) ≡ Some to → Fallen p slot to
   far i true here is e = record { insn = i; here = here; falls = is; at = cc }
   far i false here is e = absurd (cc)
 

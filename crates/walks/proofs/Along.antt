@@ -18,7 +18,7 @@ use Rattle.isa_model.specs.declared.instructions.Insn.TheVariants.{Alu, Neg, Mov
 use Rattle.isa_model.specs.declared.values.Value.{Value}
 use Rattle.isa_model.specs.declared.values.Value.TheVariants.{Unset, Num, Ptr}
 use Rattle.isa_model.specs.Code.Numbers.{unsigned, holds}
-use Rattle.isa_model.specs.Code.Instructions.{Program, fetch, slots_of, operand_reads, writes}
+use Rattle.isa_model.specs.Code.Instructions.{Program, fetch, slots_filled, operand_reads, writes}
 use Rattle.isa_model.specs.Machine.States as Machine
 use Rattle.isa_model.specs.Machine.States.{reg, set_reg, value_at, new_frame}
 use Rattle.isa_model.specs.Machine.Steps.{Next, destination, branches, tested, test_of, act, step}
@@ -232,15 +232,15 @@ sets_along p steps d k s a t i along here h =
     let c = computed (λ q. IsHomeLive p q s.slot) p d.run.clock s t i h.register h.kind (d.forms t.slot i here) (read_numbers p steps d k s t i along here) along.mirrors.stack
     (λ j reads. IsSlotLive-read p j s.slot i there reads)
     (λ e trap. no_trap p d.run.clock (first p steps d) steps d.run.number k t e d.run.runs along.reached (acts ∙ trap)) h.written h.puts in
-    let u = Machine.go_to (set_reg t h.register (Num c.number)) (t.slot + slots_of i) in
+    let u = Machine.go_to (set_reg t h.register (Num c.number)) (t.slot + slots_filled i) in
     let goes : step p d.run.clock t ≡ Next u = run_acts p steps d k s t i along here ∙ c.acts in
-    let next : ℕ = s.slot + slots_of i in
+    let next : ℕ = s.slot + slots_filled i in
     let put = Mirrors-set (λ q. IsHomeLive p q s.slot) s t h.register h.kind c.number h.own c.just along.mirrors in
     let less : (q : Home) → IsHomeLive p q next → (q ≡ InRegister h.register) ⊎ IsHomeLive p q s.slot =
     one_more p steps d k s t i h.register next along here h.written (inl (writes_falls i h.register h.written, refl)) in
     let mirrors : Mirrors (λ q. IsHomeLive p q next) (go_to (with_register s h.register h.kind) next) u =
-    Mirrors-go (λ q. (q ≡ InRegister h.register) ⊎ IsHomeLive p q s.slot) (λ q. IsHomeLive p q next) (with_register s h.register h.kind) (with_register s h.register h.kind) (set_reg t h.register (Num c.number)) next (t.slot + slots_of i)
-    (ap (λ n. n + slots_of i) along.mirrors.slot) (stays (with_register s h.register h.kind)) less put in (
+    Mirrors-go (λ q. (q ≡ InRegister h.register) ⊎ IsHomeLive p q s.slot) (λ q. IsHomeLive p q next) (with_register s h.register h.kind) (with_register s h.register h.kind) (set_reg t h.register (Num c.number)) next (t.slot + slots_filled i)
+    (ap (λ n. n + slots_filled i) along.mirrors.slot) (stays (with_register s h.register h.kind)) less put in (
       u,
       record {
         reached = Reaches-then p d.run.clock (first p steps d) k t u along.reached goes;

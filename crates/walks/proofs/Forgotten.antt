@@ -17,14 +17,14 @@ use Rattle.isa_model.proofs.EndsLaws.{After-weaker}
 use Rattle.reg_state.specs.declared.kinds.Kind.{Kind}
 use Rattle.reg_state.specs.declared.kinds.Kind.TheVariants.{Unset}
 use Rattle.reg_state.specs.Kinds.{Assigned, Allows}
-use Rattle.stack_state.specs.declared.slots.Slot.{Slot}
-use Rattle.stack_state.specs.declared.slots.Slot.TheVariants.{Written}
+use Rattle.stack_state.specs.declared.slots.StackSlot.{StackSlot}
+use Rattle.stack_state.specs.declared.slots.StackSlot.TheVariants.{Written}
 use Rattle.stack_state.specs.Slots.{slot_at, frame_slots}
 use Rattle.stack_state.specs.StackMeaning.{SlotMeans}
 use Rattle.stack_state.specs.declared.states.AbstractFrame.{AbstractFrame}
 use Rattle.stack_state.specs.declared.states.State.{State}
-use Rattle.stack_state.specs.Meaning.{frames_of, frame_of, depth, registers_of, kind_at, no_frame, Means, Covers}
-use Rattle.stack_state.proofs.MeaningLaws.{frame_of-caller, frame_of-innermost, length-frames_of, FrameKeeps, MeansBy-change}
+use Rattle.stack_state.specs.Meaning.{frames_of, abstract_frame_at, depth, registers_of, kind_at, no_frame, Means, Covers}
+use Rattle.stack_state.proofs.MeaningLaws.{abstract_frame_at-caller, abstract_frame_at-innermost, length-frames_of, FrameKeeps, MeansBy-change}
 use Rattle.stack_state.specs.Places.{kind_of}
 use Rattle.isa_model.proofs.RegisterLaws.{same_number}
 use Rattle.stack_state.proofs.PlaceLaws.{kind_of-registers}
@@ -61,11 +61,12 @@ maps_same f d (x ∷ xs) (y ∷ ys) long same =
 
 -- each frame returns to where it returned
 frame_returns : (p : Program) (a b : State) (k : ℕ) → Forgets p a b → k < depth a
-    → (frame_of b k).return_slot ≡ (frame_of a k).return_slot
+    → (abstract_frame_at b k).return_slot ≡ (abstract_frame_at a k).return_slot
 frame_returns p a b k f below = elim (cases_eq k (length a.callers.items)) [
   | inl last ↦
-      let here : frame_of a k ≡ a.innermost = ap (frame_of a) last ∙ frame_of-innermost a in
-      let there : frame_of b k ≡ b.innermost = ap (frame_of b) (last ∙ sym (Forgets-callers p a b f)) ∙ frame_of-innermost b in
+      let here : abstract_frame_at a k
+      ≡ a.innermost = ap (abstract_frame_at a) last ∙ abstract_frame_at-innermost a in
+      let there : abstract_frame_at b k ≡ b.innermost = ap (abstract_frame_at b) (last ∙ sym (Forgets-callers p a b f)) ∙ abstract_frame_at-innermost b in
       ap (λ (x : AbstractFrame). x.return_slot) there
       ∙ ap (λ (x : State). x.innermost.return_slot) f.rest
       ∙ ap (λ (x : AbstractFrame). x.return_slot) (sym here)
@@ -110,14 +111,16 @@ Forgets-slot_live p a b j f below live = elim (f.slots.each j below) [
 
 -- ---- meanings
 
-slot_kept_means : (p : Program) (slot j : ℕ) (e : Assigned) (before after : Slot) (cs : List Cell)
+slot_kept_means : (p : Program) (slot j : ℕ) (e : Assigned) (before after : StackSlot)
+    (cs : List Cell)
     → IsSlotKept p slot j before after → SlotMeans e before cs → SlotMeans e after cs
 slot_kept_means p slot j e before after cs (inl same) h = subst (λ s. SlotMeans e s cs) (sym same.1) h
 slot_kept_means p slot j e before after cs (inr gone) h =
     let nothing : SlotMeans e (Written 0) cs = λ i below marked. let none = bit_at-zero i in absurd cc in
     subst (λ s. SlotMeans e s cs) (sym gone.1) nothing
 
-caller_slot_means : (p : Program) (slot j : ℕ) (e : Assigned) (before after : Slot) (cs : List Cell)
+caller_slot_means : (p : Program) (slot j : ℕ) (e : Assigned) (before after : StackSlot)
+    (cs : List Cell)
     → IsCallerSlotKept p slot j before after → SlotMeans e before cs → SlotMeans e after cs
 caller_slot_means p slot j e before after cs (inl same) h = subst (λ s. SlotMeans e s cs) (sym same) h
 caller_slot_means p slot j e before after cs (inr gone) h =
@@ -144,22 +147,23 @@ registers_allow p a b e k v f h = elim (cases_lt k 10) [
       subst (λ x. Allows e x v) (sym none) tt
 ]
 
-frames_keep : (p : Program) (a b : State) (e : Assigned) (j : ℕ) → Forgets p a b → j < depth a → FrameKeeps e e (frame_of a j) (frame_of b j)
+frames_keep : (p : Program) (a b : State) (e : Assigned) (j : ℕ) → Forgets p a b → j < depth a → FrameKeeps e e (abstract_frame_at a j) (abstract_frame_at b j)
 frames_keep p a b e j f below = elim (cases_eq j (length a.callers.items)) [
   | inl last ↦
-      let here : frame_of a j ≡ a.innermost = ap (frame_of a) last ∙ frame_of-innermost a in
-      let there : frame_of b j ≡ b.innermost = ap (frame_of b) (last ∙ sym (Forgets-callers p a b f)) ∙ frame_of-innermost b in
+      let here : abstract_frame_at a j
+      ≡ a.innermost = ap (abstract_frame_at a) last ∙ abstract_frame_at-innermost a in
+      let there : abstract_frame_at b j ≡ b.innermost = ap (abstract_frame_at b) (last ∙ sym (Forgets-callers p a b f)) ∙ abstract_frame_at-innermost b in
       let own : FrameKeeps e e a.innermost b.innermost = record {
         registers = λ k v h. registers_allow p a b e k v f h;
         slots = λ k cs within h. slot_kept_means p a.slot k e (slot_at (slots_in a) k) (slot_at (slots_in b) k) cs (f.slots.each k within) h;
       } in
-      subst (λ x. FrameKeeps e e x (frame_of b j)) (sym here) (subst (λ x. FrameKeeps e e a.innermost x) (sym there) own)
+      subst (λ x. FrameKeeps e e x (abstract_frame_at b j)) (sym here) (subst (λ x. FrameKeeps e e a.innermost x) (sym there) own)
   | inr apart ↦
       let kept = f.callers.each j (omega arith) in
       record {
         registers = λ k v h. subst (λ (x : AbstractFrame). Allows e (kind_at x.registers k) v) (sym kept.rest) h;
-        slots = λ k cs within h. caller_slot_means p (frame_of a (j + 1)).return_slot k e
-            (slot_at (frame_of a j).stack.slots k) (slot_at (frame_of b j).stack.slots k) cs (kept.slots k within) h;
+        slots = λ k cs within h. caller_slot_means p (abstract_frame_at a (j + 1)).return_slot k e
+            (slot_at (abstract_frame_at a j).stack.slots k) (slot_at (abstract_frame_at b j).stack.slots k) cs (kept.slots k within) h;
       }
 ]
 
@@ -265,17 +269,17 @@ kept_alone p slot old ten alone = record { ten = ten; each = λ r own. inl (λ d
 -- ---- the loop through stack slots
 
 -- the slots below n are left as they are or forgotten, and the rest is as before
-pub record SlotsLeftBelow (p : Program) (slot n : ℕ) (old new : List Slot) : Type 0 where
+pub record SlotsLeftBelow (p : Program) (slot n : ℕ) (old new : List StackSlot) : Type 0 where
   pub all : length new ≡ 64
   pub below : (j : ℕ) → j < n → IsSlotLeft p slot j (slot_at old j) (slot_at new j)
   pub above : (k : ℕ) → n ≤ k → slot_at new k ≡ slot_at old k
 
-pub slots_left_none : (p : Program) (slot : ℕ) (old : List Slot) → length old ≡ 64
+pub slots_left_none : (p : Program) (slot : ℕ) (old : List StackSlot) → length old ≡ 64
     → SlotsLeftBelow p slot 0 old old
 slots_left_none p slot old all = record { all = all; below = λ j low. absurd (omega arith); above = λ k high. refl }
 
 -- the next slot is live
-pub slots_left_live : (p : Program) (slot n : ℕ) (old new : List Slot) → IsSlotLive p n slot
+pub slots_left_live : (p : Program) (slot n : ℕ) (old new : List StackSlot) → IsSlotLive p n slot
     → SlotsLeftBelow p slot n old new
     → SlotsLeftBelow p slot (n + 1) old new
 slots_left_live p slot n old new live m = record {
@@ -288,7 +292,7 @@ slots_left_live p slot n old new live m = record {
 }
 
 -- the next slot is dead
-pub slots_left_dead : (p : Program) (slot n : ℕ) (old new : List Slot) → n < 64
+pub slots_left_dead : (p : Program) (slot n : ℕ) (old new : List StackSlot) → n < 64
     → (IsSlotLive p n slot → ⊥)
     → SlotsLeftBelow p slot n old new → SlotsLeftBelow p slot (n + 1) old (set new n (Written 0))
 slots_left_dead p slot n old new within dead m =
@@ -305,17 +309,17 @@ slots_left_dead p slot n old new within dead m =
       above = λ k high. get_or-set_other new n k (Written 0) (Written 0) (λ e. absurd (omega arith)) ∙ m.above k (omega arith);
     }
 
-pub AreSlotsLeft-below : (p : Program) (slot n : ℕ) (old new : List Slot) → 64 ≤ n
+pub AreSlotsLeft-below : (p : Program) (slot n : ℕ) (old new : List StackSlot) → 64 ≤ n
     → SlotsLeftBelow p slot n old new → AreSlotsLeft p slot old new
 AreSlotsLeft-below p slot n old new every m = record { all = m.all; each = λ j below. m.below j (omega arith) }
 
 -- all of them are live
-pub slots_left_full : (p : Program) (slot : ℕ) (old : List Slot) → length old ≡ 64
+pub slots_left_full : (p : Program) (slot : ℕ) (old : List StackSlot) → length old ≡ 64
     → ((j : ℕ) → j < 64 → IsSlotLive p j slot) → AreSlotsLeft p slot old old
 slots_left_full p slot old all live = record { all = all; each = λ j below. inl (live j below, refl) }
 
 -- and none of them
-pub slots_left_empty : (p : Program) (slot : ℕ) (old : List Slot) → ((j : ℕ) → IsSlotLive p j slot → ⊥)
+pub slots_left_empty : (p : Program) (slot : ℕ) (old : List StackSlot) → ((j : ℕ) → IsSlotLive p j slot → ⊥)
     → AreSlotsLeft p slot old (replicate frame_slots (Written 0))
 slots_left_empty p slot old dead = record {
   all = length-replicate frame_slots (Written 0);
@@ -323,12 +327,12 @@ slots_left_empty p slot old dead = record {
 }
 
 -- away from joins nothing is forgotten
-pub slots_kept_alone : (p : Program) (slot : ℕ) (old : List Slot) → length old ≡ 64
+pub slots_kept_alone : (p : Program) (slot : ℕ) (old : List StackSlot) → length old ≡ 64
     → (IsJoin p slot → ⊥) → AreSlotsKept p slot old old
 slots_kept_alone p slot old all alone = record { all = all; each = λ j below. inl (λ dead. alone dead.0, refl) }
 
 -- at a join the dead slots are
-pub AreSlotsKept-left : (p : Program) (slot : ℕ) (old new : List Slot) → IsJoin p slot
+pub AreSlotsKept-left : (p : Program) (slot : ℕ) (old new : List StackSlot) → IsJoin p slot
     → AreSlotsLeft p slot old new → AreSlotsKept p slot old new
 AreSlotsKept-left p slot old new join left = record {
   all = left.all;
@@ -349,7 +353,8 @@ callers_none p a = record { rest = refl; callers = callers_kept_all p a }
 
 -- the last one with other slots, which are left as they are or forgotten
 pub caller_left : (p : Program) (a b : State) (n : ℕ) (f g : AbstractFrame) → n + 1 ≡ length a.callers.items
-    → f ≡ frame_of a n → b ≡ record a { callers = record { items = set a.callers.items n g } }
+    → f ≡ abstract_frame_at a n
+    → b ≡ record a { callers = record { items = set a.callers.items n g } }
     → g ≡ record f { stack = record { slots = g.stack.slots } }
     → AreSlotsLeft p a.innermost.return_slot f.stack.slots g.stack.slots → CallersForgotten p a b
 caller_left p a b n f g last there is rest left = record {
@@ -359,16 +364,17 @@ caller_left p a b n f g last there is rest left = record {
     each = λ k below.
         let long : length b.callers.items ≡ length a.callers.items =
         ap (λ (x : State). length x.callers.items) is ∙ length-set a.callers.items n g in
-        let now : frame_of b k ≡ get_or (set a.callers.items n g) k no_frame =
-        frame_of-caller b k (omega (arith, below, long)) ∙ ap (λ (x : State). get_or x.callers.items k no_frame) is in
+        let now : abstract_frame_at b k ≡ get_or (set a.callers.items n g) k no_frame =
+        abstract_frame_at-caller b k (omega (arith, below, long)) ∙ ap (λ (x : State). get_or x.callers.items k no_frame) is in
         elim (cases_eq k n) [
           | inl e ↦
-              let own : frame_of b k ≡ g =
+              let own : abstract_frame_at b k ≡ g =
               now ∙ ap (λ (i : ℕ). get_or (set a.callers.items n g) i no_frame) e
               ∙ get_or-set_same a.callers.items n g no_frame (omega (arith, last)) in
-              let before : f ≡ frame_of a k = there ∙ ap (frame_of a) (sym e) in
-              let after : frame_of a (k + 1) ≡ a.innermost =
-              ap (frame_of a) (ap (λ (i : ℕ). i + 1) e ∙ last) ∙ frame_of-innermost a in
+              let before : f ≡ abstract_frame_at a k = there ∙ ap (abstract_frame_at a) (sym e) in
+              let after : abstract_frame_at a (k + 1) ≡ a.innermost =
+              ap (abstract_frame_at a) (ap (λ (i : ℕ). i + 1) e ∙ last)
+              ∙ abstract_frame_at-innermost a in
               let kept : IsCallerKept p a.innermost.return_slot f g = record {
                 rest = rest;
                 slots = λ j inside. elim (left.each j inside) [
@@ -376,20 +382,20 @@ caller_left p a b n f g last there is rest left = record {
                   | inr gone ↦ inr gone
                 ];
               } in
-              subst (λ (x : AbstractFrame). IsCallerKept p (frame_of a (k + 1)).return_slot (frame_of a k) x) (sym own)
-              (subst (λ (x : AbstractFrame). IsCallerKept p x.return_slot (frame_of a k) g) (sym after)
+              subst (λ (x : AbstractFrame). IsCallerKept p (abstract_frame_at a (k + 1)).return_slot (abstract_frame_at a k) x) (sym own)
+              (subst (λ (x : AbstractFrame). IsCallerKept p x.return_slot (abstract_frame_at a k) g) (sym after)
               (subst (λ (x : AbstractFrame). IsCallerKept p a.innermost.return_slot x g) before kept))
           | inr apart ↦
-              let same : frame_of b k ≡ frame_of a k =
-              now ∙ get_or-set_other a.callers.items n k g no_frame apart ∙ sym (frame_of-caller a k (omega arith)) in
-              subst (λ (x : AbstractFrame). IsCallerKept p (frame_of a (k + 1)).return_slot (frame_of a k) x) (sym same)
+              let same : abstract_frame_at b k ≡ abstract_frame_at a k =
+              now ∙ get_or-set_other a.callers.items n k g no_frame apart ∙ sym (abstract_frame_at-caller a k (omega arith)) in
+              subst (λ (x : AbstractFrame). IsCallerKept p (abstract_frame_at a (k + 1)).return_slot (abstract_frame_at a k) x) (sym same)
               (record { rest = refl; slots = λ j inside. inl refl })
         ];
   };
 }
 
 -- what is forgotten of callers first, and of the innermost frame then
-pub Forgets-both : (p : Program) (a m b : State) (ks : List Kind) (slots : List Slot) → CallersForgotten p a m
+pub Forgets-both : (p : Program) (a m b : State) (ks : List Kind) (slots : List StackSlot) → CallersForgotten p a m
     → b ≡ record m { innermost = record m.innermost { registers = ks; stack = record { slots = slots } } }
     → AreKept p m.slot m.innermost.registers ks → AreSlotsKept p m.slot m.innermost.stack.slots slots → Forgets p a b
 Forgets-both p a m b ks slots callers is registers own =
@@ -404,10 +410,10 @@ Forgets-both p a m b ks slots callers is registers own =
       callers = record {
         as_many = callers.callers.as_many;
         each = λ k below.
-            let there : frame_of whole k ≡ frame_of m k =
-            frame_of-caller whole k (omega (arith, below, callers.callers.as_many))
-            ∙ sym (frame_of-caller m k (omega (arith, below, callers.callers.as_many))) in
-            subst (λ (x : AbstractFrame). IsCallerKept p (frame_of a (k + 1)).return_slot (frame_of a k) x) (sym there)
+            let there : abstract_frame_at whole k ≡ abstract_frame_at m k =
+            abstract_frame_at-caller whole k (omega (arith, below, callers.callers.as_many))
+            ∙ sym (abstract_frame_at-caller m k (omega (arith, below, callers.callers.as_many))) in
+            subst (λ (x : AbstractFrame). IsCallerKept p (abstract_frame_at a (k + 1)).return_slot (abstract_frame_at a k) x) (sym there)
             (callers.callers.each k below);
       };
       registers = subst (λ (x : State). AreKept p x.slot x.innermost.registers ks) callers.rest registers;

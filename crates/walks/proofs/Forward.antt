@@ -9,7 +9,7 @@ use Rattle.std.proofs.lemmas.List.Sums.{sum_by-cons}
 use Rattle.isa_model.specs.declared.instructions.Cond.{Cond}
 use Rattle.isa_model.specs.declared.instructions.Insn.{Insn}
 use Rattle.isa_model.specs.declared.instructions.Insn.TheVariants.{LoadNumber, LoadMap, LoadMapValue, StoreConstant, Store, Atomic, Exchange, CompareExchange, Jump, JumpLong, JumpIf, CallLocal, Exit}
-use Rattle.isa_model.specs.Code.Instructions.{Program, fetch, slots_of}
+use Rattle.isa_model.specs.Code.Instructions.{Program, fetch, slots_filled}
 use Rattle.isa_model.specs.Machine.Successors.{Follows}
 use Rattle.stack_state.specs.declared.states.State.{State}
 use Rattle.control_flow.proofs.FlowLaws.{BeginsInsn-inside, fetch-BeginsInsn}
@@ -90,7 +90,7 @@ WalksTo-alone p n s free walk = HasPath-alone p n walk.first s free (Forgets-dep
 
 -- ---- steps lead forward
 
-slots_some : (i : Insn) → 1 ≤ slots_of i
+slots_some : (i : Insn) → 1 ≤ slots_filled i
 slots_some (LoadNumber d n) = omega arith
 slots_some (LoadMap d m) = omega arith
 slots_some (LoadMapValue d m offset) = omega arith

@@ -11,7 +11,7 @@ use Rattle.isa_model.specs.declared.instructions.Operand.{Operand}
 use Rattle.isa_model.specs.declared.instructions.Operand.TheVariants.{Constant, Register}
 use Rattle.isa_model.specs.declared.instructions.Insn.{Insn}
 use Rattle.isa_model.specs.declared.instructions.Insn.TheVariants.{Alu, Neg, MovSx, ByteSwap, LoadNumber, Load, LoadSx, Jump, JumpLong, JumpIf, Exit}
-use Rattle.isa_model.specs.Code.Instructions.{Program, fetch, slots_of, operand_reads, alu_reads, reads, writes}
+use Rattle.isa_model.specs.Code.Instructions.{Program, fetch, slots_filled, operand_reads, alu_reads, reads, writes}
 use Rattle.isa_model.specs.Machine.Steps.{destination}
 use Rattle.isa_model.specs.Machine.Successors.{falls_through, Follows, FallsTo}
 use Rattle.isa_model.specs.MustAccept.Paths.{IsPlainForm, Each, IsOneOf, needs, written_too, PathTo}
@@ -239,7 +239,7 @@ plain_step p len g s t i w a b h behind here plain set makes among kept =
 -- a load of bytes that are proved to be there
 pub load_step : (p : Program) (len : ℕ) (g : IsGuarded p len) (s t : State) (i : Insn) (d : Reg) (k : Kind) (w : Ways) (a b : State)
     → Guards p len g s → 5 ≤ s.slot → s.slot < g.tail → fetch p s.slot ≡ Some i
-    → writes i ≡ Some d → falls_through i ≡ true → slots_of i ≡ 1 → IsLive p R2 s.slot → IsFree d → IsNumberKind k → GivesKind s d k w a
+    → writes i ≡ Some d → falls_through i ≡ true → slots_filled i ≡ 1 → IsLive p R2 s.slot → IsFree d → IsNumberKind k → GivesKind s d k w a
     → IsAmong w a b t → Guards p len g t
 load_step p len g s t i d k w a b h behind before here written falls one loaded free number gives among =
     let put = put_of s a b t d k w h.known h.knows (free_own d free) gives among in
@@ -270,7 +270,7 @@ sets_aside : (rows : List MapDef) (s a : State) (i : Insn) (d : Reg) → writes 
     → kind_of a R2 ≡ kind_of s R2
 sets_aside rows s a i d written free h =
     let same : h.register ≡ d = cc (sym h.written ∙ written) in
-    ap (λ (x : State). kind_of x R2) h.next ∙ kind_of-go_to (with_register s h.register h.kind) (s.slot + slots_of i) R2
+    ap (λ (x : State). kind_of x R2) h.next ∙ kind_of-go_to (with_register s h.register h.kind) (s.slot + slots_filled i) R2
     ∙ kind_of-with_other s h.register R2 h.kind (λ e. subst IsFree (sym (e ∙ same)) free)
 
 unnamed : (c : Cond) → IsFree c.register → IsFreeOperand c.operand → NamesRegister c R2 → ⊥

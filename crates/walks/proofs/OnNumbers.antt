@@ -15,7 +15,7 @@ use Rattle.isa_model.specs.declared.instructions.Operand.{Operand}
 use Rattle.isa_model.specs.declared.instructions.Operand.TheVariants.{Constant, Register}
 use Rattle.isa_model.specs.declared.instructions.Insn.{Insn}
 use Rattle.isa_model.specs.declared.instructions.Insn.TheVariants.{Alu, Neg, MovSx, ByteSwap, LoadNumber, Jump, JumpLong, JumpIf, Exit}
-use Rattle.isa_model.specs.Code.Instructions.{Program, slots_of, operand_reads, alu_reads, reads, writes, is_frame_pointer}
+use Rattle.isa_model.specs.Code.Instructions.{Program, slots_filled, operand_reads, alu_reads, reads, writes, is_frame_pointer}
 use Rattle.isa_model.specs.Machine.Steps.{destination}
 use Rattle.isa_model.specs.Code.Numbers.{unsigned}
 use Rattle.isa_model.specs.MustAccept.Paths.{IsPlainForm, Each, IsOneOf, needs, written_too}
@@ -251,7 +251,7 @@ KnowsNumbers-sets rows s t i written plain set h known =
     let number = puts_number rows s i h.kind plain set h.puts in
     let put = KnowsNumbers-with s h.register h.kind written h.own number known in
     let there : KnowsNumbers t (h.register ∷ written) =
-    subst (λ x. KnowsNumbers x (h.register ∷ written)) (sym h.next) (KnowsNumbers-go_to (with_register s h.register h.kind) (s.slot + slots_of i) (h.register ∷ written) put) in
+    subst (λ x. KnowsNumbers x (h.register ∷ written)) (sym h.next) (KnowsNumbers-go_to (with_register s h.register h.kind) (s.slot + slots_filled i) (h.register ∷ written) put) in
     subst (λ o. KnowsNumbers t (written_too o written)) (sym h.written) there
 
 jumps_knows : (p : Program) (s a b t : State) (by : ℤ) (w : Ways) (written : List Reg) → w ≡ ways.One → a ≡ go_to s (destination p s.slot by) → IsAmong w a b t → KnowsNumbers s written → KnowsNumbers t written

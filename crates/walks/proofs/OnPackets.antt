@@ -9,7 +9,7 @@ use Rattle.isa_model.specs.declared.map_defs.MapDef.{MapDef}
 use Rattle.isa_model.specs.declared.sizes.Width.TheVariants.{Full64}
 use Rattle.isa_model.specs.declared.sizes.Size.{Size}
 use Rattle.isa_model.specs.declared.sizes.Size.TheVariants.{U32}
-use Rattle.isa_model.specs.declared.sizes.Narrow.{Narrow}
+use Rattle.isa_model.specs.declared.sizes.SignedSize.{SignedSize}
 use Rattle.isa_model.specs.Code.Sizes.{size_bytes, narrow_size}
 use Rattle.isa_model.specs.Code.Numbers.{signed, unsigned}
 use Rattle.isa_model.specs.declared.registers.Reg.{Reg}
@@ -22,7 +22,7 @@ use Rattle.isa_model.specs.declared.instructions.Operand.TheVariants.{Constant, 
 use Rattle.isa_model.specs.declared.instructions.Place.{Place}
 use Rattle.isa_model.specs.declared.instructions.Insn.{Insn}
 use Rattle.isa_model.specs.declared.instructions.Insn.TheVariants.{Alu, Load, LoadSx, JumpIf}
-use Rattle.isa_model.specs.Code.Instructions.{Program, slots_of, writes}
+use Rattle.isa_model.specs.Code.Instructions.{Program, slots_filled, writes}
 use Rattle.isa_model.specs.Code.Limits.{offset_limit, max_guarded_length}
 use Rattle.isa_model.specs.Machine.Steps.{destination}
 use Rattle.reg_state.specs.declared.kinds.Kind.{Kind}
@@ -61,14 +61,14 @@ abbrev pub GivesKind : State → Reg → Kind → Ways → State → Type 0
 GivesKind s d k w a = (w ≡ ways.One) × (a ≡ go_to (with_register s d k) (s.slot + 1))
 
 gives_only : (rows : List MapDef) (s : State) (i : Insn) (d : Reg) (w : Ways) (a : State) → (made : (w ≡ ways.One) × SetsRegister rows s i a)
-    → writes i ≡ Some d → slots_of i ≡ 1 → GivesKind s d made.1.kind w a
+    → writes i ≡ Some d → slots_filled i ≡ 1 → GivesKind s d made.1.kind w a
 gives_only rows s i d w a made written one =
     let h = made.1 in
     let same : h.register ≡ d = cc (h.written, written) in
-    (made.0, h.next ∙ ap (λ r. go_to (with_register s r h.kind) (s.slot + slots_of i)) same ∙ ap (λ n. go_to (with_register s d h.kind) (s.slot + n)) one)
+    (made.0, h.next ∙ ap (λ r. go_to (with_register s r h.kind) (s.slot + slots_filled i)) same ∙ ap (λ n. go_to (with_register s d h.kind) (s.slot + n)) one)
 
 gives_of : (rows : List MapDef) (s : State) (i : Insn) (d : Reg) (k : Kind) (w : Ways) (a : State) → (w ≡ ways.One) × SetsRegister rows s i a
-    → writes i ≡ Some d → slots_of i ≡ 1
+    → writes i ≡ Some d → slots_filled i ≡ 1
     → ((l : Kind) → ResultKind rows s i (Ok l) → l ≡ k) → GivesKind s d k w a
 gives_of rows s i d k w a made written one is =
     subst (λ l. GivesKind s d l w a) (is made.1.kind made.1.puts) (gives_only rows s i d w a made written one)
@@ -194,7 +194,7 @@ load_gives p s size d place m at w a c is offset makes =
     let loads = subst (λ x. LoadsKind p.maps s size x place.offset (Ok made.1.kind)) is made.1.puts in
     (made.1.kind, number_of _ made.1.kind loads.1, gives_only p.maps s i d w a made refl refl)
 
-pub load_signed_gives : (p : Program) (s : State) (size : Narrow) (d : Reg) (place : Place) (m at : ℕ) (w : Ways) (a c : State)
+pub load_signed_gives : (p : Program) (s : State) (size : SignedSize) (d : Reg) (place : Place) (m at : ℕ) (w : Ways) (a c : State)
     → kind_of s place.base ≡ packet_from 0 m
     → place.offset ≡ pos at → StepsToWays p s (LoadSx size d place) w a c → (k : Kind) × IsNumberKind k × GivesKind s d k w a
 load_signed_gives p s size d place m at w a c is offset makes =
@@ -211,7 +211,7 @@ load_passes rows s size place m at e is offset some inside h =
     let there = subst (λ z. LoadsKind rows s size (packet_from 0 m) z (Err e)) offset based in
     there.1 (inside_packet (size_bytes size) m at some inside)
 
-pub load_signed_passes : (rows : List MapDef) (s : State) (size : Narrow) (place : Place) (m at : ℕ) (e : Refusal)
+pub load_signed_passes : (rows : List MapDef) (s : State) (size : SignedSize) (place : Place) (m at : ℕ) (e : Refusal)
     → kind_of s place.base ≡ packet_from 0 m → place.offset ≡ pos at → 1 ≤ m
     → at + size_bytes (narrow_size size) ≤ m → LoadsSigned rows s size (kind_of s place.base) place.offset (Err e) → ⊥
 load_signed_passes rows s size place m at e is offset some inside h =

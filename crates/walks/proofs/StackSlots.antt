@@ -12,11 +12,11 @@ use Rattle.isa_model.specs.MustAccept.Determined.{slot_offset}
 use Rattle.reg_state.specs.declared.kinds.Kind.{Kind}
 use Rattle.reg_state.specs.declared.kinds.Kind.TheVariants.{Number}
 use Rattle.reg_state.proofs.ConstantsLaws.{IsNumber-only}
-use Rattle.stack_state.specs.declared.slots.Slot.{Slot}
-use Rattle.stack_state.specs.declared.slots.Slot.TheVariants.{Written, Spilled}
+use Rattle.stack_state.specs.declared.slots.StackSlot.{StackSlot}
+use Rattle.stack_state.specs.declared.slots.StackSlot.TheVariants.{Written, Spilled}
 use Rattle.stack_state.specs.declared.states.State.{State}
-use Rattle.stack_state.specs.Meaning.{registers_of, slots_of}
-use Rattle.stack_state.proofs.MeaningLaws.{frame_of-innermost}
+use Rattle.stack_state.specs.Meaning.{registers_of, stack_slots_of}
+use Rattle.stack_state.proofs.MeaningLaws.{abstract_frame_at-innermost}
 use Rattle.stack_state.specs.Slots.{slot_at, kind_in, IsSpill, IsFill}
 use Rattle.stack_state.specs.FramePlaces.{IsPlace}
 use Rattle.stack_state.specs.Effects.{with_slots, with_frame_slots}
@@ -35,8 +35,8 @@ innermost s = length s.callers.items
 
 -- ---- places
 
-slots_here : (s : State) → slots_of s (innermost s) ≡ s.innermost.stack.slots
-slots_here s = ap (λ f. f.stack.slots) (frame_of-innermost s)
+slots_here : (s : State) → stack_slots_of s (innermost s) ≡ s.innermost.stack.slots
+slots_here s = ap (λ f. f.stack.slots) (abstract_frame_at-innermost s)
 
 starts_at : (j : ℕ) → (pos 0 +ℤ slot_offset j) +ℤ pos frame_size ≡ pos (8 * j)
 starts_at j = omega (arith, ints)
@@ -53,28 +53,30 @@ place_there s j below =
 
 -- ---- loads
 
-fill_just : (slot : Slot) (k : Kind) (y : ℕ) → IsFill slot (Some k) → IsJust (kind_in slot) y → IsJust k y
+fill_just : (slot : StackSlot) (k : Kind) (y : ℕ) → IsFill slot (Some k) → IsJust (kind_in slot) y → IsJust k y
 fill_just (Written marks) k y h just = absurd just
 fill_just (Spilled (Number c)) k y h just = let same : k ≡ Number c = cc h in subst (λ x. IsJust x y) (sym same) just
 fill_just (Spilled other) k y h just = absurd just
 
-fill_some : (slot : Slot) (y : ℕ) → IsFill slot None → IsJust (kind_in slot) y → ⊥
+fill_some : (slot : StackSlot) (y : ℕ) → IsFill slot None → IsJust (kind_in slot) y → ⊥
 fill_some (Written marks) y h just = just
 fill_some (Spilled (Number c)) y h just = absurd (cc h)
 fill_some (Spilled other) y h just = just
 
 held_at : (s : State) (j y at : ℕ) → at / 8 ≡ j → SlotHolds s j y
-    → IsJust (kind_in (slot_at (slots_of s (innermost s)) (at / 8))) y
+    → IsJust (kind_in (slot_at (stack_slots_of s (innermost s)) (at / 8))) y
 held_at s j y at same held =
-    subst (λ n. IsJust (kind_in (slot_at (slots_of s (innermost s)) n)) y) (sym same)
-    (subst (λ (slots : List Slot). IsJust (kind_in (slot_at slots j)) y) (sym (slots_here s)) held)
+    subst (λ n. IsJust (kind_in (slot_at (stack_slots_of s (innermost s)) n)) y) (sym same)
+    (subst (λ (slots : List StackSlot). IsJust (kind_in (slot_at slots j)) y)
+    (sym (slots_here s)) held)
 
 -- what is loaded is the number
 pub load_just : (s : State) (j y : ℕ) (k : Kind) → SlotHolds s j y
     → StackLoads s (innermost s) (pos 0 +ℤ slot_offset j) U64 (Ok k) → IsJust k y
 load_just s j y k held h =
     let same = slot_of_place j h.0 h.1.place in
-    fill_just (slot_at (slots_of s (innermost s)) (h.0 / 8)) k y h.2 (held_at s j y h.0 same held)
+    fill_just (slot_at (stack_slots_of s (innermost s)) (h.0 / 8)) k y h.2
+    (held_at s j y h.0 same held)
 
 -- and the load is not refused
 pub load_goes : (s : State) (j y : ℕ) (e : Refusal) → j < 64 → SlotHolds s j y
@@ -82,12 +84,13 @@ pub load_goes : (s : State) (j y : ℕ) (e : Refusal) → j < 64 → SlotHolds s
 load_goes s j y StackPlace below held h = h (8 * j) (place_there s j below)
 load_goes s j y StackBytes below held h =
     let same = slot_of_place j h.0 h.1.place in
-    fill_some (slot_at (slots_of s (innermost s)) (h.0 / 8)) y h.2 (held_at s j y h.0 same held)
+    fill_some (slot_at (stack_slots_of s (innermost s)) (h.0 / 8)) y h.2
+    (held_at s j y h.0 same held)
 load_goes s j y e below held h = absurd h
 
 -- ---- stores
 
-spill_just : (source : Kind) (slot : Slot) (y : ℕ) → IsSpill source slot → IsJust source y → IsJust (kind_in slot) y
+spill_just : (source : Kind) (slot : StackSlot) (y : ℕ) → IsSpill source slot → IsJust source y → IsJust (kind_in slot) y
 spill_just (Number c) (Spilled k) y h just = subst (λ x. IsJust x y) (sym h.0) just
 spill_just (Number c) (Written marks) y h just =
     let none : 0 ≡ y = IsNumber-only c y 0 (inl just.1.0) (h.1 0 (omega arith)) in
@@ -105,19 +108,20 @@ pub record PutsSlot (s t : State) (j y : ℕ) : Type 0 where
   pub there : SlotHolds t j y
   pub others : (k z : ℕ) → k ≢ j → SlotHolds s k z → SlotHolds t k z
 
-abbrev with_own : State → List Slot → State
+abbrev with_own : State → List StackSlot → State
 with_own s slots = record s { innermost = with_slots s.innermost slots }
 
-kinds_stay : (s : State) (slots : List Slot) (q : Reg) → kind_of (with_own s slots) q ≡ kind_of s q
+kinds_stay : (s : State) (slots : List StackSlot) (q : Reg)
+    → kind_of (with_own s slots) q ≡ kind_of s q
 kinds_stay s slots R10 = refl
 kinds_stay s slots q = refl
 
-own_slots : (s : State) (slots : List Slot) → with_frame_slots s (innermost s) slots ≡ with_own s slots
+own_slots : (s : State) (slots : List StackSlot) → with_frame_slots s (innermost s) slots ≡ with_own s slots
 own_slots s slots =
     let same : (innermost s == innermost s) ≡ true = grind (arith, nat_tests) in
-    rw (same, frame_of-innermost s) refl
+    rw (same, abstract_frame_at-innermost s) refl
 
-puts_in : (s : State) (j y : ℕ) (slot : Slot) → j < length s.innermost.stack.slots → IsJust (kind_in slot) y
+puts_in : (s : State) (j y : ℕ) (slot : StackSlot) → j < length s.innermost.stack.slots → IsJust (kind_in slot) y
     → PutsSlot s (with_own s (slice_set s.innermost.stack.slots j slot)) j y
 puts_in s j y slot below just = record {
   slot = refl;
@@ -136,8 +140,8 @@ store_puts s left j y source below just h =
     let same = slot_of_place j h.0 h.1.place in
     let spilled = h.3 in
     let slot = spilled.slot in
-    let list : slice_set (slots_of s (innermost s)) (h.0 / 8) slot ≡ slice_set s.innermost.stack.slots j slot =
-    ap (λ n. slice_set (slots_of s (innermost s)) n slot) same ∙ ap (λ (slots : List Slot). slice_set slots j slot) (slots_here s) in
+    let list : slice_set (stack_slots_of s (innermost s)) (h.0 / 8) slot ≡ slice_set s.innermost.stack.slots j slot =
+    ap (λ n. slice_set (stack_slots_of s (innermost s)) n slot) same ∙ ap (λ (slots : List StackSlot). slice_set slots j slot) (slots_here s) in
     let is : left ≡ with_own s (slice_set s.innermost.stack.slots j slot) =
     spilled.left ∙ ap (with_frame_slots s (innermost s)) list ∙ own_slots s (slice_set s.innermost.stack.slots j slot) in
     subst (λ t. PutsSlot s t j y) (sym is) (puts_in s j y slot below (spill_just source slot y spilled.spill just))

@@ -8,12 +8,12 @@ use Rattle.isa_model.specs.Code.Registers.{reg_number}
 use Rattle.isa_model.specs.Code.Instructions.{Program}
 use Rattle.reg_state.specs.declared.kinds.Kind.{Kind}
 use Rattle.reg_state.specs.declared.kinds.Kind.TheVariants.{Unset}
-use Rattle.stack_state.specs.declared.slots.Slot.{Slot}
-use Rattle.stack_state.specs.declared.slots.Slot.TheVariants.{Written}
+use Rattle.stack_state.specs.declared.slots.StackSlot.{StackSlot}
+use Rattle.stack_state.specs.declared.slots.StackSlot.TheVariants.{Written}
 use Rattle.stack_state.specs.declared.states.AbstractFrame.{AbstractFrame}
 use Rattle.stack_state.specs.declared.states.State.{State}
 use Rattle.stack_state.specs.Slots.{slot_at}
-use Rattle.stack_state.specs.Meaning.{frame_of, registers_of, kind_at}
+use Rattle.stack_state.specs.Meaning.{abstract_frame_at, registers_of, kind_at}
 use Rattle.control_flow.specs.Flows.{IsJoin}
 use Rattle.control_flow.specs.Liveness.{IsLive, IsSlotLive}
 
@@ -31,10 +31,10 @@ pub record AreKept (p : Program) (slot : ℕ) (old new : List Kind) : Type 0 whe
   pub each : (r : Reg) → r ≢ R10 → IsKept p slot r (kind_at old (reg_number r)) (kind_at new (reg_number r))
 
 -- what is known of a stack slot stays known if it is live, and nothing is if it is dead
-abbrev pub IsSlotLeft : Program → ℕ → ℕ → Slot → Slot → Type 0
+abbrev pub IsSlotLeft : Program → ℕ → ℕ → StackSlot → StackSlot → Type 0
 IsSlotLeft p slot j before after = (IsSlotLive p j slot × (after ≡ before)) ⊎ ((¬ IsSlotLive p j slot) × (after ≡ Written 0))
 
-pub record AreSlotsLeft (p : Program) (slot : ℕ) (old new : List Slot) : Type 0 where
+pub record AreSlotsLeft (p : Program) (slot : ℕ) (old new : List StackSlot) : Type 0 where
   pub all : length new ≡ 64
   pub each : (j : ℕ) → j < 64 → IsSlotLeft p slot j (slot_at old j) (slot_at new j)
 
@@ -43,19 +43,19 @@ abbrev pub IsSlotDeadAt : Program → ℕ → ℕ → Type 0
 IsSlotDeadAt p slot j = IsJoin p slot × (¬ IsSlotLive p j slot)
 
 -- what is known of a stack slot stays known, or the slot is dead and nothing is
-abbrev pub IsSlotKept : Program → ℕ → ℕ → Slot → Slot → Type 0
+abbrev pub IsSlotKept : Program → ℕ → ℕ → StackSlot → StackSlot → Type 0
 IsSlotKept p slot j before after = ((¬ IsSlotDeadAt p slot j) × (after ≡ before)) ⊎ (IsSlotDeadAt p slot j × (after ≡ Written 0))
 
 -- the stack slots of a frame when a path reaches the slot of the code
-pub record AreSlotsKept (p : Program) (slot : ℕ) (old new : List Slot) : Type 0 where
+pub record AreSlotsKept (p : Program) (slot : ℕ) (old new : List StackSlot) : Type 0 where
   pub all : length new ≡ 64
   pub each : (j : ℕ) → j < 64 → IsSlotKept p slot j (slot_at old j) (slot_at new j)
 
-abbrev pub slots_in : State → List Slot
+abbrev pub slots_in : State → List StackSlot
 slots_in s = s.innermost.stack.slots
 
 -- what is known of a slot of a caller's stack stays known, or the slot is dead where the caller goes on, and nothing is
-abbrev pub IsCallerSlotKept : Program → ℕ → ℕ → Slot → Slot → Type 0
+abbrev pub IsCallerSlotKept : Program → ℕ → ℕ → StackSlot → StackSlot → Type 0
 IsCallerSlotKept p slot j before after = (after ≡ before) ⊎ ((¬ IsSlotLive p j slot) × (after ≡ Written 0))
 
 -- a caller that goes on at the slot stays as it is but for such slots
@@ -67,7 +67,8 @@ pub record IsCallerKept (p : Program) (slot : ℕ) (old new : AbstractFrame) : T
 pub record AreCallersKept (p : Program) (a b : State) : Type 0 where
   pub as_many : length b.callers.items ≡ length a.callers.items
   pub each : (k : ℕ) → k < length a.callers.items
-      → IsCallerKept p (frame_of a (k + 1)).return_slot (frame_of a k) (frame_of b k)
+      → IsCallerKept p (abstract_frame_at a (k + 1)).return_slot (abstract_frame_at a k)
+      (abstract_frame_at b k)
 
 -- b is a without what is known of some dead stack slots of callers
 pub record CallersForgotten (p : Program) (a b : State) : Type 0 where

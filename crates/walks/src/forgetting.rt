@@ -8,7 +8,7 @@ ghost use Rattle.walks.specs.Forgetting.{AreKept, AreSlotsLeft, AreSlotsKept, Ca
 use control_flow::{Flow, SlotMask};
 use isa_model::Reg;
 use reg_state::Kind;
-use stack_state::{FRAME_SLOTS, Slot, State};
+use stack_state::{FRAME_SLOTS, StackSlot, State};
 
 /// Forgets what is known of a register, which is written only if something is.
 #[inline(always)]
@@ -42,19 +42,19 @@ fn forget_registers(flow: &Flow<'_>, slot: usize, registers: &mut [Kind; 10])
 /// Forgets what is known of a stack slot. It is written as a whole only if a value was
 /// spilled there.
 #[inline(always)]
-fn clear(slot: &mut Slot)
-    ensures { slot.new ≡ Slot.Written 0 }
+fn clear(slot: &mut StackSlot)
+    ensures { slot.new ≡ StackSlot.Written 0 }
 {
     match slot {
-        Slot::Written(marks) => *marks = 0,
-        Slot::Spilled(_) => *slot = Slot::Written(0),
+        StackSlot::Written(marks) => *marks = 0,
+        StackSlot::Spilled(_) => *slot = StackSlot::Written(0),
     }
 }
 
 /// Forgets what is known of all stack slots of a frame: eight in a turn, which the compiler
 /// writes out.
-pub fn clear_slots(slots: &mut [Slot; FRAME_SLOTS])
-    ensures { slots.new ≡ replicate frame_slots (Slot.Written 0) }
+pub fn clear_slots(slots: &mut [StackSlot; FRAME_SLOTS])
+    ensures { slots.new ≡ replicate frame_slots (StackSlot.Written 0) }
 {
     for block in 0..FRAME_SLOTS / 8 {
         for place in 0..8 {
@@ -64,7 +64,7 @@ pub fn clear_slots(slots: &mut [Slot; FRAME_SLOTS])
 }
 
 /// Forgets what is known of the stack slots of a frame that are dead at a slot of the code.
-fn forget_slots(flow: &Flow<'_>, slot: usize, slots: &mut [Slot; FRAME_SLOTS])
+fn forget_slots(flow: &Flow<'_>, slot: usize, slots: &mut [StackSlot; FRAME_SLOTS])
     ensures { AreSlotsLeft flow.now slot slots.old slots.new }
 {
     let live = flow.live_slots(slot);
@@ -97,7 +97,7 @@ fn forget_places(
     flow: &Flow<'_>,
     slot: usize,
     registers: &mut [Kind; 10],
-    slots: &mut [Slot; FRAME_SLOTS],
+    slots: &mut [StackSlot; FRAME_SLOTS],
 )
     ensures registers { AreKept flow.now slot registers.old registers.new }
     ensures slots { AreSlotsKept flow.now slot slots.old slots.new }

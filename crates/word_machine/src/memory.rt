@@ -6,7 +6,7 @@ ghost use Rattle.isa_model.specs.Code.Numbers.{bytes_of, number_from};
 ghost use Rattle.isa_model.specs.Code.Sizes.{size_bytes};
 ghost use Rattle.word_machine.specs.Addresses.{frames_size};
 ghost use Rattle.word_machine.specs.Words.{IsInside, CanLoad, spot_of, get, word_from, number_at, context_word};
-ghost use Rattle.word_machine.specs.Machine.{words_of, seen, Writes};
+ghost use Rattle.word_machine.specs.Machine.{words_of, seen, WritesBytes};
 
 use crate::addresses::{
     CONTEXT, CONTEXT_REGION, FRAMES, FRAMES_SIZE, PACKET, PACKET_REGION, block_index, block_map,
@@ -160,7 +160,7 @@ pub fn get(size: Size, memory: &Memory, packet: &[u8], address: u64) -> u64
 pub fn put(size: Size, memory: &mut Memory, packet: &mut [u8], address: u64, number: u64)
     requires { IsInside (words_of 0 [] memory.old packet.old 0) (spot_of address)
         (size_bytes size) }
-    ensures { Writes (spot_of address) (bytes_of size number)
+    ensures { WritesBytes (spot_of address) (bytes_of size number)
         memory.old memory.new packet.old packet.new }
 {
     if region_of(address) == PACKET_REGION {

@@ -1,6 +1,6 @@
 -- The parts of a request, and its task.
 use Rattle.std.specs.Prelude.{ℕ, List, Option, option_map}
-use Rattle.words.specs.declared.tasks.Paths.{Paths}
+use Rattle.words.specs.declared.tasks.RunPaths.{RunPaths}
 use Rattle.words.specs.declared.tasks.Proof.{Proof}
 use Rattle.words.specs.declared.tasks.Task.{Task}
 use Rattle.words.specs.declared.tasks.Task.TheVariants as task
@@ -30,7 +30,7 @@ pub data TaskRequest : Type 0 where
 
 -- ---- what a task is of
 
-abbrev pub files_of : Paths → RunFiles
+abbrev pub files_of : RunPaths → RunFiles
 files_of paths = record { image = paths.image.now; frames = paths.frames.now; out = paths.out.now }
 
 abbrev pub proof_files_of : Proof → ProofFiles

@@ -9,7 +9,7 @@ ghost use Rattle.words.specs.Requests.{files_of, proof_files_of, request_of};
 ghost use Rattle.words.specs.Asked.{AsksFor, TellsOf, assembly_of, files_in, limit_in, limit_of, proof_in, request_by, run_of, trace_of};
 
 use super::command_line::program;
-use super::tasks::{Assembly, Paths, Proof, StepLimit, Task, WordsError};
+use super::tasks::{Assembly, Proof, RunPaths, StepLimit, Task, WordsError};
 use clap::ArgMatches;
 use clap::error::ErrorKind;
 use isa_model::MAX_STEPS;
@@ -18,7 +18,7 @@ use std::alloc::{AllocError, Global};
 // What is wrong with the words, where clap takes them and a command does not.
 const NO_LIMIT: &str = "error: the value of --limit is not a number from 1 to 1000000\n";
 
-fn has_digits_alone(text: &[u8]) -> bool
+fn is_all_digits(text: &[u8]) -> bool
     ensures { result ≡ list_all is_ascii_digit text.now }
 {
     text.iter().all(|b| b.is_ascii_digit())
@@ -28,7 +28,7 @@ fn has_digits_alone(text: &[u8]) -> bool
 fn limit_of(text: &str) -> Option<StepLimit>
     ensures { option_map (λ limit. limit.steps) result ≡ limit_of text.now }
 {
-    if text.is_empty() || !has_digits_alone(text.as_bytes()) {
+    if text.is_empty() || !is_all_digits(text.as_bytes()) {
         return None;
     }
     match text.parse::<u32>() {
@@ -45,10 +45,10 @@ fn value_in<'a>(matches: &ArgMatches<'a>, name: &str) -> Option<&'a str>
     matches.get_str(name)
 }
 
-fn paths_in<'a>(matches: &ArgMatches<'a>) -> Option<Paths<'a>>
+fn paths_in<'a>(matches: &ArgMatches<'a>) -> Option<RunPaths<'a>>
     ensures { option_map files_of result ≡ files_in (rows_of (found_of matches.now)) }
 {
-    Some(Paths {
+    Some(RunPaths {
         image: value_in(matches, "image")?,
         frames: value_in(matches, "frames")?,
         out: value_in(matches, "out")?,

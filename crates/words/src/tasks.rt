@@ -10,9 +10,9 @@ use std::alloc::AllocError;
 #[derive(Clone, Copy)]
 pub enum Task<'a> {
     /// Run a program with checks.
-    Trace(Paths<'a>, StepLimit),
+    Trace(RunPaths<'a>, StepLimit),
     /// Verify a program and run it. Where a proof table is given, that is tested instead.
-    Run(Paths<'a>, Option<&'a str>),
+    Run(RunPaths<'a>, Option<&'a str>),
     /// Verify a program.
     Verify(&'a str),
     /// Verify a program and write a proof table of it.
@@ -35,7 +35,7 @@ pub struct StepLimit {
 
 /// The files of a run: the image and the frames that are read, and the frames out.
 #[derive(Clone, Copy)]
-pub struct Paths<'a> {
+pub struct RunPaths<'a> {
     pub image: &'a str,
     pub frames: &'a str,
     pub out: &'a str,

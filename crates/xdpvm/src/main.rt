@@ -5,7 +5,7 @@
 #![tactic(auto)]
 
 pub use commands::execute;
-use commands::{Outcome, answer, buffered};
+use commands::{TaskOutcome, answer, buffered};
 use std::fs;
 use std::process::ExitCode;
 use std::rt::Files;
@@ -24,6 +24,6 @@ fn main(rt: HostRuntime) -> ExitCode {
     let mut err = rt.stderr();
     ExitCode::from(match buffered(rt.alloc(), is_stored(&rt), rt.stdout()) {
         Ok(mut out) => answer(&rt, given_words(&rt), &mut out, &mut err),
-        Err(_) => Outcome::NoMemory.tell(&mut err),
+        Err(_) => TaskOutcome::NoMemory.tell(&mut err),
     })
 }

@@ -1,4 +1,4 @@
-//! Texts, images and proof tables.
+//! Exports that assemble a text, verify an image, and prove or recheck a bound.
 
 ghost use Rattle.std.specs.Prelude.{◌≡◌, ◌≢◌, ◌<◌, ◌↔◌, ◌⊎◌};
 ghost use Rattle.isa_model.specs.Code.Limits.{max_explored};

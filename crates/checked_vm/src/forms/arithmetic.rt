@@ -8,7 +8,9 @@ ghost use Rattle.checked_vm.specs.Machine.{state_of, KeepsFrames, PerformsApart}
 use crate::core_state::Core;
 use crate::values::{arithmetic, negated, reordered, sign_extended};
 use isa_model::numbers::unsigned;
-use isa_model::{AluOp, ByteOrder, Extension, Insn, Operand, Reg, Span, TrapReason, Value, Width};
+use isa_model::{
+    AluOp, ByteOrder, Extension, Insn, Operand, Reg, SwapWidth, TrapReason, Value, Width,
+};
 
 impl Core {
     /// Sets a register and goes on to the slot that is `slots` later.
@@ -78,7 +80,12 @@ impl Core {
 
     /// END.
     #[tactic(auto, unfolding(isa_model::specs::Machine::Steps::act))]
-    pub fn do_byte_swap(&mut self, order: ByteOrder, span: Span, d: Reg) -> Result<(), TrapReason>
+    pub fn do_byte_swap(
+        &mut self,
+        order: ByteOrder,
+        span: SwapWidth,
+        d: Reg,
+    ) -> Result<(), TrapReason>
         requires { self.old.slot + 1 < 2 ^ 64 }
         ensures kept { KeepsFrames self.old self.new }
         ensures done { PerformsApart (Insn.ByteSwap order span d) result self.old self.new }

@@ -39,7 +39,7 @@ impl Core {
             Value::Unset,
             Value::Unset,
             Value::Unset,
-            Value::Ptr(Region::Frame(serial), 0),
+            Value::Ptr(Region::CallFrame(serial), 0),
         ];
     }
 
@@ -70,7 +70,7 @@ impl Core {
             frame.saved[1],
             frame.saved[2],
             frame.saved[3],
-            Value::Ptr(Region::Frame(caller), 0),
+            Value::Ptr(Region::CallFrame(caller), 0),
         ];
     }
 }

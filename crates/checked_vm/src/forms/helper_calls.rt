@@ -27,7 +27,7 @@ fn bytes_argument(value: Value) -> Result<(Region, i64), TrapReason>
 {
     match value {
         Value::Ptr(Region::Packet, offset) => Ok((Region::Packet, offset)),
-        Value::Ptr(Region::Frame(serial), offset) => Ok((Region::Frame(serial), offset)),
+        Value::Ptr(Region::CallFrame(serial), offset) => Ok((Region::CallFrame(serial), offset)),
         Value::Ptr(Region::MapValue(index, serial), offset) => {
             Ok((Region::MapValue(index, serial), offset))
         }
@@ -95,7 +95,7 @@ impl Core {
     {
         let at = index_of_pointer(region, offset);
         match region {
-            Region::Frame(serial) => {
+            Region::CallFrame(serial) => {
                 cells::copy_bytes(self.read_frame(serial, at, bytes.len())?, bytes)
             }
             Region::Packet => {

@@ -5,7 +5,7 @@ ghost use Rattle.checked_vm.specs.Machine.{KeepsFrames, Performs};
 
 use crate::core_state::Core;
 use isa_model::numbers::unsigned;
-use isa_model::{Insn, Narrow, Place, Reg, Size, TrapReason, Value, Width};
+use isa_model::{Insn, Place, Reg, SignedSize, Size, TrapReason, Value, Width};
 
 impl Core {
     /// LDX MEM.
@@ -32,7 +32,7 @@ impl Core {
     pub fn do_load_sx(
         &mut self,
         packet: &[u8],
-        size: Narrow,
+        size: SignedSize,
         d: Reg,
         place: Place,
     ) -> Result<(), TrapReason>

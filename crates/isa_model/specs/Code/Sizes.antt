@@ -4,12 +4,12 @@ use Rattle.isa_model.specs.declared.sizes.Width.{Width}
 use Rattle.isa_model.specs.declared.sizes.Width.TheVariants.{Low32, Full64}
 use Rattle.isa_model.specs.declared.sizes.Size.{Size}
 use Rattle.isa_model.specs.declared.sizes.Size.TheVariants.{U8, U16, U32, U64}
-use Rattle.isa_model.specs.declared.sizes.Narrow.{Narrow}
-use Rattle.isa_model.specs.declared.sizes.Narrow.TheVariants.{S8, S16, S32}
+use Rattle.isa_model.specs.declared.sizes.SignedSize.{SignedSize}
+use Rattle.isa_model.specs.declared.sizes.SignedSize.TheVariants.{S8, S16, S32}
 use Rattle.isa_model.specs.declared.sizes.Extension.{Extension}
 use Rattle.isa_model.specs.declared.sizes.Extension.TheVariants.{Low8, Low16, Full8, Full16, Full32}
-use Rattle.isa_model.specs.declared.sizes.Span.{Span}
-use Rattle.isa_model.specs.declared.sizes.Span.TheVariants.{B16, B32, B64}
+use Rattle.isa_model.specs.declared.sizes.SwapWidth.{SwapWidth}
+use Rattle.isa_model.specs.declared.sizes.SwapWidth.TheVariants.{B16, B32, B64}
 
 abbrev pub width_bits : Width → ℕ
 width_bits Low32 = 32
@@ -21,7 +21,7 @@ size_bytes U16 = 2
 size_bytes U32 = 4
 size_bytes U64 = 8
 
-abbrev pub span_bits : Span → ℕ
+abbrev pub span_bits : SwapWidth → ℕ
 span_bits B16 = 16
 span_bits B32 = 32
 span_bits B64 = 64
@@ -32,13 +32,13 @@ width_size Low32 = U32
 width_size Full64 = U64
 
 -- what a sign-extending load reads
-abbrev pub narrow_size : Narrow → Size
+abbrev pub narrow_size : SignedSize → Size
 narrow_size S8 = U8
 narrow_size S16 = U16
 narrow_size S32 = U32
 
 -- a sign-extending load fills the whole register
-abbrev pub narrow_extension : Narrow → Extension
+abbrev pub narrow_extension : SignedSize → Extension
 narrow_extension S8 = Full8
 narrow_extension S16 = Full16
 narrow_extension S32 = Full32

@@ -10,8 +10,8 @@ use Rattle.isa_model.specs.declared.sizes.Width.{Width}
 use Rattle.isa_model.specs.declared.sizes.Width.TheVariants.{Low32, Full64}
 use Rattle.isa_model.specs.declared.sizes.Size.{Size}
 use Rattle.isa_model.specs.declared.sizes.Size.TheVariants.{U8, U16, U32, U64}
-use Rattle.isa_model.specs.declared.sizes.Narrow.{Narrow}
-use Rattle.isa_model.specs.declared.sizes.Narrow.TheVariants.{S8, S16, S32}
+use Rattle.isa_model.specs.declared.sizes.SignedSize.{SignedSize}
+use Rattle.isa_model.specs.declared.sizes.SignedSize.TheVariants.{S8, S16, S32}
 use Rattle.isa_model.specs.declared.sizes.Extension.{Extension}
 use Rattle.isa_model.specs.declared.sizes.Extension.TheVariants.{Low8, Low16, Full8, Full16, Full32}
 use Rattle.isa_model.specs.declared.sizes.ByteOrder.{ByteOrder}
@@ -117,7 +117,7 @@ size_code U16 = 0x08
 size_code U8 = 0x10
 size_code U64 = 0x18
 
-abbrev pub narrow_code : Narrow → ℕ
+abbrev pub narrow_code : SignedSize → ℕ
 narrow_code S32 = 0x00
 narrow_code S16 = 0x08
 narrow_code S8 = 0x10

@@ -7,8 +7,8 @@ use Rattle.std.specs.Ordering.{nat_cmp, eq_by_cmp}
 use Rattle.std.specs.declared.cmp.Ordering.{Ordering}
 use Rattle.std.specs.Cmp.Lexicographic.{slice_cmp}
 use Rattle.std.specs.FinMap.Entries.{find, put, where_key}
-use Rattle.isa_model.specs.declared.map_defs.MapKind.{MapKind}
-use Rattle.isa_model.specs.declared.map_defs.MapKind.TheVariants.{Hash, Array}
+use Rattle.isa_model.specs.declared.map_defs.MapType.{MapType}
+use Rattle.isa_model.specs.declared.map_defs.MapType.TheVariants.{Hash, Array}
 use Rattle.isa_model.specs.declared.map_defs.MapDef.{MapDef}
 
 -- keys are compared byte by byte
@@ -74,12 +74,12 @@ array_update has flags =
     else if flags == noexist then eexist
     else 0
 
-abbrev pub update_answer_by : MapKind → (has full : Bool) → (flags : ℕ) → ℕ
+abbrev pub update_answer_by : MapType → (has full : Bool) → (flags : ℕ) → ℕ
 update_answer_by Hash has full flags = hash_update has full flags
 update_answer_by Array has full flags = array_update has flags
 
 -- nothing is deleted from an array
-abbrev pub delete_answer_by : MapKind → (has : Bool) → ℕ
+abbrev pub delete_answer_by : MapType → (has : Bool) → ℕ
 delete_answer_by Hash has = if has then 0 else enoent
 delete_answer_by Array has = einval
 

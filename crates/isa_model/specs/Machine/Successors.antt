@@ -2,7 +2,7 @@
 use Rattle.std.specs.Prelude.{◌≡◌, ℕ, ◌+◌, ◌⊎◌, ℤ, Bool, true, false, Option, Some, None}
 use Rattle.isa_model.specs.declared.instructions.Insn.{Insn}
 use Rattle.isa_model.specs.declared.instructions.Insn.TheVariants.{Jump, JumpLong, JumpIf, Exit}
-use Rattle.isa_model.specs.Code.Instructions.{Program, fetch, slots_of}
+use Rattle.isa_model.specs.Code.Instructions.{Program, fetch, slots_filled}
 use Rattle.isa_model.specs.Machine.Steps.{destination}
 
 -- whether a run may go on with the next instruction; after a call it does when the function exits
@@ -20,7 +20,7 @@ jump_distance (JumpIf cond by) = Some by
 jump_distance i = None
 
 abbrev pub FallsTo : ℕ → Insn → ℕ → Type 0
-FallsTo slot i next = (falls_through i ≡ true) × (next ≡ slot + slots_of i)
+FallsTo slot i next = (falls_through i ≡ true) × (next ≡ slot + slots_filled i)
 
 abbrev pub JumpsTo : Program → ℕ → Insn → ℕ → Type 0
 JumpsTo p slot i next = (by : ℤ) × (jump_distance i ≡ Some by) × (next ≡ destination p slot by)

@@ -4,7 +4,7 @@ use Rattle.isa_model.specs.declared.registers.Reg.{Reg}
 use Rattle.isa_model.specs.declared.registers.Reg.TheVariants.{R0}
 use Rattle.isa_model.specs.declared.instructions.Insn.{Insn}
 use Rattle.isa_model.specs.declared.instructions.Insn.TheVariants.{Alu, Neg, MovSx, ByteSwap, LoadNumber, Jump, JumpLong, JumpIf, Exit}
-use Rattle.isa_model.specs.Code.Instructions.{Program, fetch, slots_of, reads, writes}
+use Rattle.isa_model.specs.Code.Instructions.{Program, fetch, slots_filled, reads, writes}
 use Rattle.isa_model.specs.Machine.Steps.{destination}
 use Rattle.isa_model.specs.Machine.Successors.{falls_through, jump_distance, FallsTo, JumpsTo}
 use Rattle.isa_model.specs.Code.Limits.{max_explored}
@@ -61,7 +61,7 @@ pub record IsWhole (p : Program) : Type 0 where
   pub jumps : (slot : ℕ) (i : Insn) (by : ℤ) → fetch p slot ≡ Some i → jump_distance i ≡ Some by
       → IsSome (fetch p (destination p slot by))
   pub falls : (slot : ℕ) (i : Insn) → fetch p slot ≡ Some i → falls_through i ≡ true
-      → IsSome (fetch p (slot + slots_of i))
+      → IsSome (fetch p (slot + slots_filled i))
   pub reached : (slot : ℕ) → IsSome (fetch p slot)
       → (n : ℕ) × (written : List Reg) × PathTo p n slot written
 

@@ -8,8 +8,8 @@ use Rattle.std.specs.Cmp.Lexicographic.{slice_cmp}
 use Rattle.std.specs.FinMap.Entries.{find, put as put_entry}
 use Rattle.byteorder.specs.Endian.{little_bytes}
 use Rattle.hex.specs.Hex.{encode_lower}
-use Rattle.isa_model.specs.declared.map_defs.MapKind.{MapKind}
-use Rattle.isa_model.specs.declared.map_defs.MapKind.TheVariants.{Hash, Array}
+use Rattle.isa_model.specs.declared.map_defs.MapType.{MapType}
+use Rattle.isa_model.specs.declared.map_defs.MapType.TheVariants.{Hash, Array}
 use Rattle.isa_model.specs.declared.map_defs.MapDef.{MapDef}
 use Rattle.isa_model.specs.declared.frames.FrameHead.{FrameHead}
 use Rattle.isa_model.specs.declared.frames.Action.{Action}
@@ -26,7 +26,7 @@ use Rattle.isa_model.specs.Machine.States.{KeyValues}
 use Rattle.isa_model.specs.declared.versions.Version.{Version}
 use Rattle.isa_model.specs.declared.versions.Version.TheVariants.{One, Two}
 use Rattle.isa_model.specs.Code.Versions.{stream_magic}
-use Rattle.isa_model.specs.Reporting.Streams.{Frame, Stream, frame_bytes}
+use Rattle.isa_model.specs.Reporting.Streams.{PacketFrame, Stream, frame_bytes}
 use Rattle.isa_model.specs.Reporting.Messages.{code_of}
 use Rattle.isa_model.specs.Running.Runs.{Outcome, HasOutcome, Turn, turn}
 use Rattle.isa_model.specs.Code.Limits.{max_steps}
@@ -116,23 +116,23 @@ last_line number (finish.Fault f offset) =
 
 -- ---- pieces: each is written whole, or a beginning of it is the last that is written
 
-pub data Piece : Type 0 where
-  ToReport : List ℕ → Piece
-  ToFrames : List ℕ → Piece
+pub data OutputPart : Type 0 where
+  ToReport : List ℕ → OutputPart
+  ToFrames : List ℕ → OutputPart
 
-abbrev pub report_part : Piece → List ℕ
+abbrev pub report_part : OutputPart → List ℕ
 report_part (ToReport bytes) = bytes
 report_part (ToFrames bytes) = []
 
-abbrev pub frames_part : Piece → List ℕ
+abbrev pub frames_part : OutputPart → List ℕ
 frames_part (ToReport bytes) = []
 frames_part (ToFrames bytes) = bytes
 
 -- the report, and the frames out
-abbrev pub report_bytes : List Piece → List ℕ
+abbrev pub report_bytes : List OutputPart → List ℕ
 report_bytes pieces = flat_map report_part pieces
 
-abbrev pub frames_out : List Piece → List ℕ
+abbrev pub frames_out : List OutputPart → List ℕ
 frames_out pieces = flat_map frames_part pieces
 
 -- ---- frames
@@ -148,7 +148,7 @@ abbrev pub end_reason : Version → End → ℕ
 end_reason program (Exit value steps) = reason_of program value
 end_reason program end = 0
 
-abbrev pub record_pieces : ReportForm → FrameHead → Turn → List Piece
+abbrev pub record_pieces : ReportForm → FrameHead → Turn → List OutputPart
 record_pieces form head t =
     if is_sent form.stream t.ends
     then ToFrames
@@ -157,12 +157,12 @@ record_pieces form head t =
     else []
 
 -- a frame's line, and then its record if it has one
-unfoldable pub frame_pieces : ReportForm → ℕ → Frame → Turn → List Piece
+unfoldable pub frame_pieces : ReportForm → ℕ → PacketFrame → Turn → List OutputPart
 frame_pieces form number f t =
     ToReport (frame_line form number t.ends (length f.body)) ∷ record_pieces form f.head t
 
 -- a frame that is not run goes out as it came
-unfoldable pub skip_pieces : ReportForm → ℕ → Frame → List Piece
+unfoldable pub skip_pieces : ReportForm → ℕ → PacketFrame → List OutputPart
 skip_pieces form number f =
     ToReport (skip_line number (length f.body) f.reason) ∷ ToFrames (frame_bytes form.stream f) ∷ []
 
@@ -171,10 +171,10 @@ abbrev pub Rule : Type 0
 Rule = FrameHead → List ℕ → List KeyValues → Turn
 
 -- a frame is run unless it has a reason
-abbrev pub turn_on : Rule → List KeyValues → Frame → Option Turn
+abbrev pub turn_on : Rule → List KeyValues → PacketFrame → Option Turn
 turn_on rule contents f = if f.reason == 0 then Some (rule f.head f.body contents) else None
 
-abbrev pub turn_pieces : ReportForm → ℕ → Frame → Option Turn → List Piece
+abbrev pub turn_pieces : ReportForm → ℕ → PacketFrame → Option Turn → List OutputPart
 turn_pieces form number f (Some t) = frame_pieces form number f t
 turn_pieces form number f None = skip_pieces form number f
 
@@ -183,14 +183,15 @@ contents_left contents (Some t) = t.contents
 contents_left contents None = contents
 
 -- the frames' pieces, the maps' contents carried along
-abbrev pub turns_pieces : ReportForm → Rule → ℕ → List KeyValues → List Frame → List Piece
+abbrev pub turns_pieces : ReportForm → Rule → ℕ → List KeyValues → List PacketFrame
+    → List OutputPart
 turns_pieces form rule number contents [] = []
 turns_pieces form rule number contents (f ∷ frames) =
     let t = turn_on rule contents f in
     turn_pieces form number f t
     ++ turns_pieces form rule (number + 1) (contents_left contents t) frames
 
-abbrev pub contents_after : Rule → List KeyValues → List Frame → List KeyValues
+abbrev pub contents_after : Rule → List KeyValues → List PacketFrame → List KeyValues
 contents_after rule contents [] = contents
 contents_after rule contents (f ∷ frames) =
     contents_after rule (contents_left contents (turn_on rule contents f)) frames
@@ -203,23 +204,23 @@ key_value_by_index es i =
     option_map (λ value. (little_bytes 4 i, value)) (find (slice_cmp nat_cmp) (little_bytes 4 i) es)
 
 -- hash maps in the order of key bytes, arrays by rising index
-abbrev pub in_report_order : MapKind → ℕ → KeyValues → KeyValues
+abbrev pub in_report_order : MapType → ℕ → KeyValues → KeyValues
 in_report_order Hash entries es = es
 in_report_order Array entries es = filter_map (key_value_by_index es) (range_with_len 0 entries)
 
-abbrev pub map_pieces : ℕ → MapDef → KeyValues → List Piece
+abbrev pub map_pieces : ℕ → MapDef → KeyValues → List OutputPart
 map_pieces index row es =
     map (λ e. ToReport (map_line index e)) (in_report_order row.kind row.entries es)
 
 -- the maps' lines, map by map
-abbrev pub maps_pieces : ℕ → List MapDef → List KeyValues → List Piece
+abbrev pub maps_pieces : ℕ → List MapDef → List KeyValues → List OutputPart
 maps_pieces index [] contents = []
 maps_pieces index (row ∷ rows) [] = []
 maps_pieces index (row ∷ rows) (es ∷ contents) =
     map_pieces index row es ++ maps_pieces (index + 1) rows contents
 
 -- an array's values exist from the start, zero-filled; a hash map starts empty
-abbrev pub starting_key_values : MapKind → MapDef → KeyValues
+abbrev pub starting_key_values : MapType → MapDef → KeyValues
 starting_key_values Hash row = []
 starting_key_values Array row =
     fold (λ es i. put_entry (slice_cmp nat_cmp) (little_bytes 4 i) (replicate row.value_size 0) es)
@@ -231,7 +232,7 @@ starting_contents rows = map (λ row. starting_key_values row.kind row) rows
 -- ---- reports
 
 -- the magic, each frame's pieces, the maps' lines, and the last line
-abbrev pub report_of : ℕ → Version → List MapDef → Rule → List KeyValues → Stream → List Piece
+abbrev pub report_of : ℕ → Version → List MapDef → Rule → List KeyValues → Stream → List OutputPart
 report_of limit program rows rule contents found =
     let form : ReportForm = record { limit = limit; program = program; stream = found.version } in
     (ToFrames (stream_magic found.version) ∷ turns_pieces form rule 0 contents found.frames)
@@ -243,7 +244,7 @@ abbrev pub checked_rule : Program → ℕ → Rule
 checked_rule p limit head body contents = turn p limit (λ k. head.time) head body contents
 
 -- the checked report of a program, a limit, and a stream
-abbrev pub checked_report : Program → ℕ → Stream → List Piece
+abbrev pub checked_report : Program → ℕ → Stream → List OutputPart
 checked_report p limit found =
     report_of limit p.version p.maps (checked_rule p limit) (starting_contents p.maps) found
 
@@ -259,7 +260,8 @@ turn_by o =
 
 -- a frame without a reason has the pieces of its run's outcome, which leaves the contents;
 -- every other one is skipped
-abbrev pub ReportsFrame : ReportForm → Program → ℕ → List KeyValues → Frame → Bool → List Piece
+abbrev pub ReportsFrame : ReportForm → Program → ℕ → List KeyValues → PacketFrame → Bool
+    → List OutputPart
     → List KeyValues → Type 0
 ReportsFrame form p number contents f true pieces next =
     (o : Outcome) × HasOutcome p f.head f.body contents (λ k. f.head.time) o
@@ -268,11 +270,12 @@ ReportsFrame form p number contents f false pieces next =
     (pieces ≡ skip_pieces form number f) × (next ≡ contents)
 
 -- the frames' pieces by the outcomes of their runs, and the contents that the last one leaves
-abbrev pub ReportsFrames : ReportForm → Program → ℕ → List KeyValues → List Frame → List Piece
+abbrev pub ReportsFrames : ReportForm → Program → ℕ → List KeyValues → List PacketFrame
+    → List OutputPart
     → List KeyValues → Type 0
 ReportsFrames form p number contents [] pieces last = (pieces ≡ []) × (last ≡ contents)
 ReportsFrames form p number contents (f ∷ frames) pieces last =
-    (front : List Piece) × (rest : List Piece) × (next : List KeyValues)
+    (front : List OutputPart) × (rest : List OutputPart) × (next : List KeyValues)
     × ReportsFrame form p number contents f (f.reason == 0) front next
     × (pieces ≡ front ++ rest) × ReportsFrames form p (number + 1) next frames rest last
 
@@ -281,8 +284,8 @@ abbrev pub form_of : Program → Stream → ReportForm
 form_of p found = record { limit = max_steps; program = p.version; stream = found.version }
 
 -- the report of a program, and a stream: every run exits
-pub record IsReport (p : Program) (found : Stream) (pieces : List Piece) : Type 0 where
-  pub turns : List Piece
+pub record IsReport (p : Program) (found : Stream) (pieces : List OutputPart) : Type 0 where
+  pub turns : List OutputPart
   pub last : List KeyValues
   pub frames : ReportsFrames (form_of p found) p 0
       (starting_contents p.maps) found.frames turns last

@@ -16,7 +16,7 @@ use Rattle.isa_model.specs.Code.Versions.{stream_magic, head_size}
 use Rattle.isa_model.specs.Code.Limits.{max_body}
 
 -- a packet frame: its head, its body, and its reason, which is 0 where the stream has none
-pub record Frame : Type 0 where
+pub record PacketFrame : Type 0 where
   pub head : FrameHead
   pub body : List ℕ
   pub reason : ℕ
@@ -35,11 +35,11 @@ head_bytes version head n reason =
     ++ (little_bytes 4 head.queue ++ (little_bytes 4 n ++ reason_bytes version reason)))
 
 -- a record
-abbrev pub frame_bytes : Version → Frame → List ℕ
+abbrev pub frame_bytes : Version → PacketFrame → List ℕ
 frame_bytes version f = head_bytes version f.head (length f.body) f.reason ++ f.body
 
 -- records in a row
-abbrev pub records_bytes : Version → List Frame → List ℕ
+abbrev pub records_bytes : Version → List PacketFrame → List ℕ
 records_bytes version frames = flat_map (frame_bytes version) frames
 
 abbrev pub ReasonFits : Version → ℕ → Type 0
@@ -47,7 +47,7 @@ ReasonFits One reason = reason ≡ 0
 ReasonFits Two reason = reason < 2 ^ 32
 
 -- the frames that can be spelled
-pub record IsFrame (version : Version) (f : Frame) : Type 0 where
+pub record IsPacketFrame (version : Version) (f : PacketFrame) : Type 0 where
   pub short : length f.body ≤ max_body version
   pub bytes : All (λ b. b < 256) f.body
   pub time : f.head.time < 2 ^ 64
@@ -108,8 +108,8 @@ stop_at version number offset (b ∷ bytes) ending =
     else None
 
 -- the record at the front of the bytes
-abbrev pub frame_of : Version → List ℕ → Frame
-frame_of version bytes = record {
+abbrev pub packet_frame_of : Version → List ℕ → PacketFrame
+packet_frame_of version bytes = record {
   head =
       record {
         time = little_from 0 8 bytes;
@@ -121,18 +121,18 @@ frame_of version bytes = record {
 }
 
 -- how many bytes a frame's record has
-abbrev pub record_size : Version → Frame → ℕ
+abbrev pub record_size : Version → PacketFrame → ℕ
 record_size version f = head_size version + length f.body
 
 -- the records that the bytes begin with, after `number` others and at `offset`, and how they end;
 -- `fuel` is more than the number of bytes
-unfoldable pub frames_from : ℕ → Version → ℕ → ℕ → List ℕ → InputEnding → List Frame × Finish
+unfoldable pub frames_from : ℕ → Version → ℕ → ℕ → List ℕ → InputEnding → List PacketFrame × Finish
 frames_from zero version number offset bytes ending = ([], finish.End)
 frames_from (suc fuel) version number offset bytes ending =
     elim (stop_at version number offset bytes ending) [
       | Some stop ↦ ([], stop)
       | None ↦
-          let f = frame_of version bytes in
+          let f = packet_frame_of version bytes in
           let size = record_size version f in
           let more = frames_from fuel version (number + 1) (offset + size)
           (drop size bytes) ending in
@@ -144,10 +144,10 @@ frames_from (suc fuel) version number offset bytes ending =
 -- the version, the frames, and the end or fault
 pub record Stream : Type 0 where
   pub version : Version
-  pub frames : List Frame
+  pub frames : List PacketFrame
   pub finish : Finish
 
-abbrev pub stream_with : Version → List Frame × Finish → Stream
+abbrev pub stream_with : Version → List PacketFrame × Finish → Stream
 stream_with version found = record { version = version; frames = found.0; finish = found.1 }
 
 -- the records after the magic; where no magic can be read the stream counts as one of the first
@@ -165,10 +165,10 @@ stream_of input = stream_opened input (opened input.bytes input.ending)
 -- ---- streams as bytes
 
 -- these frames are allowed in a stream of the version, from the first record on
-pub record AreOpen (v : Version) (frames : List Frame) : Type 0 where
+pub record AreOpen (v : Version) (frames : List PacketFrame) : Type 0 where
   pub few : length frames ≤ max_frames
-  pub fit : All (IsFrame v) frames
+  pub fit : All (IsPacketFrame v) frames
 
 -- the bytes of a stream of these frames
-abbrev pub stream_bytes : Version → List Frame → List ℕ
+abbrev pub stream_bytes : Version → List PacketFrame → List ℕ
 stream_bytes v frames = stream_magic v ++ records_bytes v frames

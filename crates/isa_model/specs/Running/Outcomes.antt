@@ -3,7 +3,7 @@ use Rattle.std.specs.Prelude.{◌≡◌, ℕ, ◌≤◌, ◌==◌, List, [], ◌
 use Rattle.isa_model.specs.declared.frames.FrameHead.{FrameHead}
 use Rattle.isa_model.specs.Code.Instructions.{Program}
 use Rattle.isa_model.specs.Machine.States.{KeyValues}
-use Rattle.isa_model.specs.Reporting.Streams.{Frame}
+use Rattle.isa_model.specs.Reporting.Streams.{PacketFrame}
 use Rattle.isa_model.specs.Running.Runs.{start_state, Outcome, HasOutcome}
 use Rattle.isa_model.specs.Running.Ends.{Ends}
 use Rattle.isa_model.specs.Machine.MachineStates.{IsClock, IsGiven}
@@ -17,7 +17,7 @@ StartsEnd p n = (clock : ℕ → ℕ) (head : FrameHead) (packet : List ℕ) (co
 
 -- a packet frame without a reason has a run that exits within n steps and leaves the contents;
 -- every other one leaves them as they were
-abbrev pub ExitsOn : Program → ℕ → List KeyValues → Frame → Bool → List KeyValues → Type 0
+abbrev pub ExitsOn : Program → ℕ → List KeyValues → PacketFrame → Bool → List KeyValues → Type 0
 ExitsOn p n contents f true next =
     (o : Outcome) × HasOutcome p f.head f.body contents (λ k. f.head.time) o × (o.steps ≤ n)
     × (next ≡ o.contents)
@@ -25,7 +25,7 @@ ExitsOn p n contents f false next = next ≡ contents
 
 -- every run on frames that come one after the other exits within n steps, the maps' contents
 -- carried along
-abbrev pub AllExit : Program → ℕ → List KeyValues → List Frame → Type 0
+abbrev pub AllExit : Program → ℕ → List KeyValues → List PacketFrame → Type 0
 AllExit p n contents [] = Unit {0}
 AllExit p n contents (f ∷ frames) =
     (next : List KeyValues) × ExitsOn p n contents f (f.reason == 0) next × AllExit p n next frames

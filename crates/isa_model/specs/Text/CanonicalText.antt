@@ -12,12 +12,12 @@ use Rattle.isa_model.specs.declared.sizes.Width.{Width}
 use Rattle.isa_model.specs.declared.sizes.Width.TheVariants.{Low32, Full64}
 use Rattle.isa_model.specs.declared.sizes.Size.{Size}
 use Rattle.isa_model.specs.declared.sizes.Size.TheVariants.{U8, U16, U32, U64}
-use Rattle.isa_model.specs.declared.sizes.Narrow.{Narrow}
-use Rattle.isa_model.specs.declared.sizes.Narrow.TheVariants.{S8, S16, S32}
+use Rattle.isa_model.specs.declared.sizes.SignedSize.{SignedSize}
+use Rattle.isa_model.specs.declared.sizes.SignedSize.TheVariants.{S8, S16, S32}
 use Rattle.isa_model.specs.declared.sizes.Extension.{Extension}
 use Rattle.isa_model.specs.declared.sizes.Extension.TheVariants.{Low8, Low16, Full8, Full16, Full32}
-use Rattle.isa_model.specs.declared.sizes.Span.{Span}
-use Rattle.isa_model.specs.declared.sizes.Span.TheVariants.{B16, B32, B64}
+use Rattle.isa_model.specs.declared.sizes.SwapWidth.{SwapWidth}
+use Rattle.isa_model.specs.declared.sizes.SwapWidth.TheVariants.{B16, B32, B64}
 use Rattle.isa_model.specs.declared.sizes.ByteOrder.{ByteOrder}
 use Rattle.isa_model.specs.declared.sizes.ByteOrder.TheVariants.{Little, Big, Swap}
 use Rattle.isa_model.specs.declared.instructions.AluOp.{AluOp}
@@ -31,8 +31,8 @@ use Rattle.isa_model.specs.declared.instructions.Operand.TheVariants.{Constant, 
 use Rattle.isa_model.specs.declared.instructions.Place.{Place}
 use Rattle.isa_model.specs.declared.instructions.Insn.{Insn}
 use Rattle.isa_model.specs.declared.instructions.Insn.TheVariants.{Alu, Neg, MovSx, ByteSwap, LoadNumber, LoadMap, LoadMapValue, Load, LoadSx, StoreConstant, Store, Atomic, Exchange, CompareExchange, Jump, JumpLong, JumpIf, CallHelper, CallLocal, Exit}
-use Rattle.isa_model.specs.declared.map_defs.MapKind.{MapKind}
-use Rattle.isa_model.specs.declared.map_defs.MapKind.TheVariants.{Hash, Array}
+use Rattle.isa_model.specs.declared.map_defs.MapType.{MapType}
+use Rattle.isa_model.specs.declared.map_defs.MapType.TheVariants.{Hash, Array}
 use Rattle.isa_model.specs.declared.map_defs.MapDef.{MapDef}
 use Rattle.isa_model.specs.declared.versions.Version.{Version}
 use Rattle.isa_model.specs.declared.versions.Version.TheVariants.{One, Two}
@@ -70,7 +70,7 @@ size_text U16 = codes "u16"
 size_text U32 = codes "u32"
 size_text U64 = codes "u64"
 
-abbrev pub narrow_text : Narrow → List ℕ
+abbrev pub narrow_text : SignedSize → List ℕ
 narrow_text S8 = codes "s8"
 narrow_text S16 = codes "s16"
 narrow_text S32 = codes "s32"
@@ -91,7 +91,7 @@ extension_width Full8 = Full64
 extension_width Full16 = Full64
 extension_width Full32 = Full64
 
-abbrev pub span_text : Span → List ℕ
+abbrev pub span_text : SwapWidth → List ℕ
 span_text B16 = codes "16"
 span_text B32 = codes "32"
 span_text B64 = codes "64"
@@ -221,7 +221,7 @@ line_of (CallHelper number) = codes "call " ++ signed_decimal number ++ codes "\
 line_of (CallLocal by) = codes "call pc" ++ distance_text by ++ codes "\n"
 line_of Exit = codes "exit\n"
 
-abbrev pub kind_text : MapKind → List ℕ
+abbrev pub kind_text : MapType → List ℕ
 kind_text Hash = codes "hash"
 kind_text Array = codes "array"
 

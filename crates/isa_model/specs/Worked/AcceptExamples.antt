@@ -8,7 +8,7 @@ use Rattle.isa_model.specs.declared.instructions.AluOp.TheVariants.{Mov}
 use Rattle.isa_model.specs.declared.instructions.Operand.TheVariants.{Constant}
 use Rattle.isa_model.specs.declared.instructions.Insn.{Insn}
 use Rattle.isa_model.specs.declared.instructions.Insn.TheVariants.{Alu, Exit}
-use Rattle.isa_model.specs.Code.Instructions.{Program, fetch, slots_of, reads, writes}
+use Rattle.isa_model.specs.Code.Instructions.{Program, fetch, slots_filled, reads, writes}
 use Rattle.isa_model.specs.Machine.States.{new_frame}
 use Rattle.isa_model.specs.Machine.Steps.{act, step}
 use Rattle.isa_model.specs.Machine.Successors.{falls_through, jump_distance}
@@ -58,7 +58,7 @@ unfolding PathTo
 at_slot zero slot written h = inl h.0
 at_slot (suc n) slot written (from, before, i, path, here, inl (falls, at), is) =
     let (first, same) = falls_on from i here falls in
-    let wide = ap slots_of same in
+    let wide = ap slots_filled same in
     inr (
       omega (arith, at, first, wide),
       subst (λ (rs : List Reg). IsOneOf rs R0)

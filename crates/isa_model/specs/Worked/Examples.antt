@@ -6,8 +6,8 @@ use Rattle.isa_model.specs.declared.registers.Reg.{Reg}
 use Rattle.isa_model.specs.declared.registers.Reg.TheVariants.{R0, R1, R2, R3, R4, R5, R6, R7, R8, R10}
 use Rattle.isa_model.specs.declared.sizes.Width.TheVariants.{Low32, Full64}
 use Rattle.isa_model.specs.declared.sizes.Size.TheVariants.{U8, U32, U64}
-use Rattle.isa_model.specs.declared.sizes.Narrow.TheVariants.{S8}
-use Rattle.isa_model.specs.declared.sizes.Span.TheVariants.{B16}
+use Rattle.isa_model.specs.declared.sizes.SignedSize.TheVariants.{S8}
+use Rattle.isa_model.specs.declared.sizes.SwapWidth.TheVariants.{B16}
 use Rattle.isa_model.specs.declared.sizes.ByteOrder.TheVariants.{Big}
 use Rattle.isa_model.specs.declared.instructions.AluOp.TheVariants.{Add, Sub, SignedDiv, Rsh, Mod, SignedMod, Mov}
 use Rattle.isa_model.specs.declared.instructions.AtomicOp.TheVariants as atomic

@@ -10,7 +10,7 @@ use Rattle.isa_model.specs.declared.instructions.Comparison.TheVariants.{Greater
 use Rattle.isa_model.specs.declared.instructions.Operand.TheVariants.{Constant, Register}
 use Rattle.isa_model.specs.declared.instructions.Insn.{Insn}
 use Rattle.isa_model.specs.declared.instructions.Insn.TheVariants.{Alu, Load, JumpIf, Exit}
-use Rattle.isa_model.specs.Code.Instructions.{Program, fetch, slots_of, writes}
+use Rattle.isa_model.specs.Code.Instructions.{Program, fetch, slots_filled, writes}
 use Rattle.isa_model.specs.Machine.Steps.{destination}
 use Rattle.isa_model.specs.Machine.Successors.{falls_through, jump_distance, FallsTo, JumpsTo}
 use Rattle.isa_model.specs.MustAccept.Paths.{Each, IsOneOf, needs, written_too, PathTo, IsWhole}
@@ -100,9 +100,9 @@ only_jump P there slot i by here jump =
     }) slot i here jump
 
 falls_in : (slot : ℕ) (i : Insn) → fetch first_byte slot ≡ Some i → falls_through i ≡ true
-    → IsSome (fetch first_byte (slot + slots_of i))
+    → IsSome (fetch first_byte (slot + slots_filled i))
 falls_in =
-    each (λ f x. falls_through x ≡ true → IsSome (fetch first_byte (f + slots_of x))) (record {
+    each (λ f x. falls_through x ≡ true → IsSome (fetch first_byte (f + slots_filled x))) (record {
       packet = λ e. refl;
       packet_end = λ e. refl;
       copy = λ e. refl;
@@ -195,7 +195,8 @@ abbrev AreSure : List Reg → ℕ → Type 0
 AreSure written slot = Each (IsOneOf written) (sure slot)
 
 falls_to : (written : List Reg) (slot next f : ℕ) (i : Insn) → jump_distance i ≡ None
-    → f + slots_of i ≡ next → AreSure written next → FallsTo f i slot ⊎ JumpsTo first_byte f i slot
+    → f + slots_filled i ≡ next → AreSure written next → FallsTo f i slot
+    ⊎ JumpsTo first_byte f i slot
     → AreSure written slot
 falls_to written slot next f i straight at known (inl falls) =
     subst (AreSure written) (sym (falls.1 ∙ at)) known

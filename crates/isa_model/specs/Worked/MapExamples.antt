@@ -1,6 +1,6 @@
 -- Worked examples of look-ups, updates and deletes of maps, computed from the definitions.
 use Rattle.std.specs.Prelude.{◌≡◌, ℕ, pos, List, [], ◌∷◌, replicate, Some, None, refl}
-use Rattle.isa_model.specs.declared.map_defs.MapKind.TheVariants.{Hash, Array}
+use Rattle.isa_model.specs.declared.map_defs.MapType.TheVariants.{Hash, Array}
 use Rattle.isa_model.specs.declared.map_defs.MapDef.{MapDef}
 use Rattle.isa_model.specs.declared.values.Region.TheVariants as region
 use Rattle.isa_model.specs.declared.values.Value.TheVariants.{Num, Ptr}

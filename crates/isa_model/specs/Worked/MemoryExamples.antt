@@ -4,7 +4,7 @@ use Rattle.std.specs.Prelude.{◌≡◌, ℕ, ℤ, pos, negsuc, false, List, [],
 use Rattle.isa_model.specs.declared.registers.Reg.TheVariants.{R0, R1, R2, R3, R10}
 use Rattle.isa_model.specs.declared.sizes.Width.TheVariants.{Low32, Full64}
 use Rattle.isa_model.specs.declared.sizes.Size.TheVariants.{U8, U16, U32, U64}
-use Rattle.isa_model.specs.declared.sizes.Narrow.TheVariants.{S8, S16, S32}
+use Rattle.isa_model.specs.declared.sizes.SignedSize.TheVariants.{S8, S16, S32}
 use Rattle.isa_model.specs.declared.instructions.AtomicOp.TheVariants as atomic
 use Rattle.isa_model.specs.declared.instructions.Comparison.TheVariants.{Greater}
 use Rattle.isa_model.specs.declared.instructions.Insn.{Insn}
@@ -154,8 +154,8 @@ abbrev pub first_half_and : Value → Value → Result Value TrapReason
 first_half_and (Ptr r z) (Ptr q y) = value_in (take 4 (pieces r z) ++ drop 4 (pieces q y))
 first_half_and v w = Ok v
 
-pub pieces_of_two_pointers : first_half_and (Ptr (region.Frame 3) (pos 0))
-    (Ptr (region.Frame 4) (pos 0))
+pub pieces_of_two_pointers : first_half_and (Ptr (region.CallFrame 3) (pos 0))
+    (Ptr (region.CallFrame 4) (pos 0))
     ∷ first_half_and (Ptr region.Packet (pos 1)) (Ptr region.Packet (pos 2))
     ∷ first_half_and (Ptr region.Packet (pos 0)) (Ptr region.Packet (negsuc 0))
     ∷ first_half_and (Ptr (region.MapValue 0 1) (pos 0)) (Ptr (region.MapValue 0 2) (pos 0))

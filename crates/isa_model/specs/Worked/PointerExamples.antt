@@ -3,7 +3,7 @@ use Rattle.std.specs.Prelude.{◌≡◌, ℤ, pos, negsuc, true, false, List, []
 use Rattle.isa_model.specs.declared.registers.Reg.TheVariants.{R0, R10}
 use Rattle.isa_model.specs.declared.sizes.Width.TheVariants.{Low32, Full64}
 use Rattle.isa_model.specs.declared.sizes.Extension.TheVariants.{Full32}
-use Rattle.isa_model.specs.declared.sizes.Span.TheVariants.{B64}
+use Rattle.isa_model.specs.declared.sizes.SwapWidth.TheVariants.{B64}
 use Rattle.isa_model.specs.declared.sizes.ByteOrder.TheVariants.{Swap}
 use Rattle.isa_model.specs.declared.instructions.AluOp.{AluOp}
 use Rattle.isa_model.specs.declared.instructions.AluOp.TheVariants.{Add, Sub, Mul, Div, SignedDiv, Or, And, Lsh, Rsh, Mod, SignedMod, Xor, Mov, Arsh}
@@ -33,7 +33,7 @@ packet_end = Ptr region.PacketEnd (pos 0)
 
 -- the regions whose pointers move, and the others
 abbrev pub moving : List Region
-moving = region.Packet ∷ region.Frame 3 ∷ region.MapValue 0 5 ∷ []
+moving = region.Packet ∷ region.CallFrame 3 ∷ region.MapValue 0 5 ∷ []
 
 abbrev pub fixed : List Region
 fixed = region.Context ∷ region.PacketEnd ∷ region.Map 0 ∷ []
@@ -158,7 +158,7 @@ other_comparisons_with_the_end = refl
 pub undefined_orders : compared 14 Greater Low32 (packet (pos 14)) packet_end
     ∷ compared 14 Greater Full64 (packet (pos 14)) (packet (pos 13))
     ∷ compared 14 Greater Full64 packet_end packet_end
-    ∷ compared 14 Equal Full64 (Ptr (region.Frame 3) (pos 0)) (Ptr (region.Frame 3) (pos 0))
+    ∷ compared 14 Equal Full64 (Ptr (region.CallFrame 3) (pos 0)) (Ptr (region.CallFrame 3) (pos 0))
     ∷ compared 14 Equal Full64 (packet (pos 0)) (Num 0)
     ∷ compared 14 Equal Full64 (Num 0) (packet (pos 0)) ∷ []
     ≡ replicate 6 (Err BadCompare)
@@ -186,7 +186,7 @@ pub undefined_null_tests : map (λ c. compared_constant c Full64 map_value (pos 
     ∷ compared_constant Equal Full64 map_value (pos 1)
     ∷ compared_constant Equal Full64 map_value (negsuc 0) ∷ []
     ++ map (λ r. compared_constant Equal Full64 (Ptr r (pos 0)) (pos 0))
-    (region.Packet ∷ region.Frame 3 ∷ fixed)
+    (region.Packet ∷ region.CallFrame 3 ∷ fixed)
     ≡ replicate 17 (Err BadCompare)
 undefined_null_tests = refl
 

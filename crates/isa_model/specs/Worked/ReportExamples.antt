@@ -6,7 +6,7 @@ use Rattle.hex.specs.Hex.{encode_with}
 use Rattle.isa_model.specs.declared.registers.Reg.TheVariants.{R0, R1, R2}
 use Rattle.isa_model.specs.declared.sizes.Size.TheVariants.{U8, U32}
 use Rattle.isa_model.specs.declared.instructions.Insn.TheVariants as insn
-use Rattle.isa_model.specs.declared.map_defs.MapKind.TheVariants.{Hash, Array}
+use Rattle.isa_model.specs.declared.map_defs.MapType.TheVariants.{Hash, Array}
 use Rattle.isa_model.specs.declared.map_defs.MapDef.{MapDef}
 use Rattle.isa_model.specs.declared.frames.Action.TheVariants as action
 use Rattle.isa_model.specs.declared.ends.End.TheVariants.{Exit, Trap, Limit}

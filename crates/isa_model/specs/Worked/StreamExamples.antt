@@ -7,7 +7,7 @@ use Rattle.isa_model.specs.declared.streams.Finish.{Finish}
 use Rattle.isa_model.specs.declared.streams.Finish.TheVariants as finish
 use Rattle.isa_model.specs.Code.Versions.{stream_magic}
 use Rattle.isa_model.specs.declared.versions.Version.TheVariants.{One, Two}
-use Rattle.isa_model.specs.Reporting.Streams.{Frame, max_frames, InputEnding, ByEnd, ByError, head_bytes, frame_bytes, opened, stop_at, frames_from, stream_of}
+use Rattle.isa_model.specs.Reporting.Streams.{PacketFrame, max_frames, InputEnding, ByEnd, ByError, head_bytes, frame_bytes, opened, stop_at, frames_from, stream_of}
 use Rattle.isa_model.specs.Worked.Examples.{zeros}
 
 -- the magic, and two records of no bytes
@@ -50,7 +50,7 @@ other_magic_and_an_error = refl
 -- ---- a record
 
 -- a frame whose head's bytes count up from 1, with a body of two bytes
-abbrev pub frame : Frame
+abbrev pub frame : PacketFrame
 frame = record {
   head = record {
     time = 0x0807060504030201;
@@ -131,7 +131,7 @@ no_record_too_many = refl
 -- ---- streams of version 2
 
 -- a frame with a reason
-abbrev pub told : Frame
+abbrev pub told : PacketFrame
 told = record { head = frame.head; body = 0xaa ∷ 0xbb ∷ []; reason = 0x08070605 }
 
 -- the reason comes after the length

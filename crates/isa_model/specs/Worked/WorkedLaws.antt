@@ -10,7 +10,7 @@ use Rattle.isa_model.specs.declared.registers.Reg.{Reg}
 use Rattle.isa_model.specs.declared.registers.Reg.TheVariants.{R0, R1, R2, R3, R4, R5, R6, R7, R8, R9, R10}
 use Rattle.isa_model.specs.declared.instructions.Insn.{Insn}
 use Rattle.isa_model.specs.Code.Registers.{reg_number, reg_numbered}
-use Rattle.isa_model.specs.Code.Instructions.{Program, fetch, slots_of, writes, is_frame_pointer}
+use Rattle.isa_model.specs.Code.Instructions.{Program, fetch, slots_filled, writes, is_frame_pointer}
 use Rattle.isa_model.specs.Machine.Steps.{destination}
 use Rattle.isa_model.specs.Machine.Successors.{falls_through, jump_distance, FallsTo, JumpsTo}
 use Rattle.isa_model.specs.MustAccept.Paths.{Each, IsOneOf, needs, written_too, PathTo, IsWhole, AreWritten}
@@ -86,7 +86,7 @@ jump_passes test p slot None = true
 jump_passes test p slot (Some by) = test (destination p slot by)
 
 abbrev pub next_passes : (ℕ → Bool) → Program → ℕ → Insn → Bool
-next_passes test p slot i = fall_passes test (falls_through i) (slot + slots_of i)
+next_passes test p slot i = fall_passes test (falls_through i) (slot + slots_filled i)
     && jump_passes test p slot (jump_distance i)
 
 on_fall : (test : ℕ → Bool) (falls : Bool) (next : ℕ) → fall_passes test falls next ≡ true
@@ -105,11 +105,11 @@ on_next : (test : ℕ → Bool) (p : Program) (slot : ℕ) (i : Insn) (next : �
     → next_passes test p slot i ≡ true → FallsTo slot i next ⊎ JumpsTo p slot i next
     → test next ≡ true
 on_next test p slot i next h (inl falls) =
-    let (fall, jump) = and_parts (fall_passes test (falls_through i) (slot + slots_of i))
+    let (fall, jump) = and_parts (fall_passes test (falls_through i) (slot + slots_filled i))
     (jump_passes test p slot (jump_distance i)) h in
-    ap test falls.1 ∙ on_fall test (falls_through i) (slot + slots_of i) fall falls.0
+    ap test falls.1 ∙ on_fall test (falls_through i) (slot + slots_filled i) fall falls.0
 on_next test p slot i next h (inr jumps) =
-    let (fall, jump) = and_parts (fall_passes test (falls_through i) (slot + slots_of i))
+    let (fall, jump) = and_parts (fall_passes test (falls_through i) (slot + slots_filled i))
     (jump_passes test p slot (jump_distance i)) h in
     ap test jumps.2 ∙ on_jump test p slot (jump_distance i) jumps.0 jump jumps.1
 
@@ -129,7 +129,7 @@ ahead p h slot i by here jump =
 -- ---- every instruction is reached
 
 abbrev pub falls_to : ℕ → Insn → ℕ → Bool
-falls_to from i slot = falls_through i && (slot == from + slots_of i)
+falls_to from i slot = falls_through i && (slot == from + slots_filled i)
 
 abbrev pub jumps_to : Program → ℕ → Option ℤ → ℕ → Bool
 jumps_to p from None slot = false
@@ -164,8 +164,8 @@ follows_by p from None slot h = absurd (cc)
 follows_by p from (Some i) slot h =
     elim (either (falls_to from i slot) (jumps_to p from (jump_distance i) slot) h) [
       | inl falls ↦
-          let (through, at) = and_parts (falls_through i) (slot == from + slots_of i) falls in
-          (i, refl, inl (through, equal slot (from + slots_of i) at))
+          let (through, at) = and_parts (falls_through i) (slot == from + slots_filled i) falls in
+          (i, refl, inl (through, equal slot (from + slots_filled i) at))
       | inr jump ↦ (i, refl, inr (jumps p from (jump_distance i) slot jump))
     ]
 
@@ -204,7 +204,7 @@ IsWhole-tested p froms inside entered = record {
       λ slot i by here jump. on_next begins p slot i (destination p slot by)
       (of_all p (next_passes begins p) inside slot i here) (inr (by, jump, refl));
   falls =
-      λ slot i here falls. on_next begins p slot i (slot + slots_of i)
+      λ slot i here falls. on_next begins p slot i (slot + slots_filled i)
       (of_all p (next_passes begins p) inside slot i here) (inl (falls, refl));
   reached = λ slot begins. path p froms entered (suc slot) slot (omega arith) begins;
 } where

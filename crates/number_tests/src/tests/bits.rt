@@ -1,7 +1,7 @@
 //! How precise known bits are, worked out by hand: values and masks of real shapes.
 
 use super::operations::{Part, Relation};
-use isa_model::{AluOp, ByteOrder, Extension, Span, Width};
+use isa_model::{AluOp, ByteOrder, Extension, SwapWidth, Width};
 use known_bits::Bits;
 use reg_state::Domain;
 use std::test::Fail;
@@ -89,14 +89,18 @@ const PARTS: [(Part, Pair, Pair); 7] = [
         (0x8000, 0),
         (0xffff_8000, 0),
     ),
-    (Part::Reorder(ByteOrder::Big, Span::B16), ANY, (0, 0xffff)),
     (
-        Part::Reorder(ByteOrder::Little, Span::B32),
+        Part::Reorder(ByteOrder::Big, SwapWidth::B16),
+        ANY,
+        (0, 0xffff),
+    ),
+    (
+        Part::Reorder(ByteOrder::Little, SwapWidth::B32),
         ANY,
         (0, 0xffff_ffff),
     ),
     (
-        Part::Reorder(ByteOrder::Swap, Span::B16),
+        Part::Reorder(ByteOrder::Swap, SwapWidth::B16),
         (0x1234, 0),
         (0x3412, 0),
     ),

@@ -1,7 +1,7 @@
 //! How precise limits are, worked out by hand: limits of real shapes.
 
 use super::operations::{Part, Relation};
-use isa_model::{AluOp, ByteOrder, Extension, Span, Width};
+use isa_model::{AluOp, ByteOrder, Extension, SwapWidth, Width};
 use ranges::{Low, Range};
 use reg_state::Domain;
 use std::test::Fail;
@@ -208,11 +208,11 @@ fn sums_products_logic_and_shifts(rt: HostRuntime) -> Result<(), Fail> {
 const PARTS: [(Part, Set, Set); 8] = [
     (Part::Negate(FULL), BYTE, Set::Signed(-255, 0)),
     (
-        Part::Reorder(ByteOrder::Big, Span::B16),
+        Part::Reorder(ByteOrder::Big, SwapWidth::B16),
         Set::Any,
         Set::Between(0, 0xffff),
     ),
-    (Part::Reorder(ByteOrder::Little, Span::B32), BYTE, BYTE),
+    (Part::Reorder(ByteOrder::Little, SwapWidth::B32), BYTE, BYTE),
     (
         Part::SignExtend(Extension::Low8),
         Set::Between(3, 100),

@@ -3,7 +3,7 @@
 
 use super::chains::{Look, Row, Set, Step, are_seen, refined, set_of};
 use super::operations::Part;
-use isa_model::{AluOp, ByteOrder, Comparison, Extension, Span, Width};
+use isa_model::{AluOp, ByteOrder, Comparison, Extension, SwapWidth, Width};
 use reg_state::Scalar;
 use std::test::Fail;
 
@@ -159,7 +159,7 @@ const CASTS: [Row; 6] = [
     ),
     (
         EVERY,
-        &[BELOW_TEN, FROM_THREE, Step::Part(Part::Reorder(ByteOrder::Little, Span::B32))],
+        &[BELOW_TEN, FROM_THREE, Step::Part(Part::Reorder(ByteOrder::Little, SwapWidth::B32))],
         &[Look::Mask(15)],
     ),
 ];

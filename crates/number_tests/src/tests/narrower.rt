@@ -1,7 +1,7 @@
 //! Reversed bytes, parts of numbers, and signed quotients and remainders: worked out by hand at the
 //! ends, and from all members of small sets.
 
-use isa_model::{AluOp, ByteOrder, Span, Width, numbers};
+use isa_model::{AluOp, ByteOrder, SwapWidth, Width, numbers};
 use ranges::Range;
 use reg_state::{Domain, Scalar};
 use std::process::Abort;
@@ -14,7 +14,7 @@ const LOW: Width = Width::Low32;
 /// What is asked of a number, and of a set of numbers.
 #[derive(Clone, Copy)]
 enum Operation {
-    Reorder(ByteOrder, Span),
+    Reorder(ByteOrder, SwapWidth),
     /// Some bits, from one bit on.
     Part(u64, u32),
 }
@@ -43,12 +43,12 @@ fn of_set(operation: Operation, set: Scalar) -> Scalar {
 }
 
 const OPERATIONS: [Operation; 14] = [
-    Operation::Reorder(ByteOrder::Big, Span::B16),
-    Operation::Reorder(ByteOrder::Big, Span::B32),
-    Operation::Reorder(ByteOrder::Big, Span::B64),
-    Operation::Reorder(ByteOrder::Swap, Span::B32),
-    Operation::Reorder(ByteOrder::Swap, Span::B64),
-    Operation::Reorder(ByteOrder::Little, Span::B16),
+    Operation::Reorder(ByteOrder::Big, SwapWidth::B16),
+    Operation::Reorder(ByteOrder::Big, SwapWidth::B32),
+    Operation::Reorder(ByteOrder::Big, SwapWidth::B64),
+    Operation::Reorder(ByteOrder::Swap, SwapWidth::B32),
+    Operation::Reorder(ByteOrder::Swap, SwapWidth::B64),
+    Operation::Reorder(ByteOrder::Little, SwapWidth::B16),
     Operation::Part(0, 8),
     Operation::Part(8, 8),
     Operation::Part(56, 8),

@@ -2,7 +2,7 @@
 
 use super::operations::Part;
 use isa_model::numbers::{compare, compute, negate, reorder, sign_extend};
-use isa_model::{AluOp, ByteOrder, Comparison, Extension, Span, Width};
+use isa_model::{AluOp, ByteOrder, Comparison, Extension, SwapWidth, Width};
 use std::test::Fail;
 
 const MINUS_ONE: u64 = 0xffff_ffff_ffff_ffff;
@@ -180,15 +180,15 @@ const PARTS: [(Part, u64, u64); 25] = [
     (Part::SignExtend(Extension::Full32), TWO_31, 0xffff_ffff_8000_0000),
     (Part::SignExtend(Extension::Full32), 0x1_7fff_ffff, 0x7fff_ffff),
     (Part::SignExtend(Extension::Full32), TWO_32, 0),
-    (Part::Reorder(ByteOrder::Little, Span::B16), DIGITS, 0x0708),
-    (Part::Reorder(ByteOrder::Little, Span::B32), DIGITS, 0x0506_0708),
-    (Part::Reorder(ByteOrder::Little, Span::B64), DIGITS, DIGITS),
-    (Part::Reorder(ByteOrder::Big, Span::B16), DIGITS, 0x0807),
-    (Part::Reorder(ByteOrder::Big, Span::B32), DIGITS, 0x0807_0605),
-    (Part::Reorder(ByteOrder::Big, Span::B64), DIGITS, 0x0807_0605_0403_0201),
-    (Part::Reorder(ByteOrder::Swap, Span::B16), DIGITS, 0x0807),
-    (Part::Reorder(ByteOrder::Swap, Span::B32), DIGITS, 0x0807_0605),
-    (Part::Reorder(ByteOrder::Swap, Span::B64), DIGITS, 0x0807_0605_0403_0201),
+    (Part::Reorder(ByteOrder::Little, SwapWidth::B16), DIGITS, 0x0708),
+    (Part::Reorder(ByteOrder::Little, SwapWidth::B32), DIGITS, 0x0506_0708),
+    (Part::Reorder(ByteOrder::Little, SwapWidth::B64), DIGITS, DIGITS),
+    (Part::Reorder(ByteOrder::Big, SwapWidth::B16), DIGITS, 0x0807),
+    (Part::Reorder(ByteOrder::Big, SwapWidth::B32), DIGITS, 0x0807_0605),
+    (Part::Reorder(ByteOrder::Big, SwapWidth::B64), DIGITS, 0x0807_0605_0403_0201),
+    (Part::Reorder(ByteOrder::Swap, SwapWidth::B16), DIGITS, 0x0807),
+    (Part::Reorder(ByteOrder::Swap, SwapWidth::B32), DIGITS, 0x0807_0605),
+    (Part::Reorder(ByteOrder::Swap, SwapWidth::B64), DIGITS, 0x0807_0605_0403_0201),
 ];
 
 // At 64 and at 32 bits.

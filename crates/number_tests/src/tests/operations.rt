@@ -1,12 +1,12 @@
 //! What the tests do to numbers and to sets of them.
 
-use isa_model::{ByteOrder, Extension, Span, Width};
+use isa_model::{ByteOrder, Extension, SwapWidth, Width};
 
 /// An operation on one number.
 pub enum Part {
     Negate(Width),
     SignExtend(Extension),
-    Reorder(ByteOrder, Span),
+    Reorder(ByteOrder, SwapWidth),
 }
 
 /// A relation of two numbers.

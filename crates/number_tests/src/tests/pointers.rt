@@ -4,7 +4,7 @@ use arrayvec::ArrayVec;
 use branch_refine::{Branch, Compared, compared_by, refine};
 use isa_model::{Comparison, Cond, Operand, Reg, Width};
 use reg_state::{Domain, Kind, Scalar};
-use stack_state::{AbstractFrame, Slot, State};
+use stack_state::{AbstractFrame, StackSlot, State};
 use std::test::Fail;
 
 const FULL: Width = Width::Full64;
@@ -69,12 +69,12 @@ const LOOKED_UP: Kind = Kind::MapValueOrNull {
 fn in_call(tested: Kind, other: Kind, copies: [Kind; 4]) -> State {
     let mut caller = AbstractFrame::default();
     caller.registers[6] = copies[2];
-    caller.stack.slots[5] = Slot::Spilled(copies[3]);
+    caller.stack.slots[5] = StackSlot::Spilled(copies[3]);
     let mut innermost = AbstractFrame::default();
     innermost.registers[2] = tested;
     innermost.registers[3] = other;
     innermost.registers[4] = copies[0];
-    innermost.stack.slots[7] = Slot::Spilled(copies[1]);
+    innermost.stack.slots[7] = StackSlot::Spilled(copies[1]);
     let mut callers = ArrayVec::new();
     callers.push(caller);
     State {

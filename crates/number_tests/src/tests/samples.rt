@@ -3,7 +3,7 @@
 use arrayvec::ArrayVec;
 use isa_model::Width;
 use reg_state::{Domain, Kind, Scalar};
-use stack_state::{AbstractFrame, MAX_CALLERS, Slot, State};
+use stack_state::{AbstractFrame, MAX_CALLERS, StackSlot, State};
 
 /// What a register or a stack slot holds.
 pub enum Held {
@@ -47,12 +47,12 @@ fn frame_with(frame: AbstractFrame, act: &Put) -> AbstractFrame {
         }
         Put::Spill(place, held) => {
             if *place < 64 {
-                frame.stack.slots[*place] = Slot::Spilled(kind_of(held));
+                frame.stack.slots[*place] = StackSlot::Spilled(kind_of(held));
             }
         }
         Put::Written(place, marks) => {
             if *place < 64 {
-                frame.stack.slots[*place] = Slot::Written(*marks);
+                frame.stack.slots[*place] = StackSlot::Written(*marks);
             }
         }
     }

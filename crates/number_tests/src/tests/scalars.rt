@@ -2,7 +2,7 @@
 
 use super::chains::{Look, Row, Set, Step, are_seen, refined, set_of};
 use super::operations::Part;
-use isa_model::{AluOp, ByteOrder, Comparison, Extension, Span, Width};
+use isa_model::{AluOp, ByteOrder, Comparison, Extension, SwapWidth, Width};
 use known_bits::Bits;
 use ranges::Range;
 use reg_state::{Domain, Scalar, refine};
@@ -46,7 +46,7 @@ const SUMS_AND_PRODUCTS: [Row; 5] = [
 const PARTS: [Row; 8] = [
     (ALL, &[Step::Alu(AluOp::And, FULL, 15)], &[Look::Wide(0, 15)]),
     (ALL, &[Step::Itself(AluOp::Mov, LOW)], &[Look::Wide(0, 0xffff_ffff)]),
-    (ALL, &[Step::Part(Part::Reorder(ByteOrder::Big, Span::B16))], &[Look::Wide(0, 0xffff)]),
+    (ALL, &[Step::Part(Part::Reorder(ByteOrder::Big, SwapWidth::B16))], &[Look::Wide(0, 0xffff)]),
     (ALL, &[Step::Alu(AluOp::Rsh, FULL, 48)], &[Look::Wide(0, 0xffff)]),
     (BYTE, &[Step::Alu(AluOp::Xor, FULL, 0x30)], &[Look::Wide(0, 255)]),
     (ALL, &[Step::Part(Part::SignExtend(Extension::Full8))], &[Look::Signed(-128, 127)]),

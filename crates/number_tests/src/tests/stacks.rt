@@ -2,7 +2,7 @@
 
 use isa_model::{Size, Width};
 use reg_state::{Domain, Kind, Scalar};
-use stack_state::{Slot, StackState};
+use stack_state::{StackSlot, StackState};
 use std::process::Abort;
 
 /// What is done to a frame.
@@ -17,7 +17,7 @@ enum Act {
 /// A question about it, and the answer that is wanted.
 #[derive(Clone, Copy)]
 enum Look {
-    Slot(usize, Slot),
+    StackSlot(usize, StackSlot),
     Fill(usize, Option<Kind>),
     Load(usize, Size, Option<Scalar>),
     IsBytes(usize, usize, bool),
@@ -50,7 +50,7 @@ fn after(acts: &[Act]) -> StackState {
 
 fn is_shown(stack: &StackState, look: &Look) -> bool {
     match look {
-        Look::Slot(slot, wanted) => stack.slots.get(*slot) == Some(wanted),
+        Look::StackSlot(slot, wanted) => stack.slots.get(*slot) == Some(wanted),
         Look::Fill(slot, wanted) => *slot < 64 && stack.fill(*slot) == *wanted,
         Look::Load(at, size, wanted) => {
             *at < 512 && *at % 8 + size.bytes() <= 8 && stack.load(*at, *size) == *wanted
@@ -72,7 +72,7 @@ fn are_shown(rt: &impl Abort, acts: &[Act], looks: &[Look]) {
 #[test]
 fn each_size_at_each_place(rt: HostRuntime) {
     for byte in 0..8usize {
-        let marks = Look::Slot(2, Slot::Written(1u8 << byte));
+        let marks = Look::StackSlot(2, StackSlot::Written(1u8 << byte));
         are_shown(&rt, &[Act::Store(16 + byte, Size::U8)], &[marks]);
     }
     for (at, size, marks) in [
@@ -86,7 +86,7 @@ fn each_size_at_each_place(rt: HostRuntime) {
         (15, Size::U8, 0),
         (24, Size::U64, 0),
     ] {
-        let marks = Look::Slot(2, Slot::Written(marks));
+        let marks = Look::StackSlot(2, StackSlot::Written(marks));
         are_shown(&rt, &[Act::Store(at, size)], &[marks]);
     }
 }
@@ -107,7 +107,7 @@ fn a_pointer_is_read_whole(rt: HostRuntime) {
         &rt,
         &[Act::Spill(3, Kind::Context), Act::Store(25, Size::U8)],
         &[
-            Look::Slot(3, Slot::Written(2)),
+            Look::StackSlot(3, StackSlot::Written(2)),
             Look::Fill(3, None),
             Look::IsBytes(25, 1, true),
             Look::IsBytes(24, 2, false),
@@ -143,7 +143,7 @@ fn a_number_is_read_in_part(rt: HostRuntime) {
     are_shown(
         &rt,
         &[Act::Spill(3, number), Act::Store(24, Size::U32)],
-        &[Look::Slot(3, Slot::Written(255))],
+        &[Look::StackSlot(3, StackSlot::Written(255))],
     );
 }
 
@@ -182,7 +182,7 @@ fn a_half_beside_any_half(rt: HostRuntime) {
     are_shown(
         &rt,
         &[Act::StoreNumber(24, Size::U32, one)],
-        &[Look::Slot(3, Slot::Written(0x0f))],
+        &[Look::StackSlot(3, StackSlot::Written(0x0f))],
     );
     are_shown(
         &rt,
@@ -202,7 +202,7 @@ fn a_half_beside_any_half(rt: HostRuntime) {
                 Act::Store(24, Size::U64),
                 Act::StoreNumber(28, Size::U32, numbers),
             ],
-            &[Look::Slot(3, Slot::Written(255))],
+            &[Look::StackSlot(3, StackSlot::Written(255))],
         );
     }
     are_shown(
@@ -211,7 +211,7 @@ fn a_half_beside_any_half(rt: HostRuntime) {
             Act::Spill(3, Kind::Context),
             Act::StoreNumber(25, Size::U8, one),
         ],
-        &[Look::Slot(3, Slot::Written(2))],
+        &[Look::StackSlot(3, StackSlot::Written(2))],
     );
 }
 
@@ -222,9 +222,9 @@ fn an_unknown_number_is_written_bytes(rt: HostRuntime) {
         &rt,
         &[Act::Spill(0, any), Act::Spill(63, Kind::Unset)],
         &[
-            Look::Slot(0, Slot::Written(255)),
+            Look::StackSlot(0, StackSlot::Written(255)),
             Look::Fill(0, Some(any)),
-            Look::Slot(63, Slot::Written(0)),
+            Look::StackSlot(63, StackSlot::Written(0)),
         ],
     );
 }
@@ -253,7 +253,7 @@ fn a_map_is_forgotten(rt: HostRuntime) {
         ],
         &[
             Look::Fill(0, None),
-            Look::Slot(1, Slot::Written(0)),
+            Look::StackSlot(1, StackSlot::Written(0)),
             Look::Fill(2, Some(looked_up(2))),
             Look::Fill(3, Some(Kind::Map { index: 1 })),
             Look::IsBytes(32, 2, true),

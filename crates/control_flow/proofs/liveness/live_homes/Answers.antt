@@ -2,7 +2,7 @@ use Rattle.std.proofs.Common.{◌≡◌, ◌<◌, false, List, length, set, repl
 use Rattle.control_flow.specs.declared.homes.HomeMask.{HomeMask}
 use Rattle.control_flow.specs.Nodes.{AddsAt, ComesFrom}
 use Rattle.control_flow.specs.Searches.{Extends}
-use Rattle.control_flow.proofs.Search.{Extends-none}
+use Rattle.control_flow.proofs.SlotSearch.{Extends-none}
 use Rattle.control_flow.proofs.Graphs.{jump_from-stays, nodes_near}
 use Rattle.control_flow.proofs.Working.{IsWorking, working_start, working_inside, working_next, working_end, written_back}
 use Rattle.control_flow.proofs.liveness.live_homes.Goals as goal

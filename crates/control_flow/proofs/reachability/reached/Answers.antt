@@ -1,6 +1,6 @@
 use Rattle.std.proofs.Common.{◌≡◌, length, arith}
 use Rattle.control_flow.specs.Graph.{HasEdge, Reached}
-use Rattle.control_flow.proofs.Search.{IsSearch-inside, IsReaching-start, IsReaching-next, IsReaching-end}
+use Rattle.control_flow.proofs.SlotSearch.{IsSearch-inside, IsReaching-start, IsReaching-next, IsReaching-end}
 use Rattle.control_flow.proofs.reachability.reached.Goals as goal
 
 pub go_on-requires-clause-inside : goal.go_on-requires-clause-inside

@@ -1,5 +1,5 @@
 use Rattle.control_flow.specs.Searches.{room_of}
-use Rattle.control_flow.proofs.Search.{IsReaching}
+use Rattle.control_flow.proofs.SlotSearch.{IsReaching}
 use Rattle.control_flow.proofs.reachability.reached.Given as goal
 
 abbrev pub invariant-loop-slot : goal.invariant-loop-slot

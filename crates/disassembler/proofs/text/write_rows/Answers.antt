@@ -1,5 +1,5 @@
 use Rattle.std.proofs.Common.{refl, get_or}
-use Rattle.isa_model.specs.declared.map_defs.MapKind.TheVariants.{Hash}
+use Rattle.isa_model.specs.declared.map_defs.MapType.TheVariants.{Hash}
 use Rattle.isa_model.specs.declared.map_defs.MapDef.{MapDef}
 use Rattle.isa_model.specs.Text.CanonicalText.{row_line}
 use Rattle.image.proofs.Writing.{on_err}

@@ -1,5 +1,5 @@
 use Rattle.std.proofs.Common.{◌≡◌, ◌∙◌, suc, ◌+◌, ◌-◌, arith, sym, ap}
-use Rattle.stack_state.specs.Meaning.{slots_of}
+use Rattle.stack_state.specs.Meaning.{stack_slots_of}
 use Rattle.stack_state.specs.Slots.{slot_at, marks_of}
 use Rattle.explanations.specs.Slots.{first_open}
 use Rattle.explanations.proofs.Words.{first_open-next}
@@ -7,7 +7,7 @@ use Rattle.explanations.proofs.slots.first_open.Goals as goal
 
 pub loop-at-preserved : goal.loop-at-preserved
 loop-at-preserved c =
-    let slots = slots_of c.args.state.now c.args.frame in
+    let slots = stack_slots_of c.args.state.now c.args.frame in
     let end = c.args.slot + c.args.count in
     let written : marks_of (slot_at slots c.loop-at.at) ≡ 255 = ap marks_of (sym c.slot_of.ensures) ∙ (sym c.marks.ensures ∙ omega (arith, c.if-marks.false)) in
     let left = end - (c.loop-at.at + 1) in

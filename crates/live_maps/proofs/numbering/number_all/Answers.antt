@@ -4,7 +4,7 @@ use Rattle.std.specs.FinMap.{values}
 use Rattle.std.proofs.lemmas.List.{get_or_default}
 use Rattle.maps.specs.Maps.{IsMap, map_at}
 use Rattle.live_maps.specs.Live.{Serials, serials_at}
-use Rattle.live_maps.specs.Numbering.{Numbers, OnlyThere, count_before}
+use Rattle.live_maps.specs.Numbering.{NumbersAll, OnlyThere, count_before}
 use Rattle.live_maps.specs.Orders.{AreOrders, IsOrder, KeyOrder}
 use Rattle.live_maps.proofs.NumberingLaws.{numbers-next, only-next, rooms-next, count_before-suc, count_before-all}
 use Rattle.live_maps.proofs.OrderLaws.{AreOrders-numbered, CanNumber, can_number, order_found}
@@ -105,9 +105,9 @@ loop-m-preserved c =
     let maps_few = c.requires.few in
     let more = count_before-suc maps m (omega arith) in
     let long : length t ≡ length (serials_at all m) = done.len ∙ ap length (sym (here w)) in
-    let numbers : Numbers (count_before maps m) (values x.places) t =
-    subst (λ (n : ℕ). Numbers n (values x.places) t) next
-    (subst (λ (ps : List ℕ). Numbers c.loop-m.next ps t) k.order.places done.numbers) in
+    let numbers : NumbersAll (count_before maps m) (values x.places) t =
+    subst (λ (n : ℕ). NumbersAll n (values x.places) t) next
+    (subst (λ (ps : List ℕ). NumbersAll c.loop-m.next ps t) k.order.places done.numbers) in
     let q : KeyOrder = record { places = o.places; room = o.room; first = Some c.loop-m.next } in
     let now : IsOrder x t q = record {
       places = k.order.places;

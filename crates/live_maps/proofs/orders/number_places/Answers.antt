@@ -1,7 +1,7 @@
 use Rattle.std.proofs.Common.{◌∙◌, sym, ap, subst, ℕ, Option, length, arith}
 use Rattle.std.specs.Prelude.{IfSome}
 use Rattle.live_maps.specs.Live.{Serials}
-use Rattle.live_maps.specs.Numbering.{Numbers}
+use Rattle.live_maps.specs.Numbering.{NumbersAll}
 use Rattle.live_maps.specs.Orders.{NumbersFrom}
 use Rattle.live_maps.proofs.AboveLaws.{numbers-moved, length-moved}
 use Rattle.live_maps.proofs.orders.number_places.Goals as goal
@@ -15,7 +15,7 @@ returns-in-Some-clause-numbers c =
     let from = known.0 in
     let to = c.requires.few in
     let many = c.requires.many in
-    subst (λ (s : Serials). Numbers c.args.to places s) (sym c.shift.ensures)
+    subst (λ (s : Serials). NumbersAll c.args.to places s) (sym c.shift.ensures)
     (numbers-moved c.in-Some.from c.args.to places table (omega arith) (omega arith) known.1)
 
 pub returns-in-Some-clause-len : goal.returns-in-Some-clause-len

@@ -1,7 +1,7 @@
 use Rattle.std.proofs.Common.{◌≡◌, ◌≤◌, length, take, map}
 use Rattle.std.specs.Prelude.{vec_capacity}
 use Rattle.maps.specs.Contents.{content}
-use Rattle.maps.specs.Commands.{said, replies_of, left_by}
+use Rattle.maps.specs.Commands.{said, replies_of, content_left}
 use Rattle.maps.proofs.commands.replies.Given as goal
 
 abbrev pub invariant-loop-i : goal.invariant-loop-i
@@ -9,5 +9,5 @@ invariant-loop-i g l =
     let row = g.S.MapStore.row_of l.initial.store in
     let before = content row.value_size (g.S.MapStore.places l.initial.store) (g.S.MapStore.block l.initial.store) in
     (map said l.replies.items ≡ replies_of row before (take l.i l.commands))
-    × (content row.value_size (g.S.MapStore.places l.store) (g.S.MapStore.block l.store) ≡ left_by row before (take l.i l.commands))
+    × (content row.value_size (g.S.MapStore.places l.store) (g.S.MapStore.block l.store) ≡ content_left row before (take l.i l.commands))
     × (g.S.MapStore.row_of l.store ≡ row) × (length l.replies.items ≡ l.i) × (length l.commands ≤ vec_capacity l.replies)

@@ -1,5 +1,5 @@
 use Rattle.std.proofs.Common.{◌≡◌, refl, sym, ap, ◌∙◌, arith}
-use Rattle.isa_model.specs.declared.map_defs.MapKind.TheVariants.{Hash}
+use Rattle.isa_model.specs.declared.map_defs.MapType.TheVariants.{Hash}
 use Rattle.isa_model.specs.declared.map_defs.MapDef.{MapDef}
 use Rattle.isa_model.specs.Machine.MapContents.{enoent}
 use Rattle.map_indexes.proofs.SlotLaws.{remove_absent}

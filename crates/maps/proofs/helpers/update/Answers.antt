@@ -1,13 +1,14 @@
 use Rattle.std.proofs.Common.{◌≡◌, ◌<◌, ℕ, List, None, Some, refl, sym, subst, ◌∙◌}
 use Rattle.std.specs.FinMap.{get}
 use Rattle.isa_model.specs.declared.map_defs.MapDef.{MapDef}
-use Rattle.maps.specs.Changes.{Writes}
+use Rattle.maps.specs.Changes.{WritesPair}
 use Rattle.maps.proofs.UpdateLaws.{room_left, writes_present, writes_absent, content-writes, content-updates}
 use Rattle.maps.proofs.helpers.update.Goals as goal
 
 -- the new key's value is written, and its place is below the row's limit
 added : (g : _) (c : goal.After-put g)
-    → (w : Writes (g.S.MapStore.row_of c.args.store.now).value_size c.args.key.now c.args.value.now
+    → (w : WritesPair (g.S.MapStore.row_of c.args.store.now).value_size c.args.key.now
+    c.args.value.now
     (g.S.MapStore.places c.args.store.now) (g.S.MapStore.block c.args.store.now)
     (g.S.MapStore.places c.put.new.self) (g.S.MapStore.block c.put.new.self))
     × (w.place < (g.S.MapStore.row_of c.args.store.now).entries)

@@ -2,13 +2,13 @@ use Rattle.std.proofs.Common.{◌≡◌, ℕ, ◌+◌, ◌*◌, refl, sym, ap, �
 use Rattle.isa_model.specs.declared.sizes.Size.{Size}
 use Rattle.isa_model.specs.Code.Sizes.{size_bytes}
 use Rattle.reg_state.specs.Splices as S
-use Rattle.stack_state.specs.declared.slots.Slot.{Slot}
+use Rattle.stack_state.specs.declared.slots.StackSlot.{StackSlot}
 use Rattle.stack_state.specs.Slots.{marks_of, mask_of}
 use Rattle.stack_state.specs.NumberStores.{marks_after}
 use Rattle.stack_state.proofs.number_stores.stored.Goals as goal
 
 -- the marks of the slot with those of the bytes
-after : (s : Slot) (from : ℕ) (size : Size) (marks mask bytes : ℕ) → marks ≡ marks_of s → mask ≡ mask_of from (from + bytes) → bytes ≡ size_bytes size
+after : (s : StackSlot) (from : ℕ) (size : Size) (marks mask bytes : ℕ) → marks ≡ marks_of s → mask ≡ mask_of from (from + bytes) → bytes ≡ size_bytes size
     → bit_or marks mask ≡ marks_after s from size
 after s from size marks mask bytes old new count =
     ap (λ (m : ℕ). bit_or m mask) old ∙ ap (λ (m : ℕ). bit_or (marks_of s) m) (new ∙ ap (λ (n : ℕ). mask_of from (from + n)) count)

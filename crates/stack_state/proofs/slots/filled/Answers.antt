@@ -1,14 +1,15 @@
 use Rattle.std.proofs.Common.{◌≡◌, ℕ, refl, Some, sym, ap, ◌∙◌, subst}
 use Rattle.reg_state.specs.declared.scalars.Scalar.{Scalar}
 use Rattle.reg_state.specs.declared.kinds.Kind.TheVariants.{Number}
-use Rattle.stack_state.specs.declared.slots.Slot.{Slot}
-use Rattle.stack_state.specs.declared.slots.Slot.TheVariants.{Written}
+use Rattle.stack_state.specs.declared.slots.StackSlot.{StackSlot}
+use Rattle.stack_state.specs.declared.slots.StackSlot.TheVariants.{Written}
 use Rattle.stack_state.specs.Slots.{IsAny, IsFill}
 use Rattle.stack_state.proofs.slots.filled.Goals as goal
 
-all_written : (slot : Slot) (marks : ℕ) (numbers : Scalar) → slot ≡ Written marks → marks ≡ 255 → IsAny numbers → IsFill slot (Some (Number numbers))
+all_written : (slot : StackSlot) (marks : ℕ) (numbers : Scalar) → slot ≡ Written marks → marks ≡ 255 → IsAny numbers → IsFill slot (Some (Number numbers))
 all_written slot marks numbers is full any =
-    subst (λ (s : Slot). IsFill s (Some (Number numbers))) (sym (is ∙ ap Written full)) (refl, any)
+    subst (λ (s : StackSlot). IsFill s (Some (Number numbers))) (sym (is ∙ ap Written full))
+    (refl, any)
 
 pub returns-in-Written-eq255 : goal.returns-in-Written-eq255
 returns-in-Written-eq255 c =

@@ -1,5 +1,5 @@
 use Rattle.std.proofs.Common.{◌≡◌, take, replicate, length}
-use Rattle.stack_state.specs.declared.slots.Slot.TheVariants.{Written}
+use Rattle.stack_state.specs.declared.slots.StackSlot.TheVariants.{Written}
 use Rattle.stack_state.specs.Slots.{frame_slots}
 use Rattle.table_entries.proofs.loops.clear.Given as goal
 

@@ -1,6 +1,6 @@
 use Rattle.std.proofs.Common.{◌≡◌, ◌∙◌, ℕ, ◌*◌, replicate, ap, sym, arith}
 use Rattle.std.proofs.lemmas.List.{take_all}
-use Rattle.stack_state.specs.declared.slots.Slot.TheVariants.{Written}
+use Rattle.stack_state.specs.declared.slots.StackSlot.TheVariants.{Written}
 use Rattle.walks.proofs.forgetting.clear_slots.Goals as goal
 
 pub returns : goal.returns

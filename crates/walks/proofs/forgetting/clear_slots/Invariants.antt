@@ -1,11 +1,11 @@
 use Rattle.std.proofs.Common.{◌≡◌, ℕ, ◌+◌, ◌*◌, List, length, take, replicate}
 use Rattle.stack_state.specs.Slots.{frame_slots}
-use Rattle.stack_state.specs.declared.slots.Slot.{Slot}
-use Rattle.stack_state.specs.declared.slots.Slot.TheVariants.{Written}
+use Rattle.stack_state.specs.declared.slots.StackSlot.{StackSlot}
+use Rattle.stack_state.specs.declared.slots.StackSlot.TheVariants.{Written}
 use Rattle.walks.proofs.forgetting.clear_slots.Given as goal
 
 -- the slots below n are cleared
-abbrev pub AreCleared : ℕ → List Slot → Type 0
+abbrev pub AreCleared : ℕ → List StackSlot → Type 0
 AreCleared n slots = (length slots ≡ frame_slots) × (take n slots ≡ replicate n (Written 0))
 
 abbrev pub invariant-loop-block : goal.invariant-loop-block

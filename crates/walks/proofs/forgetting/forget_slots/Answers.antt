@@ -1,12 +1,12 @@
 use Rattle.std.proofs.Common.{◌≡◌, ℕ, ◌+◌, ◌*◌, List, arith, rules, subst}
 use Rattle.std.proofs.lemmas.Bool.{iff_false}
 use Rattle.isa_model.specs.Code.Instructions.{Program}
-use Rattle.stack_state.specs.declared.slots.Slot.{Slot}
+use Rattle.stack_state.specs.declared.slots.StackSlot.{StackSlot}
 use Rattle.walks.proofs.Forgotten.{SlotsLeftBelow, slots_left_live, slots_left_dead, slots_left_full, slots_left_empty}
 use Rattle.walks.proofs.forgetting.forget_slots.Goals as goal
 use Rattle.walks.proofs.forgetting.forget_slots.Goals.{then-not-has, else-not-has, then-is_empty_in+else-loop-place-test, else-is_empty_in+else-loop-place-else-is_empty_in-test}
 
-left_to : (p : Program) (slot n m : ℕ) (old new : List Slot) → n ≡ m
+left_to : (p : Program) (slot n m : ℕ) (old new : List StackSlot) → n ≡ m
     → SlotsLeftBelow p slot n old new → SlotsLeftBelow p slot m old new
 left_to p slot n m old new same left = subst (λ k. SlotsLeftBelow p slot k old new) same left
 

@@ -3,7 +3,7 @@ use Rattle.std.proofs.lemmas.List.{drop_all}
 use Rattle.state_index.specs.Parts.{unset_frame, all_written}
 use Rattle.explorer.specs.Pieces.{whole, few_of, pieces_of}
 use Rattle.state_index.proofs.PartLaws.{all_written-append}
-use Rattle.explorer.proofs.PieceLaws.{written-next}
+use Rattle.explorer.proofs.PieceLaws.{with_part-next}
 use Rattle.explorer.proofs.kept_frames.KeptFrame.restore.Goals as goal
 
 pub loop-index-init : goal.loop-index-init
@@ -21,7 +21,7 @@ loop-index-preserved c =
     let pieces = c.pieces-pieces.result.now in
     let i : ℕ = c.loop-index.index in
     ap (λ f. all_written f (whole (drop (i + 1) pieces))) (c.write_all-in-loop-index.ensures ∙ ap (all_written c.loop-index.frame) c.parts.ensures)
-    ∙ sym (written-next c.loop-index.frame pieces i c.index-pieces-index.result (omega arith) c.index-pieces-index.is)
+    ∙ sym (with_part-next c.loop-index.frame pieces i c.index-pieces-index.result (omega arith) c.index-pieces-index.is)
     ∙ c.loop-index.invariant
 
 pub returns : goal.returns

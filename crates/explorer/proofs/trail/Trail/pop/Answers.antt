@@ -1,6 +1,6 @@
 use Rattle.std.proofs.Common.{◌∙◌, ◌++◌, ◌∷◌, [], ap, sym, arith, length, length-append}
 use Rattle.explorer.specs.Trail.{Visits, visits_of}
-use Rattle.explorer.proofs.Trails.{visits_of-more, waiting-less, last_waits, length-visits_of}
+use Rattle.explorer.proofs.Trails.{visits_of-more, waiting_count-less, last_waits, length-visits_of}
 use Rattle.explorer.proofs.trail.Trail.pop.Goals as goal
 
 pub take_pending-pending-requires : goal.take_pending-pending-requires
@@ -9,7 +9,7 @@ take_pending-pending-requires c =
 
 pub invariant_of-self-2 : goal.invariant_of-self-2
 invariant_of-self-2 c =
-    waiting-less c.pop.new.self.items c.self.inside.steps.items c.in-Some.step c.take_pending-pending.new.pending.items c.self.inside.pending.items
+    waiting_count-less c.pop.new.self.items c.self.inside.steps.items c.in-Some.step c.take_pending-pending.new.pending.items c.self.inside.pending.items
     c.take_pending-pending.result c.self.invariant c.in-Some.ensures.items c.take_pending-pending.ensures.items c.take_pending-pending.ensures.waits
 
 pub returns-clause-items : goal.returns-clause-items

@@ -2,8 +2,8 @@ use Rattle.std.proofs.Common.{◌≡◌, ◌∙◌, ℕ, ◌≤◌, List, ◌++�
 use Rattle.std.specs.Prelude.{is_some, option_to_list}
 use Rattle.stack_state.specs.declared.states.State.{State}
 use Rattle.explorer.specs.declared.trail.Visit.{Visit}
-use Rattle.explorer.specs.Trail.{Visits, one_if, waiting}
-use Rattle.explorer.proofs.Trails.{visits_of-more, waiting-more}
+use Rattle.explorer.specs.Trail.{Visits, one_if, waiting_count}
+use Rattle.explorer.proofs.Trails.{visits_of-more, waiting_count-more}
 use Rattle.explorer.proofs.trail.Trail.push.Goals as goal
 
 pub returns-clause-items : goal.returns-clause-items
@@ -19,7 +19,7 @@ returns-clause-len c = ap length (returns-clause-items c) ∙ length-append c.ar
 
 pub invariant_of-self-in-Ok : goal.invariant_of-self-in-Ok
 invariant_of-self-in-Ok c =
-    waiting-more c.self.inside.steps.items c.push.new.self.items (record { best = c.args.visit.best; stored = c.in_ok-stored.stored; waits = c.is_some-waits.result })
+    waiting_count-more c.self.inside.steps.items c.push.new.self.items (record { best = c.args.visit.best; stored = c.in_ok-stored.stored; waits = c.is_some-waits.result })
     c.self.inside.pending.items c.put_pending.new.pending.items c.args.visit.pending c.self.invariant c.in-Ok.ensures.items c.in_ok-put_pending.ensures.items c.is_some-waits.ensures
 
 -- ---- a step for which there is no room
@@ -64,8 +64,8 @@ take_pending-state-requires c =
 pub invariant_of-self-in_default : goal.invariant_of-self-in_default
 invariant_of-self-in_default c =
     let same : c.push.new.self.items ≡ c.self.inside.steps.items = search rules in
-    ap waiting same
-    ∙ put_back (waiting c.self.inside.steps.items) c.self.inside.pending.items
+    ap waiting_count same
+    ∙ put_back (waiting_count c.self.inside.steps.items) c.self.inside.pending.items
     c.put_pending.new.pending.items c.take_pending-state.new.pending.items
     c.args.visit.pending c.take_pending-state.result c.is_some-waits.result
     c.self.invariant c.in_ok-put_pending.ensures.items c.take_pending-state.ensures.items

@@ -9,7 +9,7 @@ returns-clause-member c =
     let k = known c.args.self (omega arith) (omega arith) in
     rw c.least.ensures.value (most_member k)
 
-pub returns-clause-bound : goal.returns-clause-bound
-returns-clause-bound c = λ x hx.
+pub returns-clause-limit : goal.returns-clause-limit
+returns-clause-limit c = λ x hx.
     let k = known c.args.self (omega arith) (omega arith) in
     rw c.least.ensures.value (member_most k hx)

@@ -9,5 +9,5 @@ returns-clause-member c =
     let k = known c.args.self (omega arith) (omega arith) in
     least_member k
 
-pub returns-clause-bound : goal.returns-clause-bound
-returns-clause-bound c = λ x hx. member_least hx
+pub returns-clause-limit : goal.returns-clause-limit
+returns-clause-limit c = λ x hx. member_least hx

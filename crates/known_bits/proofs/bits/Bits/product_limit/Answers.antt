@@ -6,7 +6,7 @@ use Rattle.known_bits.proofs.bits.Bits.product_limit.Goals as goal
 
 pub returns-in-Some-clause-contains : goal.returns-in-Some-clause-contains
 returns-in-Some-clause-contains c = λ x y hx hy.
-    let high = mul-le x y c.greatest.result c.greatest-2.result (c.greatest.ensures.bound x hx) (c.greatest-2.ensures.bound y hy) in
+    let high = mul-le x y c.greatest.result c.greatest-2.result (c.greatest.ensures.limit x hx) (c.greatest-2.ensures.limit y hy) in
     let e = c.in-Some.ensures in
     rw (mod-eq_of_lt {n = x * y} {m = 2 ^ 64} (omega arith)) (c.between.ensures.contains _ (omega arith) (omega arith))
 

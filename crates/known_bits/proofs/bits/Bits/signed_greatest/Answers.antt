@@ -23,8 +23,8 @@ returns-then-self-ge-SIGN-clause-member c =
     simp (c.cast_signed.ensures, c.greatest.ensures.value, same)
     (other_sign (top - 2 ^ 63) k c.if-self-ge-SIGN.true (most_member k) (omega arith) (omega arith))
 
-pub returns-then-self-ge-SIGN-clause-bound : goal.returns-then-self-ge-SIGN-clause-bound
-returns-then-self-ge-SIGN-clause-bound c = λ x hx.
+pub returns-then-self-ge-SIGN-clause-limit : goal.returns-then-self-ge-SIGN-clause-limit
+returns-then-self-ge-SIGN-clause-limit c = λ x hx.
     let k = known c.args.self (omega arith) (omega arith) in
     let top = bit_or c.args.self.value c.args.self.mask in
     let o = or_lt 64 c.args.self.value c.args.self.mask k.value_in k.mask_in in
@@ -37,8 +37,8 @@ returns-else-self-ge-SIGN-clause-member c =
     let same = of_z-to_z w64 (bit_or c.args.self.value c.args.self.mask) (or_lt 64 c.args.self.value c.args.self.mask k.value_in k.mask_in) in
     simp (c.cast_signed-else-self-ge-SIGN.ensures, c.greatest-else-self-ge-SIGN.ensures.value, same) (most_member k)
 
-pub returns-else-self-ge-SIGN-clause-bound : goal.returns-else-self-ge-SIGN-clause-bound
-returns-else-self-ge-SIGN-clause-bound c = λ x hx.
+pub returns-else-self-ge-SIGN-clause-limit : goal.returns-else-self-ge-SIGN-clause-limit
+returns-else-self-ge-SIGN-clause-limit c = λ x hx.
     let k = known c.args.self (omega arith) (omega arith) in
     let same = of_z-to_z w64 (bit_or c.args.self.value c.args.self.mask) (or_lt 64 c.args.self.value c.args.self.mask k.value_in k.mask_in) in
     simp (c.cast_signed-else-self-ge-SIGN.ensures, c.greatest-else-self-ge-SIGN.ensures.value, same) (signed_greatest_known k c.if-self-ge-SIGN.false hx)

@@ -5,7 +5,7 @@ use Rattle.isa_model.specs.declared.map_defs.MapDef.{MapDef}
 use Rattle.isa_model.specs.Machine.MapContents.{delete_answer}
 use Rattle.maps.specs.Maps.{MapState, Deleted, map_at}
 use Rattle.live_maps.specs.Live.{Live, Serials, AreLive, content_at, serials_at, without}
-use Rattle.live_maps.specs.Orders.{IsKept, IsOrder, KeyOrder, places_without}
+use Rattle.live_maps.specs.Orders.{AreLiveMaps, IsOrder, KeyOrder, places_without}
 use Rattle.live_maps.proofs.ContentLaws.{live_of}
 use Rattle.live_maps.proofs.LiveLaws.{live-removed, live-same, deleted_there, delete_answer-live}
 use Rattle.live_maps.proofs.SearchLaws.{lookup-present}
@@ -162,9 +162,11 @@ invariant_of-self c =
     (AreOrders-changed i.maps new i.serials.items i.orders.items m
     (slice_set (serials_at i.serials.items m) c.in-Some.place None) q others
     c.self.invariant.2.long d.inside now c.self.invariant.3) in
-    subst (λ (n : ℕ). IsKept n (vec_capacity i.orders) i.next new c.take_away.new.all.items told)
+    subst (λ (n : ℕ). AreLiveMaps n
+    (vec_capacity i.orders) i.next new c.take_away.new.all.items told)
     (sym c.take_away.ensures.room)
-    (subst (λ (a : List Serials). IsKept (vec_capacity i.serials) (vec_capacity i.orders) i.next new
+    (subst (λ (a : List Serials). AreLiveMaps (vec_capacity i.serials)
+    (vec_capacity i.orders) i.next new
     a told) (sym c.take_away.ensures.taken) kept)
 
 pub invariant_of-self-in_default : goal.invariant_of-self-in_default
@@ -174,7 +176,8 @@ pub invariant_of-self-else-answer-eq0 : goal.invariant_of-self-else-answer-eq0
 invariant_of-self-else-answer-eq0 c =
     let w = goal.at.invariant_of-self-else-answer-eq0 c in
     let i = c.self.inside in
-    subst (λ (l : List MapState). IsKept (vec_capacity i.serials) (vec_capacity i.orders) i.next l
+    subst (λ (l : List MapState). AreLiveMaps (vec_capacity i.serials)
+    (vec_capacity i.orders) i.next l
     i.serials.items i.orders.items)
     (same w.Else-answer-eq0 (error_changed w.Else-answer-eq0)) c.self.invariant
 

@@ -1,7 +1,7 @@
 use Rattle.std.proofs.Common.{◌≡◌, ◌∙◌, sym, ap, subst, ℕ, Option, unwrap_or, arith}
 use Rattle.std.specs.Prelude.{IsSomeAnd, slice_get}
 use Rattle.isa_model.specs.declared.map_defs.MapDef.{MapDef}
-use Rattle.isa_model.specs.declared.map_defs.MapKind.TheVariants.{Array}
+use Rattle.isa_model.specs.declared.map_defs.MapType.TheVariants.{Array}
 use Rattle.isa_model.specs.Machine.Steps.{one_serial}
 use Rattle.live_maps.specs.Live.{Live, content_at}
 use Rattle.live_maps.proofs.ContentLaws.{rows_of-known}

@@ -6,7 +6,7 @@ use Rattle.isa_model.specs.Machine.MapContents.{update_answer}
 use Rattle.map_indexes.specs.PlaceKeys.{Places}
 use Rattle.maps.specs.Maps.{MapState, Updated, map_at}
 use Rattle.live_maps.specs.Live.{Live, Serials, AreLive, place_if_new, content_at, serials_at, with_bytes}
-use Rattle.live_maps.specs.Orders.{IsKept, IsOrder, KeyOrder}
+use Rattle.live_maps.specs.Orders.{AreLiveMaps, IsOrder, KeyOrder}
 use Rattle.live_maps.proofs.ContentLaws.{live_of}
 use Rattle.live_maps.proofs.LiveLaws.{live-updated, live-added, live-same, not_zero, updated_there, place_if_new-Some, place_if_new-None, update_answer-live}
 use Rattle.live_maps.proofs.OrderLaws.{AreOrders-changed, AreOrders-set, IsOrder-listed, order_found, remove-added}
@@ -231,11 +231,12 @@ invariant_of-self c =
     (added w.In-Some d).0
     (AreOrders-changed i.maps new i.serials.items i.orders.items m here q others
     c.self.invariant.2.long d.inside now c.self.invariant.3) in
-    subst (λ (n : ℕ). IsKept n (vec_capacity i.orders) (i.next + 1) new c.give_serial.new.all.items
+    subst (λ (n : ℕ). AreLiveMaps n (vec_capacity i.orders)
+    (i.next + 1) new c.give_serial.new.all.items
     told) (sym c.give_serial.ensures.room)
-    (subst (λ (a : List Serials). IsKept (vec_capacity i.serials) (vec_capacity i.orders)
+    (subst (λ (a : List Serials). AreLiveMaps (vec_capacity i.serials) (vec_capacity i.orders)
     (i.next + 1) new a told) (sym c.give_serial.ensures.given)
-    (subst (λ (n : ℕ). IsKept (vec_capacity i.serials) (vec_capacity i.orders) n new
+    (subst (λ (n : ℕ). AreLiveMaps (vec_capacity i.serials) (vec_capacity i.orders) n new
     (given w.In-Some) told) s kept))
 
 pub invariant_of-self-in_default : goal.invariant_of-self-in_default
@@ -259,7 +260,8 @@ pub invariant_of-self-else-answer-eq0 : goal.invariant_of-self-else-answer-eq0
 invariant_of-self-else-answer-eq0 c =
     let w = goal.at.invariant_of-self-else-answer-eq0 c in
     let i = c.self.inside in
-    subst (λ (l : List MapState). IsKept (vec_capacity i.serials) (vec_capacity i.orders) i.next l
+    subst (λ (l : List MapState). AreLiveMaps (vec_capacity i.serials)
+    (vec_capacity i.orders) i.next l
     i.serials.items i.orders.items)
     (sym (same w.Else-answer-eq0 (error_changed w.Else-answer-eq0))) c.self.invariant
 

@@ -1,7 +1,7 @@
 use Rattle.std.proofs.Common.{ap, ◌∙◌, arith}
 use Rattle.std.specs.Prelude.{slice_set, None}
 use Rattle.map_indexes.specs.PlaceKeys.{KeyTable}
-use Rattle.map_indexes.proofs.KeyLaws.{slots_of-unused}
+use Rattle.map_indexes.proofs.KeyLaws.{keys_by_place-unused}
 use Rattle.map_indexes.proofs.KeyLemmas.{table_places}
 use Rattle.map_indexes.proofs.keys.Keys.clear.Goals as goal
 
@@ -16,5 +16,5 @@ index_mut-requires c =
 pub returns-clause-slots : goal.returns-clause-slots
 returns-clause-slots c =
     let k = c.self.inside in
-    slots_of-unused k.size k.block.items 0 k.used.items c.args.place
+    keys_by_place-unused k.size k.block.items 0 k.used.items c.args.place
     ∙ ap (λ (t : KeyTable). slice_set t.slots c.args.place None) c.self.view_is

@@ -3,12 +3,12 @@ use Rattle.std.proofs.lemmas.List.{length-take, length-drop}
 use Rattle.std.specs.Prelude.{is_some}
 use Rattle.map_indexes.specs.Rows.{row_at}
 use Rattle.map_indexes.specs.RowLaws.{row_end}
-use Rattle.map_indexes.specs.PlaceKeys.{KeyTable, slot, slots_of}
+use Rattle.map_indexes.specs.PlaceKeys.{KeyTable, slot, keys_by_place}
 use Rattle.map_indexes.proofs.KeyLaws.{slot-used, used_inside}
 use Rattle.map_indexes.proofs.keys.Keys.key.Goals as goal
 
 -- the row of a place with a key ends in the block
-row_fits : (size : ℕ) (block : List ℕ) (used : List Bool) (t : KeyTable) (place : ℕ) → record { size = size; slots = slots_of size block 0 used } ≡ t
+row_fits : (size : ℕ) (block : List ℕ) (used : List Bool) (t : KeyTable) (place : ℕ) → record { size = size; slots = keys_by_place size block 0 used } ≡ t
     → is_some (slot t.slots place) ≡ true → length block ≡ length used * size → place * size + size ≤ length block
 row_fits size block used t place is some whole =
     let here = ap (λ (t : KeyTable). is_some (slot t.slots place)) is ∙ some in

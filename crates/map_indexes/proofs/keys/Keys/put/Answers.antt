@@ -2,8 +2,8 @@ use Rattle.std.proofs.Common.{◌≡◌, ℕ, ◌<◌, List, length, ap, sym, �
 use Rattle.std.specs.Prelude.{slice_set, Some}
 use Rattle.map_indexes.specs.Rows.{with_row}
 use Rattle.map_indexes.specs.RowLaws.{row_end, length-with_row}
-use Rattle.map_indexes.specs.PlaceKeys.{KeyTable, slots_of}
-use Rattle.map_indexes.proofs.KeyLaws.{slots_of-put}
+use Rattle.map_indexes.specs.PlaceKeys.{KeyTable, keys_by_place}
+use Rattle.map_indexes.proofs.KeyLaws.{keys_by_place-put}
 use Rattle.map_indexes.proofs.KeyLemmas.{table_places, lent_whole}
 use Rattle.map_indexes.proofs.keys.Keys.put.Goals as goal
 
@@ -51,6 +51,6 @@ returns-clause-slots c =
     c.put_bytes.ensures ∙ ap (λ (b : List ℕ). with_row k.size b p key) c.as_mut_slice.ensures.value in
     let whole : length c.put_bytes.new.block ≡ k.block.len =
     ap length back ∙ length-with_row k.size k.block.items p key n long c.self.invariant.0 inside ∙ sym c.self.invariant.0 ∙ sym k.block.ok.0 in
-    ap (λ (b : List ℕ). slots_of k.size b 0 (slice_set k.used.items p true)) (lent_whole c.put_bytes.new.block k.block.items k.block.len whole ∙ back)
-    ∙ slots_of-put k.size k.block.items p key n long c.self.invariant.0 inside 0 k.used.items p (omega arith) inside
+    ap (λ (b : List ℕ). keys_by_place k.size b 0 (slice_set k.used.items p true)) (lent_whole c.put_bytes.new.block k.block.items k.block.len whole ∙ back)
+    ∙ keys_by_place-put k.size k.block.items p key n long c.self.invariant.0 inside 0 k.used.items p (omega arith) inside
     ∙ ap (λ (t : KeyTable). slice_set t.slots p (Some key)) c.self.view_is

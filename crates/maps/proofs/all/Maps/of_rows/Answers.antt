@@ -2,7 +2,7 @@ use Rattle.std.proofs.Common.{◌≡◌, ℕ, ◌≤◌, ◌+◌, ◌++◌, ◌�
 use Rattle.std.specs.Prelude.{slice_index_or, vec_capacity, All}
 use Rattle.std.proofs.lemmas.List.{map-append, map_more, length-append, take_all}
 use Rattle.std.proofs.lemmas.List.Elements.{All-push}
-use Rattle.isa_model.specs.declared.map_defs.MapKind.TheVariants.{Hash}
+use Rattle.isa_model.specs.declared.map_defs.MapType.TheVariants.{Hash}
 use Rattle.isa_model.specs.declared.map_defs.MapDef.{MapDef}
 use Rattle.maps.specs.Either.{places_of}
 use Rattle.isa_model.specs.Code.MapRows.{IsRow}

@@ -1,7 +1,7 @@
 use Rattle.std.proofs.Common.{ℕ, ◌≡◌, ◌%◌, ◌<◌, ◌^◌, subst, ap, ◌∙◌, arith}
 use Rattle.std.proofs.Math.Nat.{mod-eq_of_lt}
-use Rattle.isa_model.specs.declared.sizes.Span.{Span}
-use Rattle.isa_model.specs.declared.sizes.Span.TheVariants.{B16, B32, B64}
+use Rattle.isa_model.specs.declared.sizes.SwapWidth.{SwapWidth}
+use Rattle.isa_model.specs.declared.sizes.SwapWidth.TheVariants.{B16, B32, B64}
 use Rattle.isa_model.specs.Code.Numbers.{reordered}
 use Rattle.isa_model.proofs.NumberLemmas.{reordered_below}
 use Rattle.isa_model.specs.Code.Sizes.{span_bits}
@@ -10,7 +10,7 @@ use Rattle.ranges.proofs.RangeLaws.{constant_tight}
 use Rattle.ranges.proofs.range.Range.reorder.Goals as goal
 
 -- low bytes that hold the low half are the low half
-low_part_same : (span : Span) (x : ℕ) → x % 2 ^ 32 < 2 ^ span_bits span → (x % 2 ^ span_bits span) % 2 ^ 32 ≡ x % 2 ^ 32
+low_part_same : (span : SwapWidth) (x : ℕ) → x % 2 ^ 32 < 2 ^ span_bits span → (x % 2 ^ span_bits span) % 2 ^ 32 ≡ x % 2 ^ 32
 low_part_same B16 x h = omega arith
 low_part_same B32 x h = omega arith
 low_part_same B64 x h = omega arith

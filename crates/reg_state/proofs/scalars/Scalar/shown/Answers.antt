@@ -4,8 +4,8 @@ use Rattle.reg_state.proofs.scalars.Scalar.shown.Goals as goal
 pub returns-clause-contains : goal.returns-clause-contains
 returns-clause-contains c = λ x h least greatest.
     let known = c.in-Some.ensures.common x h (c.between.ensures.contains x least greatest) in
-    let from = c.least.ensures.bound x known in
-    let to = c.greatest.ensures.bound x known in
+    let from = c.least.ensures.limit x known in
+    let to = c.greatest.ensures.limit x known in
     let max = c.max-from.ensures in
     let min = c.min-to.ensures in
     (known, omega arith, omega arith)

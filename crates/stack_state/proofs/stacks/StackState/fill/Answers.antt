@@ -1,7 +1,7 @@
 use Rattle.std.proofs.Common.{arith, subst}
 use Rattle.std.proofs.lemmas.List.{get_or_default}
-use Rattle.stack_state.specs.declared.slots.Slot.{Slot}
-use Rattle.stack_state.specs.declared.slots.Slot.TheVariants.{Written}
+use Rattle.stack_state.specs.declared.slots.StackSlot.{StackSlot}
+use Rattle.stack_state.specs.declared.slots.StackSlot.TheVariants.{Written}
 use Rattle.stack_state.specs.Slots.{IsFill}
 use Rattle.stack_state.proofs.FillLaws.{fills}
 use Rattle.stack_state.proofs.stacks.StackState.fill.Goals as goal
@@ -10,4 +10,4 @@ pub returns-clause-meant : goal.returns-clause-meant
 returns-clause-meant c =
     let slots = c.args.self.now.slots in
     let same = get_or_default slots c.args.slot c.index-self-slot.result (Written 0) (omega arith) in
-    fills slots c.args.slot c.filled.result c.requires (subst (λ (s : Slot). IsFill s c.filled.result) same c.filled.ensures)
+    fills slots c.args.slot c.filled.result c.requires (subst (λ (s : StackSlot). IsFill s c.filled.result) same c.filled.ensures)

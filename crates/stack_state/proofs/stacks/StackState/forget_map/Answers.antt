@@ -1,7 +1,7 @@
 use Rattle.std.proofs.Common.{arith, ◌≡◌, ◌≤◌, List, length, length-set, get_or, set, ap, sym, subst, ◌∙◌}
 use Rattle.std.proofs.lemmas.List.{get_or_default, take_all, drop_all, append-nil}
 use Rattle.std.proofs.lemmas.List.Edits.{map_over_more}
-use Rattle.stack_state.specs.declared.slots.Slot.{Slot}
+use Rattle.stack_state.specs.declared.slots.StackSlot.{StackSlot}
 use Rattle.stack_state.specs.Slots.{forgotten_slot, forgotten, frame_slots}
 use Rattle.stack_state.specs.StackMeaning.{ForgetsMap}
 use Rattle.stack_state.proofs.FillLaws.{forgets}
@@ -26,4 +26,4 @@ returns c =
     let count : length xs ≡ frame_slots = omega arith in
     let over : length xs ≤ c.loop-slot.slot = omega arith in
     let all : c.loop-slot.self.slots ≡ forgotten c.args.map xs = c.loop-slot.invariant.done ∙ (rw (take_all, drop_all, append-nil)) in
-    record { exact = all; meant = subst (λ (s : List Slot). ForgetsMap c.args.map xs s) (sym all) (forgets xs c.args.map count) }
+    record { exact = all; meant = subst (λ (s : List StackSlot). ForgetsMap c.args.map xs s) (sym all) (forgets xs c.args.map count) }

@@ -1,7 +1,7 @@
 use Rattle.std.proofs.Common.{arith, ℕ, ◌/◌, ◌%◌, ◌+◌, Some, subst}
 use Rattle.std.proofs.lemmas.List.{get_or_default}
-use Rattle.stack_state.specs.declared.slots.Slot.{Slot}
-use Rattle.stack_state.specs.declared.slots.Slot.TheVariants.{Written}
+use Rattle.stack_state.specs.declared.slots.StackSlot.{StackSlot}
+use Rattle.stack_state.specs.declared.slots.StackSlot.TheVariants.{Written}
 use Rattle.stack_state.specs.Slots.{AreMarked, AreNumbers}
 use Rattle.stack_state.specs.StackMeaning.{LoadsNumber}
 use Rattle.stack_state.proofs.StackLaws.{loads}
@@ -14,7 +14,7 @@ returns-then-is_bytes-clause-meant c =
     let same = get_or_default slots (at / 8) c.index-self-at.result (Written 0) (omega arith) in
     loads slots at c.args.size (Some c.numbers.result) c.requires.inside c.requires.in_slot (
       subst (λ (n : ℕ). AreMarked slots at (at + n)) c.bytes.ensures.value (c.is_bytes.ensures.exact.0 c.if-is_bytes.true),
-      subst (λ (s : Slot). AreNumbers s (at % 8) c.args.size c.numbers.result) same c.numbers.ensures,
+      subst (λ (s : StackSlot). AreNumbers s (at % 8) c.args.size c.numbers.result) same c.numbers.ensures,
     )
 
 pub returns-else-is_bytes-clause-meant : goal.returns-else-is_bytes-clause-meant

@@ -1,6 +1,6 @@
 use Rattle.std.proofs.Common.{arith, ◌≡◌, ℕ, ◌+◌, ◌/◌, ◌%◌, set, ap, ◌∙◌, bit_or}
 use Rattle.std.proofs.lemmas.List.{get_or_default}
-use Rattle.stack_state.specs.declared.slots.Slot.TheVariants.{Written}
+use Rattle.stack_state.specs.declared.slots.StackSlot.TheVariants.{Written}
 use Rattle.stack_state.specs.Slots.{slot_at, marks_of, mask_of}
 use Rattle.stack_state.proofs.StackLaws.{stores}
 use Rattle.stack_state.proofs.stacks.StackState.store.Goals as goal

@@ -1,8 +1,8 @@
 use Rattle.std.proofs.Common.{◌≡◌, ◌∙◌, ℕ, ◌-◌, take, length, sym, ap, arith}
 use Rattle.std.proofs.lemmas.Option.{get_or_from_slice_get}
 use Rattle.stack_state.specs.declared.states.State.{State}
-use Rattle.stack_state.specs.Meaning.{no_frame, frame_of, kind_at, registers_of}
-use Rattle.stack_state.proofs.MeaningLaws.{frame_of-caller}
+use Rattle.stack_state.specs.Meaning.{no_frame, abstract_frame_at, kind_at, registers_of}
+use Rattle.stack_state.proofs.MeaningLaws.{abstract_frame_at-caller}
 use Rattle.stack_state.specs.Effects.{map_kinds}
 use Rattle.stack_state.specs.Calls.{without_frame, resumed_of, left}
 use Rattle.stack_state.proofs.states.State.leave.Goals as goal
@@ -15,8 +15,8 @@ returns c =
     let forgotten : b ≡ map_kinds (without_frame (length a.callers.items)) a =
     c.learn.ensures ∙ ap (λ k. map_kinds (without_frame k) a) c.len-frame.ensures.value in
     let some = c.in-Some.ensures.len in
-    let caller : c.in-Some.caller ≡ frame_of b n =
-    sym (frame_of-caller b n (omega arith)
+    let caller : c.in-Some.caller ≡ abstract_frame_at b n =
+    sym (abstract_frame_at-caller b n (omega arith)
     ∙ get_or_from_slice_get b.callers.items n c.in-Some.caller no_frame (sym c.pop.ensures.value ∙ c.in-Some.is)) in
     let callee : State = record { slot = b.innermost.return_slot; callers = record { items = take n b.callers.items }; innermost = c.resume.new.self } in
     ap (λ l. record callee { callers = record { items = l } }) c.pop.ensures.rest

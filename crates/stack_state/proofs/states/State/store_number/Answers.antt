@@ -5,7 +5,7 @@ use Rattle.std.proofs.lemmas.Grind.{common_steps}
 use Rattle.arrayvec.specs.ArrayVec.{with_item}
 use Rattle.stack_state.specs.declared.states.AbstractFrame.{AbstractFrame}
 use Rattle.stack_state.specs.declared.states.State.{State}
-use Rattle.stack_state.specs.Meaning.{frame_of, slots_of}
+use Rattle.stack_state.specs.Meaning.{abstract_frame_at, stack_slots_of}
 use Rattle.stack_state.specs.Slots.{slot_at}
 use Rattle.stack_state.specs.Effects.{with_slots, with_frame}
 use Rattle.stack_state.proofs.states.State.store_number.Goals as goal
@@ -26,7 +26,7 @@ returns-in-Some c =
     let k : ℕ = c.args.at / 8 in
     let f : AbstractFrame = c.in-Some.caller.now in
     let inside : c.args.frame < length a.callers.items = grind (arith, common_steps) in
-    let same : frame_of a c.args.frame ≡ f = grind (arith, common_steps) in
+    let same : abstract_frame_at a c.args.frame ≡ f = grind (arith, common_steps) in
     let place : c.from.result ≡ c.args.frame = omega arith in
     let s = slot_at c.store_number.new.self.slots k in
     record {
@@ -35,7 +35,7 @@ returns-in-Some c =
       left = ap (λ i. record a { callers = with_item a.callers i (record f { stack = c.store_number.new.self }) }) place
           ∙ ap (λ l. record a { callers = with_item a.callers c.args.frame (with_slots f l) }) c.store_number.ensures.others
           ∙ ap (λ g. record a { callers = with_item a.callers c.args.frame (with_slots g (slice_set g.stack.slots k s)) }) (sym same)
-          ∙ sym (with_caller a c.args.frame (with_slots (frame_of a c.args.frame) (slice_set (slots_of a c.args.frame) k s)) inside);
+          ∙ sym (with_caller a c.args.frame (with_slots (abstract_frame_at a c.args.frame) (slice_set (stack_slots_of a c.args.frame) k s)) inside);
       meant = grind (arith, common_steps);
     }
 

@@ -1,7 +1,7 @@
 use Rattle.std.proofs.Common.{◌≡◌, Some, None, Ok, Err, drop, subst, arith}
 use Rattle.std.specs.Prelude.{slice_get, MatchOption}
 use Rattle.std.specs.Option.{option_map}
-use Rattle.table_entries.specs.declared.entries.Head.{Head}
+use Rattle.table_entries.specs.declared.entries.EntryHead.{EntryHead}
 use Rattle.table_entries.specs.Entries.{entry_in, entry_of}
 use Rattle.table_entries.specs.Tables.{TableView, entry_at}
 use Rattle.table_entries.proofs.Numbers.{allowed-in, read-at, stop-at, found-at}
@@ -21,7 +21,7 @@ returns-in-Ok-clause-entry c =
     let found = c.in_ok-place.ensures.lookup in
     let there : slice_get t.places c.args.index ≡ Some place =
     found-at t.places c.deref.result.now c.args.index place c.deref.ensures.value (omega arith) found.1 in
-    let read : entry_in p (drop place t.bytes) ≡ Ok (option_map (λ (h : Head). entry_of h c.read_entry.new.state) c.in-Ok.head, c.in-Ok.field-0-1.now) =
+    let read : entry_in p (drop place t.bytes) ≡ Ok (option_map (λ (h : EntryHead). entry_of h c.read_entry.new.state) c.in-Ok.head, c.in-Ok.field-0-1.now) =
     rw c.bytes_from.ensures at c.in-Ok.ensures in
     subst (λ (v : TableView). MatchOption c.in-Ok.head (entry_at p v c.args.index ≡ None) (λ head. entry_at p v c.args.index ≡ Some (entry_of head c.read_entry.new.state)))
     c.self.view_is (read-at p t c.args.index place c.in-Ok.head c.read_entry.new.state c.in-Ok.field-0-1.now there read)

@@ -2,7 +2,7 @@ use Rattle.std.proofs.Common.{◌++◌, ℕ, List, codes, ap}
 use Rattle.commands.specs.Causes.{cause_line}
 use Rattle.commands.specs.Statuses.{usage}
 use Rattle.commands.proofs.Written.{ok_text, err_text, err_behind}
-use Rattle.commands.proofs.outcomes.Outcome.say.Goals as goal
+use Rattle.commands.proofs.outcomes.TaskOutcome.say.Goals as goal
 
 pub returns-in_ok-write_bytes-in-WrongWords-clause-err : goal.returns-in_ok-write_bytes-in-WrongWords-clause-err
 returns-in_ok-write_bytes-in-WrongWords-clause-err g c =

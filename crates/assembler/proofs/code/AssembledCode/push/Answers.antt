@@ -1,18 +1,18 @@
 use Rattle.std.proofs.Common.{◌≡◌, ℕ, ◌+◌, ◌<◌, false, List, [], ◌∷◌, ◌++◌, length, refl, sym, ap, ◌∙◌, arith, inr, lt-ltb, not}
 use Rattle.isa_model.specs.declared.instructions.Insn.{Insn}
-use Rattle.isa_model.specs.Code.Instructions.{slots, slots_of}
+use Rattle.isa_model.specs.Code.Instructions.{slots, slots_filled}
 use Rattle.isa_model.specs.Code.Limits.{max_slots}
 use Rattle.image.proofs.CodeLaws.{length-slots-more}
 use Rattle.assembler.specs.Assembling.{has_room}
-use Rattle.assembler.proofs.code.Code.push.Goals as goal
+use Rattle.assembler.proofs.code.AssembledCode.push.Goals as goal
 
 -- one more instruction, counted
-counted_more : (is : List Insn) (i : Insn) (count : ℕ) → count ≡ length (slots is) → count + slots_of i ≡ length (slots (is ++ i ∷ []))
-counted_more is i count h = ap (λ n. n + slots_of i) h ∙ sym (length-slots-more is i)
+counted_more : (is : List Insn) (i : Insn) (count : ℕ) → count ≡ length (slots is) → count + slots_filled i ≡ length (slots (is ++ i ∷ []))
+counted_more is i count h = ap (λ n. n + slots_filled i) h ∙ sym (length-slots-more is i)
 
-too_many : (is : List Insn) (i : Insn) (count : ℕ) → count ≡ length (slots is) → max_slots < count + slots_of i → has_room (is ++ i ∷ []) ≡ false
+too_many : (is : List Insn) (i : Insn) (count : ℕ) → count ≡ length (slots is) → max_slots < count + slots_filled i → has_room (is ++ i ∷ []) ≡ false
 too_many is i count h more =
-    let e : count + slots_of i ≡ length (slots (is ++ i ∷ [])) = counted_more is i count h in
+    let e : count + slots_filled i ≡ length (slots (is ++ i ∷ [])) = counted_more is i count h in
     ap not (lt-ltb max_slots (length (slots (is ++ i ∷ []))) (omega (arith, e, more)))
 
 pub returns-then-count-gt-MAX_SLOTS : goal.returns-then-count-gt-MAX_SLOTS

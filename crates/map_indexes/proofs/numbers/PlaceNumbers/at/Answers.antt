@@ -1,8 +1,8 @@
 use Rattle.std.proofs.Common.{ℕ, List, length, Option, None, sym, ap, ◌∙◌, arith}
 use Rattle.std.proofs.lemmas.List.{get_or-map, get_or_read, length-map}
 use Rattle.std.specs.Prelude.{slice_index_or}
-use Rattle.map_indexes.specs.Numbers.{number_of}
-use Rattle.map_indexes.proofs.numbers.Numbers.at.Goals as goal
+use Rattle.map_indexes.specs.PlaceNumbers.{number_of}
+use Rattle.map_indexes.proofs.numbers.PlaceNumbers.at.Goals as goal
 
 pub index-requires : goal.index-requires
 index-requires c =

@@ -1,6 +1,6 @@
 use Rattle.std.proofs.Common.{◌≡◌, ◌∙◌, ◌+◌, arith, sym, subst}
-use Rattle.control_flow.proofs.Search.{AreBelow, below_more}
-use Rattle.control_flow.proofs.searches.Search.of_all.Goals as goal
+use Rattle.control_flow.proofs.SlotSearch.{AreBelow, below_more}
+use Rattle.control_flow.proofs.searches.SlotSearch.of_all.Goals as goal
 
 pub loop-slot-preserved : goal.loop-slot-preserved
 loop-slot-preserved c =

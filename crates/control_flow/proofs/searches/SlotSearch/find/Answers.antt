@@ -1,7 +1,7 @@
 use Rattle.std.proofs.Common.{◌≡◌, ◌<◌, ◌∙◌, false, length, get_or}
 use Rattle.control_flow.proofs.MarkLemmas.{read_at}
-use Rattle.control_flow.proofs.Search.{Extends-new}
-use Rattle.control_flow.proofs.searches.Search.find.Goals as goal
+use Rattle.control_flow.proofs.SlotSearch.{Extends-new}
+use Rattle.control_flow.proofs.searches.SlotSearch.find.Goals as goal
 
 pub returns-in_ok-push : goal.returns-in_ok-push
 returns-in_ok-push c =

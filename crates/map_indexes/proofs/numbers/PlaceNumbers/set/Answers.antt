@@ -1,8 +1,8 @@
 use Rattle.std.proofs.Common.{ℕ, List, length, Option, ap, ◌∙◌, arith}
 use Rattle.std.proofs.lemmas.List.{length-map, map-set}
 use Rattle.std.specs.Prelude.{slice_set}
-use Rattle.map_indexes.specs.Numbers.{number_of}
-use Rattle.map_indexes.proofs.numbers.Numbers.set.Goals as goal
+use Rattle.map_indexes.specs.PlaceNumbers.{number_of}
+use Rattle.map_indexes.proofs.numbers.PlaceNumbers.set.Goals as goal
 
 pub index_mut-requires : goal.index_mut-requires
 index_mut-requires c =

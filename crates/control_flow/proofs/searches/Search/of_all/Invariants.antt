@@ -1,5 +1,0 @@
-use Rattle.control_flow.proofs.Search.{AreBelow}
-use Rattle.control_flow.proofs.searches.Search.of_all.Given as goal
-
-abbrev pub invariant-loop-slot : goal.invariant-loop-slot
-invariant-loop-slot l = AreBelow l.slot l.frontier.items
