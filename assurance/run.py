@@ -6,10 +6,11 @@ usage: python3 assurance/run.py [--fit] [CRATE ..]
 assurance/CRATE/NAME.edit is an edit of crates/CRATE in the form of the gate's must-fail edits. The edits of each named
 crate (no name: of every crate) are tried on a copy of the repository, so nothing here changes. The libraries below a
 crate are taken as `rt check` or `rt lib` left them in crates/*/out, and built first where they are missing.
-The exit status is 0 if every edit is refused, else 1. With --fit nothing is proved: an edit whose old text is not in its
-file once is printed, and the status is 1 if there is one. That is in the gate.
+The exit status is 0 if every edit is refused, else 1. With --fit nothing is proved: an edit, of the gate's too, whose old
+text is not in its file once is printed, and the status is 1 if there is one. That is in the gate.
 """
 import argparse
+import glob
 import os
 import shutil
 import subprocess
@@ -25,10 +26,16 @@ def edits_of(crate):
     return sorted(name for name in os.listdir(folder) if name.endswith(".edit")) if os.path.isdir(folder) else []
 
 
-def unfit(crate, name):
+def all_edits_of(crate):
+    """Those of the gate, too, each as a path below the top."""
+    folders = (f"assurance/{crate}", f"crates/{crate}/must-fail")
+    return sorted(os.path.relpath(path, TOP) for folder in folders for path in glob.glob(f"{TOP}/{folder}/*.edit"))
+
+
+def unfit(crate, path):
     """Why an edit cannot be made: None, or a text."""
     file, old, texts = None, None, {}
-    with open(f"{TOP}/assurance/{crate}/{name}", encoding="utf-8") as edit:
+    with open(f"{TOP}/{path}", encoding="utf-8") as edit:
         lines = edit.read().splitlines()
     for line in lines:
         word, _, rest = line.partition(": ")
@@ -93,8 +100,9 @@ def main():
         if crate not in known:
             sys.exit(f"assurance/{crate} has no edits; there are: {' '.join(known)}")
     if given.fit:
-        edits = [(crate, name, unfit(crate, name)) for crate in crates for name in edits_of(crate)]
-        wrong = [f"assurance/{crate}/{name}: {why}" for crate, name, why in edits if why]
+        crates = given.crates or sorted({*os.listdir(f"{TOP}/assurance"), *os.listdir(f"{TOP}/crates")})
+        edits = [(path, unfit(crate, path)) for crate in crates for path in all_edits_of(crate)]
+        wrong = [f"{path}: {why}" for path, why in edits if why]
         last = f"{len(edits)} edits, {len(wrong)} that cannot be made"
     else:
         wrong = tried(crates)
