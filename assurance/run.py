@@ -29,7 +29,8 @@ def edits_of(crate):
 def all_edits_of(crate):
     """Those of the gate, too, each as a path below the top."""
     folders = (f"assurance/{crate}", f"crates/{crate}/must-fail")
-    return sorted(os.path.relpath(path, TOP) for folder in folders for path in glob.glob(f"{TOP}/{folder}/*.edit"))
+    paths = [path for folder in folders for path in glob.glob(f"{TOP}/{folder}/*.edit")]
+    return sorted(os.path.relpath(path, TOP) for path in paths)
 
 
 def unfit(crate, path):
@@ -100,7 +101,8 @@ def main():
         if crate not in known:
             sys.exit(f"assurance/{crate} has no edits; there are: {' '.join(known)}")
     if given.fit:
-        crates = given.crates or sorted({*os.listdir(f"{TOP}/assurance"), *os.listdir(f"{TOP}/crates")})
+        folders = {*os.listdir(f"{TOP}/assurance"), *os.listdir(f"{TOP}/crates")}
+        crates = given.crates or sorted(folders)
         edits = [(path, unfit(crate, path)) for crate in crates for path in all_edits_of(crate)]
         wrong = [f"{path}: {why}" for path, why in edits if why]
         last = f"{len(edits)} edits, {len(wrong)} that cannot be made"

@@ -39,7 +39,7 @@ fn failure_of(image: &Image, is_text: bool, mut out: &mut [u8]) -> Option<ErrorK
     }
 }
 
-/// An output with room for so many bytes has what came before it was full, and its failure is
+/// An output with room for n bytes has what came before it was full, and its failure is
 /// handed on.
 fn is_front(rt: &impl Abort, image: &Image, is_text: bool, whole: &[u8], room: usize) {
     let mut taken = [0; 99];

@@ -42,7 +42,7 @@ const FAILURES: [(Failure, ErrorKind); 3] = [
 /// How many bytes are written before: none, a part of the head, of entry 0, and of entry 1.
 const ROOMS: [usize; 5] = [0, 5, 8, 100, 371];
 
-/// What is answered where a writer fails after so many bytes, and what that took.
+/// What is answered where a writer fails after `room` bytes, and what it took.
 fn cut(
     alloc: Global,
     room: usize,
