@@ -22,7 +22,7 @@ use Rattle.isa_model.specs.declared.instructions.Insn.{Insn}
 use Rattle.isa_model.specs.declared.instructions.Insn.TheVariants.{Alu, Neg, MovSx, ByteSwap, LoadNumber, Load, LoadSx, StoreConstant, Store, Atomic, Exchange, CompareExchange, Jump, JumpLong, JumpIf, CallHelper, CallLocal, Exit}
 use Rattle.isa_model.specs.Code.Sizes.{width_size}
 use Rattle.isa_model.specs.Code.Spelling.{OperandFits}
-use Rattle.isa_model.specs.Text.CanonicalText.{reg_text, size_text, narrow_text, extension_text, extension_width, span_text, order_text, width_text, op_text, comparison_text, atomic_text, fetch_text, operand_text, offset_text, distance_text, line_of}
+use Rattle.isa_model.specs.Text.CanonicalText.{reg_text, size_text, signed_text, extension_text, extension_width, span_text, order_text, width_text, op_text, comparison_text, atomic_text, fetch_text, operand_text, offset_text, distance_text, line_of}
 use Rattle.lexer.specs.declared.tokens.Word.{Word}
 use Rattle.lexer.specs.declared.tokens.Word.TheVariants as word
 use Rattle.lexer.specs.declared.tokens.Sign.TheVariants as sign
@@ -33,7 +33,7 @@ use Rattle.assembler.specs.Labelled.{begins_map_line, begins_version_line, versi
 use Rattle.assembler.specs.Spells.{extends, assigns, changes, compares}
 use Rattle.assembler.proofs.PlainTexts.{◌>>=◌, keep, plain_statement, not-map-line, not-version-line, Parts, with_insn, takes, added, added_row, added_version, assembled}
 use Rattle.assembler.proofs.Digits.{hexadecimal-read}
-use Rattle.assembler.proofs.TokenReads.{draft, reg-read, size-read, narrow-read, extension-read, swap-read, fetch-read, exchange-read, compare-read, op-read, atomic-read, comparison-read, negative-read, signed_tokens, constant_tokens, operand_tokens, place_tokens, distance-read, near-read, constant-read, operand-read, place-read}
+use Rattle.assembler.proofs.TokenReads.{draft, reg-read, size-read, signed_size-read, extension-read, swap-read, fetch-read, exchange-read, compare-read, op-read, atomic-read, comparison-read, negative-read, signed_tokens, constant_tokens, operand_tokens, place_tokens, distance-read, near-read, constant-read, operand-read, place-read}
 use Rattle.assembler.proofs.FormReads.{alu-form, neg-form, extension-form, swap-form, wide-form, memory_tokens, load-form, extending-form, store-form, constant-form, lock-form, exchange_tokens, fetch-form, exchange-form, compare-form, jump-form, long-form, call-form, helper-form, exit-form, condition-form}
 
 -- ---- the end of a line
@@ -171,9 +171,9 @@ pub extending-line : (size : SignedSize) (d : Reg) (p : Place) (ps : Parts) (res
 unfolding line_of
 extending-line size d p ps rest h room =
     let tail : Bytes = 42 ∷ 41 ∷ 40 ∷ place_bytes p (41 ∷ 10 ∷ rest) in
-    ap (λ bs. assembled bs 0 (draft [] ps)) (place5 (reg_text Full64 d) (codes " = *(") (narrow_text size) (codes " *)(") (reg_text Full64 p.base) (codes " ") (offset_text p.offset) (codes ")\n") rest)
-    ∙ reg-read Full64 d 32 (61 ∷ 32 ∷ 42 ∷ 40 ∷ (narrow_text size ++ 32 ∷ tail)) [] ps refl
-    ∙ narrow-read size tail (reg Full64 d ∷ Signed sign.Assign ∷ Signed sign.Star ∷ Signed sign.Open ∷ []) ps
+    ap (λ bs. assembled bs 0 (draft [] ps)) (place5 (reg_text Full64 d) (codes " = *(") (signed_text size) (codes " *)(") (reg_text Full64 p.base) (codes " ") (offset_text p.offset) (codes ")\n") rest)
+    ∙ reg-read Full64 d 32 (61 ∷ 32 ∷ 42 ∷ 40 ∷ (signed_text size ++ 32 ∷ tail)) [] ps refl
+    ∙ signed_size-read size tail (reg Full64 d ∷ Signed sign.Assign ∷ Signed sign.Star ∷ Signed sign.Open ∷ []) ps
     ∙ place-read p 41 (10 ∷ rest) (reg Full64 d ∷ Signed sign.Assign ∷ before_place (word.SignExtended size)) ps h (lit< tt)
     ∙ end-read (reg Full64 d) (Signed sign.Assign ∷ memory_tokens (word.SignExtended size) p.base p.offset []) (LoadSx size d p) ps rest (extending-form size d p.base p.offset h) room
 

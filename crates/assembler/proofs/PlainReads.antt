@@ -26,7 +26,7 @@ use Rattle.isa_model.specs.declared.versions.Version.{Version as Edition}
 use Rattle.isa_model.specs.declared.versions.Version.TheVariants.{Two}
 use Rattle.assembler.specs.MapTests.{takes_row, objection_to_load, objection}
 use Rattle.assembler.specs.Naming.{NameUse}
-use Rattle.assembler.specs.Assembling.{ReadSoFar, TokenPlace, has_room, refused_at, begins_at, unless_wrong, unless_refused, is_first, ended, closed_behind, closed, accept, read_on}
+use Rattle.assembler.specs.Assembling.{ReadSoFar, TokenSpan, has_room, refused_at, begins_at, unless_wrong, unless_refused, is_first, ended, closed_behind, closed, accept, read_on}
 use Rattle.assembler.proofs.PlainTexts.{unnamed, unnamed_reading, plain_statement, no-insn, not-map-line, not-version-line, added, added_row, added_version, is_start}
 use Rattle.assembler.proofs.PlainTexts as plain
 
@@ -213,7 +213,7 @@ any-goes : (s : ReadSoFar) (version : Bool) (final : plain.StatementSoFar) → b
 any-goes s true final version more unused h = version-goes s (version_line s.tokens) final refl version unused h
 any-goes s false final version more unused h = more-goes s (begins_map_line (slice_get s.tokens 0)) final refl more unused h
 
-closed-at : (ts : List Token) (v : Edition) (ms : List MapDef) (ps : List TokenPlace) (is : List Insn) (ls : List (List ℕ × ℕ)) (us : List NameUse) (final : plain.StatementSoFar) → (us ≡ []) × (ls ≡ []) → plain.closed (record { tokens = ts; parts = record { version = v; maps = ms; insns = is } }) ≡ Some final → ReadsPlainly (closed (record { tokens = ts; places = ps; version = v; maps = ms; insns = is; labels = ls; uses = us })) final
+closed-at : (ts : List Token) (v : Edition) (ms : List MapDef) (ps : List TokenSpan) (is : List Insn) (ls : List (List ℕ × ℕ)) (us : List NameUse) (final : plain.StatementSoFar) → (us ≡ []) × (ls ≡ []) → plain.closed (record { tokens = ts; parts = record { version = v; maps = ms; insns = is } }) ≡ Some final → ReadsPlainly (closed (record { tokens = ts; places = ps; version = v; maps = ms; insns = is; labels = ls; uses = us })) final
 closed-at [] v ms ps is ls us final unused h = (record { tokens = []; places = []; version = v; maps = ms; insns = is; labels = ls; uses = us }, refl, same_some (record { tokens = []; parts = record { version = v; maps = ms; insns = is } }) final h, unused)
 closed-at (t ∷ ts) v ms ps is ls us final unused h =
     let s : ReadSoFar = record { tokens = t ∷ ts; places = ps; version = v; maps = ms; insns = is; labels = ls; uses = us } in

@@ -26,7 +26,7 @@ use Rattle.lexer.specs.declared.tokens.Token.{Token}
 use Rattle.lexer.specs.declared.tokens.Token.TheVariants.{Named, Number, Signed}
 use Rattle.assembler.specs.declared.readings.Reading.{Reading}
 use Rattle.assembler.specs.declared.wrong.Wrong.TheVariants.{Form, Range}
-use Rattle.assembler.specs.Operands.{keep, token_at, number_at, word_at, expect_at, op_of, atomic_op_of, comparison_of, width_of, extension_of, wide_within, signed_at, place_at, memory_at, argument_at, as_size, as_narrow, is_name, target_token, target_at, field_at, is_by_index, index_at, by_index_at}
+use Rattle.assembler.specs.Operands.{keep, token_at, number_at, word_at, expect_at, op_of, atomic_op_of, comparison_of, width_of, extension_of, wide_within, signed_at, place_at, memory_at, argument_at, as_size, as_signed, is_name, target_token, target_at, field_at, is_by_index, index_at, by_index_at}
 use Rattle.assembler.specs.Statements.{plain, is_wide, wide_at}
 use Rattle.assembler.specs.Spells.{assigns, changes, compares, extends, reg, IsSigned, field, IsTarget}
 use Rattle.assembler.proofs.SpellsTokens.{bind, kept, passed, At, token, number_at_token, word_at_token, expected, signed, based, HasTokensAt, equal, below, within}
@@ -216,9 +216,10 @@ pub size_in : (x : Word) (size : Size) → as_size x ≡ Ok size → x ≡ word.
 size_in (word.Unsigned q) size h = let same : q ≡ size = cc in ap word.Unsigned same
 size_in x size h = absurd (cc)
 
-pub narrow_in : (x : Word) (size : SignedSize) → as_narrow x ≡ Ok size → x ≡ word.SignExtended size
-narrow_in (word.SignExtended q) size h = let same : q ≡ size = cc in ap word.SignExtended same
-narrow_in x size h = absurd (cc)
+pub signed_size_in : (x : Word) (size : SignedSize) → as_signed x ≡ Ok size
+    → x ≡ word.SignExtended size
+signed_size_in (word.SignExtended q) size h = let same : q ≡ size = cc in ap word.SignExtended same
+signed_size_in x size h = absurd (cc)
 
 -- `ll`
 wide_word : (o : Option Token) → is_wide o ≡ true → o ≡ Some (Named word.Wide)

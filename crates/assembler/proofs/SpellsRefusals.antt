@@ -26,7 +26,7 @@ use Rattle.assembler.specs.Labels.{slot_in, with_label}
 use Rattle.assembler.specs.MapTests.{takes_row, objection_to_value, objection_to_load, objection}
 use Rattle.assembler.specs.Positions.{error_at}
 use Rattle.assembler.specs.Naming.{NameUse, aimed, or_too_far, distance, aim, aim_used, put, resolved}
-use Rattle.assembler.specs.Assembling.{ReadSoFar, TokenPlace, start, unless_wrong, refused_by, unless_refused, is_first, named_by, named, begins_at, refused_at, has_room, with_insn, ended, closed_behind, accept, next_lexeme, read_on, finished, error_in, program_in, assembled}
+use Rattle.assembler.specs.Assembling.{ReadSoFar, TokenSpan, start, unless_wrong, refused_by, unless_refused, is_first, named_by, named, begins_at, refused_at, has_room, with_insn, ended, closed_behind, accept, next_lexeme, read_on, finished, error_in, program_in, assembled}
 use Rattle.assembler.proofs.SpellsTexts.{SpellsSome, IsSpelled, SpellsSome-spelled_behind, closed_spells, joined, AtLexeme, OnLexeme, EachStatement}
 
 -- none of A1, A2 and A3
@@ -90,7 +90,7 @@ refused s k (Some p) e h = let same : refused_by s k p ≡ e = cc in (p, refl, a
 
 -- ---- the end of a statement
 
-labelled : (s : ReadSoFar) (place : Option TokenPlace) (e : Refusal) → named_by s place ≡ Err e → IsOtherError e.kind
+labelled : (s : ReadSoFar) (place : Option TokenSpan) (e : Refusal) → named_by s place ≡ Err e → IsOtherError e.kind
 labelled s None e h = absurd (cc)
 labelled s (Some place) e h =
     elim (split (refused_at place.0 (with_label s.labels place.1 (length (slots s.insns)))) _ e h) [
@@ -139,13 +139,13 @@ closed_refused s k e spells h =
 
 -- ---- texts
 
-accept_refused : (rest : ℕ → List Token → Type 0) (s : ReadSoFar) (x : Lexeme) (n : ℕ) (place : TokenPlace) (e : Refusal) → AtLexeme rest IsSpelled s.tokens x n → accept s x place ≡ Err e → IsOtherError e.kind
+accept_refused : (rest : ℕ → List Token → Type 0) (s : ReadSoFar) (x : Lexeme) (n : ℕ) (place : TokenSpan) (e : Refusal) → AtLexeme rest IsSpelled s.tokens x n → accept s x place ≡ Err e → IsOtherError e.kind
 accept_refused rest s Blank n place e each h = absurd (cc)
 accept_refused rest s End n place e each h = closed_refused s (label_length s.tokens) e each.0 h
 accept_refused rest s (Solid t) n place e each h = absurd (cc)
 
 -- what is left after what was accepted
-accept_left : (rest : ℕ → List Token → Type 0) (s : ReadSoFar) (x : Lexeme) (n : ℕ) (place : TokenPlace) (u : ReadSoFar) → AtLexeme rest IsSpelled s.tokens x n → accept s x place ≡ Ok u → rest (n - 1) u.tokens
+accept_left : (rest : ℕ → List Token → Type 0) (s : ReadSoFar) (x : Lexeme) (n : ℕ) (place : TokenSpan) (u : ReadSoFar) → AtLexeme rest IsSpelled s.tokens x n → accept s x place ≡ Ok u → rest (n - 1) u.tokens
 accept_left rest s Blank n place u each h = let same : s ≡ u = cc in subst (λ (v : ReadSoFar). rest (n - 1) v.tokens) same each
 accept_left rest s End n place u each h =
     let (spells, none) = closed_spells s (label_length s.tokens) u h in

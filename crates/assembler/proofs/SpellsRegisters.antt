@@ -24,11 +24,11 @@ use Rattle.lexer.specs.declared.tokens.Token.TheVariants.{Named, Number, Signed}
 use Rattle.assembler.specs.declared.readings.Reading.{Reading}
 use Rattle.assembler.specs.declared.wrong.Wrong.{Wrong}
 use Rattle.assembler.specs.declared.wrong.Wrong.TheVariants.{Form}
-use Rattle.assembler.specs.Operands.{◌>>=◌, token_at, sign_at, op_of, extension_of, number_at, word_at, expect_at, memory_at, argument_at, again_at, register_at, operand_at, index_at, by_index_at, field_at, as_narrow, same_register, wide_within}
+use Rattle.assembler.specs.Operands.{◌>>=◌, token_at, sign_at, op_of, extension_of, number_at, word_at, expect_at, memory_at, argument_at, again_at, register_at, operand_at, index_at, by_index_at, field_at, as_signed, same_register, wide_within}
 use Rattle.assembler.specs.Statements.{arithmetic, wide_at, wide, negated, extended, load_of, loaded, swapped, exchanged_place, fetched, exchanged, compared, map_loaded, map_value_loaded, moved_word, moved, assigned_by, assigned}
 use Rattle.assembler.specs.Spells.{assigns, extends, reg, IsSigned, place, memory, Spells}
 use Rattle.assembler.proofs.SpellsTokens.{bind, At, HasTokensAt, whole, token, signed_at_token, number_at_token, word_at_token, expected, registers, register, again, operand}
-use Rattle.assembler.proofs.SpellsParts.{memory_at_tokens, argument_at_tokens, field_at_token, index_at_tokens, by_index_at_tokens, op_in, extension_in, narrow_in, wide_at_token, wide_number, wide_negative, ends_at}
+use Rattle.assembler.proofs.SpellsParts.{memory_at_tokens, argument_at_tokens, field_at_token, index_at_tokens, by_index_at_tokens, op_in, extension_in, signed_size_in, wide_at_token, wide_number, wide_negative, ends_at}
 
 -- what was read is what is spelled
 abbrev pub SaysSpelled : List Token → Reading → Type 0
@@ -92,14 +92,14 @@ negated_says ts w d (Signed s) r first second third h = negative_says ts w d r f
 extended_says : (ts : List Token) (w : Width) (d : Reg) (r : Reading) → At ts 0 (reg w d) → At ts 1 (Signed sign.Assign) → At ts 2 (Signed sign.Open) → extended w d ts ≡ Ok r → SaysSpelled ts r
 unfolding Spells
 extended_says ts w d r first second third h =
-    let (e, front, h1) = bind (word_at ts 3 >>= as_narrow >>= extension_of w) _ r h in
-    let (size, sized, extends_it) = bind (word_at ts 3 >>= as_narrow) (extension_of w) e front in
-    let (x, found, narrow) = bind (word_at ts 3) as_narrow size sized in
+    let (e, front, h1) = bind (word_at ts 3 >>= as_signed >>= extension_of w) _ r h in
+    let (size, sized, extends_it) = bind (word_at ts 3 >>= as_signed) (extension_of w) e front in
+    let (x, found, narrow) = bind (word_at ts 3) as_signed size sized in
     let (u, closes, h2) = bind (expect_at ts 4 sign.Close) _ r h1 in
     let (s, source, last) = bind (register_at w ts 5) _ r h2 in
     let (len, same) = ends_at ts (MovSx e d s) 6 r last in
     let (width, part) = extension_in w size e extends_it in
-    let fourth : At ts 3 (Named (word.SignExtended size)) = word_at_token ts 3 x found ∙ ap (λ (y : Word). let o : Option Token = Some (Named y) in o) (narrow_in x size narrow) in
+    let fourth : At ts 3 (Named (word.SignExtended size)) = word_at_token ts 3 x found ∙ ap (λ (y : Word). let o : Option Token = Some (Named y) in o) (signed_size_in x size narrow) in
     let all = whole ts (reg w d ∷ Signed sign.Assign ∷ Signed sign.Open ∷ Named (word.SignExtended size) ∷ Signed sign.Close ∷ reg w s ∷ [])
     (first, (second, (third, (fourth, (expected ts 4 sign.Close u closes, (register ts w 5 s source, tt)))))) len in
     says ts (MovSx e d s) r same (

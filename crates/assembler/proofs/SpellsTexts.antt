@@ -22,7 +22,7 @@ use Rattle.assembler.specs.Operands.{◌>>=◌, number_at, word_at, as_kind, fie
 use Rattle.assembler.specs.Statements.{statement_of, map_line}
 use Rattle.assembler.specs.Labelled.{begins_map_line, begins_version_line, version_number, version_line, spelled, spelled_behind, label_length}
 use Rattle.assembler.specs.MapTests.{objection}
-use Rattle.assembler.specs.Assembling.{ReadSoFar, TokenPlace, start, unless_wrong, unless_refused, is_first, named, begins_at, refused_at, with_insn, ended, closed_behind, accept, next_lexeme, read_on, error_in, program_in, assembled}
+use Rattle.assembler.specs.Assembling.{ReadSoFar, TokenSpan, start, unless_wrong, unless_refused, is_first, named, begins_at, refused_at, with_insn, ended, closed_behind, accept, next_lexeme, read_on, error_in, program_in, assembled}
 use Rattle.assembler.specs.Spells.{Spells}
 use Rattle.assembler.proofs.SpellsTokens.{bind, kept, passed, equal, At, whole, number_at_token, word_at_token}
 use Rattle.assembler.proofs.SpellsReads.{Spells-statement_of}
@@ -186,7 +186,7 @@ lexeme_found None e p h = absurd (cc)
 pub joined : (r u : ReadSoFar) → (let o : Result ReadSoFar Refusal = Ok r in o) ≡ Ok u → r.tokens ≡ u.tokens
 joined r u h = let same : r ≡ u = cc in ap (λ (v : ReadSoFar). v.tokens) same
 
-accepted : (rest : ℕ → List Token → Type 0) (s : ReadSoFar) (x : Lexeme) (n : ℕ) (place : TokenPlace) (u : ReadSoFar) → accept s x place ≡ Ok u → rest (n - 1) u.tokens → AtLexeme rest IsSpelled s.tokens x n
+accepted : (rest : ℕ → List Token → Type 0) (s : ReadSoFar) (x : Lexeme) (n : ℕ) (place : TokenSpan) (u : ReadSoFar) → accept s x place ≡ Ok u → rest (n - 1) u.tokens → AtLexeme rest IsSpelled s.tokens x n
 accepted rest s Blank n place u h on = let same : s ≡ u = cc in subst (λ (v : ReadSoFar). rest (n - 1) v.tokens) (sym same) on
 accepted rest s End n place u h on =
     let (spells, none) = closed_spells s (label_length s.tokens) u h in

@@ -31,7 +31,7 @@ use Rattle.assembler.proofs.MapReads.{row-read, line-read}
 
 -- ---- map lines
 
--- the row has a place among the rows of an image
+-- there is room for the row among the rows of an image
 row-taken : (before rows : List MapDef) (row : MapDef) → IsRow row → length (before ++ row ∷ rows) ≤ max_maps → sum_by room_of (before ++ row ∷ rows) ≤ max_map_room → takes_row [] before row ≡ true
 row-taken before rows row h few room =
     let long : length (before ++ row ∷ rows) ≡ length before + suc (length rows) = length-append before (row ∷ rows) in

@@ -29,7 +29,7 @@ use Rattle.isa_model.specs.declared.instructions.Place.{Place}
 use Rattle.isa_model.specs.declared.map_defs.MapType.{MapType}
 use Rattle.isa_model.specs.declared.map_defs.MapType.TheVariants.{Hash, Array}
 use Rattle.isa_model.specs.Code.Spelling.{OperandFits}
-use Rattle.isa_model.specs.Text.CanonicalText.{reg_text, size_text, narrow_text, extension_text, span_text, order_text, width_text, op_text, comparison_text, atomic_text, fetch_text, operand_text, offset_text, distance_text, kind_text}
+use Rattle.isa_model.specs.Text.CanonicalText.{reg_text, size_text, signed_text, extension_text, span_text, order_text, width_text, op_text, comparison_text, atomic_text, fetch_text, operand_text, offset_text, distance_text, kind_text}
 use Rattle.lexer.specs.declared.tokens.Word.TheVariants as word
 use Rattle.lexer.specs.declared.tokens.Sign.TheVariants as sign
 use Rattle.lexer.specs.declared.tokens.Token.{Token}
@@ -45,7 +45,7 @@ use Rattle.assembler.proofs.Digits.{decimal-read, no-equals}
 abbrev pub draft : List Token → Parts → StatementSoFar
 draft ts ps = record { tokens = ts; parts = ps }
 
--- ---- registers, followed by a byte of no word
+-- ---- registers, before a byte that is part of no word
 
 reg-lexeme : (w : Width) (r : Reg) (c : ℕ) (rest : List ℕ) → is_word_byte c ≡ false → lexeme_at (reg_text w r ++ c ∷ rest) ≡ Some (Solid (Named (word.Register w r)), length (reg_text w r))
 reg-lexeme Low32 R0 c rest h = rw h refl
@@ -86,10 +86,10 @@ size-read U16 rest ts ps = refl
 size-read U32 rest ts ps = refl
 size-read U64 rest ts ps = refl
 
-pub narrow-read : (size : SignedSize) (rest : List ℕ) (ts : List Token) (ps : Parts) → assembled (narrow_text size ++ 32 ∷ rest) 0 (draft ts ps) ≡ assembled (32 ∷ rest) 0 (draft (ts ++ Named (word.SignExtended size) ∷ []) ps)
-narrow-read S8 rest ts ps = refl
-narrow-read S16 rest ts ps = refl
-narrow-read S32 rest ts ps = refl
+pub signed_size-read : (size : SignedSize) (rest : List ℕ) (ts : List Token) (ps : Parts) → assembled (signed_text size ++ 32 ∷ rest) 0 (draft ts ps) ≡ assembled (32 ∷ rest) 0 (draft (ts ++ Named (word.SignExtended size) ∷ []) ps)
+signed_size-read S8 rest ts ps = refl
+signed_size-read S16 rest ts ps = refl
+signed_size-read S32 rest ts ps = refl
 
 pub extension-read : (e : Extension) (rest : List ℕ) (ts : List Token) (ps : Parts) → assembled (extension_text e ++ 41 ∷ rest) 0 (draft ts ps) ≡ assembled (41 ∷ rest) 0 (draft (ts ++ Named (word.SignExtended (extends e).1) ∷ []) ps)
 extension-read Low8 rest ts ps = refl

@@ -30,14 +30,14 @@ use Rattle.assembler.specs.Naming.{NameUse, resolved}
 use Rattle.assembler.specs.Positions.{error_at}
 
 -- where a token begins in the text, and its bytes
-abbrev pub TokenPlace : Type 0
-TokenPlace = ℕ × List ℕ
+abbrev pub TokenSpan : Type 0
+TokenSpan = ℕ × List ℕ
 
 -- what was read so far
 pub record ReadSoFar : Type 0 where
   -- the tokens of the statement, and where they are
   pub tokens : List Token
-  pub places : List TokenPlace
+  pub places : List TokenSpan
   -- the version, the map rows and the instructions before it
   pub version : Version
   pub maps : List MapDef
@@ -51,7 +51,7 @@ start = record { tokens = []; places = []; version = One; maps = []; insns = [];
 
 -- ---- refusals
 
-abbrev pub offset_or : Option TokenPlace → ℕ → ℕ
+abbrev pub offset_or : Option TokenSpan → ℕ → ℕ
 offset_or (Some place) otherwise = place.0
 offset_or None otherwise = otherwise
 
@@ -95,26 +95,26 @@ abbrev pub with_insn : List Insn → Insn → Result (List Insn) AsmErrorKind
 with_insn insns i = if has_room (insns ++ i ∷ []) then Ok (insns ++ i ∷ []) else Err SlotCount
 
 -- the next instruction uses the name there
-abbrev pub with_use : ReadSoFar → Option TokenPlace → List NameUse
+abbrev pub with_use : ReadSoFar → Option TokenSpan → List NameUse
 with_use s None = s.uses
 with_use s (Some place) =
     s.uses ++ (record { index = length s.insns; slot = length (slots s.insns); name = place.1; offset = place.0 }) ∷ []
 
 -- the name of the instruction's target, if it has one; k tokens come before the instruction
-abbrev pub name_place : ReadSoFar → ℕ → Option ℕ → Option TokenPlace
-name_place s k None = None
-name_place s k (Some i) = slice_get s.places (i + k)
+abbrev pub name_span : ReadSoFar → ℕ → Option ℕ → Option TokenSpan
+name_span s k None = None
+name_span s k (Some i) = slice_get s.places (i + k)
 
 -- the statement's instruction is added; k tokens come before it
 abbrev pub added : ReadSoFar → ℕ → Reading → Result ReadSoFar Refusal
 added s k r =
     refused_at (begins_at s) (with_insn s.insns r.insn)
-    >>= λ insns. Ok (record { tokens = []; places = []; version = s.version; maps = s.maps; insns = insns; labels = s.labels; uses = with_use s (name_place s k r.name) })
+    >>= λ insns. Ok (record { tokens = []; places = []; version = s.version; maps = s.maps; insns = insns; labels = s.labels; uses = with_use s (name_span s k r.name) })
 
 -- ---- labels
 
 -- the name is defined as the next slot
-abbrev pub named_by : ReadSoFar → Option TokenPlace → Result ReadSoFar Refusal
+abbrev pub named_by : ReadSoFar → Option TokenSpan → Result ReadSoFar Refusal
 named_by s None = Ok s
 named_by s (Some place) =
     refused_at place.0 (with_label s.labels place.1 (length (slots s.insns)))
@@ -154,8 +154,8 @@ closed_behind s k =
 abbrev pub closed : ReadSoFar → Result ReadSoFar Refusal
 closed s = closed_behind s (label_length s.tokens)
 
--- the next lexeme of the text, at that place
-abbrev pub accept : ReadSoFar → Lexeme → TokenPlace → Result ReadSoFar Refusal
+-- the next lexeme of the text, which begins there and has these bytes
+abbrev pub accept : ReadSoFar → Lexeme → TokenSpan → Result ReadSoFar Refusal
 accept s Blank place = Ok s
 accept s End place = closed s
 accept s (Solid t) place =

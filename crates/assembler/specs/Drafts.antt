@@ -4,16 +4,16 @@ use Rattle.assembler.specs.declared.draft.Draft.{Draft}
 use Rattle.assembler.specs.declared.draft.Span.{Span}
 use Rattle.assembler.specs.Labels.{label_of}
 use Rattle.assembler.specs.Naming.{use_of}
-use Rattle.assembler.specs.Assembling.{TokenPlace, ReadSoFar}
+use Rattle.assembler.specs.Assembling.{TokenSpan, ReadSoFar}
 
-abbrev pub place_of : Span → TokenPlace
-place_of span = (span.offset, span.bytes.now)
+abbrev pub span_of : Span → TokenSpan
+span_of span = (span.offset, span.bytes.now)
 
 abbrev pub progress_of : Draft → ReadSoFar
 progress_of d =
     record {
       tokens = d.tokens.items;
-      places = map place_of d.spans.items;
+      places = map span_of d.spans.items;
       version = d.version;
       maps = d.maps.items;
       insns = d.code.insns.items;

@@ -13,8 +13,8 @@ use Rattle.assembler.specs.declared.wrong.Objection.{Objection}
 
 -- ---- map lines
 
--- whether the row may follow these: no instruction comes before it, it is one of the 16, and it is
--- within the limits of a row and of all rows
+-- whether the row may follow these: no instruction comes before it, with it the rows are at most
+-- MAX_MAPS, and it is within the limits of a row and of all rows
 abbrev pub takes_row : List Insn → List MapDef → MapDef → Bool
 takes_row insns maps row =
     (length insns == 0) && (nat_lt (length maps) MAX_MAPS && (row_fits row && nat_le (sum_by room_of maps + room_of row) MAX_MAP_ROOM))

@@ -57,7 +57,8 @@ abbrev pub put : NameUse → List Insn → Result Insn AsmErrorKind → Result (
 put u is (Ok i) = Ok (slice_set is u.index i)
 put u is (Err kind) = Err (record { kind = kind; offset = u.offset })
 
--- the instructions with the distances of the names that they use; the first use that is wrong is refused, at its place
+-- the instructions with the distances of the names that they use; the first use that is wrong is
+-- refused, at its offset
 abbrev pub resolved : (List ℕ → Option ℕ) → List NameUse → List Insn → Result (List Insn) Refusal
 resolved slot_of [] is = Ok is
 resolved slot_of (u ∷ us) is = put u is (aim_used slot_of u (slice_get is u.index)) >>= λ next. resolved slot_of us next

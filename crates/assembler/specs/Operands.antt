@@ -214,9 +214,9 @@ abbrev pub as_size : Word → Result Size Wrong
 as_size (word.Unsigned size) = Ok size
 as_size x = Err Form
 
-abbrev pub as_narrow : Word → Result SignedSize Wrong
-as_narrow (word.SignExtended size) = Ok size
-as_narrow x = Err Form
+abbrev pub as_signed : Word → Result SignedSize Wrong
+as_signed (word.SignExtended size) = Ok size
+as_signed x = Err Form
 
 -- ---- targets: a distance, or the index of a name in its place
 

@@ -23,7 +23,7 @@ use Rattle.lexer.specs.declared.tokens.Token.TheVariants.{Named, Number, Signed}
 use Rattle.assembler.specs.declared.readings.Reading.{Reading}
 use Rattle.assembler.specs.declared.wrong.Wrong.{Wrong}
 use Rattle.assembler.specs.declared.wrong.Wrong.TheVariants.{Form}
-use Rattle.assembler.specs.Operands.{◌>>=◌, keep, token_at, sign_at, number_at, word_at, expect_at, op_of, atomic_op_of, comparison_of, width_of, extension_of, wide_within, signed_at, constant_at, same_register, as_register, register_at, again_at, operand_at, memory_at, argument_at, as_size, as_narrow, target_at, field_at, as_kind, index_at, by_index_at}
+use Rattle.assembler.specs.Operands.{◌>>=◌, keep, token_at, sign_at, number_at, word_at, expect_at, op_of, atomic_op_of, comparison_of, width_of, extension_of, wide_within, signed_at, constant_at, same_register, as_register, register_at, again_at, operand_at, memory_at, argument_at, as_size, as_signed, target_at, field_at, as_kind, index_at, by_index_at}
 
 -- an instruction without a name, that ends before index n
 abbrev pub plain : Insn → List Token → ℕ → Result Reading Wrong
@@ -61,7 +61,7 @@ negated w d ts t = number_or_wide w d ts true 3
 -- ( size ) R
 abbrev pub extended : Width → Reg → List Token → Result Reading Wrong
 extended w d ts =
-    word_at ts 3 >>= as_narrow >>= extension_of w >>= λ e. expect_at ts 4 sign.Close >>= λ u. register_at w ts 5 >>= λ s. plain (insn.MovSx e d s) ts 6
+    word_at ts 3 >>= as_signed >>= extension_of w >>= λ e. expect_at ts 4 sign.Close >>= λ u. register_at w ts 5 >>= λ s. plain (insn.MovSx e d s) ts 6
 
 abbrev pub load_of : Reg → Place → Word → Result Insn Wrong
 load_of d p (word.Unsigned size) = Ok (insn.Load size d p)

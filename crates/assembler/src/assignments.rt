@@ -8,7 +8,7 @@ use super::operands::{
     again_at, argument_at, memory_at, operand_at, register_at, same_register, wide_within,
 };
 use super::parts::{
-    as_narrow, expect_at, extension_of, is_full, number_at, op_of, sign_at, token_at, token_in,
+    as_signed, expect_at, extension_of, is_full, number_at, op_of, sign_at, token_at, token_in,
     word_at,
 };
 use super::readings::Reading;
@@ -97,7 +97,7 @@ fn negated(width: Width, register: Reg, tokens: &[Token], token: Token) -> Resul
 fn extended(width: Width, register: Reg, tokens: &[Token]) -> Result<Reading, Wrong>
     ensures { result ≡ extended width register tokens.now }
 {
-    let extension = extension_of(width, as_narrow(word_at(tokens, 3)?)?)?;
+    let extension = extension_of(width, as_signed(word_at(tokens, 3)?)?)?;
     expect_at(tokens, 4, Sign::Close)?;
     let source = register_at(width, tokens, 5)?;
     plain(Insn::MovSx(extension, register, source), tokens, 6)

@@ -6,7 +6,7 @@ ghost use Rattle.assembler.specs.declared.errors.AsmErrorKind.TheVariants as Asm
 ghost use Rattle.assembler.specs.declared.readings.Statement.TheVariants as Statement;
 ghost use Rattle.assembler.specs.Labelled.{is_label, label_length, has_form};
 ghost use Rattle.assembler.specs.Assembling.{start, accept, closed, ended, added, named, is_first, with_use, refused_by, refusal_of, offset_or, Answers};
-ghost use Rattle.assembler.specs.Drafts.{place_of, progress_of};
+ghost use Rattle.assembler.specs.Drafts.{span_of, progress_of};
 ghost use Rattle.assembler.specs.Naming.{use_of};
 
 use super::code::AssembledCode;
@@ -71,7 +71,7 @@ impl<'a> Draft<'a> {
     /// Takes the next lexeme of the text.
     pub fn accept(&mut self, lexeme: Lexeme, span: Span<'a>) -> Result<(), Refusal>
         ensures { Answers (λ _. progress_of self.new) result
-            (accept (progress_of self.old) lexeme (place_of span.entry)) }
+            (accept (progress_of self.old) lexeme (span_of span.entry)) }
     {
         match lexeme {
             Lexeme::Blank => Ok(()),
@@ -82,10 +82,10 @@ impl<'a> Draft<'a> {
 
     fn take(&mut self, token: Token, span: Span<'a>) -> Result<(), Refusal>
         ensures exact { Answers (λ _. progress_of self.new) result
-            (accept (progress_of self.old) (Lexeme.Solid token) (place_of span.entry)) }
+            (accept (progress_of self.old) (Lexeme.Solid token) (span_of span.entry)) }
         ensures place { IfErr result
             (λ e. e.offset
-            ≡ offset_or (slice_get (map place_of self.old.spans.items) 0) span.entry.offset) }
+            ≡ offset_or (slice_get (map span_of self.old.spans.items) 0) span.entry.offset) }
     {
         let offset = self.offset_of(0, span.offset);
         match (self.spans.push(span), self.tokens.push(token)) {
@@ -143,7 +143,7 @@ impl<'a> Draft<'a> {
         ensures exact { Answers (λ _. progress_of self.new) result
             (ended (progress_of self.old) 0 (Statement.Row row)) }
         ensures place { IfErr result
-            (λ e. e.offset ≡ offset_or (slice_get (map place_of self.old.spans.items) 0) 0) }
+            (λ e. e.offset ≡ offset_or (slice_get (map span_of self.old.spans.items) 0) 0) }
     {
         let offset = self.offset_of(0, 0);
         match self.maps.push(row) {
@@ -164,7 +164,7 @@ impl<'a> Draft<'a> {
         ensures exact { Answers (λ _. progress_of self.new) result
             (added (progress_of self.old) skipped reading) }
         ensures place { IfErr result
-            (λ e. e.offset ≡ offset_or (slice_get (map place_of self.old.spans.items) 0) 0) }
+            (λ e. e.offset ≡ offset_or (slice_get (map span_of self.old.spans.items) 0) 0) }
     {
         let offset = self.offset_of(0, 0);
         if let Some(index) = reading.name {
@@ -184,7 +184,7 @@ impl<'a> Draft<'a> {
     fn note_use(&mut self, index: usize) -> Result<(), Refusal>
         ensures place { IfErr result
             (λ e. (e.kind ≡ AsmErrorKind.Memory)
-            × (e.offset ≡ offset_or (slice_get (map place_of self.old.spans.items) 0) 0)) }
+            × (e.offset ≡ offset_or (slice_get (map span_of self.old.spans.items) 0) 0)) }
         ensures rest { (self.new.tokens.items ≡ self.old.tokens.items)
             × (self.new.version ≡ self.old.version)
             × (self.new.spans.items ≡ self.old.spans.items) × (self.new.maps ≡ self.old.maps)
@@ -192,7 +192,7 @@ impl<'a> Draft<'a> {
         ensures noted { OnOk result
             (map use_of self.new.uses.items
             ≡ with_use (progress_of self.old)
-            (slice_get (map place_of self.old.spans.items) index)) }
+            (slice_get (map span_of self.old.spans.items) index)) }
     {
         let offset = self.offset_of(0, 0);
         let Some(span) = self.spans.get(index).copied() else {
@@ -311,7 +311,7 @@ impl<'a> Draft<'a> {
     // Where the token at the index begins; else that offset.
     fn offset_of(&self, index: usize, otherwise: usize) -> usize
         ensures { result ≡ offset_or
-            (slice_get (map place_of self.now.spans.items) index) otherwise }
+            (slice_get (map span_of self.now.spans.items) index) otherwise }
     {
         match self.spans.get(index) {
             Some(span) => span.offset,

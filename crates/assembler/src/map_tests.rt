@@ -1,4 +1,4 @@
-//! Map lines, loads of maps and version lines that a program has no place for.
+//! Map lines, loads of maps and version lines that are not allowed where they are.
 
 ghost use Rattle.std.specs.Prelude.{◌≡◌, ◌+◌, ◌*◌, sum_by, nat_le};
 ghost use Rattle.image.specs.Images.{room_of};
@@ -12,7 +12,7 @@ use super::wrong::Objection;
 use image::row_fits;
 use isa_model::{Insn, MAX_MAP_ROOM, MAX_MAPS, MapDef, MapType};
 
-// The bytes of a map's keys and values.
+// How many bytes a map's keys and values take.
 fn room_of(row: &MapDef) -> u128
     ensures { result ≡ room_of row.now }
 {

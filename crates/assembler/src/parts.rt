@@ -1,7 +1,7 @@
 //! Single tokens of a statement.
 
 ghost use Rattle.std.specs.Prelude.{◌≡◌, slice_get};
-ghost use Rattle.assembler.specs.Operands.{token_at, sign_at, number_at, word_at, is_sign, expect_at, is_minus, op_of, atomic_op_of, comparison_of, width_of, extension_of, as_size, as_narrow, as_kind, is_by_index};
+ghost use Rattle.assembler.specs.Operands.{token_at, sign_at, number_at, word_at, is_sign, expect_at, is_minus, op_of, atomic_op_of, comparison_of, width_of, extension_of, as_size, as_signed, as_kind, is_by_index};
 ghost use Rattle.assembler.specs.Statements.{is_full};
 ghost use Rattle.assembler.specs.Labelled.{zeroed};
 
@@ -185,8 +185,8 @@ pub fn as_size(word: Word) -> Result<Size, Wrong>
     }
 }
 
-pub fn as_narrow(word: Word) -> Result<SignedSize, Wrong>
-    ensures { result ≡ as_narrow word }
+pub fn as_signed(word: Word) -> Result<SignedSize, Wrong>
+    ensures { result ≡ as_signed word }
 {
     match word {
         Word::SignExtended(size) => Ok(size),

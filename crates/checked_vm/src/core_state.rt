@@ -122,7 +122,7 @@ impl Core {
         frames.len()
     }
 
-    /// The place of the live call frame of a serial.
+    /// The index of the live call frame of a serial.
     pub fn frame_index(&self, serial: u64) -> Option<usize>
         ensures { result ≡ frame_index self.now.frames.items serial }
     {

@@ -2,7 +2,7 @@
 
 ghost use Rattle.std.specs.Prelude.{◌≡◌, ◌+◌, ◌<◌, ◌≤◌, ℕ, ◌+ℤ◌, List, length, map, slice_index, Some, Ok, Err, MatchResult, vec_len};
 ghost use Rattle.isa_model.specs.Code.Numbers.{number_from};
-ghost use Rattle.isa_model.specs.Code.Sizes.{narrow_size, narrow_extension};
+ghost use Rattle.isa_model.specs.Code.Sizes.{unsigned_size, size_extension};
 ghost use Rattle.isa_model.specs.Machine.States.{frame_at};
 ghost use Rattle.isa_model.specs.Machine.Memory.{frame_index, place_of, read, number_at, context_field, context_load, memory_load, load, load_number, load_signed, write, store_number, store_pointer, store};
 ghost use Rattle.checked_vm.specs.declared.core_state.Core.{Core};
@@ -38,8 +38,8 @@ fn write_packet(packet: &mut [u8], at: Option<usize>, new: &[u8]) -> Result<(), 
 
 // ---- loads
 
-fn narrow_size(size: SignedSize) -> Size
-    ensures { result ≡ narrow_size size }
+fn unsigned_size(size: SignedSize) -> Size
+    ensures { result ≡ unsigned_size size }
 {
     match size {
         SignedSize::S8 => Size::U8,
@@ -48,8 +48,8 @@ fn narrow_size(size: SignedSize) -> Size
     }
 }
 
-fn narrow_extension(size: SignedSize) -> Extension
-    ensures { result ≡ narrow_extension size }
+fn size_extension(size: SignedSize) -> Extension
+    ensures { result ≡ size_extension size }
 {
     match size {
         SignedSize::S8 => Extension::Full8,
@@ -189,8 +189,8 @@ impl Core {
     ) -> Result<Value, TrapReason>
         ensures { result ≡ load_signed (state_of self.now packet.now) size base place.offset }
     {
-        let n = self.load_number(packet, narrow_size(size), base, place)?;
-        Ok(Value::Num(sign_extend(narrow_extension(size), n)))
+        let n = self.load_number(packet, unsigned_size(size), base, place)?;
+        Ok(Value::Num(sign_extend(size_extension(size), n)))
     }
 
     // ---- stores

@@ -10,7 +10,7 @@ use Rattle.commands.specs.declared.rejections.Rejection.TheVariants as rejection
 use Rattle.commands.specs.declared.outcomes.TaskOutcome.{TaskOutcome}
 use Rattle.commands.specs.declared.outcomes.TaskOutcome.TheVariants.{Refused}
 use Rattle.commands.specs.Lines.{verdict_line}
-use Rattle.commands.specs.Messages.{entry_place, insn_place, step_place}
+use Rattle.commands.specs.Messages.{entry_position, insn_position, step_position}
 use Rattle.commands.specs.Saying.{Says}
 use Rattle.commands.specs.Judging.{RefusesProgram, SaysRefused}
 
@@ -22,6 +22,6 @@ program_refused p refusal slot insn old new r o is at e (inr said) =
     rw e (inr (refusal, slot, is, said.0, subst (λ (i : Option Insn). Says old new (verdict_line refusal slot) (Refused (rejection.Program refusal slot i)) r) at said.1))
 
 -- no message was written about an entry, and its slot may be known
-pub step_failed : (old new : Option (List ℕ)) (index : ℕ) (place : Option (ℕ × Insn)) → AppendsBeginning old new (entry_place index) → AppendsBeginning old new (step_place index place)
+pub step_failed : (old new : Option (List ℕ)) (index : ℕ) (place : Option (ℕ × Insn)) → AppendsBeginning old new (entry_position index) → AppendsBeginning old new (step_position index place)
 step_failed old new index None h = h
-step_failed old new index (Some (slot, insn)) h = AppendsBeginning-first old new (entry_place index) (insn_place slot insn) h
+step_failed old new index (Some (slot, insn)) h = AppendsBeginning-first old new (entry_position index) (insn_position slot insn) h

@@ -29,8 +29,8 @@ use Rattle.commands.specs.Known.{Plainly, told_of}
 use Rattle.commands.specs.Commands.{Serves}
 use Rattle.commands.specs.HandingOn.{Flushes}
 
--- What is asked for was done, and how that ended; and then standard output was to hand on what it was given. Where it
--- fails only at that, this is how the program ends.
+-- What is asked for was done, and ended in some way; then standard output was flushed. Where only
+-- that fails, the program ends with this failure.
 pub record ServesWhole {W : Type 0} (contents : W → Option (List ℕ)) (request : Option TaskRequest) (old new : PromptWriter W) (result : Ending) : Type 0 where
   pub given : PromptWriter W
   pub ended : Ending
@@ -90,7 +90,8 @@ pub record TellsShown (old new : Option (List ℕ)) : Type 0 where
 abbrev pub IsTold : Option (List ℕ) → Option (List ℕ) → Type 0
 IsTold old new = TellsReason old new ⊎ (TellsKnown old new ⊎ (TellsEntryKnown old new ⊎ TellsShown old new))
 
--- standard error got why a frame stream ended early, and of a trace where the runs of frames stopped; or a beginning of it
+-- standard error got why a frame stream ended early, and for a trace where the runs of frames
+-- stopped; or a beginning of it
 abbrev pub TellsFault : Option (List ℕ) → Option (List ℕ) → Type 0
 TellsFault old new =
     (fault : Fault) × (form : FileForm)
@@ -105,6 +106,6 @@ pub record TellsTrace (words : List (List ℕ)) (old new : Option (List ℕ)) : 
   pub noted : Noted
   pub said : AppendsPart old new (stop_lines noted)
 
--- where all is done standard error gets nothing, but of a trace
+-- where all is done standard error gets nothing, except for a trace
 abbrev pub TellsDone : List (List ℕ) → Option (List ℕ) → Option (List ℕ) → Type 0
 TellsDone words old new = (new ≡ old) ⊎ TellsTrace words old new

@@ -13,8 +13,8 @@ abbrev pub is_text_byte : ℕ → Bool
 is_text_byte b = (b == 10) || (b == 9) || (nat_le 32 b && nat_lt b 127)
 
 -- fewer than four bytes, ELF, the four byte orders of pcap, pcapng, images, frame streams, proof tables, gzip with and without a name
-abbrev pub form_by : List ℕ → FileForm
-form_by front =
+abbrev pub file_form_by : List ℕ → FileForm
+file_form_by front =
     if nat_lt (length front) 4 then Short
     else if bytes_eq front (127 ∷ 69 ∷ 76 ∷ 70 ∷ []) then Elf
     else if bytes_eq front (212 ∷ 195 ∷ 178 ∷ 161 ∷ []) || bytes_eq front (161 ∷ 178 ∷ 195 ∷ 212 ∷ []) then Pcap
@@ -28,24 +28,24 @@ form_by front =
     else Unknown
 
 -- what a file is that begins so
-unfoldable pub form_of : List ℕ → FileForm
-form_of bs = form_by (front_of bs)
+unfoldable pub file_form_of : List ℕ → FileForm
+file_form_of bs = file_form_by (front_of bs)
 
 -- what the bytes show, or nothing
-abbrev pub IsFormOf : List ℕ → FileForm → Type 0
-IsFormOf bytes form = (form ≡ Unknown) ⊎ (form ≡ form_of bytes)
+abbrev pub IsFileFormOf : List ℕ → FileForm → Type 0
+IsFileFormOf bytes form = (form ≡ Unknown) ⊎ (form ≡ file_form_of bytes)
 
-abbrev pub form_line : FileForm → List ℕ
-form_line Unknown = codes "an image is made of a text by xdpvm asm, of an ELF object by image.py\n"
-form_line Short = codes "it has fewer than 4 bytes\n"
-form_line Elf = codes "it is an ELF object: image.py makes an image of it\n"
-form_line Gzip = codes "it is packed by gzip: gunzip unpacks it\n"
-form_line Pcap = codes "it is a capture (pcap): frames.py makes a frame stream of it\n"
-form_line Pcapng = codes "it is a capture (pcapng): frames.py makes a frame stream of it\n"
-form_line Image = codes "it is an image\n"
-form_line Frames = codes "it is a frame stream: the image stands before it, as in xdpvm run\n"
-form_line Table = codes "it is a proof table: the image stands before it, as in xdpvm recheck\n"
-form_line Text = codes "it looks like a text: xdpvm asm makes an image of it\n"
+abbrev pub file_line : FileForm → List ℕ
+file_line Unknown = codes "an image is made of a text by xdpvm asm, of an ELF object by image.py\n"
+file_line Short = codes "it has fewer than 4 bytes\n"
+file_line Elf = codes "it is an ELF object: image.py makes an image of it\n"
+file_line Gzip = codes "it is packed by gzip: gunzip unpacks it\n"
+file_line Pcap = codes "it is a capture (pcap): frames.py makes a frame stream of it\n"
+file_line Pcapng = codes "it is a capture (pcapng): frames.py makes a frame stream of it\n"
+file_line Image = codes "it is an image\n"
+file_line Frames = codes "it is a frame stream: the image stands before it, as in xdpvm run\n"
+file_line Table = codes "it is a proof table: the image stands before it, as in xdpvm recheck\n"
+file_line Text = codes "it looks like a text: xdpvm asm makes an image of it\n"
 
 -- the end of a line, and then the same where frames belong
 abbrev pub stream_line : FileForm → List ℕ

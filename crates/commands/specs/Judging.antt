@@ -24,7 +24,7 @@ use Rattle.assembler.specs.Assembling.{assembled}
 use Rattle.commands.specs.declared.rejections.Rejection.TheVariants as rejection
 use Rattle.commands.specs.declared.outcomes.TaskOutcome.{TaskOutcome}
 use Rattle.commands.specs.declared.outcomes.TaskOutcome.TheVariants.{Done, Refused, NoMemory}
-use Rattle.commands.specs.Forms.{form_of}
+use Rattle.commands.specs.Forms.{file_form_of}
 use Rattle.commands.specs.Statuses.{IsWriteFailure}
 use Rattle.commands.specs.Lines.{image_line, verdict_line, table_line, text_line, bound_line, is_memory, is_table_memory}
 use Rattle.commands.specs.Saying.{Says, LacksMemory}
@@ -33,7 +33,7 @@ use Rattle.commands.specs.Saying.{Says, LacksMemory}
 abbrev pub RefusesImage : List ℕ → Option (List ℕ) → Option (List ℕ) → TaskOutcome → Type 0
 RefusesImage bytes old new result =
     LacksMemory old new result
-    ⊎ ((error : ImageError) × (refusal_of bytes ≡ Some error) × Says old new (image_line error) (Refused (rejection.Image error (form_of bytes))) result)
+    ⊎ ((error : ImageError) × (refusal_of bytes ≡ Some error) × Says old new (image_line error) (Refused (rejection.Image error (file_form_of bytes))) result)
 
 -- standard output says that a program is refused at a slot, where this instruction begins;
 -- or memory ran out

@@ -15,7 +15,7 @@ use Rattle.proof_table.specs.declared.errors.WriteTableError.TheVariants as unwr
 use Rattle.proof_table.specs.Messages as proof_table
 use Rattle.assembler.specs.Messages as assembler
 use Rattle.commands.specs.declared.forms.FileForm.{FileForm}
-use Rattle.commands.specs.Forms.{form_line}
+use Rattle.commands.specs.Forms.{file_line}
 use Rattle.commands.specs.declared.rejections.Rejection.{Rejection}
 use Rattle.commands.specs.declared.rejections.Rejection.TheVariants.{Image, Program, Table, Explored, Text}
 
@@ -29,15 +29,15 @@ sentence_of (Text error) = assembler.sentence_of error.kind
 -- ---- where it is, each a line
 
 -- a slot, and the instruction that begins there
-abbrev pub insn_place : ℕ → Insn → List ℕ
-insn_place slot insn = (codes "slot " ++ (decimal slot ++ codes ": ")) ++ line_of insn
+abbrev pub insn_position : ℕ → Insn → List ℕ
+insn_position slot insn = (codes "slot " ++ (decimal slot ++ codes ": ")) ++ line_of insn
 
-abbrev pub slot_place : ℕ → Option Insn → List ℕ
-slot_place slot None = codes "slot " ++ (decimal slot ++ codes "\n")
-slot_place slot (Some insn) = insn_place slot insn
+abbrev pub slot_position : ℕ → Option Insn → List ℕ
+slot_position slot None = codes "slot " ++ (decimal slot ++ codes "\n")
+slot_position slot (Some insn) = insn_position slot insn
 
-abbrev pub text_place : ℕ → ℕ → List ℕ
-text_place line column =
+abbrev pub text_position : ℕ → ℕ → List ℕ
+text_position line column =
     (codes "line " ++ (decimal line ++ codes " ")) ++ (codes "column " ++ (decimal column ++ codes "\n"))
 
 -- ---- what helps
@@ -53,21 +53,21 @@ abbrev pub entry_anew : ℕ → List ℕ
 entry_anew index =
     codes "entry " ++ (decimal index ++ codes "\nmake the table anew: xdpvm prove IMAGE TABLE\n")
 
-abbrev pub entry_place : ℕ → List ℕ
-entry_place index = codes "entry " ++ (decimal index ++ codes "\n")
+abbrev pub entry_position : ℕ → List ℕ
+entry_position index = codes "entry " ++ (decimal index ++ codes "\n")
 
 -- an entry, and the slot of its step with the instruction that begins there, where it is known
-abbrev pub step_place : ℕ → Option (ℕ × Insn) → List ℕ
-step_place index None = entry_place index
-step_place index (Some (slot, insn)) = entry_place index ++ insn_place slot insn
+abbrev pub step_position : ℕ → Option (ℕ × Insn) → List ℕ
+step_position index None = entry_position index
+step_position index (Some (slot, insn)) = entry_position index ++ insn_position slot insn
 
 -- a table is refused at an entry, or as a whole, and made anew; where its step is refused, with the
 -- reason
-abbrev pub table_place : TableError → Option (ℕ × Insn) → List ℕ
-table_place (table.Fault (fault.Entry index)) place = entry_anew index
-table_place (table.Step index refusal) place = step_place index place ++ (transfer.sentence_of refusal ++ codes "\n")
-table_place (table.Successor index) place = step_place index place
-table_place error place = anew
+abbrev pub table_position : TableError → Option (ℕ × Insn) → List ℕ
+table_position (table.Fault (fault.Entry index)) place = entry_anew index
+table_position (table.Step index refusal) place = step_position index place ++ (transfer.sentence_of refusal ++ codes "\n")
+table_position (table.Successor index) place = step_position index place
+table_position error place = anew
 
 abbrev pub slot_line : ℕ → List ℕ
 slot_line slot = codes "slot " ++ (decimal slot ++ codes "\n")
@@ -77,22 +77,22 @@ map_line index = codes "map " ++ (decimal index ++ codes "\n")
 
 -- an image is refused at a slot, at a map row, or as a whole; for another magic, what the file
 -- looks like, else what helps
-abbrev pub image_place : ImageError → FileForm → List ℕ
-image_place Magic form = form_line form
-image_place Memory form = []
-image_place (Code slot error) form = slot_line slot ++ cure_line (Code slot error)
-image_place (MapRow index) form = map_line index ++ cure_line (MapRow index)
-image_place (UnknownMap slot) form = slot_line slot ++ cure_line (UnknownMap slot)
-image_place (ValuePointer slot) form = slot_line slot ++ cure_line (ValuePointer slot)
-image_place error form = cure_line error
+abbrev pub image_position : ImageError → FileForm → List ℕ
+image_position Magic form = file_line form
+image_position Memory form = []
+image_position (Code slot error) form = slot_line slot ++ cure_line (Code slot error)
+image_position (MapRow index) form = map_line index ++ cure_line (MapRow index)
+image_position (UnknownMap slot) form = slot_line slot ++ cure_line (UnknownMap slot)
+image_position (ValuePointer slot) form = slot_line slot ++ cure_line (ValuePointer slot)
+image_position error form = cure_line error
 
-abbrev pub place_of : Rejection → List ℕ
-place_of (Image error form) = image_place error form
-place_of (Program refusal slot insn) = slot_place slot insn
-place_of (Table error place) = table_place error place
-place_of Explored = []
-place_of (Text error) = text_place error.line error.column
+abbrev pub position_of : Rejection → List ℕ
+position_of (Image error form) = image_position error form
+position_of (Program refusal slot insn) = slot_position slot insn
+position_of (Table error place) = table_position error place
+position_of Explored = []
+position_of (Text error) = text_position error.line error.column
 
 -- the sentence in a line, and then where it is
 abbrev pub reason_of : Rejection → List ℕ
-reason_of rejection = (sentence_of rejection ++ codes "\n") ++ place_of rejection
+reason_of rejection = (sentence_of rejection ++ codes "\n") ++ position_of rejection

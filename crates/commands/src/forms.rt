@@ -2,7 +2,7 @@
 
 ghost use Rattle.std.specs.Prelude.{◌≡◌, bytes_eq};
 ghost use Rattle.std.specs.List.{list_all};
-ghost use Rattle.commands.specs.Forms.{front_of, is_text_byte, form_by, form_of, form_line, stream_line};
+ghost use Rattle.commands.specs.Forms.{front_of, is_text_byte, file_form_by, file_form_of, file_line, stream_line};
 
 /// What the first bytes of a file show that it is.
 #[derive(Clone, Copy)]
@@ -50,8 +50,8 @@ fn is_text(front: &[u8]) -> bool
     front.iter().all(|b| is_text_byte(*b))
 }
 
-fn form_by(front: &[u8]) -> FileForm
-    ensures { result ≡ form_by front.now }
+fn file_form_by(front: &[u8]) -> FileForm
+    ensures { result ≡ file_form_by front.now }
 {
     if front.len() < 4 {
         FileForm::Short
@@ -79,17 +79,17 @@ fn form_by(front: &[u8]) -> FileForm
 }
 
 /// What a file is that begins so.
-#[tactic(auto, unfolding(crate::specs::Forms::form_of))]
-pub fn form_of(bytes: &[u8]) -> FileForm
-    ensures { result ≡ form_of bytes.now }
+#[tactic(auto, unfolding(crate::specs::Forms::file_form_of))]
+pub fn file_form_of(bytes: &[u8]) -> FileForm
+    ensures { result ≡ file_form_of bytes.now }
 {
-    form_by(front_of(bytes))
+    file_form_by(front_of(bytes))
 }
 
 impl FileForm {
     /// What the file is, and what makes an image of it, in a line.
     pub fn line(self) -> &'static str
-        ensures { result.now ≡ form_line self }
+        ensures { result.now ≡ file_line self }
     {
         match self {
             FileForm::Unknown =>

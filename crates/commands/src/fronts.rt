@@ -1,9 +1,9 @@
 //! The first bytes of a file, which are read ahead.
 
 ghost use Rattle.std.specs.Prelude.{IfSome};
-ghost use Rattle.commands.specs.Forms.{IsFormOf};
+ghost use Rattle.commands.specs.Forms.{IsFileFormOf};
 
-use super::forms::{FileForm, form_of};
+use super::forms::{FileForm, file_form_of};
 use super::screens::Screen;
 use exact_io::{Filled, fill};
 use std::io;
@@ -63,11 +63,11 @@ pub type Ahead<S> = Chain<Take<Cursor<[u8; FRONT]>>, S>;
 
 // Reads the first bytes: how many there are, and what they show that the file is.
 fn read_front<S: Read>(source: &mut S, front: &mut [u8; FRONT]) -> (usize, FileForm)
-    ensures { IfSome (S.remaining source.old) (λ bytes. IsFormOf bytes result.1) }
+    ensures { IfSome (S.remaining source.old) (λ bytes. IsFileFormOf bytes result.1) }
 {
     match fill(source, front) {
-        Filled::Whole => (FRONT, form_of(&front[..])),
-        Filled::Ended(count) => (count, form_of(&front[..count])),
+        Filled::Whole => (FRONT, file_form_of(&front[..])),
+        Filled::Ended(count) => (count, file_form_of(&front[..count])),
         Filled::Failed(count) => (count, FileForm::Unknown),
     }
 }
@@ -75,7 +75,7 @@ fn read_front<S: Read>(source: &mut S, front: &mut [u8; FRONT]) -> (usize, FileF
 /// A source that gives what the given one does, and what its first bytes show that it is. If
 /// reading them failed, each later read of the given one has to fail too.
 pub fn read_ahead<S: Read>(mut source: S) -> (Ahead<S>, FileForm)
-    ensures { IfSome (S.remaining source) (λ bytes. IsFormOf bytes result.1) }
+    ensures { IfSome (S.remaining source) (λ bytes. IsFileFormOf bytes result.1) }
 {
     let mut front = [0; FRONT];
     let (count, form) = read_front(&mut source, &mut front);

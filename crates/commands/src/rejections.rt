@@ -4,8 +4,8 @@ ghost use Rattle.std.specs.Prelude.{◌≡◌, ◌++◌, OnOk, OnErr, codes, dec
 ghost use Rattle.std.specs.Io.KnownBytes.{Appends};
 ghost use Rattle.isa_model.specs.Text.CanonicalText as canonical;
 ghost use Rattle.exact_io.specs.Transfers.{AppendsBeginning};
-ghost use Rattle.commands.specs.Forms.{form_line};
-ghost use Rattle.commands.specs.Messages.{sentence_of, cure_line, image_place, insn_place, text_place, place_of, entry_place, anew, entry_anew, step_place, table_place, reason_of};
+ghost use Rattle.commands.specs.Forms.{file_line};
+ghost use Rattle.commands.specs.Messages.{sentence_of, cure_line, image_position, insn_position, text_position, position_of, entry_position, anew, entry_anew, step_position, table_position, reason_of};
 
 use super::forms::FileForm;
 use super::texts::write_texts;
@@ -54,9 +54,9 @@ impl Rejection {
     // Writes where it is refused.
     fn say_place<W: Write>(self, err: &mut W) -> io::Result<()>
         ensures ok { OnOk result
-            (Appends (W.contents err.old) (W.contents err.new) (place_of self)) }
+            (Appends (W.contents err.old) (W.contents err.new) (position_of self)) }
         ensures err { OnErr result
-            (AppendsBeginning (W.contents err.old) (W.contents err.new) (place_of self)) }
+            (AppendsBeginning (W.contents err.old) (W.contents err.new) (position_of self)) }
     {
         match self {
             Rejection::Image(error, form) => say_image_place(err, error, form),
@@ -80,12 +80,12 @@ impl Rejection {
     }
 }
 
-// Writes what a file is that is no image.
+// Writes what a file looks like that is no image.
 fn say_form<W: Write>(err: &mut W, form: FileForm) -> io::Result<()>
     ensures ok { OnOk result (Appends (W.contents err.old) (W.contents err.new)
-        (form_line form)) }
+        (file_line form)) }
     ensures err { OnErr result (AppendsBeginning (W.contents err.old) (W.contents err.new)
-        (form_line form)) }
+        (file_line form)) }
 {
     write_bytes(err, form.line().as_bytes())
 }
@@ -125,9 +125,9 @@ fn say_cured<W: Write>(err: &mut W, word: &str, number: usize, error: ImageError
 // Writes where bytes are no image, and what helps.
 fn say_image_place<W: Write>(err: &mut W, error: ImageError, form: FileForm) -> io::Result<()>
     ensures ok { OnOk result (Appends (W.contents err.old) (W.contents err.new)
-        (image_place error form)) }
+        (image_position error form)) }
     ensures err { OnErr result (AppendsBeginning (W.contents err.old) (W.contents err.new)
-        (image_place error form)) }
+        (image_position error form)) }
 {
     match error {
         ImageError::Magic => say_form(err, form),
@@ -153,9 +153,9 @@ fn say_slot<W: Write>(err: &mut W, slot: usize, back: &str) -> io::Result<()>
 // Writes a slot, and the text of the instruction that begins there.
 fn say_insn<W: Write>(err: &mut W, slot: usize, insn: &Insn) -> io::Result<()>
     ensures ok { OnOk result (Appends (W.contents err.old) (W.contents err.new)
-        (insn_place slot insn.now)) }
+        (insn_position slot insn.now)) }
     ensures err { OnErr result (AppendsBeginning (W.contents err.old) (W.contents err.new)
-        (insn_place slot insn.now)) }
+        (insn_position slot insn.now)) }
 {
     say_slot(err, slot, ": ")?;
     write_insn(err, insn)
@@ -164,9 +164,9 @@ fn say_insn<W: Write>(err: &mut W, slot: usize, insn: &Insn) -> io::Result<()>
 // Writes the index of an entry.
 fn say_entry<W: Write>(err: &mut W, index: usize) -> io::Result<()>
     ensures ok { OnOk result (Appends (W.contents err.old) (W.contents err.new)
-        (entry_place index)) }
+        (entry_position index)) }
     ensures err { OnErr result (AppendsBeginning (W.contents err.old) (W.contents err.new)
-        (entry_place index)) }
+        (entry_position index)) }
 {
     let mut buffer = Buffer::new();
     write_texts(err, "entry ", buffer.format(index as u64), "\n")
@@ -198,9 +198,9 @@ fn anew() -> &'static str
 // Writes the index of an entry, and where its step is, if that is known.
 fn say_step<W: Write>(err: &mut W, index: usize, place: Option<(usize, Insn)>) -> io::Result<()>
     ensures ok { OnOk result (Appends (W.contents err.old) (W.contents err.new)
-        (step_place index place)) }
+        (step_position index place)) }
     ensures err { OnErr result (AppendsBeginning (W.contents err.old) (W.contents err.new)
-        (step_place index place)) }
+        (step_position index place)) }
 {
     say_entry(err, index)?;
     match place {
@@ -216,9 +216,9 @@ fn say_table_place<W: Write>(
     place: Option<(usize, Insn)>,
 ) -> io::Result<()>
     ensures ok { OnOk result (Appends (W.contents err.old) (W.contents err.new)
-        (table_place error place)) }
+        (table_position error place)) }
     ensures err { OnErr result (AppendsBeginning (W.contents err.old) (W.contents err.new)
-        (table_place error place)) }
+        (table_position error place)) }
 {
     match error {
         TableError::Fault(TableRefusal::Entry(index)) => say_entry_anew(err, index),
@@ -236,9 +236,9 @@ fn say_table_place<W: Write>(
 // Writes a line and a column.
 fn say_text_place<W: Write>(err: &mut W, line: usize, column: usize) -> io::Result<()>
     ensures ok { OnOk result (Appends (W.contents err.old) (W.contents err.new)
-        (text_place line column)) }
+        (text_position line column)) }
     ensures err { OnErr result (AppendsBeginning (W.contents err.old) (W.contents err.new)
-        (text_place line column)) }
+        (text_position line column)) }
 {
     let mut buffer = Buffer::new();
     write_texts(err, "line ", buffer.format(line as u64), " ")?;

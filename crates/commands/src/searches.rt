@@ -48,7 +48,7 @@ impl<R: Files + Clock> Listener for Counter<'_, R> {
     }
 
     #[inline(always)]
-    fn covered(&mut self, _place: usize, _number: u32) -> Result<(), Infallible> {
+    fn covered(&mut self, _index: usize, _number: u32) -> Result<(), Infallible> {
         Ok(())
     }
 

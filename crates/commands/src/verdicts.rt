@@ -17,7 +17,7 @@ ghost use Rattle.commands.specs.Judging.{RefusesImage, RefusesProgram, Accepts, 
 ghost use Rattle.commands.specs.Known.{IsKnownOfProgram};
 
 use super::endings::Ending;
-use super::forms::form_of;
+use super::forms::file_form_of;
 use super::names::{image_line, text_line, verdict_line};
 use super::outcomes::{STANDARD_OUTPUT, TaskOutcome};
 use super::rejections::Rejection;
@@ -82,7 +82,7 @@ pub fn image_of<'a, W: Write>(
         Err(ImageError::Memory) => Err(TaskOutcome::NoMemory),
         Err(error) => Err(say_made(
             image_line(alloc, error),
-            TaskOutcome::Refused(Rejection::Image(error, form_of(bytes))),
+            TaskOutcome::Refused(Rejection::Image(error, file_form_of(bytes))),
             out,
         )),
     }

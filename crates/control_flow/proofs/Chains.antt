@@ -129,15 +129,15 @@ AreSources-below nodes n latest earlier all m = record {
 abbrev pub FallsBack : List Node → ℕ → ℕ → ℕ → Type 0
 FallsBack nodes to back k = (k + back ≡ to) × (fall_from nodes k ≡ Some to)
 
--- control comes to the slot by falling through, or by a jump from bound or above it
+-- control comes to the slot by falling through, or by a jump from least or above it
 abbrev pub ComesAbove : List Node → ℕ → ℕ → ℕ → Type 0
-ComesAbove nodes to bound k = (fall_from nodes k ≡ Some to) ⊎ ((bound ≤ k) × HasJump nodes to k)
+ComesAbove nodes to least k = (fall_from nodes k ≡ Some to) ⊎ ((least ≤ k) × HasJump nodes to k)
 
 -- the jumps above the next one are followed
 pub record HasFollowedJumps (nodes : List Node) (to : ℕ) (next : Option ℕ) (f : List Bool) (s : List ℕ) (g : List Bool) (t : List ℕ) : Type 0 where
-  pub bound : ℕ
-  pub last : IsLastBelow (HasJump nodes to) bound next
-  pub found : Extends (ComesAbove nodes to bound) f s g t
+  pub least : ℕ
+  pub last : IsLastBelow (HasJump nodes to) least next
+  pub found : Extends (ComesAbove nodes to least) f s g t
 
 -- what falls through is found first
 pub HasFollowedJumps-start : (nodes : List Node) (to : ℕ) (a b next : Option ℕ) (f : List Bool) (s : List ℕ) (g : List Bool) (t : List ℕ) (h : List Bool) (u : List ℕ)
@@ -145,7 +145,7 @@ pub HasFollowedJumps-start : (nodes : List Node) (to : ℕ) (a b next : Option �
     → Extends (λ k. a ≡ Some k) f s g t → Extends (λ k. b ≡ Some k) g t h u
     → IsLastBelow (HasJump nodes to) (length nodes) next → HasFollowedJumps nodes to next f s h u
 HasFollowedJumps-start nodes to a b next f s g t h u near one two x y last = record {
-  bound = length nodes;
+  least = length nodes;
   last = last;
   found = Extends-same (λ k. (a ≡ Some k) ⊎ (b ≡ Some k)) (ComesAbove nodes to (length nodes)) f s h u
       (λ k. (
@@ -164,17 +164,17 @@ HasFollowedJumps-start nodes to a b next f s g t h u near one two x y last = rec
 -- the next one jumps there
 pub HasFollowedJumps-jumps : (nodes : List Node) (to source : ℕ) (next : Option ℕ) (f : List Bool) (s : List ℕ) (g : List Bool) (t : List ℕ)
     → next ≡ Some source → HasFollowedJumps nodes to next f s g t → HasJump nodes to source
-HasFollowedJumps-jumps nodes to source next f s g t is m = (subst (IsLastBelow (HasJump nodes to) m.bound) is m.last).1
+HasFollowedJumps-jumps nodes to source next f s g t is m = (subst (IsLastBelow (HasJump nodes to) m.least) is m.last).1
 
 -- one more is followed
 pub HasFollowedJumps-next : (nodes : List Node) (to source : ℕ) (next before : Option ℕ) (f : List Bool) (s : List ℕ) (g : List Bool) (t : List ℕ) (h : List Bool) (u : List ℕ)
     → next ≡ Some source → IsLastBelow (HasJump nodes to) source before → HasFollowedJumps nodes to next f s g t → Extends (λ k. Some source ≡ Some k) g t h u
     → HasFollowedJumps nodes to before f s h u
 HasFollowedJumps-next nodes to source next before f s g t h u is last m x =
-    let here : IsLastBelow (HasJump nodes to) m.bound (Some source) = subst (IsLastBelow (HasJump nodes to) m.bound) is m.last in record {
-      bound = source;
+    let here : IsLastBelow (HasJump nodes to) m.least (Some source) = subst (IsLastBelow (HasJump nodes to) m.least) is m.last in record {
+      least = source;
       last = last;
-      found = Extends-same (λ k. ComesAbove nodes to m.bound k ⊎ (Some source ≡ Some k)) (ComesAbove nodes to source) f s h u
+      found = Extends-same (λ k. ComesAbove nodes to m.least k ⊎ (Some source ≡ Some k)) (ComesAbove nodes to source) f s h u
           (λ k. (
             λ w. elim w [
               | inl (inl falls) ↦ inl falls
@@ -188,27 +188,27 @@ HasFollowedJumps-next nodes to source next before f s g t h u is last m x =
               | inr (above, jumps) ↦ elim (cases_order k source) [
                 | inl e ↦ inr (ap (λ (i : ℕ). let o : Option ℕ = Some i in o) (sym e))
                 | inr (inl below) ↦ absurd (omega arith)
-                | inr (inr over) ↦ elim (cases_lt k m.bound) [
+                | inr (inr over) ↦ elim (cases_lt k m.least) [
                   | inl under ↦ absurd (here.2 k over under jumps)
                   | inr past ↦ inl (inr (past, jumps))
                 ]
               ]
             ],
           ))
-          (Extends-next (ComesAbove nodes to m.bound) (λ k. Some source ≡ Some k) f s g t h u m.found x);
+          (Extends-next (ComesAbove nodes to m.least) (λ k. Some source ≡ Some k) f s g t h u m.found x);
     }
 
 -- all are followed
 pub HasFollowedJumps-end : (nodes : List Node) (to : ℕ) (next : Option ℕ) (f : List Bool) (s : List ℕ) (g : List Bool) (t : List ℕ)
     → None ≡ next → HasFollowedJumps nodes to next f s g t → Extends (ComesFrom nodes to) f s g t
 HasFollowedJumps-end nodes to next f s g t over m =
-    let none : IsLastBelow (HasJump nodes to) m.bound None = subst (IsLastBelow (HasJump nodes to) m.bound) (sym over) m.last in
-    Extends-same (ComesAbove nodes to m.bound) (ComesFrom nodes to) f s g t
+    let none : IsLastBelow (HasJump nodes to) m.least None = subst (IsLastBelow (HasJump nodes to) m.least) (sym over) m.last in
+    Extends-same (ComesAbove nodes to m.least) (ComesFrom nodes to) f s g t
     (λ k. (
       λ w. elim w [ inl falls ↦ inl falls | inr (above, jumps) ↦ inr jumps ],
       λ w. elim w [
         | inl falls ↦ inl falls
-        | inr jumps ↦ elim (cases_lt k m.bound) [
+        | inr jumps ↦ elim (cases_lt k m.least) [
           | inl under ↦ absurd (none k under jumps)
           | inr past ↦ inr (past, jumps)
         ]

@@ -175,7 +175,7 @@ IsFlow-Fails p Memory slot flow h = h
 
 -- ---- the first test that fails
 
--- tests have places of their own
+-- no two tests have the same number in their order
 place-same : (d e : FlowError) → place d ≡ place e → d ≡ e
 place-same TargetOutside TargetOutside h = refl
 place-same SecondHalf SecondHalf h = refl

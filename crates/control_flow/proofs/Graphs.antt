@@ -95,9 +95,9 @@ node_at p nodes slot are inside = elim (slice_get_cases nodes slot).1 [
   | inr past ↦ let same = are.same in absurd (omega (arith, past.0))
 ]
 
--- ---- ways
+-- ---- edges
 
--- a way from a slot is its node's
+-- an edge from a slot is its node's
 way_node : (nodes : List Node) (way : Node → Option ℕ) (slot to : ℕ) → option_and_then way (slice_get nodes slot) ≡ Some to → (node : Node) × (slice_get nodes slot ≡ Some node) × (way node ≡ Some to)
 way_node nodes way slot to h = of (slice_get nodes slot) h where
   of : (o : Option Node) → option_and_then way o ≡ Some to → (node : Node) × (o ≡ Some node) × (way node ≡ Some to)

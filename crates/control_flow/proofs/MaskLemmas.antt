@@ -1,4 +1,4 @@
--- Masks: what each of their functions does, register by register and slot by slot.
+-- Masks: what each of their functions does, register by register and stack slot by stack slot.
 use Rattle.std.proofs.Common.{◌≡◌, ℕ, Option, Some, ◌+◌, ◌-◌, ◌*◌, ◌/◌, ◌^◌, ◌%◌, ◌<◌, ◌≤◌, replicate, sym, ap, ◌∙◌, arith, inl, inr, bit_or, bit_and, bit_xor, w16, w64}
 use Rattle.std.specs.Prelude.{◌↔◌, ◌⊎◌, max, min}
 use Rattle.std.specs.Int.{bit_at}
@@ -80,7 +80,7 @@ mask_at-none n slot = elim (cases_lt slot n) [
   | inr past ↦ get_or_past (replicate n no_homes) slot no_homes (omega (arith, length-replicate n no_homes))
 ]
 
--- ---- slots
+-- ---- stack slots
 
 -- all of them
 pub all_has : (j : ℕ) → (bit_at 0xffff_ffff_ffff_ffff j ≡ 1) ↔ (j < 64)
@@ -119,7 +119,7 @@ some_has o n is within j =
     let one = one_has n j within in
     (λ h. is ∙ ap (λ (k : ℕ). let some : Option ℕ = Some k in some) (sym (one.0 h)), λ e. one.1 (sym (same_Some n j (sym is ∙ e))))
 
--- ---- registers and slots
+-- ---- registers and stack slots
 
 pub both_or : (a b m : HomeMask)
     → ((r : Reg) → HasRegister m.registers r

@@ -128,7 +128,7 @@ leads_by_case p slot k = (to, from) where
   from (Jumps h) = inl (inr h)
   from (Calls h) = inr h
 
--- the three ways on from a slot
+-- the three edges from a slot
 pub Extends-leads : (p : Program) (slot : ℕ) (a b c : Option ℕ) (f : List Bool) (s : List ℕ) (g : List Bool) (t : List ℕ) (h : List Bool) (u : List ℕ) (i : List Bool) (v : List ℕ)
     → a ≡ fall_to p slot → b ≡ jump_to p slot → c ≡ call_to p slot
     → Extends (λ k. a ≡ Some k) f s g t → Extends (λ k. b ≡ Some k) g t h u → Extends (λ k. c ≡ Some k) h u i v
@@ -200,7 +200,7 @@ IsSearch-inside Found Goes size slot found frontier rest popped m =
     let inside = IsMarked-inside found slot (m.waits slot (on_top slot frontier rest popped)) in
     omega (arith, m.same)
 
--- the search is over when nothing is left to go on from: a way on from what was found leads to what was found
+-- the search is over when nothing is left to go on from: an edge from what was found leads to what was found
 pub IsSearch-closed : (Found : ℕ → Type 0) (Goes : ℕ → ℕ → Type 0) (size : ℕ) (found : List Bool) (frontier : List ℕ) → length frontier ≡ 0
     → IsSearch Found Goes size found frontier → (k to : ℕ) → IsMarked found k → Goes k to → IsMarked found to
 IsSearch-closed Found Goes size found [] over m k to h goes =

@@ -1,4 +1,4 @@
--- The byte and the slot of a frame at a place, by what the code finds of it.
+-- The byte and the stack slot of a call frame at a place, by what the code finds of it.
 use Rattle.std.proofs.Common.{◌≡◌, ℕ, ◌*◌, ◌/◌, ◌%◌, ◌<◌, Option, Some, None, sym, ap, ◌∙◌, arith}
 use Rattle.std.specs.Prelude.{◌↔◌, ◌≢◌, ℤ, pos, ◌-ℤ◌}
 use Rattle.std.proofs.lemmas.Option.{same_Some}
@@ -37,7 +37,7 @@ within_none place o is only j = (
   λ (n, there, low, high). let some : o ≡ Some n = (only n).1 there in absurd cc,
 )
 
--- ---- whole slots
+-- ---- whole stack slots
 
 abbrev made : Reg → ℤ → Place
 made base offset = record { base = base; offset = offset }

@@ -17,7 +17,7 @@ use Rattle.control_flow.proofs.FlowLaws.{Fails-inside}
 
 -- ---- loops
 
--- no slot below the next one
+-- where no slot below the next one fails and that one does not either, none up to it does
 pub none_more : (P : ℕ → Type 0) (n : ℕ) → ((k : ℕ) → k < n → P k → ⊥) → (P n → ⊥) → (k : ℕ) → k < n + 1 → P k → ⊥
 none_more P n below here k lt h =
     elim (cases_lt k n) [
@@ -25,7 +25,7 @@ none_more P n below here k lt h =
       | inr up ↦ let e : k ≡ n = omega arith in here (subst P e h)
     ]
 
--- no slot of the code, so none at all
+-- where no slot of the code fails, none does
 pub none_at_all : (p : Program) (e : FlowError) (n : ℕ) → length p.insns ≤ n → ((k : ℕ) → k < n → Fails p e k → ⊥) → (k : ℕ) → Fails p e k → ⊥
 none_at_all p e n all below k h = let inside = Fails-inside p e k h in below k (omega arith) h
 

@@ -179,7 +179,7 @@ before_same old new node r same (inl reads) = inl reads
 before_same old new node r same (inr (inl falls, keeps)) = inr (inl (behind_same old new node.falls_to r (λ to e. same to (inl e)) falls), keeps)
 before_same old new node r same (inr (inr jumps, keeps)) = inr (inr (behind_same old new node.jumps_to r (λ to e. same to (inr e)) jumps), keeps)
 
--- a way leads to a slot or not
+-- an edge leads to a slot or not
 leads_there : (o : Option ℕ) (slot : ℕ) → (o ≡ Some slot) ⊎ ((to : ℕ) → o ≡ Some to → to ≢ slot)
 leads_there None slot = inr (λ to e. absurd cc)
 leads_there (Some k) slot = elim (cases_eq k slot) [

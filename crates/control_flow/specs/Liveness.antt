@@ -8,14 +8,14 @@ use Rattle.control_flow.specs.Graph.{fall_to, jump_to}
 use Rattle.control_flow.specs.Accesses.{read_registers, written_registers}
 use Rattle.control_flow.specs.StackUse.{ReadsSlot, WritesSlot, FrameAddressIsTaken}
 
--- ---- what a frame keeps values in
+-- ---- what a call frame keeps values in
 
 -- a register, or 8 bytes of the frame's stack
 pub data Home : Type 0 where
   InRegister : Reg → Home
   InSlot : ℕ → Home
 
--- the instruction reads it. If a frame's address is taken, any instruction may read any slot
+-- the instruction reads it. If a frame's address is taken, any instruction may read any stack slot
 abbrev pub IsReadBy : Type 0 → Insn → Home → Type 0
 IsReadBy handed_on i (InRegister r) = IsOneOf (read_registers i) r
 IsReadBy handed_on i (InSlot j) = ReadsSlot i j ⊎ ((j < 64) × handed_on)

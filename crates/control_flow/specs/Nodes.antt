@@ -22,7 +22,7 @@ pub record AreNodes (p : Program) (nodes : List Node) : Type 0 where
   pub same : length nodes ≡ length p.insns
   pub each : (slot : ℕ) (node : Node) → slice_get nodes slot ≡ Some node → IsNode p slot node
 
--- ---- ways
+-- ---- edges
 
 -- where control goes from a slot
 abbrev pub fall_from : List Node → ℕ → Option ℕ

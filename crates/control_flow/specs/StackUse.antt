@@ -1,5 +1,5 @@
--- What instructions do with the stack of their frame: through r10 as the base of loads and stores,
--- and with r10 itself.
+-- What instructions do with the stack of their call frame: through r10 as the base of loads and
+-- stores, and with r10 itself.
 use Rattle.std.specs.Prelude.{◌≡◌, ℕ, ◌+◌, ◌*◌, ◌<◌, ◌≤◌, pos, ◌-ℤ◌, Some}
 use Rattle.isa_model.specs.declared.sizes.Size.TheVariants.{U64}
 use Rattle.isa_model.specs.declared.registers.Reg.TheVariants.{R10}
@@ -12,21 +12,21 @@ use Rattle.isa_model.specs.MustAccept.Paths.{IsOneOf}
 use Rattle.isa_model.specs.MustAccept.Determined.{slot_place}
 use Rattle.control_flow.specs.Accesses.{read_registers}
 
--- ---- slots of 8 bytes, counted from the lowest address on
+-- ---- stack slots of 8 bytes, counted from the lowest address on
 
 -- the place is byte n of the frame, from r10
 abbrev pub IsByte : Place → ℕ → Type 0
 IsByte place n = (n < frame_size) × (place.base ≡ R10) × (place.offset ≡ pos n -ℤ pos frame_size)
 
--- it is one of slot j
+-- it is one of stack slot j
 abbrev pub IsWithinSlot : Place → ℕ → Type 0
 IsWithinSlot place j = (n : ℕ) × IsByte place n × (8 * j ≤ n) × (n < 8 * j + 8)
 
--- it is the first one of slot j
+-- it is the first one of stack slot j
 abbrev pub IsWholeSlot : Place → ℕ → Type 0
 IsWholeSlot place j = (j < 64) × (place ≡ slot_place j)
 
--- the instruction reads bytes of the slot
+-- the instruction reads bytes of the stack slot
 abbrev pub ReadsSlot : Insn → ℕ → Type 0
 ReadsSlot (Load size d place) j = IsWithinSlot place j
 ReadsSlot (LoadSx size d place) j = IsWithinSlot place j

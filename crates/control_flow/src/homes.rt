@@ -1,4 +1,4 @@
-//! Sets of the places where a frame keeps values: registers, and stack slots.
+//! Sets of what a call frame keeps values in: registers, and stack slots.
 
 ghost use Rattle.std.specs.Prelude.{◌≡◌, ◌≤◌, ◌↔◌, ◌⊎◌, IsTrue};
 ghost use Rattle.control_flow.specs.Liveness.{Home};

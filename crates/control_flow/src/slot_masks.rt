@@ -3,7 +3,7 @@
 ghost use Rattle.std.specs.Prelude.{◌≡◌, ℕ, ◌+◌, ◌*◌, ◌/◌, ◌^◌, ◌<◌, ◌≤◌, ◌↔◌, ◌⊎◌, IsTrue, Some, bit_and};
 ghost use Rattle.isa_model.specs.Code.Limits.{frame_size};
 
-/// A set of slots of 8 bytes, the one at offset -512 from the frame's end in the lowest bit.
+/// A set of stack slots of 8 bytes, the one at offset -512 from the frame's end in the lowest bit.
 #[derive(Clone, Copy, PartialEq, Eq, Debug)]
 pub struct SlotMask {
     bits: u64,
@@ -12,7 +12,7 @@ pub struct SlotMask {
 impl SlotMask {
     ghost use Rattle.control_flow.specs.Masks.{HasSlot, no_slots, all_slots};
 
-    /// No slot.
+    /// No stack slot.
     pub(crate) fn none() -> Self
         ensures { result ≡ no_slots }
     {
@@ -26,7 +26,7 @@ impl SlotMask {
         SlotMask { bits: u64::MAX }
     }
 
-    /// The slot, if there is one.
+    /// The stack slot, if there is one.
     pub(crate) fn of(slot: Option<u8>) -> Self
         requires { (j : ℕ) → slot ≡ Some j → j < 64 }
         ensures { (j : ℕ) → HasSlot result j ↔ (slot ≡ Some j) }
@@ -53,7 +53,7 @@ impl SlotMask {
         self.bits == u64::MAX
     }
 
-    /// Whether none of eight slots is one of them, from a multiple of eight on.
+    /// Whether none of eight stack slots is one of them, from a multiple of eight on.
     pub fn is_empty_in(self, block: u8) -> bool
         requires { block < 8 }
         ensures exact { IsTrue result ↔ (bit_and (self.bits / 2 ^ (8 * block)) 255 ≡ 0) }
@@ -63,7 +63,7 @@ impl SlotMask {
         (self.bits >> (8 * block)) & 255 == 0
     }
 
-    /// Whether a slot is one of them.
+    /// Whether a stack slot is one of them.
     pub fn has(self, slot: u8) -> bool
         requires { 8 * slot < frame_size }
         ensures { IsTrue result ↔ HasSlot self slot }

@@ -1,4 +1,4 @@
-//! Which stack slots of its frame an instruction reads and writes through r10, and which
+//! Which stack slots of its call frame an instruction reads and writes through r10, and which
 //! instructions take the address of the frame.
 
 ghost use Rattle.std.specs.Prelude.{◌≡◌, ℕ, ◌<◌, ◌^◌, ◌↔◌, ◌⊎◌, IsTrue, Some};
@@ -29,7 +29,7 @@ fn byte_of(place: Place) -> Option<usize>
     }
 }
 
-/// The slot in which a place lies that r10 is the base of.
+/// The stack slot in which a place lies that r10 is the base of.
 fn slot_of(place: Place) -> Option<u8>
     ensures { (j : ℕ) → (result ≡ Some j) ↔ IsWithinSlot place j }
 {
@@ -39,7 +39,7 @@ fn slot_of(place: Place) -> Option<u8>
     }
 }
 
-/// The slot that begins at a place that r10 is the base of.
+/// The stack slot that begins at a place that r10 is the base of.
 fn slot_at(place: Place) -> Option<u8>
     ensures { (j : ℕ) → (result ≡ Some j) ↔ IsWholeSlot place j }
 {
@@ -55,7 +55,7 @@ fn slot_at(place: Place) -> Option<u8>
     }
 }
 
-/// The slot that an instruction reads through r10.
+/// The stack slot that an instruction reads through r10.
 fn slot_read(insn: &Insn) -> Option<u8>
     ensures { (j : ℕ) → (result ≡ Some j) ↔ ReadsSlot insn.now j }
 {
@@ -66,7 +66,7 @@ fn slot_read(insn: &Insn) -> Option<u8>
     }
 }
 
-/// The slot that an instruction writes wholly through r10.
+/// The stack slot that an instruction writes wholly through r10.
 fn slot_written(insn: &Insn) -> Option<u8>
     ensures { (j : ℕ) → (result ≡ Some j) ↔ WritesSlot insn.now j }
 {
@@ -104,7 +104,7 @@ pub fn hands_on_at(image: &Image, slot: usize, read: RegisterMask) -> bool
     }
 }
 
-/// The slots that an instruction reads: any one, where a frame's address is handed on.
+/// The stack slots that an instruction reads: any one, where a frame's address is handed on.
 fn slots_read(insn: &Insn, handed_on: bool) -> SlotMask
     ensures { (j : ℕ) → HasSlot result j
         ↔ (ReadsSlot insn.now j ⊎ ((j < 64) × IsTrue handed_on)) }
@@ -116,7 +116,7 @@ fn slots_read(insn: &Insn, handed_on: bool) -> SlotMask
     }
 }
 
-/// The registers and slots that an instruction reads.
+/// The registers and stack slots that an instruction reads.
 pub fn homes_read(insn: &Insn, handed_on: bool) -> HomeMask
     ensures { (h : Home) → HasHome result h ↔ IsReadBy (IsTrue handed_on) insn.now h }
 {
@@ -126,7 +126,7 @@ pub fn homes_read(insn: &Insn, handed_on: bool) -> HomeMask
     }
 }
 
-/// The registers that have another value after an instruction, and the slots that it writes.
+/// The registers that have another value after an instruction, and the stack slots that it writes.
 pub fn homes_written(insn: &Insn) -> HomeMask
     ensures { (h : Home) → HasHome result h ↔ IsWrittenBy insn.now h }
 {

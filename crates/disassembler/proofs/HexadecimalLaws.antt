@@ -35,7 +35,7 @@ some_place zero zero h f = absurd (cc)
 some_place zero (suc q) h f = absurd (omega (arith, h))
 some_place (suc k) q h f = omega arith
 
--- more places than a number has digits change nothing
+-- room for more digits than a number has changes nothing
 places_enough : (k m n : ℕ) → n < 16 ^ k → k ≤ m → 0 < k → hex_digits m n ≡ hex_digits k n
 unfolding hex_digits
 places_enough zero m n h le some = absurd (omega (arith, some))

@@ -7,8 +7,8 @@ ghost use Rattle.disassembler.specs.Parts.{fetch_insn_text};
 use super::numbers::{CodeLine, push_distance, push_hex, push_number, push_signed};
 use super::parts::{push_memory, push_operand, push_place, push_reg};
 use super::words::{
-    atomic_sign, comparison_sign, extension_width, extension_word, fetch_word, kind_word,
-    narrow_word, op_sign, order_word, size_word, span_word, width_word,
+    atomic_sign, comparison_sign, extension_width, extension_word, fetch_word, kind_word, op_sign,
+    order_word, signed_word, size_word, span_word, width_word,
 };
 use isa_model::{
     AluOp, AtomicOp, ByteOrder, Cond, Extension, Insn, MapDef, Operand, Place, Reg, SignedSize,
@@ -128,7 +128,7 @@ fn signed_load_line(size: SignedSize, destination: Reg, place: Place) -> CodeLin
     let mut line = CodeLine::new();
     push_reg(&mut line, Width::Full64, destination);
     line.push_str(" = ");
-    push_memory(&mut line, narrow_word(size), place);
+    push_memory(&mut line, signed_word(size), place);
     line.push_str("\n");
     line
 }

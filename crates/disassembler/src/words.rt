@@ -1,7 +1,7 @@
 //! The words and signs of instructions.
 
 ghost use Rattle.std.specs.Prelude.{◌≡◌, ◌≤◌, length};
-ghost use Rattle.isa_model.specs.Text.CanonicalText.{reg_digits, size_text, narrow_text, extension_text, extension_width, span_text, order_text, width_text, op_text, comparison_text, atomic_text, fetch_text, kind_text};
+ghost use Rattle.isa_model.specs.Text.CanonicalText.{reg_digits, size_text, signed_text, extension_text, extension_width, span_text, order_text, width_text, op_text, comparison_text, atomic_text, fetch_text, kind_text};
 
 use isa_model::{
     AluOp, AtomicOp, ByteOrder, Comparison, Extension, MapType, Reg, SignedSize, Size, SwapWidth,
@@ -42,8 +42,8 @@ pub fn size_word(size: Size) -> &'static str
 }
 
 /// What a sign-extending load reads.
-pub fn narrow_word(size: SignedSize) -> &'static str
-    ensures text { result.now ≡ narrow_text size }
+pub fn signed_word(size: SignedSize) -> &'static str
+    ensures text { result.now ≡ signed_text size }
     ensures short { length result.now ≤ 3 }
 {
     match size {

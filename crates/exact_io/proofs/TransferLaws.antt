@@ -1,4 +1,4 @@
--- Writes that failed, one part after another.
+-- Writes of two parts, one after the other, of which one failed.
 use Rattle.std.proofs.Common.{◌≡◌, ℕ, ◌+◌, List, ◌++◌, length, take, drop, Option, refl, sym, ap, ◌∙◌, subst, length-append, arith}
 use Rattle.std.proofs.lemmas.List.{take_at, drop_at, take-append-le}
 use Rattle.std.specs.Io.KnownBytes.{Appends}

@@ -22,8 +22,8 @@ flat_map_four f a b c d all is =
     sym (append_assoc (flat_map f a) (flat_map f b) (flat_map f c ++ flat_map f d))
     ∙ (sym (append_assoc (flat_map f a ++ flat_map f b) (flat_map f c) (flat_map f d)) ∙ (sym four ∙ ap (flat_map f) is))
 
--- ---- slots
+-- ---- stack slots
 
--- the first slot of some is not open, so it is one of the others
+-- the first stack slot of some is not open, so it is one of the others
 pub first_open-next : (slots : List StackSlot) (at n : ℕ) → marks_of (slot_at slots at) ≡ 255 → first_open slots at (suc n) ≡ first_open slots (at + 1) n
 first_open-next slots at n written = rw (eq-eqb (marks_of (slot_at slots at)) 255 written) refl

@@ -5,7 +5,7 @@ use Rattle.isa_model.specs.declared.instructions.Insn.{Insn}
 use Rattle.isa_model.specs.declared.instructions.Insn.TheVariants.{Load, LoadSx, StoreConstant, Store, Atomic, Exchange, CompareExchange, CallHelper}
 use Rattle.isa_model.specs.declared.instructions.Place.{Place}
 use Rattle.isa_model.specs.declared.sizes.Size.{Size}
-use Rattle.isa_model.specs.Code.Sizes.{size_bytes, width_size, narrow_size}
+use Rattle.isa_model.specs.Code.Sizes.{size_bytes, width_size, unsigned_size}
 use Rattle.isa_model.specs.declared.helpers.Helper.{Helper}
 use Rattle.isa_model.specs.declared.helpers.Helper.TheVariants.{MapLookupElem, MapUpdateElem, MapDeleteElem, KtimeGetNs}
 use Rattle.isa_model.specs.Code.Helpers.{helper_numbered}
@@ -26,7 +26,7 @@ use Rattle.walks.specs.declared.refusals.Refusal.TheVariants.{Step, Repeats}
 -- the size and the place of an access
 abbrev pub access : Insn → Option (Size × Place)
 access (Load size d place) = Some (size, place)
-access (LoadSx narrow d place) = Some (narrow_size narrow, place)
+access (LoadSx narrow d place) = Some (unsigned_size narrow, place)
 access (StoreConstant size place constant) = Some (size, place)
 access (Store size place r) = Some (size, place)
 access (Atomic w op fetched place r) = Some (width_size w, place)
@@ -58,7 +58,7 @@ size_in (Some row) = row.value_size
 abbrev pub row_size : List MapDef → ℕ → ℕ
 row_size rows m = size_in (slice_get rows m)
 
--- which bytes are needed, and what there is: of a frame, of the packet, of a value
+-- which bytes are needed, and what there is: of a call frame, of the packet, of a value
 abbrev pub frame_line : (span : List ℕ) → (bytes : ℕ) → List ℕ
 frame_line span bytes =
     span ++ (codes ", and the first at a multiple of "

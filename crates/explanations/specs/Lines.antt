@@ -57,7 +57,7 @@ answer_line a e = []
 
 -- ---- stack slots
 
--- the slot that is read through a frame pointer
+-- the stack slot that is read through a frame pointer
 abbrev pub read_line : State → Kind → ℤ → List ℕ
 read_line a (Stack frame offset) by = byte_line a frame (byte_at (offset +ℤ by))
 read_line a k by = []
@@ -65,7 +65,7 @@ read_line a k by = []
 abbrev pub place_line : State → Place → List ℕ
 place_line a place = read_line a (kind_of a place.base) place.offset
 
--- of a helper's bytes, the first slot that is not all written
+-- of a helper's bytes, the first stack slot that is not all written
 abbrev pub open_line : State → ℕ → Option ℕ → List ℕ
 open_line a frame None = []
 open_line a frame (Some slot) = slot_line a frame slot

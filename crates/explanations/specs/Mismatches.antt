@@ -13,7 +13,7 @@ use Rattle.explanations.specs.declared.mismatches.Mismatch.TheVariants.{Missing,
 
 -- ---- what is wrong with an entry that is named
 
--- places are in frames that both have
+-- the call frames that it names are in both states
 abbrev pub IsInBoth : State → State → Mismatch → Type 0
 IsInBoth e a (Returns frame) = (frame < depth e) × (frame < depth a)
 IsInBoth e a (Register frame register) = (frame < depth e) × (frame < depth a)

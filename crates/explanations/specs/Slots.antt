@@ -10,7 +10,7 @@ use Rattle.stack_state.specs.Meaning.{stack_slots_of}
 use Rattle.stack_state.specs.Slots.{slot_at, marks_of}
 use Rattle.explanations.specs.Kinds.{calls_up, kind_words}
 
--- where a byte of the slot is, counted from the end of the frame
+-- where a byte of the stack slot is, counted from the end of the call frame
 abbrev pub place_of : ℕ → ℕ → ℤ
 place_of slot byte = pos (8 * slot + byte) -ℤ pos frame_size
 
@@ -24,7 +24,7 @@ abbrev pub written_words : ℕ → ℕ → ℕ → List ℕ
 written_words slot marks zero = []
 written_words slot marks (suc n) = byte_word slot marks (7 - n) ++ written_words slot marks n
 
--- what is known of the slot, where the innermost frame has this number
+-- what is known of the stack slot, where the innermost frame has this number
 abbrev pub slot_words : ℕ → ℕ → StackSlot → List ℕ
 slot_words innermost slot (Written marks) =
     if marks == 0 then codes "unset"
@@ -32,7 +32,7 @@ slot_words innermost slot (Written marks) =
     else codes "written bytes" ++ written_words slot marks 8
 slot_words innermost slot (Spilled k) = kind_words innermost k
 
--- a slot of a frame: where it begins, counted from the end of the frame, and what is known of it
+-- a stack slot: where it begins, counted from the end of its frame, and what is known of it
 abbrev pub slot_line : State → ℕ → ℕ → List ℕ
 slot_line a frame slot =
     codes "stack " ++ (signed_decimal (place_of slot 0)
@@ -49,12 +49,12 @@ in_frame (negsuc n) = None
 abbrev pub byte_at : ℤ → Option ℕ
 byte_at z = in_frame (z +ℤ pos frame_size)
 
--- the line of the slot in which a byte is
+-- the line of the stack slot in which a byte is
 abbrev pub byte_line : State → ℕ → Option ℕ → List ℕ
 byte_line a frame None = []
 byte_line a frame (Some at) = slot_line a frame (at / 8)
 
--- the first slot among this count of them, not all of whose bytes are written number bytes
+-- the first stack slot among this count of them, not all of whose bytes are written number bytes
 abbrev pub first_open : List StackSlot → ℕ → ℕ → Option ℕ
 first_open slots slot zero = None
 first_open slots slot (suc n) =

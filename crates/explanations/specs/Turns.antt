@@ -7,7 +7,7 @@ use Rattle.walks.specs.declared.refusals.Refusal.TheVariants.{TooLong}
 use Rattle.explanations.specs.Slots.{place_of}
 use Rattle.explanations.specs.Mismatches.{register_words, stack_words}
 
--- what the message says of a register or a slot before and now, where that differs
+-- what the message says of a register or a stack slot before and now, where that differs
 abbrev pub turn_line : (place before now : List ℕ) → List ℕ
 turn_line place before now =
     if bytes_eq before now then []

@@ -4,7 +4,7 @@ ghost use Rattle.std.specs.Prelude.{◌≡◌, ◌+ℤ◌, IfOk, slice_get};
 ghost use Rattle.std.specs.Option.{option_copied};
 ghost use Rattle.std.specs.String.{string_bytes};
 ghost use Rattle.isa_model.specs.Code.Helpers.{helper_numbered};
-ghost use Rattle.isa_model.specs.Code.Sizes.{narrow_size};
+ghost use Rattle.isa_model.specs.Code.Sizes.{unsigned_size};
 ghost use Rattle.transfer.specs.HelperCalls.{points_to_bytes};
 ghost use Rattle.explanations.specs.Cases as spec;
 ghost use Rattle.explanations.specs.Cases.{access, needs_words, last_byte, span_words, behind_words, frame_line, packet_line, value_line, is_map, key_line, update_line, argument_line, row_size, exit_line, cure_line};
@@ -17,8 +17,8 @@ use std::alloc::{AllocError, Global};
 use transfer::Refusal as StepRefusal;
 
 // What a sign-extending load reads.
-fn narrow_size(narrow: SignedSize) -> Size
-    ensures { result ≡ narrow_size narrow }
+fn unsigned_size(narrow: SignedSize) -> Size
+    ensures { result ≡ unsigned_size narrow }
 {
     match narrow {
         SignedSize::S8 => Size::U8,
@@ -33,7 +33,7 @@ fn access(insn: &Insn) -> Option<(Size, Place)>
 {
     match *insn {
         Insn::Load(size, _, place) => Some((size, place)),
-        Insn::LoadSx(narrow, _, place) => Some((narrow_size(narrow), place)),
+        Insn::LoadSx(narrow, _, place) => Some((unsigned_size(narrow), place)),
         Insn::StoreConstant(size, place, _) => Some((size, place)),
         Insn::Store(size, place, _) => Some((size, place)),
         Insn::Atomic(width, _, _, place, _) => Some((width.size(), place)),

@@ -80,7 +80,7 @@ pub fn answer_line(alloc: Global, state: &State, refusal: Refusal) -> Result<Str
 
 // ---- stack slots
 
-/// The line of the slot that is read through a place.
+/// The line of the stack slot that is read through a place.
 fn place_line(alloc: Global, state: &State, place: Place) -> Result<String, AllocError>
     ensures { IfOk result (λ text. string_bytes text ≡ spec.place_line state.now place) }
 {
@@ -95,7 +95,7 @@ fn place_line(alloc: Global, state: &State, place: Place) -> Result<String, Allo
     }
 }
 
-/// The line of the first slot of a helper's bytes that is not all written.
+/// The line of the first stack slot of a helper's bytes that is not all written.
 fn bytes_line(alloc: Global, state: &State, kind: Kind, count: u32) -> Result<String, AllocError>
     ensures { IfOk result (λ text. string_bytes text ≡ spec.bytes_line state.now kind count) }
 {

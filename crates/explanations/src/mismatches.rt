@@ -21,7 +21,7 @@ pub enum Mismatch {
     NotSmaller(u32),
     /// It is at another slot.
     Slot,
-    /// It has another number of frames.
+    /// It has another number of call frames.
     Frames,
     /// This frame returns to another slot.
     Returns(usize),
@@ -42,7 +42,8 @@ pub fn frame_of(state: &State, frame: usize) -> &AbstractFrame
     }
 }
 
-/// The first registers and slots of a frame, as many as given; about all others nothing is known.
+/// The first registers and stack slots of a frame, as many as given; about all others nothing is
+/// known.
 fn front_of(frame: &AbstractFrame, registers: usize, slots: usize) -> AbstractFrame {
     let mut kinds = [Kind::Unset; 10];
     for index in 0..registers.min(10) {
@@ -59,7 +60,7 @@ fn front_of(frame: &AbstractFrame, registers: usize, slots: usize) -> AbstractFr
     }
 }
 
-/// All before a frame, and its first registers and slots, as many as given; about all others
+/// All before a frame, and its first registers and stack slots, as many as given; about all others
 /// nothing is known.
 fn part_of(state: &State, frame: usize, registers: usize, slots: usize) -> State {
     let mut part = State::start();

@@ -12,7 +12,7 @@ use isa_model::FRAME_SIZE;
 use stack_state::{StackSlot, State};
 use std::alloc::{AllocError, Global};
 
-/// Where a byte of a slot is, counted from the end of the frame.
+/// Where a byte of a stack slot is, counted from the end of the call frame.
 pub fn place_of(slot: usize, byte: u8) -> i64
     requires slot { slot < frame_slots }
     requires byte { byte < 8 }
@@ -34,7 +34,7 @@ fn byte_word(alloc: Global, slot: usize, marks: u8, byte: u8) -> Result<String, 
     format!(in alloc; " {place}")
 }
 
-/// The places of the written number bytes of a slot.
+/// The places of the written number bytes of a stack slot.
 fn written_words(alloc: Global, slot: usize, marks: u8) -> Result<String, AllocError>
     requires { slot < frame_slots }
     ensures { IfOk result (λ text. string_bytes text ≡ written_words slot marks 8) }
@@ -47,7 +47,7 @@ fn written_words(alloc: Global, slot: usize, marks: u8) -> Result<String, AllocE
     Ok(text)
 }
 
-/// What is known of a slot, where the innermost frame has this number.
+/// What is known of a stack slot, where the innermost frame has this number.
 pub fn slot_words(
     alloc: Global,
     innermost: usize,
@@ -68,7 +68,7 @@ pub fn slot_words(
     }
 }
 
-/// A slot of a frame; if there is no such slot, one about which nothing is known.
+/// A stack slot of a frame; if there is no such slot, one about which nothing is known.
 fn slot_of(state: &State, frame: u8, slot: usize) -> StackSlot
     ensures { result ≡ slot_at (stack_slots_of state.now frame) slot }
 {
@@ -82,7 +82,7 @@ fn slot_of(state: &State, frame: u8, slot: usize) -> StackSlot
     }
 }
 
-/// The line of a slot of a frame.
+/// The line of a stack slot of a frame.
 pub fn slot_line(alloc: Global, state: &State, frame: u8, slot: usize) -> Result<String, AllocError>
     requires { slot < frame_slots }
     ensures { IfOk result (λ text. string_bytes text ≡ slot_line state.now frame slot) }
@@ -106,7 +106,7 @@ pub fn byte_at(from_end: i64) -> Option<usize>
     Some((from_end + size) as usize)
 }
 
-/// The first slot among the first ones, not all of whose bytes are written number bytes.
+/// The first stack slot among the first ones, not all of whose bytes are written number bytes.
 pub fn first_open(state: &State, frame: u8, slot: usize, count: usize) -> Option<usize>
     requires { slot + count ≤ frame_slots }
     ensures found { result ≡ first_open (stack_slots_of state.now frame) slot count }

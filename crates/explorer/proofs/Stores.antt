@@ -63,7 +63,7 @@ Settles-start p first n begins h = record {
   number = IsCoveredBy start first 0 n (WalksTo-start p first begins) (Forgets-slot p start first begins) (Forgets-covers p start first begins) h.number;
 }
 
--- ---- places
+-- ---- indexes
 
 pub slice_get-push : {X : Type 0} (xs : List X) (y : X) (k : ℕ) (x : X) → slice_get xs k ≡ Some x → slice_get (xs ++ y ∷ []) k ≡ Some x
 slice_get-push [] y k x e = absurd (cc)

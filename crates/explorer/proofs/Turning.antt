@@ -44,7 +44,7 @@ some_shorter path c s count old (Some n) e kept h =
     let k = kept n refl in
     at_shorter path c s n (subst (λ (o : Option ℕ). IfSome o (IsAt (c ∷ path) s)) k.0 h) (λ same. k.1 (same ∙ e))
 
--- the places of two states, after the path left its last one
+-- where two states are on the path, after it left its last one
 pub AreOn_shorter : (path : List State) (c : State) (count : ℕ) (old new : Turns) → length path ≡ count
     → ((n : ℕ) → new.place ≡ Some n → (old.place ≡ Some n) × (n ≢ count)) → ((n : ℕ) → new.earlier_place ≡ Some n → (old.earlier_place ≡ Some n) × (n ≢ count))
     → new.last ≡ old.last → new.earlier ≡ old.earlier → AreOn (c ∷ path) old → AreOn path new

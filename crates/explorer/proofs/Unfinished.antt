@@ -17,7 +17,7 @@ zeros_from-push k [] j at = let same : k ≡ j = omega (arith, at) in ap (λ n. 
 zeros_from-push k (zero ∷ ns) j at = ap (λ xs. k ∷ xs) (zeros_from-push (suc k) ns j (omega (arith, at)))
 zeros_from-push k (suc n ∷ ns) j at = zeros_from-push (suc k) ns j (omega (arith, at))
 
--- none is before the place at which the list begins
+-- none is before the index at which the list begins
 zeros_from-last : (k : ℕ) (ns xs : List ℕ) (j : ℕ) → zeros_from k ns ≡ xs ++ j ∷ [] → k ≤ j
 zeros_from-last k [] [] j e = absurd (cc)
 zeros_from-last k [] (x ∷ xs) j e = absurd (cc)
@@ -45,7 +45,7 @@ zeros_from-set k (zero ∷ ns) (x ∷ xs) (suc i) j n at within e =
     ap (λ y. k ∷ y) left ∙ ap (λ y. y ∷ xs) same
 zeros_from-set k (suc m ∷ ns) xs (suc i) j n at within e = zeros_from-set (suc k) ns xs i j n (omega (arith, at)) (omega (arith, within)) e
 
--- ---- places
+-- ---- indexes
 
 first_alone : (o : Option ℕ) → with_first o [] ≡ with_last [] o
 first_alone None = refl

@@ -62,7 +62,7 @@ Path-leads p m entries (visit ∷ path) a b h = (h.0, h.1.steps, Path-leads p m 
 pub Path-walks : (p : Program) (m : ℕ) (entries : List StoredState) (path : List Visit) (a b : State) → Forgets p start a → Path p m entries a path b → WalksTo p (length path) b
 Path-walks p m entries path a b begins h = record { first = a; begins = begins; leads = Path-leads p m entries path a b h }
 
--- ---- places
+-- ---- indexes
 
 abbrev IsIn : ℕ → List ℕ → Type 0
 IsIn k [] = ⊥
@@ -80,7 +80,7 @@ in_first None k xs h = inr h
 in_first (Some i) k xs (inl e) = inl (ap Some (sym e))
 in_first (Some i) k xs (inr h) = inr h
 
--- two states that are stored at one place are one
+-- two states that are stored at one index are one
 same_stored : (entries : List StoredState) (k n : ℕ) (s t : State) → StoredAt entries (Some k) s → slice_get entries k ≡ Some (record { state = t; number = n }) → t ≡ s
 same_stored entries k n s t at e =
     let q : ◌≡◌ {A = StoredState} (record { state = t; number = n }) (record { state = s; number = at.0 }) = cc (e, at.1) in

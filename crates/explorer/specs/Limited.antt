@@ -1,4 +1,4 @@
--- What a search up to a limit says.
+-- What is said of a search that a limit may end.
 use Rattle.std.specs.Prelude.{ℕ}
 use Rattle.walks.specs.declared.refusals.Refusal.{Refusal}
 use Rattle.explorer.specs.declared.limited.NoBound.{NoBound}

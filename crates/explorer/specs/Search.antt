@@ -66,7 +66,7 @@ IsSettled p finished e = 0 < e.number → Settles p e.state e.number × (e.numbe
 unfoldable pub AllSettled : Program → ℕ → List StoredState → Type 0
 AllSettled p finished entries = All (IsSettled p finished) entries
 
--- an instruction begins at the state's slot, and at each slot to which a live frame returns
+-- an instruction begins at the state's slot, and at each slot to which a live call frame returns
 pub record IsAtInsns (p : Program) (s : State) : Type 0 where
   pub begins : BeginsInsn p s.slot
   pub returns : All (BeginsInsn p) (returns_of s)

@@ -7,7 +7,7 @@ use reg_state::Kind;
 use stack_state::AbstractFrame;
 use walks::clear_slots;
 
-/// Forgets what is known of a frame.
+/// Forgets what is known of a call frame.
 pub fn clear_frame(frame: &mut AbstractFrame)
     ensures { frame.new ≡ unset_frame frame.old.return_slot }
 {

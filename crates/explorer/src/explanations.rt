@@ -161,7 +161,7 @@ impl Listener for Follower<'_> {
         Ok(())
     }
 
-    fn covered(&mut self, _place: usize, _number: u32) -> Result<(), AllocError> {
+    fn covered(&mut self, _index: usize, _number: u32) -> Result<(), AllocError> {
         self.go_back();
         Ok(())
     }

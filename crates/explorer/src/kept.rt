@@ -12,7 +12,7 @@ use std::alloc::{AllocError, Global};
 use std::marker::Model;
 use std::rc::Rc;
 
-/// How many parts a frame has: its registers and its slots.
+/// How many parts a call frame has: its registers and its stack slots.
 pub const PLACES: usize = 10 + FRAME_SIZE / 8;
 
 /// How many words a state takes beside its frames.
@@ -95,7 +95,7 @@ impl Kept {
         Kept::of_parts(alloc, state, room, other)
     }
 
-    /// The same for a state of whose innermost stack nothing is known but of these slots.
+    /// The same for a state of whose innermost stack nothing is known but of these stack slots.
     pub(crate) fn of_forgotten(
         alloc: Global,
         state: &State,

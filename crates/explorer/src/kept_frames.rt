@@ -166,7 +166,7 @@ fn are_registers(rest: &mut Rest<'_>, registers: &[Kind; 10]) -> bool
     true
 }
 
-/// Takes what is known of slots, if the next parts say just that.
+/// Takes what is known of stack slots, if the next parts say just that.
 fn are_slots(rest: &mut Rest<'_>, slots: &[StackSlot; FRAME_SLOTS]) -> bool
     ensures same { IsTrue result → rest.old ≡ slot_parts 0 slots.now ++ rest.new }
     ensures wide { length slots.now ≡ frame_slots }
@@ -224,7 +224,7 @@ fn resize(frames: &mut ArrayVec<AbstractFrame, MAX_CALLERS>, count: usize, frame
     }
 }
 
-/// Makes the frames like the ones that were kept, in their places.
+/// Makes each frame like the one of its index that was kept.
 pub fn restore_all(
     kept: &[KeptFrame],
     frames: &mut ArrayVec<AbstractFrame, MAX_CALLERS>,

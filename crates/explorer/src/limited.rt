@@ -50,7 +50,7 @@ impl Listener for Countdown {
         Ok(())
     }
 
-    fn covered(&mut self, _place: usize, _number: u32) -> Result<(), Reached> {
+    fn covered(&mut self, _index: usize, _number: u32) -> Result<(), Reached> {
         Ok(())
     }
 

@@ -32,7 +32,7 @@ pub trait Listener {
 
     /// The last state of the path is covered by the stored state with this index, and so has its
     /// number.
-    fn covered(&mut self, place: usize, number: u32) -> Result<(), Self::Stop>
+    fn covered(&mut self, index: usize, number: u32) -> Result<(), Self::Stop>
         ensures { (p : Program) (s : TheState) (path : List TheState) (last : TheState)
             → follows self.old p (s ∷ path) last → OnOk result (follows self.new p path last) };
 
@@ -131,7 +131,7 @@ impl Listener for Nobody {
     }
 
     #[inline(always)]
-    fn covered(&mut self, _place: usize, _number: u32) -> Result<(), Infallible> {
+    fn covered(&mut self, _index: usize, _number: u32) -> Result<(), Infallible> {
         Ok(())
     }
 

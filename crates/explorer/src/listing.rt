@@ -62,10 +62,10 @@ impl Explored {
     }
 
     /// The one with this index.
-    pub fn entry(&self, place: usize) -> Option<&ExploredInsn>
-        ensures { option_copied result ≡ slice_get self.now place }
+    pub fn entry(&self, index: usize) -> Option<&ExploredInsn>
+        ensures { option_copied result ≡ slice_get self.now index }
     {
-        self.entries.get(place)
+        self.entries.get(index)
     }
 }
 
@@ -78,7 +78,7 @@ struct Lister {
     stored: Vec<u32>,
     /// Where those of the path's states are.
     path: Vec<u32>,
-    /// For the parts of a frame.
+    /// For the parts of a call frame.
     room: Vec<Part>,
     /// A state about which nothing is known: a placeholder in the list of stored states until their
     /// values are restored.
@@ -102,7 +102,7 @@ impl Lister {
     }
 
     /// The instruction at this index is a successor of the path's last state.
-    fn lead_to(&mut self, place: u32) {
+    fn lead_to(&mut self, index: u32) {
         let Some(last) = self.path.last() else {
             return;
         };
@@ -112,7 +112,7 @@ impl Lister {
         }
         let successors = &mut self.entries[last].successors;
         if !successors.is_full() {
-            successors.push(place);
+            successors.push(index);
         }
     }
 
@@ -135,12 +135,12 @@ impl Lister {
     /// The instructions of stored states get those states, which are not needed any more where they
     /// are stored.
     fn take_stored(&mut self, states: &mut [StoredState]) {
-        for place in 0..states.len() {
-            let Some(entry) = self.stored.get(place).copied() else {
+        for index in 0..states.len() {
+            let Some(entry) = self.stored.get(index).copied() else {
                 return;
             };
             if let Some(entry) = self.entries.get_mut(entry as usize) {
-                mem::swap(&mut entry.state, &mut states[place].state);
+                mem::swap(&mut entry.state, &mut states[index].state);
             }
         }
     }
@@ -153,10 +153,10 @@ impl Lister {
         stored: Option<usize>,
         kept: Option<&Kept>,
     ) -> Result<(), AllocError> {
-        let Ok(place) = u32::try_from(self.entries.len()) else {
+        let Ok(index) = u32::try_from(self.entries.len()) else {
             return Err(AllocError);
         };
-        self.lead_to(place);
+        self.lead_to(index);
         let state = match stored {
             Some(_) => self.keep_blank()?,
             None => Kept::of(self.alloc, state, &mut self.room, kept)?,
@@ -167,9 +167,9 @@ impl Lister {
             successors: ArrayVec::new(),
         })?;
         if stored.is_some() {
-            self.stored.push(place)?;
+            self.stored.push(index)?;
         }
-        self.path.push(place)?;
+        self.path.push(index)?;
         Ok(())
     }
 }
@@ -183,8 +183,8 @@ impl Listener for Lister {
         Ok(())
     }
 
-    fn covered(&mut self, place: usize, _number: u32) -> Result<(), AllocError> {
-        if let Some(entry) = self.stored.get(place).copied() {
+    fn covered(&mut self, index: usize, _number: u32) -> Result<(), AllocError> {
+        if let Some(entry) = self.stored.get(index).copied() {
             self.lead_to(entry);
         }
         Ok(())

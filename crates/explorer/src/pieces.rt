@@ -12,10 +12,10 @@ use std::alloc::{AllocError, Global};
 use std::marker::Model;
 use std::rc::Rc;
 
-/// How many parts of a frame are not put into pieces, if these are all.
+/// How many parts of a call frame are not put into pieces, if these are all.
 pub const FEW: usize = 4;
 
-/// How many registers or slots a piece has at most.
+/// How many registers or stack slots a piece has at most.
 const REGISTERS: u8 = 3;
 
 const SLOTS: u8 = 8;
@@ -83,7 +83,7 @@ impl SharedParts {
     }
 }
 
-/// The key of a piece: the numbers of its registers or slots.
+/// The key of a piece: the numbers of its registers or stack slots.
 fn group_of(part: &Part) -> u8 {
     match part {
         Part::InRegister(place, _) => *place / REGISTERS,
@@ -288,7 +288,7 @@ impl<'a> Rest<'a> {
         }
     }
 
-    /// Takes what is known of a slot, if the next part says just that.
+    /// Takes what is known of a stack slot, if the next part says just that.
     #[inline(always)]
     pub fn is_slot(&mut self, place: u8, slot: &StackSlot) -> bool
         ensures { IsTrue result → self.old ≡ option_to_list (slot_part place slot.now) ++ self.new }

@@ -148,7 +148,7 @@ impl StoredStates {
     }
 
     /// Takes a state to be looked up and stored next. It may have been kept already; if not,
-    /// nothing is known of its innermost stack but of these slots.
+    /// nothing is known of its innermost stack but of these stack slots.
     pub fn turn_to(
         &mut self,
         alloc: Global,

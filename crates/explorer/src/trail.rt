@@ -55,7 +55,7 @@ impl Model for Trail {
     ghost invariant = { λ trail. waiting_count trail.steps.items ≡ length trail.pending.items };
 }
 
-/// The place in half the room, if it has room there.
+/// The index of a stored state in half the room, if it has room there.
 #[inline(always)]
 fn narrowed(stored: Option<usize>) -> Result<Option<u32>, AllocError>
     ensures { IfOk result (λ narrow. narrow ≡ stored) }

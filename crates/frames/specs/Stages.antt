@@ -32,7 +32,7 @@ HasRoomForRecord number (next.Frame head n reason) = (number < max_frames) × (n
 HasRoomForRecord number next.End = Unit {0}
 HasRoomForRecord number (next.Fault f offset) = Unit {0}
 
--- the stage after what was found at a record's place
+-- the stage after what was found where a record may begin
 abbrev pub IsStageAfter : Version → ℕ → ℕ → Next → Stage → Type 0
 IsStageAfter version number offset (next.Frame head n reason) after = after ≡ stage.At version (number + 1) (offset + (head_size version + n))
 IsStageAfter version number offset next.End after = after ≡ stage.Done version finish.End

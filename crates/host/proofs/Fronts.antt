@@ -9,7 +9,7 @@ use Rattle.isa_model.specs.Machine.States.{KeyValues}
 use Rattle.isa_model.specs.Running.Runs.{Outcome, Turn}
 use Rattle.isa_model.proofs.RunLaws.{turn-outcome, HasOutcome-same}
 use Rattle.isa_model.specs.Reporting.Streams.{PacketFrame, stream_with}
-use Rattle.isa_model.specs.Reporting.Reports.{OutputPart, ToReport, ToFrames, ReportForm, frame_line, frame_pieces, skip_pieces, turn_on, turn_pieces, contents_left, turns_pieces, maps_pieces, last_line, checked_rule, turn_by, starting_contents, ReportsFrame, ReportsFrames, form_of, IsReport}
+use Rattle.isa_model.specs.Reporting.Reports.{OutputPart, ToReport, ToFrames, ReportForm, frame_line, frame_pieces, skip_pieces, turn_on, turn_pieces, contents_left, turns_pieces, maps_pieces, last_line, checked_rule, turn_by, starting_contents, ReportsFrame, ReportsFrames, report_form_of, IsReport}
 use Rattle.isa_model.specs.Running.Outcomes.{ExitsOn, AllExit}
 use Rattle.host.specs.Reported.{front_in}
 
@@ -69,7 +69,7 @@ module _ (p : Program) (n : ℕ) where
       → (rest : List OutputPart) × (pieces ≡ front_in (record { limit = n; program = p.version; stream = v }) (checked_rule p n) (starting_contents p.maps) frames ++ rest)
   first_pieces v frames more finish pieces exits h =
       let found = stream_with v (frames ++ more, finish) in
-      let form = form_of p found in
+      let form = report_form_of p found in
       let (rest, same) = first_frames form 0 (starting_contents p.maps) frames more h.turns h.last exits h.frames in
       let front = turns_pieces (limited form) (checked_rule p n) 0 (starting_contents p.maps) frames in
       let closing = maps_pieces 0 p.maps h.last ++ ToReport (last_line (length (frames ++ more)) finish) ∷ [] in (

@@ -5,8 +5,8 @@ use Rattle.isa_model.specs.Code.Versions.{version_number}
 use Rattle.isa_model.specs.Reporting.Reports.{ReportForm}
 use Rattle.host.specs.declared.forms.ReportForm.{ReportForm as Fields}
 
-abbrev pub form_by : Fields → ReportForm
-form_by form = record { limit = form.limit; program = form.program; stream = form.stream }
+abbrev pub report_form_by : Fields → ReportForm
+report_form_by form = record { limit = form.limit; program = form.program; stream = form.stream }
 
 -- a version by its number
 abbrev pub IsVersionOf : ℕ → Version → Type 0

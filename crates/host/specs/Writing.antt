@@ -6,7 +6,7 @@ use Rattle.isa_model.specs.Reporting.Reports.{OutputPart, ToReport, ToFrames, re
 use Rattle.host.specs.declared.errors.HostError.{HostError}
 use Rattle.host.specs.declared.errors.HostError.TheVariants as failure
 
--- what the report and the frames out hold, where their writers tell
+-- what the report and the frames out hold, where their writers tell it
 pub record Outputs : Type 0 where
   pub report : Option (List ℕ)
   pub frames : Option (List ℕ)

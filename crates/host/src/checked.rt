@@ -65,8 +65,8 @@ impl Runner for CheckedRunner {
 /// gives, at most `limit` steps a frame. The report goes to one writer, and the frames that are
 /// sent on to the other.
 ///
-/// A frame with a reason is not run, and is sent on unchanged. If a run ends without an action, the
-/// place where it stopped is noted.
+/// A frame with a reason is not run, and is sent on unchanged. If a run ends without an action, it
+/// is noted where it stopped.
 ///
 /// Every answer of a frame's clock is the frame's time. Memory is taken before the first byte is
 /// written, and none after that. Nothing is tried again, and after a failure nothing is written to

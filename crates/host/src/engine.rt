@@ -2,7 +2,7 @@
 ghost use Rattle.std.specs.Prelude.{◌≡◌, ◌≢◌, ◌≤◌, [], ◌∷◌, ◌++◌, length, IfOk};
 ghost use Rattle.isa_model.specs.Code.Limits.{max_body};
 ghost use Rattle.isa_model.specs.Reporting.Reports.{ToReport, maps_pieces, last_line, frame_pieces, skip_pieces, turn_pieces, turn_on, contents_left};
-ghost use Rattle.host.specs.Forms.{form_by};
+ghost use Rattle.host.specs.Forms.{report_form_by};
 ghost use Rattle.host.specs.Stops.{noted_of, noted_on, TellsNoted};
 ghost use Rattle.host.specs.Tallies.{tally_of};
 ghost use Rattle.host.specs.Writing.{WritesEach, WritesReport};
@@ -43,7 +43,7 @@ fn run_frame<M: Runner, W1: Write, W2: Write>(
     ensures writes { WritesEach
         record { report = W1.contents report.old; frames = W2.contents out.old }
         record { report = W1.contents report.new; frames = W2.contents out.new } result
-        (frame_pieces (form_by form) frame.number
+        (frame_pieces (report_form_by form) frame.number
         record { head = frame.head; body = body.old; reason = frame.reason }
         (M.rule machine.old frame.head body.old (M.contents machine.old))) }
     ensures contents { M.contents machine.new
@@ -85,7 +85,7 @@ fn skip_frame<W1: Write, W2: Write>(
     ensures writes { WritesEach
         record { report = W1.contents report.old; frames = W2.contents out.old }
         record { report = W1.contents report.new; frames = W2.contents out.new } result
-        (skip_pieces (form_by form) frame.number
+        (skip_pieces (report_form_by form) frame.number
         record { head = frame.head; body = body.now; reason = frame.reason }) }
     ensures made { result ≢ Err HostError.Memory }
 {
@@ -113,7 +113,7 @@ fn take_frame<M: Runner, W1: Write, W2: Write>(
     ensures writes { WritesEach
         record { report = W1.contents report.old; frames = W2.contents out.old }
         record { report = W1.contents report.new; frames = W2.contents out.new } result
-        (turn_pieces (form_by form) frame.number
+        (turn_pieces (report_form_by form) frame.number
         record { head = frame.head; body = body.old; reason = frame.reason }
         (turn_on (M.rule machine.old) (M.contents machine.old)
         record { head = frame.head; body = body.old; reason = frame.reason })) }

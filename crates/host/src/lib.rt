@@ -7,9 +7,9 @@
 mod checked;
 mod clocks;
 mod engine;
-mod entries;
 mod errors;
 mod forms;
+mod key_values;
 mod lines;
 mod listings;
 mod reasons;

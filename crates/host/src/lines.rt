@@ -2,7 +2,7 @@
 ghost use Rattle.std.specs.Prelude.{◌≡◌, ◌+◌, ◌≤◌, ◌++◌, length, IfSome, decimal};
 ghost use Rattle.arrayvec.specs.ArrayString.{array_string_len};
 ghost use Rattle.isa_model.specs.Reporting.Reports.{frame_line, skip_line, last_line, reason_text};
-ghost use Rattle.host.specs.Forms.{form_by};
+ghost use Rattle.host.specs.Forms.{report_form_by};
 
 use super::forms::ReportForm;
 use super::reasons::reason_of;
@@ -79,7 +79,7 @@ fn push_reason(line: &mut ReportLine, stream: Version, reason: u32)
 #[tactic(auto, unfolding(isa_model::specs::Reporting::Reports::frame_line))]
 #[inline(always)]
 pub fn line_of_frame(form: ReportForm, number: u32, end: End, size: usize) -> ReportLine
-    ensures { result.bytes ≡ frame_line (form_by form) number end size }
+    ensures { result.bytes ≡ frame_line (report_form_by form) number end size }
 {
     let mut line = ReportLine::new();
     push_number(&mut line, u64::from(number));

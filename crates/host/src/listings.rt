@@ -7,8 +7,8 @@ ghost use Rattle.maps.specs.Maps.{rows_of, contents_of};
 ghost use Rattle.host.specs.Listed.{AreListed};
 ghost use Rattle.host.specs.Writing.{WritesReport};
 
-use super::entries::{KeyValueLine, put_key_value};
 use super::errors::HostError;
+use super::key_values::{KeyValueLine, put_key_value};
 use exact_io::write_bytes;
 use isa_model::MapDef;
 use maps::{KEY_ROOM, Maps, Ordered};

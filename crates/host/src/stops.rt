@@ -7,7 +7,7 @@ use arrayvec::ArrayVec;
 use checked_vm::RunEnd;
 use isa_model::{Action, End, Value};
 
-/// The most frames that are kept, the first ones.
+/// How many frames are kept at most: the first ones.
 pub const MOST_STOPS: usize = 20;
 
 /// A frame by its number, and where its run stopped.

@@ -36,7 +36,7 @@ use Rattle.isa_model.specs.declared.instructions.Insn.TheVariants.{Alu, Neg, Mov
 use Rattle.isa_model.specs.declared.slots.Slot.{Slot}
 use Rattle.isa_model.specs.Code.Registers.{reg_numbered}
 use Rattle.isa_model.specs.Code.Sizes.{span_bits}
-use Rattle.isa_model.specs.Code.Spelling.{alu_code, alu_offset, alu_class, jump_class, jump_code, extension_class, extension_bits, order_opcode, size_code, narrow_code, atomic_opcode, atomic_code, fetch_bit, first_slot, next_imm, second_bytes, InsnFits, OperandFits}
+use Rattle.isa_model.specs.Code.Spelling.{alu_code, alu_offset, alu_class, jump_class, jump_code, extension_class, extension_bits, order_opcode, size_code, signed_code, atomic_opcode, atomic_code, fetch_bit, first_slot, next_imm, second_bytes, InsnFits, OperandFits}
 use Rattle.isa_model.proofs.RegisterLaws.{reg_numbered-reg_number}
 use Rattle.insn_codec.specs.declared.errors.CodecError.{CodecError}
 use Rattle.insn_codec.specs.declared.errors.CodecError.TheVariants.{UnusedField, SecondSlot}
@@ -115,7 +115,7 @@ form_load : (size : Size) → form_of (0x61 + size_code size) ≡ Some (form.Loa
 form_load U8 = refl
 form_load size = refl
 
-form_load_signed : (size : SignedSize) → form_of (0x81 + narrow_code size) ≡ Some (form.LoadSx size)
+form_load_signed : (size : SignedSize) → form_of (0x81 + signed_code size) ≡ Some (form.LoadSx size)
 form_load_signed S8 = refl
 form_load_signed size = refl
 

@@ -5,7 +5,7 @@ use Rattle.std.specs.Option.{option_map_or}
 use Rattle.std.proofs.lemmas.Bool.{agree_below_at, eqb-true}
 use Rattle.isa_model.specs.declared.registers.Reg.{Reg}
 use Rattle.isa_model.specs.Code.Registers.{reg_number, reg_numbered}
-use Rattle.isa_model.specs.Code.Spelling.{alu_class, jump_class, jump_code, order_opcode, size_code, narrow_code, atomic_opcode}
+use Rattle.isa_model.specs.Code.Spelling.{alu_class, jump_class, jump_code, order_opcode, size_code, signed_code, atomic_opcode}
 use Rattle.insn_codec.specs.declared.forms.AluCode.{AluCode}
 use Rattle.insn_codec.specs.declared.forms.AluCode.TheVariants as codes
 use Rattle.insn_codec.specs.declared.forms.Form.{Form}
@@ -39,7 +39,7 @@ opcode_of (form.JumpIfRegister w c) = jump_code c + 0x08 + jump_class w
 opcode_of form.Call = 0x85
 opcode_of form.Exit = 0x95
 opcode_of (form.Load size) = 0x61 + size_code size
-opcode_of (form.LoadSx size) = 0x81 + narrow_code size
+opcode_of (form.LoadSx size) = 0x81 + signed_code size
 opcode_of (form.StoreConstant size) = 0x62 + size_code size
 opcode_of (form.Store size) = 0x63 + size_code size
 opcode_of (form.Atomic w) = atomic_opcode w

@@ -98,8 +98,8 @@ size_numbered c =
     else if c == 0xf then Some U64
     else None
 
-abbrev pub narrow_numbered : ℕ → Option SignedSize
-narrow_numbered c =
+abbrev pub signed_numbered : ℕ → Option SignedSize
+signed_numbered c =
     if c == 0x10 then Some S32
     else if c == 0x11 then Some S16
     else if c == 0x12 then Some S8
@@ -107,7 +107,7 @@ narrow_numbered c =
 
 abbrev pub load_other : Option Size → ℕ → Option Form
 load_other (Some size) c = Some (form.Load size)
-load_other None c = option_map form.LoadSx (narrow_numbered c)
+load_other None c = option_map form.LoadSx (signed_numbered c)
 
 abbrev pub load_form : ℕ → Option Form
 load_form c = load_other (size_numbered c) c

@@ -4,7 +4,7 @@ ghost use Rattle.std.specs.Prelude.{◌≡◌, ◌+◌, ◌<◌};
 ghost use Rattle.std.specs.Int.{w32, cast_unsigned};
 ghost use Rattle.isa_model.specs.Code.Registers.{reg_number};
 ghost use Rattle.isa_model.specs.Code.Sizes.{span_bits};
-ghost use Rattle.isa_model.specs.Code.Spelling.{first_slot, next_imm, slot, offset16, alu_code, alu_offset, alu_class, jump_code, jump_class, operand_bit, operand_src, operand_imm, extension_class, extension_bits, order_opcode, size_code, narrow_code, atomic_opcode, atomic_code, fetch_bit};
+ghost use Rattle.isa_model.specs.Code.Spelling.{first_slot, next_imm, slot, offset16, alu_code, alu_offset, alu_class, jump_code, jump_class, operand_bit, operand_src, operand_imm, extension_class, extension_bits, order_opcode, size_code, signed_code, atomic_opcode, atomic_code, fetch_bit};
 
 use isa_model::{
     AluOp, AtomicOp, ByteOrder, Comparison, Cond, Extension, Insn, Operand, Place, Reg, SignedSize,
@@ -143,8 +143,8 @@ fn size_code(size: Size) -> u8
     }
 }
 
-fn narrow_code(size: SignedSize) -> u8
-    ensures { result ≡ narrow_code size }
+fn signed_code(size: SignedSize) -> u8
+    ensures { result ≡ signed_code size }
 {
     match size {
         SignedSize::S32 => 0x00,
@@ -279,7 +279,7 @@ pub fn first_slot(insn: &Insn) -> Slot
         Insn::LoadMap(dst, map) => slot(0x18, register_field(dst), 5, 0, map),
         Insn::LoadMapValue(dst, map, _) => slot(0x18, register_field(dst), 6, 0, map),
         Insn::Load(size, dst, place) => load_slot(0x61 + size_code(size), dst, place),
-        Insn::LoadSx(size, dst, place) => load_slot(0x81 + narrow_code(size), dst, place),
+        Insn::LoadSx(size, dst, place) => load_slot(0x81 + signed_code(size), dst, place),
         Insn::StoreConstant(size, place, constant) => store_constant_slot(size, place, constant),
         Insn::Store(size, place, src) => store_slot(0x63 + size_code(size), place, src, 0),
         Insn::Atomic(width, op, fetch, place, src) => {

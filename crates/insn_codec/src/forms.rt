@@ -1,7 +1,7 @@
 //! The forms that opcodes name. RFC 9669, sections 4 and 5.
 
 ghost use Rattle.std.specs.Prelude.{◌≡◌};
-ghost use Rattle.insn_codec.specs.Forms.{alu_code_numbered, has_selector, comparison_numbered, size_numbered, narrow_numbered, swap_form, arithmetic_form, jump_form, full_only, load_form, store_constant_form, store_form, form_of, uses};
+ghost use Rattle.insn_codec.specs.Forms.{alu_code_numbered, has_selector, comparison_numbered, size_numbered, signed_numbered, swap_form, arithmetic_form, jump_form, full_only, load_form, store_constant_form, store_form, form_of, uses};
 
 use isa_model::{ByteOrder, Comparison, SignedSize, Size, Width};
 
@@ -116,8 +116,8 @@ fn size_numbered(code: u8) -> Option<Size>
     }
 }
 
-fn narrow_numbered(code: u8) -> Option<SignedSize>
-    ensures { result ≡ narrow_numbered code }
+fn signed_numbered(code: u8) -> Option<SignedSize>
+    ensures { result ≡ signed_numbered code }
 {
     match code {
         0x10 => Some(SignedSize::S32),
@@ -182,7 +182,7 @@ fn load_form(code: u8) -> Option<Form>
 {
     match size_numbered(code) {
         Some(size) => Some(Form::Load(size)),
-        None => Some(Form::LoadSx(narrow_numbered(code)?)),
+        None => Some(Form::LoadSx(signed_numbered(code)?)),
     }
 }
 

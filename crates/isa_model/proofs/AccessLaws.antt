@@ -21,9 +21,9 @@ use Rattle.isa_model.specs.declared.values.Cell.TheVariants.{Byte}
 use Rattle.isa_model.specs.declared.values.CallFrame.{CallFrame}
 use Rattle.isa_model.specs.declared.map_defs.MapDef.{MapDef}
 use Rattle.isa_model.specs.declared.ends.TrapReason.TheVariants.{BadAccess}
-use Rattle.isa_model.specs.Code.Sizes.{size_bytes, width_size, narrow_size, narrow_extension}
+use Rattle.isa_model.specs.Code.Sizes.{size_bytes, width_size, unsigned_size, size_extension}
 use Rattle.isa_model.specs.Code.Numbers.{sign_extended, bytes_of}
-use Rattle.isa_model.proofs.ExtensionLemmas.{sign_extended_fits}
+use Rattle.isa_model.proofs.ExtensionLaws.{sign_extended_fits}
 use Rattle.isa_model.specs.Code.Instructions.{Program, fetch}
 use Rattle.isa_model.specs.Machine.States.{Stored, Content, KeyValues, key_values_of, State, content_of, new_frame, frame_at}
 use Rattle.isa_model.specs.Machine.Memory.{and_then, frame_index, index_of_serial, key_value_at, number_in, value_in, pieces, index_at, region_cells, place_of, cells_at, read, put, write, context_field, number_at, memory_load, load_from, load, load_number, load_signed, store_number, store_pointer, store}
@@ -151,9 +151,9 @@ pub load_signed_fits : (p : Program) (s : State) (size : SignedSize) (v : Value)
     → IsState p s
     → IfOk (load_signed s size v by) (IsValue (length p.maps) s.next_serial)
 load_signed_fits p s size v by k =
-    IfOk-and_then (λ n. n < 2 ^ 64) (IsValue (length p.maps) s.next_serial) (load_number s (narrow_size size) v by)
-    (λ n. Ok (Num (sign_extended (narrow_extension size) n))) (load_number_fits p s (narrow_size size) v by k)
-    (λ n h. sign_extended_fits (narrow_extension size) n)
+    IfOk-and_then (λ n. n < 2 ^ 64) (IsValue (length p.maps) s.next_serial) (load_number s (unsigned_size size) v by)
+    (λ n. Ok (Num (sign_extended (size_extension size) n))) (load_number_fits p s (unsigned_size size) v by k)
+    (λ n h. sign_extended_fits (size_extension size) n)
 
 -- ---- stores
 

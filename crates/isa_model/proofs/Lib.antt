@@ -1,6 +1,6 @@
-pub mod ExtensionLemmas
+pub mod ExtensionLaws
 pub mod LittleEndianLaws
-pub mod NumberLemmas
+pub mod NumberLaws
 pub mod AccessLaws
 pub mod ByteCells
 pub mod CallLaws

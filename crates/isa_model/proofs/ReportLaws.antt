@@ -1,4 +1,4 @@
--- Laws of the definitions in specs/Reporting/ReportLaws.
+-- Laws of reports: where all runs exit in time the checked one is the report, and the only one.
 use Rattle.std.specs.Prelude.{◌≡◌, ℕ, zero, suc, ◌+◌, ◌<◌, ◌≤◌, ◌==◌, List, [], ◌∷◌, ◌++◌, drop, length, if◌then◌else◌, Bool, true, false, All, Option, Some, None, Result, Ok, Err, refl}
 use Rattle.std.proofs.Common.{sym, ap, ◌∙◌, subst, arith}
 use Rattle.std.proofs.lemmas.List.{length-take}
@@ -21,7 +21,7 @@ use Rattle.isa_model.specs.Machine.MachineStates.{AreBytes, FitRows, IsProgram, 
 use Rattle.isa_model.proofs.ValueLaws.{slice_index_fits}
 use Rattle.isa_model.specs.Running.Outcomes.{StartsEnd, AllExit, ExitsOn}
 use Rattle.isa_model.proofs.OutcomesLaws.{ExitsWithin, ExitsWithin-StartsEnd, FitRows-HasOutcome}
-use Rattle.isa_model.specs.Reporting.Reports.{OutputPart, ToReport, ToFrames, ReportForm, maps_pieces, last_line, frame_pieces, frame_line, skip_pieces, turn_pieces, contents_left, turns_pieces, contents_after, checked_rule, checked_report, turn_by, starting_contents, ReportsFrame, ReportsFrames, form_of, IsReport}
+use Rattle.isa_model.specs.Reporting.Reports.{OutputPart, ToReport, ToFrames, ReportForm, maps_pieces, last_line, frame_pieces, frame_line, skip_pieces, turn_pieces, contents_left, turns_pieces, contents_after, checked_rule, checked_report, turn_by, starting_contents, ReportsFrame, ReportsFrames, report_form_of, IsReport}
 
 reason_fits : (v : Version) (bytes : List ℕ) → AreBytes bytes → ReasonFits v (reason_field v bytes)
 reason_fits One bytes h = refl
@@ -147,7 +147,7 @@ pub IsReport-checked : (p : Program) (n : ℕ) (found : Stream) → IsProgram p 
     → AreFrames found
     → IsReport p found (checked_report p n found) × AllExit p n (starting_contents p.maps) found.frames
 IsReport-checked p n found program h fits each =
-    let form = form_of p found in
+    let form = report_form_of p found in
     let (exits, reports) = runs_on p n form 0 (starting_contents p.maps) found.version found.frames program h fits each in
     let rule = checked_rule p n in (
       record {
@@ -182,7 +182,7 @@ ReportsFrames-same form p number contents (f ∷ frames) pieces others last end 
 -- a program has at most one report of the same stream
 pub IsReport-same : (p : Program) (found : Stream) (pieces others : List OutputPart) → IsReport p found pieces → IsReport p found others → pieces ≡ others
 IsReport-same p found pieces others h k =
-    let (turns, last) = ReportsFrames-same (form_of p found) p 0 (starting_contents p.maps) found.frames h.turns k.turns h.last k.last h.frames k.frames in
+    let (turns, last) = ReportsFrames-same (report_form_of p found) p 0 (starting_contents p.maps) found.frames h.turns k.turns h.last k.last h.frames k.frames in
     let ends = ToReport (last_line (length found.frames) found.finish) ∷ [] in
     h.whole
     ∙ ap (λ (l : List OutputPart). (ToFrames (stream_magic found.version) ∷ l) ++ (maps_pieces 0 p.maps h.last ++ ends)) turns

@@ -20,9 +20,9 @@ use Rattle.isa_model.proofs.EndsLaws.{Reaches-then, Reaches-before}
 use Rattle.isa_model.specs.MustAccept.Paths.{IsOneOf}
 use Rattle.isa_model.specs.MustAccept.Determined.{IsDeterminedForm}
 
--- ---- where a run that exits is
+-- ---- the steps of a run that exits
 
--- the nth step of the run exits, or it goes on
+-- the step after k others exits, or the run goes on
 pub record LastStep (p : Program) (clock : ℕ → ℕ) (k steps number : ℕ) (t : State) : Type 0 where
   pub exits : step p clock t ≡ Finished number
   pub last : steps ≡ suc k
@@ -61,7 +61,7 @@ below_steps p clock s steps a k t runs reached =
       | inr next ↦ let more = next.more in omega (arith, more)
     ]
 
--- it does not trap
+-- a run that exits does not trap on its way
 pub no_trap : (p : Program) (clock : ℕ → ℕ) (s : State) (steps a k : ℕ) (t : State) (e : TrapReason) → Runs p clock s steps a → Reaches p clock s k t → step p clock t ≡ Trapped e → ⊥
 no_trap p clock s steps a k t e runs reached trapped =
     elim (run_at p clock s steps a k t runs reached) [
@@ -76,7 +76,7 @@ is_set [] test r none among = absurd among
 is_set (q ∷ rs) test r none (inl same) = ap test same ∙ (or_parts (test q) (list_any test rs) none).0
 is_set (q ∷ rs) test r none (inr rest) = is_set rs test r (or_parts (test q) (list_any test rs) none).1 rest
 
--- an instruction whose registers pass acts
+-- an instruction acts if what it reads is set and it does not write the frame pointer
 pub step_acts : (p : Program) (clock : ℕ → ℕ) (t : State) (i : Insn) → fetch p t.slot ≡ Some i → list_any (λ r. is_unset (reg t r)) (reads i) ≡ false → is_frame_pointer (writes i) ≡ false
     → step p clock t ≡ act p clock t i
 unfolding step
@@ -84,7 +84,7 @@ step_acts p clock t i here set own =
     let acts : performed p clock t i ≡ act p clock t i = rw (set, own) refl in
     ap (performed_at p clock t) here ∙ acts
 
--- what reads an unset register traps
+-- an instruction that reads an unset register traps
 pub step_unset : (p : Program) (clock : ℕ → ℕ) (t : State) (i : Insn) → fetch p t.slot ≡ Some i → list_any (λ r. is_unset (reg t r)) (reads i) ≡ true
     → (e : TrapReason) × (step p clock t ≡ Trapped e)
 unfolding step

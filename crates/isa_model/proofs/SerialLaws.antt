@@ -7,7 +7,7 @@ use Rattle.std.proofs.lemmas.List.Kept.{AllPairs-cons}
 
 -- ---- one more
 
--- `more` is `some` with n put in at a place
+-- `more` is `some` with n put in at an index
 pub record HasOneMore (n : ℕ) (some more : List ℕ) : Type 0 where
   pub front : List ℕ
   pub back : List ℕ

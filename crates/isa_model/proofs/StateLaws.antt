@@ -53,7 +53,7 @@ IsState-go_to p s slot h k = IsState-moved p s slot s.regs s.clock_calls h k.reg
 
 -- ---- a register set
 
--- a place of a list of values holds one
+-- what a list of values has at an index is a value
 pub value_at_fits : (rows next : ℕ) (regs : List Value) (n : ℕ) → All (IsValue rows next) regs → IsValue rows next (value_at regs n)
 value_at_fits rows next [] n h = tt
 value_at_fits rows next (v ∷ regs) zero h = All-head (IsValue rows next) v regs h

@@ -23,8 +23,8 @@ use Rattle.isa_model.specs.declared.values.CallFrame.{CallFrame}
 use Rattle.isa_model.specs.declared.ends.TrapReason.{TrapReason}
 use Rattle.isa_model.specs.declared.ends.TrapReason.TheVariants.{UnsetRead, ReadOnly, TooManyFrames, BadAction}
 use Rattle.isa_model.specs.Code.Numbers.{low, unsigned, alu, sign_extended, reordered, negated, atomic_alu}
-use Rattle.isa_model.proofs.NumberLemmas.{alu_fits, reordered_fits}
-use Rattle.isa_model.proofs.ExtensionLemmas.{sign_extended_fits}
+use Rattle.isa_model.proofs.NumberLaws.{alu_fits, reordered_fits}
+use Rattle.isa_model.proofs.ExtensionLaws.{sign_extended_fits}
 use Rattle.isa_model.specs.Code.Spelling.{InsnFits, OperandFits}
 use Rattle.isa_model.specs.Code.Instructions.{Program, fetch, slots_filled, reads, writes, is_frame_pointer}
 use Rattle.isa_model.specs.Code.Helpers.{helper_numbered}

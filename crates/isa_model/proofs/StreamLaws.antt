@@ -1,4 +1,4 @@
--- Laws of the definitions in specs/Reporting/StreamLaws.
+-- Laws of frame streams: the parts of a record, and what a stream of records in a row has.
 use Rattle.std.proofs.Common.{◌≡◌, ◌≢◌, ℕ, zero, suc, ◌+◌, ◌<◌, ◌≤◌, List, [], ◌∷◌, ◌++◌, length, take, drop, Option, None, Some, Ok, Err, nat_lt, false, le-ltb, refl, sym, ap, ◌∙◌, subst, append_assoc, append-nil, length-append, length-drop, arith, add-zero}
 use Rattle.std.proofs.lemmas.List.{take_at, drop_at, drop-drop}
 use Rattle.std.proofs.lemmas.Bool.Decides.{nat_tests}

@@ -23,7 +23,7 @@ use Rattle.isa_model.specs.declared.ends.TrapReason.{TrapReason}
 use Rattle.isa_model.specs.declared.ends.TrapReason.TheVariants.{UnsetRead, BadPointer, OutOfRange, BadAccess}
 use Rattle.isa_model.specs.Code.Sizes.{size_bytes}
 use Rattle.isa_model.specs.Code.Numbers.{signed, unsigned, bytes_of, number_from}
-use Rattle.isa_model.proofs.NumberLemmas.{alu_fits, low_below, width_fits}
+use Rattle.isa_model.proofs.NumberLaws.{alu_fits, low_below, width_fits}
 use Rattle.isa_model.specs.Code.Limits.{offset_limit}
 use Rattle.isa_model.specs.Machine.Pointers.{can_move, pointer_at, moved_to, pointer_and_number, number_and_pointer, moved, combined, arithmetic, on_number}
 use Rattle.isa_model.specs.Machine.Memory.{and_then, is_unwritten, is_byte, byte_in, number_of, pieces, are_pieces, pointer_in, number_in, value_in}

@@ -9,4 +9,4 @@ pub mod MapRows
 pub mod Spelling
 pub mod LittleEndian
 pub mod Numbers
-pub mod NumberLemmas
+pub mod NumberLaws

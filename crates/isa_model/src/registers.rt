@@ -24,7 +24,7 @@ impl Reg {
     /// How many registers there are.
     pub const COUNT: usize = 11;
 
-    /// Its number in an encoding, and its place in a list of all registers.
+    /// Its number in an encoding, and its index in a list of all registers.
     pub fn number(self) -> usize
         ensures value { result ≡ reg_number self }
         ensures below { result < Reg.COUNT }

@@ -36,7 +36,7 @@ impl Version {
         }
     }
 
-    /// The most bytes of a packet frame in a stream of this version.
+    /// The most bytes that a packet frame's body has in a stream of this version.
     pub fn max_body(self) -> usize
         ensures most { result ≡ max_body self }
         ensures bounded { result ≤ MAX_PACKET }

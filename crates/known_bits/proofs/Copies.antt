@@ -12,8 +12,8 @@ use Rattle.isa_model.specs.declared.sizes.Extension.TheVariants.{Low8, Low16, Fu
 use Rattle.isa_model.specs.declared.instructions.AluOp.TheVariants.{Arsh}
 use Rattle.isa_model.specs.Code.Sizes.{width_bits, extension_bits, extension_width}
 use Rattle.isa_model.specs.Code.Numbers.{alu, low, shift, signed, unsigned, sign_extended}
-use Rattle.isa_model.proofs.NumberLemmas.{alu_below, low_below, shift_below, width_fits, width_most}
-use Rattle.isa_model.proofs.ExtensionLemmas.{sign_extended_below, sign_extended_cases, sign_extended-small}
+use Rattle.isa_model.proofs.NumberLaws.{alu_below, low_below, shift_below, width_fits, width_most}
+use Rattle.isa_model.proofs.ExtensionLaws.{sign_extended_below, sign_extended_cases, sign_extended-small}
 use Rattle.known_bits.specs.Member.{IsMember, Occurs}
 use Rattle.known_bits.proofs.Members.{Apart, bits_between, bits_apart, known_from_bits, member_from_bits}
 use Rattle.known_bits.proofs.Carry.{low_bit}
@@ -21,7 +21,7 @@ use Rattle.known_bits.proofs.Order.{low_fits}
 use Rattle.known_bits.proofs.Sharp.{both_values, least_member, most_member}
 use Rattle.known_bits.proofs.Shift.{right_bit}
 
--- f gives n bits, each a copy of its argument's bit at a place
+-- f gives n bits, each a copy of its argument's bit at a position
 pub record Copies (n : ℕ) (place : ℕ → ℕ) (f : ℕ → ℕ) : Type 0 where
   pub fits : 2 ^ n ≤ 2 ^ 64
   pub below : (x : ℕ) → f x < 2 ^ n
@@ -139,7 +139,7 @@ shifted_bit Full64 a k i a_in i_in =
         ap (λ t. bit_at t i) (let e : 2 ^ 64 - suc x ≡ bit_not w64 x = omega arith in e)
         ∙ bit_at_not w64 x i x_in i_in
 
--- the bit at a place comes from further up, from the sign at most
+-- the bit at a position comes from further up, from the sign at most
 pub shift_copies : (w : Width) (y : ℕ) → Copies (width_bits w) (λ i. min (shift w (low w y) + i) (width_bits w - 1)) (λ x. alu Arsh w x y)
 unfolding alu
 shift_copies w y = record {

@@ -13,6 +13,6 @@ pub mod Widths
 pub mod Signs
 pub mod Overlaps
 pub mod Copies
-pub mod Frame
+pub mod ProductZeros
 pub mod Reversed
 pub mod MemberLaws

@@ -10,7 +10,7 @@ use Rattle.isa_model.specs.declared.sizes.SwapWidth.{SwapWidth}
 use Rattle.isa_model.specs.declared.sizes.SwapWidth.TheVariants.{B16, B32, B64}
 use Rattle.isa_model.specs.Code.Sizes.{span_bits}
 use Rattle.isa_model.specs.Code.Numbers.{reordered}
-use Rattle.isa_model.proofs.NumberLemmas.{reordered_below, span_fits}
+use Rattle.isa_model.proofs.NumberLaws.{reordered_below, span_fits}
 use Rattle.known_bits.proofs.Carry.{low_bit}
 use Rattle.known_bits.proofs.Copies.{Copies}
 use Rattle.known_bits.proofs.Shift.{right_bit}

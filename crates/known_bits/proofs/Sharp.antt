@@ -18,7 +18,7 @@ pub most_member : {v m : ℕ} → Apart v m → IsMember v m (bit_or v m)
 most_member {v} {m} k = member_from_bits k.value_in k.mask_in (or_lt 64 v m k.value_in k.mask_in)
     (λ i i_in. let a = bits_apart k i in let e = bit_at_or v m i in record { apart = a; least = omega arith; most = omega arith })
 
--- a bit that is set has a place below 64
+-- a bit that is set is at a position below 64
 pub set_below : (n i : ℕ) → n < 2 ^ 64 → bit_at n i ≡ 1 → i < 64
 set_below n i h e = elim (cases_lt i 64) [ inl lt ↦ lt | inr ge ↦ absurd (let z = bit_at_above n 64 i h ge in omega arith) ]
 

@@ -5,7 +5,7 @@ use Rattle.std.specs.Int.{bit_at, cast_signed}
 use Rattle.std.proofs.lemmas.Nat.{le_or_r, or_lt}
 use Rattle.std.proofs.lemmas.Bool.{cases_lt}
 use Rattle.std.proofs.lemmas.Int.{ints}
-use Rattle.isa_model.specs.Code.NumberLemmas.{signed_equation}
+use Rattle.isa_model.specs.Code.NumberLaws.{signed_equation}
 use Rattle.known_bits.specs.Member.{IsMember}
 use Rattle.known_bits.proofs.Members.{Apart, bits_between, bits_apart, member_from_bits}
 use Rattle.known_bits.proofs.Carry.{low_bit, low_least, low_most}

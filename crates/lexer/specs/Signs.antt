@@ -16,7 +16,7 @@ with_equals b n long short = if b == 61 then found long (n + 1) else found short
 abbrev pub only_equals : ℕ → ℕ → Sign → Option (Lexeme × ℕ)
 only_equals b n long = if b == 61 then found long (n + 1) else None
 
--- the longest sign at three bytes; the signs that begin with s apart
+-- the longest sign that begins these three bytes; those that begin with s are below
 abbrev pub sign_of : ℕ → ℕ → ℕ → Option (Lexeme × ℕ)
 sign_of a b c =
     if a == 40 then found sign.Open 1
@@ -41,7 +41,7 @@ sign_of a b c =
     else with_equals b 1 sign.GreaterEqual sign.Greater)
     else None
 
--- the longest sign that is an s and these bytes
+-- the longest sign that begins with s and goes on with these bytes
 abbrev pub signed_sign : ℕ → ℕ → ℕ → Option (Lexeme × ℕ)
 signed_sign b c d =
     if b == 62 then (if (c == 62) && (d == 61) then found sign.ArshAssign 4

@@ -22,7 +22,7 @@ use Rattle.maps.proofs.ContentLaws.{same_contents}
 use Rattle.maps.proofs.ReportOrderLaws.{get_at, above}
 use Rattle.map_indexes.specs.PlaceKeys.{Places}
 use Rattle.map_indexes.specs.PlaceKeyLaws.{is_key-equal}
-use Rattle.map_indexes.proofs.SlotLaws.{is_key-itself}
+use Rattle.map_indexes.proofs.PlaceKeysLaws.{is_key-itself}
 use Rattle.live_maps.specs.Live.{value_bytes}
 
 -- ---- the first that passes a test

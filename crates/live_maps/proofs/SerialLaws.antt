@@ -18,7 +18,7 @@ use Rattle.map_indexes.specs.Rows.{row_at, with_row}
 use Rattle.map_indexes.specs.RowLaws.{row_at-with_row, row_at-other, length-changed_row}
 use Rattle.map_indexes.specs.PlaceKeys.{Places, TakesPlace}
 use Rattle.map_indexes.specs.PlaceKeyLaws.{is_key-equal}
-use Rattle.map_indexes.proofs.SlotLaws.{is_key-itself}
+use Rattle.map_indexes.proofs.PlaceKeysLaws.{is_key-itself}
 use Rattle.maps.specs.ContentLaws.{changed, find-changed}
 use Rattle.maps.proofs.ContentLaws.{get-taken}
 use Rattle.maps.proofs.ReportOrderLaws.{get_at}

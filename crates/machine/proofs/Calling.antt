@@ -37,7 +37,7 @@ cells_unset a [] (suc n) e = absurd (omega arith)
 cells_unset a (b ∷ bs) zero e = absurd (omega arith)
 cells_unset a (b ∷ bs) (suc n) e = (tt, cells_unset a bs n (omega arith))
 
--- a fact of each place, by the eleven registers and the rest
+-- a fact of each index, by the eleven registers and the rest
 pub by_register : (P : ℕ → Type 0) → P 0 → P 1 → P 2 → P 3 → P 4 → P 5 → P 6 → P 7 → P 8 → P 9 → P 10 → ((k : ℕ) → 11 ≤ k → P k) → (k : ℕ) → P k
 by_register P a b c d e f g h i j l more k = elim (cases_lt k 11) [
   | inl lt ↦ below k lt

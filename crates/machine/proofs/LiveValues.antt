@@ -22,7 +22,7 @@ use Rattle.isa_model.specs.Machine.MachineStates.{AreBytes, FitRows, IsState}
 use Rattle.isa_model.proofs.ValueLaws.{All-splice}
 use Rattle.map_indexes.specs.Rows.{row_at, with_row}
 use Rattle.map_indexes.specs.RowLaws.{row_end, length-row_at, splice_in_row, length-changed_row, row_at-with_row, row_at-other}
-use Rattle.map_indexes.proofs.SlotLaws.{is_key-itself, same_or_not}
+use Rattle.map_indexes.proofs.PlaceKeysLaws.{is_key-itself, same_or_not}
 use Rattle.maps.specs.ContentLaws.{length-changed}
 use Rattle.maps.specs.Maps.{MapState, IsMap, map_at}
 use Rattle.maps.proofs.MapLaws.{length-rows_of, rows_of-set}

@@ -121,7 +121,7 @@ module _ (p : Program) (a : Layout) (s : State) (w : Words) (R : Related p a s w
       let far : 8589934592 ≤ x = omega arith in
       rw spot (omega arith, cells, far))
 
-  -- the depth of a live call frame's serial is its place
+  -- the depth of a live call frame's serial is its index
   pub live_depth : (n j : ℕ) → frame_index_of s.frames n ≡ Some j → (j < length s.frames) × (a.depth n ≡ j)
   live_depth n j e =
       let (here, same, first) = position-Some (λ f. f.serial == n) s.frames j (new_frame 0 0 []) e in

@@ -14,7 +14,7 @@ use Rattle.isa_model.specs.Machine.MachineStates.{IsState}
 use Rattle.isa_model.proofs.HelperLaws.{value_serials_given}
 use Rattle.map_indexes.specs.RowLaws.{row_end}
 use Rattle.map_indexes.specs.PlaceKeys.{Places}
-use Rattle.map_indexes.proofs.SlotLaws.{is_key-itself}
+use Rattle.map_indexes.proofs.PlaceKeysLaws.{is_key-itself}
 use Rattle.maps.specs.Changes.{WritesPair}
 use Rattle.maps.specs.ContentLaws.{changed, find-changed}
 use Rattle.maps.proofs.UpdateLaws.{update_answer-places, delete_answer-places}

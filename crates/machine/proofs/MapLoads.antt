@@ -25,18 +25,18 @@ use Rattle.machine.proofs.MapCalls.{found}
 
 module _ (a : Layout) (m : ℕ) (state : MapState) where
   -- an array of one key has its value
-  has_entry : (content : Content) → RepresentsMap a m content state → state.row.kind ≡ Array → state.row.entries ≡ 1 → 0 < length content
-  has_entry [] shown array one =
+  has_value : (content : Content) → RepresentsMap a m content state → state.row.kind ≡ Array → state.row.entries ≡ 1 → 0 < length content
+  has_value [] shown array one =
       let here : get state.places (little_bytes 4 0) ≡ Some 0 =
       ap (λ (P : Places). get P (little_bytes 4 0)) (shown.is.array_places array) ∙ get_index state.row.entries 0 (omega arith) (omega arith) in
       let none : None ≡ Some (by_place state.row.value_size state.block 0) =
       found a m [] state shown (little_bytes 4 0) ∙ ap (option_map (by_place state.row.value_size state.block)) here in
       absurd (cc)
-  has_entry (e ∷ content) shown array one = omega arith
+  has_value (e ∷ content) shown array one = omega arith
 
   only_begins : (content : Content) → RepresentsMap a m content state → state.row.kind ≡ Array → state.row.entries ≡ 1 → a.value m (one_serial content) ≡ 0
   only_begins content shown array one =
-      let some = has_entry content shown array one in
+      let some = has_value content shown array one in
       let inside = in_block a m content state shown 0 some in
       let first : (place_at a m content state shown 0).1 ≡ 0 = omega arith in
       value_starts a m content state shown 0 some ∙ ap (λ n. n * state.row.value_size) first ∙ zero-mul state.row.value_size

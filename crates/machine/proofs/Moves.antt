@@ -17,7 +17,7 @@ use Rattle.isa_model.specs.declared.values.Value.{Value}
 use Rattle.isa_model.specs.declared.values.Value.TheVariants.{Unset, Num, Ptr}
 use Rattle.isa_model.specs.declared.ends.TrapReason.{TrapReason}
 use Rattle.isa_model.specs.declared.ends.TrapReason.TheVariants.{UnsetRead, ReadOnly, TooManyFrames, BadAction}
-use Rattle.isa_model.specs.Code.Sizes.{narrow_size, narrow_extension}
+use Rattle.isa_model.specs.Code.Sizes.{unsigned_size, size_extension}
 use Rattle.isa_model.specs.Code.Registers.{reg_number}
 use Rattle.isa_model.specs.Code.Helpers.{helper_numbered}
 use Rattle.isa_model.specs.Code.MapRows.{NamesRows}
@@ -247,7 +247,7 @@ module _ (p : Program) (clock : ℕ → ℕ) (a : Layout) (s : State) (w : Words
   acts (LoadSx size d place) fits named =
       let l = shows_load_signed p a s w R K size (base_of s place) place.offset (word_at w place.base) (reg_fits p s place.base K) fits (R.registers.shown (reg_number place.base)) in
       acts_sets (LoadSx size d place) d (load_signed s size (base_of s place) place.offset)
-      (sign_extended (narrow_extension size) (number_at w (narrow_size size) (address_of w place))) l.0 l.1 tt (λ v m. m)
+      (sign_extended (size_extension size) (number_at w (unsigned_size size) (address_of w place))) l.0 l.1 tt (λ v m. m)
   acts (StoreConstant size place k) fits named =
       acts_goes (StoreConstant size place k) (store s size (base_of s place) place.offset (Num (unsigned Full64 k)))
       (put w (spot_of (address_of w place)) (bytes_of size (unsigned Full64 k))) refl

@@ -19,7 +19,7 @@ use Rattle.isa_model.specs.declared.values.Cell.{Cell}
 use Rattle.isa_model.specs.declared.ends.TrapReason.{TrapReason}
 use Rattle.isa_model.specs.declared.ends.TrapReason.TheVariants.{BadPointer}
 use Rattle.isa_model.specs.Code.Registers.{reg_number}
-use Rattle.isa_model.specs.Code.Sizes.{size_bytes, width_size, narrow_size, narrow_extension}
+use Rattle.isa_model.specs.Code.Sizes.{size_bytes, width_size, unsigned_size, size_extension}
 use Rattle.isa_model.specs.Code.Numbers.{alu, unsigned, sign_extended, bytes_of, number_from}
 use Rattle.isa_model.specs.Code.Instructions.{Program}
 use Rattle.isa_model.specs.Machine.States.{State}
@@ -82,14 +82,14 @@ module _ (p : Program) (a : Layout) (s : State) (w : Words) (R : Related p a s w
 
   -- a load that is sign-extended
   pub shows_load_signed : (size : SignedSize) (v : Value) (by : ℤ) (x : ℕ) → IsValue (length p.maps) s.next_serial v → FitsSigned w16 by → Represents a v x
-      → OkShows a (load_signed s size v by) (sign_extended (narrow_extension size) (number_at w (narrow_size size) (alu Add Full64 x (unsigned Full64 by))))
-      × IfOk (load_signed s size v by) (λ u. IsInside w (spot_of (alu Add Full64 x (unsigned Full64 by))) (size_bytes (narrow_size size)))
-  shows_load_signed size v by x fits small e = signed (load_number s (narrow_size size) v by) (shows_load_number (narrow_size size) v by x fits small e)
+      → OkShows a (load_signed s size v by) (sign_extended (size_extension size) (number_at w (unsigned_size size) (alu Add Full64 x (unsigned Full64 by))))
+      × IfOk (load_signed s size v by) (λ u. IsInside w (spot_of (alu Add Full64 x (unsigned Full64 by))) (size_bytes (unsigned_size size)))
+  shows_load_signed size v by x fits small e = signed (load_number s (unsigned_size size) v by) (shows_load_number (unsigned_size size) v by x fits small e)
     where
-      signed : (r : Result ℕ TrapReason) → OkFound (size_bytes (narrow_size size)) r (alu Add Full64 x (unsigned Full64 by))
-          → OkShows a (and_then r (λ n. Ok (Num (sign_extended (narrow_extension size) n)))) (sign_extended (narrow_extension size) (number_at w (narrow_size size) (alu Add Full64 x (unsigned Full64 by))))
-          × IfOk (and_then r (λ n. Ok (Num (sign_extended (narrow_extension size) n)))) (λ u. IsInside w (spot_of (alu Add Full64 x (unsigned Full64 by))) (size_bytes (narrow_size size)))
-      signed (Ok n) h = (ap (sign_extended (narrow_extension size)) h.1, h.0)
+      signed : (r : Result ℕ TrapReason) → OkFound (size_bytes (unsigned_size size)) r (alu Add Full64 x (unsigned Full64 by))
+          → OkShows a (and_then r (λ n. Ok (Num (sign_extended (size_extension size) n)))) (sign_extended (size_extension size) (number_at w (unsigned_size size) (alu Add Full64 x (unsigned Full64 by))))
+          × IfOk (and_then r (λ n. Ok (Num (sign_extended (size_extension size) n)))) (λ u. IsInside w (spot_of (alu Add Full64 x (unsigned Full64 by))) (size_bytes (unsigned_size size)))
+      signed (Ok n) h = (ap (sign_extended (size_extension size)) h.1, h.0)
       signed (Err e) h = (tt, tt)
 
   -- ---- numbers swapped

@@ -1,4 +1,4 @@
--- Laws of the definitions in specs/ArrayLaws.
+-- Laws of the map of an array's indexes: each is found, and there are no others.
 use Rattle.std.proofs.Common.{◌≡◌, ℕ, zero, suc, ◌+◌, ◌^◌, ◌<◌, ◌≤◌, List, [], Option, Some, None, Bool, true, false, cond, length, refl, sym, ap, ◌∙◌, arith, inl, inr}
 use Rattle.std.proofs.lemmas.Bool.{cases_lt}
 use Rattle.std.proofs.lemmas.List.{take_all}
@@ -11,7 +11,7 @@ use Rattle.isa_model.specs.Code.LittleEndian.{EachByte}
 use Rattle.isa_model.proofs.LittleEndianLaws.{little_bytes-little_from}
 use Rattle.isa_model.specs.Machine.MapContents.{key_order, is_key}
 use Rattle.map_indexes.specs.ArrayPlaces.{array_places}
-use Rattle.map_indexes.proofs.SlotLaws.{is_key-itself}
+use Rattle.map_indexes.proofs.PlaceKeysLaws.{is_key-itself}
 use Rattle.map_indexes.specs.PlaceKeyLaws.{is_key-equal}
 use Rattle.map_indexes.specs.ArrayLaws.{got_index}
 

@@ -20,7 +20,7 @@ use Rattle.map_indexes.specs.ArrayLaws.{got_index}
 use Rattle.map_indexes.proofs.ArrayLaws.{get_index}
 use Rattle.map_indexes.specs.PlaceKeys.{PlaceKeys, slot, places, IsDistinct}
 use Rattle.map_indexes.specs.PlaceKeyLaws.{got}
-use Rattle.map_indexes.proofs.SlotLaws.{get_here}
+use Rattle.map_indexes.proofs.PlaceKeysLaws.{get_here}
 use Rattle.map_indexes.specs.KeyOrder.{key_or_none, used_places}
 use Rattle.map_indexes.proofs.KeyOrderLaws.{values-sorted}
 

@@ -14,7 +14,7 @@ use Rattle.map_indexes.specs.Chains.{in_chain, spot}
 use Rattle.map_indexes.proofs.ChainLaws.{link_of, in_chain-is}
 use Rattle.map_indexes.specs.Hashing.{chain_of}
 use Rattle.map_indexes.specs.PlaceKeys.{PlaceKeys, slot, places, IsScan}
-use Rattle.map_indexes.proofs.SlotLaws.{same_or_not, set_here, set_else, get_here, get_none}
+use Rattle.map_indexes.proofs.PlaceKeysLaws.{same_or_not, set_here, set_else, get_here, get_none}
 use Rattle.map_indexes.specs.ScanLaws.{slot_inside}
 use Rattle.map_indexes.proofs.ScanLaws.{scan-added, scan-emptied, scan_some}
 use Rattle.map_indexes.proofs.ScanLaws.{scan-none}

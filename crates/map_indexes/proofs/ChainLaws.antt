@@ -5,7 +5,7 @@ use Rattle.std.specs.Prelude.{◌^◌, IfSome, nat_eq, slice_index_or, slice_set
 use Rattle.map_indexes.specs.declared.chains.Link.{Link}
 use Rattle.map_indexes.specs.LastBelow.{last_below}
 use Rattle.map_indexes.proofs.LastBelowLaws.{last_is, none_below, last_same, last_skip, last_here, last_above}
-use Rattle.map_indexes.proofs.SlotLaws.{same_or_not}
+use Rattle.map_indexes.proofs.PlaceKeysLaws.{same_or_not}
 use Rattle.map_indexes.specs.Chains.{is_in, in_chain, IsChained, StandsBehind, spot, height, heads_led, next_led, link_led, link_with, link_in, nexts_led, led_from}
 
 -- the number of the link, or the size of the room if there is no link

@@ -11,7 +11,7 @@ use Rattle.map_indexes.specs.ArrayPlaces.{array_places}
 use Rattle.map_indexes.specs.ArrayLaws.{got_index}
 use Rattle.map_indexes.proofs.ChainIndexesLaws.{slot-none}
 use Rattle.map_indexes.specs.PlaceKeys.{PlaceKeys, slot, places, IsKey, AreKeys}
-use Rattle.map_indexes.proofs.SlotLaws.{same_or_not, set_here, set_else}
+use Rattle.map_indexes.proofs.PlaceKeysLaws.{same_or_not, set_here, set_else}
 use Rattle.map_indexes.specs.PlaceKeyLaws.{got}
 
 pub AreKeys-none : (size n : ℕ) → AreKeys size (replicate n None)

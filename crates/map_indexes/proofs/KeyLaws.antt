@@ -1,4 +1,4 @@
--- The key slots of a block of keys, and what they are after one key is written or removed.
+-- The keys by place of a block of keys, and what they are after one is written or removed.
 use Rattle.std.proofs.Common.{◌≡◌, ℕ, zero, suc, ◌+◌, ◌*◌, ◌<◌, List, [], ◌∷◌, Some, None, Bool, true, false, length, refl, ap, ◌∙◌, arith}
 use Rattle.std.specs.Prelude.{slice_index_or, slice_set, is_some, replicate}
 use Rattle.map_indexes.specs.Rows.{row_at, with_row}

@@ -16,7 +16,7 @@ use Rattle.std.proofs.lemmas.Map.Keys.{IsDistinct-IsPermutation}
 use Rattle.std.proofs.Math.Dec.{eqb}
 use Rattle.isa_model.specs.Machine.MapContents.{key_order, is_key}
 use Rattle.map_indexes.specs.PlaceKeys.{PlaceKeys, slot, places, IsDistinct as IsApart}
-use Rattle.map_indexes.proofs.SlotLaws.{is_key-itself, get_here}
+use Rattle.map_indexes.proofs.PlaceKeysLaws.{is_key-itself, get_here}
 use Rattle.map_indexes.specs.PlaceKeyLaws.{is_key-equal, got}
 use Rattle.map_indexes.specs.KeyOrder.{key_or_none, used_places}
 

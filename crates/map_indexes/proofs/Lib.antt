@@ -8,4 +8,4 @@ pub mod KeyLaws
 pub mod KeyOrderLaws
 pub mod LastBelowLaws
 pub mod ScanLaws
-pub mod SlotLaws
+pub mod PlaceKeysLaws

@@ -1,12 +1,12 @@
--- Laws of the definitions in specs/ScanLaws.
+-- Laws of places that are scanned: what one key more or less does to them.
 use Rattle.std.proofs.Common.{◌≡◌, ℕ, zero, suc, ◌+◌, ◌-◌, ◌<◌, List, [], ◌∷◌, Option, Some, None, true, cond, length, refl, sym, ap, ◌∙◌, arith}
 use Rattle.std.specs.Prelude.{slice_set, is_some, replicate}
 use Rattle.std.specs.Cmp.Lexicographic.{nat_list_cmp_total}
 use Rattle.std.specs.FinMap.{get, len, empty, from_entries, len-insert, len-remove, len-empty}
 use Rattle.isa_model.specs.Machine.MapContents.{key_order}
 use Rattle.map_indexes.specs.PlaceKeys.{PlaceKeys, slot, pairs_from, places, IsScan, key_count}
-use Rattle.map_indexes.proofs.SlotLaws.{get_here}
-use Rattle.map_indexes.proofs.SlotLaws.{added-distinct, places-added, emptied-distinct, places-emptied}
+use Rattle.map_indexes.proofs.PlaceKeysLaws.{get_here}
+use Rattle.map_indexes.proofs.PlaceKeysLaws.{added-distinct, places-added, emptied-distinct, places-emptied}
 use Rattle.map_indexes.specs.ScanLaws.{slot_inside}
 
 pairs_from-none : (at n : ℕ) → pairs_from at (replicate n None) ≡ []

@@ -1,5 +1,5 @@
 -- What the keys of places, the free places and the spots of links have to do with each other, and
--- what that is after one key is added, and one removed.
+-- what a link says of a key.
 use Rattle.std.proofs.Common.{◌≡◌, ℕ, ◌-◌, ◌<◌, ◌≤◌, List, length, Option, Some, None}
 use Rattle.std.specs.Option.{option_map}
 use Rattle.std.specs.Prelude.{slice_index_or}

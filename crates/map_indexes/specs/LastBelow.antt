@@ -1,5 +1,4 @@
--- The greatest number below a limit that passes a test, and what it is where the test or the limit
--- changes.
+-- The greatest number below a limit that passes a test.
 use Rattle.std.proofs.Common.{ℕ, zero, suc, Bool, cond, Option, Some, None}
 
 abbrev pub last_below : (ℕ → Bool) → ℕ → Option ℕ

@@ -1,5 +1,4 @@
--- The map that the keys of places mean: what it has at a key, and what it is after a key is put at
--- a place or removed.
+-- What the map that the keys of places mean has at a key.
 use Rattle.std.proofs.Common.{◌≡◌, ℕ, suc, ◌+◌, List, [], ◌∷◌, Some, None, true, false, cond, refl, sym, ap, ◌∙◌, arith}
 use Rattle.std.specs.Ordering.{is_eq}
 use Rattle.std.specs.declared.cmp.Ordering.{Ordering}
@@ -17,7 +16,7 @@ is_equal Greater e = absurd (cc)
 pub is_key-equal : (q k : List ℕ) → is_key q k ≡ true → q ≡ k
 is_key-equal q k e = slice_cmp-IsAntisymmetric nat_cmp-IsAntisymmetric q k (is_equal (key_order q k) e)
 
--- what is found is a slot with this key
+-- what is found is a place with this key
 pub found_at : (slots : PlaceKeys) (at : ℕ) (k : List ℕ) (p : ℕ) → find key_order k (pairs_from at slots) ≡ Some p → (i : ℕ) × (p ≡ at + i) × (slot slots i ≡ Some k)
 found_at [] at k p e = absurd (cc)
 found_at (None ∷ slots) at k p e = let r = found_at slots (at + 1) k p e in let q = r.1 in (suc r.0, omega arith, r.2)

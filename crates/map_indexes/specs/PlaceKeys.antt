@@ -1,4 +1,4 @@
--- Places, each of which may have a key, and the finite map from keys to places that they are.
+-- Places, each of which may have a key, and the finite map from keys to places that they make.
 use Rattle.std.specs.Prelude.{◌≡◌, ◌≢◌, ℕ, ◌+◌, List, [], ◌∷◌, length, Option, Some, None, Bool, true, false, slice_index_or}
 use Rattle.std.specs.FinMap.{FinMap, from_entries, get, insert, len}
 use Rattle.isa_model.specs.Machine.MapContents.{key_order}
@@ -36,7 +36,7 @@ pub record IsKey (size : ℕ) (key : List ℕ) : Type 0 where
 abbrev pub AreKeys : ℕ → PlaceKeys → Type 0
 AreKeys size slots = (p : ℕ) (key : List ℕ) → slot slots p ≡ Some key → IsKey size key
 
--- the slots that a block of keys has where its places are in use
+-- the keys by place that a block of keys has, where these places are in use
 abbrev pub keys_by_place : ℕ → List ℕ → ℕ → List Bool → PlaceKeys
 keys_by_place size block at [] = []
 keys_by_place size block at (true ∷ used) = Some (row_at size block at) ∷ keys_by_place size block (at + 1) used

@@ -1,4 +1,4 @@
--- Places that are scanned: what one key more or less does to them.
+-- Laws of places that are scanned: a place that is found is there, and no other key has it.
 use Rattle.std.proofs.Common.{◌≡◌, ℕ, zero, suc, ◌<◌, ◌≤◌, List, [], ◌∷◌, Some, None, length, arith}
 use Rattle.std.specs.FinMap.{get, len}
 use Rattle.map_indexes.specs.PlaceKeys.{PlaceKeys, slot, places, IsScan, key_count}

@@ -1,4 +1,4 @@
--- Laws of the definitions in specs/ContentLaws.
+-- Laws of a map's content after a value is written, a key is added, or a key is removed.
 use Rattle.std.proofs.Common.{◌≡◌, ℕ, ◌*◌, ◌<◌, List, length, Option, Some, None, Bool, true, false, cond, refl, sym, ap, subst, ◌∙◌}
 use Rattle.std.specs.Prelude.{is_some, not, T}
 use Rattle.std.specs.Option.{option_map}
@@ -11,7 +11,7 @@ use Rattle.isa_model.specs.Machine.MapContents.{key_order, is_key, at_key, has_k
 use Rattle.map_indexes.specs.Rows.{row_at, with_row}
 use Rattle.map_indexes.specs.RowLaws.{row_at-with_row, row_at-other}
 use Rattle.map_indexes.specs.PlaceKeys.{Places, TakesPlace}
-use Rattle.map_indexes.proofs.SlotLaws.{is_key-itself}
+use Rattle.map_indexes.proofs.PlaceKeysLaws.{is_key-itself}
 use Rattle.map_indexes.specs.PlaceKeyLaws.{is_key-equal}
 use Rattle.maps.specs.Contents.{content}
 use Rattle.maps.specs.ContentLaws.{changed, find-changed, is_sorted-changed, length-changed}
@@ -42,7 +42,7 @@ module _ (size : ℕ) (P : Places) (block : List ℕ) where
   pub sorted-content : T (is_sorted key_order C)
   sorted-content = subst T (sym (is_sorted-changed (row_at size block) (entries P))) (entries_sorted P)
 
--- a key has a place, and every other key what it had
+-- a key gets a place, and every other key keeps what it had
 pub content-insert : (size : ℕ) (P : Places) (block k : List ℕ) (p : ℕ)
     → content size (insert P k p) block ≡ with_key k (row_at size block p) (content size P block)
 content-insert size P block k p =

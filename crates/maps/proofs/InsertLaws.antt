@@ -17,7 +17,7 @@ use Rattle.std.proofs.lemmas.Option.{slice_get-get_or}
 use Rattle.isa_model.specs.Machine.MapContents.{key_order, is_key}
 use Rattle.map_indexes.specs.PlaceKeys.{Places, PlaceKeys, slot, places}
 use Rattle.map_indexes.specs.PlaceKeyLaws.{got, is_key-equal}
-use Rattle.map_indexes.proofs.SlotLaws.{is_key-itself}
+use Rattle.map_indexes.proofs.PlaceKeysLaws.{is_key-itself}
 use Rattle.maps.proofs.ReportOrderLaws.{above, get_at}
 
 abbrev Keyed : Type 0

@@ -27,7 +27,7 @@ use Rattle.maps.specs.Contents.{content}
 use Rattle.maps.specs.Either.{places_of, kind_of, room_of, either_in_range}
 use Rattle.map_indexes.specs.Rows.{row_at}
 use Rattle.map_indexes.specs.PlaceKeys.{Places, PlaceKeys, slot, places}
-use Rattle.map_indexes.proofs.SlotLaws.{is_key-itself}
+use Rattle.map_indexes.proofs.PlaceKeysLaws.{is_key-itself}
 use Rattle.map_indexes.specs.PlaceKeyLaws.{got}
 use Rattle.maps.specs.ReportOrder.{listed_of, with_key_of}
 

@@ -1,4 +1,4 @@
--- Laws of a map's content after a value is written, a key is added, or a key is removed.
+-- Laws of contents whose values are changed: the keys, their order and their number stay.
 use Rattle.std.proofs.Common.{◌≡◌, ℕ, List, [], ◌∷◌, map, length, Some, Bool, true, false, cond, refl, ap, arith}
 use Rattle.std.specs.Prelude.{◌&&◌}
 use Rattle.std.specs.Option.{option_map}

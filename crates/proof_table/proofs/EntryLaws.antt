@@ -26,7 +26,7 @@ named_in-reads (i ∷ (j ∷ [])) rest few small =
     ∙ ap (λ (n : ℕ). Some (i ∷ (n ∷ []))) (little_number-reads_back 4 j rest (small 1 0 (omega arith))))
 named_in-reads (i ∷ (j ∷ (k ∷ xs))) rest few small = absurd (omega arith)
 
--- the bytes from the frames on, after their count
+-- the bytes from the call frames on, after their count
 abbrev behind_count : Entry → List ℕ → List ℕ
 behind_count e rest = flat_map frame_bytes e.state.callers.items ++ (frame_bytes e.state.innermost ++ (named_bytes e.successors ++ rest))
 

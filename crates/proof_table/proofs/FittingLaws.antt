@@ -37,7 +37,7 @@ FrameFits-said rows holder outer f answer small ten all_slots allowed registers 
   λ h. slots.1 (All-mapped (SlotFits rows holder) slot_said f.stack.slots h.slots),
 )
 
--- the frames of callers, each as it is said
+-- the call frames of callers, each as it is said
 abbrev pub CallersFit : ℕ → List AbstractFrame → Type 0
 CallersFit rows callers = (k : ℕ) (d : AbstractFrame) → k < length callers → FrameFits rows k true (frame_said (get_or callers k d))
 

@@ -70,7 +70,7 @@ pub record NullFits (rows index identity : ℕ) : Type 0 where
   pub map_fits : MapFits rows index
   pub identity_width : identity < 2 ^ 32
 
--- ---- values and slots
+-- ---- values and stack slots
 
 abbrev pub KindFits : ℕ → ℕ → Kind → Type 0
 KindFits rows holder Unset = Unit {0}
@@ -109,7 +109,7 @@ pub record EntryFits (p : Program) (e : Entry) : Type 0 where
   pub named : length e.successors ≤ 2
   pub indexes : All (λ i. i < 2 ^ 32) e.successors
 
--- ---- what a table says of a state: of a slot whose value is unset, that no byte is written
+-- ---- what a table says of a state: of a stack slot whose value is unset, that no byte is written
 
 abbrev pub slot_said : StackSlot → StackSlot
 slot_said (Spilled Unset) = Written 0

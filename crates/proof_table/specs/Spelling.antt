@@ -70,13 +70,13 @@ kind_bytes (MapValue index least greatest) = value_bytes index least greatest
 kind_bytes (MapValueOrNull index identity) = null_bytes index identity
 
 -- a stack slot: 0 and the marks of written bytes, or 1 and a value; a spilled value about which
--- nothing is known is spelled as a slot without marks
+-- nothing is known is spelled as a stack slot without marks
 unfoldable pub slot_bytes : StackSlot → List ℕ
 slot_bytes (Written marks) = 0 ∷ (marks ∷ [])
 slot_bytes (Spilled Unset) = 0 ∷ (0 ∷ [])
 slot_bytes (Spilled kind) = 1 ∷ kind_bytes kind
 
--- ---- frames and entries
+-- ---- call frames and entries
 
 -- the slot of its caller, ten values, 64 stack slots
 unfoldable pub frame_bytes : AbstractFrame → List ℕ

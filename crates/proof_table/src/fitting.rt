@@ -14,7 +14,7 @@ use stack_state::{AbstractFrame, FRAME_SLOTS, StackSlot, State};
 use table_entries::entries::head_allowed;
 use table_entries::frames::frame_allowed;
 
-// ---- values; `rows` is how many map rows there are, `holder` the frame that holds the value
+// ---- values; `rows` is how many map rows there are, `holder` the call frame that holds the value
 
 // Recalls that the fields of a number are of their widths, for the proof. It does nothing.
 fn number_fits(numbers: Scalar)

@@ -21,8 +21,8 @@ use stack_state::State;
 use std::alloc::Global;
 use std::io::Write;
 
-/// The bytes of the longest entry: one of 8 frames, in which each register and each slot is a
-/// number.
+/// The bytes of the longest entry: one of 8 call frames, in which each register and each stack slot
+/// is a number.
 const LONGEST_ENTRY: usize = 39_024;
 
 fn head_bytes(count: u32) -> [u8; 8]

@@ -137,8 +137,8 @@ pub fn spell_kind(kind: &Kind, buffer: &mut Vec<u8>) -> Result<(), AllocError>
 
 /// Puts a stack slot after what the buffer has.
 ///
-/// An exit leaves an unset value where a pointer into its frame was spilled. A table has no
-/// spelling for it: it says that no byte of the slot is written, which is as little.
+/// An exit leaves an unset value where a pointer into its call frame was spilled. A table has no
+/// spelling for it: it says that no byte of the stack slot is written, which is as little.
 #[tactic(auto, unfolding(crate::specs::Spelling::slot_bytes))]
 pub fn spell_slot(slot: &StackSlot, buffer: &mut Vec<u8>) -> Result<(), AllocError>
     ensures { OnOk result (buffer.new.items ≡ buffer.old.items ++ slot_bytes slot.now) }

@@ -9,7 +9,7 @@ use Rattle.isa_model.specs.declared.sizes.Extension.{Extension}
 use Rattle.isa_model.specs.declared.sizes.Extension.TheVariants.{Low8, Low16, Full8, Full16, Full32}
 use Rattle.isa_model.specs.Code.Numbers.{sign_extended}
 use Rattle.isa_model.specs.Code.Sizes.{width_bits, extension_bits, extension_width}
-use Rattle.isa_model.proofs.ExtensionLemmas.{sign_extended_cases}
+use Rattle.isa_model.proofs.ExtensionLaws.{sign_extended_cases}
 use Rattle.std.proofs.Math.Facts.{sfits_to_z}
 use Rattle.ranges.specs.Keeps.{extension_signed}
 use Rattle.ranges.proofs.Limits.{fits_8, fits_16}

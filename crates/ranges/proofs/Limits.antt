@@ -12,8 +12,8 @@ use Rattle.isa_model.specs.declared.sizes.Extension.TheVariants.{Low8, Low16, Fu
 use Rattle.isa_model.specs.declared.instructions.AluOp.TheVariants.{Arsh}
 use Rattle.isa_model.specs.Code.Sizes.{width_bits, extension_bits, extension_width}
 use Rattle.isa_model.specs.Code.Numbers.{result_of, sign_extended}
-use Rattle.isa_model.specs.Code.NumberLemmas.{signed_equation}
-use Rattle.isa_model.proofs.ExtensionLemmas.{sign_extended_cases, sign_extended_fits, sign_extended-small}
+use Rattle.isa_model.specs.Code.NumberLaws.{signed_equation}
+use Rattle.isa_model.proofs.ExtensionLaws.{sign_extended_cases, sign_extended_fits, sign_extended-small}
 use Rattle.std.proofs.lemmas.Bool.{cases_lt, lt-ltb, ne_eqb}
 use Rattle.std.proofs.lemmas.Nat.{le-div, pow_pos, mul-le, mod_below}
 use Rattle.std.proofs.Math.Nat.{div-mul-le_self, mod-eq_of_lt, div-le_self, mod-le, div-zero, add-mod_right}

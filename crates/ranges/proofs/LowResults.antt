@@ -10,8 +10,8 @@ use Rattle.isa_model.specs.declared.sizes.Width.TheVariants.{Low32, Full64}
 use Rattle.isa_model.specs.declared.instructions.AluOp.{AluOp}
 use Rattle.isa_model.specs.declared.instructions.AluOp.TheVariants.{Add, Sub, Mul, Div, SignedDiv, Or, And, Lsh, Rsh, Mod, SignedMod, Xor, Mov, Arsh}
 use Rattle.isa_model.specs.Code.Numbers.{alu, result_of}
-use Rattle.isa_model.proofs.NumberLemmas.{alu_below, low_wrapped}
-use Rattle.isa_model.specs.Code.NumberLemmas.{low_same}
+use Rattle.isa_model.proofs.NumberLaws.{alu_below, low_wrapped}
+use Rattle.isa_model.specs.Code.NumberLaws.{low_same}
 use Rattle.ranges.specs.Wides as W
 use Rattle.ranges.specs.Lows as L
 use Rattle.ranges.specs.Ranges.{ReadsLow}

@@ -13,8 +13,8 @@ use Rattle.isa_model.specs.declared.instructions.AluOp.{AluOp}
 use Rattle.isa_model.specs.declared.instructions.AluOp.TheVariants.{SignedDiv, SignedMod}
 use Rattle.isa_model.specs.Code.Sizes.{width_bits}
 use Rattle.isa_model.specs.Code.Numbers.{alu, result_of, quotient, remainder, signed, unsigned}
-use Rattle.isa_model.proofs.NumberLemmas.{alu_below}
-use Rattle.isa_model.specs.Code.NumberLemmas.{low_same}
+use Rattle.isa_model.proofs.NumberLaws.{alu_below}
+use Rattle.isa_model.specs.Code.NumberLaws.{low_same}
 use Rattle.ranges.proofs.Limits.{div_le}
 
 -- ---- quotients

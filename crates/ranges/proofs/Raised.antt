@@ -10,7 +10,7 @@ use Rattle.std.proofs.lemmas.Nat.{pow-add, mul-mod_first}
 use Rattle.isa_model.specs.declared.sizes.Width.TheVariants.{Full64}
 use Rattle.isa_model.specs.declared.instructions.AluOp.TheVariants.{Lsh}
 use Rattle.isa_model.specs.Code.Numbers.{alu, shift}
-use Rattle.isa_model.specs.Code.NumberLemmas.{signed_equation, low_same}
+use Rattle.isa_model.specs.Code.NumberLaws.{signed_equation, low_same}
 use Rattle.ranges.proofs.LowLaws.{low_signed_equation}
 
 -- a shift to the left by 32 or more depends on the low half only

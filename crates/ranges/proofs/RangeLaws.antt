@@ -4,7 +4,7 @@ use Rattle.std.specs.Prelude.{ℤ, ◌-◌, ◌⊎◌, ◌↔◌, ◌≤ℤ◌, 
 use Rattle.std.specs.Int.{w32, cast_signed, cast_unsigned}
 use Rattle.std.proofs.lemmas.Int.{ints, of_z-to_z, to_z-of_z}
 use Rattle.std.proofs.lemmas.Bool.{cases_lt}
-use Rattle.isa_model.specs.Code.NumberLemmas.{signed_equation}
+use Rattle.isa_model.specs.Code.NumberLaws.{signed_equation}
 use Rattle.ranges.specs.Joint.{IsHalfBetween}
 use Rattle.ranges.specs.Wides as W
 use Rattle.ranges.specs.Lows as L

@@ -25,7 +25,7 @@ use Rattle.table_entries.specs.Entries.{Entry, entry_of}
 use Rattle.rechecking.specs.Tables.{EntryAt, EntersSmaller, IsClosedEntry, MeansStarts}
 use Rattle.rechecking.specs.declared.errors.TableError.TheVariants.{Step, Successor}
 use Rattle.rechecking.specs.KnownEntries.{HasEntry}
-use Rattle.rechecking.specs.Checking.{Covering, CoversClearly, Enters, EntersClearly, FollowsBy, StartsClearly, HasStart, IsFaultyAt, AllFineBefore}
+use Rattle.rechecking.specs.Checking.{Covering, CoversClearly, Enters, EntersClearly, FollowsBy, StartsClearly, HasStart, IsRefusedAt, AllFineBefore}
 
 goes_into : (p : Program) (t : EntryAt) (e : Entry) (index : ℕ) (a : State) (s : Machine.State) → Contains e.successors index → Enters t e.number index a
     → Means p a s → EntersSmaller p t e s
@@ -125,14 +125,15 @@ pub no_start : (t : EntryAt) → t 0 ≡ None → StartsClearly t → ⊥
 no_start t none h = let there = h.there in absurd (cc)
 
 pub refused_step : (p : Program) (t : EntryAt) (k : ℕ) (e : Entry) (r : Refusal) (b c : State) → t k ≡ Some e → IsSome (fetch p e.state.slot)
-    → ((i : Insn) → fetch p e.state.slot ≡ Some i → Steps p e.state i (Err r) b c) → IsFaultyAt p t k (Step k r)
+    → ((i : Insn) → fetch p e.state.slot ≡ Some i → Steps p e.state i (Err r) b c) → IsRefusedAt p t k (Step k r)
 refused_step p t k e r b c there begins steps =
     let (insn, fetched) = there_is (fetch p e.state.slot) begins in
     (refl, record { entry = e; insn = insn; there = there; fetched = fetched; refused = (b, c, steps insn fetched) })
 
 pub unnamed_step : (p : Program) (t : EntryAt) (k : ℕ) (e : Entry) (w : Ways) (a b : State) → t k ≡ Some e → IsSome (fetch p e.state.slot)
     → ((i : Insn) → fetch p e.state.slot ≡ Some i → Steps p e.state i (Ok w) a b)
-    → (FollowsBy (EntersClearly t e.number) e.successors w a b → ⊥) → IsFaultyAt p t k (Successor k)
+    → (FollowsBy (EntersClearly t e.number) e.successors w a b → ⊥)
+    → IsRefusedAt p t k (Successor k)
 unnamed_step p t k e w a b there begins steps unnamed =
     let (insn, fetched) = there_is (fetch p e.state.slot) begins in (
       refl,

@@ -11,8 +11,8 @@ use Rattle.table_entries.proofs.GrowingLaws.{inside_some}
 use Rattle.rechecking.specs.declared.errors.TableError.{TableError}
 use Rattle.rechecking.specs.declared.errors.TableError.TheVariants.{Flow, Fault, Start, Step, Successor}
 use Rattle.rechecking.specs.Tables.{EntryAt, IsClosedEntry}
-use Rattle.rechecking.specs.Checking.{HasStart, StartsClearly, IsFirstFault}
-use Rattle.rechecking.specs.Refusing.{ShowsBound, IsFault, TableIsRefused}
+use Rattle.rechecking.specs.Checking.{HasStart, StartsClearly, IsFirstRefused}
+use Rattle.rechecking.specs.Refusing.{ShowsBound, RefusesBytes, TableIsRefused}
 
 -- the entries by their indexes are those of the bytes
 same_entries : (p : Program) (t : TableView) (entries : List Entry) → KeepsEntries p t entries → entry_at p t ≡ slice_get entries
@@ -38,14 +38,14 @@ shows_of p bytes t entries n read h start each =
       number_is = s.number_is;
     }
 
-pub refused_fault : (p : Program) (bytes : List ℕ) (f : TableRefusal) → IsFlow p → (f ≡ fault.Memory) ⊎ (table_read p bytes ≡ Err f) → TableIsRefused p bytes (Fault f)
-refused_fault p bytes f flow (inl memory) = subst (IsFault p bytes) (sym memory) tt
-refused_fault p bytes fault.Memory flow (inr read) = tt
-refused_fault p bytes fault.Magic flow (inr read) = (flow, read)
-refused_fault p bytes fault.Short flow (inr read) = (flow, read)
-refused_fault p bytes fault.Long flow (inr read) = (flow, read)
-refused_fault p bytes fault.Count flow (inr read) = (flow, read)
-refused_fault p bytes (fault.Entry k) flow (inr read) = (flow, read)
+pub refused_bytes : (p : Program) (bytes : List ℕ) (f : TableRefusal) → IsFlow p → (f ≡ fault.Memory) ⊎ (table_read p bytes ≡ Err f) → TableIsRefused p bytes (Fault f)
+refused_bytes p bytes f flow (inl memory) = subst (RefusesBytes p bytes) (sym memory) tt
+refused_bytes p bytes fault.Memory flow (inr read) = tt
+refused_bytes p bytes fault.Magic flow (inr read) = (flow, read)
+refused_bytes p bytes fault.Short flow (inr read) = (flow, read)
+refused_bytes p bytes fault.Long flow (inr read) = (flow, read)
+refused_bytes p bytes fault.Count flow (inr read) = (flow, read)
+refused_bytes p bytes (fault.Entry k) flow (inr read) = (flow, read)
 
 pub refused_start : (p : Program) (bytes : List ℕ) (t : TableView) (entries : List Entry) → IsFlow p → table_read p bytes ≡ Ok entries → KeepsEntries p t entries
     → (StartsClearly (entry_at p t) → ⊥) → TableIsRefused p bytes Start
@@ -53,8 +53,8 @@ refused_start p bytes t entries flow read h lacks =
     (entries, (flow, read), λ clear. lacks (subst StartsClearly (sym (same_entries p t entries h)) clear))
 
 pub refused_entry : (p : Program) (bytes : List ℕ) (t : TableView) (entries : List Entry) (n : ℕ) (error : TableError) → IsFlow p → table_read p bytes ≡ Ok entries → KeepsEntries p t entries
-    → HasStart p (entry_at p t) n → IsFirstFault p (entry_at p t) error → TableIsRefused p bytes error
-refused_entry p bytes t entries n error flow read h start fault = by error (subst (λ (u : EntryAt). IsFirstFault p u error) same fault)
+    → HasStart p (entry_at p t) n → IsFirstRefused p (entry_at p t) error → TableIsRefused p bytes error
+refused_entry p bytes t entries n error flow read h start fault = by error (subst (λ (u : EntryAt). IsFirstRefused p u error) same fault)
   where
     same : entry_at p t ≡ slice_get entries
     same = same_entries p t entries h
@@ -62,7 +62,7 @@ refused_entry p bytes t entries n error flow read h start fault = by error (subs
     first : (m : ℕ) × HasStart p (slice_get entries) m
     first = (n, subst (λ (u : EntryAt). HasStart p u n) same start)
 
-    by : (x : TableError) → IsFirstFault p (slice_get entries) x → TableIsRefused p bytes x
+    by : (x : TableError) → IsFirstRefused p (slice_get entries) x → TableIsRefused p bytes x
     by (Step k r) f = (entries, (flow, read), first, f)
     by (Successor k) f = (entries, (flow, read), first, f)
     by (Flow e s) f = absurd f.2

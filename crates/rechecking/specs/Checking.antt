@@ -96,11 +96,11 @@ pub record IsUnnamed (p : Program) (t : EntryAt) (k : ℕ) : Type 0 where
   pub made : StepsToWays p entry.state insn went first second
   pub unnamed : FollowsBy (EntersClearly t entry.number) entry.successors went first second → ⊥
 
-abbrev pub IsFaultyAt : Program → EntryAt → ℕ → TableError → Type 0
-IsFaultyAt p t k (Step index refusal) = (index ≡ k) × IsRefusedStep p t k refusal
-IsFaultyAt p t k (Successor index) = (index ≡ k) × IsUnnamed p t k
-IsFaultyAt p t k error = ⊥
+abbrev pub IsRefusedAt : Program → EntryAt → ℕ → TableError → Type 0
+IsRefusedAt p t k (Step index refusal) = (index ≡ k) × IsRefusedStep p t k refusal
+IsRefusedAt p t k (Successor index) = (index ≡ k) × IsUnnamed p t k
+IsRefusedAt p t k error = ⊥
 
 -- all entries before it are fine
-abbrev pub IsFirstFault : Program → EntryAt → TableError → Type 0
-IsFirstFault p t error = (k : ℕ) × AllFineBefore p t k × IsFaultyAt p t k error
+abbrev pub IsFirstRefused : Program → EntryAt → TableError → Type 0
+IsFirstRefused p t error = (k : ℕ) × AllFineBefore p t k × IsRefusedAt p t k error

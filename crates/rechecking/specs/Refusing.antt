@@ -9,7 +9,7 @@ use Rattle.table_entries.specs.Tables.{table_read}
 use Rattle.rechecking.specs.declared.errors.TableError.{TableError}
 use Rattle.rechecking.specs.declared.errors.TableError.TheVariants.{Flow, Fault, Start}
 use Rattle.rechecking.specs.Tables.{IsClosed}
-use Rattle.rechecking.specs.Checking.{HasStart, StartsClearly, IsFirstFault}
+use Rattle.rechecking.specs.Checking.{HasStart, StartsClearly, IsFirstRefused}
 
 -- the bytes are of the form, and these are their entries
 abbrev pub AreEntries : Program → List ℕ → List Entry → Type 0
@@ -28,17 +28,17 @@ LacksStart p bytes =
     (entries : List Entry) × AreEntries p bytes entries × (StartsClearly (slice_get entries) → ⊥)
 
 -- it does, and an entry is the first that does not pass
-abbrev pub HasFault : Program → List ℕ → TableError → Type 0
-HasFault p bytes error = (entries : List Entry) × AreEntries p bytes entries
-    × ((n : ℕ) × HasStart p (slice_get entries) n) × IsFirstFault p (slice_get entries) error
+abbrev pub HasRefusedEntry : Program → List ℕ → TableError → Type 0
+HasRefusedEntry p bytes error = (entries : List Entry) × AreEntries p bytes entries
+    × ((n : ℕ) × HasStart p (slice_get entries) n) × IsFirstRefused p (slice_get entries) error
 
 -- the bytes are not of the form, or memory ran out
-abbrev pub IsFault : Program → List ℕ → TableRefusal → Type 0
-IsFault p bytes fault.Memory = Unit {0}
-IsFault p bytes f = IsFlow p × (table_read p bytes ≡ Err f)
+abbrev pub RefusesBytes : Program → List ℕ → TableRefusal → Type 0
+RefusesBytes p bytes fault.Memory = Unit {0}
+RefusesBytes p bytes f = IsFlow p × (table_read p bytes ≡ Err f)
 
 abbrev pub TableIsRefused : Program → List ℕ → TableError → Type 0
 TableIsRefused p bytes (Flow e slot) = IsRefusal p e slot
-TableIsRefused p bytes (Fault f) = IsFault p bytes f
+TableIsRefused p bytes (Fault f) = RefusesBytes p bytes f
 TableIsRefused p bytes Start = LacksStart p bytes
-TableIsRefused p bytes error = HasFault p bytes error
+TableIsRefused p bytes error = HasRefusedEntry p bytes error

@@ -7,7 +7,7 @@ ghost use Rattle.table_entries.specs.Entries.{Entry, list_of};
 ghost use Rattle.table_entries.specs.Tables.{entry_at, count_of};
 ghost use Rattle.table_entries.specs.Growing.{MayGrow, Grows, AllThere};
 ghost use Rattle.rechecking.specs.Tables.{EntryAt, IsClosedEntry};
-ghost use Rattle.rechecking.specs.Checking.{Enters, EntersClearly, FollowsBy, Covering, CoversClearly, AllFineBefore, IsFaultyAt, IsFirstFault};
+ghost use Rattle.rechecking.specs.Checking.{Enters, EntersClearly, FollowsBy, Covering, CoversClearly, AllFineBefore, IsRefusedAt, IsFirstRefused};
 ghost use Rattle.rechecking.specs.KnownEntries.{HasEntry, IsKnownEntry};
 
 use crate::errors::TableError;
@@ -202,7 +202,7 @@ fn test_standing(
     ensures known { IfOk result
         (IsKnownEntry image.now (entry_at image.now growing.new.table) state.new room.new) }
     ensures faulty { IfErr result
-        (IsFaultyAt image.now (entry_at image.now growing.new.table) index) }
+        (IsRefusedAt image.now (entry_at image.now growing.new.table) index) }
 {
     let ways = match step_in_place(image, state, other) {
         Ok(ways) => ways,
@@ -240,7 +240,7 @@ fn test_entry(
     ensures known { IfOk result
         (IsKnownEntry image.now (entry_at image.now growing.new.table) state.new room.new) }
     ensures faulty { IfErr result
-        (IsFaultyAt image.now (entry_at image.now growing.new.table) index) }
+        (IsRefusedAt image.now (entry_at image.now growing.new.table) index) }
 {
     match known {
         Known::First(there, head) if there == index => {
@@ -270,7 +270,7 @@ pub fn test_all(image: &Image, growing: &mut Growing) -> Result<bool, TableError
         (entry_at image.now growing.new.table) growing.new.count }
     ensures short { result ≡ Ok false → count_of growing.old.table < growing.old.count }
     ensures faulty { IfErr result
-        (IsFirstFault image.now (entry_at image.now growing.new.table)) }
+        (IsFirstRefused image.now (entry_at image.now growing.new.table)) }
 {
     let mut state = State::start();
     let mut other = State::start();

@@ -1,7 +1,7 @@
 //! Why a table is refused.
 
 ghost use Rattle.std.specs.Prelude.{◌≡◌, Some};
-ghost use Rattle.rechecking.specs.Messages.{fault_code, fault_sentence, code_of, sentence_of};
+ghost use Rattle.rechecking.specs.Messages.{bytes_code, bytes_sentence, code_of, sentence_of};
 
 use control_flow::FlowError;
 use std::error::Error;
@@ -24,8 +24,8 @@ pub enum TableError {
     Successor(usize),
 }
 
-fn fault_code(fault: TableRefusal) -> &'static str
-    ensures { result.now ≡ fault_code fault }
+fn bytes_code(fault: TableRefusal) -> &'static str
+    ensures { result.now ≡ bytes_code fault }
 {
     match fault {
         TableRefusal::Magic => "P1",
@@ -37,8 +37,8 @@ fn fault_code(fault: TableRefusal) -> &'static str
     }
 }
 
-fn fault_sentence(fault: TableRefusal) -> &'static str
-    ensures { result.now ≡ fault_sentence fault }
+fn bytes_sentence(fault: TableRefusal) -> &'static str
+    ensures { result.now ≡ bytes_sentence fault }
 {
     match fault {
         TableRefusal::Magic => "the bytes do not begin with XPT1",
@@ -57,7 +57,7 @@ impl TableError {
     {
         match self {
             TableError::Flow(error, _) => error.code(),
-            TableError::Fault(fault) => fault_code(fault),
+            TableError::Fault(fault) => bytes_code(fault),
             TableError::Start => "P6",
             TableError::Step(_, _) => "P7",
             TableError::Successor(_) => "P8",
@@ -70,7 +70,7 @@ impl TableError {
     {
         match self {
             TableError::Flow(error, _) => error.sentence(),
-            TableError::Fault(fault) => fault_sentence(fault),
+            TableError::Fault(fault) => bytes_sentence(fault),
             TableError::Start => "the first entry does not cover the start of a run",
             TableError::Step(_, _) => "the step of the entry is refused",
             TableError::Successor(_) =>

@@ -1,4 +1,4 @@
-//! Tables tested.
+//! Tests of proof tables: the bound that a table shows, or why it is refused.
 
 ghost use Rattle.std.specs.Prelude.{◌≡◌, ℕ, Some, None, IfSome, IfOk, IfErr};
 ghost use Rattle.isa_model.specs.Machine.MachineStates.{IsProgram};
@@ -36,9 +36,9 @@ fn first_number(image: &Image, table: &Table) -> Option<u32>
     }
 }
 
-/// The bound that a table shows, whose entries are placed as they are tested. None says nothing.
+/// The bound that a table shows, with entries placed as they are tested. None says nothing of it.
 ///
-/// An entry that is the next one, and spells a successor, is read once.
+/// The next entry is read once, where it spells a successor of the one that is tested.
 fn quick_bound(alloc: Global, image: &Image, bytes: &[u8]) -> Option<u32>
     requires { IsProgram image.now }
     ensures { IfSome result (ShowsBound image.now bytes.now) }
@@ -82,7 +82,7 @@ fn slow_bound(alloc: Global, image: &Image, bytes: &[u8]) -> Result<u32, TableEr
     }
 }
 
-/// The same, the quick way where that finds a bound.
+/// The bound that a table shows, or why it is refused: the quick way where that finds a bound.
 fn bound_of(alloc: Global, image: &Image, bytes: &[u8]) -> Result<u32, TableError>
     requires { IsFlow image.now }
     ensures shown { IfOk result (ShowsBound image.now bytes.now) }

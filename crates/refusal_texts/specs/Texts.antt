@@ -26,19 +26,19 @@ abbrev pub told_at : List ℕ → List ℕ → List ℕ → List ℕ → List �
 told_at code place more sentence =
     codes "refused " ++ (code ++ (codes " " ++ (place ++ (more ++ (codes "\n" ++ (sentence ++ (codes "\n" ++ (place ++ codes "\n"))))))))
 
-abbrev pub slot_place : ℕ → List ℕ
-slot_place slot = codes "slot " ++ decimal slot
+abbrev pub slot_position : ℕ → List ℕ
+slot_position slot = codes "slot " ++ decimal slot
 
-abbrev pub map_place : ℕ → List ℕ
-map_place index = codes "map " ++ decimal index
+abbrev pub map_position : ℕ → List ℕ
+map_position index = codes "map " ++ decimal index
 
 -- bytes are no image, without what helps
 abbrev pub image_front : ImageError → List ℕ
 image_front (Code slot error) =
-    told_at (image.code_of (Code slot error)) (slot_place slot) (codes " " ++ codec.code_of error) (image.sentence_of (Code slot error))
-image_front (MapRow index) = told_at (image.code_of (MapRow index)) (map_place index) [] (image.sentence_of (MapRow index))
-image_front (UnknownMap slot) = told_at (image.code_of (UnknownMap slot)) (slot_place slot) [] (image.sentence_of (UnknownMap slot))
-image_front (ValuePointer slot) = told_at (image.code_of (ValuePointer slot)) (slot_place slot) [] (image.sentence_of (ValuePointer slot))
+    told_at (image.code_of (Code slot error)) (slot_position slot) (codes " " ++ codec.code_of error) (image.sentence_of (Code slot error))
+image_front (MapRow index) = told_at (image.code_of (MapRow index)) (map_position index) [] (image.sentence_of (MapRow index))
+image_front (UnknownMap slot) = told_at (image.code_of (UnknownMap slot)) (slot_position slot) [] (image.sentence_of (UnknownMap slot))
+image_front (ValuePointer slot) = told_at (image.code_of (ValuePointer slot)) (slot_position slot) [] (image.sentence_of (ValuePointer slot))
 image_front error = codes "refused " ++ (image.code_of error ++ (codes "\n" ++ (image.sentence_of error ++ codes "\n")))
 
 -- and with it, but for another magic and for memory
@@ -48,20 +48,21 @@ image_text Memory = image_front Memory
 image_text error = image_front error ++ (image.cure_of error ++ codes "\n")
 
 -- the place in a text
-abbrev pub text_place : ℕ → ℕ → List ℕ
-text_place line column = codes "line " ++ (decimal line ++ (codes " column " ++ (decimal column ++ codes "\n")))
+abbrev pub text_position : ℕ → ℕ → List ℕ
+text_position line column = codes "line " ++ (decimal line ++ (codes " column " ++ (decimal column ++ codes "\n")))
 
 -- a text is no program
 abbrev pub source_text : AsmError → List ℕ
 source_text error =
-    codes "refused " ++ (assembler.code_of error.kind ++ (codes " " ++ (text_place error.line error.column
-    ++ (assembler.sentence_of error.kind ++ (codes "\n" ++ text_place error.line error.column)))))
+    codes "refused " ++ (assembler.code_of error.kind ++ (codes " " ++ (text_position error.line error.column
+    ++ (assembler.sentence_of error.kind ++ (codes "\n"
+    ++ text_position error.line error.column)))))
 
 -- a program is refused at a slot, up to the instruction that begins there
 abbrev pub program_front : Refusal → ℕ → List ℕ
 program_front refusal slot =
-    codes "refused " ++ (walks.code_of refusal ++ (codes " " ++ (slot_place slot
-    ++ (codes "\n" ++ (walks.sentence_of refusal ++ (codes "\n" ++ slot_place slot))))))
+    codes "refused " ++ (walks.code_of refusal ++ (codes " " ++ (slot_position slot
+    ++ (codes "\n" ++ (walks.sentence_of refusal ++ (codes "\n" ++ slot_position slot))))))
 
 abbrev pub insn_end : Option Insn → List ℕ
 insn_end None = codes "\n"
@@ -73,23 +74,23 @@ pub record TellsProgram (p : Program) (refusal : Refusal) (slot : ℕ) (text : L
   pub is_known : (known ≡ []) ⊎ IsReason p refusal slot known
   pub text_is : text ≡ program_front refusal slot ++ (insn_end (fetch p slot) ++ known)
 
-abbrev pub entry_place : ℕ → List ℕ
-entry_place index = codes "entry " ++ decimal index
+abbrev pub entry_position : ℕ → List ℕ
+entry_position index = codes "entry " ++ decimal index
 
 -- a table is refused at an entry, or as a whole
-abbrev pub fault_front : TableError → List ℕ
-fault_front (table.Fault (fault.Entry index)) =
-    told_at (rechecking.code_of (table.Fault (fault.Entry index))) (entry_place index) [] (rechecking.sentence_of (table.Fault (fault.Entry index)))
-fault_front (table.Step index refusal) =
-    told_at (rechecking.code_of (table.Step index refusal)) (entry_place index) (codes " " ++ transfer.code_of refusal) (rechecking.sentence_of (table.Step index refusal))
-fault_front (table.Successor index) =
-    told_at (rechecking.code_of (table.Successor index)) (entry_place index) [] (rechecking.sentence_of (table.Successor index))
-fault_front error = codes "refused " ++ (rechecking.code_of error ++ (codes "\n" ++ (rechecking.sentence_of error ++ codes "\n")))
+abbrev pub refusal_front : TableError → List ℕ
+refusal_front (table.Fault (fault.Entry index)) =
+    told_at (rechecking.code_of (table.Fault (fault.Entry index))) (entry_position index) [] (rechecking.sentence_of (table.Fault (fault.Entry index)))
+refusal_front (table.Step index refusal) =
+    told_at (rechecking.code_of (table.Step index refusal)) (entry_position index) (codes " " ++ transfer.code_of refusal) (rechecking.sentence_of (table.Step index refusal))
+refusal_front (table.Successor index) =
+    told_at (rechecking.code_of (table.Successor index)) (entry_position index) [] (rechecking.sentence_of (table.Successor index))
+refusal_front error = codes "refused " ++ (rechecking.code_of error ++ (codes "\n" ++ (rechecking.sentence_of error ++ codes "\n")))
 
 -- or the control flow of its program is, at a slot
 abbrev pub table_front : Program → TableError → List ℕ
 table_front p (table.Flow error slot) = program_front (program.Flow error) slot ++ insn_end (fetch p slot)
-table_front p error = fault_front error
+table_front p error = refusal_front error
 
 -- why the step of an entry is refused
 abbrev pub step_sentence : TableError → List ℕ
@@ -102,7 +103,8 @@ abbrev pub TellsEntry : Program → List ℕ → TableError → List ℕ → Typ
 TellsEntry p bytes error text =
     (text ≡ step_sentence error)
     ⊎ ((slot : ℕ) × (insn : Insn) × (known : List ℕ) × IsEntryReason p bytes error slot insn known
-    × (text ≡ slot_place slot ++ (codes ": " ++ (line_of insn ++ (step_sentence error ++ known)))))
+    × (text ≡ slot_position slot ++
+    (codes ": " ++ (line_of insn ++ (step_sentence error ++ known)))))
 
 -- the same after the front
 pub record TellsTableRefusal (p : Program) (bytes : List ℕ) (error : TableError) (text : List ℕ) : Type 0 where

@@ -4,9 +4,9 @@ ghost use Rattle.std.specs.Prelude.{◌≡◌, ◌++◌, codes, IfOk, IfSome, On
 ghost use Rattle.std.specs.String.{string_bytes};
 ghost use Rattle.isa_model.specs.Text.CanonicalText.{line_of};
 ghost use Rattle.explanations.specs.Entries.{IsEntryReason};
-ghost use Rattle.refusal_texts.specs.Texts.{entry_place, fault_front, table_front, slot_place, step_sentence, TellsTableRefusal};
+ghost use Rattle.refusal_texts.specs.Texts.{entry_position, refusal_front, table_front, slot_position, step_sentence, TellsTableRefusal};
 
-use crate::texts::{end_line, program_front, slot_place, told, told_at, told_within};
+use crate::texts::{end_line, program_front, slot_position, told, told_at, told_within};
 use exact_io::write_bytes;
 use explanations::{EntryReason, entry_reason};
 use image::Image;
@@ -17,15 +17,15 @@ use std::io;
 use table_entries::TableRefusal;
 use walks::Refusal;
 
-fn entry_place(alloc: Global, index: usize) -> Result<String, AllocError>
-    ensures { IfOk result (λ text. string_bytes text ≡ entry_place index) }
+fn entry_position(alloc: Global, index: usize) -> Result<String, AllocError>
+    ensures { IfOk result (λ text. string_bytes text ≡ entry_position index) }
 {
     format!(in alloc; "entry {index}")
 }
 
 // Why a table is refused, and at which entry.
-fn fault_front(alloc: Global, error: TableError) -> Result<String, AllocError>
-    ensures { IfOk result (λ text. string_bytes text ≡ fault_front error) }
+fn refusal_front(alloc: Global, error: TableError) -> Result<String, AllocError>
+    ensures { IfOk result (λ text. string_bytes text ≡ refusal_front error) }
 {
     let code = error.code();
     let why = error.sentence();
@@ -34,7 +34,7 @@ fn fault_front(alloc: Global, error: TableError) -> Result<String, AllocError>
             told_at(alloc, code, "entry ", index, why)
         }
         TableError::Step(index, refusal) => {
-            let place = entry_place(alloc, index)?;
+            let place = entry_position(alloc, index)?;
             told_within(alloc, code, place.as_str(), refusal.code(), why)
         }
         _ => told(alloc, code, why),
@@ -46,7 +46,7 @@ fn table_front(alloc: Global, image: &Image, error: TableError) -> Option<Vec<u8
     ensures { IfSome result (λ text. text.items ≡ table_front image.now error) }
 {
     let TableError::Flow(flow, slot) = error else {
-        return match fault_front(alloc, error) {
+        return match refusal_front(alloc, error) {
             Ok(text) => Some(text.into_bytes()),
             Err(_) => None,
         };
@@ -82,10 +82,10 @@ fn write_found(
     error: TableError,
 ) -> io::Result<()>
     ensures { OnOk result (text.new.items ≡ text.old.items
-        ++ (slot_place found.now.slot ++ (codes ": " ++ (line_of found.now.insn
+        ++ (slot_position found.now.slot ++ (codes ": " ++ (line_of found.now.insn
         ++ (step_sentence error ++ string_bytes found.now.text))))) }
 {
-    let place = slot_place(alloc, found.slot)?;
+    let place = slot_position(alloc, found.slot)?;
     write_bytes(text, place.as_bytes())?;
     end_line(text, Some(&found.insn))?;
     write_sentence(text, error)?;

@@ -4,7 +4,7 @@ ghost use Rattle.std.specs.Prelude.{◌≡◌, ◌++◌, codes, decimal, IfOk, I
 ghost use Rattle.std.specs.Option.{option_copied};
 ghost use Rattle.std.specs.String.{string_bytes};
 ghost use Rattle.explanations.specs.Reasons.{IsReason};
-ghost use Rattle.refusal_texts.specs.Texts.{told_at, slot_place, image_front, image_text, text_place, source_text, program_front, insn_end, TellsProgram};
+ghost use Rattle.refusal_texts.specs.Texts.{told_at, slot_position, image_front, image_text, text_position, source_text, program_front, insn_end, TellsProgram};
 
 use assembler::AsmError;
 use disassembler::write_insn;
@@ -55,8 +55,8 @@ pub fn told_within(
 }
 
 /// A slot by its number.
-pub fn slot_place(alloc: Global, slot: usize) -> Result<String, AllocError>
-    ensures { IfOk result (λ text. string_bytes text ≡ slot_place slot) }
+pub fn slot_position(alloc: Global, slot: usize) -> Result<String, AllocError>
+    ensures { IfOk result (λ text. string_bytes text ≡ slot_position slot) }
 {
     format!(in alloc; "slot {slot}")
 }
@@ -69,7 +69,7 @@ fn image_front(alloc: Global, error: ImageError) -> Result<String, AllocError>
     let why = error.sentence();
     match error {
         ImageError::Code(slot, error) => {
-            let place = slot_place(alloc, slot)?;
+            let place = slot_position(alloc, slot)?;
             told_within(alloc, code, place.as_str(), error.code(), why)
         }
         ImageError::MapRow(index) => told_at(alloc, code, "map ", index, why),
@@ -99,8 +99,8 @@ pub fn image_text(alloc: Global, error: ImageError) -> Result<String, AllocError
     }
 }
 
-fn text_place(alloc: Global, line: usize, column: usize) -> Result<String, AllocError>
-    ensures { IfOk result (λ text. string_bytes text ≡ text_place line column) }
+fn text_position(alloc: Global, line: usize, column: usize) -> Result<String, AllocError>
+    ensures { IfOk result (λ text. string_bytes text ≡ text_position line column) }
 {
     format!(in alloc; "line {line} column {column}\n")
 }
@@ -111,7 +111,7 @@ pub fn source_text(alloc: Global, error: AsmError) -> Result<String, AllocError>
 {
     let code = error.kind.code();
     let why = error.kind.sentence();
-    let place = text_place(alloc, error.line, error.column)?;
+    let place = text_position(alloc, error.line, error.column)?;
     format!(in alloc; "refused {code} {place}{why}\n{place}")
 }
 

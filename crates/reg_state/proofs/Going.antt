@@ -4,7 +4,7 @@ use Rattle.isa_model.specs.declared.sizes.Width.TheVariants.{Full64}
 use Rattle.isa_model.specs.declared.instructions.Comparison.{Comparison}
 use Rattle.isa_model.specs.declared.instructions.Comparison.TheVariants.{Equal, NotEqual, Greater, GreaterEqual, Less, LessEqual, AnyBit, SignedGreater, SignedGreaterEqual, SignedLess, SignedLessEqual}
 use Rattle.isa_model.specs.Code.Numbers.{low}
-use Rattle.isa_model.specs.Code.NumberLemmas.{low_same}
+use Rattle.isa_model.specs.Code.NumberLaws.{low_same}
 use Rattle.reg_state.specs.Limits.{Limits}
 use Rattle.reg_state.specs.Reach.{MayGo}
 

@@ -14,7 +14,7 @@ use Rattle.reg_state.specs.Kinds.{Assigned, Allows, AllowsOrNull, HasLiveValue}
 use Rattle.reg_state.specs.KindCover.{packet_identity_of, null_identity_of}
 use Rattle.reg_state.proofs.Numbers.{if_some}
 
--- the frame into which a kind points
+-- the call frame into which a kind points
 abbrev pub frame_of : Kind → Option ℕ
 frame_of (Stack frame offset) = Some frame
 frame_of k = None

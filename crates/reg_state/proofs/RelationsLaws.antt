@@ -11,9 +11,9 @@ use Rattle.isa_model.specs.declared.instructions.AluOp.TheVariants.{Mov}
 use Rattle.isa_model.specs.declared.instructions.Comparison.{Comparison}
 use Rattle.isa_model.specs.declared.instructions.Comparison.TheVariants.{Equal, NotEqual, Greater, GreaterEqual, Less, LessEqual, AnyBit, SignedGreater, SignedGreaterEqual, SignedLess, SignedLessEqual}
 use Rattle.isa_model.specs.Code.Numbers.{low, signed, alu, sign_extended, compares, holds}
-use Rattle.isa_model.specs.Code.NumberLemmas.{low_same}
-use Rattle.isa_model.proofs.NumberLemmas.{low_below}
-use Rattle.isa_model.proofs.ExtensionLemmas.{sign_extended-small, sign_extended_fits}
+use Rattle.isa_model.specs.Code.NumberLaws.{low_same}
+use Rattle.isa_model.proofs.NumberLaws.{low_below}
+use Rattle.isa_model.proofs.ExtensionLaws.{sign_extended-small, sign_extended_fits}
 use Rattle.reg_state.specs.Relations.{ComparesTo, low_half, low_half_limit, reads_signed}
 
 lt-true : (a b : ℤ) → int_lt a b ≡ true → a <ℤ b

@@ -7,7 +7,7 @@ use Rattle.known_bits.specs.declared.bits.Bits.{Bits}
 use Rattle.known_bits.specs.Bits as B
 use Rattle.ranges.specs.declared.range.Range.{Range}
 use Rattle.ranges.specs.Ranges as R
-use Rattle.isa_model.specs.Code.NumberLemmas.{signed_equation, low_same}
+use Rattle.isa_model.specs.Code.NumberLaws.{signed_equation, low_same}
 use Rattle.isa_model.specs.Code.Numbers.{low}
 use Rattle.isa_model.specs.declared.sizes.Width.{Width}
 use Rattle.isa_model.specs.declared.sizes.Width.TheVariants.{Low32, Full64}

@@ -40,7 +40,7 @@ written_byte [] i h = absurd (omega arith)
 written_byte (b ∷ bytes) zero h = refl
 written_byte (b ∷ bytes) (suc i) h = written_byte bytes i (omega arith)
 
--- cells that are bytes at each place
+-- cells that are bytes at each index
 pub all_bytes : (cs : List Cell) → ((i : ℕ) → i < length cs → is_byte (slice_index_or cs i Unwritten) ≡ true) → list_all is_byte cs ≡ true
 all_bytes [] h = refl
 all_bytes (Unwritten ∷ cs) h = h 0 (omega arith)

@@ -1,4 +1,5 @@
--- What keeps the meaning of an abstract state, by effect: slots of any live frame, and kinds in every frame.
+-- What keeps the meaning of an abstract state, one effect after the other: slots of any live call
+-- frame, and kinds in every frame.
 use Rattle.std.specs.Prelude.{◌≡◌, ◌≢◌, ℕ, suc, ◌+◌, ◌-◌, ◌*◌, ◌<◌, ◌==◌, ℤ, pos, ◌+ℤ◌, ◌≤ℤ◌, List, [], ◌∷◌, map, max, length, slice_set, slice_index_or, All, Option, Some, None, Result, Ok, Bool, true, false, if◌then◌else◌, refl}
 use Rattle.std.proofs.Common.{sym, ap, ◌∙◌, subst, inl, inr, arith}
 use Rattle.std.proofs.lemmas.Bool.{cases_eq}
@@ -41,7 +42,7 @@ use Rattle.stack_state.proofs.FillLaws.{SlotMeans-forgotten}
 use Rattle.stack_state.proofs.FrameLaws.{IsHere, with_cells, loads_here, fills_here, stores_here, spills_here}
 use Rattle.stack_state.specs.Effects.{with_slots, with_frame, with_frame_slots, map_frames, with_spilled, with_kinds, map_kinds, proved_kind, tested_value, tested_kind, forgotten_register, forgotten_frame, forgotten_in}
 
--- ---- another frame in a place
+-- ---- another frame at an index
 
 pub frames_of-with_frame : (a : State) (j : ℕ) (f : AbstractFrame) → j < depth a → frames_of (with_frame a j f) ≡ slice_set (frames_of a) j f
 frames_of-with_frame a j f inside =

@@ -1,4 +1,5 @@
--- An exit forgets what points into the frame that ends, and so keeps the meaning of every abstract state.
+-- An exit forgets what points into the call frame that ends, and so keeps the meaning of every
+-- abstract state.
 use Rattle.std.specs.Prelude.{◌≡◌, ℕ, suc, ◌<◌, ◌==◌, List, [], ◌∷◌, ◌++◌, map, length, Bool, true, false, if◌then◌else◌, refl}
 use Rattle.std.proofs.Common.{sym, ap, ◌∙◌, subst, arith}
 use Rattle.std.proofs.lemmas.List.{length-map, map-append}

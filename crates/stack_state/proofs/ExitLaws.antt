@@ -1,4 +1,5 @@
--- A frame that an exit pops keeps the meaning of an abstract state, once nothing points into it.
+-- A call frame that an exit pops keeps the meaning of an abstract state, once nothing points into
+-- it.
 use Rattle.std.specs.Prelude.{◌≡◌, ◌≢◌, ℕ, zero, suc, ◌+◌, ◌-◌, ◌<◌, ◌==◌, List, [], ◌∷◌, ◌++◌, map, take, length, slice_get, slice_index_or, Option, Some, None, Bool, true, false, if◌then◌else◌, refl}
 use Rattle.std.proofs.Common.{sym, ap, ◌∙◌, subst, inl, inr, arith}
 use Rattle.std.proofs.lemmas.Bool.{cases_lt}

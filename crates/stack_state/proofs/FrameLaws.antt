@@ -1,4 +1,4 @@
--- Loads and stores of the meaning at a live frame: the cells of its slots.
+-- Loads and stores of the meaning at a live call frame: the cells of its slots.
 use Rattle.std.specs.Prelude.{◌≡◌, ◌≢◌, ℕ, ◌+◌, ◌*◌, ◌≤◌, ℤ, pos, ◌+ℤ◌, nat_le, true, List, map, length, slice_set, All, Some, Result, Ok, refl}
 use Rattle.std.proofs.Common.{sym, ◌∙◌, subst}
 use Rattle.std.proofs.lemmas.Bool.{le-leb}

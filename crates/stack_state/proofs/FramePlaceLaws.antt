@@ -1,4 +1,5 @@
--- Places in frames: each is within one slot, and a frame pointer of a member leads to the cells there.
+-- Places in call frames: each is within one stack slot, and a frame pointer of a member leads to the
+-- cells there.
 use Rattle.std.specs.Prelude.{◌≡◌, ◌≢◌, ℕ, ◌+◌, ◌-◌, ◌*◌, ◌/◌, ◌%◌, ◌<◌, ◌≤◌, ◌==◌, ℤ, ◌+ℤ◌, nat_lt, true, List, [], ◌++◌, map, length, slice_get, slice_index_or, Some, refl}
 use Rattle.std.specs.List.{flat_map, position_or_len}
 use Rattle.std.proofs.Common.{sym, ap, ◌∙◌, arith}

@@ -123,7 +123,7 @@ Marks-slots names slots n m old new all =
       | inr past ↦ rw (get_or_past slots k (Written 0) (omega arith)) (unset_names names i)
     ]) (λ i free k below. free k)
 
--- both of a frame
+-- both of a call frame
 pub Marks-frame : (names : Names) (f : AbstractFrame) (m n : ℕ) (old mid new : List Bool) → Marks (λ i. (k : ℕ) → NamesOther names f.registers k i) m old mid
     → Marks (λ i. (k : ℕ) → HoldsOther names f.stack.slots k i) n mid new → Marks (IsFreshIn names f) (m + n) old new
 Marks-frame names f m n old mid new =

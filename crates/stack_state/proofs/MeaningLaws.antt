@@ -1,4 +1,4 @@
--- What keeps the meaning of an abstract state, by effect.
+-- What keeps the meaning of an abstract state, one effect after the other.
 use Rattle.std.specs.Prelude.{◌≡◌, ◌≢◌, ℕ, zero, suc, ◌+◌, ◌-◌, ◌<◌, ℤ, pos, List, [], ◌∷◌, ◌++◌, map, length, slice_get, slice_set, slice_index_or, Option, Some, refl}
 use Rattle.std.proofs.Common.{sym, ap, ◌∙◌, subst, arith}
 use Rattle.std.proofs.lemmas.Bool.Decides.{nat_tests}
@@ -33,7 +33,7 @@ use Rattle.stack_state.specs.Slots.{slot_at, kind_in, frame_slots}
 use Rattle.stack_state.specs.StackMeaning.{SlotMeans, StackMeans}
 use Rattle.stack_state.proofs.StackLaws.{StackMeans-change, SlotMeans-spilled}
 
--- ---- frames
+-- ---- call frames
 
 pub length-frames_of : (a : State) → length (frames_of a) ≡ depth a
 length-frames_of a = length-append a.callers.items (a.innermost ∷ [])
@@ -116,7 +116,7 @@ MeansBy-go_to p e a s slot fits m = record {
 
 -- ---- a register set
 
--- the exits lead where they did
+-- the frames return to where they did
 pub returns-with : (a : State) (r : Reg) (k : Kind)
     → map (λ f. f.return_slot) (frames_of (with_register a r k)) ≡ map (λ f. f.return_slot) (frames_of a)
 returns-with a r k =
@@ -135,12 +135,12 @@ stack_at-last [] f g (suc j) same = refl
 stack_at-last (x ∷ fs) f g zero same = refl
 stack_at-last (x ∷ fs) f g (suc j) same = stack_at-last fs f g j same
 
--- each frame's slots stay
+-- each frame's stack slots stay
 pub stack_slots_of-with : (a : State) (r : Reg) (k : Kind) (j : ℕ) → stack_slots_of (with_register a r k) j ≡ stack_slots_of a j
 stack_slots_of-with a r k j =
     ap (λ s. s.slots) (stack_at-last a.callers.items (with_kind a.innermost (reg_number r) k) a.innermost j refl)
 
--- a kind and a value are written to the same place
+-- a kind and a value are written at the same index
 pub Allows-set : (e : Assigned) (ks : List Kind) (vs : List Value) (n : ℕ) (k : Kind) (v : Value) → n < length vs
     → ((j : ℕ) → Allows e (kind_at ks j) (value_at vs j)) → Allows e k v
     → (j : ℕ) → Allows e (kind_at (slice_set ks n k) j) (value_at (slice_set vs n v) j)
@@ -194,13 +194,14 @@ MeansBy-narrow p e a s r k own new m =
     subst (λ t. MeansBy p e (with_register a r k) t) same
     (MeansBy-set p e a s r k (reg s r) own new (reg_fits p s r m.is_state) m)
 
--- all that one frame's kinds and slots allow under an assignment the other's allow under another
+-- all that one frame's kinds and stack slots allow under an assignment the other's allow under
+-- another
 pub record FrameKeeps (e f : Assigned) (g h : AbstractFrame) : Type 0 where
   pub registers : (k : ℕ) (v : Value) → Allows e (kind_at g.registers k) v → Allows f (kind_at h.registers k) v
   pub slots : (k : ℕ) (cs : List Cell) → k < frame_slots → SlotMeans e (slot_at g.stack.slots k) cs → SlotMeans f (slot_at h.stack.slots k) cs
 
--- other kinds and slots, or another assignment, that allow in each frame all that was allowed there, for a machine state
--- with the same slot, registers and frames
+-- other kinds and stack slots, or another assignment, that allow in each frame all that was allowed
+-- there, for a machine state with the same slot of code, registers and frames
 pub MeansBy-onto : (p : Program) (e f : Assigned) (a b : State) (s t : Machine.State) → t.slot ≡ s.slot → t.regs ≡ s.regs
     → t.frames ≡ s.frames → IsState p t → AssignmentFits f t → b.slot ≡ a.slot
     → map (λ g. g.return_slot) (frames_of b) ≡ map (λ g. g.return_slot) (frames_of a)

@@ -1,4 +1,5 @@
--- Bytes of a number stored into a live frame: where it goes on, the state that is left means the machine's.
+-- Bytes of a number stored into a live call frame: where it goes on, the state that is left means
+-- the machine's.
 use Rattle.std.specs.Prelude.{◌≡◌, ℕ, ◌+◌, ◌<◌, ℤ, ◌+ℤ◌, nat_le, true, List, [], map, length, All, Ok}
 use Rattle.std.proofs.Common.{sym, ◌∙◌, subst, arith}
 use Rattle.std.proofs.lemmas.Bool.{le-leb}

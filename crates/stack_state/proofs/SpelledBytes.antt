@@ -32,7 +32,7 @@ spelled-below f (suc n) h =
     let whole = mul-add-lt (f n) (256 ^ n) (spelled f n) 256 (h n) (spelled-below f n h) in
     omega arith
 
--- those from a place on, and those before it
+-- those from an index on, and those before it
 spelled-add : (f : ℕ → ℕ) (m n : ℕ)
     → spelled f (m + n) ≡ spelled (λ i. f (m + i)) n * 256 ^ m + spelled f m
 spelled-add f m zero = omega (arith, ap (spelled f) (add-zero m))
@@ -83,7 +83,7 @@ number_from-fits ys n few long each =
 
 -- ---- bytes of another in them
 
--- n bytes of one list in the places from r on of another
+-- n bytes of one list at the indexes from r on of another
 pub record AreSpliced (r n : ℕ) (bs ys cs : List ℕ) : Type 0 where
   pub below : (i : ℕ) → i < r → slice_index cs i ≡ slice_index bs i
   pub there : (i : ℕ) → i < n → slice_index cs (r + i) ≡ slice_index ys i

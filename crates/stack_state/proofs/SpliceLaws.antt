@@ -1,4 +1,4 @@
--- A list after a write at a place of it: inside what was written, before it and after it; and its parts of eight.
+-- A list after a write at an index: inside what was written, before it and after it; and its parts of eight.
 use Rattle.std.specs.Prelude.{◌≡◌, ℕ, ◌+◌, ◌-◌, ◌*◌, ◌/◌, ◌%◌, ◌<◌, ◌≤◌, List, ◌++◌, length, take, drop, slice_index_or, ◌⊎◌, refl}
 use Rattle.std.proofs.Common.{sym, ap, ◌∙◌, inl, inr, arith}
 use Rattle.std.proofs.lemmas.List.{length-drop, length-take-le, get_or-take, get_or-drop, get_or-append_right, get_or_append_left, same_lists, drop-take, drop-drop, take-take}
@@ -8,7 +8,7 @@ use Rattle.stack_state.specs.StackMeaning.{part_of, chunk_of, cells_with}
 pub length-cells_with : {X : Type 0} (xs ys : List X) (at : ℕ) → at + length ys ≤ length xs → length (cells_with xs at ys) ≡ length xs
 length-cells_with xs ys at fits = length-splice xs ys at fits
 
--- ---- one place
+-- ---- one index
 
 pub written_inside : {X : Type 0} (xs ys : List X) (at p : ℕ) (d : X) → at ≤ p → p < at + length ys → at + length ys ≤ length xs
     → slice_index_or (cells_with xs at ys) p d ≡ slice_index_or ys (p - at) d
@@ -41,7 +41,7 @@ get_or-chunk k i xs d h = get_or-take 8 (drop (8 * k) xs) i d h ∙ get_or-drop 
 pub length-chunk : {X : Type 0} (k : ℕ) (xs : List X) → 8 * k + 8 ≤ length xs → length (chunk_of k xs) ≡ 8
 length-chunk k xs inside = length-take-le 8 (drop (8 * k) xs) (let rest = length-drop (8 * k) xs in omega arith)
 
--- a place of the slot that is not written
+-- an index of the stack slot that is not written
 pub chunk_kept : {X : Type 0} (xs ys : List X) (at k i : ℕ) (d : X) → i < 8 → (8 * k + i < at) ⊎ (at + length ys ≤ 8 * k + i)
     → at + length ys ≤ length xs → slice_index_or (chunk_of k (cells_with xs at ys)) i d ≡ slice_index_or (chunk_of k xs) i d
 chunk_kept xs ys at k i d h (inl before) fits =
@@ -49,7 +49,7 @@ chunk_kept xs ys at k i d h (inl before) fits =
 chunk_kept xs ys at k i d h (inr after) fits =
     get_or-chunk k i (cells_with xs at ys) d h ∙ written_after xs ys at (8 * k + i) d after fits ∙ sym (get_or-chunk k i xs d h)
 
--- a place that is written
+-- an index that is written
 pub chunk_written : {X : Type 0} (xs ys : List X) (at k i : ℕ) (d : X) → i < 8 → at ≤ 8 * k + i → 8 * k + i < at + length ys
     → at + length ys ≤ length xs → slice_index_or (chunk_of k (cells_with xs at ys)) i d ≡ slice_index_or ys (8 * k + i - at) d
 chunk_written xs ys at k i d h from to fits =

@@ -93,7 +93,7 @@ pub SlotMeans-marks : (e f : Assigned) (s : StackSlot) (marks : ℕ) (cs : List 
     → ((i : ℕ) → i < 8 → bit_at marks i ≡ 1 → bit_at (marks_of s) i ≡ 1) → SlotMeans e s cs → SlotMeans f (Written marks) cs
 SlotMeans-marks e f s marks cs fewer h = λ i within bit. marked_slot e s cs h i within (fewer i within bit)
 
--- of a new frame nothing is known
+-- of a new call frame nothing is known
 pub StackMeans-new : (e : Assigned) (cells : List Cell) → length cells ≡ frame_size → StackMeans e (replicate frame_slots (Written 0)) cells
 StackMeans-new e cells wide = record {
   size = wide;

@@ -41,7 +41,7 @@ first_allowed e serial (suc (suc (suc (suc (suc (suc (suc (suc zero)))))))) = tt
 first_allowed e serial (suc (suc (suc (suc (suc (suc (suc (suc (suc zero))))))))) = tt
 first_allowed e serial (suc (suc (suc (suc (suc (suc (suc (suc (suc (suc k)))))))))) = tt
 
--- all bytes of the first frame are unset
+-- all bytes of the first call frame are unset
 first_stack : (e : Assigned) (serial j : ℕ) (saved : List Value) → j < 1
     → StackMeans e (stack_slots_of start j) (frame_at (new_frame serial 0 saved ∷ []) j).cells
 unfolding start new_frame

@@ -1,5 +1,5 @@
--- What is done to an abstract state, by effect: other slots in a frame, and other kinds in every
--- frame.
+-- What is done to an abstract state, one effect after the other: other slots in a call frame, and
+-- other kinds in every frame.
 use Rattle.std.specs.Prelude.{ℕ, ◌==◌, List, map, length, max, Bool, true, false, pos, if◌then◌else◌}
 use Rattle.arrayvec.specs.ArrayVec.{with_item}
 use Rattle.reg_state.specs.declared.scalars.Scalar.{Scalar}
@@ -17,7 +17,7 @@ use Rattle.stack_state.specs.Slots.{kind_in, forgotten_kind, forgotten}
 abbrev pub with_slots : AbstractFrame → List StackSlot → AbstractFrame
 with_slots f slots = record f { stack = record { slots = slots } }
 
--- another frame in the jth place
+-- another frame at index j
 abbrev pub with_frame : State → ℕ → AbstractFrame → State
 with_frame a j f =
     if j == length a.callers.items then record a { innermost = f }

@@ -1,4 +1,4 @@
--- Kinds after a fact becomes known that is shared by copies in all frames.
+-- Kinds after a fact becomes known that is shared by copies in all call frames.
 use Rattle.std.specs.Prelude.{Bool, true, false}
 use Rattle.reg_state.specs.declared.kinds.Kind.{Kind}
 use Rattle.reg_state.specs.declared.kinds.Kind.TheVariants.{Packet, MapValueOrNull, Stack}

@@ -13,7 +13,7 @@ abbrev pub named_by : Names → Kind → Option ℕ
 named_by Packets k = packet_identity_of k
 named_by Nulls k = null_identity_of k
 
--- no register and no slot of any frame names the identity
+-- no register and no slot of any call frame names the identity
 pub record IsFresh (names : Names) (a : State) (i : ℕ) : Type 0 where
   pub registers : (j k : ℕ) → named_by names (kind_at (kinds_of a j) k) ≢ Some i
   pub slots : (j k : ℕ) → named_by names (kind_in (slot_at (stack_slots_of a j) k)) ≢ Some i

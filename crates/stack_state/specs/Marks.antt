@@ -11,7 +11,7 @@ use Rattle.stack_state.specs.Slots.{slot_at, kind_in}
 
 -- ---- what does not name an identity
 
--- no register and no slot of the frame
+-- no register and no slot of the call frame
 pub record IsFreshIn (names : Names) (f : AbstractFrame) (i : ℕ) : Type 0 where
   pub registers : (k : ℕ) → named_by names (kind_at f.registers k) ≢ Some i
   pub slots : (k : ℕ) → named_by names (kind_in (slot_at f.stack.slots k)) ≢ Some i

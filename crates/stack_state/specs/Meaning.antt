@@ -15,7 +15,7 @@ use Rattle.stack_state.specs.declared.states.AbstractFrame.{AbstractFrame}
 use Rattle.stack_state.specs.declared.states.State.{State}
 use Rattle.stack_state.specs.StackMeaning.{StackMeans}
 
--- ---- frames
+-- ---- call frames
 
 -- the live frames, the outermost first
 abbrev pub frames_of : State → List AbstractFrame

@@ -67,7 +67,7 @@ StoresNumber old at size numbers new =
     → Has numbers n → StackMeans e old cells
     → StackMeans e new (cells_with cells at (map Byte (bytes_of size n)))
 
--- bytes of one of the numbers are written in the jth frame
+-- bytes of one of the numbers are written in the jth call frame
 pub record IsNumberStoredIn (a : State) (j at : ℕ) (size : Size) (numbers : Scalar) (b : State)
     : Type 0 where
   pub slot : StackSlot

@@ -1,4 +1,4 @@
--- The slots of a frame, and what the calls of `StackState` do with them.
+-- The slots of a call frame, and what the calls of `StackState` do with them.
 use Rattle.std.specs.Prelude.{◌≡◌, ◌≢◌, ℕ, ◌+◌, ◌-◌, ◌*◌, ◌/◌, ◌%◌, ◌^◌, ◌<◌, ◌≤◌, ◌==◌, ◌↔◌, List, map, slice_set, slice_index_or, Option, Some, None, bit_or, if◌then◌else◌}
 use Rattle.std.specs.Int.{bit_at}
 use Rattle.isa_model.specs.Code.Limits.{frame_size}

@@ -1,4 +1,4 @@
--- What the slots of a frame mean: cells; and how the calls of `StackState` change that. The
+-- What the slots of a call frame mean: cells; and how the calls of `StackState` change that. The
 -- contracts cite the definitions below; StackLaws and FrameLaws have the laws.
 use Rattle.std.specs.Prelude.{◌≡◌, ◌≢◌, ℕ, ◌+◌, ◌*◌, ◌<◌, true, List, [], map, take, drop, length, slice_index_or, All, Option, Ok, IfSome}
 use Rattle.std.specs.Int.{bit_at}

@@ -1,4 +1,4 @@
-//! Local calls and the exits of inner frames: a frame pushed, and popped.
+//! Local calls and the exits of inner call frames: a frame pushed, and popped.
 
 ghost use Rattle.std.specs.Prelude.{◌≡◌, ◌+◌, ◌<◌, ◌^◌, length};
 ghost use Rattle.stack_state.specs.Calls as call_words;

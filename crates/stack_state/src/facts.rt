@@ -1,4 +1,4 @@
-//! What becomes known of values wherever they are: in registers and slots of all live frames.
+//! What becomes known of values wherever they are: in registers and slots of all live call frames.
 
 ghost use Rattle.std.specs.Prelude.{◌≡◌, map};
 ghost use Rattle.stack_state.specs.Effects.{proved_kind, tested_kind, with_spilled, with_kinds, map_kinds};

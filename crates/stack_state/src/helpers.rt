@@ -40,7 +40,7 @@ fn forget_in_frames(frames: &mut [AbstractFrame], index: u8)
 
 impl State {
     /// Pointers to values of the map are forgotten in registers, in those that calls kept, and in
-    /// slots of all live frames.
+    /// slots of all live call frames.
     pub fn forget_map(&mut self, index: u8)
         ensures { self.new ≡ forgotten_in index self.old }
     {

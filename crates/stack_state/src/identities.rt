@@ -31,8 +31,8 @@ impl Names {
     }
 }
 
-// Which of the lowest identities are named. The ten registers and 64 slots of eight frames name 592
-// of them at most, so that one from 1 to 593 is free.
+// Which of the lowest identities are named. The ten registers and 64 slots of eight call frames
+// name 592 of them at most, so that one from 1 to 593 is free.
 type Named = [bool; 594];
 
 fn mark(names: Names, named: &mut Named, kind: Kind)

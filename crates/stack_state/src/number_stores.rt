@@ -90,7 +90,7 @@ impl StackState {
 }
 
 impl State {
-    /// Bytes of one of the numbers are written in a live frame.
+    /// Bytes of one of the numbers are written in a live call frame.
     pub fn store_number(&mut self, frame: u8, at: usize, size: Size, numbers: Scalar)
         requires live { frame < depth self.old }
         requires inside { at < frame_size }

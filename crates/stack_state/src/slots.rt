@@ -29,7 +29,7 @@ impl StackSlot {
         }
     }
 
-    /// The kind of the value that was spilled there; Unset where none was.
+    /// The kind of the value that was spilled there, or Unset if none was.
     pub fn kind(&self) -> Kind
         ensures { result ≡ kind_in self.now }
     {
@@ -40,7 +40,7 @@ impl StackSlot {
     }
 }
 
-/// The marks of some bytes from one of the slot on.
+/// The marks of as many bytes of a stack slot, from one of them on.
 pub(crate) fn mask(from: usize, bytes: usize) -> u8
     requires { from + bytes ≤ 8 }
     ensures { result ≡ mask_of from (from + bytes) }
@@ -67,7 +67,7 @@ pub(crate) fn all(size: Size) -> Scalar
     Scalar::between(0, greatest(size))
 }
 
-/// What the bytes of a spilled number from one on may spell.
+/// What bytes of a spilled number, from one of them on, may spell.
 fn part(numbers: Scalar, from: usize, size: Size) -> Scalar
     requires { from + size_bytes size ≤ 8 }
     ensures { ArePart numbers from size result }

@@ -34,7 +34,7 @@ pub struct State {
     pub innermost: AbstractFrame,
 }
 
-/// The place of a register in a frame's list; r10 has none.
+/// The index of a register in a frame's list; r10 has none.
 fn place_of(register: Reg) -> usize
     requires { register ≢ Reg.R10 }
     ensures value { result ≡ reg_number register }

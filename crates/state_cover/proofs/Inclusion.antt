@@ -1,4 +1,4 @@
--- Where each frame covers the other state's, what the other state means is meant.
+-- Where each call frame covers the other state's, what the other state means is meant.
 use Rattle.std.proofs.Common.{◌≡◌, ◌∙◌, ℕ, zero, suc, ◌<◌, ◌≤◌, ◌++◌, inl, inr, List, [], ◌∷◌, length, map, get_or, refl, ap, arith}
 use Rattle.std.proofs.lemmas.List.{get_or_past}
 use Rattle.std.proofs.lemmas.Bool.{cases_lt}

@@ -1,4 +1,4 @@
--- The first place of two lists of kinds, or of frames, that passes a test.
+-- The first place of two lists of kinds, or of call frames, that passes a test.
 use Rattle.std.proofs.Common.{◌≡◌, ◌∙◌, ℕ, ◌+◌, ◌<◌, suc, List, [], ◌∷◌, ◌++◌, append_assoc, Bool, cond, Option, Some, None, length, get_or, drop, drop-cons, add-one, sym, ap, refl, arith}
 use Rattle.std.specs.List.{find, zip}
 use Rattle.std.specs.Option.{option_or}

@@ -132,7 +132,7 @@ opposite_slots : (s : Sort) (m : ℕ → ℕ) (packet null : ℕ → ℕ) (xs ys
 opposite_slots s m packet null xs ys each c = λ k.
     rw (kind_in_slot xs k, kind_in_slot ys k) (opposite_in_slot s m packet null (slot_at xs k) (slot_at ys k) each (c k))
 
--- ---- frames
+-- ---- call frames
 
 -- kinds in registers and slots correspond to those of the other frame
 record FramesOpposite (s : Sort) (m : ℕ → ℕ) (f g : AbstractFrame) : Type 0 where

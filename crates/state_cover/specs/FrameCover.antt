@@ -1,4 +1,4 @@
--- When a frame covers another, under maps of identities;
+-- When a call frame covers another, under maps of identities;
 -- and when a test by registers and slots has to find that a state
 -- does.
 use Rattle.std.specs.Prelude.{◌≡◌, ℕ, ◌<◌, List, map}

@@ -27,7 +27,7 @@ is_named sort i k = is_number (identity_of sort k) i
 abbrev pub spilled_kinds : List StackSlot → List Kind
 spilled_kinds slots = map kind_in slots
 
--- the kinds of two frames, place by place: registers, then slots
+-- the kinds of two call frames, place by place: registers, then slots
 abbrev pub frame_places : AbstractFrame → AbstractFrame → List (Kind × Kind)
 frame_places f g =
     zip f.registers g.registers ++ zip (spilled_kinds f.stack.slots) (spilled_kinds g.stack.slots)

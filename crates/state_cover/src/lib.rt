@@ -20,8 +20,8 @@ pub fn covers(a: &State, b: &State) -> bool
     ensures yes { IsTrue result → (p : Program) → Covers p a.now b.now }
     ensures slot { IsTrue result → a.now.slot ≡ b.now.slot }
 
-    // It finds what can be found by registers and slots, whatever b calls the identities of a, and
-    // by bits and limits of numbers.
+    // It finds what can be found by registers and stack slots, whatever b calls the identities of
+    // a, and by bits and limits of numbers.
     ensures encloses { (packet null : ℕ → ℕ) → StateEncloses packet null a.now b.now
         → IsTrue result }
     ensures equal { a.now ≡ b.now → IsTrue result }
@@ -117,7 +117,7 @@ fn slot_covers(left: &StackSlot, right: &StackSlot, a: &State, b: &State) -> boo
     }
 }
 
-// Whether the bytes that the marks name are written in the slot. Most slots have no marks.
+// Whether the bytes that the marks name are written in the stack slot. Most have no marks.
 #[inline(always)]
 fn are_written(marks: u8, slot: &StackSlot) -> bool
     ensures { IsTrue result ↔ AreAmong marks (marks_of slot.now) }

@@ -105,7 +105,7 @@ impl Sort {
         None
     }
 
-    // The same, over all frames.
+    // The same, over all call frames.
     fn find(self, identity: u32, a: &State, b: &State) -> Option<(Kind, Kind)>
         requires { length a.now.callers.items ≡ length b.now.callers.items }
         ensures { result ≡ first_named self identity (places (frames_of a.now) (frames_of b.now)) }

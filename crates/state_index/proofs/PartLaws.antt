@@ -1,4 +1,4 @@
--- The parts of a frame, written one after the other, make the frame again.
+-- The parts of a call frame, written one after the other, make the frame again.
 use Rattle.std.proofs.Common.{◌≡◌, ℕ, zero, suc, ◌+◌, ◌-◌, ◌<◌, ◌≤◌, List, [], ◌∷◌, ◌++◌, length, get_or, set, drop, drop-cons, add-one, replicate, append_assoc, length-append, true, false, Option, Some, None, refl, sym, ap, ◌∙◌, subst, inl, inr, arith}
 use Rattle.std.specs.Prelude.{option_to_list, if◌then◌else◌, ◌==◌}
 use Rattle.std.proofs.lemmas.Bool.{cases_lt}
@@ -131,7 +131,7 @@ registers_made f n done (k ∷ ks) long same =
     ∙ registers_made (record f { registers = done ++ k ∷ rest }) (n + 1) (done ++ k ∷ []) ks longer (sym (append_assoc done (k ∷ []) rest))
     ∙ ap (λ l. record f { registers = l }) (append_assoc done (k ∷ []) ks)
 
--- ---- slots
+-- ---- stack slots
 
 abbrev with_slots : AbstractFrame → List StackSlot → AbstractFrame
 with_slots f slots = record f { stack = record { slots = slots } }

@@ -13,14 +13,14 @@ use Rattle.control_flow.specs.Masks.{HasSlot}
 use Rattle.state_index.specs.declared.parts.Part.{Part}
 use Rattle.state_index.specs.declared.parts.Part.TheVariants.{InRegister, InSlot}
 
--- ---- the parts of a frame
+-- ---- the parts of a call frame
 
 -- nothing is kept of a register that is unset
 abbrev pub register_part : ℕ → Kind → Option Part
 register_part n Unset = None
 register_part n k = Some (InRegister n k)
 
--- nor of a slot about which nothing is known
+-- nor of a stack slot about which nothing is known
 abbrev pub slot_part : ℕ → StackSlot → Option Part
 slot_part n (Written marks) = if marks == 0 then None else Some (InSlot n (Written marks))
 slot_part n (Spilled k) = Some (InSlot n (Spilled k))
@@ -30,7 +30,7 @@ abbrev pub register_parts : ℕ → List Kind → List Part
 register_parts n [] = []
 register_parts n (k ∷ ks) = option_to_list (register_part n k) ++ register_parts (n + 1) ks
 
--- of slots from the nth on
+-- of stack slots from the nth on
 abbrev pub slot_parts : ℕ → List StackSlot → List Part
 slot_parts n [] = []
 slot_parts n (t ∷ ts) = option_to_list (slot_part n t) ++ slot_parts (n + 1) ts

@@ -6,7 +6,7 @@ use crate::parts::Part;
 use reg_state::{Kind, Scalar};
 use stack_state::{AbstractFrame, FRAME_SLOTS, StackSlot};
 
-/// Fingerprints of frames from the outermost on.
+/// Fingerprints of call frames from the outermost on.
 #[derive(Clone, Copy, Drop)]
 pub struct Fingerprints {
     /// Of the slots to which the frames' exits lead: a state has the same one as those that cover

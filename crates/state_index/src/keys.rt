@@ -10,7 +10,7 @@ use control_flow::SlotMask;
 use stack_state::{FRAME_SLOTS, State};
 use std::alloc::{AllocError, Global};
 
-/// How many parts a frame has: its registers and its slots.
+/// How many parts a call frame has: its registers and its stack slots.
 const PARTS: usize = 10 + FRAME_SLOTS;
 
 /// The parts of a state's innermost frame, fingerprints of all its frames, and their limits if

@@ -1,5 +1,5 @@
-//! Limits of what is known of parts of frames: what a search for a state that covers another one
-//! goes by.
+//! Limits of what is known of parts of call frames: what a search for a state that covers another
+//! one goes by.
 //!
 //! No contract rests on them: they propose states, and `covers` decides.
 
@@ -29,7 +29,7 @@ enum Sort {
 /// Monotone measures of a part: if a covers b, each measure of a is at least that of b.
 #[derive(Clone, Copy, Drop)]
 pub struct PartLimits {
-    /// Frames come one after another, and in each of them registers before slots.
+    /// Frames come one after another, and in each of them registers before stack slots.
     pub number: u32,
     sort: Sort,
     measures: [u64; MEASURES],

@@ -59,7 +59,7 @@ fn push_registers(parts: &mut Vec<Part>, registers: &[Kind; 10]) -> Result<(), A
 }
 
 /// Whether nothing is known of eight stack slots, from a multiple of eight on. Nothing is known of
-/// a slot that is not in `known`.
+/// a stack slot that is not in `known`.
 #[inline(always)]
 fn are_blank(slots: &[StackSlot; FRAME_SLOTS], known: SlotMask, block: usize) -> bool
     requires inside { block < 8 }
@@ -173,7 +173,7 @@ fn may_allow(kind: &Kind, other: &Kind) -> bool
     }
 }
 
-/// The same of a slot and what may be there.
+/// The same of a stack slot and what may be there.
 fn may_hold(slot: &StackSlot, other: &StackSlot) -> bool
     ensures { slot.now ≡ other.now → IsTrue result }
 {

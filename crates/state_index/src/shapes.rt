@@ -1,4 +1,4 @@
-//! Shapes of states: which bits of the numbers in their registers and slots are known.
+//! Shapes of states: which bits of the numbers in their registers and stack slots are known.
 //!
 //! A state covers another one only if the other knows each bit that it knows, with the same value,
 //! and if the exits of both return to the same slots. So stored states are indexed by their shape,
@@ -11,10 +11,10 @@ use reg_state::{Kind, Scalar};
 use stack_state::StackSlot;
 use std::alloc::{AllocError, Global};
 
-/// A register or a slot that is known to hold a number.
+/// A register or a stack slot that is known to hold a number.
 #[derive(Clone, Copy, Drop)]
 struct Known {
-    /// Registers come first, then slots.
+    /// Registers come first, then stack slots.
     number: u64,
     /// The bits that are not known.
     unknown: u64,

@@ -13,7 +13,7 @@ pub const FAN: usize = 4;
 
 const FAN_BITS: u32 = 2;
 
-/// The words that the rows of states which cover a state reach.
+/// For each word of a row, the least with which a stored state may cover the state that is sought.
 pub type Sought = [u64; WIDTH];
 
 /// Stored states, those with like limits beside one another.
@@ -134,7 +134,7 @@ impl Tree {
         Some(position as usize)
     }
 
-    /// The first stored state from one on that may cover a state, by the words of its row.
+    /// The first stored state, from this one on, that may cover a state by the words of its row.
     pub fn next_from(&self, number: usize, sought: &Sought, effort: &mut Effort) -> Option<usize> {
         let mut number = number;
         for _tried in 0..self.positions.len() {
@@ -149,8 +149,8 @@ impl Tree {
         None
     }
 
-    /// Where a row that begins at the stored state does not reach the words, the stored state after
-    /// it.
+    /// The stored state after those that are passed over, which are in the highest row that begins
+    /// at this one and does not reach the words, if there is one.
     fn barred_from(&self, number: usize, sought: &Sought, effort: &mut Effort) -> Option<usize> {
         for level in (0..self.levels.len()).rev() {
             let shift = FAN_BITS.wrapping_mul(u32::try_from(level).unwrap_or(0));

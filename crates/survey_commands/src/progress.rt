@@ -36,7 +36,7 @@ impl SurveyProgress {
         format!(in alloc; "{CLEARED}{done} of {total}")
     }
 
-    /// Shows how far the survey is, if a hundredth more than what was shown.
+    /// Shows how far the survey is, if that is another number of hundredths than was shown last.
     pub fn show<W: Write>(&mut self, alloc: Global, err: &mut W) -> Result<(), AllocError> {
         if !self.is_shown || self.total == 0 {
             return Ok(());

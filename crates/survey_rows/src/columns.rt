@@ -19,7 +19,7 @@ pub enum Column {
     Bound,
     /// How many instructions were explored.
     Explored,
-    /// In how many stored states.
+    /// How many states were stored.
     Stored,
     /// How many instructions the longest path of the search has.
     Deepest,
@@ -104,7 +104,7 @@ impl Column {
         )
     }
 
-    /// How many characters a table leaves for it: enough for its name, and for all of its values
+    /// How many characters a grid leaves for it: enough for its name, and for all of its values
     /// except a path.
     pub fn width(self) -> usize {
         match self {

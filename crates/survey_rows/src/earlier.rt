@@ -58,12 +58,12 @@ fn keep(records: &mut Vec<ByteRecord>, record: ByteRecord) -> Result<(), AllocEr
     Ok(())
 }
 
-/// The place of a column among names.
-fn place_of(names: &ByteRecord, column: Column) -> Option<usize> {
-    for place in 0..names.len() {
-        if let Some(name) = names.get(place) {
+/// The index of a column among names.
+fn index_of(names: &ByteRecord, column: Column) -> Option<usize> {
+    for index in 0..names.len() {
+        if let Some(name) = names.get(index) {
             if name == column.name().as_bytes() {
-                return Some(place);
+                return Some(index);
             }
         }
     }
@@ -79,7 +79,7 @@ impl Earlier {
         let Some(names) = next(alloc, &mut reader)? else {
             return Err(EarlierError::Form);
         };
-        if place_of(&names, Column::File).is_none() {
+        if index_of(&names, Column::File).is_none() {
             return Err(EarlierError::Form);
         }
         let mut records = Vec::new(alloc);
@@ -100,7 +100,7 @@ impl Earlier {
 
     /// The field of a record in a column.
     pub fn field<'a>(&self, record: &'a ByteRecord, column: Column) -> Option<&'a [u8]> {
-        record.get(place_of(&self.names, column)?)
+        record.get(index_of(&self.names, column)?)
     }
 
     /// The file that a record is of.

@@ -1,4 +1,4 @@
-//! Images judged with counts and times, and looks into one.
+//! Judges images, with counts and times, and shows one: its listing, its graph, what is explored.
 #![tactic(auto)]
 
 mod graphs;

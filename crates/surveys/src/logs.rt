@@ -54,10 +54,10 @@ impl<W: Write + Drop> Log<'_, W> {
     }
 
     /// The line of a state that the stored one of an instruction covers.
-    fn covered_text(&self, place: usize, steps: u32) -> Result<String, AllocError> {
+    fn covered_text(&self, index: usize, steps: u32) -> Result<String, AllocError> {
         let slot = self.arrived;
         let from = from_text(self.alloc, self.path.as_slice(), self.tally.explored)?;
-        let by = self.stored.get(place).copied().unwrap_or(0);
+        let by = self.stored.get(index).copied().unwrap_or(0);
         format!(in self.alloc; "slot {slot}{from}: covered by #{by}, at most {steps} to the exit\n")
     }
 
@@ -105,9 +105,9 @@ impl<W: Write + Drop> Listener for Log<'_, W> {
         Ok(())
     }
 
-    fn covered(&mut self, place: usize, number: u32) -> Result<(), LookError> {
+    fn covered(&mut self, index: usize, number: u32) -> Result<(), LookError> {
         if self.is_wanted(self.arrived) {
-            let text = self.covered_text(place, number)?;
+            let text = self.covered_text(index, number)?;
             write_bytes(&mut self.out, text.as_bytes())?;
         }
         Ok(())

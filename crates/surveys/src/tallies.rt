@@ -35,7 +35,7 @@ fn own_bytes(kept: &Kept) -> u64
 }
 
 impl SearchTally {
-    /// An instruction is explored, in a state that is stored at this place, and then was kept last.
+    /// An instruction is explored. If its state is stored, this is its index, and it was kept last.
     pub fn explore(&mut self, stored: Option<usize>, kept: Option<&Kept>)
         ensures explored { self.new.explored ≡ saturated (self.old.explored + 1) }
         ensures depth { self.new.depth ≡ saturated (self.old.depth + 1) }
@@ -74,7 +74,7 @@ impl Listener for SearchTally {
         Ok(())
     }
 
-    fn covered(&mut self, _place: usize, _number: u32) -> Result<(), Infallible> {
+    fn covered(&mut self, _index: usize, _number: u32) -> Result<(), Infallible> {
         Ok(())
     }
 

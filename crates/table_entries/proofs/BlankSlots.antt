@@ -86,7 +86,7 @@ AreZeros-more n m xs first second = record {
 AreZeros-fewer : (n m : ℕ) (xs : List ℕ) → m ≤ n → AreZeros n xs → AreZeros m xs
 AreZeros-fewer n m xs le z = record { inside = let a = z.inside in omega arith; zeros = λ k lt. z.zeros k (omega arith) }
 
--- ---- slots
+-- ---- stack slots
 
 slot_blank : (rows holder : ℕ) (bytes : List ℕ) → 2 ≤ length bytes → get_or bytes 0 0 ≡ 0 → get_or bytes 1 0 ≡ 0
     → slot_in rows holder bytes ≡ Ok (Some (Written 0), drop 2 bytes)
@@ -95,7 +95,7 @@ slot_blank rows holder [] long a b = absurd (omega arith)
 slot_blank rows holder (x ∷ []) long a b = absurd (omega arith)
 slot_blank rows holder (x ∷ (y ∷ rest)) long a b = rw (a, b) refl
 
--- j slots about which nothing is known were read
+-- j stack slots about which nothing is known were read
 pub blank_so_far : (rows holder n j : ℕ) (bytes : List ℕ) → j ≤ n → AreZeros (2 * j) bytes
     → with_front (Some (replicate j (Written 0))) (many (λ k. slot_in rows holder) (n - j) j (drop (2 * j) bytes)) ≡ many (λ k. slot_in rows holder) n 0 bytes
 blank_so_far rows holder n zero bytes le z = many-begins (λ k. slot_in rows holder) n bytes

@@ -1,4 +1,4 @@
--- What tables say whose entries are placed one after the other.
+-- What is said of tables whose entries are placed one after the other.
 use Rattle.std.specs.Prelude.{◌≡◌, ℕ, zero, suc, ◌+◌, ◌-◌, ◌<◌, ◌≤◌, ◌==◌, IsTrue, Bool, true, false, List, [], ◌∷◌, ◌++◌, length, drop, map, slice_get, Option, Some, None, IsSome, Ok, refl}
 use Rattle.std.specs.Option.{is_some, option_and_then}
 use Rattle.std.proofs.Common.{inl, inr, ap, sym, ◌∙◌, subst, append_assoc, arith}
@@ -12,7 +12,7 @@ use Rattle.table_entries.specs.Tables.{TableView, KeepsEntries, count_of, count_
 use Rattle.table_entries.specs.Growing.{Grown, IsBegun, MayGrow, Grows, AllThere, with_place}
 use Rattle.table_entries.proofs.Ends.{IsEnd-more, IsEnd-place, IsEnd-length, entry_in-end}
 use Rattle.table_entries.proofs.Seen.{read-seen}
-use Rattle.table_entries.proofs.Rows.{entries-begins, entries-goes_on, entries-done, places-more, earlier-more, length-more, end-empty, KeepsEntries-places}
+use Rattle.table_entries.proofs.EntryOrder.{entries-begins, entries-goes_on, entries-done, places-more, earlier-more, length-more, end-empty, KeepsEntries-places}
 
 -- ---- from the beginning
 
@@ -109,7 +109,7 @@ get-last : (xs : List ℕ) (x : ℕ) → slice_get (xs ++ x ∷ []) (length xs) 
 get-last [] x = refl
 get-last (y ∷ xs) x = get-last xs x
 
--- they stay
+-- placed entries stay
 pub entry_at-before : (p : Program) (g h : Grown) (k : ℕ) → Grows p g h → k < count_of g.table → entry_at p h.table k ≡ entry_at p g.table k
 entry_at-before p g h k grows less =
     rw (grows.bytes, grows.places) (ap (option_and_then (entry_from p g.table.bytes)) (get-front g.table.places grows.more k less))

@@ -2,7 +2,7 @@ pub mod Words
 pub mod Many
 pub mod Parts
 pub mod Ends
-pub mod Rows
+pub mod EntryOrder
 pub mod Numbers
 pub mod Spelled
 pub mod Seen

@@ -33,7 +33,7 @@ allowed_frame-kept holder outer slot true kinds true slots =
 allowed_frame-kept holder outer slot true kinds false slots = refl
 allowed_frame-kept holder outer slot false kinds marks slots = refl
 
--- the values and the slots of a frame are read
+-- the values and the stack slots of a call frame are read
 pub frame_in-read : (rows holder : ℕ) (outer : Bool) (bytes : List ℕ) (values : Bool) (kinds : List Kind) (rest : List ℕ) (marks : Bool) (slots : List StackSlot) (after : List ℕ)
     → 2 ≤ length bytes → many (λ k. kind_in rows holder) 10 0 (drop 2 bytes) ≡ Ok (kept values kinds, rest)
     → many (λ k. slot_in rows holder) frame_slots 0 rest ≡ Ok (kept marks slots, after)

@@ -1,4 +1,4 @@
--- Outer frames whose first six values are unset: they have the form of innermost ones.
+-- Outer call frames whose first six values are unset: they have the form of innermost ones.
 use Rattle.std.specs.Prelude.{◌≡◌, ℕ, zero, suc, ◌+◌, ◌<◌, ◌≤◌, nat_lt, Bool, true, false, if◌then◌else◌, List, [], ◌∷◌, length, drop, Option, Some, None, Ok, Err, refl}
 use Rattle.std.proofs.Common.{ap, subst, sym, arith}
 use Rattle.byteorder.specs.Endian.{little_number}

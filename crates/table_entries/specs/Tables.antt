@@ -13,9 +13,9 @@ use Rattle.table_entries.specs.Reading.{Read, allowed}
 use Rattle.table_entries.specs.Entries.{Entry, entry_in}
 
 -- bytes that end, and a byte without a meaning in the entry of index k
-abbrev pub fault_of : StopReason → ℕ → TableRefusal
-fault_of Short k = fault.Short
-fault_of Form k = fault.Entry k
+abbrev pub refusal_of : StopReason → ℕ → TableRefusal
+refusal_of Short k = fault.Short
+refusal_of Form k = fault.Entry k
 
 abbrev pub before : Option Entry → Result (List (Option Entry) × List ℕ) TableRefusal
     → Result (List (Option Entry) × List ℕ) TableRefusal
@@ -26,7 +26,7 @@ before first (Err e) = Err e
 abbrev pub then_entries : ℕ → Read Entry
     → (List ℕ → Result (List (Option Entry) × List ℕ) TableRefusal)
     → Result (List (Option Entry) × List ℕ) TableRefusal
-then_entries k (Err stop) others = Err (fault_of stop k)
+then_entries k (Err stop) others = Err (refusal_of stop k)
 then_entries k (Ok x) others = before x.0 (others x.1)
 
 -- n entries, from index k on

@@ -182,7 +182,7 @@ unfoldable pub kind_in : ℕ → ℕ → List ℕ → Read Kind
 kind_in rows holder [] = Err Short
 kind_in rows holder (kind ∷ bytes) = fields_in rows holder kind bytes
 
--- a value in a slot: it is set
+-- a value in a stack slot: it is set
 abbrev pub spilled : Option Kind → Option StackSlot
 spilled None = None
 spilled (Some Unset) = None

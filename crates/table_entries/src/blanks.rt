@@ -30,7 +30,7 @@ fn begins_blank(bytes: &[u8]) -> bool
     true
 }
 
-// How many slots about which nothing is known the bytes begin with, by sixteens.
+// How many stack slots about which nothing is known the bytes begin with, by sixteens.
 #[inline(always)]
 fn blank_sixteens(bytes: &[u8]) -> usize
     ensures most { result ≤ frame_slots }
@@ -60,7 +60,8 @@ fn begins_with_four(bytes: &[u8]) -> bool
     true
 }
 
-/// How many slots about which nothing is known the bytes begin with, by fours: there may be more.
+/// How many stack slots about which nothing is known the bytes begin with, by fours: there may be
+/// more.
 #[inline(always)]
 pub fn blank_slots(bytes: &[u8]) -> usize
     ensures most { result ≤ frame_slots }
@@ -107,7 +108,7 @@ fn is_blank(slot: &StackSlot) -> bool
     }
 }
 
-/// Whether nothing is known of the first slots.
+/// Whether nothing is known of the first stack slots.
 pub fn are_blank(slots: &[StackSlot; FRAME_SLOTS], count: usize) -> bool
     requires { count ≤ frame_slots }
     ensures { IsTrue result → take count slots.now ≡ replicate count (StackSlot.Written 0) }

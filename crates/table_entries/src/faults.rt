@@ -1,6 +1,6 @@
-//! What is wrong with the bytes of a table.
+//! Why the bytes are no table.
 
-/// What is wrong with the bytes of a table.
+/// Why the bytes are no table.
 #[derive(Clone, Copy, PartialEq, Eq, Debug, Drop)]
 pub enum TableRefusal {
     /// P1: they do not begin with `XPT1`.

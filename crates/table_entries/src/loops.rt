@@ -1,4 +1,4 @@
-//! Ten values and the slots of a frame in the bytes of a table, read into a frame.
+//! Ten values and the stack slots of a call frame in the bytes of a table, read into a frame.
 
 ghost use Rattle.std.specs.Prelude.{◌≡◌, ◌≤◌, ◌&&◌, take, replicate};
 ghost use Rattle.stack_state.specs.Slots.{frame_slots};
@@ -49,7 +49,7 @@ fn read_kind<'a>(
     }
 }
 
-// Marks the written bytes of a slot; a whole slot is written only where one was spilled.
+// Marks the written bytes of a stack slot; a whole slot is written only where one was spilled.
 #[inline(always)]
 fn mark(slot: &mut StackSlot, marks: u8)
     ensures { slot.new ≡ StackSlot.Written marks }
@@ -62,7 +62,7 @@ fn mark(slot: &mut StackSlot, marks: u8)
 
 /// A stack slot, read into the room for it: whether it is allowed, and the bytes after it.
 ///
-/// Most slots have no value: those are read several at a time, since they are most of a table.
+/// Most stack slots have no value: they are read several at a time, since they are most of a table.
 #[inline(always)]
 #[tactic(auto, unfolding(crate::specs::Values::slot_in))]
 fn read_slot<'a>(
@@ -113,7 +113,7 @@ pub fn read_registers<'a>(
     Ok((allowed, rest))
 }
 
-// Marks no byte of the first slots.
+// Marks no byte of the first stack slots.
 fn clear(slots: &mut [StackSlot; FRAME_SLOTS], count: usize)
     requires { count ≤ frame_slots }
     ensures { take count slots.new ≡ replicate count (StackSlot.Written 0) }

@@ -29,7 +29,7 @@ fn pass_other(rows: usize, holder: usize, bytes: &[u8]) -> Result<(bool, &[u8]),
     Ok((kind.is_some(), rest))
 }
 
-// Whether the bytes begin with a frame up to the one that holds a pointer into it.
+// Whether the bytes begin with a call frame up to the one that holds a pointer into it.
 #[inline(always)]
 #[tactic(auto, unfolding(crate::specs::Values::stack_in))]
 fn is_stack(holder: usize, bytes: &[u8]) -> bool
@@ -74,7 +74,7 @@ fn pass_kind(rows: usize, holder: usize, bytes: &[u8]) -> Result<(bool, &[u8]), 
     }
 }
 
-// A slot with a spilled value, or of no form.
+// A stack slot with a spilled value, or of no form.
 #[inline(never)]
 fn pass_spilled(rows: usize, holder: usize, bytes: &[u8]) -> Result<(bool, &[u8]), StopReason>
     ensures { ReturnsRead (λ x. (x.0, x.1.now)) result (seen (slot_in rows holder bytes.now)) }

@@ -7,7 +7,7 @@ ghost use Rattle.table_entries.specs.Entries.{Entry, IsAllowed, entry_in, entry_
 ghost use Rattle.table_entries.specs.declared.entries.EntryHead.{EntryHead};
 ghost use Rattle.table_entries.specs.declared.stops.StopReason.{StopReason};
 ghost use Rattle.table_entries.specs.Growing.{with_place};
-ghost use Rattle.table_entries.specs.Tables.{TableView, KeepsEntries, table_read, entry_at, count_of, ArePlaced, count_in, body_in, fault_of, earlier};
+ghost use Rattle.table_entries.specs.Tables.{TableView, KeepsEntries, table_read, entry_at, count_of, ArePlaced, count_in, body_in, refusal_of, earlier};
 
 use crate::entries::{EntryHead, read_entry};
 use crate::faults::TableRefusal;
@@ -78,11 +78,11 @@ fn pass_or_fault<'a>(
 ) -> Result<(bool, &'a [u8]), TableRefusal>
     ensures { MatchResult result (λ x. seen (entry_in image.now bytes.now) ≡ Ok (x.0, x.1.now))
         (λ fault. (stop : StopReason) × (seen (entry_in image.now bytes.now) ≡ Err stop)
-        × (fault ≡ fault_of stop index)) }
+        × (fault ≡ refusal_of stop index)) }
 {
     match pass_entry(image, bytes, room) {
         Ok(passed) => Ok(passed),
-        Err(stop) => Err(fault_of(stop, index)),
+        Err(stop) => Err(refusal_of(stop, index)),
     }
 }
 
@@ -137,8 +137,8 @@ fn earlier(first: Option<usize>, allowed: bool, index: usize) -> Option<usize>
     }
 }
 
-fn fault_of(stop: StopReason, index: usize) -> TableRefusal
-    ensures { result ≡ fault_of stop index }
+fn refusal_of(stop: StopReason, index: usize) -> TableRefusal
+    ensures { result ≡ refusal_of stop index }
 {
     match stop {
         StopReason::Short => TableRefusal::Short,

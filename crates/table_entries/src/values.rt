@@ -345,7 +345,7 @@ fn marks_in(bytes: &[u8]) -> Result<(Option<StackSlot>, &[u8]), StopReason>
     }
 }
 
-/// A value in a slot, which is set.
+/// A value in a stack slot, which is set.
 fn spilled(kind: Option<Kind>) -> Option<StackSlot>
     ensures { result ≡ spilled kind }
 {

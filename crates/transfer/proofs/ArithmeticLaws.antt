@@ -8,7 +8,7 @@ use Rattle.isa_model.specs.declared.values.Region.TheVariants as region
 use Rattle.isa_model.specs.declared.values.Value.{Value}
 use Rattle.isa_model.specs.declared.values.Value.TheVariants as value
 use Rattle.isa_model.specs.Code.Numbers.{alu, low}
-use Rattle.isa_model.specs.Code.NumberLemmas.{low_same}
+use Rattle.isa_model.specs.Code.NumberLaws.{low_same}
 use Rattle.isa_model.specs.Machine.Pointers.{moved_to, moved, combined, arithmetic}
 use Rattle.isa_model.specs.Machine.States as Machine
 use Rattle.isa_model.specs.Machine.Steps.{is_unset}
@@ -21,7 +21,7 @@ use Rattle.reg_state.specs.Scalars.{Has}
 use Rattle.reg_state.specs.Kinds.{Assigned, Allows, AllowsMapValue}
 use Rattle.stack_state.specs.declared.states.State.{State}
 use Rattle.stack_state.specs.Meaning.{MeansBy}
-use Rattle.transfer.specs.Results.{packet_pointer, IsLowWord, OfNumber, moved_offset, MovesPointer, PointerAndNumber, NumberAndPointer, NumberAnd, PointerAnd, Combined, Copied, Arithmetic}
+use Rattle.transfer.specs.Results.{packet_pointer, IsLowNumber, OfNumber, moved_offset, MovesPointer, PointerAndNumber, NumberAndPointer, NumberAnd, PointerAnd, Combined, Copied, Arithmetic}
 use Rattle.transfer.proofs.ResultLaws.{Yields, YieldsUnder, frame_moves}
 use Rattle.transfer.proofs.PacketLaws.{packet_plus_yields, packet_minus_yields, number_plus_packet_yields}
 use Rattle.transfer.proofs.ValueLaws.{value_moves_yields}
@@ -107,12 +107,12 @@ copied_whole e rows next b value.Unset fits set allowed = absurd (cc)
 copied_whole e rows next b (value.Num n) fits set allowed = rw (low_same Full64 n fits) allowed
 copied_whole e rows next b (value.Ptr r z) fits set allowed = allowed
 
--- MOV at 32 bits computes the low word
-low_word_has : (a c : Scalar) (x : ℕ) → IsLowWord a c → Has a x → Has c (low Low32 x)
+-- MOV at 32 bits computes the low half
+low_word_has : (a c : Scalar) (x : ℕ) → IsLowNumber a c → Has a x → Has c (low Low32 x)
 unfolding alu
 low_word_has a c x h member = h.contains x x member member
 
-low_copied : (e : Assigned) (b k : Kind) (v : Value) → OfNumber IsLowWord b (Ok k) → Allows e b v → Yields e k (moved Low32 v)
+low_copied : (e : Assigned) (b k : Kind) (v : Value) → OfNumber IsLowNumber b (Ok k) → Allows e b v → Yields e k (moved Low32 v)
 low_copied e (Number a) (Number c) v h allowed =
     let (x, is, member) = allowed in
     rw is (low Low32 x, refl, low_word_has a c x h member)

@@ -1,4 +1,5 @@
--- Each successor of an instruction is at a slot that it leads to, with the frames that it leaves.
+-- Each successor of an instruction is at a slot that it leads to, with the call frames that it
+-- leaves.
 use Rattle.std.specs.Prelude.{◌≡◌, ℕ, zero, suc, ◌+◌, ℤ, [], ◌∷◌, ◌++◌, length, Bool, true, false, Some, Result, Ok, refl}
 use Rattle.std.proofs.Common.{inl, inr, sym, ap, ◌∙◌, subst, arith}
 use Rattle.isa_model.specs.declared.registers.Reg.TheVariants.{R0}

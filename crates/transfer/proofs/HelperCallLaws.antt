@@ -110,7 +110,7 @@ read_there s at n cs found all =
 no_move : (z : ℤ) → (z +ℤ pos 0) ≡ z
 no_move z = omega (arith, ints)
 
--- written number bytes of a live frame
+-- written number bytes of a live call frame
 frame_points : (p : Program) (e : Assigned) (a : State) (s : Machine.State) (frame n serial : ℕ) (z : ℤ) → MeansBy p e a s
     → slice_get e.frames frame ≡ Some serial → AreInFrame a frame z n → Points s (Ptr (region.CallFrame serial) z) n
 frame_points p e a s frame n serial z m found h =

@@ -22,8 +22,8 @@ use Rattle.isa_model.specs.declared.values.Cell.TheVariants.{Byte}
 use Rattle.isa_model.specs.Code.Instructions.{Program}
 use Rattle.isa_model.specs.Code.Numbers.{bytes_of, number_from, signed, sign_extended}
 use Rattle.isa_model.proofs.LittleEndianLaws.{EachByte-take, EachByte-drop}
-use Rattle.isa_model.proofs.ExtensionLemmas.{sign_extended_fits}
-use Rattle.isa_model.specs.Code.Sizes.{size_bytes, narrow_size, narrow_extension}
+use Rattle.isa_model.proofs.ExtensionLaws.{sign_extended_fits}
+use Rattle.isa_model.specs.Code.Sizes.{size_bytes, unsigned_size, size_extension}
 use Rattle.isa_model.specs.Machine.States as Machine
 use Rattle.isa_model.specs.Machine.Memory.{byte_in, index_from, load, load_number, load_signed, store}
 use Rattle.isa_model.specs.Code.Limits.{offset_limit}
@@ -45,7 +45,7 @@ use Rattle.stack_state.specs.Meaning.{AssignmentFits, MeansBy}
 use Rattle.stack_state.proofs.MeaningLaws.{MeansBy-fresh}
 use Rattle.stack_state.proofs.EffectLaws.{IfLeft}
 use Rattle.stack_state.proofs.PacketEffects.{MeansBy-packet}
-use Rattle.transfer.specs.Results.{IsWord}
+use Rattle.transfer.specs.Results.{IsNumber32}
 use Rattle.transfer.proofs.ResultLaws.{Yields, YieldsUnder, pointer_at_within}
 use Rattle.transfer.specs.ContextLoads.{packet_start, IsField, IsFieldKind, ContextLoads}
 use Rattle.transfer.specs.Packets.{AreInPacket, IsOfSize, IsOfSignedSize, IsNumberOf, PacketLoads, PacketLoadsSigned, PacketStores, moved_by, lowest, highest, AreOffsets, StaysProved, IsFreshPointer, least_part, greatest_part, IsMovedVariable, IsMovedBetween, IsMovedFixed, IsMovedBy, PacketMoves}
@@ -53,7 +53,7 @@ use Rattle.transfer.specs.declared.packets.PacketPointer.{PacketPointer}
 
 -- ---- the context
 
-word_allowed : (e : Assigned) (k : Kind) (n : ℕ) → IsWord k → n < 2 ^ 32 → Allows e k (Num n)
+word_allowed : (e : Assigned) (k : Kind) (n : ℕ) → IsNumber32 k → n < 2 ^ 32 → Allows e k (Num n)
 word_allowed e (Number c) n h small = (n, refl, (h n).1 small)
 word_allowed e k n h small = absurd h
 
@@ -158,7 +158,7 @@ back_32 : (z : ℤ) → FitsSigned w32 z → FitsSigned w32 (cast_signed w64 (ca
 back_32 z f = let wide : FitsSigned w64 z = record { sfits = let s = f.sfits in omega arith } in rw (to_z-of_z w64 z wide) f
 
 pub extended_fits : (size : SignedSize) (n : ℕ)
-    → FitsSigned (extension_signed (narrow_extension size)) (cast_signed w64 (sign_extended (narrow_extension size) n))
+    → FitsSigned (extension_signed (size_extension size)) (cast_signed w64 (sign_extended (size_extension size) n))
 unfolding sign_extended
 extended_fits S8 n = back_8 (cast_signed w8 (n % 2 ^ 8)) (sfits_to_z {w = w8} {n = n % 2 ^ 8} (record { fits = omega arith }))
 extended_fits S16 n = back_16 (cast_signed w16 (n % 2 ^ 16)) (sfits_to_z {w = w16} {n = n % 2 ^ 16} (record { fits = omega arith }))
@@ -168,12 +168,12 @@ pub packet_load_signed_yields : (p : Program) (e : Assigned) (s : Machine.State)
     (identity proved : ℕ) (by : ℤ) (k : Kind) (v : Value) → IsState p s → AssignmentFits e s → PacketLoadsSigned size fixed least proved by (Ok k)
     → Allows e (Packet fixed identity least greatest proved) v → Yields e k (load_signed s size v by)
 packet_load_signed_yields p e s size fixed least greatest identity proved by k v is of (inside, number) allowed =
-    let bytes : ℕ = size_bytes (narrow_size size) in
+    let bytes : ℕ = size_bytes (unsigned_size size) in
     let (i, found, room) = packet_place e s fixed least greatest identity proved bytes by v of inside allowed in
-    let x : ℕ = sign_extended (narrow_extension size) (number_from (bytes_at s i bytes)) in
-    rw (allowed.points, packet_number s (narrow_size size) (fixed +ℤ e.offset identity) by i found room)
+    let x : ℕ = sign_extended (size_extension size) (number_from (bytes_at s i bytes)) in
+    rw (allowed.points, packet_number s (unsigned_size size) (fixed +ℤ e.offset identity) by i found room)
     (number_yields e (IsOfSignedSize size) k x
-    (λ c h. (h.members x).1 (sign_extended_fits (narrow_extension size) (number_from (bytes_at s i bytes)), extended_fits size (number_from (bytes_at s i bytes)))) number)
+    (λ c h. (h.members x).1 (sign_extended_fits (size_extension size) (number_from (bytes_at s i bytes)), extended_fits size (number_from (bytes_at s i bytes)))) number)
 
 -- ---- stores into the packet
 

@@ -20,7 +20,7 @@ use Rattle.reg_state.proofs.ConstantsLaws.{IsNumber-only}
 use Rattle.stack_state.specs.declared.states.State.{State}
 use Rattle.stack_state.specs.Meaning.{MeansBy}
 use Rattle.transfer.specs.declared.refusals.Refusal.TheVariants.{PointerOffset}
-use Rattle.transfer.specs.Results.{IsWord, OfNumber, moved_offset, LeavesNumber, moved_frame}
+use Rattle.transfer.specs.Results.{IsNumber32, OfNumber, moved_offset, LeavesNumber, moved_frame}
 
 -- the value is there, and the kind allows it
 abbrev pub Yields : Assigned → Kind → Result Value TrapReason → Type 0
@@ -47,7 +47,7 @@ on_number_yields e f says a k v computes h allowed = absurd (cc)
 
 -- ---- pointers
 
--- a place within the limit
+-- an offset within the limit
 pub pointer_at_within : (r : Region) (z : ℤ) → unsigned_abs z ≤ offset_limit → pointer_at r z ≡ Ok (value.Ptr r z)
 pointer_at_within r z within = let yes : nat_le (unsigned_abs z) offset_limit ≡ true = grind (arith, nat_tests) in rw yes refl
 
@@ -67,8 +67,8 @@ frame_moves e back frame offset by k x n (Some m) only member h found =
     rw (IsNumber-only by m x only member, there, is) (n, found, refl)
 frame_moves e back frame offset by k x n None only member h found = absurd (cc)
 
--- ---- words
+-- ---- numbers of 32 bits
 
-pub word_yields : (e : Assigned) (k : Kind) (n : ℕ) → IsWord k → n < 2 ^ 32 → Allows e k (value.Num n)
-word_yields e (Number c) n h small = (n, refl, (h n).1 small)
-word_yields e k n h small = absurd h
+pub number32_yields : (e : Assigned) (k : Kind) (n : ℕ) → IsNumber32 k → n < 2 ^ 32 → Allows e k (value.Num n)
+number32_yields e (Number c) n h small = (n, refl, (h n).1 small)
+number32_yields e k n h small = absurd h

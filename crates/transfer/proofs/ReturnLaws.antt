@@ -1,4 +1,5 @@
--- Every instruction but a local call and an exit leaves the live frames' exits where they lead.
+-- Every instruction but a local call and an exit leaves the live call frames' exits where they
+-- lead.
 use Rattle.std.specs.Prelude.{◌≡◌, ℕ, ◌<◌, ℤ, Bool, true, false, if◌then◌else◌, List, [], ◌∷◌, ◌++◌, map, Option, Some, None, Result, Ok, Err, refl}
 use Rattle.std.proofs.Common.{sym, ap, ◌∙◌}
 use Rattle.std.proofs.lemmas.List.{map-append}

@@ -10,7 +10,7 @@ use Rattle.isa_model.specs.declared.sizes.Size.{Size}
 use Rattle.isa_model.specs.declared.sizes.Size.TheVariants.{U8, U16, U32, U64}
 use Rattle.isa_model.specs.Code.Sizes.{size_bytes}
 
--- a small number has no bit from a place on
+-- a small number has no bit from a position on
 no_bits : (most n i : ℕ) → most + 1 ≡ 2 ^ n → n ≤ i → 0 / 2 ^ i ≡ most / 2 ^ i
 no_bits most n i is above =
     let more : 2 ^ n ≤ 2 ^ i = pow_mono above in

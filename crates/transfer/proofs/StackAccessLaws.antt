@@ -8,7 +8,7 @@ use Rattle.isa_model.specs.declared.values.Region.TheVariants as region
 use Rattle.isa_model.specs.declared.values.Value.{Value}
 use Rattle.isa_model.specs.declared.values.Value.TheVariants as value
 use Rattle.isa_model.specs.declared.ends.TrapReason.{TrapReason}
-use Rattle.isa_model.specs.Code.Sizes.{size_bytes, narrow_size, narrow_extension}
+use Rattle.isa_model.specs.Code.Sizes.{size_bytes, unsigned_size, size_extension}
 use Rattle.isa_model.specs.Code.Numbers.{sign_extended}
 use Rattle.isa_model.specs.Code.Instructions.{Program}
 use Rattle.isa_model.specs.Machine.States as Machine
@@ -60,7 +60,7 @@ number_yields p e a s frame at serial z by size (Number c) m found place h =
     subst (λ r. Yields e (Number c) (as_number r)) (sym read) (n, refl, has)
 number_yields p e a s frame at serial z by size k m found place h = absurd h
 
--- a slot that is read back answers the value that was stored whole
+-- a stack slot that is read back answers the value that was stored whole
 whole_yields : (p : Program) (e : Assigned) (a : State) (s : Machine.State) (frame at serial : ℕ) (z by : ℤ) (k : Kind)
     → MeansBy p e a s → slice_get e.frames frame ≡ Some serial → IsFramePlace a frame (z +ℤ by) U64 at
     → IsFill (slot_at (stack_slots_of a frame) (at / 8)) (Some k)
@@ -91,14 +91,14 @@ stack_load_yields p e a s frame z by size k v m base h =
     subst (λ x. Yields e k (load s size x by)) (sym is) (at_yields p e a s frame at serial z by size k m found place given)
 
 signed_yields : (p : Program) (e : Assigned) (a : State) (s : Machine.State) (frame at serial : ℕ) (z by : ℤ) (size : SignedSize) (k : Kind)
-    → MeansBy p e a s → slice_get e.frames frame ≡ Some serial → IsFramePlace a frame (z +ℤ by) (narrow_size size) at
+    → MeansBy p e a s → slice_get e.frames frame ≡ Some serial → IsFramePlace a frame (z +ℤ by) (unsigned_size size) at
     → IsSignedLoad (stack_slots_of a frame) at size (Some k) → Yields e k (load_signed s size (value.Ptr (region.CallFrame serial) z) by)
 signed_yields p e a s frame at serial z by size (Number c) m found place h =
     let (b, whole, extended) = h in
-    let (n, read, has) = number_read p e a s frame at serial z by (narrow_size size) b m found place whole in
-    let f : ℕ → Value = λ n. value.Num (sign_extended (narrow_extension size) n) in
+    let (n, read, has) = number_read p e a s frame at serial z by (unsigned_size size) b m found place whole in
+    let f : ℕ → Value = λ n. value.Num (sign_extended (size_extension size) n) in
     subst (λ (r : Result ℕ TrapReason). Yields e (Number c) (and_then r (λ n. Ok (f n)))) (sym read)
-    (sign_extended (narrow_extension size) n, refl, extended.contains n has)
+    (sign_extended (size_extension size) n, refl, extended.contains n has)
 signed_yields p e a s frame at serial z by size k m found place h = absurd h
 
 pub stack_load_signed_yields : (p : Program) (e : Assigned) (a : State) (s : Machine.State) (frame : ℕ) (z by : ℤ) (size : SignedSize) (k : Kind) (v : Value)
@@ -140,21 +140,21 @@ stored_set e a frame size (MapValue m l g) v pass h = λ none. let there = h.poi
 stored_set e a frame size (MapValueOrNull m i) v pass h = or_null_set e m (e.value i) v h
 
 -- by fewer bytes than 8, only numbers are stored
-narrow_refused : (r : Refusal) (size : Size) → size ≢ U64 → whole_or r size ≡ Some r
-narrow_refused r U64 other = absurd (other refl)
-narrow_refused r size other = refl
+short_refused : (r : Refusal) (size : Size) → size ≢ U64 → whole_or r size ≡ Some r
+short_refused r U64 other = absurd (other refl)
+short_refused r size other = refl
 
 either_refused : (b : Bool) (o : Option Refusal) (r q : Refusal) → o ≡ Some r → (if b then o else Some q) ≢ None
 either_refused true o r q is = λ none. absurd (cc)
 either_refused false o r q is = λ none. absurd (cc)
 
-narrow_number : (a : State) (frame : ℕ) (size : Size) (k : Kind) → size ≢ U64 → store_refusal a frame size k ≡ None → IsNumberKind k
-narrow_number a frame size Unset other pass = absurd (cc)
-narrow_number a frame size (Number c) other pass = tt
-narrow_number a frame size (Stack f z) other pass =
-    absurd (either_refused (suc frame == depth a) (whole_or PointerStored size) PointerStored PointerStored (narrow_refused PointerStored size other) pass)
-narrow_number a frame size (MapValueOrNull m i) other pass = let some = narrow_refused NullNotTested size other in absurd (cc)
-narrow_number a frame size k other pass = let some = narrow_refused PointerStored size other in absurd (cc)
+short_number : (a : State) (frame : ℕ) (size : Size) (k : Kind) → size ≢ U64 → store_refusal a frame size k ≡ None → IsNumberKind k
+short_number a frame size Unset other pass = absurd (cc)
+short_number a frame size (Number c) other pass = tt
+short_number a frame size (Stack f z) other pass =
+    absurd (either_refused (suc frame == depth a) (whole_or PointerStored size) PointerStored PointerStored (short_refused PointerStored size other) pass)
+short_number a frame size (MapValueOrNull m i) other pass = let some = short_refused NullNotTested size other in absurd (cc)
+short_number a frame size k other pass = let some = short_refused PointerStored size other in absurd (cc)
 
 -- number bytes are left
 pub stored_left : (p : Program) (e : Assigned) (a : State) (s : Machine.State) (frame at serial n : ℕ) (z by : ℤ) (size : Size) (b : State)
@@ -196,9 +196,9 @@ left p e a s frame at serial z by U64 source v b m found place pass allowed h =
 left p e a s frame at serial z by U8 (Number c) v b m found place pass allowed h = number_left p e a s frame at serial z by U8 c v b m found place allowed h
 left p e a s frame at serial z by U16 (Number c) v b m found place pass allowed h = number_left p e a s frame at serial z by U16 c v b m found place allowed h
 left p e a s frame at serial z by U32 (Number c) v b m found place pass allowed h = number_left p e a s frame at serial z by U32 c v b m found place allowed h
-left p e a s frame at serial z by U8 k v b m found place pass allowed h = absurd (narrow_number a frame U8 k (λ q. cc q) pass)
-left p e a s frame at serial z by U16 k v b m found place pass allowed h = absurd (narrow_number a frame U16 k (λ q. cc q) pass)
-left p e a s frame at serial z by U32 k v b m found place pass allowed h = absurd (narrow_number a frame U32 k (λ q. cc q) pass)
+left p e a s frame at serial z by U8 k v b m found place pass allowed h = absurd (short_number a frame U8 k (λ q. cc q) pass)
+left p e a s frame at serial z by U16 k v b m found place pass allowed h = absurd (short_number a frame U16 k (λ q. cc q) pass)
+left p e a s frame at serial z by U32 k v b m found place pass allowed h = absurd (short_number a frame U32 k (λ q. cc q) pass)
 
 -- where a store is not refused, the machine goes on into what is left
 pub stack_store_goes : (p : Program) (e : Assigned) (a : State) (s : Machine.State) (frame : ℕ) (z by : ℤ) (size : Size) (source : Kind) (base v : Value) (b : State)

@@ -30,8 +30,8 @@ use Rattle.isa_model.specs.Code.Instructions.{Program, fetch}
 use Rattle.isa_model.specs.Code.MapRows.{IsRow, HoldsOffset, NamesRows}
 use Rattle.isa_model.specs.Code.Numbers.{bytes_of, number_from, signed, sign_extended}
 use Rattle.isa_model.proofs.LittleEndianLaws.{EachByte-take, EachByte-drop}
-use Rattle.isa_model.proofs.ExtensionLemmas.{sign_extended_fits}
-use Rattle.isa_model.specs.Code.Sizes.{size_bytes, narrow_size, narrow_extension}
+use Rattle.isa_model.proofs.ExtensionLaws.{sign_extended_fits}
+use Rattle.isa_model.specs.Code.Sizes.{size_bytes, unsigned_size, size_extension}
 use Rattle.isa_model.specs.Machine.States.{Stored, Content, key_values_of, content_of}
 use Rattle.isa_model.specs.Machine.States as Machine
 use Rattle.isa_model.specs.Machine.Memory.{byte_in, index_from, index_of_serial, key_value_at, put_value, load, load_number, load_signed, store, store_number}
@@ -65,7 +65,7 @@ use Rattle.transfer.specs.Values.{NamesFit, value_size, AreInValue, ValueLoads, 
 
 -- ---- live values
 
--- a test that passes somewhere passes first at a place that is there
+-- a test that passes somewhere passes first at an index that is there
 first_there : {X : Type 0} (p : X → Bool) (xs : List X) (k : ℕ) (d : X) → k < length xs → p (slice_index_or xs k d) ≡ true
     → position_or_len p xs < length xs
 first_there p xs k d within passes =
@@ -89,7 +89,7 @@ live_key_value content n live =
     let yes : nat_lt j (length content) ≡ true = grind (arith, nat_tests) in
     (j, first, ap (λ b. cond b (Some j) None) yes)
 
--- the place of a live value in its map's content, and its bytes
+-- the index of a live value in its map's content, and its bytes
 pub record IsLiveValue (p : Program) (s : Machine.State) (m n : ℕ) (place : ℕ) : Type 0 where
   pub found : index_of_serial (content_of s m) n ≡ Some place
   pub size : length (key_value_at (content_of s m) place).1.bytes ≡ value_size (slice_get p.maps m)
@@ -205,12 +205,12 @@ pub value_load_signed_yields : (p : Program) (e : Assigned) (a : State) (s : Mac
     (v : Value) → MeansBy p e a s → ValueLoadsSigned size (value_size (slice_get p.maps m)) least greatest by (Ok k)
     → Allows e (MapValue m least greatest) v → Yields e k (load_signed s size v by)
 value_load_signed_yields p e a s size m least greatest by k v means (inside, number) allowed =
-    let h = at_value p e a s m least greatest by v (size_bytes (narrow_size size)) (some_bytes (narrow_size size)) means allowed inside in
-    let n : ℕ = number_from (bytes_from s m h.place h.index (size_bytes (narrow_size size))) in
-    let x : ℕ = sign_extended (narrow_extension size) n in
-    rw (allowed.points, value_number p s (narrow_size size) m allowed.serial allowed.offset by h)
+    let h = at_value p e a s m least greatest by v (size_bytes (unsigned_size size)) (some_bytes (unsigned_size size)) means allowed inside in
+    let n : ℕ = number_from (bytes_from s m h.place h.index (size_bytes (unsigned_size size))) in
+    let x : ℕ = sign_extended (size_extension size) n in
+    rw (allowed.points, value_number p s (unsigned_size size) m allowed.serial allowed.offset by h)
     (number_yields e (IsOfSignedSize size) k x
-    (λ c is. (is.members x).1 (sign_extended_fits (narrow_extension size) n, extended_fits size n)) number)
+    (λ c is. (is.members x).1 (sign_extended_fits (size_extension size) n, extended_fits size n)) number)
 
 -- ---- stores
 

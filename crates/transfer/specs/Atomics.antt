@@ -19,7 +19,7 @@ use Rattle.transfer.specs.StackAccesses.{IsFramePlace, IsNoFramePlace}
 use Rattle.transfer.specs.Packets.{AreInPacket, IsOfSize}
 use Rattle.transfer.specs.Values.{value_size, AreInValue}
 
--- ---- frames
+-- ---- call frames
 
 -- the old number goes into a register, if the form writes one
 abbrev pub with_old : Option Reg → Scalar → State → State

@@ -4,7 +4,7 @@ use Rattle.isa_model.specs.declared.sizes.Size.{Size}
 use Rattle.isa_model.specs.declared.sizes.Size.TheVariants.{U32}
 use Rattle.reg_state.specs.declared.kinds.Kind.{Kind}
 use Rattle.reg_state.specs.declared.kinds.Kind.TheVariants.{Packet, PacketEnd}
-use Rattle.transfer.specs.Results.{IsWord}
+use Rattle.transfer.specs.Results.{IsNumber32}
 use Rattle.transfer.specs.declared.refusals.Refusal.{Refusal}
 use Rattle.transfer.specs.declared.refusals.Refusal.TheVariants.{ContextAccess}
 
@@ -21,14 +21,14 @@ pub record IsFieldKind (at : ℤ) (k : Kind) : Type 0 where
   pub field : IsField at
   pub packet : at ≡ pos 0 → k ≡ packet_start
   pub packet_end : at ≡ pos 4 → k ≡ PacketEnd
-  pub interface : at ≡ pos 12 → IsWord k
-  pub queue : at ≡ pos 16 → IsWord k
+  pub interface : at ≡ pos 12 → IsNumber32 k
+  pub queue : at ≡ pos 16 → IsNumber32 k
 
 abbrev pub FieldLoads : ℤ → Result Kind Refusal → Type 0
 FieldLoads at (Ok k) = IsFieldKind at k
 FieldLoads at (Err e) = (e ≡ ContextAccess) × ¬ IsField at
 
--- each field is loaded by 4 bytes, and nothing else is
+-- each field is loaded by a load of 4 bytes, and nothing else can be loaded
 abbrev pub ContextLoads : Size → ℤ → Result Kind Refusal → Type 0
 ContextLoads U32 at answer = FieldLoads at answer
 ContextLoads size at answer = answer ≡ Err ContextAccess

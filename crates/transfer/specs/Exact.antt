@@ -139,7 +139,7 @@ StepsJump p a by result b = (result ≡ Ok ways.One) × (b ≡ go_to a (destinat
 
 -- ---- calls and exits
 
--- a frame is pushed, unless the most frames are live already
+-- a call frame is pushed, unless the most frames are live already
 abbrev pub StepsCall : Program → State → ℤ → Result Ways Refusal → State → Type 0
 StepsCall p a by (Ok w) b = (depth a < max_call_frames) × (w ≡ ways.One) × (b ≡ entered a (destination p a.slot by))
 StepsCall p a by (Err e) b = (max_call_frames ≤ depth a) × (e ≡ TooManyFrames)

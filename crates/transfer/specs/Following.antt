@@ -1,4 +1,4 @@
--- The slots of an abstract state's successors, and the slots to which their frames return.
+-- The slots of an abstract state's successors, and the slots to which their call frames return.
 use Rattle.std.specs.Prelude.{◌≡◌, ℕ, ◌+◌, ◌⊎◌, ℤ, List, [], ◌∷◌, ◌++◌, map, Some}
 use Rattle.isa_model.specs.declared.instructions.Insn.TheVariants.{CallLocal, Exit}
 use Rattle.isa_model.specs.Code.Instructions.{Program, fetch}

@@ -36,7 +36,7 @@ abbrev pub called_map : List MapDef → Kind → Result CalledMap Refusal
 called_map rows (Map m) = map_with_row m (slice_get rows m)
 called_map rows k = Err HelperArgument
 
--- a pointer to bytes: into a frame, the packet or a map's value
+-- a pointer to bytes: into a call frame, the packet or a map's value
 abbrev pub points_to_bytes : Kind → Bool
 points_to_bytes (Stack frame offset) = true
 points_to_bytes (Packet fixed identity least greatest proved) = true

@@ -6,7 +6,7 @@ use Rattle.isa_model.specs.declared.sizes.Size.{Size}
 use Rattle.isa_model.specs.declared.sizes.SignedSize.{SignedSize}
 use Rattle.isa_model.specs.declared.sizes.Width.TheVariants.{Full64}
 use Rattle.isa_model.specs.Code.Numbers.{signed}
-use Rattle.isa_model.specs.Code.Sizes.{size_bytes, narrow_size, narrow_extension}
+use Rattle.isa_model.specs.Code.Sizes.{size_bytes, unsigned_size, size_extension}
 use Rattle.isa_model.specs.Code.Limits.{offset_limit}
 use Rattle.ranges.specs.Keeps.{extension_signed}
 use Rattle.reg_state.specs.declared.scalars.Scalar.{Scalar}
@@ -43,9 +43,9 @@ pub record IsOfSize (size : Size) (c : Scalar) : Type 0 where
 -- any number with this number of bytes and a sign, in 64 bits
 pub record IsOfSignedSize (size : SignedSize) (c : Scalar) : Type 0 where
   pub members : (x : ℕ)
-      → (Has c x ↔ ((x < 2 ^ 64) × FitsSigned (extension_signed (narrow_extension size)) (cast_signed w64 x)))
-  pub signed_least : FitsSigned (extension_signed (narrow_extension size)) c.range.wide.signed_least
-  pub signed_greatest : FitsSigned (extension_signed (narrow_extension size)) c.range.wide.signed_greatest
+      → (Has c x ↔ ((x < 2 ^ 64) × FitsSigned (extension_signed (size_extension size)) (cast_signed w64 x)))
+  pub signed_least : FitsSigned (extension_signed (size_extension size)) c.range.wide.signed_least
+  pub signed_greatest : FitsSigned (extension_signed (size_extension size)) c.range.wide.signed_greatest
 
 abbrev pub IsNumberOf : (Scalar → Type 0) → Kind → Type 0
 IsNumberOf says (Number c) = says c
@@ -62,7 +62,7 @@ PacketLoads size fixed least proved by answer =
 
 abbrev pub PacketLoadsSigned : SignedSize → ℤ → ℤ → ℕ → ℤ → Result Kind Refusal → Type 0
 PacketLoadsSigned size fixed least proved by answer =
-    GivesIf PacketBytes (AreInPacket fixed least proved by (size_bytes (narrow_size size))) (IsOfSignedSize size) answer
+    GivesIf PacketBytes (AreInPacket fixed least proved by (size_bytes (unsigned_size size))) (IsOfSignedSize size) answer
 
 -- ---- stores
 

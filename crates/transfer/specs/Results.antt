@@ -21,9 +21,9 @@ use Rattle.transfer.specs.Values.{nearest, farthest, ValueMoves}
 -- ---- numbers
 
 -- any number of 32 bits
-abbrev pub IsWord : Kind → Type 0
-IsWord (Number c) = (x : ℕ) → (Has c x ↔ (x < 2 ^ 32))
-IsWord k = ⊥
+abbrev pub IsNumber32 : Kind → Type 0
+IsNumber32 (Number c) = (x : ℕ) → (Has c x ↔ (x < 2 ^ 32))
+IsNumber32 k = ⊥
 
 -- a number gives a number with this relation of the domain; a pointer gives nothing
 abbrev pub OfNumber : (Scalar → Scalar → Type 0) → Kind → Result Kind Refusal → Type 0
@@ -32,8 +32,8 @@ OfNumber says (Number a) result = ⊥
 OfNumber says k result = result ≡ Err PointerOperand
 
 -- the low 32 bits, as MOV at 32 bits gives them
-abbrev pub IsLowWord : Scalar → Scalar → Type 0
-IsLowWord a c = IsAlu Mov Low32 a a c
+abbrev pub IsLowNumber : Scalar → Scalar → Type 0
+IsLowNumber a c = IsAlu Mov Low32 a a c
 
 -- ---- pointers
 
@@ -42,7 +42,7 @@ abbrev pub moved_offset : Bool → ℤ → ℕ → ℤ
 moved_offset true z n = z -ℤ signed Full64 n
 moved_offset false z n = z +ℤ signed Full64 n
 
--- a pointer to a frame, within the limit of offsets
+-- a pointer to a call frame, within the limit of offsets
 abbrev pub frame_pointer : ℕ → ℤ → Result Kind Refusal
 frame_pointer frame z = if nat_le (unsigned_abs z) offset_limit then Ok (Stack frame z) else Err PointerOffset
 
@@ -98,7 +98,7 @@ Combined a op w x y result = PointerAnd a op w x y result
 -- MOV: at 64 bits the kind as it is, at 32 bits a number's low half
 abbrev pub Copied : Width → Kind → Result Kind Refusal → Type 0
 Copied Full64 y result = result ≡ Ok y
-Copied Low32 y result = OfNumber IsLowWord y result
+Copied Low32 y result = OfNumber IsLowNumber y result
 
 abbrev pub Arithmetic : State → AluOp → Width → Kind → Kind → Result Kind Refusal → Type 0
 Arithmetic a Mov w x y result = Copied w y result

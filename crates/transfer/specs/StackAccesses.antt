@@ -3,7 +3,7 @@ use Rattle.std.specs.Prelude.{◌≡◌, ℕ, suc, ◌/◌, ◌<◌, ◌==◌, �
 use Rattle.isa_model.specs.declared.sizes.Size.{Size}
 use Rattle.isa_model.specs.declared.sizes.Size.TheVariants.{U64}
 use Rattle.isa_model.specs.declared.sizes.SignedSize.{SignedSize}
-use Rattle.isa_model.specs.Code.Sizes.{narrow_size, narrow_extension}
+use Rattle.isa_model.specs.Code.Sizes.{unsigned_size, size_extension}
 use Rattle.reg_state.specs.declared.scalars.Scalar.{Scalar}
 use Rattle.reg_state.specs.declared.kinds.Kind.{Kind}
 use Rattle.reg_state.specs.declared.kinds.Kind.TheVariants.{Unset, Number, Stack, MapValueOrNull}
@@ -19,7 +19,7 @@ use Rattle.transfer.specs.declared.refusals.Refusal.TheVariants.{StackPlace, Sta
 
 -- ---- places
 
--- a place in the bytes of a live frame, at an offset from the frame's end
+-- a place in the bytes of a live call frame, at an offset from the frame's end
 pub record IsFramePlace (a : State) (frame : ℕ) (z : ℤ) (size : Size) (at : ℕ) : Type 0 where
   pub live : frame < depth a
   pub place : IsPlace z size at
@@ -46,9 +46,9 @@ IsStackLoad slots at size answer = IsNumberLoad slots at size answer
 
 -- the number, sign-extended
 abbrev pub IsSignedLoad : List StackSlot → ℕ → SignedSize → Option Kind → Type 0
-IsSignedLoad slots at size None = IsLoad slots at (narrow_size size) None
+IsSignedLoad slots at size None = IsLoad slots at (unsigned_size size) None
 IsSignedLoad slots at size (Some (Number c)) =
-    (b : Scalar) × IsLoad slots at (narrow_size size) (Some b) × IsSignExtended (narrow_extension size) b c
+    (b : Scalar) × IsLoad slots at (unsigned_size size) (Some b) × IsSignExtended (size_extension size) b c
 IsSignedLoad slots at size (Some k) = ⊥
 
 -- a load is refused for where it leads, and then for its bytes
@@ -62,7 +62,7 @@ abbrev pub StackLoads : State → ℕ → ℤ → Size → Result Kind Refusal �
 StackLoads a frame z size result = LoadsIn a frame z size (λ slots at. IsStackLoad slots at size) result
 
 abbrev pub StackLoadsSigned : State → ℕ → ℤ → SignedSize → Result Kind Refusal → Type 0
-StackLoadsSigned a frame z size result = LoadsIn a frame z (narrow_size size) (λ slots at. IsSignedLoad slots at size) result
+StackLoadsSigned a frame z size result = LoadsIn a frame z (unsigned_size size) (λ slots at. IsSignedLoad slots at size) result
 
 -- ---- stores
 
@@ -80,7 +80,7 @@ store_refusal a frame size (MapValueOrNull m identity) = whole_or NullNotTested 
 store_refusal a frame size k = whole_or PointerStored size
 
 -- 8 bytes keep what is known of the value; others are number bytes, and keep what is known of the number where the other bytes
--- of the slot are such bytes too
+-- of the stack slot are such bytes too
 abbrev pub IsLeft : State → ℕ → ℕ → Size → Kind → State → Type 0
 IsLeft a frame at U64 source b = IsSpilledIn a frame (at / 8) source b
 IsLeft a frame at size (Number numbers) b = IsNumberStoredIn a frame at size numbers b

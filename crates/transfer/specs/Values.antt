@@ -8,7 +8,7 @@ use Rattle.isa_model.specs.declared.instructions.Insn.{Insn}
 use Rattle.isa_model.specs.declared.instructions.Insn.TheVariants.{LoadMap, LoadMapValue}
 use Rattle.isa_model.specs.declared.map_defs.MapDef.{MapDef}
 use Rattle.isa_model.specs.Code.Numbers.{signed}
-use Rattle.isa_model.specs.Code.Sizes.{size_bytes, narrow_size}
+use Rattle.isa_model.specs.Code.Sizes.{size_bytes, unsigned_size}
 use Rattle.reg_state.specs.declared.scalars.Scalar.{Scalar}
 use Rattle.reg_state.specs.declared.kinds.Kind.{Kind}
 use Rattle.reg_state.specs.declared.kinds.Kind.TheVariants.{MapValue}
@@ -45,7 +45,7 @@ ValueLoads size room least greatest by answer =
 
 abbrev pub ValueLoadsSigned : SignedSize → ℕ → ℤ → ℤ → ℤ → Result Kind Refusal → Type 0
 ValueLoadsSigned size room least greatest by answer =
-    GivesIf MapValueBytes (AreInValue room least greatest by (size_bytes (narrow_size size))) (IsOfSignedSize size) answer
+    GivesIf MapValueBytes (AreInValue room least greatest by (size_bytes (unsigned_size size))) (IsOfSignedSize size) answer
 
 abbrev pub ValueStores : Size → ℕ → ℤ → ℤ → ℤ → Kind → Result (Unit {0}) Refusal → Type 0
 ValueStores size room least greatest by source answer =

@@ -2,7 +2,7 @@
 
 ghost use Rattle.reg_state.specs.Arithmetic.{IsAlu, IsNegated, IsSignExtended, IsReordered};
 ghost use Rattle.branch_refine.specs.Refining.{IsJust};
-ghost use Rattle.transfer.specs.Results.{OfNumber, IsLowWord, NumberAnd, PointerAnd, Combined, Copied, Arithmetic};
+ghost use Rattle.transfer.specs.Results.{OfNumber, IsLowNumber, NumberAnd, PointerAnd, Combined, Copied, Arithmetic};
 
 use crate::pointers::{number_and_pointer, pointer_and_number};
 use crate::refusals::Refusal;
@@ -56,7 +56,7 @@ fn computed(op: AluOp, width: Width, a: Scalar, b: Scalar) -> Scalar
 
 /// The low 32 bits of a number.
 fn low_word(kind: Kind) -> Result<Kind, Refusal>
-    ensures { OfNumber IsLowWord kind result }
+    ensures { OfNumber IsLowNumber kind result }
 {
     match kind {
         Kind::Number(a) => Ok(Kind::Number(computed(AluOp::Mov, Width::Low32, a, a))),

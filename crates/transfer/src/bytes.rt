@@ -10,7 +10,7 @@ use isa_model::{FRAME_SIZE, MapDef};
 use reg_state::Kind;
 use stack_state::{State, frame_bytes};
 
-/// Whether the bytes of a live frame are written number bytes.
+/// Whether the bytes of a live call frame are written number bytes.
 fn are_in_frame(state: &State, frame: u8, offset: i32, count: u32) -> bool
     ensures { IsTrue result ↔ AreInFrame state.now frame offset count }
 {

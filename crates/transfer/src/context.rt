@@ -2,7 +2,7 @@
 
 ghost use Rattle.std.specs.Prelude.{◌≡◌};
 ghost use Rattle.transfer.specs.ContextLoads.{packet_start, FieldLoads, ContextLoads};
-ghost use Rattle.transfer.specs.Results.{IsWord};
+ghost use Rattle.transfer.specs.Results.{IsNumber32};
 
 use crate::refusals::Refusal;
 use isa_model::{Size, Width};
@@ -10,7 +10,7 @@ use reg_state::{Domain, Kind, Scalar};
 
 /// Any number of 32 bits.
 fn word() -> Kind
-    ensures { IsWord result }
+    ensures { IsNumber32 result }
 {
     Kind::Number(Scalar::any(Width::Low32))
 }

@@ -46,7 +46,7 @@ fn exit_answer(version: Version, kind: Kind) -> Result<Ways, Refusal>
     }
 }
 
-/// Whether it points into a frame, counted from the outermost, 0.
+/// Whether it points into a call frame, counted from the outermost, 0.
 fn points_into(kind: Kind, frame: usize) -> bool
     ensures { result ≡ points_into frame kind }
 {

@@ -1,14 +1,14 @@
 //! Loads, stores and moves through packet pointers.
 
 ghost use Rattle.std.specs.Prelude.{◌≡◌, ◌+◌, ◌*◌, ◌^◌, ◌↔◌, ℤ, pos, ◌+ℤ◌, ◌-ℤ◌, ◌≤ℤ◌, FitsSigned, IsTrue};
-ghost use Rattle.isa_model.specs.Code.Sizes.{size_bytes, narrow_size, narrow_extension};
+ghost use Rattle.isa_model.specs.Code.Sizes.{size_bytes, unsigned_size, size_extension};
 ghost use Rattle.ranges.specs.Keeps.{extension_signed};
 ghost use Rattle.transfer.specs.Packets.{IsOfSize, IsOfSignedSize, PacketLoads, PacketLoadsSigned, IsStoredNumber, PacketStores, lowest, highest, AreLimited, IsOffsetPart, AreOffsetParts, StaysProved, IsFreshPointer, MovesBetween, MovesBy, PacketMoves};
 
 use crate::bytes::are_in_packet;
 use crate::offsets::{limits, moved_by, sum};
 use crate::refusals::Refusal;
-use crate::stacks::narrow_size;
+use crate::stacks::unsigned_size;
 use isa_model::{SignedSize, Size, Width};
 use known_bits::Bits;
 use ranges::Range;
@@ -51,7 +51,7 @@ pub fn of_size(size: Size) -> Scalar
 /// The least and the greatest number with this number of bytes and a sign.
 fn signed_limits(size: SignedSize) -> (i64, i64)
     ensures fits { (z : ℤ) → (((result.0 ≤ℤ z) × (z ≤ℤ result.1))
-        ↔ FitsSigned (extension_signed (narrow_extension size)) z) }
+        ↔ FitsSigned (extension_signed (size_extension size)) z) }
     ensures ordered { result.0 ≤ℤ result.1 }
 {
     match size {
@@ -104,7 +104,7 @@ pub fn packet_load_signed(
         least,
         proved,
         offset,
-        narrow_size(size).bytes() as u32,
+        unsigned_size(size).bytes() as u32,
     ) {
         Ok(Kind::Number(of_signed_size(size)))
     } else {

@@ -22,7 +22,7 @@ pub enum Refusal {
     PointerOffset,
     /// An access through a number, a map or the packet's end.
     NotMemory,
-    /// Stack bytes out of the frame, or not aligned.
+    /// Stack bytes out of the call frame, or not aligned.
     StackPlace,
     /// Stack bytes that may be unset are read, or a stored pointer otherwise than whole.
     StackBytes,

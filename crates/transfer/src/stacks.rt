@@ -2,7 +2,7 @@
 
 ghost use Rattle.std.specs.Prelude.{◌≡◌, ◌+◌, ◌%◌, ◌<◌, ◌≤◌, ◌+ℤ◌};
 ghost use Rattle.isa_model.specs.Code.Limits.{frame_size};
-ghost use Rattle.isa_model.specs.Code.Sizes.{size_bytes, narrow_size, narrow_extension};
+ghost use Rattle.isa_model.specs.Code.Sizes.{size_bytes, unsigned_size, size_extension};
 ghost use Rattle.transfer.specs.StackAccesses.{FindsFramePlace, IsNumberLoad, IsStackLoad, IsSignedLoad, StackLoads, StackLoadsSigned, whole_or, store_refusal, IsLeft, StackStores};
 ghost use Rattle.stack_state.specs.Meaning.{depth};
 
@@ -24,8 +24,8 @@ pub fn frame_place(state: &State, frame: u8, offset: i32, by: i16, size: Size) -
 // ---- loads
 
 /// The size of a sign-extending load.
-pub fn narrow_size(size: SignedSize) -> Size
-    ensures { result ≡ narrow_size size }
+pub fn unsigned_size(size: SignedSize) -> Size
+    ensures { result ≡ unsigned_size size }
 {
     match size {
         SignedSize::S8 => Size::U8,
@@ -34,8 +34,8 @@ pub fn narrow_size(size: SignedSize) -> Size
     }
 }
 
-fn narrow_extension(size: SignedSize) -> Extension
-    ensures { result ≡ narrow_extension size }
+fn size_extension(size: SignedSize) -> Extension
+    ensures { result ≡ size_extension size }
 {
     match size {
         SignedSize::S8 => Extension::Full8,
@@ -71,11 +71,11 @@ fn loaded(stack: &StackState, at: usize, size: Size) -> Option<Kind>
 /// The same with the sign extended.
 fn loaded_signed(stack: &StackState, at: usize, size: SignedSize) -> Option<Kind>
     requires inside { at < frame_size }
-    requires in_slot { at % 8 + size_bytes (narrow_size size) ≤ 8 }
+    requires in_slot { at % 8 + size_bytes (unsigned_size size) ≤ 8 }
     ensures { IsSignedLoad stack.now.slots at size result }
 {
-    match stack.load(at, narrow_size(size)) {
-        Some(numbers) => Some(Kind::Number(Scalar::sign_extend(narrow_extension(size), numbers))),
+    match stack.load(at, unsigned_size(size)) {
+        Some(numbers) => Some(Kind::Number(Scalar::sign_extend(size_extension(size), numbers))),
         None => None,
     }
 }
@@ -115,7 +115,7 @@ pub fn stack_load_signed(
     let Some(stack) = state.stack_of(frame) else {
         return Err(Refusal::StackPlace);
     };
-    let Some(at) = stack_place(offset, by, narrow_size(size)) else {
+    let Some(at) = stack_place(offset, by, unsigned_size(size)) else {
         return Err(Refusal::StackPlace);
     };
     match loaded_signed(stack, at, size) {

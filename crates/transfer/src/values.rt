@@ -8,7 +8,7 @@ use crate::bytes::are_in_value;
 use crate::offsets::{limits, moved_by};
 use crate::packets::{of_signed_size, of_size, stored};
 use crate::refusals::Refusal;
-use crate::stacks::narrow_size;
+use crate::stacks::unsigned_size;
 use isa_model::{MapDef, SignedSize, Size};
 use reg_state::{Kind, Scalar};
 
@@ -64,7 +64,13 @@ pub fn value_load_signed(
 ) -> Result<Kind, Refusal>
     ensures { ValueLoadsSigned size room least greatest by result }
 {
-    if are_in_value(room, least, greatest, by, narrow_size(size).bytes() as u32) {
+    if are_in_value(
+        room,
+        least,
+        greatest,
+        by,
+        unsigned_size(size).bytes() as u32,
+    ) {
         Ok(Kind::Number(of_signed_size(size)))
     } else {
         Err(Refusal::MapValueBytes)

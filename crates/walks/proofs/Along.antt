@@ -65,7 +65,7 @@ mirrored_more Unset k l more h = tt
 mirrored_more (Num x) k l more h = more x h
 mirrored_more (Ptr r z) k l more h = tt
 
--- the same registers and slots at another slot of the code
+-- the same registers and stack slots at another slot of the code
 Mirrors-go : (alive more : Home → Type 0) (s b : State) (t : Machine.State) (slot to : ℕ)
     → to ≡ slot → Remains s b
     → ((h : Home) → more h → alive h) → Mirrors alive s t
@@ -154,7 +154,7 @@ still_known p steps d k s t i next along here silent on r live = elim (live_alon
   | inr before ↦ before
 ]
 
--- a slot that the instruction does not write is live before it
+-- a stack slot that the instruction does not write is live before it
 slot_before : (p : Program) (steps : ℕ) (d : IsDetermined p steps) (k : ℕ) (s : State) (t : Machine.State) (i : Insn) (next j : ℕ)
     → Along p steps d k s t → fetch p t.slot ≡ Some i → (WritesSlot i j → ⊥)
     → FallsTo s.slot i next ⊎ JumpsTo p s.slot i next
@@ -163,7 +163,7 @@ slot_before p steps d k s t i next j along here keeps on live =
     let there : fetch p s.slot ≡ Some i = ap (fetch p) (sym along.mirrors.slot) ∙ here in
     IsSlotLive-back p j s.slot next i there keeps (i, there, on) live
 
--- jumps write no slot
+-- jumps write no stack slot
 jumps_keep : (i : Insn) (by : ℤ) → jump_distance i ≡ Some by → (j : ℕ) → WritesSlot i j → ⊥
 jumps_keep (Store size place r) by is j h = absurd (cc is)
 jumps_keep (StoreConstant size place n) by is j h = absurd (cc is)
@@ -340,13 +340,13 @@ branch_along p steps d k s t c by i w a b along here silent falls jumps acts set
 
 -- ---- stores
 
--- a slot begins at one place
+-- a stack slot begins at one place
 other_slot : (j n : ℕ) → n ≢ j → IsWholeSlot (slot_place j) n → ⊥
 other_slot j n apart (below, is) =
     let same : slot_offset j ≡ slot_offset n = ap (λ (q : Place). q.offset) is in
     apart (omega (arith, ints, same))
 
--- a number goes into a slot
+-- a number goes into a stack slot
 put_along : (p : Program) (steps : ℕ) (d : IsDetermined p steps) (k : ℕ) (s left : State) (t : Machine.State) (i : Insn) (j y : ℕ)
     → (along : Along p steps d k s t) → fetch p t.slot ≡ Some i → writes i ≡ None → FallsTo s.slot i (s.slot + 1)
     → ((n : ℕ) → n ≢ j → WritesSlot i n → ⊥) → j < 64 → y < 2 ^ 64 → PutsSlot s left j y

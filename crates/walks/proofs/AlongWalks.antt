@@ -29,7 +29,7 @@ use Rattle.walks.proofs.Forgotten.{Forgets-slot, Forgets-depth, Forgets-live, Fo
 use Rattle.walks.proofs.Beside.{HoldsIf, Mirrored, IsNoPointer, first, Along}
 use Rattle.walks.proofs.Along.{NextAlong, step_along}
 
--- slots that are live are known as before
+-- stack slots that are live are known as before
 kept_slots : (p : Program) (a b : State) (t : Machine.State) → Forgets p a b
     → HasKnownSlots (HoldsIf (λ h. IsHomeLive p h a.slot) a) t
     → HasKnownSlots (HoldsIf (λ h. IsHomeLive p h b.slot) b) t

@@ -19,7 +19,7 @@ use Rattle.isa_model.specs.declared.values.Value.{Value}
 use Rattle.isa_model.specs.declared.values.Value.TheVariants.{Unset, Num, Ptr}
 use Rattle.isa_model.specs.declared.ends.TrapReason.{TrapReason}
 use Rattle.isa_model.specs.Code.Numbers.{alu, low, unsigned, negated, sign_extended, reordered}
-use Rattle.isa_model.specs.Code.NumberLemmas.{low_same}
+use Rattle.isa_model.specs.Code.NumberLaws.{low_same}
 use Rattle.isa_model.specs.Code.Instructions.{Program, fetch, operand_reads, alu_reads, reads, writes}
 use Rattle.isa_model.specs.Machine.States as Machine
 use Rattle.isa_model.specs.Machine.States.{reg, set_reg, value_at, new_frame}
@@ -63,7 +63,7 @@ IsNoPointer v = Unit {0}
 abbrev pub HoldsIf : (Home → Type 0) → State → ℕ → ℕ → Type 0
 HoldsIf alive s j y = alive (InSlot j) → SlotHolds s j y
 
--- the named registers and slots hold their numbers
+-- the named registers and stack slots hold their numbers
 pub record Mirrors (alive : Home → Type 0) (s : State) (t : Machine.State) : Type 0 where
   pub slot : t.slot ≡ s.slot
   pub one : depth s ≡ 1
@@ -210,13 +210,13 @@ pub record Computed (p : Program) (clock : ℕ → ℕ) (t : Machine.State) (i :
   pub acts : act p clock t i ≡ sets t i d (Ok (Num number))
   pub just : IsJust k number
 
--- a load from the place of a slot reads it
+-- a load from the place of a stack slot reads it
 pub within_place : (d : Reg) (place : Place) (j : ℕ) → j < 64 → place ≡ slot_place j
     → ReadsSlot (Load U64 d place) j
 within_place d place j below is =
     (8 * j, (omega arith, ap (λ (q : Place). q.base) is, ap (λ (q : Place). q.offset) is), omega arith, omega arith)
 
--- 8 bytes that a run loads from a slot
+-- 8 bytes that a run loads from a stack slot
 load_computed : (alive : Home → Type 0) (p : Program) (clock : ℕ → ℕ) (s : State) (t : Machine.State) (d : Reg) (k : Kind) (place : Place)
     → HasKnownSlots (HoldsIf alive s) t → ((j : ℕ) → ReadsSlot (Load U64 d place) j → alive (InSlot j))
     → IsSlotPlace place

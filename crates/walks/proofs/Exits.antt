@@ -1,4 +1,4 @@
--- Exits of the only frame: where they lead, and what they are refused for.
+-- Exits of the only call frame: where they lead, and what they are refused for.
 use Rattle.std.proofs.Common.{◌≡◌, ◌+◌, ℕ, zero, suc, Ok, Err, true, arith, inl, inr}
 use Rattle.isa_model.specs.declared.registers.Reg.TheVariants.{R0}
 use Rattle.isa_model.specs.declared.versions.Version.{Version}

@@ -59,7 +59,7 @@ maps_same f d (x ∷ xs) (y ∷ ys) long same =
     ap (λ (n : ℕ). n ∷ map f xs) (same zero (omega arith))
     ∙ ap (λ (l : List ℕ). f y ∷ l) (maps_same f d xs ys (omega arith) (λ k below. same (suc k) (omega arith)))
 
--- each frame returns to where it returned
+-- each call frame returns to where it returned
 frame_returns : (p : Program) (a b : State) (k : ℕ) → Forgets p a b → k < depth a
     → (abstract_frame_at b k).return_slot ≡ (abstract_frame_at a k).return_slot
 frame_returns p a b k f below = elim (cases_eq k (length a.callers.items)) [
@@ -268,7 +268,7 @@ kept_alone p slot old ten alone = record { ten = ten; each = λ r own. inl (λ d
 
 -- ---- the loop through stack slots
 
--- the slots below n are left as they are or forgotten, and the rest is as before
+-- the stack slots below n are left as they are or forgotten, and the rest is as before
 pub record SlotsLeftBelow (p : Program) (slot n : ℕ) (old new : List StackSlot) : Type 0 where
   pub all : length new ≡ 64
   pub below : (j : ℕ) → j < n → IsSlotLeft p slot j (slot_at old j) (slot_at new j)
@@ -278,7 +278,7 @@ pub slots_left_none : (p : Program) (slot : ℕ) (old : List StackSlot) → leng
     → SlotsLeftBelow p slot 0 old old
 slots_left_none p slot old all = record { all = all; below = λ j low. absurd (omega arith); above = λ k high. refl }
 
--- the next slot is live
+-- the next stack slot is live
 pub slots_left_live : (p : Program) (slot n : ℕ) (old new : List StackSlot) → IsSlotLive p n slot
     → SlotsLeftBelow p slot n old new
     → SlotsLeftBelow p slot (n + 1) old new
@@ -291,7 +291,7 @@ slots_left_live p slot n old new live m = record {
   above = λ k high. m.above k (omega arith);
 }
 
--- the next slot is dead
+-- the next stack slot is dead
 pub slots_left_dead : (p : Program) (slot n : ℕ) (old new : List StackSlot) → n < 64
     → (IsSlotLive p n slot → ⊥)
     → SlotsLeftBelow p slot n old new → SlotsLeftBelow p slot (n + 1) old (set new n (Written 0))
@@ -331,7 +331,7 @@ pub slots_kept_alone : (p : Program) (slot : ℕ) (old : List StackSlot) → len
     → (IsJoin p slot → ⊥) → AreSlotsKept p slot old old
 slots_kept_alone p slot old all alone = record { all = all; each = λ j below. inl (λ dead. alone dead.0, refl) }
 
--- at a join the dead slots are
+-- at a join the dead stack slots are
 pub AreSlotsKept-left : (p : Program) (slot : ℕ) (old new : List StackSlot) → IsJoin p slot
     → AreSlotsLeft p slot old new → AreSlotsKept p slot old new
 AreSlotsKept-left p slot old new join left = record {
@@ -351,7 +351,7 @@ callers_kept_all p a = record { as_many = refl; each = λ k below. record { rest
 pub callers_none : (p : Program) (a : State) → CallersForgotten p a a
 callers_none p a = record { rest = refl; callers = callers_kept_all p a }
 
--- the last one with other slots, which are left as they are or forgotten
+-- the last one with other stack slots, which are left as they are or forgotten
 pub caller_left : (p : Program) (a b : State) (n : ℕ) (f g : AbstractFrame) → n + 1 ≡ length a.callers.items
     → f ≡ abstract_frame_at a n
     → b ≡ record a { callers = record { items = set a.callers.items n g } }

@@ -31,7 +31,7 @@ use Rattle.walks.specs.Walks.{StepsTo, HasPath, WalksTo, ComesBack, IsAmong}
 use Rattle.walks.specs.Counts.{StepsInto, HasNumber, LeadsNowhere, LeadsToOne, LeadsToTwo, IsCoveredBy, Takes, Nothing, ItsOwn, OneMore, BothMore}
 use Rattle.isa_model.specs.MustAccept.Paths.{is_conditional, IsForward}
 
--- ---- without calls there is one frame
+-- ---- without calls there is one call frame
 
 -- a step within the only frame
 pub record StaysAlone (p : Program) (a b : State) : Type 0 where

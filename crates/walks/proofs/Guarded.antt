@@ -3,7 +3,7 @@ use Rattle.std.proofs.Common.{◌≡◌, ◌≤◌, ◌+◌, ◌<◌, ◌∷◌,
 use Rattle.std.specs.Prelude.{◌≢◌, pos}
 use Rattle.isa_model.specs.declared.sizes.Width.TheVariants.{Full64}
 use Rattle.isa_model.specs.declared.sizes.Size.TheVariants.{U32}
-use Rattle.isa_model.specs.Code.Sizes.{size_bytes, narrow_size}
+use Rattle.isa_model.specs.Code.Sizes.{size_bytes, unsigned_size}
 use Rattle.isa_model.specs.declared.registers.Reg.{Reg}
 use Rattle.isa_model.specs.declared.registers.Reg.TheVariants.{R0, R1, R2, R3, R4, R10}
 use Rattle.isa_model.specs.declared.instructions.AluOp.TheVariants.{Mov, Add}
@@ -71,7 +71,7 @@ body_accepted p len g s (Load size d place) h behind before here body =
       λ e b c fails. absurd (load_passes p.maps s size place m at e (ap (kind_of s) base ∙ is) offset (omega (arith, most, some)) (omega (arith, inside, most)) fails),
     )
 body_accepted p len g s (LoadSx size d place) h behind before here body =
-    let (own, base, at, offset, inside) = load_parts (size_bytes (narrow_size size)) len d place body in
+    let (own, base, at, offset, inside) = load_parts (size_bytes (unsigned_size size)) len d place body in
     let (m, is, most) = h.proved behind before (needs_live p s.slot (LoadSx size d place) R2 here tt (inl (sym base))) in
     let some = g.some in (
       load_tests s (LoadSx size d place) d place m refl refl base is own,

@@ -3,7 +3,7 @@ use Rattle.std.proofs.Common.{◌≡◌, ◌≤◌, ◌+◌, ◌<◌, [], ℕ, z
 use Rattle.std.specs.Prelude.{pos}
 use Rattle.isa_model.specs.declared.sizes.Width.TheVariants.{Full64}
 use Rattle.isa_model.specs.declared.sizes.Size.TheVariants.{U32}
-use Rattle.isa_model.specs.Code.Sizes.{size_bytes, narrow_size}
+use Rattle.isa_model.specs.Code.Sizes.{size_bytes, unsigned_size}
 use Rattle.isa_model.specs.declared.registers.Reg.{Reg}
 use Rattle.isa_model.specs.declared.registers.Reg.TheVariants.{R0, R1, R2, R3, R4}
 use Rattle.isa_model.specs.declared.instructions.AluOp.TheVariants.{Mov, Add}
@@ -90,7 +90,7 @@ body_step p len g s t (Load size d place) w a b h behind before here body made a
     let (k, number, gives) = load_gives p s size d place m at w a b (ap (kind_of s) base ∙ is) offset made in
     load_step p len g s t (Load size d place) d k w a b h behind before here refl refl refl loaded own number gives among
 body_step p len g s t (LoadSx size d place) w a b h behind before here body made among =
-    let (own, base, at, offset, inside) = load_parts (size_bytes (narrow_size size)) len d place body in
+    let (own, base, at, offset, inside) = load_parts (size_bytes (unsigned_size size)) len d place body in
     let loaded = needs_live p s.slot (LoadSx size d place) R2 here tt (inl (sym base)) in
     let (m, is, most) = h.proved behind before loaded in
     let (k, number, gives) = load_signed_gives p s size d place m at w a b (ap (kind_of s) base ∙ is) offset made in

@@ -217,7 +217,7 @@ side_among false false stay go w a b t P sides among x y = absurd (none_among w 
 
 -- ---- registers that hold numbers
 
--- one frame, and numbers in these registers
+-- one call frame, and numbers in these registers
 pub record KnowsNumbers (s : State) (written : List Reg) : Type 0 where
   pub one : depth s ≡ 1
   pub room : length (registers_of s) ≡ 10

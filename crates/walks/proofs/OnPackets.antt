@@ -10,7 +10,7 @@ use Rattle.isa_model.specs.declared.sizes.Width.TheVariants.{Full64}
 use Rattle.isa_model.specs.declared.sizes.Size.{Size}
 use Rattle.isa_model.specs.declared.sizes.Size.TheVariants.{U32}
 use Rattle.isa_model.specs.declared.sizes.SignedSize.{SignedSize}
-use Rattle.isa_model.specs.Code.Sizes.{size_bytes, narrow_size}
+use Rattle.isa_model.specs.Code.Sizes.{size_bytes, unsigned_size}
 use Rattle.isa_model.specs.Code.Numbers.{signed, unsigned}
 use Rattle.isa_model.specs.declared.registers.Reg.{Reg}
 use Rattle.isa_model.specs.declared.registers.Reg.TheVariants.{R10}
@@ -213,11 +213,11 @@ load_passes rows s size place m at e is offset some inside h =
 
 pub load_signed_passes : (rows : List MapDef) (s : State) (size : SignedSize) (place : Place) (m at : ℕ) (e : Refusal)
     → kind_of s place.base ≡ packet_from 0 m → place.offset ≡ pos at → 1 ≤ m
-    → at + size_bytes (narrow_size size) ≤ m → LoadsSigned rows s size (kind_of s place.base) place.offset (Err e) → ⊥
+    → at + size_bytes (unsigned_size size) ≤ m → LoadsSigned rows s size (kind_of s place.base) place.offset (Err e) → ⊥
 load_signed_passes rows s size place m at e is offset some inside h =
     let based = subst (λ x. LoadsSigned rows s size x place.offset (Err e)) is h in
     let there = subst (λ z. LoadsSigned rows s size (packet_from 0 m) z (Err e)) offset based in
-    there.1 (inside_packet (size_bytes (narrow_size size)) m at some inside)
+    there.1 (inside_packet (size_bytes (unsigned_size size)) m at some inside)
 
 -- ---- the test against the packet's end
 

@@ -26,7 +26,7 @@ use Rattle.transfer.specs.declared.refusals.Refusal.{Refusal}
 use Rattle.transfer.specs.declared.refusals.Refusal.TheVariants.{StackPlace, StackBytes}
 use Rattle.transfer.specs.StackAccesses.{IsFramePlace, store_refusal, StackLoads, StackStores, IsStoreRefused}
 
--- slot j of the innermost frame is this number, known as a constant
+-- stack slot j of the innermost call frame holds this number, known as a constant
 abbrev pub SlotHolds : State → ℕ → ℕ → Type 0
 SlotHolds s j y = IsJust (kind_in (slot_at s.innermost.stack.slots j)) y
 
@@ -98,7 +98,7 @@ spill_just (Number c) (Written marks) y h just =
     absurd (omega (arith, none, one))
 spill_just source slot y h just = absurd just
 
--- the number is in the slot, and all else is as before
+-- the number is in the stack slot, and all else is as before
 pub record PutsSlot (s t : State) (j y : ℕ) : Type 0 where
   pub slot : t.slot ≡ s.slot
   pub callers : t.callers ≡ s.callers

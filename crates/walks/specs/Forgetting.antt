@@ -76,7 +76,7 @@ pub record CallersForgotten (p : Program) (a b : State) : Type 0 where
   pub callers : AreCallersKept p a b
 
 -- b is a without what is known of dead registers and of dead stack slots, and of some dead stack
--- slots of callers
+-- stack slots of callers
 pub record Forgets (p : Program) (a b : State) : Type 0 where
   pub rest : b ≡ record a {
     callers = b.callers;

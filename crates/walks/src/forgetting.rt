@@ -51,7 +51,7 @@ fn clear(slot: &mut StackSlot)
     }
 }
 
-/// Forgets what is known of all stack slots of a frame: eight in a turn, which the compiler
+/// Forgets what is known of all stack slots of a call frame: eight in a turn, which the compiler
 /// writes out.
 pub fn clear_slots(slots: &mut [StackSlot; FRAME_SLOTS])
     ensures { slots.new ≡ replicate frame_slots (StackSlot.Written 0) }

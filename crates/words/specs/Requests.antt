@@ -1,4 +1,4 @@
--- The parts of a request, and its task.
+-- The parts of a request, and the request that a task makes.
 use Rattle.std.specs.Prelude.{ℕ, List, Option, option_map}
 use Rattle.words.specs.declared.tasks.RunPaths.{RunPaths}
 use Rattle.words.specs.declared.tasks.Proof.{Proof}
@@ -28,7 +28,7 @@ pub data TaskRequest : Type 0 where
   Assemble : List ℕ → List ℕ → TaskRequest
   Disassemble : List ℕ → TaskRequest
 
--- ---- what a task is of
+-- ---- the request of a task
 
 abbrev pub files_of : RunPaths → RunFiles
 files_of paths = record { image = paths.image.now; frames = paths.frames.now; out = paths.out.now }

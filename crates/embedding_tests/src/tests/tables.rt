@@ -51,7 +51,7 @@ fn rechecks_so(
     answer == wanted.0 && (room == 0 || said == wanted.1.len()) && holds(&why, wanted.1.as_bytes())
 }
 
-/// An image, a byte of the table by its place, and what is answered and said, as docs/REFUSALS.md
+/// An image, a byte of the table by its index, and what is answered and said, as docs/REFUSALS.md
 /// has it.
 const CHANGES: [(&[u8], usize, u8, (Tested, &str)); 11] = [
     (&PASS, 0, 0x58, ((0, 2, 0, 0), "")),

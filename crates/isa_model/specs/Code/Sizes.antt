@@ -32,16 +32,16 @@ width_size Low32 = U32
 width_size Full64 = U64
 
 -- what a sign-extending load reads
-abbrev pub narrow_size : SignedSize → Size
-narrow_size S8 = U8
-narrow_size S16 = U16
-narrow_size S32 = U32
+abbrev pub unsigned_size : SignedSize → Size
+unsigned_size S8 = U8
+unsigned_size S16 = U16
+unsigned_size S32 = U32
 
 -- a sign-extending load fills the whole register
-abbrev pub narrow_extension : SignedSize → Extension
-narrow_extension S8 = Full8
-narrow_extension S16 = Full16
-narrow_extension S32 = Full32
+abbrev pub size_extension : SignedSize → Extension
+size_extension S8 = Full8
+size_extension S16 = Full16
+size_extension S32 = Full32
 
 -- how many low bits are read
 abbrev pub extension_bits : Extension → ℕ

@@ -117,10 +117,10 @@ size_code U16 = 0x08
 size_code U8 = 0x10
 size_code U64 = 0x18
 
-abbrev pub narrow_code : SignedSize → ℕ
-narrow_code S32 = 0x00
-narrow_code S16 = 0x08
-narrow_code S8 = 0x10
+abbrev pub signed_code : SignedSize → ℕ
+signed_code S32 = 0x00
+signed_code S16 = 0x08
+signed_code S8 = 0x10
 
 abbrev pub atomic_opcode : Width → ℕ
 atomic_opcode Low32 = 0xc3
@@ -164,7 +164,7 @@ first_slot (LoadMapValue d m offset) = slot 0x18 (reg_number d) 6 0 m
 first_slot (Load size d p) =
     slot (0x61 + size_code size) (reg_number d) (reg_number p.base) (offset16 p.offset) 0
 first_slot (LoadSx size d p) =
-    slot (0x81 + narrow_code size) (reg_number d) (reg_number p.base) (offset16 p.offset) 0
+    slot (0x81 + signed_code size) (reg_number d) (reg_number p.base) (offset16 p.offset) 0
 first_slot (StoreConstant size p k) =
     slot (0x62 + size_code size) (reg_number p.base) 0 (offset16 p.offset) (imm32 k)
 first_slot (Store size p s) =
@@ -185,7 +185,7 @@ first_slot (CallHelper number) = slot 0x85 0 0 0 (imm32 number)
 first_slot (CallLocal by) = slot 0x85 0 1 0 (imm32 by)
 first_slot Exit = slot 0x95 0 0 0 0
 
--- next_imm, the word in the second slot of a wide load
+-- next_imm, the immediate in the second slot of a wide load
 abbrev pub next_imm : Insn → Option ℕ
 next_imm (LoadNumber d n) = Some (n / 2 ^ 32)
 next_imm (LoadMap d m) = Some 0

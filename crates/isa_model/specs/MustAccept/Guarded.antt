@@ -11,7 +11,7 @@ use Rattle.isa_model.specs.declared.instructions.Operand.TheVariants.{Constant, 
 use Rattle.isa_model.specs.declared.instructions.Place.{Place}
 use Rattle.isa_model.specs.declared.instructions.Insn.{Insn}
 use Rattle.isa_model.specs.declared.instructions.Insn.TheVariants.{Alu, Neg, MovSx, ByteSwap, LoadNumber, Load, LoadSx, Jump, JumpLong, JumpIf, Exit}
-use Rattle.isa_model.specs.Code.Sizes.{size_bytes, narrow_size}
+use Rattle.isa_model.specs.Code.Sizes.{size_bytes, unsigned_size}
 use Rattle.isa_model.specs.Code.Instructions.{Program, fetch}
 use Rattle.isa_model.specs.Machine.Steps.{destination}
 use Rattle.isa_model.specs.MustAccept.Paths.{IsWhole, IsForward, AreWritten}
@@ -44,7 +44,7 @@ IsBodyForm len (MovSx e d r) = IsFree d × IsFree r
 IsBodyForm len (ByteSwap order span d) = IsFree d
 IsBodyForm len (LoadNumber d n) = IsFree d
 IsBodyForm len (Load size d place) = IsLoadBefore (size_bytes size) len d place
-IsBodyForm len (LoadSx size d place) = IsLoadBefore (size_bytes (narrow_size size)) len d place
+IsBodyForm len (LoadSx size d place) = IsLoadBefore (size_bytes (unsigned_size size)) len d place
 IsBodyForm len (Jump by) = Unit {0}
 IsBodyForm len (JumpLong by) = Unit {0}
 IsBodyForm len (JumpIf cond by) = IsFree cond.register × IsFreeOperand cond.operand

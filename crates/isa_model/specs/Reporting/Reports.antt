@@ -280,14 +280,14 @@ ReportsFrames form p number contents (f ∷ frames) pieces last =
     × (pieces ≡ front ++ rest) × ReportsFrames form p (number + 1) next frames rest last
 
 -- the form of a report; no line of it tells the limit, since every run exits
-abbrev pub form_of : Program → Stream → ReportForm
-form_of p found = record { limit = max_steps; program = p.version; stream = found.version }
+abbrev pub report_form_of : Program → Stream → ReportForm
+report_form_of p found = record { limit = max_steps; program = p.version; stream = found.version }
 
 -- the report of a program, and a stream: every run exits
 pub record IsReport (p : Program) (found : Stream) (pieces : List OutputPart) : Type 0 where
   pub turns : List OutputPart
   pub last : List KeyValues
-  pub frames : ReportsFrames (form_of p found) p 0
+  pub frames : ReportsFrames (report_form_of p found) p 0
       (starting_contents p.maps) found.frames turns last
   pub whole : pieces ≡ (ToFrames (stream_magic found.version) ∷ turns)
       ++ (maps_pieces 0 p.maps last ++ ToReport (last_line (length found.frames) found.finish) ∷ [])

@@ -12,12 +12,12 @@ use Rattle.isa_model.specs.Machine.Steps.{StepResult, Next, Finished, Trapped, s
 
 -- ---- the start
 
--- the values of a map are numbered by their keys
+-- the values of a map get serials from n on, in the order of the list
 abbrev pub numbered : ℕ → KeyValues → Content
 numbered n [] = []
 numbered n (e ∷ es) = (e.0, record { serial = n; bytes = e.1 }) ∷ numbered (suc n) es
 
--- and map by map
+-- and so do those of all maps, map by map
 abbrev pub numbered_maps : ℕ → List KeyValues → List Content
 numbered_maps n [] = []
 numbered_maps n (m ∷ ms) = numbered n m ∷ numbered_maps (n + length m) ms

@@ -70,10 +70,10 @@ size_text U16 = codes "u16"
 size_text U32 = codes "u32"
 size_text U64 = codes "u64"
 
-abbrev pub narrow_text : SignedSize → List ℕ
-narrow_text S8 = codes "s8"
-narrow_text S16 = codes "s16"
-narrow_text S32 = codes "s32"
+abbrev pub signed_text : SignedSize → List ℕ
+signed_text S8 = codes "s8"
+signed_text S16 = codes "s16"
+signed_text S32 = codes "s32"
 
 -- what is extended
 abbrev pub extension_text : Extension → List ℕ
@@ -189,7 +189,7 @@ line_of (LoadMapValue d m offset) =
     ++ decimal offset ++ codes "\n"
 line_of (Load size d p) = reg_text Full64 d ++ codes " = *(" ++ size_text size ++ codes " *)("
     ++ place_text p ++ codes ")\n"
-line_of (LoadSx size d p) = reg_text Full64 d ++ codes " = *(" ++ narrow_text size ++ codes " *)("
+line_of (LoadSx size d p) = reg_text Full64 d ++ codes " = *(" ++ signed_text size ++ codes " *)("
     ++ place_text p ++ codes ")\n"
 line_of (StoreConstant size p k) =
     codes "*(" ++ size_text size ++ codes " *)(" ++ place_text p ++ codes ") = " ++ signed_decimal k

@@ -96,7 +96,7 @@ pub destinations_that_are_not_read : map past_one
 unfolding turn progress start_state new_frame step act alu holds sign_extended reordered
 destinations_that_are_not_read = refl
 
--- at the start r1 and r10 only are set
+-- at the start only r1 and r10 are set
 pub registers_at_the_start : map (λ r. past_one (insn.Alu Full64 Mov R0 (Register r)))
     (R0 ∷ R1 ∷ R2 ∷ R3 ∷ R4 ∷ R5 ∷ R6 ∷ R7 ∷ R8 ∷ R9 ∷ R10 ∷ [])
     ≡ Trap UnsetRead 0 ∷ Exit 1 3 ∷ replicate 8 (Trap UnsetRead 0) ++ Exit 1 3 ∷ []

@@ -36,7 +36,7 @@ pub cuts_by_an_error : map (λ n. summary_of (take n two_empty_records) ByError)
 unfolding frames_from opened stop_at
 cuts_by_an_error = refl
 
--- another byte at each place of the magic, also where an error follows
+-- another byte at each index of the magic, also where an error follows
 pub other_magic : map (λ text. summary_of (text ++ zeros 20) ByEnd)
     (codes "xPF1" ∷ codes "XpF1" ∷ codes "XPf1" ∷ codes "XPF3" ∷ [])
     ≡ replicate 4 (0, finish.Fault BadMagic 0)

@@ -15,7 +15,7 @@ type Limits = (u64, u64);
 
 const ANY: Limits = (0, u64::MAX);
 
-const WORD: Limits = (0, 0xffff_ffff);
+const LOW_HALF: Limits = (0, 0xffff_ffff);
 
 const SEVEN: Limits = (7, 7);
 
@@ -46,16 +46,17 @@ const ROWS: [Row; 13] = [
     // Of 7 to 100 below 5 to 10, what is below 10 is left of the one, and what is above 7 of the
     // other.
     (Comparison::Less, FULL, R3, true, [(7, 100), (5, 10)], Some([(7, 9), (8, 10)])),
-    // Of words the same holds at 32 bits.
+    // Of numbers of 32 bits the same holds at 32 bits.
     (Comparison::Less, LOW, R3, true, [(7, 100), (5, 10)], Some([(7, 9), (8, 10)])),
     // Of a number whose upper half is not known it holds of the low half.
     (Comparison::Less, LOW, TEN, true, [ANY, ANY], Some([(0, 0xffff_ffff_0000_0009), ANY])),
-    (Comparison::Less, LOW, TEN, true, [WORD, ANY], Some([(0, 9), ANY])),
+    (Comparison::Less, LOW, TEN, true, [LOW_HALF, ANY], Some([(0, 9), ANY])),
     (Comparison::Equal, FULL, R3, true, [SEVEN, SEVEN], Some([SEVEN, SEVEN])),
     (Comparison::Equal, FULL, R3, false, [SEVEN, SEVEN], None),
     // Equal numbers are in both sets.
     (Comparison::Equal, FULL, R3, true, [(7, 100), (5, 10)], Some([(7, 10), (7, 10)])),
-    // A number that is not 7 is over it, where 7 is the least, and so at 32 bits of a word.
+    // A number that is not 7 is over it, where 7 is the least, and so at 32 bits of a number of 32
+    // bits.
     (Comparison::Equal, FULL, R3, false, [SEVEN, (7, 100)], Some([SEVEN, (8, 100)])),
     (Comparison::NotEqual, LOW, R3, true, [(5, 7), SEVEN], Some([(5, 6), SEVEN])),
 ];
@@ -84,7 +85,7 @@ fn left_of(cond: Cond, taken: bool, before: &[Limits; 2]) -> Branch {
     refine(cond, taken, &state)
 }
 
-/// The limits of r2 and r3 in it.
+/// The limits of r2 and r3 in what is left.
 fn narrowed(cond: Cond, taken: bool, before: &[Limits; 2]) -> Option<[Limits; 2]> {
     match left_of(cond, taken, before) {
         Branch::Never => None,

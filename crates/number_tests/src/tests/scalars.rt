@@ -1,4 +1,5 @@
-//! How precise the answers are, worked out by hand, and each function over a domain at each domain.
+//! How precise the answers are, worked out by hand, and each function that takes any domain, on
+//! each of them.
 
 use super::chains::{Look, Row, Set, Step, are_seen, refined, set_of};
 use super::operations::Part;
@@ -50,7 +51,8 @@ const PARTS: [Row; 8] = [
     (ALL, &[Step::Alu(AluOp::Rsh, FULL, 48)], &[Look::Wide(0, 0xffff)]),
     (BYTE, &[Step::Alu(AluOp::Xor, FULL, 0x30)], &[Look::Wide(0, 255)]),
     (ALL, &[Step::Part(Part::SignExtend(Extension::Full8))], &[Look::Signed(-128, 127)]),
-    // An even number stays even, and an unknown sign is the greatest in what it takes away.
+    // An even number stays even. Where the sign bit is not known, the least number has it and no
+    // other bit.
     (ALL, &[EVEN, Step::Part(Part::SignExtend(Extension::Full8))], &[Look::Even]),
     (
         ALL,

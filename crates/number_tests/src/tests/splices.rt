@@ -80,7 +80,7 @@ fn contains_all(old: Limits, place: (u64, u32), new: Limits) -> bool {
     true
 }
 
-/// Of each two small sets, at each small place, whether the bits hold the new numbers or not.
+/// Of each two small sets, at each small position, whether the bits hold the new numbers or not.
 #[test]
 fn no_number_is_lost(rt: HostRuntime) -> Result<(), Fail> {
     for place in [

@@ -1,5 +1,5 @@
 use Rattle.std.proofs.Common.{refl}
-use Rattle.commands.specs.Messages.{entry_place, insn_place}
+use Rattle.commands.specs.Messages.{entry_position, insn_position}
 use Rattle.commands.proofs.Written.{on_err, err_behind}
 use Rattle.commands.proofs.Refusing.{step_failed}
 use Rattle.commands.proofs.rejections.say_step.Goals as goal
@@ -10,4 +10,4 @@ returns-in_err-say_entry-clause-err g c = on_err _ _ (step_failed _ _ c.args.ind
 pub returns-in-Some-clause-err : goal.returns-in-Some-clause-err
 returns-in-Some-clause-err g c =
     rw c.in-Some.is
-    (err_behind _ _ _ _ (entry_place c.args.index) (insn_place c.in-Some.slot c.in-Some.insn) _ refl c.in_ok-say_entry.ensures.ok c.say_insn.ensures.err)
+    (err_behind _ _ _ _ (entry_position c.args.index) (insn_position c.in-Some.slot c.in-Some.insn) _ refl c.in_ok-say_entry.ensures.ok c.say_insn.ensures.err)

@@ -1,12 +1,12 @@
 use Rattle.std.proofs.Common.{◌≡◌, ◌-◌, List}
 use Rattle.isa_model.specs.Reporting.Streams.{PacketFrame}
-use Rattle.host.specs.Forms.{form_by}
+use Rattle.host.specs.Forms.{report_form_by}
 use Rattle.host.specs.Stops.{noted_after}
 use Rattle.host.proofs.WrittenSoFar.{WrittenSoFar}
 use Rattle.host.proofs.engine.run_frames.Given as goal
 
 abbrev pub invariant-turns : goal.invariant-turns
-invariant-turns g l = (frames : List PacketFrame) × WrittenSoFar (form_by l.form)
+invariant-turns g l = (frames : List PacketFrame) × WrittenSoFar (report_form_by l.form)
     (g.M.Runner.rule l.fn.machine) (g.M.Runner.contents l.fn.machine) (g.R.Read.remaining l.fn.source)
     (record { report = g.W1.Write.contents l.fn.report; frames = g.W2.Write.contents l.fn.out })
     frames (g.R.Read.remaining l.reader.source) l.reader.position l.number (g.M.Runner.contents l.machine)

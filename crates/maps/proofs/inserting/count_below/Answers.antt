@@ -13,7 +13,7 @@ key-requires c =
     let slots = c.args.index.now.keys.slots in
     let i = c.loop-low.invariant in
     let order = i.order in
-    let bound = i.bound in
+    let inside = i.inside in
     let less = c.loop-low-test.true in
     ap is_some (listed_at slots c.args.key.now c.args.list.now c.requires
     (c.loop-low.low + (c.loop-low.high - c.loop-low.low) / 2) (omega arith))
@@ -25,7 +25,7 @@ loop-low-preserved-then-is_lt c =
     let list = c.args.list.now in
     let i = c.loop-low.invariant in
     let order = i.order in
-    let bound = i.bound in
+    let inside = i.inside in
     let less = c.loop-low-test.true in
     let m : ℕ = c.loop-low.low + (c.loop-low.high - c.loop-low.low) / 2 in
     let n = ap length c.requires in
@@ -40,7 +40,7 @@ loop-low-preserved-then-is_lt c =
     subst (λ (k : List ℕ). IsBelow k key) same (subst T (sym lower) tt) in
     record {
       order = omega arith;
-      bound = bound;
+      inside = inside;
       below = λ j l. below_up_to slots key m (omega arith) here j (omega arith);
       after = i.after;
     }
@@ -52,7 +52,7 @@ loop-low-preserved c =
     let list = c.args.list.now in
     let i = c.loop-low.invariant in
     let order = i.order in
-    let bound = i.bound in
+    let inside = i.inside in
     let less = c.loop-low-test.true in
     let m : ℕ = c.loop-low.low + (c.loop-low.high - c.loop-low.low) / 2 in
     let n = ap length c.requires in
@@ -69,7 +69,7 @@ loop-low-preserved c =
     below_else_above (key_at slots key m) key test (keys_differ slots key m (omega arith)) in
     record {
       order = omega arith;
-      bound = omega arith;
+      inside = omega arith;
       below = i.below;
       after = λ j l k. above_from slots key m here j l (omega arith);
     }
@@ -80,7 +80,7 @@ returns-clause-inserted c place there =
     let key = c.args.key.now in
     let i = c.loop-low.invariant in
     let order = i.order in
-    let bound = i.bound in
+    let inside = i.inside in
     let done = c.loop-low-test.false in
     let n = ap length c.requires in
     ap (λ (xs : List ℕ). insert xs c.loop-low.low place) c.requires

@@ -5,7 +5,7 @@ use Rattle.maps.proofs.inserting.count_below.Given as goal
 abbrev pub invariant-loop-low : goal.invariant-loop-low
 invariant-loop-low l = record {
   order : l.low ≤ l.high;
-  bound : l.high ≤ length l.list;
+  inside : l.high ≤ length l.list;
   below : (j : ℕ) → j < l.low → IsBelow (key_at l.index.keys.slots l.key j) l.key;
   after : (j : ℕ) → l.high ≤ j → j < length l.list
       → IsBelow l.key (key_at l.index.keys.slots l.key j);

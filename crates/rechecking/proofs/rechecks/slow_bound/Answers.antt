@@ -4,7 +4,7 @@ use Rattle.std.proofs.lemmas.Bool.{cases_lt}
 use Rattle.table_entries.specs.Tables.{entry_at, count_of}
 use Rattle.table_entries.proofs.GrowingLaws.{entry_at-whole, no_entry_past}
 use Rattle.rechecking.specs.Tables.{EntryAt, IsClosedEntry}
-use Rattle.rechecking.specs.Checking.{IsFirstFault}
+use Rattle.rechecking.specs.Checking.{IsFirstRefused}
 use Rattle.rechecking.proofs.RefusalLaws.{shows_of, refused_entry}
 use Rattle.rechecking.proofs.rechecks.slow_bound.Goals as goal
 
@@ -32,4 +32,4 @@ returns-clause-refused c =
     let same : entry_at p c.test_all.new.growing.table ≡ entry_at p c.in-Ok.table =
     rw made at (entry_at-whole p c.of-growing.result c.test_all.new.growing c.test_all.ensures.grows (rw made (omega arith))) in
     refused_entry p c.args.bytes.now c.in-Ok.table found.0 c.in-Some.number c.in-Err-test_all.error c.requires.flow found.1 found.2
-    (c.in-Some.ensures.some c.in-Some.number refl) (subst (λ (u : EntryAt). IsFirstFault p u c.in-Err-test_all.error) same c.in-Err-test_all.ensures.faulty)
+    (c.in-Some.ensures.some c.in-Some.number refl) (subst (λ (u : EntryAt). IsFirstRefused p u c.in-Err-test_all.error) same c.in-Err-test_all.ensures.faulty)

@@ -66,7 +66,7 @@ fn flags_of(number: u64) -> Option<u64> {
     if part < 5 { Some(part & 3) } else { None }
 }
 
-/// Both stores answer the same over a long list of commands.
+/// Both stores answer the same over a long list of updates and deletes.
 fn agree(rt: &impl Abort, chain: &mut HashMapChain, scan: &mut HashMapScan) {
     let mut number = 1;
     for turn in 0..20_000u32 {

@@ -20,7 +20,7 @@ fn taken_of(alloc: Global, step: usize, is_flushed: bool) -> Result<Vec<u8>, Fai
     Ok(writer.taken)
 }
 
-/// Three bytes go through at once, also in pieces; the others wait for a flush, and are not written
+/// Three bytes go through at once, also in parts; the others wait for a flush, and are not written
 /// without one.
 #[test]
 fn waits(rt: HostRuntime) -> Result<(), Fail> {

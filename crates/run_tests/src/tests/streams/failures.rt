@@ -31,7 +31,7 @@ const COUNTS: &str = "
     put: r1 = map_by_idx(0); r4 = 0; call 2; exit";
 
 // What two frames leave: a trap takes nothing back, and the second frame finds what the first left.
-// The entries come after the frames, in the order of their keys.
+// The key-value pairs come after the frames, in the order of their keys.
 const COUNTED: &[u8] = b"0 TRAP access 0 24\n1 TRAP access 0 24\nmap 0 10 0102\nmap 0 fe 0102\n\
 map 1 00000000 0200000000000000\nend 2\n";
 
@@ -82,7 +82,7 @@ const WHOLES: [Whole; 5] = [
         sent_before: &[(0, 4), (13, 28), (26, 52)],
         lines_before: &[(0, 0), (4, 13), (28, 26), (52, 32)],
     },
-    // a report that fails among the entries is a beginning
+    // a report that fails among the key-value pairs is a beginning
     Whole {
         text: COUNTS,
         limit: Some(100),
@@ -95,11 +95,11 @@ const WHOLES: [Whole; 5] = [
     },
 ];
 
-// The second number of the last row whose first one is not past the place.
-fn count_at(rows: &[(usize, usize)], place: usize) -> usize {
+// The second number of the last row whose first one is not past what was reached.
+fn count_at(rows: &[(usize, usize)], reached: usize) -> usize {
     let mut count = 0;
     for (from, there) in rows {
-        if *from <= place {
+        if *from <= reached {
             count = *there;
         }
     }

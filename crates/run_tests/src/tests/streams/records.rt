@@ -41,11 +41,11 @@ const STEPS: [usize; 4] = [1, 2, 3, 7];
 // From which length or room on: how many records are read, and how the stream stops.
 type Stop = (usize, u32, Next);
 
-// The last of the stops that is not past the place.
-fn stop_at(stops: &[Stop], place: usize) -> (u32, Next) {
+// The last of the stops that is not past what was reached.
+fn stop_at(stops: &[Stop], reached: usize) -> (u32, Next) {
     let mut found = (3, Next::End);
     for (from, count, stop) in stops {
-        if *from <= place {
+        if *from <= reached {
             found = (*count, *stop);
         }
     }

@@ -1,4 +1,4 @@
-//! Reads and writes in pieces of each size that fail at each byte.
+//! Reads and writes of a few bytes at each call, which fail at each byte.
 
 use exact_io::{Filled, fill, write_bytes};
 use failing_io::{FAILURES, Failure, Reader, Writer};

@@ -4,7 +4,7 @@ use Rattle.state_index.specs.declared.parts.Part.{Part}
 use Rattle.state_index.specs.Parts.{slot_parts}
 use Rattle.state_index.proofs.parts.push_slots.Given as goal
 
--- the parts of the slots from the nth on are still missing
+-- the parts of the stack slots from the nth on are still missing
 abbrev pub ArePushed : ℕ → List StackSlot → List Part → List Part → Type 0
 ArePushed n slots before parts = parts ++ slot_parts n (drop n slots) ≡ before ++ slot_parts 0 slots
 

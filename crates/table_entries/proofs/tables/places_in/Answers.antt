@@ -7,7 +7,7 @@ use Rattle.table_entries.proofs.Seen.{read-seen, stop-seen}
 use Rattle.std.proofs.lemmas.List.{length-map}
 use Rattle.table_entries.specs.Tables.{entry_from, first_none, earlier, to_the_end}
 use Rattle.table_entries.proofs.Ends.{IsEnd-more, entry_in-end}
-use Rattle.table_entries.proofs.Rows.{entries-begins, entries-goes_on, entries-stops, entries-done, places-more, length-more, end-empty, end-long, earlier-more}
+use Rattle.table_entries.proofs.EntryOrder.{entries-begins, entries-goes_on, entries-stops, entries-done, places-more, length-more, end-empty, end-long, earlier-more}
 use Rattle.table_entries.proofs.tables.places_in.Goals as goal
 
 pub loop-index-init : goal.loop-index-init

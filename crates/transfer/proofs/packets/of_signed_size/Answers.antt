@@ -2,7 +2,7 @@ use Rattle.std.proofs.Common.{w64, sym, subst, rules}
 use Rattle.std.specs.Prelude.{FitsSigned}
 use Rattle.std.specs.Int.{cast_signed}
 use Rattle.std.proofs.lemmas.Int.{to_z-of_z}
-use Rattle.isa_model.specs.Code.Sizes.{narrow_extension}
+use Rattle.isa_model.specs.Code.Sizes.{size_extension}
 use Rattle.ranges.specs.Keeps.{extension_signed}
 use Rattle.transfer.proofs.packets.of_signed_size.Goals as goal
 
@@ -14,7 +14,7 @@ returns c =
     let ordered = c.signed_limits-least.ensures.ordered in
     let range = simp to_z-of_z at c.signed_between.ensures in
     let limits = range.limits in
-    let kind = extension_signed (narrow_extension c.args.size) in
+    let kind = extension_signed (size_extension c.args.size) in
     record {
       members = λ x. (
         λ h. let m = (range.members x).0 h.1 in (m.0, (fits (cast_signed w64 x)).0 (m.1, m.2)),

@@ -4,7 +4,7 @@ use Rattle.stack_state.specs.declared.slots.StackSlot.{StackSlot}
 use Rattle.stack_state.specs.declared.slots.StackSlot.TheVariants.{Written}
 use Rattle.walks.proofs.forgetting.clear_slots.Given as goal
 
--- the slots below n are cleared
+-- the stack slots below n are cleared
 abbrev pub AreCleared : ℕ → List StackSlot → Type 0
 AreCleared n slots = (length slots ≡ frame_slots) × (take n slots ≡ replicate n (Written 0))
 

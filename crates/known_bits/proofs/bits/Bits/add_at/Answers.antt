@@ -1,5 +1,5 @@
 use Rattle.std.proofs.Common.{◌+◌, ◌%◌, ◌^◌}
-use Rattle.isa_model.proofs.NumberLemmas.{low_wrapped}
+use Rattle.isa_model.proofs.NumberLaws.{low_wrapped}
 use Rattle.isa_model.specs.declared.instructions.AluOp.TheVariants.{Add}
 use Rattle.isa_model.specs.Code.Sizes.{width_bits}
 use Rattle.isa_model.specs.Code.Numbers.{result_of}

@@ -6,14 +6,14 @@ use Rattle.isa_model.specs.Code.Sizes.{width_bits}
 use Rattle.isa_model.specs.declared.instructions.AluOp.TheVariants.{Add, Sub, Mul, Lsh, Rsh}
 use Rattle.isa_model.specs.declared.sizes.Width.{Width}
 use Rattle.isa_model.specs.Code.Numbers.{alu, result_of}
-use Rattle.isa_model.proofs.NumberLemmas.{alu_below, low_below, width_most}
+use Rattle.isa_model.proofs.NumberLaws.{alu_below, low_below, width_most}
 use Rattle.std.proofs.Math.Nat.{mod-eq_of_lt}
 use Rattle.known_bits.specs.declared.bits.Bits.{Bits}
 use Rattle.known_bits.specs.Member.{Occurs}
 use Rattle.known_bits.specs.Bits.{Has, IsSharp, greatest_of, KnowsProduct}
 use Rattle.known_bits.proofs.Members.{Apart, known}
 use Rattle.known_bits.proofs.Sharp.{low_set, occurs_low}
-use Rattle.known_bits.proofs.Frame.{mod_le, mod-mod_pow, mod-pow-mul}
+use Rattle.known_bits.proofs.ProductZeros.{mod_le, mod-mod_pow, mod-pow-mul}
 use Rattle.known_bits.proofs.Precise.{occurs_lifted, second_sharp}
 use Rattle.known_bits.proofs.bits.Bits.alu.Goals as goal
 

@@ -1,9 +1,9 @@
 use Rattle.std.proofs.Common.{arith, ◌*◌, ◌+◌}
 use Rattle.isa_model.specs.Code.Sizes.{width_bits}
-use Rattle.isa_model.proofs.NumberLemmas.{low_wrapped}
+use Rattle.isa_model.proofs.NumberLaws.{low_wrapped}
 use Rattle.known_bits.proofs.Members.{known}
 use Rattle.known_bits.proofs.Sharp.{most_member}
-use Rattle.known_bits.proofs.Frame.{low-multiple, low-limit}
+use Rattle.known_bits.proofs.ProductZeros.{low-multiple, low-limit}
 use Rattle.known_bits.proofs.bits.Bits.mul_at.Goals as goal
 
 pub returns-clause-contains : goal.returns-clause-contains

@@ -19,7 +19,7 @@ shared_fits a b ka =
     let o = or_lt 64 a.value a.mask ka.value_in ka.mask_in in
     omega arith
 
--- the place of the lowest of them
+-- the position of the lowest of them
 abbrev lowest : Bits → Bits → ℕ
 lowest a b = trailing_zeros w64 (shared a b)
 

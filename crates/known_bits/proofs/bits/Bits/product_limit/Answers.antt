@@ -1,7 +1,7 @@
 use Rattle.std.proofs.Common.{arith, ◌*◌, ◌^◌, ◌<◌}
 use Rattle.std.proofs.lemmas.Nat.{mul-le}
 use Rattle.std.proofs.Math.Nat.{mod-eq_of_lt}
-use Rattle.known_bits.proofs.Frame.{member-length}
+use Rattle.known_bits.proofs.ProductZeros.{member-length}
 use Rattle.known_bits.proofs.bits.Bits.product_limit.Goals as goal
 
 pub returns-in-Some-clause-contains : goal.returns-in-Some-clause-contains

@@ -2,7 +2,7 @@ use Rattle.std.proofs.Common.{arith, ℕ, sym, ap, ◌∙◌, ◌≡◌, ◌+◌
 use Rattle.std.specs.Int.{trailing_zeros}
 use Rattle.std.proofs.lemmas.Nat.{and_mask}
 use Rattle.known_bits.proofs.Members.{known}
-use Rattle.known_bits.proofs.Frame.{mod-pow_smaller, mod-mod_pow, mod-pow-mul, mod-trailing_zeros, trailing_zeros-multiple, member-multiple}
+use Rattle.known_bits.proofs.ProductZeros.{mod-pow_smaller, mod-mod_pow, mod-pow-mul, mod-trailing_zeros, trailing_zeros-multiple, member-multiple}
 use Rattle.known_bits.proofs.bits.Bits.product_zeros.Goals as goal
 
 and_ones : (n k ones : ℕ) → ones + 1 ≡ 2 ^ k → n % 2 ^ k ≡ 0 → bit_and n ones ≡ 0

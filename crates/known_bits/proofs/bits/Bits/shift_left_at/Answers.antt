@@ -1,6 +1,6 @@
 use Rattle.std.proofs.Common.{arith, ◌≡◌, ◌*◌, ◌^◌, ap, sym, ◌∙◌, ℕ, ◌%◌}
 use Rattle.isa_model.specs.Code.Numbers.{shift, result_of}
-use Rattle.isa_model.proofs.NumberLemmas.{low_wrapped, low_below}
+use Rattle.isa_model.proofs.NumberLaws.{low_wrapped, low_below}
 use Rattle.known_bits.proofs.Widths.{only_member}
 use Rattle.isa_model.specs.declared.instructions.AluOp.TheVariants.{Lsh}
 use Rattle.isa_model.specs.Code.Sizes.{width_bits}

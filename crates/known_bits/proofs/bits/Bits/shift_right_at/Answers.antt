@@ -1,7 +1,7 @@
 use Rattle.std.proofs.Common.{◌/◌, ◌≡◌, ◌^◌, ap, sym, ◌∙◌, arith, ℕ, ◌%◌}
 use Rattle.std.proofs.Math.Nat.{div-le_self}
 use Rattle.isa_model.specs.Code.Numbers.{shift, result_of}
-use Rattle.isa_model.specs.Code.NumberLemmas.{low_same}
+use Rattle.isa_model.specs.Code.NumberLaws.{low_same}
 use Rattle.known_bits.proofs.Widths.{only_member}
 use Rattle.isa_model.specs.declared.instructions.AluOp.TheVariants.{Rsh}
 use Rattle.isa_model.specs.Code.Sizes.{width_bits}

@@ -1,7 +1,7 @@
 use Rattle.std.proofs.Common.{arith, ◌≡◌, ℕ, ap, sym}
 use Rattle.isa_model.specs.declared.instructions.AluOp.TheVariants.{Arsh}
 use Rattle.isa_model.specs.Code.Numbers.{alu}
-use Rattle.isa_model.proofs.NumberLemmas.{alu_below}
+use Rattle.isa_model.proofs.NumberLaws.{alu_below}
 use Rattle.known_bits.specs.Member.{IsMember}
 use Rattle.known_bits.proofs.Members.{known}
 use Rattle.known_bits.proofs.Widths.{only_member}

@@ -1,4 +1,4 @@
-use Rattle.isa_model.proofs.NumberLemmas.{low_difference}
+use Rattle.isa_model.proofs.NumberLaws.{low_difference}
 use Rattle.std.proofs.Common.{◌+◌, ◌-◌, ◌%◌, ◌^◌}
 use Rattle.isa_model.specs.declared.instructions.AluOp.TheVariants.{Sub}
 use Rattle.isa_model.specs.Code.Sizes.{width_bits}

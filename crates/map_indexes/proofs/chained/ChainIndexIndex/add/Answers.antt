@@ -5,7 +5,7 @@ use Rattle.std.specs.Prelude.{slice_set}
 use Rattle.map_indexes.specs.PlaceKeys.{PlaceKeys, slot, places, AreKeys}
 use Rattle.map_indexes.proofs.KeyBytes.{AreKeys-put}
 use Rattle.map_indexes.specs.PlaceKeyLaws.{got}
-use Rattle.map_indexes.proofs.SlotLaws.{places-added}
+use Rattle.map_indexes.proofs.PlaceKeysLaws.{places-added}
 use Rattle.map_indexes.specs.Hashing.{chain_of}
 use Rattle.map_indexes.specs.Chains.{spot, link_in}
 use Rattle.map_indexes.specs.ChainIndexes.{IsChainIndex}

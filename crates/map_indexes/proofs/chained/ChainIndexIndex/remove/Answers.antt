@@ -3,7 +3,7 @@ use Rattle.std.specs.Prelude.{slice_set}
 use Rattle.std.specs.FinMap as map
 use Rattle.map_indexes.specs.PlaceKeys.{PlaceKeys, slot, places, AreKeys}
 use Rattle.map_indexes.proofs.KeyBytes.{AreKeys-cleared}
-use Rattle.map_indexes.proofs.SlotLaws.{places-emptied, remove_absent}
+use Rattle.map_indexes.proofs.PlaceKeysLaws.{places-emptied, remove_absent}
 use Rattle.map_indexes.specs.ScanLaws.{slot_inside}
 use Rattle.map_indexes.proofs.ScanLaws.{scan_some}
 use Rattle.map_indexes.specs.Chains.{spot, link_in}

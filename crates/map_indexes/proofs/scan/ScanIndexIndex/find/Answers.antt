@@ -1,6 +1,6 @@
 use Rattle.std.proofs.Common.{ap, sym, ◌∙◌, arith, Some}
 use Rattle.std.specs.Cmp.Lexicographic.{bytes_decides}
-use Rattle.map_indexes.proofs.SlotLaws.{get_here, get_none}
+use Rattle.map_indexes.proofs.PlaceKeysLaws.{get_here, get_none}
 use Rattle.map_indexes.specs.ScanLaws.{slot_inside}
 use Rattle.map_indexes.proofs.scan.ScanIndexIndex.find.Goals as goal
 

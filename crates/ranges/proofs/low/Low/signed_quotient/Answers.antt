@@ -6,8 +6,8 @@ use Rattle.std.proofs.Math.Facts.{sfits_to_z}
 use Rattle.isa_model.specs.declared.sizes.Width.TheVariants.{Low32}
 use Rattle.isa_model.specs.declared.instructions.AluOp.TheVariants.{SignedDiv}
 use Rattle.isa_model.specs.Code.Numbers.{alu}
-use Rattle.isa_model.proofs.NumberLemmas.{alu_below}
-use Rattle.isa_model.specs.Code.NumberLemmas.{low_same}
+use Rattle.isa_model.proofs.NumberLaws.{alu_below}
+use Rattle.isa_model.specs.Code.NumberLaws.{low_same}
 use Rattle.ranges.specs.Keeps.{KeepsSignedQuotient}
 use Rattle.ranges.specs.Wides as W
 use Rattle.ranges.specs.Lows.{Has}

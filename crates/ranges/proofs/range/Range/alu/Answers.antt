@@ -7,8 +7,8 @@ use Rattle.isa_model.specs.declared.sizes.Width.TheVariants.{Low32, Full64}
 use Rattle.isa_model.specs.declared.instructions.AluOp.TheVariants.{Lsh}
 use Rattle.isa_model.specs.Code.Sizes.{width_bits}
 use Rattle.isa_model.specs.Code.Numbers.{alu, result_of, shift}
-use Rattle.isa_model.proofs.NumberLemmas.{alu_below}
-use Rattle.isa_model.specs.Code.NumberLemmas.{low_same}
+use Rattle.isa_model.proofs.NumberLaws.{alu_below}
+use Rattle.isa_model.specs.Code.NumberLaws.{low_same}
 use Rattle.ranges.specs.Wides as W
 use Rattle.ranges.specs.Lows as L
 use Rattle.ranges.specs.Ranges.{Has}

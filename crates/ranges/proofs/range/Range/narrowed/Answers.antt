@@ -1,7 +1,7 @@
 use Rattle.std.proofs.Common.{ℕ, ◌≡◌, ◌≤◌, ◌%◌, ◌^◌, ◌∙◌, sym, subst, ap, inl, inr, w64, arith}
 use Rattle.std.specs.Int.{cast_unsigned}
 use Rattle.std.proofs.lemmas.Int.{ints, of_z-to_z}
-use Rattle.isa_model.specs.Code.NumberLemmas.{signed_equation}
+use Rattle.isa_model.specs.Code.NumberLaws.{signed_equation}
 use Rattle.ranges.specs.Joint.{IsHalfBetween}
 use Rattle.ranges.specs.Lows as L
 use Rattle.ranges.specs.Ranges.{Has, HasLow}

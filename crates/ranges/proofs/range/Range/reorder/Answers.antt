@@ -3,7 +3,7 @@ use Rattle.std.proofs.Math.Nat.{mod-eq_of_lt}
 use Rattle.isa_model.specs.declared.sizes.SwapWidth.{SwapWidth}
 use Rattle.isa_model.specs.declared.sizes.SwapWidth.TheVariants.{B16, B32, B64}
 use Rattle.isa_model.specs.Code.Numbers.{reordered}
-use Rattle.isa_model.proofs.NumberLemmas.{reordered_below}
+use Rattle.isa_model.proofs.NumberLaws.{reordered_below}
 use Rattle.isa_model.specs.Code.Sizes.{span_bits}
 use Rattle.ranges.specs.Ranges.{Has}
 use Rattle.ranges.proofs.RangeLaws.{constant_tight}

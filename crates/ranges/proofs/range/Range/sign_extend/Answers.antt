@@ -1,6 +1,6 @@
 use Rattle.std.proofs.Common.{◌≡◌, ◌%◌, ◌^◌, arith, subst, ap, ◌∙◌}
 use Rattle.isa_model.specs.Code.Numbers.{sign_extended}
-use Rattle.isa_model.proofs.ExtensionLemmas.{sign_extended_below}
+use Rattle.isa_model.proofs.ExtensionLaws.{sign_extended_below}
 use Rattle.ranges.specs.Keeps.{extension_signed}
 use Rattle.ranges.specs.Ranges.{Has}
 use Rattle.ranges.proofs.Limits.{extended_same, extended_signed, extended_small}

@@ -1,7 +1,7 @@
 use Rattle.std.proofs.Common.{arith, ◌<◌, ◌^◌}
 use Rattle.std.proofs.lemmas.Int.{ints}
 use Rattle.isa_model.specs.Code.Numbers.{alu}
-use Rattle.isa_model.proofs.NumberLemmas.{alu_below, low_below}
+use Rattle.isa_model.proofs.NumberLaws.{alu_below, low_below}
 use Rattle.isa_model.specs.Code.Sizes.{width_bits}
 use Rattle.ranges.proofs.wide.Wide.alu.Goals as goal
 

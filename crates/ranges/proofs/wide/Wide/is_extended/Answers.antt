@@ -2,7 +2,7 @@ use Rattle.std.proofs.Common.{arith, rules, ◌≡◌, sym, w64}
 use Rattle.std.specs.Prelude.{◌≤ℤ◌, FitsSigned}
 use Rattle.std.proofs.lemmas.Int.{ints, to_z-of_z}
 use Rattle.isa_model.specs.declared.sizes.Width.TheVariants.{Full64}
-use Rattle.isa_model.proofs.ExtensionLemmas.{sign_extended-small}
+use Rattle.isa_model.proofs.ExtensionLaws.{sign_extended-small}
 use Rattle.isa_model.specs.Code.Sizes.{extension_width}
 use Rattle.ranges.proofs.Limits.{extended_same, half_narrow, test_le}
 use Rattle.ranges.proofs.wide.Wide.is_extended.Goals as goal

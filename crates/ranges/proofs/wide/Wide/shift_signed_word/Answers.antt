@@ -1,5 +1,5 @@
 use Rattle.std.proofs.Common.{arith}
-use Rattle.isa_model.proofs.NumberLemmas.{arithmetic_shift_below}
+use Rattle.isa_model.proofs.NumberLaws.{arithmetic_shift_below}
 use Rattle.isa_model.specs.declared.sizes.Width.TheVariants.{Low32}
 use Rattle.ranges.proofs.Limits.{shift_word_small}
 use Rattle.ranges.proofs.wide.Wide.shift_signed_word.Goals as goal

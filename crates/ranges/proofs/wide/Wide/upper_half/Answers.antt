@@ -1,6 +1,6 @@
 use Rattle.std.proofs.Common.{arith}
 use Rattle.std.proofs.lemmas.Int.{ints, clamps}
-use Rattle.isa_model.specs.Code.NumberLemmas.{signed_equation}
+use Rattle.isa_model.specs.Code.NumberLaws.{signed_equation}
 use Rattle.ranges.proofs.wide.Wide.upper_half.Goals as goal
 
 pub returns-clause-common : goal.returns-clause-common

@@ -1,5 +1,5 @@
 use Rattle.isa_model.specs.declared.sizes.Width.TheVariants.{Full64}
-use Rattle.isa_model.specs.Code.NumberLemmas.{low_same}
+use Rattle.isa_model.specs.Code.NumberLaws.{low_same}
 use Rattle.reg_state.proofs.RelationsLaws.{signed_half}
 use Rattle.reg_state.proofs.bits_domain.BitsDomain.signed_at_most.Goals as goal
 

@@ -4,7 +4,7 @@ use Rattle.std.proofs.lemmas.Option.{IfSome_then}
 use Rattle.ranges.specs.Ranges.{Has}
 use Rattle.reg_state.proofs.ConstantsLaws.{range_limits-IsLimit, low_limits-IsLimit}
 use Rattle.isa_model.specs.declared.sizes.Width.TheVariants.{Full64}
-use Rattle.isa_model.specs.Code.NumberLemmas.{low_same}
+use Rattle.isa_model.specs.Code.NumberLaws.{low_same}
 use Rattle.reg_state.proofs.range_domain.RangeDomain.apart.Goals as goal
 
 pub returns-in-Full64-clause-common : goal.returns-in-Full64-clause-common

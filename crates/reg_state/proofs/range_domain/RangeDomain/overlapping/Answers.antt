@@ -3,7 +3,7 @@ use Rattle.std.proofs.lemmas.Bool.{cases_lt}
 use Rattle.std.proofs.lemmas.Nat.{and_mask, pow-add}
 use Rattle.std.proofs.lemmas.Option.{IfSome_then}
 use Rattle.isa_model.specs.declared.sizes.Width.TheVariants.{Full64}
-use Rattle.isa_model.specs.Code.NumberLemmas.{low_same}
+use Rattle.isa_model.specs.Code.NumberLaws.{low_same}
 use Rattle.reg_state.proofs.range_domain.RangeDomain.overlapping.Goals as goal
 
 -- all bits are not one

@@ -9,7 +9,7 @@ use Rattle.table_entries.specs.declared.faults.TableRefusal.{TableRefusal}
 use Rattle.table_entries.specs.declared.faults.TableRefusal.TheVariants as fault
 use Rattle.table_entries.specs.declared.stops.StopReason.{StopReason}
 use Rattle.table_entries.specs.Entries.{Entry, entry_in}
-use Rattle.table_entries.specs.Tables.{before, fault_of, entries_in, to_the_end, earlier, first_none, all_of, entry_from, TableView, KeepsEntries}
+use Rattle.table_entries.specs.Tables.{before, refusal_of, entries_in, to_the_end, earlier, first_none, all_of, entry_from, TableView, KeepsEntries}
 use Rattle.table_entries.specs.Growing.{with_entries, IsEnd}
 use Rattle.table_entries.proofs.Ends.{IsEnd-place}
 
@@ -29,11 +29,11 @@ entries-goes_on p front n i bytes e after total lt h so_far =
     sym first ∙ so_far
 
 pub entries-stops : (p : Program) (front : List (Option Entry)) (n i : ℕ) (bytes : List ℕ) (stop : StopReason) (total : Result (List (Option Entry) × List ℕ) TableRefusal)
-    → i < n → entry_in p bytes ≡ Err stop → with_entries front (entries_in p (n - i) i bytes) ≡ total → total ≡ Err (fault_of stop i)
+    → i < n → entry_in p bytes ≡ Err stop → with_entries front (entries_in p (n - i) i bytes) ≡ total → total ≡ Err (refusal_of stop i)
 unfolding entries_in
 entries-stops p front n i bytes stop total lt h so_far =
     let k : n - i ≡ suc (n - (i + 1)) = omega arith in
-    let first : with_entries front (entries_in p (n - i) i bytes) ≡ Err (fault_of stop i) = rw (k, h) refl in
+    let first : with_entries front (entries_in p (n - i) i bytes) ≡ Err (refusal_of stop i) = rw (k, h) refl in
     sym so_far ∙ first
 
 pub entries-done : (p : Program) (front : List (Option Entry)) (n i : ℕ) (bytes : List ℕ) (total : Result (List (Option Entry) × List ℕ) TableRefusal)
@@ -68,7 +68,7 @@ earlier-from k (Some x ∷ xs) e = let n : k + length (Some x ∷ xs) ≡ (k + 1
 pub earlier-more : (xs : List (Option Entry)) (i : ℕ) (e : Option Entry) → length xs ≡ i → earlier (first_none 0 xs) (is_some e) i ≡ first_none 0 (xs ++ e ∷ [])
 earlier-more xs i e h = let n : i ≡ 0 + length xs = omega arith in rw n (earlier-from 0 xs e)
 
--- where none is None, they are the entries that they have
+-- where no element is None, the list is its entries
 all_of-some : (k : ℕ) (xs : List (Option Entry)) → first_none k xs ≡ None → xs ≡ map Some (all_of xs)
 all_of-some k [] h = refl
 all_of-some k (None ∷ xs) h = absurd (some-none h)

@@ -27,7 +27,7 @@ mod-pow_smaller n j k h le =
     let whole : n % 2 ^ (k - j + j) ≡ 0 = ap (λ t. n % 2 ^ t) s ∙ h in
     omega arith
 
--- the low part of a multiple is one
+-- the low part of a multiple is a multiple, too
 pub mod-mod_pow : (n j w : ℕ) → n % 2 ^ j ≡ 0 → (n % 2 ^ w) % 2 ^ j ≡ 0
 mod-mod_pow n j w h =
     elim (cases_lt w j) [
@@ -41,7 +41,7 @@ mod-mod_pow n j w h =
           ap (λ t. t % 2 ^ j) low ∙ mod-mul-add (n / 2 ^ j % 2 ^ (w - j)) (2 ^ j) (n % 2 ^ j) (mod_below n (2 ^ j) (pow_pos j)) ∙ h
     ]
 
--- a product of multiples is one of both powers' product
+-- a product of multiples of two powers is a multiple of the powers' product
 pub mod-pow-mul : (x y j k : ℕ) → x % 2 ^ j ≡ 0 → y % 2 ^ k ≡ 0 → (x * y) % 2 ^ (j + k) ≡ 0
 mod-pow-mul x y j k hx hy =
     let p = pow-add 2 j k in
@@ -57,7 +57,7 @@ mod-pow-mul x y j k hx hy =
     regroup : (x y a b p q r : ℕ) → x ≡ a * p → y ≡ b * q → r ≡ p * q → x * y ≡ a * b * r + 0
     regroup x y a b p q r ex ey er = rw (ex, ey, er) (omega arith)
 
--- a number is a multiple of the power that its trailing zeros tell
+-- a number is a multiple of 2 to the number of its trailing zeros
 pub mod-trailing_zeros : (n : ℕ) → n < 2 ^ 64 → n % 2 ^ trailing_zeros w64 n ≡ 0
 mod-trailing_zeros n n_in =
     elim (cases_lt 0 n) [
@@ -98,7 +98,7 @@ member-multiple {v} {m} {x} k h j z =
     let le = and_le_r (x % 2 ^ j) (bit_or v m % 2 ^ j) in
     omega arith
 
--- a number without bits from a place on is below that power
+-- a number that has no bits from position l on is below that power
 pub lt-pow_from_bits : (x l : ℕ) → ((i : ℕ) → l ≤ i → bit_at x i ≡ 0) → x < 2 ^ l
 lt-pow_from_bits x l h =
     let same : x ≡ x % 2 ^ l = same_from_bits x (x % 2 ^ l)
@@ -106,7 +106,8 @@ lt-pow_from_bits x l h =
     let below = mod_below x (2 ^ l) (pow_pos l) in
     omega arith
 
--- where 0 is a member, and bits are known to be the same from a place on, members are below that power
+-- where 0 is a member, and bits are known to be the same from position l on, members are below that
+-- power
 pub member-length : (v m g x l : ℕ) → m < 2 ^ 64 → IsMember v m 0 → ((i : ℕ) → bit_at m i ≡ 1 → 0 / 2 ^ i ≡ g / 2 ^ i → ⊥)
     → g < 2 ^ l → IsMember v m x → x < 2 ^ l
 member-length v m g x l m_in zero sharp small h =
@@ -125,7 +126,8 @@ member-length v m g x l m_in zero sharp small h =
 
 -- ---- low parts
 
--- members of the low parts are multiples, and below a limit, where the greatest member is
+-- members of the low part are multiples of each power of 2 that divides the greatest member, and
+-- below each power that it is below
 pub low-multiple : {v m x : ℕ} → Apart v m → (w j : ℕ) → bit_or v m % 2 ^ j ≡ 0 → IsMember (v % 2 ^ w) (m % 2 ^ w) x → x % 2 ^ j ≡ 0
 low-multiple {v} {m} k w j z h =
     member-multiple (low_known k w) h j (ap (λ t. t % 2 ^ j) (sym (or_mod v m w)) ∙ mod-mod_pow (bit_or v m) j w z)

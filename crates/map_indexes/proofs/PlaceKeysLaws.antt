@@ -1,4 +1,4 @@
--- Laws of the definitions in specs/SlotLaws.
+-- Laws of the keys of places: the place of a key is found, and what is there after one was set.
 use Rattle.std.proofs.Common.{◌≡◌, ℕ, zero, suc, ◌+◌, ◌<◌, List, [], ◌∷◌, Option, Some, None, Bool, true, false, cond, length, refl, sym, ap, ◌∙◌, arith, inl, inr, ◌⊎◌}
 use Rattle.std.specs.Prelude.{slice_set}
 use Rattle.std.specs.Cmp.{eq_by_cmp_equiv}
@@ -11,7 +11,7 @@ use Rattle.map_indexes.specs.PlaceKeyLaws.{got, is_key-equal}
 pub is_key-itself : (k : List ℕ) → is_key k k ≡ true
 is_key-itself k = (eq_by_cmp_equiv nat_list_cmp_total).refl k
 
--- a slot with this key, which no other slot has, is found
+-- a place with this key, which no other place has, is found
 pub find_here : (slots : PlaceKeys) (at i : ℕ) (k : List ℕ) → slot slots i ≡ Some k
     → ((j : ℕ) → slot slots j ≡ Some k → j ≡ i) → find key_order k (pairs_from at slots) ≡ Some (at + i)
 find_here [] at i k e d = cc

@@ -1,5 +1,4 @@
--- Lemmas about numbers of 32 and 64 bits: how large results are, and 32-bit results by way of 64
--- bits.
+-- Laws of numbers of 32 and 64 bits that code cites: their low bits, and their signed readings.
 use Rattle.std.proofs.Common.{inl, inr, ◌≡◌, ℕ, ◌+◌, ◌*◌, ◌/◌, ◌^◌, ◌<◌, arith, w64}
 use Rattle.std.specs.Int.{cast_signed}
 use borrow.Author.Differences.{up, down}
@@ -9,7 +8,7 @@ use Rattle.isa_model.specs.declared.sizes.Width.{Width}
 use Rattle.isa_model.specs.Code.Sizes.{width_bits}
 use Rattle.isa_model.specs.Code.Numbers.{low}
 
--- ---- results of 32 bits by way of 64
+-- ---- low bits
 
 -- the low bits of a number of the width are the number
 pub low_same : (w : Width) (n : ℕ) → n < 2 ^ width_bits w → low w n ≡ n

@@ -1,4 +1,4 @@
--- Laws of the definitions in specs/Code/NumberLemmas.
+-- Laws of numbers of 32 and 64 bits: what operations give fits its width, and low bits.
 use Rattle.std.proofs.Common.{inl, inr, ◌≡◌, ℕ, ℤ, pos, negsuc, neg_ℤ, zero, suc, ◌+◌, ◌-◌, ◌*◌, ◌/◌, ◌%◌, ◌^◌, ◌<◌, ◌≤◌, refl, arith, Bool, true, false, cond, w32, w64}
 use Rattle.std.specs.Prelude.{int_div, int_rem, nat_eq, unsigned_abs}
 use Rattle.std.specs.Int.{Width as IntWidth, cast_signed, cast_unsigned}

@@ -1,4 +1,4 @@
--- Laws of the definitions in specs/Code/ExtensionLemmas.
+-- Laws of sign extension: it fits its width; by cases, and as a sum.
 use Rattle.std.proofs.Common.{inl, inr, ◌≡◌, ◌⊎◌, ℕ, ◌+◌, ◌-◌, ◌*◌, ◌%◌, ◌^◌, ◌<◌, ◌≤◌, refl, sym, ap, ◌∙◌, arith, Bool, true, false, cond, w32, w64}
 use Rattle.std.specs.Prelude.{nat_lt}
 use Rattle.std.specs.Int.{Width as IntWidth, w8, w16, cast_signed, cast_unsigned}
@@ -12,7 +12,7 @@ use Rattle.isa_model.specs.declared.sizes.Extension.{Extension}
 use Rattle.isa_model.specs.declared.sizes.Extension.TheVariants.{Low8, Low16, Full8, Full16, Full32}
 use Rattle.isa_model.specs.Code.Sizes.{width_bits, extension_bits, extension_width}
 use Rattle.isa_model.specs.Code.Numbers.{low, sign_extended}
-use Rattle.isa_model.proofs.NumberLemmas.{width_fits}
+use Rattle.isa_model.proofs.NumberLaws.{width_fits}
 
 -- below the half it is itself, above it has ones before it
 abbrev extended : ℕ → ℕ → ℕ → ℕ → ℕ
