@@ -1,6 +1,7 @@
-"""Programs that attack one rule of the verifier each, as texts, for attacks.py: each function of FAMILIES makes one from
-a chance, and the numbers that its frames should be near. They are right up to a limit, a size or a place that may be
-wrong by one or be of the wrong sign, width or frame."""
+"""Programs that attack one rule of the verifier each, as texts, for attacks.py: each function of
+FAMILIES makes one from a random generator, with the numbers that its frames should be near. They
+are right except for a limit, a size or an offset that may be wrong by one, or of the wrong sign,
+width or call frame."""
 
 SIZES = {"u8": 1, "u16": 2, "u32": 4, "u64": 8}
 TESTS = ["==", "!=", ">", ">=", "<", "<=", "s>", "s>=", "s<", "s<=", "&"]
@@ -137,7 +138,8 @@ def spills(chance):
 
 
 def freed(chance):
-    """Pointers to values that are deleted, replaced or not found, kept in registers, on the stack and in other frames."""
+    """Pointers to values that are deleted, replaced or not found, kept in registers, on the stack
+    and in other call frames."""
     key = chance.choice(["r2 = r10;  r2 += -4", "r2 = r10;  r2 += -8"])
     find = lambda of: [f"r1 = map_by_idx({of})", key, "call 1"]
     put = lambda of: [f"r1 = map_by_idx({of})", key, "r3 = r10", "r3 += -24", f"r4 = {chance.choice([0, 0, 1, 2])}", "call 2"]
@@ -160,7 +162,8 @@ def freed(chance):
 
 
 def stored_in(chance):
-    """A pointer in a caller's frame, which the function that is called overwrites, in part or beside it."""
+    """A pointer in a caller's call frame, which the function that is called overwrites, in part or
+    beside it."""
     size = chance.choice(list(SIZES))
     place = chance.choice([0, 0, 0, 8, 8 - SIZES[size], -8])
     lines = ["*(u64 *)(r10 - 32) = 4", "*(u64 *)(r10 - 24) = 4", "*(u64 *)(r10 - 8) = r10", "*(u64 *)(r10 - 16) = r10", "r1 = r10",
@@ -169,8 +172,8 @@ def stored_in(chance):
 
 
 def frames(chance):
-    """Pointers into frames that have ended, or into a frame of the same depth that came later, registers over calls, and
-    stores in a caller's frame."""
+    """Pointers into call frames that have ended, or into a call frame of the same depth that came
+    later, registers over calls, and stores in a caller's call frame."""
     keep = ["r6 = r10", "*(u64 *)(r10 - 8) = 4", "*(u64 *)(r10 - 16) = 4"]
     if chance.random() < 0.3:
         return stored_in(chance)
@@ -198,7 +201,8 @@ def frames(chance):
 
 
 def answers(chance):
-    """An answer of version 2 whose low half is at most 4, or a little more, by a mask, a test, a shift or a sum."""
+    """r0 of a program of version 2, whose low half is at most 4, or a little more, by a mask, a
+    test, a shift or a sum."""
     lines = [*NUMBERS, f"r0 = {chance.choice(['r2', 'r3'])}"]
     for _ in range(chance.randrange(1, 4)):
         target = register(chance, 0)
@@ -357,7 +361,7 @@ def copy_of(chance, number, by):
 
 def fixed(chance):
     """Copies of a packet pointer that differ by their fixed parts: a test of one proves bytes of the others, less or more.
-    Some have another variable part, which no test of theirs tells of."""
+    Some have another variable part, of which such a test shows nothing."""
     lines = ["r6 = *(u32 *)(r1 + 0)", "r3 = *(u32 *)(r1 + 4)", "r5 = *(u32 *)(r1 + 16)", "r2 = *(u32 *)(r1 + 12)"]
     mask = chance.choice([1, 7, 31, 255])
     by_some = [f"r5 &= {mask}", "r6 += r5"]
@@ -418,8 +422,9 @@ NEAR = {"small": ["any", "stack"], "stack": ["lower", "value"], "value": ["insid
 
 
 def kinds(chance):
-    """Places that hold one kind of value along one way and perhaps another along the next, in this or in an outer function,
-    which join where the second one comes to a state that was stored; then they are used as the first."""
+    """Places that hold one kind of value on one path and perhaps another on the next, in this or in
+    an outer function, which meet where the second path comes to a state that was stored; then they
+    are used as the first."""
     lines = ["r7 = r1", "r6 = *(u32 *)(r7 + 0)", "r3 = *(u32 *)(r7 + 4)", "r8 = *(u32 *)(r7 + 12)", "r9 = r8", "r9 &= 7", "r4 = r6", "r4 += 8",
              "if r4 > r3 goto out"] + [f"*(u64 *)(r10 - {at}) = 0" for at in (88, 96, 104)]
     places = chance.sample(["r10 - 8", "r10 - 16", "r10 - 24"], chance.choice([1, 2]))

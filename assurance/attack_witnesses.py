@@ -1,7 +1,8 @@
-"""Programs that one frame makes go wrong or go far, as texts, for attacks.py: their first line names that frame, the
-witness. What each instruction gives on it is computed beside (recompute.py), so each test leads the way that the frame goes,
-and numbers near those that it has are where limits are wrong. `witnesses` are never right: where their last test sends the
-frame an access is not allowed, so `verify` may accept none. `loops` send it the longest way, and some never end on it."""
+"""Programs that go wrong or run long on one frame, as texts, for attacks.py: their first line names
+that frame, the witness. The result of each instruction on it is computed too (recompute.py), so
+each test goes the way of the witness, and limits are wrong near the numbers that it has.
+`witnesses` are never right: where their last test sends the frame an access is not allowed, so
+`verify` may accept none. `loops` send it the longest way, and some never end."""
 from attack_programs import SIZES, program
 from recompute import arithmetic, byte_order, condition, signed
 
@@ -38,7 +39,7 @@ class Way:
         self.chance, self.lines, self.has = chance, [], {}
 
     def load(self, register, place, number):
-        """Loads some of the packet's bytes at a place, which have this number."""
+        """Loads some of the packet's bytes at an offset, which have this number."""
         size = self.chance.choice(["u64", "u64", "u64", "u32", "u32", "u16", "u8", "s32", "s16", "s8"])
         bits = int(size[1:])
         self.lines.append(f"r{register} = *({size} *)(r6 + {place})")
@@ -114,8 +115,8 @@ def witness_of(lines):
 
 
 def read_beyond(way, register):
-    """The map lines and the instructions of an access that the number of this register leads one byte too far, and how long a
-    packet that needs; or of one through the number itself."""
+    """The map lines and the instructions of an access that the number of this register moves one
+    byte too far, and how long a packet that needs; or of one through the number itself."""
     number, chance = way.has[register], way.chance
     if not 1 <= number <= 256 or chance.random() < 0.4:
         way.test(register, chance.choice(["==", ">=", "<=", "s>=", "s<="]))
@@ -160,7 +161,7 @@ class Loops:
         return mask, self.interface & mask != 0
 
     def fork(self, depth):
-        """Two ways by a bit, of which the witness takes the longer one, most times."""
+        """Two ways by a bit, of which the witness mostly takes the longer one."""
         mask, has = self.bit()
         near, far = sorted((self.block(depth - 1), self.block(depth - 1)), key=len)
         if self.chance.random() < 0.2:
@@ -183,7 +184,7 @@ class Loops:
         ])
 
     def loop(self, depth):
-        """A loop of some turns, whose counter may slip."""
+        """A loop of some turns, whose counter may be wrong."""
         if not self.counters:
             return self.filler(3)
         counter, again = self.counters.pop(), self.label()
@@ -217,7 +218,8 @@ class Loops:
 
 
 def loops(chance):
-    """Loops in loops and forks that are of different lengths; some never end on the witness, which else takes a long way."""
+    """Loops in loops and forks of different lengths; some never end on the witness, and on the
+    others it runs long."""
     interface = chance.choice([0, 63, 2**32 - 1, chance.randrange(64), chance.randrange(64)])
     made = Loops(chance, interface)
     lines = ["r9 = *(u32 *)(r1 + 12)", "r0 = 0", *(f"r{number} = 0" for number in range(2, 6))]

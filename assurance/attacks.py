@@ -1,19 +1,21 @@
 #!/usr/bin/env python3
-"""Attacks the verifier rule by rule: sums that wrap and signs mixed, tests of the packet before and after moves, what such
-moves leave proved, copies of a packet pointer that differ by fixed parts, bytes reversed, parts of spilled numbers, signed
-quotients and remainders, pointers overwritten in part, stack slots kept over joins, places that hold one kind of value
-along one way and another along the next, values that are gone, pointers into call frames that have ended, answers that
-name no action, numbers that are what no limit may leave out, and loops that take long or never end.
+"""Attacks the verifier rule by rule: sums that wrap and signs mixed, tests of the packet before and
+after moves, the bytes that stay proved over such moves, copies of a packet pointer that differ by
+fixed parts, bytes reversed, parts of spilled numbers, signed quotients and remainders, pointers
+overwritten in part, stack slots kept over joins, places that hold one kind of value on one path and
+another on the next, values that are gone, pointers into call frames that have ended, results that
+name no action, numbers that no limit may leave out, and loops that take long or never end.
 
 usage: python3 assurance/attacks.py [PROGRAM] [--programs N] [--seed S] [--jobs J] [--keep FOLDER] [--family NAME]
        [--seconds N] [--library FILE]
 
-N programs of each family are made, as texts. Reported is each that `verify` accepts and `trace` ends with a trap or after
-more steps than the bound, or that `run` and `trace` run differently, each that is refused for what its family does not do,
-each of `witnesses` whose witness `trace` ends without a trap, and each that takes more than a minute; its text and frames
-are kept in FOLDER. Many frames have an interface and a queue near the numbers of the text. A line for each family says how
-many were accepted, and why the others were refused. The exit status is 1 if anything was reported. --library is as for
-fuzz.py.
+N programs of each family are made, as texts. It reports each that `verify` accepts and `trace` ends
+with a trap or after more steps than the bound, or that `run` and `trace` run differently, each that
+is refused for something that its family does not do, each of `witnesses` whose witness `trace` ends
+without a trap, and each that takes more than a minute; its text and frames are kept in FOLDER. Many
+frames have an interface and a queue near the numbers of the text. A line for each family says how
+many were accepted, and why the others were refused. The exit status is 1 if anything was reported.
+--library is as for fuzz.py.
 """
 import argparse
 import collections
@@ -33,7 +35,7 @@ FAMILIES = {**RULES, "witnesses": witnesses, "loops": loops}
 
 
 def near(lines):
-    """Words near the numbers of a text, and near both halves of long ones."""
+    """Numbers of 32 bits near the numbers of a text, and near both halves of long ones."""
     numbers = {int(number) for number in re.findall(r"(?<!\w)-?\d+", "\n".join(lines))}
     return sorted({(half + by) % 2**32 for number in numbers for half in (number, number >> 32) for by in (-1, 0, 1)}) or [0]
 
@@ -63,8 +65,8 @@ def unwitnessed(run, paths, lines):
 
 
 def limited(run, chance, path, verdict):
-    """What is wrong with a verdict within a limit of the caller's, which has to be that without one, if it is any: None, or a
-    text. Only a library takes such a limit."""
+    """What is wrong with a verdict within a limit of the caller's, which has to be that without a
+    limit, if there is one: None, or a text. Only a library takes such a limit."""
     if not isinstance(run, in_process.Runner):
         return None
     limit = chance.choice([1, chance.randrange(1, 100), chance.randrange(1, 3_000)])
@@ -74,7 +76,7 @@ def limited(run, chance, path, verdict):
 
 
 def tried(run, family, seed, folder):
-    """What is wrong with the answers for one seed (None: nothing), and the verdict's code."""
+    """What is wrong with the results for one seed (None: nothing), and the verdict's code."""
     chance = random.Random(f"{family} {seed}")
     paths = [os.path.join(folder, name) for name in ("image", "frames", "sent", "resent")]
     text = os.path.join(folder, "text")

@@ -24,7 +24,7 @@ static int breaks(const char *kind) {
     return 1;
 }
 
-/* whether a byte was written, standard error aside */
+/* whether a byte was written, except to standard error */
 static int has_written;
 
 /* the file that a write failed on; -1: none */
@@ -53,7 +53,7 @@ ssize_t read(int file, void *bytes, size_t count) {
     return syscall(SYS_read, file, bytes, count > 1 && breaks("short-read") ? 1 : count);
 }
 
-/* a file that has failed is written to again, which the mark gets a byte of */
+/* a file that has failed is written to again: a byte is written to the mark */
 static void marks_again(void) {
     int mark = syscall(SYS_openat, AT_FDCWD, getenv("MARK"), O_WRONLY, 0);
     syscall(SYS_write, mark, "", 1);

@@ -1,4 +1,5 @@
-"""The work of break.sh: runs the program under break.c, breaks one call at a time, and compares what it answers."""
+"""The work of break.sh: runs the program under break.c, breaks one call at a time, and compares the
+results."""
 
 import itertools
 import os
@@ -73,7 +74,7 @@ RUNS = [
     ["run", image("pass"), frames("cut"), "made", "--table", "pass.table"],
 ]
 
-# by both machines: packets read behind a test, functions called, a map that grows
+# by both machines: packets that are read after a test, calls of functions, a map that grows
 FEW_RUNS = [[by, image(name), frames(name), "made"] for name in ("echo", "checksum", "allow") for by in ("run", "trace")]
 FEW_RUNS += by_table("echo") + [["recheck", image("pass"), f"{name}.table"] for name in ("step", "successor")]
 
@@ -101,7 +102,7 @@ def runs_of(folder):
 
 
 def records(stream):
-    """The records of a frame stream, as they stand."""
+    """The records of a frame stream, as bytes."""
     found, at, head = [], 4, 24 if stream[:4] == b"XPF2" else 20
     while at + head <= len(stream):
         size = head + struct.unpack_from("<I", stream, at + 16)[0]
@@ -163,8 +164,9 @@ class Answer:
 
 
 def lacks_reason(found, good):
-    """What is known where a text, control flow, a program or an entry of a table is refused is left away, and standard
-    error has the sentence, the place, and of P7 the sentence of its V code."""
+    """What is known at the refusal of a text, of control flow, of a program or of an entry of a
+    table is left out, and standard error has the sentence, the position, and for P7 the sentence of
+    its V code."""
     same = (found.status, found.out, found.made) == (good.status, good.out, good.made)
     lines = good.err.splitlines(keepends=True)
     kept = lines[:2] + (lines[3:4] if good.out.startswith(b"refused P7") else [])
@@ -173,7 +175,8 @@ def lacks_reason(found, good):
 
 
 def lacks_stops(words, found, good):
-    """Where the frames of a trace stopped is left away, and standard error has why the stream ended early."""
+    """Where the runs of a trace stopped is left out, and standard error has why the stream ended
+    early."""
     same = (found.status, found.out, found.made) == (good.status, good.out, good.made)
     lines = good.err.splitlines(keepends=True)
     stops = [k for k, line in enumerate(lines) if line.startswith(b"frame ")]
@@ -198,7 +201,7 @@ def of_read(words, found, good):
     *lines, last = found.out.splitlines()
     of_frames = [line for line in lines if not line.startswith(b"map ")]
     made = found.made or b""
-    # where the magic of the frames was not read, the frames out are of the first form
+    # if the magic of the frames was not read, the frames out are of the first form
     begun = (good.made or b"").startswith(made) or (last == b"fault F5 at 0" and made == b"XPF1")
     begun = begun and good.out.splitlines()[:len(of_frames)] == of_frames
     whole = lines[len(of_frames):] == map_lines(words, len(of_frames))
@@ -223,9 +226,10 @@ ALLOWED = dict(zip(KINDS, (of_memory, of_memory, of_read, of_write, of_write, of
 
 
 def takes_memory_late(words, good):
-    """Whether a run asks for memory once it has written a byte, or answers otherwise where all of it is refused then. What
-    is known of a program that is refused is looked for after the refusal is written, so that is no run; and where the
-    frames of a trace stopped is put into words after the run."""
+    """Whether `run` or `trace` asks for memory once it has written a byte, or has another result if
+    all of it is refused then. What is known of a refused program is looked for after the refusal is
+    written, so refusals are left out; and where the runs of a trace stopped is put into words after
+    them."""
     found = Answer(words, "late-allocs", 1)
     return not lacks_stops(words, found, good) and (found.reached or not found.is_as(good))
 

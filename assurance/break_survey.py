@@ -3,13 +3,13 @@
 
 usage: python3 assurance/break_survey.py [PROGRAM [FOLDER]]
 
-PROGRAM is xdpvm_survey (the default: crates/xdpvm_survey/out/xdpvm_survey). Where an allocation
-fails the status is 5 and standard error says so, or a row says `memory`; or what is known of a
-refusal is left out. Where a read fails its file is named, with status 4 or more, and where a write
-fails the output is, or standard error got less; it is not written to again. Never does it crash,
-and never is an image accepted that is not. With FOLDER it surveys each image there by itself, once
-with proof tables, and looks into it. It needs a C compiler (CC). The last line is
-'N tried, M wrong'. Without FOLDER in the gate.
+PROGRAM is xdpvm_survey (the default: crates/xdpvm_survey/out/xdpvm_survey). If an allocation fails,
+the status is 5 and standard error says so, or a row says `memory`; or what is known of a refusal is
+left out. If a read fails, its file is named, with status 4 or more; if a write fails, the output
+is, or standard error got less; it is not written to again. It never crashes, and never accepts an
+image that `verify` refuses. With FOLDER it surveys each image there by itself, once with proof
+tables, and shows it. It needs a C compiler (CC). The last line is 'N tried, M wrong'. Without
+FOLDER in the gate.
 """
 import os
 import re

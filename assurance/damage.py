@@ -3,12 +3,13 @@
 
 usage: python3 assurance/damage.py [PROGRAM] [--every N] [--versions] [--library FILE]
 
-Images and streams are those of examples/. A cut image is refused; of a changed one nothing is known beforehand, but
-where it is accepted, `run` and `trace` have to agree, with no trap and within the bound. A cut stream gives the lines
-and the frames out of the frames before the cut, and the fault that the cut makes. With --versions an image of version 2
-and small streams of both versions are taken instead, cut at each byte, and each byte with each other value; the report
-and the frames out are judged here. With --every N one in N bytes is taken. Each answer that is not right is printed; the
-last line counts, and the exit status is 1 if there was one. --library is as for fuzz.py.
+Images and streams are those of examples/. A cut image is refused; a changed one may be accepted,
+and then `run` and `trace` have to agree, with no trap and within the bound. A cut stream leads to
+the lines and the frames out of the frames before the cut, and to the fault that the cut makes. With
+--versions an image of version 2 and small streams of both versions are taken instead, cut at each
+byte, and each byte with each other value; the report and the frames out are judged here. With
+--every N one in N bytes is taken. Each wrong result is printed; the last line counts,
+and the exit status is 1 if there was one. --library is as for fuzz.py.
 """
 import argparse
 import glob

@@ -1,14 +1,16 @@
 #!/usr/bin/env python3
-"""Whether the map of the crates fits the tree: compares the files that docs/ARCHITECTURE.md names with those of crates/.
+"""Whether the map of the crates agrees with the tree: compares the files that docs/ARCHITECTURE.md
+names with those of crates/.
 
 usage: python3 assurance/file_map.py [TOP]
 
 A heading that is the name of a crate begins its section. There each file of its specs/ has to be named, in a table whose
 head is "file of `specs/`", or as `specs/NAME` in the text; where it has a table of `src/` files, each file of src/ too.
 Each file that is named has to be there; `NAME/*` is every file of a folder, `NAME*` every one that begins so. A crate has to
-be in the table of crates. Files that only pass on others (lib.rt, Lib.antt, and those beside a folder of their name) need
-no place. What is wrong is printed, with the first line of a file that is missing; the exit status is 1 if anything is.
-TOP is the top of a repository; if it is not given, of this one. In the gate.
+be in the table of crates. Files that only export others (lib.rt, Lib.antt, and those beside a
+folder of their name) need not be named. What is wrong is printed, with the first line of a file
+that is missing; the exit status is 1 if anything is. TOP is the top of a repository; if it is not
+given, of this one. In the gate.
 """
 import fnmatch
 import glob
@@ -22,7 +24,8 @@ FOLDERS = {"src": ".rt", "specs": ".antt", "proofs": ".antt"}
 
 
 def files_of(crate, folder, top):
-    """The files of a crate's folder by their paths without ending, but for those that only pass on others."""
+    """The files of a crate's folder by their paths without ending, except those that only export
+    others."""
     base = os.path.join(top, "crates", crate, folder)
     ending = FOLDERS[folder]
     found = {path[:-len(ending)] for path in glob.glob(f"**/*{ending}", root_dir=base, recursive=True)}

@@ -5,14 +5,15 @@ maps, helpers and functions, and runs those that are accepted on random frames.
 usage: python3 assurance/fuzz.py [PROGRAM] [--programs N] [--seed S] [--jobs J] [--keep FOLDER] [--ways] [--seconds N]
        [--library FILE]
 
-Programs and frame streams are of both versions. Reported is each accepted program that `trace` ends with a trap or
-after more steps than the bound, that `run` and `trace` run differently, whose frames out have other reasons than the
-report says, or that answers no action though it is of version 2; each refusal whose way (the jumps on standard error) is
-not one of the program; and each command that takes more than a minute. The program and its frames are kept in FOLDER. Most
-programs are right by construction up to one or two changes, such as a limit that is off by one, so that about half are
-accepted. The last line counts. The exit status is 1 if anything was reported. With --library a shared library
-(in_process.py says how to make one) answers in this process what it can, some ten times as fast; a job that dies is
-reported with the folder of its last input.
+Programs and frame streams are of both versions. It reports each accepted program that `trace` ends
+with a trap or after more steps than the bound, that `run` and `trace` run differently, whose frames
+out have other reasons than the report says, or that names no action though it is of version 2;
+each refusal whose way (the jumps on standard error) is not one of the program; and each command
+that takes more than a minute. The program and its frames are kept in FOLDER. Most programs are
+right by construction except for one or two changes, such as a limit that is off by one, so that
+about half are accepted. The last line counts. The exit status is 1 if anything was reported. With
+--library a shared library (in_process.py says how to make one) does in this process what it can,
+some ten times as fast; a job that dies is reported with the folder of its last input.
 """
 import argparse
 import collections
@@ -170,7 +171,7 @@ def written(path, data):
 
 
 def tried(run, seed, folder, ways):
-    """What is wrong with the answers for one seed (None: nothing), and the verdict's code."""
+    """What is wrong with the results for one seed (None: nothing), and the verdict's code."""
     maker = Maker(seed)
     paths = [os.path.join(folder, name) for name in ("image", "frames", "sent", "resent")]
     image = maker.program()
@@ -234,7 +235,7 @@ def spread(asked, name, one):
 
 
 def words_of(parser):
-    """The words that fuzz.py and attacks.py share."""
+    """The arguments that fuzz.py and attacks.py share."""
     parser.add_argument("program", nargs="?", type=built, default=os.path.join(HERE, "../crates/xdpvm/out/xdpvm"))
     parser.add_argument("--seed", type=int, default=1)
     parser.add_argument("--jobs", type=int, default=os.cpu_count())

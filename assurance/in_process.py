@@ -1,5 +1,6 @@
-"""The library in this process, for attacks that would else start a process for each question: about a thousand questions a
-second and more. Runner answers words as the program does, by the library where it can.
+"""The library in this process, for attacks that would otherwise start a process for each question:
+about a thousand questions a second and more. Runner does what a command line asks for as the
+program does, by the library if it can.
 
 A shared library is made of the archive (docs/EMBEDDING.md):
 cc -shared -o libxdpvm.so -Wl,--whole-archive libxdpvm_c.a -Wl,--no-whole-archive liblibc_c.a
@@ -28,7 +29,8 @@ CALLS = {
 
 
 def records(stream):
-    """The records of a stream without faults: what stands before the length, the reason, and the bytes."""
+    """The records of a stream without faults: what is before the length, the reason, and the
+    bytes."""
     version = stream[3] - ord("0")
     head, at = HEADS[version], 4
     while at < len(stream):
@@ -119,7 +121,8 @@ class Library:
 
 
 def line_of(image, version, number, packet, ended):
-    """The line of a report for a traced run, and what goes out of it: the reason, or None if the frame does not."""
+    """The line of a report for a traced run, and the reason with which the frame is written out, or
+    None if it is not."""
     r0, steps, kind, reason, _ = ended
     if kind:
         return f"{number} {'TRAP ' + str(reason) if kind == 1 else 'LIMIT 0'} {steps}", None
@@ -176,8 +179,8 @@ def told(status, bound, why):
 
 
 class Runner:
-    """Answers asm, verify, recheck, run and trace by the library; `run` by a table, `trace` of a program with maps, of which
-    the library has no call, and other words by a process."""
+    """Does asm, verify, recheck, run and trace by the library; `run` with a table, `trace` of a
+    program with maps, for which the library has no call, and other commands by a process."""
 
     def __init__(self, path, process):
         self.library, self.process = Library(path), process

@@ -1,5 +1,5 @@
 #!/usr/bin/env python3
-"""Compares many programs with the Linux kernel that runs here: verdicts, and runs of those that both accept.
+"""Compares many programs with the Linux kernel of this machine: verdicts, and runs if both accept.
 
 usage: python3 assurance/kernel_sweep.py SET [--program XDPVM] [--count N] [--seed S] [--plain] [--jobs J] [--keep FOLDER]
        [--name CODE]
@@ -10,12 +10,14 @@ SET is one of
   attacks          programs of assurance/attack_programs.py, N of each family
   arithmetic       each arithmetic instruction, width and operand form, with boundary numbers from the packet and as constants;
                    each byte swap and sign extension; each atomic instruction; each conditional jump
-  maps             each call of helpers 1, 2 and 3 with each flag, on full and empty maps of both kinds
+  maps             each call of helpers 1, 2 and 3 with each flag, on full and empty maps
+                   of both types
 
-A program runs on 20 frames (arithmetic: on each pair of boundary numbers). It is reported where `xdpvm run` and the kernel
-answer another action, leave other bytes in the packet, or other entries in the maps; its image and frames are kept in
-FOLDER. Programs that call helper 5 are not run. Verdicts that differ are counted by the last words of the refusal. With
---name each program that is refused here with that code and accepted by the kernel is named, and kept too.
+A program runs on 20 frames (arithmetic: on each pair of boundary numbers). It is reported if `xdpvm
+run` and the kernel differ in the action, in the packet's bytes or in the key-value pairs of the
+maps; its image and frames are kept in FOLDER. Programs that call helper 5 are not run. Verdicts
+that differ are counted by the last words of the refusal. With --name each program that is refused
+here with that code and accepted by the kernel is named, and kept too.
 """
 import argparse
 import collections
@@ -91,7 +93,8 @@ def attacks(count, seed, program):
                         yield f"{family} {number}", file.read(), frames_of(chance)
 
 
-# r6 and r7 are two numbers of the packet, and r0 goes into it after what is tried; the packet's begin is in r9
+# r6 and r7 are two numbers of the packet, and r0 is written into it after what is tried; the
+# packet's beginning is in r9
 OPENING = [insn(0x61, 9, 1, 0), insn(0x61, 3, 1, 4), insn(0xBF, 4, 9), insn(0x07, 4, imm=40), insn(0xBF, 0, 3),
            insn(0x3D, 3, 4, 2), insn(0xB7, 0, imm=0), insn(0x95), insn(0x79, 6, 9, 0), insn(0x79, 7, 9, 8)]
 CLOSING = [insn(0x7B, 9, 0, 16), insn(0xB7, 0, imm=2), insn(0x95)]

@@ -4,10 +4,11 @@
 usage: python3 assurance/laws.py [--each] [TOP]
 
 Begins with what the code of all crates/*/src names, in contracts and in `ghost use`, and follows each name through the
-definitions and laws of crates/*/specs. A law there that no name leads to is printed, and the exit status is 1. A `module`
-with parameters counts as a whole: where code cites one of its declarations, its laws may stay beside it. With --each they
-count by themselves. The worked examples, crates/*/specs/**/Worked, are laws for their reader, and stay. TOP is the top of
-a repository; if it is not given, of this one. In the gate.
+definitions and laws of crates/*/specs. A law there that no name leads to is printed, and the exit
+status is 1. A `module` with parameters counts as a whole: if code cites one of its declarations,
+its laws may stay beside it. With --each they count by themselves. The worked examples,
+crates/*/specs/**/Worked, are laws for readers, and stay. TOP is the top of a repository; if it
+is not given, of this one. In the gate.
 """
 import argparse
 import glob
@@ -34,7 +35,7 @@ class Cited(Base):
         return places | {Place(place.file, name) for place in places for name in place.file.beside(place.name)}
 
     def laws(self):
-        """Each law of specs/ but the worked examples, and whether code rests on it."""
+        """Each law of specs/ except the worked examples, and whether code rests on it."""
         needed = {(place.file.path, place.name) for place in self.found}
         for file in self.modules.values():
             if "/Worked/" not in file.path:

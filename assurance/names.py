@@ -3,7 +3,7 @@
 
 A type or trait is one of `src/`; a relation is a definition of `specs/` whose name begins with a
 capital letter, worked examples aside. Test crates export nothing. Prints each name that SHARED
-does not explain, with the files that declare it. The status is 0, or 1 where there is one. In the
+does not explain, with the files that declare it. The status is 0, or 1 if there is one. In the
 gate."""
 import collections
 import glob

@@ -1,12 +1,13 @@
 #!/usr/bin/env python3
-"""Sees that `recheck` accepts what `prove` writes, with the bound of `verify`, and that damaged tables are refused or true.
+"""Tests that `recheck` accepts what `prove` writes, with the bound of `verify`, and that damaged
+tables are refused or true.
 
 usage: python3 assurance/proofs.py [--program XDPVM] [--random N] [--damages N] [--seed S] [--library FILE] [IMAGE|FOLDER ..]
 
-Proved are the images and the folders of images that are given (those of examples/ if none is), N programs of
-assurance/random_programs.py in either version, and programs that keep a value of each kind on the stack and have eight
-call frames. For each accepted one `prove`, `recheck` and `verify` have to say the same bound; where `verify` refuses
-one, `prove` has to say the same, and make no file.
+It proves the images and the folders of images that are given (those of examples/ if none is), N
+programs of assurance/random_programs.py in either version, and programs that keep a value of each
+kind on the stack and have eight call frames. For each accepted one `prove`, `recheck` and `verify`
+have to say the same bound; if `verify` refuses one, `prove` has to say the same, and make no file.
 
 Of each table of up to 200,000 bytes N times an entry is dropped, two entries are swapped, a number is lowered or raised,
 a register or a slot of the stack is widened or narrowed, alone or wherever it holds the same value, a successor leads to
@@ -14,8 +15,9 @@ another entry, an identity is renamed, an entry is there twice and half of its p
 frame is there twice or gone, or registers, call frames, slots or whole entries of another entry or of another program's
 table are taken; or the table is given to a program where one instruction differs. A table that `recheck` accepts then has
 to be true: the program runs by it on six random frames as `trace` runs it, with no trap and no more steps than its bound.
-Where the program is refused by `verify`, each table that is accepted is told too. The last line counts, also after an
-interrupt; the exit status is 1 if anything was wrong. --library is as for fuzz.py.
+If the program is refused by `verify`, each table that is accepted is reported too. The last line
+counts, also after an interrupt; the exit status is 1 if anything was wrong. --library is as for
+fuzz.py.
 """
 import argparse
 import collections
@@ -56,7 +58,7 @@ def copied(entry):
 
 
 def own(chance, entries, which=lambda entry: True):
-    """Some entry, which may be changed: it is a copy. None: there is no such one."""
+    """Some entry, which may be changed: it is a copy. None: there is none."""
     places = [at for at, entry in enumerate(entries) if which(entry)]
     if not places:
         return None
@@ -80,13 +82,13 @@ def lowered(chance, entries):
 
 
 def places(entry):
-    """The registers and slots of an entry that hold a value: the list, and the place."""
+    """The registers and slots of an entry that hold a value: the list, and the index."""
     return [(values, at) for frame in entry.frames for values in (frame.registers, frame.slots) for at, value in enumerate(values)
             if value[0] not in ("unset", "bytes")]
 
 
 def changed_value(chance, entries, change, alone=0.6):
-    """A value of some entry that is changed there, or in all entries that hold it in this place."""
+    """A value of some entry that is changed there, or in all entries that hold it at this index."""
     entry = own(chance, entries)
     given = places(entry)
     if not given:
@@ -181,13 +183,14 @@ def redirected(chance, entries):
 
 
 def names(frame):
-    """The registers and slots of a call frame that name an identity: the list, the place, and where in the value it is."""
+    """The registers and slots of a call frame that name an identity: the list, the index, and where
+    in the value it is."""
     return [(values, at, 2) for values in (frame.registers, frame.slots) for at, value in enumerate(values)
             if value[0] in ("packet", "null")]
 
 
 def renamed(chance, entries):
-    """An identity that is another one, in one place of an entry or in all."""
+    """An identity that is another one, once in an entry or everywhere in it."""
     entry = own(chance, entries, lambda entry: any(names(frame) for frame in entry.frames))
     places = [place for frame in (entry.frames if entry else []) for place in names(frame)]
     if places:

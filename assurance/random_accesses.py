@@ -3,7 +3,8 @@ TESTS = {"==": 1, ">": 2, ">=": 3, "&": 4, "!=": 5, "s>": 6, "s>=": 7, "<": 10, 
 LOADS = [(0x71, 1), (0x69, 2), (0x61, 4), (0x79, 8), (0x91, 1), (0x89, 2), (0x81, 4)]
 STORES = {1: 0x73, 2: 0x6B, 4: 0x63, 8: 0x7B}
 FETCHES = [0x00, 0x40, 0x50, 0xA0, 0x01, 0x41, 0x51, 0xA1, 0xE1, 0xF1]
-MAPS = [(1, 4, 8, 2), (2, 4, 16, 3), (1, 8, 24, 4), (2, 4, 1, 1)]       # kind (1 hash, 2 array), key, value, entries
+# type (1 hash, 2 array), key size, value size, max_entries
+MAPS = [(1, 4, 8, 2), (2, 4, 16, 3), (1, 8, 24, 4), (2, 4, 1, 1)]
 CONTEXT, NUMBER, END = ("context",), ("number",), ("end",)
 
 
@@ -50,7 +51,7 @@ class Accesses:
         self.leave(out)
 
     def move_packet(self, begin, keep):
-        """The pointer moves by a number, and so much less is proved after it."""
+        """The pointer moves by a number, and that many fewer bytes are proved after it."""
         _, length, fixed = self.state.registers[begin]
         part, size = self.a_number(keep), self.random.choice([1, 3, 8, 64])
         self.limit(part, size)
@@ -122,7 +123,7 @@ class Accesses:
         self.state.registers[0] = NUMBER
 
     def keep_context(self):
-        """Before a call, the context goes to a register that is kept."""
+        """Before a call, the context is copied to a register that is kept."""
         context = self.state.having("context")
         if context and context[0] < 6:
             self.move(self.random.choice([6, 7, 8, 9]), context[0])

@@ -1,6 +1,7 @@
-"""Random BPF programs as images, for fuzz.py: Maker(seed).program() is one. A program is right by construction, for it
-is made from what each register and stack slot holds, up to some slips: a limit that is off by one, a test of the other
-sign or width, a pointer used after what it points to is gone, one or two instructions changed at the end."""
+"""Random BPF programs as images, for fuzz.py: Maker(seed).program() is one. A program is right by
+construction, since it is made from what each register and stack slot holds, except for some
+mistakes: a limit that is off by one, a test of the other sign or width, a pointer used after what
+it points to is gone, one or two instructions changed at the end."""
 import random
 import struct
 
@@ -57,7 +58,7 @@ class Maker(Accesses):
         return self.random.choice(NUMBERS) if self.random.random() < 0.8 else self.random.randrange(-2**31, 2**31)
 
     def slip(self, chance=0.05):
-        """Whether to do what may be wrong here."""
+        """Whether to make a mistake here."""
         return self.random.random() < chance
 
     def set(self, r, number):
@@ -119,7 +120,7 @@ class Maker(Accesses):
         self.state.registers[r] = NUMBER
 
     def test(self):
-        """If, with or without else; what is known after it is what both sides know."""
+        """If, with or without else; what is known after it is what is known on both branches."""
         r, name = self.a_number(), self.random.choice(list(TESTS))
         other, after, wide = self.label(), self.label(), self.random.random() < 0.6
         if self.random.random() < 0.4:
@@ -259,7 +260,8 @@ class Maker(Accesses):
                     row[field] = self.labels[row[field]] - at - 1
 
     def change(self):
-        """One small change, as a slip of the pen would make it, of a field that the instruction has."""
+        """One small change of a field that the instruction has, as a typing mistake would make
+        it."""
         at = self.random.randrange(len(self.code))
         row = self.code[at]
         kind, register, near = row[0] & 7, self.random.randrange(10), self.random.choice([-1, 1])

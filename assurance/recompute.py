@@ -7,8 +7,8 @@ The functions of this script are written from the text of RFC 9669 (sections 4.1
 the definitions. It computes arithmetic, comparisons, sign extension and byte order on numbers at the ends of their
 ranges, whole runs of random programs over numbers and the stack, and the answers and contents of maps after lists of
 commands; writes them as equations into a crate of its own beside isa_model; and has `rt check` decide each of them. The
-exit status is rt's. An equation that is changed is refused (--keep leaves the crate to try that). Takes some three
-processor minutes where isa_model is proved. Run by hand.
+exit status is rt's. An equation that is changed is refused (--keep leaves the crate to try that).
+Takes some three processor minutes if isa_model is proved. Run by hand.
 """
 import argparse
 import os
@@ -95,7 +95,8 @@ def byte_order(order, bits, n):
 
 
 class Map:
-    """A map as bpf(2) tells it: keys and values are tuples of bytes. Errors are numbers of 64 bits."""
+    """A map as bpf(2) describes it: keys and values are tuples of bytes. Errors are numbers of 64
+    bits."""
 
     ERRORS = {"ENOENT": 2, "E2BIG": 7, "EEXIST": 17, "EINVAL": 22}
 
@@ -151,7 +152,7 @@ class Equations:
         self.numbers += numbers
 
     def write(self, folder):
-        """Writes the files, and gives their names."""
+        """Writes the files, and returns their names."""
         names = []
         for at in range(0, len(self.rows), PER_FILE):
             name = f"{self.name}{at // PER_FILE}"
@@ -318,7 +319,8 @@ class Run:
         self.do(f"insn.Load {size} R{r} (below R10 {64 - at})", lambda: self.set(r, self.get(at, self.SIZES[size])), skip)
 
     def instruction(self, skip, left):
-        """Makes one more, which is run unless a jump skips it. Gives how many are skipped after it."""
+        """Makes one more, which is run unless a jump skips it. Returns how many are skipped after
+        it."""
         r, q, width = self.any(), self.any(), self.chance.choice(list(WIDTHS))
         form = self.chance.randrange(9)
         if form < 3:
@@ -376,7 +378,7 @@ class Run:
                 self.set(r, old)
 
     def jump(self, r, width, by, skip):
-        """A jump forward over some instructions: gives how many are skipped."""
+        """A jump forward over some instructions; returns how many are skipped."""
         op, (number, text) = self.chance.choice(CONDITIONS), self.operand()
         test = f"record {{ width = {width}; comparison = {op}; register = R{r}; operand = {text} }}"
         goes = not skip and condition(op, WIDTHS[width], self.registers[r], number)

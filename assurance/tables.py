@@ -1,14 +1,16 @@
 #!/usr/bin/env python3
-"""Damages proof tables, and compares what `xdpvm recheck` answers with a judge that is written here.
+"""Damages proof tables, and compares the verdicts of `xdpvm recheck` with a judge that is written
+here.
 
 usage: python3 assurance/tables.py PROGRAM [--random N] [--seed S] [--few N]
 
 PROGRAM is an optimized `xdpvm`. Each byte of the table of `r0 = 2; exit` is changed to each other value, and the table
-is cut after each byte: the answer must be the judge's, but for the step's own refusal after P7. Then N tables (20,000)
-of larger programs of tools/ and bench/ are damaged at random: by changed bytes, by bytes taken out or put in, by a cut,
-or by an entry that is there twice. Their form and fields are judged. Each table that is accepted must run its program as
-`run` does without a table, and its bound must not be below the steps that were made.
-With --few only every N-th of the changed tables is tried. The exit status is 0 if nothing differs.
+is cut after each byte: the verdict must be the judge's, except for the step's own refusal after P7.
+Then N tables (20,000) of larger programs of tools/ and bench/ are damaged at random: by changed
+bytes, by bytes taken out or put in, by a cut, or by an entry that is there twice. Their form and
+fields are judged. Each table that is accepted must run its program as `run` does without a table,
+and its bound must not be below the steps that were made. With --few only every N-th of the changed
+tables is tried. The exit status is 0 if nothing differs.
 """
 import argparse
 import collections
@@ -40,7 +42,8 @@ FRAMES = b"XPF1" + b"".join(struct.pack("<QIII", at, 1, 0, size) + bytes(size) f
 # ---- the judge
 
 def allowed(value, holder, rows):
-    """Whether the fields of a value may be so, in that frame of a program with so many map rows."""
+    """Whether the fields of a value are allowed, in that call frame of a program with this many map
+    rows."""
     name, *fields = value
     if name == "number":
         known, mask, *limits = fields
@@ -94,14 +97,14 @@ def slot_covers(one, other):
 
 
 def covers(slot, frames, other_slot, others):
-    """Whether a state of one frame covers another of one frame."""
+    """Whether a state of one call frame covers another of one call frame."""
     one, other = frames[0], others[0]
     return (slot == other_slot and len(frames) == len(others) == 1 and one.leads == other.leads
             and all(map(value_covers, one.registers, other.registers)) and all(map(slot_covers, one.slots, other.slots)))
 
 
 def judged_small(data):
-    """What is answered of a table of `r0 = 2; exit`."""
+    """The verdict on a table of `r0 = 2; exit`."""
     try:
         entries = read(data, {0, 1}, 0)
     except Refused as refused:

@@ -1,12 +1,13 @@
 #!/usr/bin/env python3
-"""What a terminal is shown of work that takes over a second.
+"""What a terminal shows of work that takes over a second.
 
 usage: python3 assurance/terminal.py [PROGRAM]
 
-The frames of a run come through a pipe, the last one after more than a second. Where standard error is a terminal and
-standard output none, the terminal is shown how much was read, and in the end that is cleared; else standard error gets
-nothing. The report is the same each time. PROGRAM is the program that `rt run` leaves in crates/xdpvm (the default:
-crates/xdpvm/out/xdpvm). The exit status is 0 if it is so, 1 if not, and 77 where there are no terminals.
+The frames of a run come through a pipe, the last one after more than a second. If standard error is
+a terminal and standard output is not, the terminal shows how much was read, and at the end that is
+cleared; otherwise standard error gets nothing. The report is the same each time. PROGRAM is the
+program that `rt run` leaves in crates/xdpvm (the default: crates/xdpvm/out/xdpvm). The exit status
+is 0 if it is so, 1 if not, and 77 if there are no terminals.
 """
 import os
 import subprocess
@@ -34,7 +35,7 @@ def run(folder, output, error):
 
 
 def shown(terminal):
-    """What a terminal was given, whose other end is closed."""
+    """What was written to a terminal whose other end is closed."""
     data = b""
     try:
         while more := os.read(terminal, 4096):

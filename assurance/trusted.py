@@ -3,10 +3,11 @@
 
 usage: python3 assurance/trusted.py [--print]
 
-Begins with the names in the clauses that carry the promise (`host::run`, what is so of every `Verified`, and what
-`recheck` says of the `Verified` that it answers), and follows each name through the definitions of all crates/*/specs
-to the definitions, and to the types and constants of crates/*/src. With --print the rows are printed as the page has
-them. The exit status is 0, or 1 where the page's rows differ. In the gate.
+Begins with the names in the clauses that state the promise (`host::run`, what holds of every
+`Verified`, and what `recheck` says of the `Verified` that it returns), and follows each name
+through the definitions of all crates/*/specs to the definitions, and to the types and constants of
+crates/*/src. With --print the rows are printed as the page has them. The exit status is 0, or 1 if
+the page's rows differ. In the gate.
 """
 import collections
 import os

@@ -50,7 +50,7 @@ int main(int count, char **words) {
             double start = now(), end;
             uint32_t status;
             do {
-                /* the clock is asked seldom where a call takes less than asking */
+                /* the clock is read seldom if a call takes less time than reading it */
                 for (int k = which == 4 ? 1000 : 1; k > 0; k--, calls++) status = call(which);
                 end = now();
             } while (end - start < atof(words[1]));

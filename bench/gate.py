@@ -4,9 +4,10 @@
 usage: python3 bench/gate.py [--most N] [--to FILE] [COMMAND ..]      (the default: rt ci)
 
 The seconds are those of the provers (user and system), by crate: its code, its tests, and its must-fail edits, and the
-greatest memory of one of them. They are read from /proc twice a second, so a prover loses half a second at most. The
-command's output goes through, and its status is the script's. --most: only the N dearest crates; --to: the table goes
-into a file. With `taskset -c 0,1` in front it all runs on two cores. In the gate: `.ci/run` prints the ten dearest.
+greatest memory of one of them. They are read from /proc twice a second, so a prover loses half a
+second at most. The command's output is passed on, and its status is the script's. --most: only the
+N crates that took most; --to: the table is written to a file. With `taskset -c 0,1` in front it all
+runs on two cores. In the gate: `.ci/run` prints the ten crates that took most.
 """
 import argparse
 import os
@@ -57,7 +58,7 @@ def sample(seen, root):
 
 
 def table(seen, seconds, most):
-    """The lines of the table: a row a crate, the dearest first, and their sum."""
+    """The lines of the table: a row for each crate, the one that took most first, and their sum."""
     crates, peaks = {}, {}
     for (crate, kind, _), (spent, peak) in seen.items():
         crates.setdefault(crate, dict.fromkeys(KINDS, 0))[kind] += spent

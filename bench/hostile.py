@@ -1,13 +1,14 @@
 #!/usr/bin/env python3
-"""Runs `verify` on images that are made to keep it long or to take much memory.
+"""Runs `verify` on images that are made to keep it busy or to take much memory.
 
 usage: python3 bench/hostile.py [PROGRAM [FAMILY ..]]
 
 PROGRAM is an optimized xdpvm (the default: crates/xdpvm/out/xdpvm). Each family is a few images up to the limits of an
-image: 4,096 slots, 8 call frames, 64 slots of 8 bytes in each frame, 16 maps. For each image it prints the processor
-seconds and the peak megabytes of `verify`, which searches a second time where it refuses, and its verdict. A run that
-takes longer than LIMIT seconds (the default: 60) or more than ROOM megabytes (4000) is ended. The exit status is 1 if
-an image took over 10 seconds or 300 megabytes.
+image: 4,096 slots, 8 call frames, 64 stack slots in each call frame, 16 maps. For each image it
+prints the processor seconds and the peak megabytes of `verify`, which searches a second time if it
+refuses, and its verdict. A run that takes longer than LIMIT seconds (the default: 60) or more than
+ROOM megabytes (4000) is ended. The exit status is 1 if an image took over 10 seconds or 300
+megabytes.
 """
 import os
 import resource
@@ -46,8 +47,8 @@ def diamonds(count, then, number="r2"):
 
 
 def below_frames(depth, spills, body, read):
-    """The body in the innermost one of so many frames, each of which has unknown numbers on its stack, and may read them
-    after its call. The context is handed down in r1."""
+    """The body in the innermost one of this many call frames, each of which has unknown numbers on
+    its stack, and may read them after its call. The context is passed in r1."""
     lines = []
     after = [f"r3 = *(u64 *)(r10 - {8 + 8 * slot})" for slot in range(spills)] if read else []
     for level in range(depth - 1):
@@ -73,7 +74,7 @@ END = ["r0 = 2", "exit"]
 
 
 def growing(step, test, extra=()):
-    """A loop whose states differ in limits alone: it comes to no end within the limit."""
+    """A loop whose states differ only in limits: it is not explored to its end within the limit."""
     return (START + unknown("r8") + ["r4 = 0"] + list(extra) + ["loop: r5 = *(u32 *)(r9 + 16)", "if r5 & 1 goto +1", "r8 += 1"]
             + step + test + END)
 

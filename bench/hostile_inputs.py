@@ -1,14 +1,14 @@
 #!/usr/bin/env python3
-"""Runs the other commands on inputs that are made to keep them long or to take much memory; bench/hostile.py has those
-of `verify`.
+"""Runs the other commands on inputs that are made to keep them busy or to take much memory;
+bench/hostile.py has those of `verify`.
 
 usage: python3 bench/hostile_inputs.py [PROGRAM [FAMILY ..]]
 
 PROGRAM is an optimized xdpvm (the default: crates/xdpvm/out/xdpvm). The families are texts of `asm`, images of `dis`,
-tables of `recheck`, maps whose keys all stand in one chain, and captures of tools/frames.py. For each input it prints the
-size, the processor seconds, the peak megabytes and the last line. A run that takes longer than LIMIT seconds (the default:
-120) is ended. The exit status is 1 if one ended by a signal or, without a limit having passed, by a status that is none of
-the program's.
+tables of `recheck`, maps whose keys are all in one chain, and captures of tools/frames.py. For each
+input it prints the size, the processor seconds, the peak megabytes and the last line. A run that
+takes longer than LIMIT seconds (the default: 120) is ended. The exit status is 1 if one ended by a
+signal or, without a limit having passed, by a status that is not one of the program's.
 """
 import os
 import resource
@@ -69,7 +69,7 @@ def images():
 
 
 def full_frame(numbers):
-    """A call frame whose stack slots are all numbers with every limit told."""
+    """A call frame whose stack slots are all numbers with all their limits."""
     frame = table.Frame()
     frame.registers[6:] = [table.any_number()] * 4
     frame.slots = [table.constant(at) if numbers else ("bytes", 255) for at in range(64)]
@@ -77,7 +77,7 @@ def full_frame(numbers):
 
 
 def tables():
-    """Tables for `recheck`, of entries as great as there are."""
+    """Tables for `recheck`, with the longest entries that there are."""
     write("text", "r0 = 2\nexit\n")
     asked("asm", "text", "image")
     deep = table.Entry(2, 0, [1])
@@ -204,7 +204,7 @@ out: r0 = 1; exit
 
 
 def chains():
-    """Maps whose keys all stand in one chain, beside keys that do not."""
+    """Maps whose keys are all in one chain, beside keys that are not."""
     size = 16
     for count in 4096, 16384, 65536:
         copies = "".join(f"r3 = *(u64 *)(r6 + {at}); *(u64 *)(r10 - {size - at}) = r3\n" for at in range(0, size, 8))

@@ -1,6 +1,6 @@
 #!/usr/bin/env python3
-"""What `trace` takes for frames that each add a key, beside frames that each write a key that is there: the numbers of
-values begin anew in each frame, so what a frame changed has to be numbered.
+"""What `trace` takes for frames that each add a key, beside frames that each write a key that is
+there: the values are numbered anew in each frame, so what a frame changed has to be numbered.
 
 usage: python3 bench/keys.py PROGRAM [FRAMES ..]
 

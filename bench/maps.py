@@ -1,12 +1,13 @@
 #!/usr/bin/env python3
-"""Measures maps: look-ups of present and of absent keys, and updates, in a hash map of 65,536 entries of 4-byte keys
-and 8-byte values, beside a hash table of chains in C (bench/chains.c, gcc -O2), and the making of a map of 16 MiB.
+"""Measures maps: look-ups of present and of absent keys, and updates, in a hash map of 65,536 keys
+of 4 bytes with values of 8 bytes, beside a hash table of chains in C (bench/chains.c, gcc -O2), and
+the making of a map of 16 MiB.
 
 usage: python3 bench/maps.py
 
-The program in Rattle, bench/maps.text, is proved and built as a crate of a copy of this repository, which goes at the
-end; what the crates below it keep in out/ is copied too. bench/maps_rows.text is its one proof. Each figure is the
-best of three runs, which take turns.
+The program in Rattle, bench/maps.text, is proved and built as a crate of a copy of this repository,
+which is removed at the end; what the crates below it keep in out/ is copied too.
+bench/maps_rows.text is its one proof. Each figure is the best of three runs, which take turns.
 """
 import os
 import shutil

@@ -3,10 +3,11 @@
 
 usage: cd crates/NAME; rm -rf out/incremental; rt check --jobs 1; python3 ../../bench/modules.py [FOLDER] [COUNT]
 
-The prover saves each module as it ends with it, below out/incremental (the default folder); the time of a module is the
-time since the one before it was saved. A function has several: `Lts` is its body followed step by step, and grows with the
-values that are alive where it can end early; `Proof` is what the tactics found for its goals; `Answers` is what its answer
-file cites. COUNT is how many lines are wanted, by default 30. A sum for each kind comes last.
+The prover saves each module when it has proved it, below out/incremental (the default folder); the
+time of a module is the time since the one before it was saved. A function has several: `Lts` is its
+body followed step by step, and grows with the values that are alive where it can end early; `Proof`
+is what the tactics found for its goals; `Answers` is what its answer file cites. COUNT is how many
+lines are wanted, by default 30. A sum for each kind comes last.
 """
 import collections
 import os

@@ -5,9 +5,9 @@ on the tables that `xdpvm prove` makes of other programs, beside `verify` of the
 usage: python3 bench/recheck.py [PROGRAM]
 
 PROGRAM is the program that `rt run` leaves in crates/xdpvm (the default: crates/xdpvm/out/xdpvm). All seconds are
-processor seconds of one process, and each figure is the least of TIMES runs (the default is 5) which take turns. What
-`recheck` takes to refuse the table's bytes one short, which reads the file and passes over the entries once, stands
-beside it.
+processor seconds of one process, and each figure is the least of TIMES runs (the default is 5)
+which take turns. Beside it is the time in which `recheck` refuses the table without its last byte,
+which reads the file and passes over the entries once.
 """
 import os
 import struct

@@ -6,9 +6,9 @@ usage: python3 bench/run.py [PROGRAM ..]
 
 PROGRAM is the program that `rt run` leaves in crates/xdpvm (the default: crates/xdpvm/out/xdpvm); several can be
 compared. All seconds are processor seconds of one process, and each figure is the least of TIMES runs (the default is
-5), which take turns: a program on its frames, on none, and the next program. A start is taken off only where each run
-on the frames took longer than each run on none; else there is no figure. Files are made in a folder of its own, which
-goes at the end.
+5), which take turns: a program on its frames, on none, and the next program. The start is
+subtracted only if each run on the frames took longer than each run on none; else there is no
+figure. Files are made in a folder of its own, which is removed at the end.
 """
 import os
 import struct
@@ -36,7 +36,7 @@ def straight(slots):
 
 
 def stack_loop(turns):
-    """3 + 4 * turns instructions on one path: the counter lives on the stack."""
+    """3 + 4 * turns instructions on one path: the counter is on the stack."""
     return (
         "*(u64 *)(r10 - 8) = 0\nloop: r1 = *(u64 *)(r10 - 8)\nr1 += 1\n*(u64 *)(r10 - 8) = r1\n"
         f"if r1 < {turns} goto loop\nr0 = 2\nexit\n"
@@ -45,8 +45,8 @@ def stack_loop(turns):
 
 def functions():
     """200 calls of a function of 20 slots, each with the same arguments: by the program, and by six functions that call
-    one another, so that 8 frames are live in the last ones. 20 instructions of each are explored, 18 on the longer side
-    of its test."""
+    one another, so that 8 call frames are live in the last ones. 20 instructions of each are
+    explored, 18 on the longer side of its test."""
     lines = ["r6 = *(u32 *)(r1 + 12)"]
     for depth in range(7):
         if depth > 0:
@@ -76,7 +76,8 @@ def branches(count):
 
 
 def sinking():
-    """A loop of which no end can be seen, through states that differ in a number's signed limits alone."""
+    """A loop whose end the verifier cannot see, through states that differ only in a number's
+    signed limits."""
     return "r8 = 0\nloop: r5 = *(u32 *)(r1 + 12)\nr8 -= r5\nr8 += 1\nif r8 != 8 goto loop\nr0 = 1\nexit\n"
 
 
@@ -122,12 +123,12 @@ def in_turn(commands):
 
 
 def without_start(starts, wholes):
-    """What the frames took, or nothing where it is less than what one start differs from another."""
+    """What the frames took, or nothing if it is less than two starts differ."""
     return min(wholes) - min(starts) if min(wholes) > max(starts) else None
 
 
 def name_of(program):
-    """What tells a program from the others, if there are others."""
+    """The name of a program, if there are others."""
     return os.path.basename(program) if len(PROGRAMS) > 1 else ""
 
 
@@ -154,7 +155,8 @@ def plain_c(image, stream):
 
 
 def rates(name, command, program, steps, count, seconds, c_seconds):
-    """A line: the seconds, the steps and the frames a second, where the frames took long enough to tell."""
+    """A line: the seconds, the steps and the frames a second, if the frames took long enough to
+    measure."""
     each = ["too short", "-", "-", "-"]
     if seconds is not None:
         each = [f"{seconds:.3f}", f"{steps / seconds:.3g}" if steps else "-", f"{count / seconds:.3g}"]

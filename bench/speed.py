@@ -1,8 +1,9 @@
 #!/usr/bin/env python3
 """Compares a step of `run` and of `trace` with one of a plain interpreter in C (bench/switch.c, gcc -O2), on nine
 programs: by processor seconds, less the start and those of a program that exits at once, on the same frames. The same
-interpreter is also built with computed goto, as a column of its own, and so is DPDK's interpreter, where pkg-config knows
-DPDK (libdpdk, Debian's libdpdk-dev). Its loader refuses loops, so most programs have no figure there.
+interpreter is also built with computed goto, as a column of its own, and so is DPDK's interpreter,
+if pkg-config knows DPDK (libdpdk, Debian's libdpdk-dev). Its loader refuses loops, so most programs
+have no figure there.
 
 usage: python3 bench/speed.py PROGRAM [PROGRAM ..]
 
@@ -182,8 +183,8 @@ def mixed(slots):
 
 
 def branches():
-    """Ten branches on the bytes of each of 64 packets in a frame. What was added up goes into a number of which nothing
-    is known, so that a turn begins in the state of the one before."""
+    """Ten branches on the bytes of each of 64 packets in a frame. The sum goes into a number of
+    which nothing is known, so that a turn begins in the state of the one before."""
     lines = ["r2 = *(u32 *)(r1 + 0)", "r3 = *(u32 *)(r1 + 4)", "r9 = *(u32 *)(r1 + 16)", "r8 = 0"]
     lines += ["again: r4 = r2", "r4 += 64", "if r4 > r3 goto done", "r0 = 0"]
     for place, limit in enumerate([110, 255, 56, 116, 30, 33, 160, 97, 15, 128]):
@@ -213,7 +214,7 @@ def plain(count):
 
 
 def packaged(what):
-    """What pkg-config says of DPDK, as words for gcc, or None where it does not know it."""
+    """What pkg-config says of DPDK, as arguments for gcc, or None if it does not know DPDK."""
     try:
         ended = subprocess.run(["pkg-config", what, "libdpdk"], stdout=subprocess.PIPE, stderr=subprocess.DEVNULL, text=True)
     except FileNotFoundError:
@@ -222,7 +223,7 @@ def packaged(what):
 
 
 def built():
-    """Builds the interpreters in C, each in all layouts, and answers their names."""
+    """Builds the interpreters in C, each in all layouts, and returns their names."""
     kinds = {kind: (flags, []) for kind, flags in INTERPRETERS.items()}
     flags, libraries = packaged("--cflags"), packaged("--libs")
     if flags is None or libraries is None:

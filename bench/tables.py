@@ -5,8 +5,8 @@ usage: python3 bench/tables.py [PROGRAM]
 
 PROGRAM is the program that `rt run` leaves in crates/xdpvm (the default: crates/xdpvm/out/xdpvm). All seconds are
 processor seconds of one process, start included, and each figure is the least of TIMES runs (the default is 5), which
-take turns. An entry is an instruction that `verify` explores. Files are made in a folder of its own, which goes at the
-end.
+take turns. An entry is an instruction that `verify` explores. Files are made in a folder of its
+own, which is removed at the end.
 """
 import os
 import subprocess

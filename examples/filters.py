@@ -3,15 +3,15 @@
 
 usage: python3 examples/filters.py [PROGRAM] [--clang COMPILER] [--only WORD]
 
-The first line of a filter says what has to come of it, by its source and the frames:
+The first line of a filter says what the result has to be, by its source and the frames:
 
     ok: 6 PASS, 2 DROP      it is accepted, and this many frames have each action
     refused V4              it is refused so, and the slot's line of the source is shown
     says: PATTERN           it becomes no image, and the message is this one
 
-A line `flags: ..` has flags for the compiler, `words: ..` words for xdp.py, `gcc: ..` what has to come of it by bpf-gcc.
-Sources in C are left out where there is no compiler. A word about the kernel was tried by tools/kernel.py. The exit status
-is 1 if anything else came of a filter.
+A line `flags: ..` has flags for the compiler, `words: ..` words for xdp.py, `gcc: ..` what the
+result has to be by bpf-gcc. Sources in C are left out if there is no compiler. A remark about the
+kernel was tried by tools/kernel.py. The exit status is 1 if a filter has another result.
 """
 import argparse
 import glob
@@ -28,7 +28,7 @@ SECONDS = 600
 
 
 def line_of(text, name):
-    """The words after a name in the comments of a source."""
+    """The text after a name in the comments of a source."""
     found = re.search(rf"^(?:#|/\*) {name}:? (.*?)(?: \*/)?$", text, re.M)
     return found[1] if found else None
 
@@ -38,7 +38,7 @@ def counts(line):
 
 
 def wrong(path, given):
-    """What is wrong with the answer for a filter: None, or a text."""
+    """What is wrong with the result for a filter: None, or a text."""
     with open(path) as file:
         text = file.read()
     with tempfile.TemporaryDirectory() as folder:

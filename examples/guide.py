@@ -1,5 +1,6 @@
 #!/usr/bin/env python3
-"""Runs every example of README.md and docs/*.md, and prints each that answers something else than the page says.
+"""Runs every example of README.md and docs/*.md, and prints each whose result is not what the page
+says.
 
 usage: python3 examples/guide.py [PROGRAM [SURVEY]]
 
@@ -21,11 +22,12 @@ The last six begin with a comment: the line of standard output, and after it wha
 `asm` counts as the answer. In hexadecimal `#` begins a comment. Blocks with any other word, or with none, are not
 tried. Each examples/NAME.text has to make NAME.image, each NAME.bpf.c too where clang 14 is installed, each NAME.table
 is what `prove` writes for NAME.image, and each NAME.report is what `run` prints for NAME.image and NAME.frames, into a
-pipe and into a file. The last rows read crates.txt, the crates and the pages: what `run` and `recheck` build on, that the
-clauses which pages name are there, that each crate has its row, and that each link leads somewhere.
-Each NAME.frames is what frames.py makes of NAME.pcapng, where there is one; frame streams of both forms become texts
-and captures, and those the same streams again. Each filter of examples/filters is answered as it says (filters.py).
-The exit status is 0 if every answer is the one wanted, else 1.
+pipe and into a file. The last rows read crates.txt, the crates and the pages: what `run` and
+`recheck` depend on, that the clauses which pages name exist, that each crate has its row, and that
+each link leads somewhere. Each NAME.frames is what frames.py makes from NAME.pcapng, if there is
+one; frame streams of both forms become texts and captures, and those the same streams again. Each
+filter of examples/filters is answered as it says (filters.py). The exit status is 0 if every result
+is the one wanted, else 1.
 """
 import argparse
 import glob
@@ -73,7 +75,7 @@ def write_hex(name, text):
 
 
 def assembled(text):
-    """The refusal of `asm`, or None where it made example.image."""
+    """The refusal of `asm`, or None if it made example.image."""
     write("example.text", text)
     status, answer, why = run("asm", "example.text", "example.image")
     return answer + why if status else None
@@ -97,13 +99,13 @@ def rechecked(kind, body):
 
 
 def traced():
-    """The line of the first frame, and what is told of it."""
+    """The line of the first frame, and what standard error says of it."""
     status, report, why = run("trace", "example.image", "examples/two.frames", "sent")
     return line(report, 0) + why.split("frame 1,")[0]
 
 
 def answer_of(kind, body):
-    """What the program answers to a block whose first comment says what is wanted."""
+    """The result for a block whose first comment says what is wanted."""
     if kind == "program":
         return assembled(body) or verified()
     if kind == "trace":
@@ -119,7 +121,7 @@ def answer_of(kind, body):
 
 
 def tries(kind, body):
-    """The examples of a block: what is tried, what is wanted, and what is answered."""
+    """The examples of a block: what is tried, what is wanted, and the result."""
     if kind.endswith(".text"):
         write(kind, body)
     elif kind == "console" and ("xdpvm_survey" not in body or os.path.exists(SURVEY)):
@@ -148,7 +150,8 @@ def proved():
 
 
 def compiled():
-    """Each stored image of a source in C is what the clang that made it makes of it, where that is installed."""
+    """Each stored image of a source in C is what the clang that made it makes from it, if that is
+    installed."""
     if "clang version 14." in shell("clang --version") and os.path.exists("/usr/include/linux/bpf.h"):
         for source in sorted(glob.glob("examples/*.bpf.c")):
             shell(f"bash tools/compile.sh {source} example.image")
@@ -157,7 +160,7 @@ def compiled():
 
 
 def captured():
-    """Each stored frame stream is made of the capture beside it."""
+    """Each stored frame stream is made from the capture beside it."""
     for capture in sorted(glob.glob("examples/*.pcapng")):
         with open(capture.removesuffix(".pcapng") + ".frames", "rb") as kept:
             kept = kept.read()
@@ -198,7 +201,8 @@ def converted(flags, given, *names):
 
 
 def returned():
-    """Frame streams go through texts and captures unchanged, with their reasons; of a frame that is too long a reason is left."""
+    """Frame streams go through texts and captures unchanged, with their reasons; of a frame that is
+    too long its reason is left."""
     write("example.text", FRAMES)
     yield "a text with reasons", RECORDS + "\n", converted("--reasons", "example.text", "example.frames")
     yield "a capture with reasons", RECORDS + "\n", converted("--reasons", "example.frames", "example.pcapng", "again.frames")
@@ -306,8 +310,8 @@ def links(pages):
 
 
 def filters_answer():
-    """Each filter of examples/filters is answered as its first line says, those in C where clang is installed, and each
-    that the page on C names is there."""
+    """Each filter of examples/filters has the result that its first line says, those in C where
+    clang is installed, and each that the page on C names is there."""
     has_headers = os.path.exists("/usr/include/linux/bpf.h")
     asked = argparse.Namespace(program=PROGRAM, clang="clang" if has_headers else "no compiler", only=None)
     for path in filters.paths(asked):

@@ -1,11 +1,12 @@
 #!/usr/bin/env python3
-"""What the program says of wrong texts, images, streams and words.
+"""What the program says of wrong texts, images, streams and arguments.
 
 usage: python3 examples/messages.py [PROGRAM]
 
-Each row has an input, the line of standard output (for words the first line of standard error), and a piece of the line
-of standard error that helps. PROGRAM is the program that `rt run` leaves in crates/xdpvm (the default:
-crates/xdpvm/out/xdpvm). The exit status is 0 if each row is answered so, else 1.
+Each row has an input, the line of standard output (for arguments the first line of standard error),
+and a piece of the hint on standard error. PROGRAM is the program that `rt run` leaves in
+crates/xdpvm (the default: crates/xdpvm/out/xdpvm). The exit status is 0 if each row has this
+result, else 1.
 """
 import os
 import subprocess
@@ -15,7 +16,7 @@ import tempfile
 TOP = os.path.dirname(os.path.dirname(os.path.abspath(__file__)))
 PROGRAM = os.path.abspath(sys.argv[1] if len(sys.argv) > 1 else os.path.join(TOP, "crates/xdpvm/out/xdpvm"))
 
-# A text, its refusal by `asm`, and what helps.
+# A text, its refusal by `asm`, and the hint.
 TEXTS = (
     (b"r0 = 2\r\nexit\r\n", "A1 line 1 column 7", "a carriage return"),
     (b"\xef\xbb\xbfr0 = 2\nexit\n", "A1 line 1 column 1", "a byte-order mark"),
@@ -61,7 +62,7 @@ TEXTS = (
     (b"map array 4 8 1\nversion 2\nexit\n", "A11 line 2 column 1", "move it to the front"),
 )
 
-# The bytes of an image, the line of `verify`, and what helps.
+# The bytes of an image, the line of `verify`, and the hint.
 IMAGES = (
     (b"\x7fELF\x02\x01\x01\0", "refused I1", "it is an ELF object: image.py"),
     (b"r0 = 2\nexit\n", "refused I1", "it looks like a text: xdpvm asm"),
@@ -79,7 +80,7 @@ IMAGES = (
     (b"XBP1\0\0\x01\0\x95\x01\0\0\0\0\0\0", "refused I8 slot 0 C4", "set each field to 0"),
 )
 
-# A program text, the line of `verify`, and what helps.
+# A program text, the line of `verify`, and the hint.
 PROGRAMS = (
     (b"r0 = 2\ngoto +3\nexit\n", "refused G1 slot 1", "it leads to slot 5, and the code has slots 0 to 2"),
     (b"r0 = 2\ngoto -5\nexit\n", "refused G1 slot 1", "it leads to slot -3"),
@@ -95,7 +96,7 @@ PROGRAMS = (
     (b"r0 = 0\ngoto -1\n", "refused V18 slot 1", "change a register in the loop that its test reads"),
 )
 
-# The bytes of a frame stream, the last line of the report, and what helps.
+# The bytes of a frame stream, the last line of the report, and the hint.
 STREAMS = (
     (b"\xd4\xc3\xb2\xa1\x02\0\x04\0", "fault F1 at 0", "it is a capture (pcap): frames.py"),
     (b"\xa1\xb2\x3c\x4d\0\x02\0\x04", "fault F1 at 0", "it is a capture (pcap): frames.py"),
@@ -127,7 +128,7 @@ TRACES = (
     (b"r0 = 2\nexit\n", "0 PASS 14 2", ()),
 )
 
-# Words, and the first line of standard error.
+# Arguments, and the first line of standard error.
 WORDS = (
     (("walk",), "error: unrecognized subcommand 'walk'"),
     (("verify",), "error: the following required arguments were not provided:"),
@@ -138,7 +139,7 @@ WORDS = (
 
 
 def rows(folder):
-    """What is tried, what is wanted, and whether it is answered."""
+    """What is tried, what is wanted, and whether the result is that."""
     def run(*words):
         ran = subprocess.run([PROGRAM, *words], cwd=folder, stdout=subprocess.PIPE, stderr=subprocess.PIPE, timeout=60, check=False)
         return ran.stdout.decode().splitlines() or [""], ran.stderr.decode().splitlines() or [""]
@@ -168,7 +169,7 @@ def rows(folder):
         write("text", text)
         run("asm", "text", "image")
         out, err = run("trace", "image", os.path.join(TOP, "examples/cut.frames"), "sent")
-        # the stream is cut, which is said before
+        # the stream is cut off, which is said before
         yield text, (line, "\n".join(lines)), (out[0], "\n".join(err[2:]))
     for words, line in WORDS:
         out, err = run(*words)

@@ -1,5 +1,6 @@
 #!/bin/bash
-# Runs xdpvm on programs and frames of any form: texts, images, objects of clang; frame streams, captures.
+# Runs xdpvm on programs and frames of any format: texts, images, objects of clang; frame streams,
+# captures.
 # usage: bash examples/run.sh, which prints it
 # Without an xdpvm beside it the program is built by `rt try`, which keeps nothing: not optimized, with an address
 # sanitizer, for at most ten minutes of running and 1 MiB of output.
@@ -48,7 +49,7 @@ file_of() {
     stop "there is no file $word, and no example of that name"
 }
 
-# The form of a file, by its first bytes: image, object, stream, or other.
+# What a file is, by its first bytes: image, object, stream, or other.
 form_of() {
     case $1 in *.image) echo image && return ;; *.frames) echo stream && return ;; esac
     if [ ! -f "$1" ]; then
@@ -100,7 +101,7 @@ work=$(mktemp -d)
 trap 'rm -rf "$work"' EXIT
 mkdir "$work/steps"
 
-# The words of a step, one a line; its standard input is empty.
+# The words of a command, one on each line; its standard input is empty.
 step() {
     : > "$work/steps/$1"
     printf '%s\n' "${@:2}" > "$work/steps/$1.args"
@@ -143,7 +144,7 @@ else
     fi
 fi
 
-# ---- the steps; what the assembler says is of interest only where it refuses the text
+# ---- the commands; what the assembler says matters only if it refuses the text
 
 # Runs the xdpvm beside this script.
 run_installed() {
@@ -160,7 +161,8 @@ run_installed() {
     "$here/xdpvm" "${words[@]}"
 }
 
-# Shows what a step answered: standard output stands under its name, and standard error before the line of its status.
+# Shows the result of a command: standard output under its name, and standard error before the line
+# of its status.
 show() {
     awk -v name="== $1" '/^== [12]-/ { on = $0 == name; next } on' "$work/answer"
     awk -v name="case=$1" '/^case=/ { if ($1 == name) printf "%s", said; said = ""; next } !/^interpreter: / { said = said $0 "\n" }' "$work/told" >&2

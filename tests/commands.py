@@ -13,12 +13,12 @@ before, and # begins a comment.
   each FROM-TO           the case is run for each of these numbers, which is {} in its lines
   file NAME PART..       a file; a part is hex, or 'letters' with \\n and \\xHH; N*PART is N of it
   program NAME TEXT      the image that `xdpvm asm` makes of a text
-  set NAME PLACE PART..  bytes of a file are changed, from a place on
+  set NAME OFFSET PART.. bytes of a file are changed, from an offset on
   cut NAME COUNT         a file is cut to that many bytes
   room COUNT             no file takes more bytes from here on; standard output is such a file
   $ PROGRAM WORD..       a command, at whose end may be `> FILE`, or `| true`: nobody reads it
 
-After one or more commands comes what each of them answers:
+After one or more commands comes the result that each of them has to have:
 
   1> LINE                a line of standard output
   2> LINE                a line of standard error; `2> ...` is any lines, or none
@@ -55,7 +55,8 @@ def bytes_of(parts):
 
 
 def cases_of(path):
-    """The cases of a file: the lines of each, with number, word and rest, as often as it is run."""
+    """The cases of a file: the lines of each, with their number, first word and rest, as often as
+    the case is run."""
     lines = []
     for number, line in enumerate(path.read_text(encoding="utf-8").split("\n"), 1):
         word, _, rest = line.partition(" ")
@@ -104,7 +105,7 @@ def prepare(word, name, rest):
 
 
 def differences(case):
-    """Where a case differs: the number of the line, and what was wanted and found."""
+    """Where a case differs: the number of the line, what was wanted, and what was found."""
     room = None
     while case:
         commands = list(takewhile(lambda line: line[1] == "$", case))

@@ -1,10 +1,10 @@
 #!/usr/bin/env python3
-"""What the program answers to texts, images, proof tables and frame streams.
+"""Runs the cases of tests/programs/: texts, images, proof tables and frame streams.
 
 usage: python3 tests/programs.py [PROGRAM] [FILE.cases ..]
 
 PROGRAM is what `rt run` leaves in crates/xdpvm (the default: crates/xdpvm/out/xdpvm), the files are
-those of tests/programs. Each answer that differs is printed with its file and line; the last line
+those of tests/programs. Each result that differs is printed with its file and line; the last line
 counts, and the exit status is 1 if any differed. tests/programs/README.md says what a file has.
 """
 import concurrent.futures
@@ -23,7 +23,7 @@ WRITTEN = {"bytes": "image", "sent": "out", "proof": "table"}
 
 
 def filled(value, names):
-    """What a field says, with its expressions replaced and its lines as often as they say."""
+    """The text of a field, with its expressions replaced and its lines repeated as they say."""
     lines = []
     for line in value.split("\n"):
         times, what = re.fullmatch(r"(?:(\d+) x )?(.*)", line).groups()
@@ -49,7 +49,7 @@ def bytes_of(value):
 
 
 def fields_of(path):
-    """Each field of a file: where it stands, its name and what it says."""
+    """Each field of a file: its line, its name and its text."""
     found, text = [], pathlib.Path(path).read_text(encoding="utf-8")
     for number, line in enumerate(text.split("\n"), 1):
         if line.startswith("    "):

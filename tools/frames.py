@@ -4,22 +4,25 @@
 usage: python3 tools/frames.py [--to KIND] [--interface N] [--queue N] [--reasons] [--strict] IN OUT
        python3 tools/frames.py [--strict] --show IN
 
-IN is a capture (pcap or pcapng, packed by gzip or not), a frame stream, or a text; its first bytes tell which. OUT becomes
-what its name ends in, or the KIND that is given: `.pcap`, `.pcapng`, `.frames` (a frame stream) or `.txt` (text). With
-another name a capture or a text becomes a frame stream. `-` is standard input or standard output. Files are read and
-written frame by frame, so a capture may be of any size, or not yet at its end.
+IN is a capture (pcap or pcapng, packed by gzip or not), a frame stream, or a text; its first bytes
+show which. OUT gets the format that its name ends in, or the KIND that is given: `.pcap`,
+`.pcapng`, `.frames` (a frame stream) or `.txt` (text). With another name a capture or a text
+becomes a frame stream. `-` is standard input or standard output. Files are read and written frame
+by frame, so a capture may be of any size, or not yet at its end.
 
 A frame stream is of the first form, XPF1, with frames of up to 4,096 bytes. With --reasons it is of the second one,
 XPF2, with frames of up to 9,216 bytes and a reason for each: why it was dropped, or 0. Longer frames are left out of
 the first form, so that later ones have a smaller number than in the capture; in the second form an empty frame with the
-reason 4294967295 takes the place of each, so that numbers stay. Both are said. A pcapng has a reason as a comment of
-its packet, `reason 7`, in and out.
+reason 4294967295 takes the place of each, so that numbers stay. A message says both. A pcapng has a
+reason as a comment of its packet, `reason 7`, in and out.
 
-A capture that ends in the middle of a frame, as one that is still being written, gives its whole frames and a warning;
-with --strict the status is then 1. Times are kept to the nanosecond. Captures are of Ethernet, or of Linux's `any`
-interface (SLL and SLL2), whose frames get an Ethernet head with the destination zero. The frames of a pcap come from
-interface 0 and queue 0, those of a pcapng or of SLL2 from the interface that the capture names; --interface and --queue
-give all frames another one. A pcap has neither, nor reasons, and a pcapng no queue, so what is lost is said.
+A capture that ends in the middle of a frame, for example because it is still being written, leads
+to its whole frames and a warning; with --strict the status is then 1. Times are kept to the
+nanosecond. Captures are of Ethernet, or of Linux's `any` interface (SLL and SLL2), whose frames get
+an Ethernet head with the destination zero. The frames of a pcap come from interface 0 and queue 0,
+those of a pcapng or of SLL2 from the interface that the capture names; --interface and --queue give
+all frames another one. A pcap has neither, nor reasons, and a pcapng no queue, so a message says
+what is lost.
 
 --show prints IN as text, and a text is read again as it is printed:
 
@@ -66,7 +69,7 @@ def tell(message):
 
 
 class Source:
-    """A file, read from its begin to its end. Its first bytes may be looked at before."""
+    """A file, read from its beginning to its end. Its first bytes may be read ahead."""
 
     def __init__(self, file):
         self.file, self.begin, self.at = file, b"", 0
@@ -100,7 +103,7 @@ class Source:
 
 
 def unpack(form, data, at, what):
-    """The numbers of that form at a place of a block, which have to be there."""
+    """The numbers of a struct format at an offset of a block, which have to be there."""
     if at + struct.calcsize(form) > len(data):
         raise Damaged(f"{what} is too short")
     return struct.unpack_from(form, data, at)
@@ -226,7 +229,7 @@ def ticks_of(order, options):
 
 
 def reason_of(order, options):
-    """The reason that a packet's comment tells: `reason 7`."""
+    """The reason that a packet's comment has: `reason 7`."""
     for code, value in options_of(order, options):
         told = code == COMMENT and re.fullmatch(rb"reason ([0-9]{1,10})", value)
         if told and int(told[1]) < 1 << 32:
@@ -345,7 +348,7 @@ def write_text(frames, put):
 # ---- files
 
 def opened(path):
-    """The file of that name, unpacked where it is packed."""
+    """The file of that name, unpacked if it is packed."""
     source = Source(sys.stdin.buffer if path == "-" else open(path, "rb"))
     if source.look(2) == b"\x1f\x8b":
         source.begin, begin = b"", source.begin
@@ -414,7 +417,7 @@ def frames_of(source, words, state):
 
 
 class Sink:
-    """A file that is written; what fails is said with its name."""
+    """A file that is written; a failure is reported with its name."""
 
     def __init__(self, path):
         self.path, self.file = path, open(path, "wb")

@@ -8,9 +8,9 @@ a program, that one. --program names the function where a section has several; -
 the program calls, and those that they call, go into the image after it, and no others.
 
 Maps are those of the section .maps, as libbpf writes them; their sizes are in the type information, so compile with -g.
-Global variables that begin as zeros (.bss) become one array of one entry, after the maps. Variables that begin with
-another value, and constant tables, cannot be in an image, since a map begins as zeros. --source is the file that messages
-name in place of the object.
+Global variables that begin as zeros (.bss) become one array with one key, after the maps. Variables
+that begin with another value, and constant tables, cannot be in an image, since a map begins as
+zeros. --source is the file that messages name in place of the object.
 
 examples:
     clang -target bpf -g -O2 -c filter.c -o filter.o && python3 tools/image.py --source filter.c filter.o filter.image
@@ -40,7 +40,7 @@ Image = collections.namedtuple("Image", "rows slots lines names")   # lines: a L
 
 
 class Refused(Exception):
-    """What an image cannot have, or a file that is no such object."""
+    """What an image cannot have, or a file that is not such an object."""
 
 
 def text_at(data, at):
@@ -75,7 +75,7 @@ class Object:
         return self.names.index(name) if name in self.names else None
 
     def relocations(self, section):
-        """The symbol of each relocation of a section, by its place."""
+        """The symbol of each relocation of a section, by its offset."""
         found = {}
         for i, kind in enumerate(self.types):
             if kind == RELOCATIONS and self.targets[i] == section:
@@ -88,7 +88,7 @@ class Object:
         return {it.value: it for it in self.symbols if it.section == section and it.kind == FUNCTION_SYMBOL}
 
     def variable(self, section, at):
-        """The name of the variable at a place of a section, if it has one."""
+        """The name of the variable at an offset of a section, if it has one."""
         for it in self.symbols:
             if it.section == section and it.kind == OBJECT_SYMBOL and it.value <= at < it.value + max(it.size, 1):
                 return it.name
@@ -201,7 +201,8 @@ class Lines:
 # ---- the program
 
 def map_rows(it):
-    """The rows and the names of all maps in the order of .maps, and the number of each by its place."""
+    """The rows and the names of all maps in the order of .maps, and the index of each by its
+    offset."""
     if it.section("maps") is not None:
         raise Refused('its maps are in the old section "maps": define them with SEC(".maps"), as libbpf does')
     section = it.section(".maps")
@@ -302,7 +303,8 @@ class Linker:
         return Image(self.rows, bytes(self.slots), [self.lines.at(self.it.names[s], at) for s, at in self.origins], self.names)
 
     def call(self, slot, section, at, symbol):
-        """A local call: by the function's own symbol, by its section's with its place in imm, or in its own section."""
+        """A local call: by the function's own symbol, by its section's with its offset in imm, or
+        in its own section."""
         imm, = struct.unpack_from("<i", self.slots, 8 * slot + 4)
         if symbol is None:
             home, place = section, at + 8 * (imm + 1)
@@ -364,7 +366,7 @@ def bytes_of(image):
 
 
 def made(data, section=None, program=None):
-    """The same, where a damaged object is an answer too."""
+    """The same for an object that may be damaged: then the error says so."""
     try:
         return linked(data, section, program)
     except (struct.error, IndexError, ValueError, KeyError, TypeError, AttributeError, OverflowError, RecursionError):

@@ -1,25 +1,26 @@
 #!/usr/bin/env python3
-"""Compares xdpvm with the Linux kernel that runs here: the verdict on an image, and the runs of its program on frames.
+"""Compares xdpvm with the Linux kernel of this machine: the verdict on an image, and the runs of
+its program on frames.
 
 usage: python3 tools/kernel.py IMAGE FRAMES [--program XDPVM] [--plain] [--log LINES]
 
 The image's maps are made in the kernel and its program is loaded there, by bpf(2); nothing is attached or pinned, and all
 is closed at the end. The program runs on each frame of FRAMES (a frame stream, or a capture that frames.py reads) by the
-kernel's test run, and by `xdpvm run`. Printed are both verdicts, and where they run alike or not: for each frame the action
-and the bytes after the run, and at the end the contents of the maps.
+kernel's test run, and by `xdpvm run`. It prints both verdicts, and where the runs agree or differ:
+for each frame the action and the bytes after the run, and at the end the contents of the maps.
 
 The kernel's test run takes frames of 14 to 3,520 bytes that came in on interface 1, queue 0: other lengths are left out,
 and all frames are given that interface and queue. Helper 5 reads another clock there, so programs that call it may differ.
 With --plain the kernel loads the program without CAP_PERFMON, so under the stricter rules of its verifier (no leaks of
-pointers, no reads of bytes of the stack that were not written), which are those of xdpvm. --log prints the last lines of
-the kernel's verifier log.
+pointers, no reads of bytes of the stack that were not written), which are like those of xdpvm.
+--log prints the last lines of the kernel's verifier log.
 
 examples:
     sudo python3 tools/kernel.py examples/firewall.image examples/firewall.frames --program crates/xdpvm/out/xdpvm
     sudo python3 tools/kernel.py filter.image traffic.pcapng --plain --log 20
 
-The exit status is 0 where verdicts and runs are alike, 1 where not, 2 if the command is wrong, and 77 where bpf(2) cannot
-be used: it needs Linux on x86-64 and root.
+The exit status is 0 if verdicts and runs agree, 1 if not, 2 if the command is wrong, and 77 where
+bpf(2) cannot be used: it needs Linux on x86-64 and root.
 """
 import argparse
 import ctypes
@@ -158,7 +159,8 @@ class Kernel:
         return None
 
     def run(self, body):
-        """The kernel's answer on a frame, and its bytes after the run; None if it takes no such frame."""
+        """The kernel's action for a frame, and its bytes after the run; None if it takes no such
+        frame."""
         if not LEAST <= len(body) <= MOST:
             return None
         given, taken = ctypes.create_string_buffer(body, len(body)), ctypes.create_string_buffer(8192)
@@ -170,7 +172,7 @@ class Kernel:
         return answer, taken.raw[:length]
 
     def entries(self):
-        """The entries of each map, as `xdpvm run` reports them: (index, key, value)."""
+        """The key-value pairs of each map, as `xdpvm run` reports them: (index, key, value)."""
         found = []
         for index, (row, file) in enumerate(zip(self.rows, self.maps)):
             _, size, room, _ = row

@@ -1,9 +1,9 @@
 #!/usr/bin/env python3
-"""limits.py [CRATE ..]: finds numbers that stand for a limit and do not cite it.
+"""limits.py [CRATE ..]: finds numbers that are a limit and do not cite its name.
 
-The limits stand once, in isa_model/src/limits.rt and isa_model/specs/Code/Limits.antt. This looks
-at the code, definitions and proofs of every crate (comments and texts aside) for their values, and
-fails if it finds one that EXCEPTIONS does not explain."""
+The limits are defined once, in isa_model/src/limits.rt and isa_model/specs/Code/Limits.antt. This
+looks at the code, definitions and proofs of every crate (comments and texts aside) for their
+values, and fails if it finds one that EXCEPTIONS does not explain."""
 import os
 import re
 import sys
@@ -11,7 +11,7 @@ import sys
 ROOT = os.path.dirname(os.path.dirname(os.path.abspath(__file__)))
 HOME = ("isa_model/src/limits.rt", "isa_model/specs/Code/Limits.antt")
 
-# a value that is a limit wherever it stands, and what it is
+# a value that is a limit wherever it is, and what it is
 VALUES = {
     512: "bytes of a call frame",
     511: "bytes of a call frame",
@@ -50,19 +50,19 @@ EXCEPTIONS = (
     ("word_machine/specs/Addresses.antt", "packet_index address =", "2 ^ 16 addresses lead into the packet"),
     ("known_bits/", "", "the bits of a register"),
     ("commands/src/screens.rt", "output.rdev()", "the bits of a device's major number"),
-    ("commands/src/searches.rt", "const TURN: u32 =", "after how many explored instructions the clock is read"),
+    ("commands/src/searches.rt", "const PERIOD: u32 =", "after how many explored instructions the clock is read"),
 )
 
 
 def bare(text, antt):
-    """The text without comments and texts, each line in its place."""
+    """The text without comments and strings, with the same lines."""
     def without(m):
         part = m[0].removeprefix("b")
         if part.startswith("'"):
             return m[0]
         return '""' + "\n" * part.count("\n") if part.startswith('"') else ""
 
-    # a text may go on in the next line, and may have what looks like a comment
+    # a string may go on in the next line, and may have what looks like a comment
     comment = "--" if antt else "//"
     text = re.sub(rf"""b?'(?:[^'\\\n]|\\.)'|b?"(?:[^"\\]|\\.)*"|{comment}[^\n]*""", without, text, flags=re.S)
     lines = text.split("\n")
@@ -83,7 +83,7 @@ def numbers(line):
 
 
 def found(line):
-    """What stands for a limit in a line."""
+    """The numbers of a line that are a limit."""
     for n in numbers(line):
         if n in VALUES:
             yield n, VALUES[n]

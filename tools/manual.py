@@ -1,12 +1,14 @@
 #!/usr/bin/env python3
-"""Makes the man pages and the shells' completions of what `--help` and `COMMAND --help` of the programs say.
+"""Makes the man pages and the shells' completions from what `--help` and `COMMAND --help` of the
+programs say.
 
 usage: python3 tools/manual.py [--check] [PROGRAM ..]
 
-Of xdpvm it writes docs/xdpvm.1, tools/completions/xdpvm.bash, _xdpvm (zsh) and xdpvm.fish, and of xdpvm_survey the files
-of that name. With --check nothing is written: each file has to be what is made, `man -l` and the shells have to read it
-where they are, and the status is 1 where one does not. PROGRAM is a program that is asked, whose file has its name (the
-default: crates/xdpvm/out/xdpvm and crates/xdpvm_survey/out/xdpvm_survey).
+For xdpvm it writes docs/xdpvm.1, tools/completions/xdpvm.bash, _xdpvm (zsh) and xdpvm.fish, and for
+xdpvm_survey the files of that name. With --check nothing is written: each file has to be as it is
+made, `man -l` and the shells, if they are installed, have to read it, and the status is 1 if one
+does not. PROGRAM is a program that is asked, whose file has its name (the default:
+crates/xdpvm/out/xdpvm and crates/xdpvm_survey/out/xdpvm_survey).
 """
 import argparse
 import collections
@@ -32,7 +34,7 @@ def help_of(program, *words):
 
 
 def rows(text, title):
-    """The rows of a section of help: what stands on the left, and what is said of it."""
+    """The rows of a section of help: the left column, and the text about it."""
     found = re.search(rf"^{title}:\n((?:  .*\n)+)", text, re.M)
     return [re.split(r"  +", row.strip(), maxsplit=1) for row in found[1].splitlines()] if found else []
 
@@ -147,7 +149,7 @@ def quoted(text):
 
 
 def arguments_of(command):
-    """What zsh's _arguments is given for a command."""
+    """The arguments of zsh's _arguments for a command."""
     words = ["_arguments '--help[Print help]'"]
     for one in command.options:
         about = quoted(one.about).replace("[", "\\[").replace("]", "\\]")
@@ -198,7 +200,7 @@ def made(program):
 
 
 def is_read(name, *words):
-    """Whether a tool takes its file, where the tool is."""
+    """Whether a tool accepts its file, if the tool is installed."""
     if not shutil.which(words[0]):
         return True
     ran = subprocess.run(words, stdin=subprocess.DEVNULL, stdout=subprocess.PIPE, stderr=subprocess.STDOUT, text=True, check=False)

@@ -1,12 +1,13 @@
 #!/usr/bin/env python3
-"""Makes the pictures of the pages: the blocks of stored programs, as Graphviz draws them.
+"""Makes the pictures of the pages: the basic blocks of stored programs, as Graphviz draws them.
 
 usage: python3 tools/pictures.py [--check] [PROGRAM]
 
-For each NAME below it writes docs/pictures/NAME.svg, of what `xdpvm_survey dis --dot examples/NAME.image` prints. With
---check nothing is written, each picture has to be the one that is made, and the status is 1 where one is not. Where there
-is no `dot`, or one of another version than the one that drew a picture, only the labels of the blocks and the number of
-edges are compared. PROGRAM is xdpvm_survey (the default: crates/xdpvm_survey/out/xdpvm_survey).
+For each NAME below it writes docs/pictures/NAME.svg, from what `xdpvm_survey dis --dot
+examples/NAME.image` prints. With --check nothing is written, each picture has to be the one that is
+made, and the status is 1 if one is not. If there is no `dot`, or one of another version than the
+one that drew a picture, only the labels of the blocks and the number of edges are compared. PROGRAM
+is xdpvm_survey (the default: crates/xdpvm_survey/out/xdpvm_survey).
 """
 import argparse
 import html

@@ -1,5 +1,5 @@
 #!/usr/bin/env python3
-"""Shows a proof table as a text, and makes one of a text.
+"""Shows a proof table as a text, and makes one from a text.
 
 usage: python3 tools/table.py show TABLE
        python3 tools/table.py make TEXT TABLE
@@ -58,7 +58,8 @@ class Wrong(Exception):
 
 
 class Frame:
-    """What is known of a call frame: where its exit leads, r0 to r9, and 64 stack slots from -512 upward."""
+    """What is known about a call frame: where its exit leads, r0 to r9, and 64 stack slots from
+    -512 upward."""
 
     def __init__(self):
         self.leads, self.registers, self.slots = 0, [UNSET] * 10, [BLANK] * 64
@@ -153,7 +154,8 @@ class Reader:
 
 
 def entries_of(data):
-    """The entries that bytes spell, whatever their fields hold. Refused: P1 to P5, as the form says."""
+    """The entries that bytes spell, whatever their fields hold. Refused: P1 to P5, by the
+    format."""
     if len(data) < 8:
         raise Refused("P2")
     if data[:4] != MAGIC:
@@ -329,7 +331,7 @@ def take_line(entries, words):
 
 
 def entries_from(text):
-    """The entries of a text. Wrong: a line has not the form, by its number."""
+    """The entries of a text. Wrong: a line does not have the format, by its number."""
     entries = []
     for at, line in enumerate(text.splitlines(), 1):
         words = Words(line)

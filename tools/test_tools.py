@@ -1,9 +1,9 @@
 #!/usr/bin/env python3
-"""Tests of frames.py, image.py, xdp.py and kernel.py: forms, and what is damaged. In the gate; `python3 tools/test_tools.py`
-runs them.
+"""Tests of frames.py, image.py, xdp.py and kernel.py, on formats and on damaged files. In the gate;
+`python3 tools/test_tools.py` runs them.
 
-Captures and objects are cut at each byte and changed byte by byte: the answer is a message, never a traceback. What
-kernel.py says is tested without bpf(2).
+Captures and objects are cut at each byte and changed byte by byte: the result is a message, never a
+traceback. What kernel.py says is tested without bpf(2).
 """
 import collections
 import contextlib
@@ -239,7 +239,8 @@ class Messages(unittest.TestCase):
 
 
 class Answers:
-    """A kernel that answers each frame with an action and these bytes, and whose maps have these entries."""
+    """A kernel that answers each frame with an action and these bytes, and whose maps have these
+    key-value pairs."""
 
     def __init__(self, action, body, entries):
         self.action, self.body, self.found = action, body, entries

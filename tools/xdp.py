@@ -6,19 +6,21 @@ usage: python3 tools/xdp.py FILTER [CAPTURE [OUT]] [--trace] [--reasons] [--all]
 
 FILTER is C (NAME.c, compiled by clang, or by the COMPILER that is named, as bpf-gcc; the flags after `--` go to it), an
 object file, an image, or a text. CAPTURE is a capture (pcap, pcapng), a frame stream, or a text of frames; without one
-the filter is only verified. OUT gets the frames that are sent on, in the form that its name ends in (.pcap, .pcapng,
-.frames, .txt). With --reasons the frames carry reasons: why each was dropped, in and out.
+the filter is only verified. OUT gets the frames that are sent on, in the format that its name ends
+in (.pcap, .pcapng, .frames, .txt). With --reasons the frames carry reasons: why each was dropped,
+in and out.
 
-Printed are the verdict, how many frames had which action and reason, and what the maps hold (the first ten keys of each,
-with 64 bytes of their values, or --all). Where the filter is refused, each slot that the refusal names is followed by its
-line of the source: of the text, or of the C file, as the object's type information has it (clang's -g; bpf-gcc 12 has no
-lines there). --trace prints each frame's line too, and takes a program that `verify` refuses.
+It prints the verdict, how many frames had which action and reason, and what the maps hold (the
+first ten keys of each, with 64 bytes of their values, or --all). If the filter is refused, each
+slot that the refusal names is followed by its line of the source: of the text, or of the C file, as
+the object's type information has it (clang's -g; bpf-gcc 12 has no lines there). --trace prints
+each frame's line too, and takes a program that `verify` refuses.
 
 examples:
     python3 tools/xdp.py examples/firewall.text examples/firewall.pcapng sent.pcapng
     python3 tools/xdp.py examples/talkers.bpf.c examples/talkers.pcapng -- -mcpu=v3
 
-The exit status is that of xdpvm, or 1 with a message where a tool before it failed.
+The exit status is that of xdpvm, or 1 with a message if a tool before it failed.
 """
 import argparse
 import collections
@@ -56,7 +58,7 @@ class Source:
         self.path, self.slots, self.names = path, [], []
 
     def line(self, slot):
-        """The place and the text of a slot's line, if they are known."""
+        """The file, the line number and the text of a slot's line, if they are known."""
         return self.slots[slot] if slot < len(self.slots) else None
 
     @staticmethod
@@ -121,7 +123,7 @@ def image_of(given, folder):
 
 
 def tell_place(path, ran):
-    """A refusal of the text, with its place as editors take it; the program shows the line."""
+    """A refusal of the text, with its position as editors read it; the program shows the line."""
     print(ran.stdout, end="")
     sys.stderr.write(ran.stderr)
     place = re.search(r"line (\d+) column (\d+)", ran.stdout + ran.stderr)
@@ -146,7 +148,7 @@ def tell_refusal(source, ran):
 # ---- the frames
 
 def converted(source, made, name, *words):
-    """Converts frames. `name` is what messages call the source in place of a file that is nobody's."""
+    """Converts frames. `name` is what messages call the source if that is a temporary file."""
     ran = subprocess.run([sys.executable, FRAMES, *words, source, made], stderr=subprocess.PIPE, text=True, errors="replace")
     sys.stderr.write(ran.stderr.replace(source, name))
     if ran.returncode:
@@ -196,7 +198,7 @@ def tell_report(lines, source, shows_all):
 
 
 def run(given, image, source, folder):
-    """Runs the image on the frames, and tells of it."""
+    """Runs the image on the frames, and prints what came of it."""
     frames, sent = os.path.join(folder, "in.frames"), os.path.join(folder, "sent.frames")
     if begin_of(given.capture)[:3] == b"XPF":
         frames = given.capture

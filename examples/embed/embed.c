@@ -19,7 +19,8 @@ static size_t read_file(const char *path, uint8_t *to, size_t room) {
     return size;
 }
 
-/* Prints the verdict; a refusal's first line is what the command prints, and the rest is told beside it. */
+/* Prints the verdict. A refusal's first line goes to standard output, as the command prints it, the rest to standard
+   error. */
 static uint32_t judge(size_t size) {
     struct xdpvm_verdict verdict;
     uint32_t status = xdpvm_verify(image, size, XDPVM_MAX_EXPLORED, text, sizeof text, &verdict);

@@ -6,7 +6,7 @@ mod xdpvm;
 
 use xdpvm::{End, Error, Head, Session};
 
-/// Prints what the command prints, and answers the bound of an accepted program.
+/// Prints what the command prints, and returns the bound of an accepted program.
 fn judge(image: &[u8]) -> Result<Option<u32>, Error> {
     match xdpvm::verify(image) {
         Ok(bound) => {
@@ -77,7 +77,7 @@ fn count() -> Result<(), Error> {
     Ok(())
 }
 
-/// Counts a packet where the map has its interface.
+/// Counts a packet if the map has its interface.
 const COUNTS: &str = "map hash 4 8 8
 r2 = *(u32 *)(r1 + 12)
 *(u32 *)(r10 - 4) = r2

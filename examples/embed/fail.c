@@ -61,15 +61,15 @@ enum { ASSEMBLE, VERIFY, RUN_ONCE, TRACE_ONCE, RUN_STREAM, RECHECK, OPEN, OPEN_W
 static const char *const NAMES[CALLS] = {"assemble", "verify", "run_once", "trace_once", "run_stream", "recheck", "open",
                                          "open_with_table", "run, lookup, update, delete, next"};
 
-/* What opening a session is answered; where that is not XDPVM_OK, the session is still closed. */
+/* The status of opening a session; where that is not XDPVM_OK, the session is still closed. */
 static uint32_t opened(int with_table, struct xdpvm_session *session) {
     uint32_t status = with_table ? xdpvm_open_with_table(image, image_size, table, table_size, session)
                                  : xdpvm_open(image, image_size, session);
     return status != XDPVM_OK && session->at ? 99 : status;
 }
 
-/* Calls on a session that was opened with all memory. The image's first map row says which size its keys and values have.
-   Of the calls' statuses the greatest. */
+/* The greatest status of calls on a session that was opened with all memory. The image's first map row says which sizes
+   its keys and values have. */
 static uint32_t call_session(void) {
     struct xdpvm_session session = {0};
     struct xdpvm_ended ended;

@@ -118,7 +118,7 @@ static void recheck(const uint8_t *code, size_t size, const uint8_t *table, size
     check(tested == XDPVM_MEMORY || (tested == XDPVM_OK && end.kind == XDPVM_EXIT), "a program with a table traps, or passes its bound");
 }
 
-/* A stream is run alike into buffers of any size: each gets the front of the same. */
+/* A run over a stream writes the same into buffers of any size: each gets the front of it. */
 static void stream(const uint8_t *code, size_t size, const uint8_t *frames, size_t count) {
     static uint8_t report[2][1 << 16], sent[2][1 << 16];
     struct xdpvm_verdict verdict = {0, 0, 0};
@@ -178,7 +178,7 @@ static size_t below(size_t count) {
     return (size_t)(state >> 20) % count;
 }
 
-/* One change: a byte, a bit, or a slot of another place or seed. */
+/* One change: a byte, a bit, a byte of the head, or eight bytes copied from a seed. */
 static void mutate(size_t size, size_t count) {
     size_t at = 12 + below(size - 12), other = below(count);
     switch (below(4)) {

@@ -5,7 +5,7 @@ the version. Nothing else does: a compiler sees only the declarations.
 
 usage: python3 examples/embed/header.py
 
-Prints each difference. The exit status is 0, or 1 where there is one. In the gate.
+Prints each difference. The exit status is 0, or 1 if there is one. In the gate.
 """
 import glob
 import os
@@ -63,7 +63,8 @@ def exports(source):
 
 
 def structs(source):
-    """Each struct that crosses, with its fields; a pointer to what only the library reads is one to nothing known."""
+    """Each struct that crosses, with its fields; a pointer to memory that only the library reads
+    has no type here."""
     for name, body in re.findall(r"#\[repr\(C\)\]\s+(?:#\[.*?\]\s+)*(?:pub )?struct (\w+) \{(.*?)\n\}", source, re.S):
         if name != "Opaque":
             yield name, re.findall(r"^ *(?:pub )?(\w+): (\w+|\*mut \w+),", body.replace("*mut Opaque", "*mut c_void"), re.M)
@@ -98,7 +99,7 @@ def rust_declared(text):
 
 
 def declared(header):
-    """The functions and the structs of the header, without comments and spaces that say nothing."""
+    """The functions and the structs of the header, without comments and needless spaces."""
     header = re.sub(r"/\*.*?\*/", "", header, flags=re.S)
     functions, kinds = {}, {}
     for result, name, words in re.findall(r"^(\w+) (xdpvm_\w+)\((.*?)\);", header, re.M | re.S):

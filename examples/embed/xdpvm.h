@@ -2,7 +2,7 @@
 
    Link libxdpvm_c.a and the toolchain's liblibc_c.a (examples/embed/build.sh; docs/EMBEDDING.md).
 
-   Every call tests its arguments and answers a status. What it answers then is proved; what you owe is not:
+   Every call tests its arguments and returns a status. What it returns is proved, as long as you keep to these rules:
 
    - Each pointer is to memory of yours of the length beside it, for the whole call. None is NULL, also where the length
      is 0. What a call writes overlaps nothing else that the call is given.
@@ -14,11 +14,11 @@
      ordered after this one, by a lock or by the start or the join of a thread.
 
    Nothing else is kept between calls, so any number of threads may call at once, each with its own memory and sessions.
-   All memory that a call takes is given back before it returns, but for what a session holds, until xdpvm_close. No call
-   prints, opens a file, reads a clock, or ends the process.
+   All memory that a call takes is freed before it returns, except what a session holds until xdpvm_close. No call prints,
+   opens a file, reads a clock, or ends the process.
 
-   A text or an image goes into a buffer of yours as far as there is room, and its whole size is answered: if that is more
-   than your buffer has, call again with more. No text ends in a zero byte.
+   A text or an image is written into a buffer of yours as far as there is room, and its whole size is returned: if that is
+   more than your buffer has, call again with a larger one. No text ends in a zero byte.
 
    examples/embed/header.py compares this file with the sources of the library. */
 #ifndef XDPVM_H
@@ -33,7 +33,7 @@ extern "C" {
 
 #define XDPVM_VERSION "0.1.0"
 
-/* What a call answers. */
+/* The statuses that calls return. */
 #define XDPVM_OK 0      /* done */
 #define XDPVM_WRONG 1   /* an argument is outside its limits: nothing was done */
 #define XDPVM_REFUSED 2 /* the text, the image, the program or the table is refused */
@@ -53,8 +53,7 @@ extern "C" {
 /* The most instructions that xdpvm_verify explores: with this limit it never answers XDPVM_UNDECIDED. */
 #define XDPVM_MAX_EXPLORED 1000000
 
-/* The size of an image or of the text of a refusal, and the line and the column of the latter, from 1; of an image both are
-   0. */
+/* The size of an image, or of the text of a refusal with its line and its column, from 1; for an image both are 0. */
 struct xdpvm_assembled {
     size_t size;
     size_t line;
@@ -77,7 +76,7 @@ struct xdpvm_head {
     uint32_t queue;
 };
 
-/* How a run ended: r0 at the last exit, and how many instructions it had. */
+/* How a run ended: r0 at the last exit, and how many steps it took. */
 struct xdpvm_ended {
     uint64_t r0;
     uint32_t steps;
@@ -120,17 +119,17 @@ struct xdpvm_session {
     void *at;
 };
 
-/* What an update or a delete of a key is answered: 0; or a negative error in 64 bits, as a program's helper answers it,
-   and then nothing has changed. */
+/* The answer to an update or a delete of a key: 0, or a negative error in 64 bits, as from a program's helper, and then
+   nothing has changed. */
 struct xdpvm_changed {
     uint64_t answer;
 };
 
-/* Writes the library's version, and answers its size. */
+/* Writes the library's version, and returns its size. */
 size_t xdpvm_version(uint8_t *buffer, size_t buffer_len);
 
-/* Assembles a program text (docs/TEXT.md). The image goes to `image`. XDPVM_REFUSED: the text that says why goes to `why`.
-   `out` has the size of what was written, and of a refusal the line and the column. */
+/* Assembles a program text (docs/TEXT.md). The image is written to `image`. XDPVM_REFUSED: the text that says why is
+   written to `why`. `out` has the size of what was written, and for a refusal the line and the column. */
 uint32_t xdpvm_assemble(const uint8_t *text, size_t text_len, uint8_t *image, size_t image_len, uint8_t *why, size_t why_len,
                         struct xdpvm_assembled *out);
 
@@ -153,9 +152,9 @@ uint32_t xdpvm_run_once(const uint8_t *image, size_t image_len, const struct xdp
 uint32_t xdpvm_trace_once(const uint8_t *image, size_t image_len, const struct xdpvm_head *head, uint8_t *packet, size_t packet_len,
                           uint32_t limit, struct xdpvm_traced_end *out);
 
-/* Verifies an image, and runs its program on the frames of a stream (docs/FORMATS.md), the maps going from frame to frame.
-   `report` gets what `xdpvm run` prints, and `sent` the stream of the frames that go out. A fault of the stream ends the
-   run; it is told in the report and in `out`, and the status is XDPVM_OK. */
+/* Verifies an image, and runs its program on the frames of a stream (docs/FORMATS.md); the maps keep their contents from
+   frame to frame. `report` gets what `xdpvm run` prints, and `sent` the frames out. A fault of the stream ends the run; the
+   report and `out` have it, and the status is XDPVM_OK. */
 uint32_t xdpvm_run_stream(const uint8_t *image, size_t image_len, const uint8_t *frames, size_t frames_len, uint8_t *report,
                           size_t report_len, uint8_t *sent, size_t sent_len, struct xdpvm_streamed *out);
 
@@ -169,16 +168,16 @@ uint32_t xdpvm_recheck(const uint8_t *image, size_t image_len, const uint8_t *ta
    XDPVM_REFUSED: xdpvm_verify says why. At each status but XDPVM_OK the session stays as it was. */
 uint32_t xdpvm_open(const uint8_t *image, size_t image_len, struct xdpvm_session *session);
 
-/* The same, shown by a proof table. XDPVM_REFUSED: xdpvm_recheck says why. */
+/* The same, where a proof table shows that the program is accepted. XDPVM_REFUSED: xdpvm_recheck says why. */
 uint32_t xdpvm_open_with_table(const uint8_t *image, size_t image_len, const uint8_t *table, size_t table_len,
                                struct xdpvm_session *session);
 
-/* Runs an open program on a packet, in place. The maps go on to the next run. It takes no memory. XDPVM_WRONG: the session
-   is closed, or the packet has more than 9,216 bytes. */
+/* Runs an open program on a packet, in place. The maps keep their contents for the next run. It takes no memory.
+   XDPVM_WRONG: the session is closed, or the packet has more than 9,216 bytes. */
 uint32_t xdpvm_run(struct xdpvm_session *session, const struct xdpvm_head *head, uint8_t *packet, size_t packet_len,
                    struct xdpvm_ended *out);
 
-/* Closes a session, and gives its memory back. A closed one stays as it is. */
+/* Closes a session, and frees its memory. A closed one stays as it is. */
 void xdpvm_close(struct xdpvm_session *session);
 
 /* Maps of an open program between runs, by their number from 0. None of these calls takes memory. XDPVM_WRONG: the session is
@@ -196,7 +195,7 @@ uint32_t xdpvm_update(struct xdpvm_session *session, size_t map, const uint8_t *
 uint32_t xdpvm_delete(struct xdpvm_session *session, size_t map, const uint8_t *key, size_t key_len, struct xdpvm_changed *out);
 
 /* The key at a rank, from 0, with its value: of an array by its index, of a hash map by the bytes of the keys. XDPVM_ABSENT
-   where the map has fewer keys. Each call goes through the whole map. */
+   where the map has fewer keys. Each call takes time for all keys of the map. */
 uint32_t xdpvm_next(struct xdpvm_session *session, size_t map, size_t rank, uint8_t *key, size_t key_len, uint8_t *value,
                     size_t value_len);
 

@@ -1,4 +1,4 @@
-//! xdpvm behind safe functions: each hands over slices that live for the call. Copy this file, and link the library as
+//! Safe functions for xdpvm: each passes slices that live for the call. Copy this file, and link the library as
 //! build.sh does. header.py compares the declarations with the sources of the library.
 #![allow(dead_code)]
 
@@ -37,7 +37,7 @@ pub struct Head {
     pub queue: u32,
 }
 
-/// How a run ended: r0 at the last exit, and how many instructions it had.
+/// How a run ended: r0 at the last exit, and how many steps it took.
 #[repr(C)]
 #[derive(Clone, Copy, Debug, Default, PartialEq, Eq)]
 pub struct Ended {
@@ -231,7 +231,7 @@ fn answer<T>(status: u32, value: T, why: Vec<u8>) -> Result<T, Error> {
     }
 }
 
-/// Calls with a buffer, and once more with a larger one where the size that is answered is larger.
+/// Calls with a buffer, and again with a larger one where the returned size is larger.
 fn with_room(room: usize, mut call: impl FnMut(&mut [u8]) -> (u32, usize)) -> (u32, Vec<u8>) {
     let mut buffer = vec![0; room];
     let (mut status, mut size) = call(&mut buffer);
@@ -355,7 +355,7 @@ pub fn trace_once(image: &[u8], head: &Head, packet: &mut [u8], limit: u32) -> R
     answer(status, end, Vec::new())
 }
 
-/// What a run over a stream comes to.
+/// The result of a run over a stream.
 #[derive(Clone, Debug, PartialEq, Eq)]
 pub struct Ran {
     pub report: Vec<u8>,
@@ -434,7 +434,7 @@ impl Session {
         answer(status, session, Vec::new())
     }
 
-    /// The same, shown by a proof table, whoever made it.
+    /// The same, where a proof table shows that the program is accepted, whoever made the table.
     pub fn open_with_table(image: &[u8], table: &[u8]) -> Result<Session, Error> {
         let mut session = Session::closed();
         // SAFETY: as above; the session is closed.
@@ -450,15 +450,15 @@ impl Session {
         answer(status, session, Vec::new())
     }
 
-    /// Runs the program on a packet. The maps go on to the next run.
+    /// Runs the program on a packet. The maps keep their contents for the next run.
     pub fn run(&mut self, head: &Head, packet: &mut [u8]) -> Result<Ended, Error> {
         let mut out = Ended::default();
-        // SAFETY: as above; the session is one that `open` gave, and this call has it for itself.
+        // SAFETY: as above; the session is one that `open` returned, and no other call has it.
         let status = unsafe { xdpvm_run(self, head, packet.as_mut_ptr(), packet.len(), &mut out) };
         answer(status, out, Vec::new())
     }
 
-    /// Reads the value of a key in a map, and says whether it has one.
+    /// Reads the value of a key in a map, and returns whether it has one.
     pub fn lookup(&mut self, map: usize, key: &[u8], value: &mut [u8]) -> Result<bool, Error> {
         // SAFETY: as above.
         found(unsafe {
@@ -473,7 +473,7 @@ impl Session {
         })
     }
 
-    /// Writes the value of a key in a map, or adds the key, by the flags of `bpf_map_update_elem`. Answers 0, or a
+    /// Writes the value of a key in a map, or adds the key, by the flags of `bpf_map_update_elem`. Returns 0, or a
     /// negative error, and then nothing has changed.
     pub fn update(
         &mut self,
@@ -499,7 +499,7 @@ impl Session {
         answer(status, out.answer as i64, Vec::new())
     }
 
-    /// Removes a key from a map. Answers 0, or a negative error, and then nothing has changed.
+    /// Removes a key from a map. Returns 0, or a negative error, and then nothing has changed.
     pub fn delete(&mut self, map: usize, key: &[u8]) -> Result<i64, Error> {
         let mut out = Changed::default();
         // SAFETY: as above.
@@ -507,8 +507,8 @@ impl Session {
         answer(status, out.answer as i64, Vec::new())
     }
 
-    /// Reads the key at a rank, from 0, with its value, and says whether there is one: of an array by its index, of a hash
-    /// map by the bytes of the keys. Each call goes through the whole map.
+    /// Reads the key at a rank, from 0, with its value, and returns whether there is one: of an array by its index, of a
+    /// hash map by the bytes of the keys. Each call takes time for all keys of the map.
     pub fn key_at(
         &mut self,
         map: usize,

@@ -69,19 +69,23 @@ read i = Ok (record { insn = i; name = None })
 
 -- ---- arithmetic
 
-arithmetic-read : (o : AluOp) (w : Width) (d : Reg) (x : Operand) (s : Sign) → OperandFits x → arithmetic o w d (reg w d ∷ Signed s ∷ operand_tokens w x) ≡ read (Alu w o d x)
+arithmetic-read : (o : AluOp) (w : Width) (d : Reg) (x : Operand) (s : Sign) → OperandFits x
+    → arithmetic o w d (reg w d ∷ Signed s ∷ operand_tokens w x) ≡ read (Alu w o d x)
 arithmetic-read o w d (Register r) s h = rw (same-width w) refl
 arithmetic-read o w d (Constant (pos n)) s h = rw (imm-pos n h) refl
 arithmetic-read o w d (Constant (negsuc n)) s h = rw (imm-neg n h) refl
 
-moved-read : (w : Width) (d : Reg) (x : Operand) → OperandFits x → statement_of (reg w d ∷ Signed sign.Assign ∷ operand_tokens w x) ≡ read (Alu w op.Mov d x)
+moved-read : (w : Width) (d : Reg) (x : Operand) → OperandFits x
+    → statement_of (reg w d ∷ Signed sign.Assign ∷ operand_tokens w x) ≡ read (Alu w op.Mov d x)
 unfolding statement_of
 moved-read Low32 d (Register r) h = arithmetic-read op.Mov Low32 d (Register r) sign.Assign h
 moved-read Full64 d (Register r) h = arithmetic-read op.Mov Full64 d (Register r) sign.Assign h
 moved-read w d (Constant (pos n)) h = arithmetic-read op.Mov w d (Constant (pos n)) sign.Assign h
-moved-read w d (Constant (negsuc n)) h = arithmetic-read op.Mov w d (Constant (negsuc n)) sign.Assign h
+moved-read w d (Constant (negsuc n)) h =
+    arithmetic-read op.Mov w d (Constant (negsuc n)) sign.Assign h
 
-alu-statement : (o : AluOp) (w : Width) (d : Reg) (x : Operand) → OperandFits x → statement_of (reg w d ∷ Signed (assigns o) ∷ operand_tokens w x) ≡ read (Alu w o d x)
+alu-statement : (o : AluOp) (w : Width) (d : Reg) (x : Operand) → OperandFits x
+    → statement_of (reg w d ∷ Signed (assigns o) ∷ operand_tokens w x) ≡ read (Alu w o d x)
 unfolding statement_of
 alu-statement op.Mov w d x h = moved-read w d x h
 alu-statement op.Add w d x h = arithmetic-read op.Add w d x sign.AddAssign h
@@ -98,14 +102,21 @@ alu-statement op.SignedMod w d x h = arithmetic-read op.SignedMod w d x sign.Sig
 alu-statement op.Xor w d x h = arithmetic-read op.Xor w d x sign.XorAssign h
 alu-statement op.Arsh w d x h = arithmetic-read op.Arsh w d x sign.ArshAssign h
 
-pub alu-form : (o : AluOp) (w : Width) (d : Reg) (x : Operand) → OperandFits x → plain_statement (reg w d ∷ Signed (assigns o) ∷ operand_tokens w x) ≡ Some (Alu w o d x)
+pub alu-form : (o : AluOp) (w : Width) (d : Reg) (x : Operand) → OperandFits x
+    → plain_statement (reg w d ∷ Signed (assigns o) ∷ operand_tokens w x) ≡ Some (Alu w o d x)
 alu-form o w d x h = ap unnamed_reading (alu-statement o w d x h)
 
-pub neg-form : (w : Width) (d : Reg) → plain_statement (reg w d ∷ Signed sign.Assign ∷ Signed sign.Minus ∷ reg w d ∷ []) ≡ Some (Neg w d)
+pub neg-form : (w : Width) (d : Reg)
+    → plain_statement (reg w d ∷ Signed sign.Assign ∷ Signed sign.Minus ∷ reg w d ∷ [])
+    ≡ Some (Neg w d)
 unfolding statement_of
 neg-form w d = rw (same-width w, same-register d) refl
 
-pub extension-form : (e : Extension) (d s : Reg) → plain_statement (reg (extension_width e) d ∷ Signed sign.Assign ∷ Signed sign.Open ∷ Named (word.SignExtended (extends e).1) ∷ Signed sign.Close ∷ reg (extension_width e) s ∷ []) ≡ Some (MovSx e d s)
+pub extension-form : (e : Extension) (d s : Reg)
+    → plain_statement
+    (reg (extension_width e) d ∷ Signed sign.Assign ∷ Signed sign.Open
+    ∷ Named (word.SignExtended (extends e).1) ∷ Signed sign.Close ∷ reg (extension_width e) s ∷ [])
+    ≡ Some (MovSx e d s)
 unfolding statement_of
 extension-form Low8 d s = refl
 extension-form Low16 d s = refl
@@ -113,11 +124,16 @@ extension-form Full8 d s = refl
 extension-form Full16 d s = refl
 extension-form Full32 d s = refl
 
-pub swap-form : (order : ByteOrder) (span : SwapWidth) (d : Reg) → plain_statement (reg Full64 d ∷ Signed sign.Assign ∷ Named (word.Swapped order span) ∷ reg Full64 d ∷ []) ≡ Some (ByteSwap order span d)
+pub swap-form : (order : ByteOrder) (span : SwapWidth) (d : Reg)
+    → plain_statement
+    (reg Full64 d ∷ Signed sign.Assign ∷ Named (word.Swapped order span) ∷ reg Full64 d ∷ [])
+    ≡ Some (ByteSwap order span d)
 unfolding statement_of
 swap-form order span d = rw (same-register d) refl
 
-pub wide-form : (d : Reg) (n : ℕ) → n < 2 ^ 64 → plain_statement (reg Full64 d ∷ Signed sign.Assign ∷ Number n ∷ Named word.Wide ∷ []) ≡ Some (LoadNumber d n)
+pub wide-form : (d : Reg) (n : ℕ) → n < 2 ^ 64
+    → plain_statement (reg Full64 d ∷ Signed sign.Assign ∷ Number n ∷ Named word.Wide ∷ [])
+    ≡ Some (LoadNumber d n)
 unfolding statement_of
 wide-form d n h = let t : nat_lt n (2 ^ 64) ≡ true = lt-ltb n (2 ^ 64) h in rw t refl
 
@@ -126,24 +142,37 @@ wide-form d n h = let t : nat_lt n (2 ^ 64) ≡ true = lt-ltb n (2 ^ 64) h in rw
 -- * ( size * ) ( place )
 abbrev pub memory_tokens : Word → Reg → ℤ → List Token → List Token
 memory_tokens size b by rest =
-    Signed sign.Star ∷ Signed sign.Open ∷ Named size ∷ Signed sign.Star ∷ Signed sign.Close ∷ Signed sign.Open ∷ reg Full64 b ∷ (signed_tokens by ++ Signed sign.Close ∷ rest)
+    Signed sign.Star ∷ Signed sign.Open ∷ Named size ∷ Signed sign.Star ∷ Signed sign.Close
+    ∷ Signed sign.Open ∷ reg Full64 b ∷ (signed_tokens by ++ Signed sign.Close ∷ rest)
 
-pub load-form : (size : Size) (d b : Reg) (by : ℤ) → FitsSigned w16 by → plain_statement (reg Full64 d ∷ Signed sign.Assign ∷ memory_tokens (word.Unsigned size) b by []) ≡ Some (Load size d (record { base = b; offset = by }))
+pub load-form : (size : Size) (d b : Reg) (by : ℤ) → FitsSigned w16 by
+    → plain_statement
+    (reg Full64 d ∷ Signed sign.Assign ∷ memory_tokens (word.Unsigned size) b by [])
+    ≡ Some (Load size d (record { base = b; offset = by }))
 unfolding statement_of
 load-form size d b (pos n) h = rw (offset-pos n h) refl
 load-form size d b (negsuc n) h = rw (offset-neg n h) refl
 
-pub extending-form : (size : SignedSize) (d b : Reg) (by : ℤ) → FitsSigned w16 by → plain_statement (reg Full64 d ∷ Signed sign.Assign ∷ memory_tokens (word.SignExtended size) b by []) ≡ Some (LoadSx size d (record { base = b; offset = by }))
+pub extending-form : (size : SignedSize) (d b : Reg) (by : ℤ) → FitsSigned w16 by
+    → plain_statement
+    (reg Full64 d ∷ Signed sign.Assign ∷ memory_tokens (word.SignExtended size) b by [])
+    ≡ Some (LoadSx size d (record { base = b; offset = by }))
 unfolding statement_of
 extending-form size d b (pos n) h = rw (offset-pos n h) refl
 extending-form size d b (negsuc n) h = rw (offset-neg n h) refl
 
-pub store-form : (size : Size) (b s : Reg) (by : ℤ) → FitsSigned w16 by → plain_statement (memory_tokens (word.Unsigned size) b by (Signed sign.Assign ∷ reg Full64 s ∷ [])) ≡ Some (Store size (record { base = b; offset = by }) s)
+pub store-form : (size : Size) (b s : Reg) (by : ℤ) → FitsSigned w16 by
+    → plain_statement
+    (memory_tokens (word.Unsigned size) b by (Signed sign.Assign ∷ reg Full64 s ∷ []))
+    ≡ Some (Store size (record { base = b; offset = by }) s)
 unfolding statement_of
 store-form size b s (pos n) h = rw (offset-pos n h) refl
 store-form size b s (negsuc n) h = rw (offset-neg n h) refl
 
-pub constant-form : (size : Size) (b : Reg) (by k : ℤ) → FitsSigned w16 by → FitsSigned w32 k → plain_statement (memory_tokens (word.Unsigned size) b by (Signed sign.Assign ∷ constant_tokens k)) ≡ Some (StoreConstant size (record { base = b; offset = by }) k)
+pub constant-form : (size : Size) (b : Reg) (by k : ℤ) → FitsSigned w16 by → FitsSigned w32 k
+    → plain_statement
+    (memory_tokens (word.Unsigned size) b by (Signed sign.Assign ∷ constant_tokens k))
+    ≡ Some (StoreConstant size (record { base = b; offset = by }) k)
 unfolding statement_of
 constant-form size b (pos n) (pos m) h g = rw (offset-pos n h, imm-pos m g) refl
 constant-form size b (pos n) (negsuc m) h g = rw (offset-pos n h, imm-neg m g) refl
@@ -162,7 +191,11 @@ pub width-back : (w : Width) → width_of (width_size w) ≡ Ok w
 width-back Low32 = refl
 width-back Full64 = refl
 
-pub lock-form : (w : Width) (o : AtomicOp) (b s : Reg) (by : ℤ) → FitsSigned w16 by → plain_statement (Named word.Lock ∷ memory_tokens (word.Unsigned (width_size w)) b by (Signed (changes o) ∷ reg Full64 s ∷ [])) ≡ Some (Atomic w o false (record { base = b; offset = by }) s)
+pub lock-form : (w : Width) (o : AtomicOp) (b s : Reg) (by : ℤ) → FitsSigned w16 by
+    → plain_statement
+    (Named word.Lock
+    ∷ memory_tokens (word.Unsigned (width_size w)) b by (Signed (changes o) ∷ reg Full64 s ∷ []))
+    ≡ Some (Atomic w o false (record { base = b; offset = by }) s)
 unfolding statement_of
 lock-form w o b s (pos n) h = rw (offset-pos n h, width-back w, atomic-back o) refl
 lock-form w o b s (negsuc n) h = rw (offset-neg n h, width-back w, atomic-back o) refl
@@ -170,41 +203,56 @@ lock-form w o b s (negsuc n) h = rw (offset-neg n h, width-back w, atomic-back o
 -- R = word ( place ,
 abbrev pub exchange_tokens : Word → Reg → Reg → ℤ → List Token → List Token
 exchange_tokens x d b by rest =
-    reg Full64 d ∷ Signed sign.Assign ∷ Named x ∷ Signed sign.Open ∷ reg Full64 b ∷ (signed_tokens by ++ Signed sign.Comma ∷ rest)
+    reg Full64 d ∷ Signed sign.Assign ∷ Named x ∷ Signed sign.Open ∷ reg Full64 b
+    ∷ (signed_tokens by ++ Signed sign.Comma ∷ rest)
 
-pub fetch-form : (w : Width) (o : AtomicOp) (b s : Reg) (by : ℤ) → FitsSigned w16 by → plain_statement (exchange_tokens (word.Fetch o w) s b by (reg Full64 s ∷ Signed sign.Close ∷ [])) ≡ Some (Atomic w o true (record { base = b; offset = by }) s)
+pub fetch-form : (w : Width) (o : AtomicOp) (b s : Reg) (by : ℤ) → FitsSigned w16 by
+    → plain_statement
+    (exchange_tokens (word.Fetch o w) s b by (reg Full64 s ∷ Signed sign.Close ∷ []))
+    ≡ Some (Atomic w o true (record { base = b; offset = by }) s)
 unfolding statement_of
 fetch-form w o b s (pos n) h = rw (offset-pos n h, same-register s) refl
 fetch-form w o b s (negsuc n) h = rw (offset-neg n h, same-register s) refl
 
-pub exchange-form : (w : Width) (b s : Reg) (by : ℤ) → FitsSigned w16 by → plain_statement (exchange_tokens (word.Exchange w) s b by (reg Full64 s ∷ Signed sign.Close ∷ [])) ≡ Some (Exchange w (record { base = b; offset = by }) s)
+pub exchange-form : (w : Width) (b s : Reg) (by : ℤ) → FitsSigned w16 by
+    → plain_statement
+    (exchange_tokens (word.Exchange w) s b by (reg Full64 s ∷ Signed sign.Close ∷ []))
+    ≡ Some (Exchange w (record { base = b; offset = by }) s)
 unfolding statement_of
 exchange-form w b s (pos n) h = rw (offset-pos n h, same-register s) refl
 exchange-form w b s (negsuc n) h = rw (offset-neg n h, same-register s) refl
 
-pub compare-form : (w : Width) (b s : Reg) (by : ℤ) → FitsSigned w16 by → plain_statement (exchange_tokens (word.CompareExchange w) R0 b by (reg Full64 R0 ∷ Signed sign.Comma ∷ reg Full64 s ∷ Signed sign.Close ∷ [])) ≡ Some (CompareExchange w (record { base = b; offset = by }) s)
+pub compare-form : (w : Width) (b s : Reg) (by : ℤ) → FitsSigned w16 by
+    → plain_statement
+    (exchange_tokens (word.CompareExchange w) R0 b by
+    (reg Full64 R0 ∷ Signed sign.Comma ∷ reg Full64 s ∷ Signed sign.Close ∷ []))
+    ≡ Some (CompareExchange w (record { base = b; offset = by }) s)
 unfolding statement_of
 compare-form w b s (pos n) h = rw (offset-pos n h) refl
 compare-form w b s (negsuc n) h = rw (offset-neg n h) refl
 
 -- ---- jumps
 
-pub jump-form : (by : ℤ) → FitsSigned w16 by → plain_statement (Named word.Goto ∷ signed_tokens by) ≡ Some (Jump by)
+pub jump-form : (by : ℤ) → FitsSigned w16 by
+    → plain_statement (Named word.Goto ∷ signed_tokens by) ≡ Some (Jump by)
 unfolding statement_of
 jump-form (pos n) h = rw (offset-pos n h) refl
 jump-form (negsuc n) h = rw (offset-neg n h) refl
 
-pub long-form : (by : ℤ) → FitsSigned w32 by → plain_statement (Named word.GotoLong ∷ signed_tokens by) ≡ Some (JumpLong by)
+pub long-form : (by : ℤ) → FitsSigned w32 by
+    → plain_statement (Named word.GotoLong ∷ signed_tokens by) ≡ Some (JumpLong by)
 unfolding statement_of
 long-form (pos n) h = rw (imm-pos n h) refl
 long-form (negsuc n) h = rw (imm-neg n h) refl
 
-pub call-form : (by : ℤ) → FitsSigned w32 by → plain_statement (Named word.Call ∷ Named word.Pc ∷ signed_tokens by) ≡ Some (CallLocal by)
+pub call-form : (by : ℤ) → FitsSigned w32 by
+    → plain_statement (Named word.Call ∷ Named word.Pc ∷ signed_tokens by) ≡ Some (CallLocal by)
 unfolding statement_of
 call-form (pos n) h = rw (imm-pos n h) refl
 call-form (negsuc n) h = rw (imm-neg n h) refl
 
-pub helper-form : (k : ℤ) → FitsSigned w32 k → plain_statement (Named word.Call ∷ constant_tokens k) ≡ Some (CallHelper k)
+pub helper-form : (k : ℤ) → FitsSigned w32 k
+    → plain_statement (Named word.Call ∷ constant_tokens k) ≡ Some (CallHelper k)
 unfolding statement_of
 helper-form (pos n) h = rw (imm-pos n h) refl
 helper-form (negsuc n) h = rw (imm-neg n h) refl
@@ -226,11 +274,22 @@ comparison-back comparison.SignedGreaterEqual = refl
 comparison-back comparison.SignedLess = refl
 comparison-back comparison.SignedLessEqual = refl
 
-pub condition-form : (w : Width) (c : Comparison) (d : Reg) (x : Operand) (by : ℤ) → OperandFits x → FitsSigned w16 by → plain_statement (Named word.If ∷ reg w d ∷ Signed (compares c) ∷ (operand_tokens w x ++ Named word.Goto ∷ signed_tokens by)) ≡ Some (JumpIf (record { width = w; comparison = c; register = d; operand = x }) by)
+pub condition-form : (w : Width) (c : Comparison) (d : Reg) (x : Operand) (by : ℤ) → OperandFits x
+    → FitsSigned w16 by
+    → plain_statement
+    (Named word.If ∷ reg w d ∷ Signed (compares c)
+    ∷ (operand_tokens w x ++ Named word.Goto ∷ signed_tokens by))
+    ≡ Some (JumpIf (record { width = w; comparison = c; register = d; operand = x }) by)
 unfolding statement_of
-condition-form w c d (Register r) (pos m) h g = rw (comparison-back c, same-width w, offset-pos m g) refl
-condition-form w c d (Register r) (negsuc m) h g = rw (comparison-back c, same-width w, offset-neg m g) refl
-condition-form w c d (Constant (pos n)) (pos m) h g = rw (comparison-back c, imm-pos n h, offset-pos m g) refl
-condition-form w c d (Constant (pos n)) (negsuc m) h g = rw (comparison-back c, imm-pos n h, offset-neg m g) refl
-condition-form w c d (Constant (negsuc n)) (pos m) h g = rw (comparison-back c, imm-neg n h, offset-pos m g) refl
-condition-form w c d (Constant (negsuc n)) (negsuc m) h g = rw (comparison-back c, imm-neg n h, offset-neg m g) refl
+condition-form w c d (Register r) (pos m) h g =
+    rw (comparison-back c, same-width w, offset-pos m g) refl
+condition-form w c d (Register r) (negsuc m) h g =
+    rw (comparison-back c, same-width w, offset-neg m g) refl
+condition-form w c d (Constant (pos n)) (pos m) h g =
+    rw (comparison-back c, imm-pos n h, offset-pos m g) refl
+condition-form w c d (Constant (pos n)) (negsuc m) h g =
+    rw (comparison-back c, imm-pos n h, offset-neg m g) refl
+condition-form w c d (Constant (negsuc n)) (pos m) h g =
+    rw (comparison-back c, imm-neg n h, offset-pos m g) refl
+condition-form w c d (Constant (negsuc n)) (negsuc m) h g =
+    rw (comparison-back c, imm-neg n h, offset-neg m g) refl

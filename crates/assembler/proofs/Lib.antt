@@ -1,9 +1,10 @@
 pub mod PlainTexts
-pub mod Turns
+pub mod FrontTokens
 pub mod Digits
 pub mod TokenReads
 pub mod FormReads
 pub mod LineReads
+pub mod MemoryLineReads
 pub mod MapReads
 pub mod TextReads
 pub mod ColumnCounts
@@ -12,8 +13,9 @@ pub mod LabelLookups
 pub mod NearDistances
 pub mod NameUses
 pub mod ZeroedTokens
-pub mod TextTurns
+pub mod ReadingLoop
 pub mod PlainReads
+pub mod PlainTextReads
 pub mod MapLaws
 pub mod SpellsLaws
 pub mod SpellsParts

@@ -1,4 +1,4 @@
--- Distances of 16 bits.
+-- Laws of distances that have 16 bits.
 use Rattle.std.proofs.Common.{◌≡◌, ◌^◌, true, false, ℤ, pos, negsuc, FitsSigned, ltb-true, lt-ltb, inl, inr}
 use Rattle.std.proofs.lemmas.Bool.{cases_Bool}
 use Rattle.std.specs.Int.{w16}

@@ -62,7 +62,7 @@ with_insn ps i = record { version = ps.version; maps = ps.maps; insns = ps.insns
 abbrev pub with_version : Parts → Parts
 with_version ps = record { version = Two; maps = ps.maps; insns = ps.insns }
 
--- whether nothing comes before the statement
+-- whether it is the first statement
 abbrev pub is_start : Parts → Bool
 is_start ps = is_one ps.version && (length ps.maps == 0 && (length ps.insns == 0))
 
@@ -76,30 +76,33 @@ added ps (Some i) = keep (takes ps i) (record { tokens = []; parts = with_insn p
 
 abbrev pub added_row : Parts → Result MapDef Wrong → Option StatementSoFar
 added_row ps (Err wrong) = None
-added_row ps (Ok row) = keep (takes_row ps.insns ps.maps row) (record { tokens = []; parts = with_row ps row })
+added_row ps (Ok row) =
+    keep (takes_row ps.insns ps.maps row) (record { tokens = []; parts = with_row ps row })
 
 abbrev pub added_version : Parts → Result Statement Wrong → Option StatementSoFar
 added_version ps (Ok Version) = keep (is_start ps) (record { tokens = []; parts = with_version ps })
 added_version ps r = None
 
--- at the end of a statement
-abbrev pub closed : StatementSoFar → Option StatementSoFar
-closed s =
+-- the version, the map rows and the instructions after a statement has ended
+abbrev pub at_end : StatementSoFar → Option StatementSoFar
+at_end s =
     if length s.tokens == 0 then Some s
-    else if begins_version_line (slice_get s.tokens 0) then added_version s.parts (version_line s.tokens)
+    else if begins_version_line (slice_get s.tokens 0)
+    then added_version s.parts (version_line s.tokens)
     else if begins_map_line (slice_get s.tokens 0) then added_row s.parts (map_line s.tokens)
     else added s.parts (plain_statement s.tokens)
 
 abbrev pub accept : StatementSoFar → Lexeme → Option StatementSoFar
 accept s Blank = Some s
-accept s End = closed s
+accept s End = at_end s
 accept s (Solid t) = Some (record { tokens = s.tokens ++ t ∷ []; parts = s.parts })
 
--- what a text makes after its first bytes
+-- the result of reading the bytes of a text after the first k of them
 abbrev pub assembled : List ℕ → ℕ → StatementSoFar → Option StatementSoFar
-assembled [] k s = closed s
+assembled [] k s = at_end s
 assembled (b ∷ bs) (suc k) s = assembled bs k s
-assembled (b ∷ bs) zero s = lexeme_at (b ∷ bs) >>= λ (p : Lexeme × ℕ). accept s p.0 >>= λ t. assembled bs (p.1 - 1) t
+assembled (b ∷ bs) zero s =
+    lexeme_at (b ∷ bs) >>= λ (p : Lexeme × ℕ). accept s p.0 >>= λ t. assembled bs (p.1 - 1) t
 
 abbrev pub start : StatementSoFar
 start = record { tokens = []; parts = record { version = One; maps = []; insns = [] } }
@@ -112,14 +115,16 @@ no_insn = None
 pub no-insn : (i : Insn) → no_insn ≡ Some i → ⊥
 no-insn i h = cc
 
-pub not-map-line : (ts : List Token) (i : Insn) → plain_statement ts ≡ Some i → begins_map_line (slice_get ts 0) ≡ false
+pub not-map-line : (ts : List Token) (i : Insn) → plain_statement ts ≡ Some i
+    → begins_map_line (slice_get ts 0) ≡ false
 unfolding statement_of
 not-map-line [] i h = refl
 not-map-line (Named word.Map ∷ ts) i h = absurd (no-insn i h)
 not-map-line (t ∷ ts) i h = refl
 
 -- nor is a version line
-pub not-version-line : (ts : List Token) (i : Insn) → plain_statement ts ≡ Some i → begins_version_line (slice_get ts 0) ≡ false
+pub not-version-line : (ts : List Token) (i : Insn) → plain_statement ts ≡ Some i
+    → begins_version_line (slice_get ts 0) ≡ false
 unfolding statement_of
 not-version-line [] i h = refl
 not-version-line (Named word.Version ∷ ts) i h = absurd (no-insn i h)

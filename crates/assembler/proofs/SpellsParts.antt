@@ -1,4 +1,4 @@
--- Readers of places, targets and names from their answers: which tokens they have read.
+-- Which tokens were read where a place, a target or a name was found.
 use Rattle.std.proofs.Common.{◌≡◌, ℕ, suc, ◌+◌, ◌-◌, ◌<◌, ◌≤◌, ◌^◌, length, List, [], ◌∷◌, refl, sym, ap, ◌∙◌, subst, inl, inr, arith}
 use Rattle.std.specs.Prelude.{◌≢◌, Bool, Option, Some, None, Ok, Err, true, false, ◌==◌, if◌then◌else◌, slice_get, nat_lt, nat_le, ℤ, pos}
 use Rattle.isa_model.specs.declared.sizes.Width.{Width}
@@ -39,8 +39,11 @@ some t = Some t
 -- *(size *)(P)
 pub memory_at_tokens : (ts : List Token) (i : ℕ) (m : Word × Place) → memory_at ts i ≡ Ok m
     → (s : Sign) × (n : ℕ) × IsSigned (2 ^ 15) s n m.1.offset
-    × At ts i (Signed sign.Star) × At ts (i + 1) (Signed sign.Open) × At ts (i + 2) (Named m.0) × At ts (i + 3) (Signed sign.Star) × At ts (i + 4) (Signed sign.Close) × At ts (i + 5) (Signed sign.Open)
-    × At ts (i + 6) (reg Full64 m.1.base) × At ts (i + 6 + 1) (Signed s) × At ts (i + 6 + 1 + 1) (Number n) × At ts (i + 9) (Signed sign.Close)
+    × At ts i (Signed sign.Star) × At ts (i + 1) (Signed sign.Open) × At ts (i + 2) (Named m.0)
+    × At ts (i + 3) (Signed sign.Star) × At ts (i + 4) (Signed sign.Close)
+    × At ts (i + 5) (Signed sign.Open)
+    × At ts (i + 6) (reg Full64 m.1.base) × At ts (i + 6 + 1) (Signed s)
+    × At ts (i + 6 + 1 + 1) (Number n) × At ts (i + 9) (Signed sign.Close)
 memory_at_tokens ts i m h =
     let (u0, star, h1) = bind (expect_at ts i sign.Star) _ m h in
     let (u1, opens, h2) = bind (expect_at ts (i + 1) sign.Open) _ m h1 in
@@ -70,7 +73,8 @@ memory_at_tokens ts i m h =
 -- (P,
 pub argument_at_tokens : (ts : List Token) (i : ℕ) (p : Place) → argument_at ts i ≡ Ok p
     → (s : Sign) × (n : ℕ) × IsSigned (2 ^ 15) s n p.offset
-    × At ts i (Signed sign.Open) × At ts (i + 1) (reg Full64 p.base) × At ts (i + 1 + 1) (Signed s) × At ts (i + 1 + 1 + 1) (Number n) × At ts (i + 4) (Signed sign.Comma)
+    × At ts i (Signed sign.Open) × At ts (i + 1) (reg Full64 p.base) × At ts (i + 1 + 1) (Signed s)
+    × At ts (i + 1 + 1 + 1) (Number n) × At ts (i + 4) (Signed sign.Comma)
 argument_at_tokens ts i p h =
     let (u0, opens, h1) = bind (expect_at ts i sign.Open) _ p h in
     let (q, placed, h2) = bind (place_at ts (i + 1)) _ p h1 in
@@ -90,63 +94,95 @@ argument_at_tokens ts i p h =
 -- ---- targets
 
 is_name_not : (x : Word) → is_name x ≡ true → x ≢ word.Pc
-is_name_not x h e = let no : is_name word.Pc ≡ true = subst (λ (y : Word). is_name y ≡ true) e h in absurd (cc)
+is_name_not x h e =
+    let no : is_name word.Pc ≡ true = subst (λ (y : Word). is_name y ≡ true) e h in absurd (cc)
 
-named_target : (half : ℕ) (ts : List Token) (i : ℕ) (x : Word) (t : ℤ × Option ℕ) (b : Bool) → is_name x ≡ b
-    → (if b then keep (length ts == i + 1) (let z : ℤ × Option ℕ = (pos 0, Some i) in z) else Err Form) ≡ Ok t → At ts i (Named x)
-    → (xs : List Token) × IsTarget half xs t.0 i t.1 × HasTokensAt ts i xs × (length ts ≡ i + length xs)
+named_target : (half : ℕ) (ts : List Token) (i : ℕ) (x : Word) (t : ℤ × Option ℕ) (b : Bool)
+    → is_name x ≡ b
+    → (if b then keep (length ts == i + 1) (let z : ℤ × Option ℕ = (pos 0, Some i) in z)
+    else Err Form) ≡ Ok t → At ts i (Named x)
+    → (xs : List Token) × IsTarget half xs t.0 i t.1 × HasTokensAt ts i xs
+    × (length ts ≡ i + length xs)
 named_target half ts i x t false is h here = absurd (cc)
 named_target half ts i x t true is h here =
     let (b, same) = kept (length ts == i + 1) (let z : ℤ × Option ℕ = (pos 0, Some i) in z) t h in (
       Named x ∷ [],
-      inr (x, refl, is_name_not x is, ap (λ (q : ℤ × Option ℕ). q.0) (sym same), ap (λ (q : ℤ × Option ℕ). q.1) (sym same)),
+      inr (
+        x,
+        refl,
+        is_name_not x is,
+        ap (λ (q : ℤ × Option ℕ). q.0) (sym same),
+        ap (λ (q : ℤ × Option ℕ). q.1) (sym same),
+      ),
       (here, tt),
       equal (length ts) (i + 1) b,
     )
 
-target_of : (half : ℕ) (ts : List Token) (i : ℕ) (t : Token) (x : ℤ × Option ℕ) → At ts i t → target_token half ts i t ≡ Ok x
-    → (xs : List Token) × IsTarget half xs x.0 i x.1 × HasTokensAt ts i xs × (length ts ≡ i + length xs)
+target_of : (half : ℕ) (ts : List Token) (i : ℕ) (t : Token) (x : ℤ × Option ℕ) → At ts i t
+    → target_token half ts i t ≡ Ok x
+    → (xs : List Token) × IsTarget half xs x.0 i x.1 × HasTokensAt ts i xs
+    × (length ts ≡ i + length xs)
 target_of half ts i (Signed m) x here h =
     let (by, distance, rest) = bind (signed_at half ts i) _ x h in
     let (s, n, signs, number, is) = signed half ts i by distance in
     let (b, same) = kept (length ts == i + 2) (let z : ℤ × Option ℕ = (by, None) in z) x rest in
     let next : i + 1 ≡ suc i = omega arith in (
       Signed s ∷ Number n ∷ [],
-      inl (s, n, refl, subst (λ (q : ℤ × Option ℕ). IsSigned half s n q.0) same is, ap (λ (q : ℤ × Option ℕ). q.1) (sym same)),
+      inl (
+        s,
+        n,
+        refl,
+        subst (λ (q : ℤ × Option ℕ). IsSigned half s n q.0) same is,
+        ap (λ (q : ℤ × Option ℕ). q.1) (sym same),
+      ),
       (signs, (subst (λ j. At ts j (Number n)) next number, tt)),
       equal (length ts) (i + 2) b,
     )
 target_of half ts i (Named y) x here h = named_target half ts i y x (is_name y) refl h here
 target_of half ts i (Number n) x here h = absurd (cc)
 
-pub target : (half : ℕ) (ts : List Token) (i : ℕ) (x : ℤ × Option ℕ) → target_at half ts i ≡ Ok x → (xs : List Token) × IsTarget half xs x.0 i x.1 × HasTokensAt ts i xs × (length ts ≡ i + length xs)
-target half ts i x h = let (t, here, is) = bind (token_at ts i) (target_token half ts i) x h in target_of half ts i t x (token ts i t here) is
+pub target : (half : ℕ) (ts : List Token) (i : ℕ) (x : ℤ × Option ℕ) → target_at half ts i ≡ Ok x
+    → (xs : List Token) × IsTarget half xs x.0 i x.1 × HasTokensAt ts i xs
+    × (length ts ≡ i + length xs)
+target half ts i x h =
+    let (t, here, is) = bind (token_at ts i) (target_token half ts i) x h in
+    target_of half ts i t x (token ts i t here) is
 
 -- ---- maps
 
 -- a number of a field of 32 bits
-pub field_at_token : (ts : List Token) (i m : ℕ) → field_at 4294967295 ts i ≡ Ok m → (n : ℕ) × At ts i (Number n) × (m ≡ field n)
+pub field_at_token : (ts : List Token) (i m : ℕ) → field_at 4294967295 ts i ≡ Ok m
+    → (n : ℕ) × At ts i (Number n) × (m ≡ field n)
 field_at_token ts i m h =
     let (n, number, value) = bind (number_at ts i) _ m h in
     let same : field n ≡ m = cc (value) in
     (n, number_at_token ts i n number, sym same)
 
 -- (n)
-pub index_at_tokens : (ts : List Token) (i m : ℕ) → index_at ts i ≡ Ok m → (n : ℕ) × (m ≡ field n) × At ts i (Signed sign.Open) × At ts (i + 1) (Number n) × At ts (i + 2) (Signed sign.Close)
+pub index_at_tokens : (ts : List Token) (i m : ℕ) → index_at ts i ≡ Ok m
+    → (n : ℕ) × (m ≡ field n) × At ts i (Signed sign.Open) × At ts (i + 1) (Number n)
+    × At ts (i + 2) (Signed sign.Close)
 index_at_tokens ts i m h =
     let (u0, opens, h1) = bind (expect_at ts i sign.Open) _ m h in
     let (k, value, h2) = bind (field_at 4294967295 ts (i + 1)) _ m h1 in
     let (u2, closes, last) = bind (expect_at ts (i + 2) sign.Close) _ m h2 in
     let same : k ≡ m = cc (last) in
-    let (n, number, is) = field_at_token ts (i + 1) k value in
-    (n, sym same ∙ is, expected ts i sign.Open u0 opens, number, expected ts (i + 2) sign.Close u2 closes)
+    let (n, number, is) = field_at_token ts (i + 1) k value in (
+      n,
+      sym same ∙ is,
+      expected ts i sign.Open u0 opens,
+      number,
+      expected ts (i + 2) sign.Close u2 closes,
+    )
 
 by_index_word : (x : Word) → is_by_index x ≡ true → x ≡ word.MapByIndex
 by_index_word word.MapByIndex h = refl
 by_index_word x h = absurd (cc)
 
-by_index_of : (ts : List Token) (i : ℕ) (x : Word) (b : Bool) (m : ℕ) → At ts i (Named x) → is_by_index x ≡ b → (if b then index_at ts (i + 1) else Err Form) ≡ Ok m
-    → (n : ℕ) × (m ≡ field n) × At ts i (Named word.MapByIndex) × At ts (i + 1) (Signed sign.Open) × At ts (i + 1 + 1) (Number n) × At ts (i + 1 + 2) (Signed sign.Close)
+by_index_of : (ts : List Token) (i : ℕ) (x : Word) (b : Bool) (m : ℕ) → At ts i (Named x)
+    → is_by_index x ≡ b → (if b then index_at ts (i + 1) else Err Form) ≡ Ok m
+    → (n : ℕ) × (m ≡ field n) × At ts i (Named word.MapByIndex) × At ts (i + 1) (Signed sign.Open)
+    × At ts (i + 1 + 1) (Number n) × At ts (i + 1 + 2) (Signed sign.Close)
 by_index_of ts i x false m here is h = absurd (cc)
 by_index_of ts i x true m here is h =
     let (n, value, opens, number, closes) = index_at_tokens ts (i + 1) m h in
@@ -154,7 +190,8 @@ by_index_of ts i x true m here is h =
 
 -- map_by_idx(n)
 pub by_index_at_tokens : (ts : List Token) (i m : ℕ) → by_index_at ts i ≡ Ok m
-    → (n : ℕ) × (m ≡ field n) × At ts i (Named word.MapByIndex) × At ts (i + 1) (Signed sign.Open) × At ts (i + 1 + 1) (Number n) × At ts (i + 1 + 2) (Signed sign.Close)
+    → (n : ℕ) × (m ≡ field n) × At ts i (Named word.MapByIndex) × At ts (i + 1) (Signed sign.Open)
+    × At ts (i + 1 + 1) (Number n) × At ts (i + 1 + 2) (Signed sign.Close)
 by_index_at_tokens ts i m h =
     let (x, here, rest) = bind (word_at ts i) _ m h in
     by_index_of ts i x (is_by_index x) m (word_at_token ts i x here) refl rest
@@ -189,14 +226,18 @@ pub comparison_in : (s : Sign) (c : Comparison) → comparison_of s ≡ Ok c →
 comparison_in sign.Equal c h = let same : comparison.Equal ≡ c = cc in ap compares same
 comparison_in sign.NotEqual c h = let same : comparison.NotEqual ≡ c = cc in ap compares same
 comparison_in sign.Greater c h = let same : comparison.Greater ≡ c = cc in ap compares same
-comparison_in sign.GreaterEqual c h = let same : comparison.GreaterEqual ≡ c = cc in ap compares same
+comparison_in sign.GreaterEqual c h =
+    let same : comparison.GreaterEqual ≡ c = cc in ap compares same
 comparison_in sign.Less c h = let same : comparison.Less ≡ c = cc in ap compares same
 comparison_in sign.LessEqual c h = let same : comparison.LessEqual ≡ c = cc in ap compares same
 comparison_in sign.Ampersand c h = let same : comparison.AnyBit ≡ c = cc in ap compares same
-comparison_in sign.SignedGreater c h = let same : comparison.SignedGreater ≡ c = cc in ap compares same
-comparison_in sign.SignedGreaterEqual c h = let same : comparison.SignedGreaterEqual ≡ c = cc in ap compares same
+comparison_in sign.SignedGreater c h =
+    let same : comparison.SignedGreater ≡ c = cc in ap compares same
+comparison_in sign.SignedGreaterEqual c h =
+    let same : comparison.SignedGreaterEqual ≡ c = cc in ap compares same
 comparison_in sign.SignedLess c h = let same : comparison.SignedLess ≡ c = cc in ap compares same
-comparison_in sign.SignedLessEqual c h = let same : comparison.SignedLessEqual ≡ c = cc in ap compares same
+comparison_in sign.SignedLessEqual c h =
+    let same : comparison.SignedLessEqual ≡ c = cc in ap compares same
 comparison_in s c h = absurd (cc)
 
 pub width_in : (size : Size) (w : Width) → width_of size ≡ Ok w → size ≡ width_size w
@@ -204,13 +245,19 @@ width_in U32 w h = let same : Low32 ≡ w = cc in ap width_size same
 width_in U64 w h = let same : Full64 ≡ w = cc in ap width_size same
 width_in size w h = absurd (cc)
 
-pub extension_in : (w : Width) (size : SignedSize) (e : Extension) → extension_of w size ≡ Ok e → (w ≡ (extends e).0) × (size ≡ (extends e).1)
-extension_in Low32 S8 e h = let same : Low8 ≡ e = cc in (ap (λ x. (extends x).0) same, ap (λ x. (extends x).1) same)
-extension_in Low32 S16 e h = let same : Low16 ≡ e = cc in (ap (λ x. (extends x).0) same, ap (λ x. (extends x).1) same)
+pub extension_in : (w : Width) (size : SignedSize) (e : Extension) → extension_of w size ≡ Ok e
+    → (w ≡ (extends e).0) × (size ≡ (extends e).1)
+extension_in Low32 S8 e h =
+    let same : Low8 ≡ e = cc in (ap (λ x. (extends x).0) same, ap (λ x. (extends x).1) same)
+extension_in Low32 S16 e h =
+    let same : Low16 ≡ e = cc in (ap (λ x. (extends x).0) same, ap (λ x. (extends x).1) same)
 extension_in Low32 S32 e h = absurd (cc)
-extension_in Full64 S8 e h = let same : Full8 ≡ e = cc in (ap (λ x. (extends x).0) same, ap (λ x. (extends x).1) same)
-extension_in Full64 S16 e h = let same : Full16 ≡ e = cc in (ap (λ x. (extends x).0) same, ap (λ x. (extends x).1) same)
-extension_in Full64 S32 e h = let same : Full32 ≡ e = cc in (ap (λ x. (extends x).0) same, ap (λ x. (extends x).1) same)
+extension_in Full64 S8 e h =
+    let same : Full8 ≡ e = cc in (ap (λ x. (extends x).0) same, ap (λ x. (extends x).1) same)
+extension_in Full64 S16 e h =
+    let same : Full16 ≡ e = cc in (ap (λ x. (extends x).0) same, ap (λ x. (extends x).1) same)
+extension_in Full64 S32 e h =
+    let same : Full32 ≡ e = cc in (ap (λ x. (extends x).0) same, ap (λ x. (extends x).1) same)
 
 pub size_in : (x : Word) (size : Size) → as_size x ≡ Ok size → x ≡ word.Unsigned size
 size_in (word.Unsigned q) size h = let same : q ≡ size = cc in ap word.Unsigned same
@@ -233,13 +280,19 @@ pub wide_at_token : (ts : List Token) (i : ℕ) → wide_at ts i ≡ true → At
 wide_at_token ts i h = wide_word (slice_get ts i) h
 
 pub wide_number : (at n k : ℕ) → wide_within at false n ≡ Ok k → (n < 2 ^ 64) × (k ≡ n)
-wide_number at n k h = let (b, same) = passed (nat_lt n (2 ^ 64)) n (Range at) k h in (below n (2 ^ 64) b, sym same)
+wide_number at n k h =
+    let (b, same) = passed (nat_lt n (2 ^ 64)) n (Range at) k h in (below n (2 ^ 64) b, sym same)
 
-pub wide_negative : (at n k : ℕ) → wide_within at true n ≡ Ok k → (n ≤ 2 ^ 63) × (k ≡ (if n == 0 then 0 else 2 ^ 64 - n))
+pub wide_negative : (at n k : ℕ) → wide_within at true n ≡ Ok k
+    → (n ≤ 2 ^ 63) × (k ≡ (if n == 0 then 0 else 2 ^ 64 - n))
 wide_negative at n k h =
     let (b, same) = passed (nat_le n (2 ^ 63)) (if n == 0 then 0 else 2 ^ 64 - n) (Range at) k h in
     (within n (2 ^ 63) b, sym same)
 
 -- an instruction that ends before an index
-pub ends_at : (ts : List Token) (i : Insn) (n : ℕ) (r : Reading) → plain i ts n ≡ Ok r → (length ts ≡ n) × ((let q : Reading = record { insn = i; name = None } in q) ≡ r)
-ends_at ts i n r h = let (b, same) = kept (length ts == n) (let q : Reading = record { insn = i; name = None } in q) r h in (equal (length ts) n b, same)
+pub ends_at : (ts : List Token) (i : Insn) (n : ℕ) (r : Reading) → plain i ts n ≡ Ok r
+    → (length ts ≡ n) × ((let q : Reading = record { insn = i; name = None } in q) ≡ r)
+ends_at ts i n r h =
+    let (b, same) =
+    kept (length ts == n) (let q : Reading = record { insn = i; name = None } in q) r h in
+    (equal (length ts) n b, same)

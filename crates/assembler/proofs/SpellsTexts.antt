@@ -18,11 +18,11 @@ use Rattle.assembler.specs.declared.readings.Statement.{Statement}
 use Rattle.assembler.specs.declared.readings.Statement.TheVariants as said
 use Rattle.assembler.specs.declared.wrong.Wrong.{Wrong}
 use Rattle.assembler.specs.declared.wrong.Wrong.TheVariants.{Form, Range}
-use Rattle.assembler.specs.Operands.{◌>>=◌, number_at, word_at, as_kind, field_at}
+use Rattle.assembler.specs.Operands.{◌>>=◌, number_at, word_at, as_map_type, field_at}
 use Rattle.assembler.specs.Statements.{statement_of, map_line}
 use Rattle.assembler.specs.Labelled.{begins_map_line, begins_version_line, version_number, version_line, spelled, spelled_behind, label_length}
 use Rattle.assembler.specs.MapTests.{objection}
-use Rattle.assembler.specs.Assembling.{ReadSoFar, TokenSpan, start, unless_wrong, unless_refused, is_first, named, begins_at, refused_at, with_insn, ended, closed_behind, accept, next_lexeme, read_on, error_in, program_in, assembled}
+use Rattle.assembler.specs.Assembling.{ReadSoFar, TokenSpan, start, unless_wrong, unless_refused, is_first, named, begins_at, refused_at, with_insn, ended, at_end_behind, accept, next_lexeme, read_on, error_in, program_in, assembled}
 use Rattle.assembler.specs.Spells.{Spells}
 use Rattle.assembler.proofs.SpellsTokens.{bind, kept, passed, equal, At, whole, number_at_token, word_at_token}
 use Rattle.assembler.proofs.SpellsReads.{Spells-statement_of}
@@ -37,13 +37,16 @@ limited most n = if nat_le n most then n else most
 -- map hash K V E, map array K V E
 abbrev pub SpellsRow : List Token → MapDef → Type 0
 SpellsRow ts row =
-    (k : ℕ) × (v : ℕ) × (e : ℕ) × (row.key_size ≡ limited 65535 k) × (row.value_size ≡ limited 4294967295 v) × (row.entries ≡ limited 4294967295 e)
-    × (ts ≡ Named word.Map ∷ Named (word.Kind row.kind) ∷ Number k ∷ Number v ∷ Number e ∷ [])
+    (k : ℕ) × (v : ℕ) × (e : ℕ) × (row.key_size ≡ limited 65535 k)
+    × (row.value_size ≡ limited 4294967295 v) × (row.entries ≡ limited 4294967295 e)
+    × (ts ≡ Named word.Map ∷ Named (word.MapType row.kind) ∷ Number k ∷ Number v ∷ Number e ∷ [])
 
 -- nothing, the version if no label comes before it, a map row, or an instruction
 abbrev pub SpellsSome : ℕ → List Token → Type 0
 SpellsSome label ts =
-    (ts ≡ []) ⊎ (((label ≡ 0) × (ts ≡ Named word.Version ∷ Number 2 ∷ [])) ⊎ (((row : MapDef) × SpellsRow ts row) ⊎ ((i : Insn) × (name : Option ℕ) × Spells ts i name)))
+    (ts ≡ []) ⊎ (((label ≡ 0) × (ts ≡ Named word.Version ∷ Number 2 ∷ []))
+    ⊎ (((row : MapDef) × SpellsRow ts row)
+    ⊎ ((i : Insn) × (name : Option ℕ) × Spells ts i name)))
 
 -- a statement, its label aside
 abbrev pub IsSpelled : List Token → Type 0
@@ -65,49 +68,72 @@ map_token (Some (Number n)) h = absurd (cc)
 map_token (Some (Signed s)) h = absurd (cc)
 map_token None h = absurd (cc)
 
-version_spells : (ts : List Token) (s : Statement) → At ts 0 (Named word.Version) → version_line ts ≡ Ok s → ts ≡ Named word.Version ∷ Number 2 ∷ []
+version_spells : (ts : List Token) (s : Statement) → At ts 0 (Named word.Version)
+    → version_line ts ≡ Ok s → ts ≡ Named word.Version ∷ Number 2 ∷ []
 version_spells ts s first h =
     let (n, front, last) = bind (version_number ts) _ s h in
     let (m, number, keeps) = bind (number_at ts 1) _ n front in
     let (len, same) = kept (length ts == 2) m n keeps in
     let (two, done) = passed (n == 2) said.Version (Range 1) s last in
     let is : m ≡ 2 = same ∙ equal n 2 two in
-    whole ts (Named word.Version ∷ Number 2 ∷ []) (first, (subst (λ k. At ts 1 (Number k)) is (number_at_token ts 1 m number), tt)) (equal (length ts) 2 len)
+    whole ts (Named word.Version ∷ Number 2 ∷ [])
+    (first, (subst (λ k. At ts 1 (Number k)) is (number_at_token ts 1 m number), tt))
+    (equal (length ts) 2 len)
 
-kind_in : (x : Word) (kind : MapType) → as_kind x ≡ Ok kind → x ≡ word.Kind kind
-kind_in (word.Kind k) kind h = let same : k ≡ kind = cc in ap word.Kind same
-kind_in x kind h = absurd (cc)
+map_type_in : (x : Word) (kind : MapType) → as_map_type x ≡ Ok kind → x ≡ word.MapType kind
+map_type_in (word.MapType k) kind h = let same : k ≡ kind = cc in ap word.MapType same
+map_type_in x kind h = absurd (cc)
 
-field_token : (most : ℕ) (ts : List Token) (i m : ℕ) → field_at most ts i ≡ Ok m → (n : ℕ) × At ts i (Number n) × (m ≡ limited most n)
+field_token : (most : ℕ) (ts : List Token) (i m : ℕ) → field_at most ts i ≡ Ok m
+    → (n : ℕ) × At ts i (Number n) × (m ≡ limited most n)
 field_token most ts i m h =
     let (n, number, value) = bind (number_at ts i) _ m h in
     let same : limited most n ≡ m = cc (value) in
     (n, number_at_token ts i n number, sym same)
 
-row_spells : (ts : List Token) (row : MapDef) → At ts 0 (Named word.Map) → map_line ts ≡ Ok row → SpellsRow ts row
+row_spells : (ts : List Token) (row : MapDef) → At ts 0 (Named word.Map) → map_line ts ≡ Ok row
+    → SpellsRow ts row
 row_spells ts row first h =
-    let (kind, front, h1) = bind (word_at ts 1 >>= as_kind) _ row h in
-    let (x, found, is) = bind (word_at ts 1) as_kind kind front in
+    let (kind, front, h1) = bind (word_at ts 1 >>= as_map_type) _ row h in
+    let (x, found, is) = bind (word_at ts 1) as_map_type kind front in
     let (key, key_read, h2) = bind (field_at 65535 ts 2) _ row h1 in
     let (value, value_read, h3) = bind (field_at 4294967295 ts 3) _ row h2 in
     let (entries, entries_read, last) = bind (field_at 4294967295 ts 4) _ row h3 in
-    let (len, same) = kept (length ts == 5) (let r : MapDef = record { kind = kind; key_size = key; value_size = value; entries = entries } in r) row last in
+    let (len, same) = kept (length ts == 5)
+    (let r : MapDef = record {
+      kind = kind;
+      key_size = key;
+      value_size = value;
+      entries = entries;
+    } in r) row last in
     let (k, key_at, key_is) = field_token 65535 ts 2 key key_read in
     let (v, value_at, value_is) = field_token 4294967295 ts 3 value value_read in
     let (e, entries_at, entries_is) = field_token 4294967295 ts 4 entries entries_read in
-    let second : At ts 1 (Named (word.Kind kind)) = word_at_token ts 1 x found ∙ ap (λ (y : Word). let o : Option Token = Some (Named y) in o) (kind_in x kind is) in
-    let all = whole ts (Named word.Map ∷ Named (word.Kind kind) ∷ Number k ∷ Number v ∷ Number e ∷ []) (first, (second, (key_at, (value_at, (entries_at, tt))))) (equal (length ts) 5 len) in
+    let second : At ts 1 (Named (word.MapType kind)) =
+    word_at_token ts 1 x found
+    ∙ ap (λ (y : Word). let o : Option Token = Some (Named y) in o) (map_type_in x kind is) in
+    let all = whole ts
+    (Named word.Map ∷ Named (word.MapType kind) ∷ Number k ∷ Number v ∷ Number e ∷ [])
+    (first, (second, (key_at, (value_at, (entries_at, tt))))) (equal (length ts) 5 len) in
     subst (λ (r : MapDef). SpellsRow ts r) same (k, v, e, key_is, value_is, entries_is, all)
 
 none_left : (ts : List Token) → (length ts == 0) ≡ true → ts ≡ []
 none_left [] h = refl
-none_left (t ∷ ts) h = let zero : length (t ∷ ts) ≡ 0 = equal (length (t ∷ ts)) 0 h in absurd (omega (arith, zero))
+none_left (t ∷ ts) h =
+    let zero : length (t ∷ ts) ≡ 0 = equal (length (t ∷ ts)) 0 h in absurd (omega (arith, zero))
 
-instruction_spells : (label : ℕ) (ts : List Token) (s : Statement) → (statement_of ts >>= λ r. let z : Result Statement Wrong = Ok (said.Instruction r) in z) ≡ Ok s → SpellsSome label ts
-instruction_spells label ts s h = let (r, found, last) = bind (statement_of ts) _ s h in inr (inr (inr (r.insn, r.name, statement_of-Spells ts r found)))
+instruction_spells : (label : ℕ) (ts : List Token) (s : Statement)
+    → (statement_of ts >>= λ r. let z : Result Statement Wrong = Ok (said.Instruction r) in z)
+    ≡ Ok s → SpellsSome label ts
+instruction_spells label ts s h =
+    let (r, found, last) = bind (statement_of ts) _ s h in
+    inr (inr (inr (r.insn, r.name, statement_of-Spells ts r found)))
 
-line_spells : (label : ℕ) (ts : List Token) (s : Statement) (b : Bool) → begins_map_line (slice_get ts 0) ≡ b
-    → (if b then (map_line ts >>= λ row. let z : Result Statement Wrong = Ok (said.Row row) in z) else (statement_of ts >>= λ r. let z : Result Statement Wrong = Ok (said.Instruction r) in z)) ≡ Ok s
+line_spells : (label : ℕ) (ts : List Token) (s : Statement) (b : Bool)
+    → begins_map_line (slice_get ts 0) ≡ b
+    → (if b then (map_line ts >>= λ row. let z : Result Statement Wrong = Ok (said.Row row) in z)
+    else (statement_of ts >>= λ r. let z : Result Statement Wrong = Ok (said.Instruction r) in z))
+    ≡ Ok s
     → SpellsSome label ts
 line_spells label ts s true is h =
     let (row, found, last) = bind (map_line ts) _ s h in
@@ -116,33 +142,46 @@ line_spells label ts s false is h = instruction_spells label ts s h
 
 spelled_spells : (label : ℕ) (ts : List Token) (s : Statement) (b : Bool) → (length ts == 0) ≡ b
     → (if b then Ok said.Empty
-    else if begins_map_line (slice_get ts 0) then (map_line ts >>= λ row. let z : Result Statement Wrong = Ok (said.Row row) in z)
-    else (statement_of ts >>= λ r. let z : Result Statement Wrong = Ok (said.Instruction r) in z)) ≡ Ok s
+    else if begins_map_line (slice_get ts 0)
+    then (map_line ts >>= λ row. let z : Result Statement Wrong = Ok (said.Row row) in z)
+    else (statement_of ts >>= λ r. let z : Result Statement Wrong = Ok (said.Instruction r) in z))
+    ≡ Ok s
     → SpellsSome label ts
 spelled_spells label ts s true is h = inl (none_left ts is)
-spelled_spells label ts s false is h = line_spells label ts s (begins_map_line (slice_get ts 0)) refl h
+spelled_spells label ts s false is h =
+    line_spells label ts s (begins_map_line (slice_get ts 0)) refl h
 
-unlabelled : (label : ℕ) (ts : List Token) (s : Statement) (b : Bool) → (label == 0) ≡ b → At ts 0 (Named word.Version) → (if b then version_line ts else Err Form) ≡ Ok s → SpellsSome label ts
+unlabelled : (label : ℕ) (ts : List Token) (s : Statement) (b : Bool) → (label == 0) ≡ b
+    → At ts 0 (Named word.Version) → (if b then version_line ts else Err Form) ≡ Ok s
+    → SpellsSome label ts
 unlabelled label ts s true is first h = inr (inl (equal label 0 is, version_spells ts s first h))
 unlabelled label ts s false is first h = absurd (cc)
 
-behind_spells : (label : ℕ) (ts : List Token) (s : Statement) (b : Bool) → begins_version_line (slice_get ts 0) ≡ b → (if b then (if label == 0 then version_line ts else Err Form) else spelled ts) ≡ Ok s
+behind_spells : (label : ℕ) (ts : List Token) (s : Statement) (b : Bool)
+    → begins_version_line (slice_get ts 0) ≡ b
+    → (if b then (if label == 0 then version_line ts else Err Form) else spelled ts) ≡ Ok s
     → SpellsSome label ts
-behind_spells label ts s true is h = unlabelled label ts s (label == 0) refl (version_token (slice_get ts 0) is) h
+behind_spells label ts s true is h =
+    unlabelled label ts s (label == 0) refl (version_token (slice_get ts 0) is) h
 behind_spells label ts s false is h = spelled_spells label ts s (length ts == 0) refl h
 
 -- what is read of a statement is what it spells
-pub spelled_behind-SpellsSome : (label : ℕ) (ts : List Token) (s : Statement) → spelled_behind label ts ≡ Ok s → SpellsSome label ts
-spelled_behind-SpellsSome label ts s h = behind_spells label ts s (begins_version_line (slice_get ts 0)) refl h
+pub spelled_behind-SpellsSome : (label : ℕ) (ts : List Token) (s : Statement)
+    → spelled_behind label ts ≡ Ok s → SpellsSome label ts
+spelled_behind-SpellsSome label ts s h =
+    behind_spells label ts s (begins_version_line (slice_get ts 0)) refl h
 
 -- ---- the end of a statement
 
-not_wrong : (s : ReadSoFar) (k : ℕ) (r : Result Statement Wrong) (x : Statement) → unless_wrong s k r ≡ Ok x → r ≡ Ok x
-not_wrong s k (Ok y) x h = let same : y ≡ x = cc in ap (λ (z : Statement). let o : Result Statement Wrong = Ok z in o) same
+not_wrong : (s : ReadSoFar) (k : ℕ) (r : Result Statement Wrong) (x : Statement)
+    → unless_wrong s k r ≡ Ok x → r ≡ Ok x
+not_wrong s k (Ok y) x h =
+    let same : y ≡ x = cc in ap (λ (z : Statement). let o : Result Statement Wrong = Ok z in o) same
 not_wrong s k (Err w) x h = absurd (cc)
 
--- a result that is a progress without tokens
-done : (r : ReadSoFar) (t : ReadSoFar) → r.tokens ≡ [] → (let o : Result ReadSoFar Refusal = Ok r in o) ≡ Ok t → t.tokens ≡ []
+-- of equal results, the second has no tokens if the first has none
+done : (r : ReadSoFar) (t : ReadSoFar) → r.tokens ≡ []
+    → (let o : Result ReadSoFar Refusal = Ok r in o) ≡ Ok t → t.tokens ≡ []
 done r t none h = let same : r ≡ t = cc in subst (λ (u : ReadSoFar). u.tokens ≡ []) same none
 
 cleared : (s : ReadSoFar) (k : ℕ) (x : Statement) (t : ReadSoFar) → ended s k x ≡ Ok t
@@ -150,25 +189,34 @@ cleared : (s : ReadSoFar) (k : ℕ) (x : Statement) (t : ReadSoFar) → ended s 
 cleared s k said.Empty t h = done _ t refl h
 cleared s k said.Version t h = done _ t refl h
 cleared s k (said.Row row) t h = done _ t refl h
-cleared s k (said.Instruction r) t h = let (insns, front, last) = bind (refused_at (begins_at s) (with_insn s.insns r.insn)) _ t h in done _ t refl last
+cleared s k (said.Instruction r) t h =
+    let (insns, front, last) = bind (refused_at (begins_at s) (with_insn s.insns r.insn)) _ t h in
+    done _ t refl last
 
-pub closed_spells : (s : ReadSoFar) (k : ℕ) (t : ReadSoFar) → closed_behind s k ≡ Ok t → SpellsSome k (drop k s.tokens) × (t.tokens ≡ [])
-closed_spells s k t h =
+pub at_end_spells : (s : ReadSoFar) (k : ℕ) (t : ReadSoFar) → at_end_behind s k ≡ Ok t
+    → SpellsSome k (drop k s.tokens) × (t.tokens ≡ [])
+at_end_spells s k t h =
     let (x, front, h1) = bind (unless_wrong s k (spelled_behind k (drop k s.tokens))) _ t h in
-    let (u, allowed, h2) = bind (unless_refused s k (objection (is_first s) s.insns s.maps x)) _ t h1 in
-    let (v, labelled, last) = bind (if k == 0 then Ok s else named s) _ t h2 in
-    (spelled_behind-SpellsSome k (drop k s.tokens) x (not_wrong s k (spelled_behind k (drop k s.tokens)) x front), cleared v k x t last)
+    let (u, allowed, h2) =
+    bind (unless_refused s k (objection (is_first s) s.insns s.maps x)) _ t h1 in
+    let (v, labelled, last) = bind (if k == 0 then Ok s else named s) _ t h2 in (
+      spelled_behind-SpellsSome k (drop k s.tokens) x
+          (not_wrong s k (spelled_behind k (drop k s.tokens)) x front),
+      cleared v k x t last,
+    )
 
 -- ---- texts
 
--- P holds of the tokens of each statement, of those that were begun with some tokens too; `rest` says so of what is left
--- after that many bytes
-abbrev pub AtLexeme : (ℕ → List Token → Type 0) → (List Token → Type 0) → List Token → Lexeme → ℕ → Type 0
+-- P holds of the tokens of each statement of a text that begins with this lexeme; some tokens of
+-- the first statement were read before. `rest` says the same of the text after its first bytes
+abbrev pub AtLexeme : (ℕ → List Token → Type 0) → (List Token → Type 0) → List Token → Lexeme → ℕ
+    → Type 0
 AtLexeme rest P ts Blank n = rest (n - 1) ts
 AtLexeme rest P ts End n = P ts × rest (n - 1) []
 AtLexeme rest P ts (Solid t) n = rest (n - 1) (ts ++ t ∷ [])
 
-abbrev pub OnLexeme : (ℕ → List Token → Type 0) → (List Token → Type 0) → List Token → Option (Lexeme × ℕ) → Type 0
+abbrev pub OnLexeme : (ℕ → List Token → Type 0) → (List Token → Type 0) → List Token
+    → Option (Lexeme × ℕ) → Type 0
 OnLexeme rest P ts None = ⊥
 OnLexeme rest P ts (Some p) = AtLexeme rest P ts p.0 p.1
 
@@ -176,57 +224,72 @@ OnLexeme rest P ts (Some p) = AtLexeme rest P ts p.0 p.1
 unfoldable pub EachStatement : (List Token → Type 0) → List ℕ → ℕ → List Token → Type 0
 EachStatement P [] k ts = P ts
 EachStatement P (b ∷ bs) (suc k) ts = EachStatement P bs k ts
-EachStatement P (b ∷ bs) zero ts = OnLexeme (λ n us. EachStatement P bs n us) P ts (lexeme_at (b ∷ bs))
+EachStatement P (b ∷ bs) zero ts =
+    OnLexeme (λ n us. EachStatement P bs n us) P ts (lexeme_at (b ∷ bs))
 
-lexeme_found : (o : Option (Lexeme × ℕ)) (e : Refusal) (p : Lexeme × ℕ) → ok_or o e ≡ Ok p → o ≡ Some p
-lexeme_found (Some q) e p h = let same : q ≡ p = cc in ap (λ (z : Lexeme × ℕ). let o : Option (Lexeme × ℕ) = Some z in o) same
+lexeme_found : (o : Option (Lexeme × ℕ)) (e : Refusal) (p : Lexeme × ℕ) → ok_or o e ≡ Ok p
+    → o ≡ Some p
+lexeme_found (Some q) e p h =
+    let same : q ≡ p = cc in ap (λ (z : Lexeme × ℕ). let o : Option (Lexeme × ℕ) = Some z in o) same
 lexeme_found None e p h = absurd (cc)
 
--- the tokens of what was read are those of what is answered
-pub joined : (r u : ReadSoFar) → (let o : Result ReadSoFar Refusal = Ok r in o) ≡ Ok u → r.tokens ≡ u.tokens
-joined r u h = let same : r ≡ u = cc in ap (λ (v : ReadSoFar). v.tokens) same
+-- equal results have the same tokens
+pub same_tokens : (r u : ReadSoFar) → (let o : Result ReadSoFar Refusal = Ok r in o) ≡ Ok u
+    → r.tokens ≡ u.tokens
+same_tokens r u h = let same : r ≡ u = cc in ap (λ (v : ReadSoFar). v.tokens) same
 
-accepted : (rest : ℕ → List Token → Type 0) (s : ReadSoFar) (x : Lexeme) (n : ℕ) (place : TokenSpan) (u : ReadSoFar) → accept s x place ≡ Ok u → rest (n - 1) u.tokens → AtLexeme rest IsSpelled s.tokens x n
-accepted rest s Blank n place u h on = let same : s ≡ u = cc in subst (λ (v : ReadSoFar). rest (n - 1) v.tokens) (sym same) on
-accepted rest s End n place u h on =
-    let (spells, none) = closed_spells s (label_length s.tokens) u h in
+accepted : (rest : ℕ → List Token → Type 0) (s : ReadSoFar) (x : Lexeme) (n : ℕ) (span : TokenSpan)
+    (u : ReadSoFar) → accept s x span ≡ Ok u → rest (n - 1) u.tokens
+    → AtLexeme rest IsSpelled s.tokens x n
+accepted rest s Blank n span u h on =
+    let same : s ≡ u = cc in subst (λ (v : ReadSoFar). rest (n - 1) v.tokens) (sym same) on
+accepted rest s End n span u h on =
+    let (spells, none) = at_end_spells s (label_length s.tokens) u h in
     (spells, subst (λ (ts : List Token). rest (n - 1) ts) none on)
-accepted rest s (Solid t) n place u h on =
-    let same : s.tokens ++ t ∷ [] ≡ u.tokens = joined _ u h in
+accepted rest s (Solid t) n span u h on =
+    let same : s.tokens ++ t ∷ [] ≡ u.tokens = same_tokens _ u h in
     subst (λ (ts : List Token). rest (n - 1) ts) (sym same) on
 
-read_spells : (bs : List ℕ) (k at : ℕ) (s t : ReadSoFar) → read_on bs k at s ≡ Ok t → EachStatement IsSpelled bs k s.tokens
+read_spells : (bs : List ℕ) (k at : ℕ) (s t : ReadSoFar) → read_on bs k at s ≡ Ok t
+    → EachStatement IsSpelled bs k s.tokens
 unfolding EachStatement
-read_spells [] k at s t h = (closed_spells s (label_length s.tokens) t h).0
+read_spells [] k at s t h = (at_end_spells s (label_length s.tokens) t h).0
 read_spells (b ∷ bs) (suc k) at s t h = read_spells bs k (at + 1) s t h
 read_spells (b ∷ bs) zero at s t h =
     let (p, front, h1) = bind (next_lexeme at (b ∷ bs)) _ t h in
     let (u, took, rest) = bind (accept s p.0 (at, take p.1 (b ∷ bs))) _ t h1 in
     let found = lexeme_found (lexeme_at (b ∷ bs)) _ p front in
     let on = read_spells bs (p.1 - 1) (at + 1) u t rest in
-    subst (λ (o : Option (Lexeme × ℕ)). OnLexeme (λ n us. EachStatement IsSpelled bs n us) IsSpelled s.tokens o) (sym found)
+    subst (λ (o : Option (Lexeme × ℕ)). OnLexeme
+    (λ n us. EachStatement IsSpelled bs n us) IsSpelled s.tokens o) (sym found)
     (accepted (λ n us. EachStatement IsSpelled bs n us) s p.0 p.1 (at, take p.1 (b ∷ bs)) u took on)
 
-error_free : (text : List ℕ) (r : Result Program Refusal) (p : Program) → error_in text r ≡ Ok p → r ≡ Ok p
-error_free text (Ok q) p h = let same : q ≡ p = cc in ap (λ (z : Program). let o : Result Program Refusal = Ok z in o) same
+error_free : (text : List ℕ) (r : Result Program Refusal) (p : Program) → error_in text r ≡ Ok p
+    → r ≡ Ok p
+error_free text (Ok q) p h =
+    let same : q ≡ p = cc in ap (λ (z : Program). let o : Result Program Refusal = Ok z in o) same
 error_free text (Err e) p h = absurd (cc)
 
 -- each statement of a text that is a program spells something
-pub assembled-EachStatement : (text : List ℕ) (p : Program) → assembled text ≡ Ok p → EachStatement IsSpelled text 0 []
+pub assembled-EachStatement : (text : List ℕ) (p : Program) → assembled text ≡ Ok p
+    → EachStatement IsSpelled text 0 []
 unfolding assembled
 assembled-EachStatement text p h =
-    let (s, read, last) = bind (read_on text 0 0 start) _ p (error_free text (program_in text) p h) in
+    let (s, read, last) =
+    bind (read_on text 0 0 start) _ p (error_free text (program_in text) p h) in
     read_spells text 0 0 start s read
 
 -- ---- what spells something is read
 
-no_version : (ts : List Token) (r : Reading) → statement_of ts ≡ Ok r → begins_version_line (slice_get ts 0) ≡ false
+no_version : (ts : List Token) (r : Reading) → statement_of ts ≡ Ok r
+    → begins_version_line (slice_get ts 0) ≡ false
 unfolding statement_of
 no_version [] r h = refl
 no_version (Named word.Version ∷ ts) r h = absurd (cc)
 no_version (t ∷ ts) r h = refl
 
-no_map : (ts : List Token) (r : Reading) → statement_of ts ≡ Ok r → begins_map_line (slice_get ts 0) ≡ false
+no_map : (ts : List Token) (r : Reading) → statement_of ts ≡ Ok r
+    → begins_map_line (slice_get ts 0) ≡ false
 unfolding statement_of
 no_map [] r h = refl
 no_map (Named word.Map ∷ ts) r h = absurd (cc)
@@ -243,17 +306,32 @@ line_of r = r >>= λ row. Ok (said.Row row)
 abbrev instruction_of : Result Reading Wrong → Result Statement Wrong
 instruction_of r = r >>= λ q. Ok (said.Instruction q)
 
-insn_behind : (label : ℕ) (ts : List Token) (r : Reading) → statement_of ts ≡ Ok r → spelled_behind label ts ≡ Ok (said.Instruction r)
+insn_behind : (label : ℕ) (ts : List Token) (r : Reading) → statement_of ts ≡ Ok r
+    → spelled_behind label ts ≡ Ok (said.Instruction r)
 insn_behind label ts r h =
-    ap (λ (b : Bool). if b then (if label == 0 then version_line ts else Err Form) else spelled ts) (no_version ts r h)
-    ∙ ap (λ (b : Bool). if b then Ok said.Empty else if begins_map_line (slice_get ts 0) then line_of (map_line ts) else instruction_of (statement_of ts)) (not_empty ts r h)
-    ∙ ap (λ (b : Bool). if b then line_of (map_line ts) else instruction_of (statement_of ts)) (no_map ts r h)
+    ap (λ (b : Bool). if b then (if label == 0 then version_line ts else Err Form) else spelled ts)
+    (no_version ts r h)
+    ∙ ap (λ (b : Bool). if b then Ok said.Empty
+    else if begins_map_line (slice_get ts 0) then line_of (map_line ts)
+    else instruction_of (statement_of ts)) (not_empty ts r h)
+    ∙ ap (λ (b : Bool). if b then line_of (map_line ts) else instruction_of (statement_of ts))
+    (no_map ts r h)
     ∙ ap instruction_of h
 
 -- a statement that spells something is read
-pub SpellsSome-spelled_behind : (label : ℕ) (ts : List Token) → SpellsSome label ts → (s : Statement) × (spelled_behind label ts ≡ Ok s)
+pub SpellsSome-spelled_behind : (label : ℕ) (ts : List Token) → SpellsSome label ts
+    → (s : Statement) × (spelled_behind label ts ≡ Ok s)
 SpellsSome-spelled_behind label ts (inl none) = (said.Empty, ap (spelled_behind label) none)
 SpellsSome-spelled_behind label ts (inr (inl (first, is))) = (said.Version, rw (first, is) refl)
-SpellsSome-spelled_behind label ts (inr (inr (inl (row, (k, v, e, key, value, entries, is))))) =
-    (said.Row (record { kind = row.kind; key_size = limited 65535 k; value_size = limited 4294967295 v; entries = limited 4294967295 e }), rw is refl)
-SpellsSome-spelled_behind label ts (inr (inr (inr (i, name, spells)))) = (said.Instruction _, insn_behind label ts _ (Spells-statement_of ts i name spells))
+SpellsSome-spelled_behind label ts (inr (inr (inl (row, (k, v, e, key, value, entries, is))))) = (
+  said.Row (record {
+    kind = row.kind;
+    key_size = limited 65535 k;
+    value_size = limited 4294967295
+        v;
+    entries = limited 4294967295 e;
+  }),
+  rw is refl,
+)
+SpellsSome-spelled_behind label ts (inr (inr (inr (i, name, spells)))) =
+    (said.Instruction _, insn_behind label ts _ (Spells-statement_of ts i name spells))

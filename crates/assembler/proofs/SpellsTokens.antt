@@ -1,4 +1,4 @@
--- Readers of tokens from their answers: which tokens they have read.
+-- Which tokens were read where a token, a register, a number or an operand was found.
 use Rattle.std.proofs.Common.{◌≡◌, ℕ, suc, ◌+◌, ◌<◌, ◌≤◌, ◌^◌, length, List, [], ◌∷◌, ◌++◌, refl, sym, ap, ◌∙◌, subst, inl, inr, ◌⊎◌, arith}
 use Rattle.std.proofs.lemmas.Bool.Decides.{nat_tests}
 use Rattle.std.specs.Prelude.{Bool, Option, Some, None, Result, Ok, Err, ok_or, true, false, ◌==◌, if◌then◌else◌, slice_get, nat_lt, nat_le, ℤ, pos, neg_ℤ}
@@ -23,7 +23,8 @@ use Rattle.assembler.specs.Spells.{reg, IsSigned, SpellsConstant, IsOperand}
 
 -- ---- results in a row
 
-pub bind : {A B E : Type 0} (r : Result A E) (f : A → Result B E) (y : B) → (r >>= f) ≡ Ok y → (x : A) × (r ≡ Ok x) × (f x ≡ Ok y)
+pub bind : {A B E : Type 0} (r : Result A E) (f : A → Result B E) (y : B) → (r >>= f) ≡ Ok y
+    → (x : A) × (r ≡ Ok x) × (f x ≡ Ok y)
 bind (Ok x) f y h = (x, refl, h)
 bind (Err e) f y h = absurd (cc)
 
@@ -34,7 +35,8 @@ kept false x y h = absurd (cc)
 abbrev pub ok_if : {A : Type 0} → Bool → A → Wrong → Result A Wrong
 ok_if b x e = if b then Ok x else Err e
 
-pub passed : {A : Type 0} (b : Bool) (x : A) (e : Wrong) (y : A) → ok_if b x e ≡ Ok y → (b ≡ true) × (x ≡ y)
+pub passed : {A : Type 0} (b : Bool) (x : A) (e : Wrong) (y : A) → ok_if b x e ≡ Ok y
+    → (b ≡ true) × (x ≡ y)
 passed true x e y h = let same : x ≡ y = cc in (refl, same)
 passed false x e y h = absurd (cc)
 
@@ -57,7 +59,8 @@ abbrev pub HasTokensAt : List Token → ℕ → List Token → Type 0
 HasTokensAt ts i [] = Unit {0}
 HasTokensAt ts i (x ∷ xs) = At ts i x × HasTokensAt ts (suc i) xs
 
-shifted : (t : Token) (ts : List Token) (i : ℕ) (xs : List Token) → HasTokensAt (t ∷ ts) (suc i) xs → HasTokensAt ts i xs
+shifted : (t : Token) (ts : List Token) (i : ℕ) (xs : List Token) → HasTokensAt (t ∷ ts) (suc i) xs
+    → HasTokensAt ts i xs
 shifted t ts i [] h = tt
 shifted t ts i (x ∷ xs) h = (h.0, shifted t ts (suc i) xs h.1)
 
@@ -71,14 +74,18 @@ whole (t ∷ ts) (x ∷ xs) h e =
     let rest = whole ts xs (shifted t ts 0 xs h.1) (omega (arith, e)) in
     ap (λ (y : Token). y ∷ ts) same ∙ ap (λ (ys : List Token). x ∷ ys) rest
 
-pub stands_more : (ts : List Token) (i j : ℕ) (xs ys : List Token) → j ≡ i + length xs → HasTokensAt ts i xs → HasTokensAt ts j ys → HasTokensAt ts i (xs ++ ys)
-stands_more ts i j [] ys e h k = let at : j ≡ i = omega (arith, e) in subst (λ n. HasTokensAt ts n ys) at k
-stands_more ts i j (x ∷ xs) ys e h k = (h.0, stands_more ts (suc i) j xs ys (omega (arith, e)) h.1 k)
+pub HasTokensAt-more : (ts : List Token) (i j : ℕ) (xs ys : List Token) → j ≡ i + length xs
+    → HasTokensAt ts i xs → HasTokensAt ts j ys → HasTokensAt ts i (xs ++ ys)
+HasTokensAt-more ts i j [] ys e h k =
+    let at : j ≡ i = omega (arith, e) in subst (λ n. HasTokensAt ts n ys) at k
+HasTokensAt-more ts i j (x ∷ xs) ys e h k =
+    (h.0, HasTokensAt-more ts (suc i) j xs ys (omega (arith, e)) h.1 k)
 
 -- ---- single tokens
 
 some_token : (o : Option Token) (t : Token) → ok_or o Form ≡ Ok t → o ≡ Some t
-some_token (Some x) t h = let same : x ≡ t = cc in ap (λ (y : Token). let r : Option Token = Some y in r) same
+some_token (Some x) t h =
+    let same : x ≡ t = cc in ap (λ (y : Token). let r : Option Token = Some y in r) same
 some_token None t h = absurd (cc)
 
 pub token : (ts : List Token) (i : ℕ) (t : Token) → token_at ts i ≡ Ok t → At ts i t
@@ -102,14 +109,19 @@ word_in (Signed s) x h = absurd (cc)
 abbrev some : Token → Option Token
 some t = Some t
 
-pub signed_at_token : (ts : List Token) (i : ℕ) (s : Sign) → sign_at ts i ≡ Ok s → At ts i (Signed s)
-signed_at_token ts i s h = let (t, at, is) = bind (token_at ts i) as_sign s h in token ts i t at ∙ ap some (sign_in t s is)
+pub signed_at_token : (ts : List Token) (i : ℕ) (s : Sign) → sign_at ts i ≡ Ok s
+    → At ts i (Signed s)
+signed_at_token ts i s h =
+    let (t, at, is) = bind (token_at ts i) as_sign s h in token ts i t at ∙ ap some (sign_in t s is)
 
 pub number_at_token : (ts : List Token) (i n : ℕ) → number_at ts i ≡ Ok n → At ts i (Number n)
-number_at_token ts i n h = let (t, at, is) = bind (token_at ts i) as_number n h in token ts i t at ∙ ap some (number_in t n is)
+number_at_token ts i n h =
+    let (t, at, is) = bind (token_at ts i) as_number n h in
+    token ts i t at ∙ ap some (number_in t n is)
 
 pub word_at_token : (ts : List Token) (i : ℕ) (x : Word) → word_at ts i ≡ Ok x → At ts i (Named x)
-word_at_token ts i x h = let (t, at, is) = bind (token_at ts i) as_word x h in token ts i t at ∙ ap some (word_in t x is)
+word_at_token ts i x h =
+    let (t, at, is) = bind (token_at ts i) as_word x h in token ts i t at ∙ ap some (word_in t x is)
 
 same_sign : (t s : Sign) → is_sign t s ≡ true → t ≡ s
 same_sign sign.Open sign.Open h = refl
@@ -120,10 +132,12 @@ same_sign sign.Assign sign.Assign h = refl
 same_sign sign.Plus sign.Plus h = refl
 same_sign t s h = absurd (cc)
 
-pub expected : (ts : List Token) (i : ℕ) (s : Sign) (u : Unit {0}) → expect_at ts i s ≡ Ok u → At ts i (Signed s)
+pub expected : (ts : List Token) (i : ℕ) (s : Sign) (u : Unit {0}) → expect_at ts i s ≡ Ok u
+    → At ts i (Signed s)
 expected ts i s u h =
     let (t, at, is) = bind (sign_at ts i) (λ t. keep (is_sign t s) tt) u h in
-    signed_at_token ts i t at ∙ ap (λ (x : Sign). some (Signed x)) (same_sign t s (kept (is_sign t s) tt u is).0)
+    signed_at_token ts i t at
+    ∙ ap (λ (x : Sign). some (Signed x)) (same_sign t s (kept (is_sign t s) tt u is).0)
 
 -- ---- registers
 
@@ -148,7 +162,8 @@ numbered R10 = refl
 
 pub registers : (q r : Reg) → same_register q r ≡ true → q ≡ r
 registers q r h =
-    let same : Some q ≡ Some r = sym (numbered q) ∙ ap reg_numbered (equal (reg_number q) (reg_number r) h) ∙ numbered r in
+    let same : Some q ≡ Some r =
+    sym (numbered q) ∙ ap reg_numbered (equal (reg_number q) (reg_number r) h) ∙ numbered r in
     cc
 
 pub register_in : (w : Width) (x : Word) (r : Reg) → as_register w x ≡ Ok r → x ≡ word.Register w r
@@ -158,58 +173,87 @@ register_in w (word.Register v q) r h =
     ap (λ (z : Width). word.Register z q) width ∙ ap (word.Register w) same
 register_in w x r h = absurd (cc)
 
-pub register : (ts : List Token) (w : Width) (i : ℕ) (r : Reg) → register_at w ts i ≡ Ok r → At ts i (reg w r)
+pub register : (ts : List Token) (w : Width) (i : ℕ) (r : Reg) → register_at w ts i ≡ Ok r
+    → At ts i (reg w r)
 register ts w i r h =
     let (x, at, is) = bind (word_at ts i) (as_register w) r h in
     word_at_token ts i x at ∙ ap (λ (y : Word). some (Named y)) (register_in w x r is)
 
-pub again : (ts : List Token) (w : Width) (r : Reg) (i : ℕ) (u : Unit {0}) → again_at w r ts i ≡ Ok u → At ts i (reg w r)
+pub again : (ts : List Token) (w : Width) (r : Reg) (i : ℕ) (u : Unit {0})
+    → again_at w r ts i ≡ Ok u → At ts i (reg w r)
 again ts w r i u h =
     let (s, at, is) = bind (register_at w ts i) (λ s. keep (same_register s r) tt) u h in
-    register ts w i s at ∙ ap (λ (y : Reg). some (reg w y)) (registers s r (kept (same_register s r) tt u is).0)
+    register ts w i s at
+    ∙ ap (λ (y : Reg). some (reg w y)) (registers s r (kept (same_register s r) tt u is).0)
 
 -- ---- numbers
 
-minus_in : (s : Sign) (minus : Bool) → is_minus s ≡ Ok minus → ((s ≡ sign.Minus) × (minus ≡ true)) ⊎ ((s ≡ sign.Plus) × (minus ≡ false))
+minus_in : (s : Sign) (minus : Bool) → is_minus s ≡ Ok minus
+    → ((s ≡ sign.Minus) × (minus ≡ true)) ⊎ ((s ≡ sign.Plus) × (minus ≡ false))
 minus_in sign.Minus minus h = let same : true ≡ minus = cc in inl (refl, sym same)
 minus_in sign.Plus minus h = let same : false ≡ minus = cc in inr (refl, sym same)
 minus_in s minus h = absurd (cc)
 
 positive : (half at n : ℕ) (k : ℤ) → signed_within half at false n ≡ Ok k → (n < half) × (k ≡ pos n)
-positive half at n k h = let (b, same) = passed (nat_lt n half) (pos n) (Range at) k h in (below n half b, sym same)
+positive half at n k h =
+    let (b, same) = passed (nat_lt n half) (pos n) (Range at) k h in (below n half b, sym same)
 
-negative : (half at n : ℕ) (k : ℤ) → signed_within half at true n ≡ Ok k → (n ≤ half) × (k ≡ neg_ℤ (pos n))
-negative half at n k h = let (b, same) = passed (nat_le n half) (neg_ℤ (pos n)) (Range at) k h in (within n half b, sym same)
+negative : (half at n : ℕ) (k : ℤ) → signed_within half at true n ≡ Ok k
+    → (n ≤ half) × (k ≡ neg_ℤ (pos n))
+negative half at n k h =
+    let (b, same) = passed (nat_le n half) (neg_ℤ (pos n)) (Range at) k h in
+    (within n half b, sym same)
 
-signed_number : (half at : ℕ) (s : Sign) (minus : Bool) (n : ℕ) (k : ℤ) → is_minus s ≡ Ok minus → signed_within half at minus n ≡ Ok k → IsSigned half s n k
+signed_number : (half at : ℕ) (s : Sign) (minus : Bool) (n : ℕ) (k : ℤ) → is_minus s ≡ Ok minus
+    → signed_within half at minus n ≡ Ok k → IsSigned half s n k
 signed_number half at s minus n k is fits =
     elim (minus_in s minus is) [
-      | inl m ↦ let h = negative half at n k (subst (λ b. signed_within half at b n ≡ Ok k) m.1 fits) in inr (m.0, h.0, h.1)
-      | inr m ↦ let h = positive half at n k (subst (λ b. signed_within half at b n ≡ Ok k) m.1 fits) in inl (m.0, h.0, h.1)
+      | inl m ↦
+          let h = negative half at n k (subst (λ b. signed_within half at b n ≡ Ok k) m.1 fits) in
+          inr (m.0, h.0, h.1)
+      | inr m ↦
+          let h = positive half at n k (subst (λ b. signed_within half at b n ≡ Ok k) m.1 fits) in
+          inl (m.0, h.0, h.1)
     ]
 
 -- a sign and a number
-pub signed : (half : ℕ) (ts : List Token) (i : ℕ) (k : ℤ) → signed_at half ts i ≡ Ok k → (s : Sign) × (n : ℕ) × At ts i (Signed s) × At ts (i + 1) (Number n) × IsSigned half s n k
+pub signed : (half : ℕ) (ts : List Token) (i : ℕ) (k : ℤ) → signed_at half ts i ≡ Ok k
+    → (s : Sign) × (n : ℕ) × At ts i (Signed s) × At ts (i + 1) (Number n) × IsSigned half s n k
 signed half ts i k h =
-    let (minus, front, rest) = bind (sign_at ts i >>= is_minus) (λ minus. number_at ts (i + 1) >>= signed_within half i minus) k h in
+    let (minus, front, rest) = bind (sign_at ts i >>= is_minus)
+    (λ minus. number_at ts (i + 1) >>= signed_within half i minus) k h in
     let (s, at, is) = bind (sign_at ts i) is_minus minus front in
-    let (n, there, fits) = bind (number_at ts (i + 1)) (signed_within half i minus) k rest in
-    (s, n, signed_at_token ts i s at, number_at_token ts (i + 1) n there, signed_number half i s minus n k is fits)
+    let (n, there, fits) = bind (number_at ts (i + 1)) (signed_within half i minus) k rest in (
+      s,
+      n,
+      signed_at_token ts i s at,
+      number_at_token ts (i + 1) n there,
+      signed_number half i s minus n k is fits,
+    )
 
-index_in : (i : ℕ) (t : Token) (p : Bool × ℕ) → number_index i t ≡ Ok p → ((p.0 ≡ false) × (p.1 ≡ i)) ⊎ ((t ≡ Signed sign.Minus) × (p.0 ≡ true) × (p.1 ≡ i + 1))
-index_in i (Number n) p h = let same : (let q : Bool × ℕ = (false, i) in q) ≡ p = cc in inl (ap (λ (q : Bool × ℕ). q.0) (sym same), ap (λ (q : Bool × ℕ). q.1) (sym same))
+index_in : (i : ℕ) (t : Token) (p : Bool × ℕ) → number_index i t ≡ Ok p
+    → ((p.0 ≡ false) × (p.1 ≡ i)) ⊎ ((t ≡ Signed sign.Minus) × (p.0 ≡ true) × (p.1 ≡ i + 1))
+index_in i (Number n) p h =
+    let same : (let q : Bool × ℕ = (false, i) in q) ≡ p = cc in
+    inl (ap (λ (q : Bool × ℕ). q.0) (sym same), ap (λ (q : Bool × ℕ). q.1) (sym same))
 index_in i (Signed sign.Minus) p h =
     let same : (let q : Bool × ℕ = (true, i + 1) in q) ≡ p = cc in
     inr (refl, ap (λ (q : Bool × ℕ). q.0) (sym same), ap (λ (q : Bool × ℕ). q.1) (sym same))
 index_in i t p h = absurd (cc)
 
 -- N, and the index after it
-pub constant : (ts : List Token) (i : ℕ) (p : ℤ × ℕ) → constant_at ts i ≡ Ok p → (xs : List Token) × SpellsConstant xs p.0 × HasTokensAt ts i xs × (p.1 ≡ i + length xs)
+pub constant : (ts : List Token) (i : ℕ) (p : ℤ × ℕ) → constant_at ts i ≡ Ok p
+    → (xs : List Token) × SpellsConstant xs p.0 × HasTokensAt ts i xs × (p.1 ≡ i + length xs)
 constant ts i p h =
-    let behind : Bool × ℕ → Result (ℤ × ℕ) Wrong = λ (at : Bool × ℕ). number_at ts at.1 >>= signed_within (2 ^ 31) i at.0 >>= λ k. Ok (k, at.1 + 1) in
-    let (at, front, rest) = bind (token_at ts i >>= number_index i) (λ (at : Bool × ℕ). number_at ts at.1 >>= signed_within (2 ^ 31) i at.0 >>= λ k. Ok (k, at.1 + 1)) p h in
+    let behind : Bool × ℕ
+    → Result (ℤ × ℕ) Wrong = λ (at : Bool × ℕ). number_at ts at.1 >>= signed_within
+    (2 ^ 31) i at.0 >>= λ k. Ok (k, at.1 + 1) in
+    let (at, front, rest) = bind (token_at ts i >>= number_index i)
+    (λ (at : Bool × ℕ). number_at ts at.1 >>= signed_within (2 ^ 31) i at.0
+    >>= λ k. Ok (k, at.1 + 1)) p h in
     let (t, here, is) = bind (token_at ts i) (number_index i) at front in
-    let (k, fits, pair) = bind (number_at ts at.1 >>= signed_within (2 ^ 31) i at.0) (λ (k : ℤ). let r : Result (ℤ × ℕ) Wrong = Ok (k, at.1 + 1) in r) p rest in
+    let (k, fits, pair) = bind (number_at ts at.1 >>= signed_within (2 ^ 31) i at.0)
+    (λ (k : ℤ). let r : Result (ℤ × ℕ) Wrong = Ok (k, at.1 + 1) in r) p rest in
     let (n, there, range) = bind (number_at ts at.1) (signed_within (2 ^ 31) i at.0) k fits in
     let same : (let q : ℤ × ℕ = (k, at.1 + 1) in q) ≡ p = cc (pair) in
     let value : p.0 ≡ k = ap (λ (q : ℤ × ℕ). q.0) (sym same) in
@@ -217,10 +261,16 @@ constant ts i p h =
     let number = number_at_token ts at.1 n there in
     elim (index_in i t at is) [
       | inl m ↦
-          let g = positive (2 ^ 31) i n k (subst (λ b. signed_within (2 ^ 31) i b n ≡ Ok k) m.0 range) in
-          (Number n ∷ [], inl (n, refl, g.0, value ∙ g.1), (subst (λ j. At ts j (Number n)) m.1 number, tt), omega (arith, past, m.1))
+          let g =
+          positive (2 ^ 31) i n k (subst (λ b. signed_within (2 ^ 31) i b n ≡ Ok k) m.0 range) in (
+            Number n ∷ [],
+            inl (n, refl, g.0, value ∙ g.1),
+            (subst (λ j. At ts j (Number n)) m.1 number, tt),
+            omega (arith, past, m.1),
+          )
       | inr m ↦
-          let g = negative (2 ^ 31) i n k (subst (λ b. signed_within (2 ^ 31) i b n ≡ Ok k) m.1 range) in
+          let g =
+          negative (2 ^ 31) i n k (subst (λ b. signed_within (2 ^ 31) i b n ≡ Ok k) m.1 range) in
           let next : at.1 ≡ suc i = omega (arith, m.2) in (
             Signed sign.Minus ∷ Number n ∷ [],
             inr (n, refl, g.0, value ∙ g.1),
@@ -231,39 +281,53 @@ constant ts i p h =
 
 -- ---- operands and places
 
-operand_constant : (w : Width) (ts : List Token) (i : ℕ) (x : Operand × ℕ) → (constant_at ts i >>= λ (k : ℤ × ℕ). let z : Result (Operand × ℕ) Wrong = Ok (Constant k.0, k.1) in z) ≡ Ok x
+operand_constant : (w : Width) (ts : List Token) (i : ℕ) (x : Operand × ℕ)
+    → (constant_at ts i
+    >>= λ (k : ℤ × ℕ). let z : Result (Operand × ℕ) Wrong = Ok (Constant k.0, k.1) in z) ≡ Ok x
     → (xs : List Token) × IsOperand w xs x.0 × HasTokensAt ts i xs × (x.1 ≡ i + length xs)
 operand_constant w ts i x h =
-    let (k, is, pair) = bind (constant_at ts i) (λ (k : ℤ × ℕ). let z : Result (Operand × ℕ) Wrong = Ok (Constant k.0, k.1) in z) x h in
-    let (xs, number, stands, past) = constant ts i k is in
+    let (k, is, pair) = bind (constant_at ts i)
+    (λ (k : ℤ × ℕ). let z : Result (Operand × ℕ) Wrong = Ok (Constant k.0, k.1) in z) x h in
+    let (xs, number, tokens_at, past) = constant ts i k is in
     let same : (let q : Operand × ℕ = (Constant k.0, k.1) in q) ≡ x = cc (pair) in (
       xs,
       subst (λ (o : Operand). IsOperand w xs o) (ap (λ (q : Operand × ℕ). q.0) same) number,
-      stands,
+      tokens_at,
       ap (λ (q : Operand × ℕ). q.1) (sym same) ∙ past,
     )
 
-operand_of : (w : Width) (ts : List Token) (i : ℕ) (t : Token) (x : Operand × ℕ) → At ts i t → operand_token w ts i t ≡ Ok x → (xs : List Token) × IsOperand w xs x.0 × HasTokensAt ts i xs × (x.1 ≡ i + length xs)
+operand_of : (w : Width) (ts : List Token) (i : ℕ) (t : Token) (x : Operand × ℕ) → At ts i t
+    → operand_token w ts i t ≡ Ok x
+    → (xs : List Token) × IsOperand w xs x.0 × HasTokensAt ts i xs × (x.1 ≡ i + length xs)
 operand_of w ts i (Named y) x here h =
-    let (r, is, pair) = bind (as_register w y) (λ (r : Reg). let z : Result (Operand × ℕ) Wrong = Ok (Register r, i + 1) in z) x h in
+    let (r, is, pair) = bind (as_register w y)
+    (λ (r : Reg). let z : Result (Operand × ℕ) Wrong = Ok (Register r, i + 1) in z) x h in
     let same : (let q : Operand × ℕ = (Register r, i + 1) in q) ≡ x = cc (pair) in (
       reg w r ∷ [],
-      subst (λ (o : Operand). IsOperand w (reg w r ∷ []) o) (ap (λ (q : Operand × ℕ). q.0) same) refl,
+      subst (λ (o : Operand). IsOperand w (reg w r ∷ []) o)
+          (ap (λ (q : Operand × ℕ). q.0) same) refl,
       (here ∙ ap (λ (z : Word). some (Named z)) (register_in w y r is), tt),
       ap (λ (q : Operand × ℕ). q.1) (sym same),
     )
 operand_of w ts i (Number m) x here h = operand_constant w ts i x h
 operand_of w ts i (Signed m) x here h = operand_constant w ts i x h
 
-pub operand : (w : Width) (ts : List Token) (i : ℕ) (x : Operand × ℕ) → operand_at w ts i ≡ Ok x → (xs : List Token) × IsOperand w xs x.0 × HasTokensAt ts i xs × (x.1 ≡ i + length xs)
-operand w ts i x h = let (t, here, is) = bind (token_at ts i) (operand_token w ts i) x h in operand_of w ts i t x (token ts i t here) is
+pub operand : (w : Width) (ts : List Token) (i : ℕ) (x : Operand × ℕ) → operand_at w ts i ≡ Ok x
+    → (xs : List Token) × IsOperand w xs x.0 × HasTokensAt ts i xs × (x.1 ≡ i + length xs)
+operand w ts i x h =
+    let (t, here, is) = bind (token_at ts i) (operand_token w ts i) x h in
+    operand_of w ts i t x (token ts i t here) is
 
 -- R + n or R - n
 pub based : (ts : List Token) (i : ℕ) (p : Place) → place_at ts i ≡ Ok p
-    → (s : Sign) × (n : ℕ) × At ts i (reg Full64 p.base) × At ts (i + 1) (Signed s) × At ts (i + 1 + 1) (Number n) × IsSigned (2 ^ 15) s n p.offset
+    → (s : Sign) × (n : ℕ) × At ts i (reg Full64 p.base) × At ts (i + 1) (Signed s)
+    × At ts (i + 1 + 1) (Number n) × IsSigned (2 ^ 15) s n p.offset
 based ts i p h =
-    let (b, base, rest) = bind (register_at Full64 ts i) (λ b. signed_at (2 ^ 15) ts (i + 1) >>= λ by. let r : Result Place Wrong = Ok (record { base = b; offset = by }) in r) p h in
-    let (by, offset, pair) = bind (signed_at (2 ^ 15) ts (i + 1)) (λ by. let r : Result Place Wrong = Ok (record { base = b; offset = by }) in r) p rest in
+    let (b, base, rest) = bind (register_at Full64 ts i)
+    (λ b. signed_at (2 ^ 15) ts (i + 1)
+    >>= λ by. let r : Result Place Wrong = Ok (record { base = b; offset = by }) in r) p h in
+    let (by, offset, pair) = bind (signed_at (2 ^ 15) ts (i + 1))
+    (λ by. let r : Result Place Wrong = Ok (record { base = b; offset = by }) in r) p rest in
     let (s, n, signs, number, is) = signed (2 ^ 15) ts (i + 1) by offset in
     let same : (let q : Place = record { base = b; offset = by } in q) ≡ p = cc (pair) in (
       s,

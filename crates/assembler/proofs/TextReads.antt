@@ -25,36 +25,58 @@ use Rattle.assembler.specs.Assembling.{ReadSoFar, finished, program_in}
 use Rattle.assembler.specs.Assembling as text
 use Rattle.assembler.proofs.PlainTexts.{Parts, takes, assembled, has_room, start}
 use Rattle.assembler.proofs.PlainTexts as plain
-use Rattle.assembler.proofs.PlainReads.{shadow, read-goes}
+use Rattle.assembler.proofs.PlainReads.{shadow}
+use Rattle.assembler.proofs.PlainTextReads.{read-agrees}
 use Rattle.assembler.proofs.TokenReads.{draft}
 use Rattle.assembler.proofs.MapReads.{row-read, line-read}
 
 -- ---- map lines
 
 -- there is room for the row among the rows of an image
-row-taken : (before rows : List MapDef) (row : MapDef) → IsRow row → length (before ++ row ∷ rows) ≤ max_maps → sum_by room_of (before ++ row ∷ rows) ≤ max_map_room → takes_row [] before row ≡ true
+row-taken : (before rows : List MapDef) (row : MapDef) → IsRow row
+    → length (before ++ row ∷ rows) ≤ max_maps
+    → sum_by room_of (before ++ row ∷ rows) ≤ max_map_room → takes_row [] before row ≡ true
 row-taken before rows row h few room =
-    let long : length (before ++ row ∷ rows) ≡ length before + suc (length rows) = length-append before (row ∷ rows) in
-    let sum : sum_by room_of (before ++ row ∷ rows) ≡ sum_by room_of before + (room_of row + sum_by room_of rows) = sum_by-append room_of before (row ∷ rows) ∙ ap (λ n. sum_by room_of before + n) (sum_by-cons room_of row rows) in
-    let place : nat_lt (length before) max_maps ≡ true = lt-ltb (length before) max_maps (omega (arith, long, few)) in
+    let long : length (before ++ row ∷ rows) ≡ length before + suc (length rows) =
+    length-append before (row ∷ rows) in
+    let sum : sum_by room_of (before ++ row ∷ rows)
+    ≡ sum_by room_of before
+    + (room_of row + sum_by room_of rows) = sum_by-append room_of before (row ∷ rows)
+    ∙ ap (λ n. sum_by room_of before + n) (sum_by-cons room_of row rows) in
+    let place : nat_lt (length before) max_maps ≡ true =
+    lt-ltb (length before) max_maps (omega (arith, long, few)) in
     let fits : row_fits row ≡ true = row_fits-IsRow row h in
-    let spare : nat_le (sum_by room_of before + room_of row) max_map_room ≡ true = le-leb (sum_by room_of before + room_of row) max_map_room (omega (arith, sum, room)) in
+    let spare : nat_le (sum_by room_of before + room_of row) max_map_room ≡ true =
+    le-leb (sum_by room_of before + room_of row) max_map_room (omega (arith, sum, room)) in
     rw (place, fits, spare) refl
 
-rows-read : (v : Version) (rows before : List MapDef) (rest : List ℕ) → All IsRow rows → length (before ++ rows) ≤ max_maps → sum_by room_of (before ++ rows) ≤ max_map_room → assembled (rows_text rows ++ rest) 0 (draft [] (record { version = v; maps = before; insns = [] })) ≡ assembled rest 0 (draft [] (record { version = v; maps = before ++ rows; insns = [] }))
-rows-read v [] before rest h few room = ap (λ (l : List MapDef). assembled rest 0 (draft [] (record { version = v; maps = l; insns = [] }))) (sym (append-nil before))
+rows-read : (v : Version) (rows before : List MapDef) (rest : List ℕ) → All IsRow rows
+    → length (before ++ rows) ≤ max_maps → sum_by room_of (before ++ rows) ≤ max_map_room
+    → assembled (rows_text rows ++ rest) 0
+    (draft [] (record { version = v; maps = before; insns = [] }))
+    ≡ assembled rest 0 (draft [] (record { version = v; maps = before ++ rows; insns = [] }))
+rows-read v [] before rest h few room = ap
+    (λ (l : List MapDef). assembled rest 0
+    (draft [] (record { version = v; maps = l; insns = [] }))) (sym (append-nil before))
 rows-read v (row ∷ rows) before rest h few room =
-    let same : (before ++ row ∷ []) ++ rows ≡ before ++ row ∷ rows = append_assoc before (row ∷ []) rows in
+    let same : (before ++ row ∷ []) ++ rows ≡ before ++ row ∷ rows =
+    append_assoc before (row ∷ []) rows in
     let fits : IsRow row = All-head IsRow row rows h in
-    ap (λ bs. assembled bs 0 (draft [] (record { version = v; maps = before; insns = [] }))) (append_assoc (row_line row) (rows_text rows) rest)
-    ∙ row-read row (record { version = v; maps = before; insns = [] }) (rows_text rows ++ rest) fits (row-taken before rows row fits few room)
-    ∙ rows-read v rows (before ++ row ∷ []) rest (All-tail IsRow row rows h) (rw same few) (rw same room)
-    ∙ ap (λ (l : List MapDef). assembled rest 0 (draft [] (record { version = v; maps = l; insns = [] }))) same
+    ap (λ bs. assembled bs 0 (draft [] (record { version = v; maps = before; insns = [] })))
+    (append_assoc (row_line row) (rows_text rows) rest)
+    ∙ row-read row (record { version = v; maps = before; insns = [] }) (rows_text rows ++ rest) fits
+    (row-taken before rows row fits few room)
+    ∙ rows-read v rows (before ++ row ∷ []) rest (All-tail IsRow row rows h) (rw same few)
+    (rw same room)
+    ∙ ap (λ (l : List MapDef). assembled rest 0
+    (draft [] (record { version = v; maps = l; insns = [] }))) same
 
 -- ---- the version line
 
--- a text that begins with its version's line goes on with that version
-version-read : (v : Version) (rest : List ℕ) → assembled (version_line v ++ rest) 0 start ≡ assembled rest 0 (draft [] (record { version = v; maps = []; insns = [] }))
+-- a text that begins with its version's line is read on with that version
+version-read : (v : Version) (rest : List ℕ)
+    → assembled (version_line v ++ rest) 0 start
+    ≡ assembled rest 0 (draft [] (record { version = v; maps = []; insns = [] }))
 version-read One rest = refl
 version-read Two rest = refl
 
@@ -63,44 +85,59 @@ version-read Two rest = refl
 -- the instructions before others fit if all of them do
 room-before : (is js : List Insn) → length (slots (is ++ js)) ≤ max_slots → has_room is ≡ true
 room-before is js h =
-    let e : length (slots (is ++ js)) ≡ length (slots is) + length (slots js) = ap (λ l. length l) (slots-append is js) ∙ length-append (slots is) (slots js) in
+    let e : length (slots (is ++ js)) ≡ length (slots is) + length (slots js) =
+    ap (λ l. length l) (slots-append is js) ∙ length-append (slots is) (slots js) in
     ap not (le-ltb max_slots (length (slots is)) (omega (arith, h, e)))
 
--- instructions after others, after map rows
+-- a version, map rows and instructions before a statement
 abbrev behind : Version → List MapDef → List Insn → Parts
 behind v maps is = record { version = v; maps = maps; insns = is }
 
-taken : (v : Version) (maps : List MapDef) (before is : List Insn) (i : Insn) → NamesRows maps i → length (slots ((before ++ i ∷ []) ++ is)) ≤ max_slots → takes (behind v maps before) i ≡ true
+taken : (v : Version) (maps : List MapDef) (before is : List Insn) (i : Insn) → NamesRows maps i
+    → length (slots ((before ++ i ∷ []) ++ is)) ≤ max_slots → takes (behind v maps before) i ≡ true
 taken v maps before is i named all =
-    let there : is_none (objection_to_load maps i) ≡ true = objection_to_load-NamesRows maps i named in
+    let there : is_none (objection_to_load maps i) ≡ true =
+    objection_to_load-NamesRows maps i named in
     let room : has_room (before ++ i ∷ []) ≡ true = room-before (before ++ i ∷ []) is all in
     rw (there, room) refl
 
-code-read : (v : Version) (maps : List MapDef) (is before : List Insn) → AllFit is → All (NamesRows maps) is → length (slots (before ++ is)) ≤ max_slots → assembled (code_text is) 0 (draft [] (behind v maps before)) ≡ Some (draft [] (behind v maps (before ++ is)))
-code-read v maps [] before h named room = ap (λ (l : List Insn). Some (draft [] (behind v maps l))) (sym (append-nil before))
+code-read : (v : Version) (maps : List MapDef) (is before : List Insn) → AllFit is
+    → All (NamesRows maps) is → length (slots (before ++ is)) ≤ max_slots
+    → assembled (code_text is) 0 (draft [] (behind v maps before))
+    ≡ Some (draft [] (behind v maps (before ++ is)))
+code-read v maps [] before h named room =
+    ap (λ (l : List Insn). Some (draft [] (behind v maps l))) (sym (append-nil before))
 code-read v maps (i ∷ is) before h named room =
     let same : (before ++ i ∷ []) ++ is ≡ before ++ i ∷ is = append_assoc before (i ∷ []) is in
     let all : length (slots ((before ++ i ∷ []) ++ is)) ≤ max_slots = rw same room in
-    line-read i (behind v maps before) (code_text is) h.0 (taken v maps before is i (All-head (NamesRows maps) i is named) all)
+    line-read i (behind v maps before) (code_text is) h.0
+    (taken v maps before is i (All-head (NamesRows maps) i is named) all)
     ∙ code-read v maps is (before ++ i ∷ []) h.1 (All-tail (NamesRows maps) i is named) all
     ∙ ap (λ (l : List Insn). Some (draft [] (behind v maps l))) same
 
-all-named : (maps : List MapDef) (xs : List (Option Insn)) → NamesMaps maps xs → All (NamesRows maps) (instructions xs)
+all-named : (maps : List MapDef) (xs : List (Option Insn)) → NamesMaps maps xs
+    → All (NamesRows maps) (instructions xs)
 all-named maps [] h = All-nil (NamesRows maps)
 all-named maps (None ∷ xs) h = all-named maps xs h
-all-named maps (Some i ∷ xs) h = All-cons (NamesRows maps) i (instructions xs) h.0 (all-named maps xs h.1)
+all-named maps (Some i ∷ xs) h =
+    All-cons (NamesRows maps) i (instructions xs) h.0 (all-named maps xs h.1)
 
--- an image is the one that its rows and instructions make
+-- the image of an image's version, rows and instructions is that image
 image-again : (p : Program) → IsImage p → program_of p.version p.maps (instructions p.insns) ≡ p
-image-again p h = ap (λ xs. let q : Program = record p { insns = xs } in q) (slots-instructions p.insns h.code)
+image-again p h =
+    ap (λ xs. let q : Program = record p { insns = xs } in q) (slots-instructions p.insns h.code)
 
-pub text-read : (p : Program) → IsImage p → assembled (canonical_text p) 0 start ≡ Some (draft [] (behind p.version p.maps (instructions p.insns)))
+pub text-read : (p : Program) → IsImage p
+    → assembled (canonical_text p) 0 start
+    ≡ Some (draft [] (behind p.version p.maps (instructions p.insns)))
 unfolding canonical_text
 text-read p h =
-    let few : length (slots (instructions p.insns)) ≤ max_slots = rw (slots-instructions p.insns h.code) (omega (arith, h.few_slots)) in
+    let few : length (slots (instructions p.insns)) ≤ max_slots =
+    rw (slots-instructions p.insns h.code) (omega (arith, h.few_slots)) in
     version-read p.version (rows_text p.maps ++ code_text (instructions p.insns))
     ∙ rows-read p.version p.maps [] (code_text (instructions p.insns)) h.rows h.few_maps h.room
-    ∙ code-read p.version p.maps (instructions p.insns) [] (AllFit-instructions p.insns false h.code) (all-named p.maps p.insns h.named) few
+    ∙ code-read p.version p.maps (instructions p.insns) []
+    (AllFit-instructions p.insns false h.code) (all-named p.maps p.insns h.named) few
 
 -- ---- programs
 
@@ -110,23 +147,31 @@ counted n some few =
     let fits : nat_lt max_slots n ≡ false = le-ltb max_slots n few in
     rw (more, fits) refl
 
-program_of-instructions : (p : Program) → IsImage p → text.program_of p.version p.maps (instructions p.insns) ≡ Ok p
+program_of-instructions : (p : Program) → IsImage p
+    → text.program_of p.version p.maps (instructions p.insns) ≡ Ok p
 program_of-instructions p h =
     let is : List Insn = instructions p.insns in
-    let long : length (slots is) ≡ length p.insns = ap (λ xs. length xs) (slots-instructions p.insns h.code) in
-    let few : is_none (count_refusal (length (slots is))) ≡ true = ap (λ n. is_none (count_refusal n)) long ∙ counted (length p.insns) h.some_slots h.few_slots in
-    ap (λ (b : Bool). let r : Result Program Refusal = if b then Ok (program_of p.version p.maps is) else Err (record { kind = SlotCount; offset = 0 }) in r) few
+    let long : length (slots is) ≡ length p.insns =
+    ap (λ xs. length xs) (slots-instructions p.insns h.code) in
+    let few : is_none (count_refusal (length (slots is))) ≡ true =
+    ap (λ n. is_none (count_refusal n)) long ∙ counted (length p.insns) h.some_slots h.few_slots in
+    ap (λ (b : Bool). let r : Result Program Refusal = if b then Ok (program_of p.version p.maps is)
+    else Err (record { kind = SlotCount; offset = 0 }) in r) few
     ∙ ap (λ (q : Program). let r : Result Program Refusal = Ok q in r) (image-again p h)
 
--- what was read without names is a program already
-finished-unused : (s : ReadSoFar) (parts : Parts) → (shadow s).parts ≡ parts → s.uses ≡ [] → finished s ≡ text.program_of parts.version parts.maps parts.insns
+-- where no name is used, what was read is the program
+finished-unused : (s : ReadSoFar) (parts : Parts) → (shadow s).parts ≡ parts → s.uses ≡ []
+    → finished s ≡ text.program_of parts.version parts.maps parts.insns
 finished-unused s parts e unused =
-    ap (λ us. resolved (slot_in s.labels) us s.insns >>= text.program_of s.version s.maps) unused ∙ ap (λ (ps : Parts). text.program_of ps.version ps.maps ps.insns) e
+    ap (λ us. resolved (slot_in s.labels) us s.insns >>= text.program_of s.version s.maps) unused
+    ∙ ap (λ (ps : Parts). text.program_of ps.version ps.maps ps.insns) e
 
 -- the canonical text of an image spells that image
 pub program_in-canonical_text : (p : Program) → IsImage p → program_in (canonical_text p) ≡ Ok p
 program_in-canonical_text p h =
-    let went = read-goes (canonical_text p) 0 0 text.start (draft [] (behind p.version p.maps (instructions p.insns))) (refl, refl) (text-read p h) in
+    let went = read-agrees (canonical_text p) 0 0 text.start
+    (draft [] (behind p.version p.maps (instructions p.insns))) (refl, refl) (text-read p h) in
     ap (λ (r : Result ReadSoFar Refusal). r >>= finished) went.1
-    ∙ finished-unused went.0 (behind p.version p.maps (instructions p.insns)) (ap (λ (s : plain.StatementSoFar). s.parts) went.2) went.3.0
+    ∙ finished-unused went.0 (behind p.version p.maps (instructions p.insns))
+    (ap (λ (s : plain.StatementSoFar). s.parts) went.2) went.3.0
     ∙ program_of-instructions p h

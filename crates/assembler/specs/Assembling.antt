@@ -21,7 +21,7 @@ use Rattle.assembler.specs.declared.wrong.Wrong.TheVariants.{Form, Range}
 use Rattle.lexer.specs.declared.tokens.Token.{Token}
 use Rattle.lexer.specs.declared.tokens.Lexeme.{Lexeme}
 use Rattle.lexer.specs.declared.tokens.Lexeme.TheVariants.{Blank, End, Solid}
-use Rattle.lexer.specs.Lexing.{lexeme_at, fault_at}
+use Rattle.lexer.specs.Lexing.{lexeme_at, unknown_at}
 use Rattle.assembler.specs.Operands.{◌>>=◌}
 use Rattle.assembler.specs.Labelled.{spelled_behind, has_form, label_length}
 use Rattle.assembler.specs.MapTests.{objection}
@@ -37,7 +37,7 @@ TokenSpan = ℕ × List ℕ
 pub record ReadSoFar : Type 0 where
   -- the tokens of the statement, and where they are
   pub tokens : List Token
-  pub places : List TokenSpan
+  pub spans : List TokenSpan
   -- the version, the map rows and the instructions before it
   pub version : Version
   pub maps : List MapDef
@@ -47,17 +47,25 @@ pub record ReadSoFar : Type 0 where
   pub uses : List NameUse
 
 abbrev pub start : ReadSoFar
-start = record { tokens = []; places = []; version = One; maps = []; insns = []; labels = []; uses = [] }
+start = record {
+  tokens = [];
+  spans = [];
+  version = One;
+  maps = [];
+  insns = [];
+  labels = [];
+  uses = [];
+}
 
 -- ---- refusals
 
 abbrev pub offset_or : Option TokenSpan → ℕ → ℕ
-offset_or (Some place) otherwise = place.0
+offset_or (Some span) otherwise = span.0
 offset_or None otherwise = otherwise
 
 -- where the statement begins
 abbrev pub begins_at : ReadSoFar → ℕ
-begins_at s = offset_or (slice_get s.places 0) 0
+begins_at s = offset_or (slice_get s.spans 0) 0
 
 abbrev pub refused_at : {A : Type 0} → ℕ → Result A AsmErrorKind → Result A Refusal
 refused_at at (Ok x) = Ok x
@@ -69,16 +77,16 @@ abbrev pub refusal_of : ReadSoFar → ℕ → Wrong → Refusal
 refusal_of s k Form = record { kind = NoForm; offset = begins_at s }
 refusal_of s k (Range at) =
     if has_form (drop k s.tokens)
-    then (record { kind = OutOfRange; offset = offset_or (slice_get s.places (at + k)) 0 })
+    then (record { kind = OutOfRange; offset = offset_or (slice_get s.spans (at + k)) 0 })
     else record { kind = NoForm; offset = begins_at s }
 
 abbrev pub unless_wrong : {A : Type 0} → ReadSoFar → ℕ → Result A Wrong → Result A Refusal
 unless_wrong s k (Ok x) = Ok x
 unless_wrong s k (Err wrong) = Err (refusal_of s k wrong)
 
--- the refusal of a token, counted without the first k
+-- the refusal for an objection, whose token is counted without the first k
 abbrev pub refused_by : ReadSoFar → ℕ → Objection → Refusal
-refused_by s k o = record { kind = o.kind; offset = offset_or (slice_get s.places (o.token + k)) 0 }
+refused_by s k o = record { kind = o.kind; offset = offset_or (slice_get s.spans (o.token + k)) 0 }
 
 abbrev pub unless_refused : ReadSoFar → ℕ → Option Objection → Result (Unit {0}) Refusal
 unless_refused s k None = Ok tt
@@ -97,32 +105,54 @@ with_insn insns i = if has_room (insns ++ i ∷ []) then Ok (insns ++ i ∷ []) 
 -- the next instruction uses the name there
 abbrev pub with_use : ReadSoFar → Option TokenSpan → List NameUse
 with_use s None = s.uses
-with_use s (Some place) =
-    s.uses ++ (record { index = length s.insns; slot = length (slots s.insns); name = place.1; offset = place.0 }) ∷ []
+with_use s (Some span) =
+    s.uses ++ (record {
+      index = length s.insns;
+      slot = length (slots s.insns);
+      name = span.1;
+      offset = span.0;
+    }) ∷ []
 
 -- the name of the instruction's target, if it has one; k tokens come before the instruction
 abbrev pub name_span : ReadSoFar → ℕ → Option ℕ → Option TokenSpan
 name_span s k None = None
-name_span s k (Some i) = slice_get s.places (i + k)
+name_span s k (Some i) = slice_get s.spans (i + k)
 
 -- the statement's instruction is added; k tokens come before it
 abbrev pub added : ReadSoFar → ℕ → Reading → Result ReadSoFar Refusal
 added s k r =
     refused_at (begins_at s) (with_insn s.insns r.insn)
-    >>= λ insns. Ok (record { tokens = []; places = []; version = s.version; maps = s.maps; insns = insns; labels = s.labels; uses = with_use s (name_span s k r.name) })
+    >>= λ insns. Ok (record {
+      tokens = [];
+      spans = [];
+      version = s.version;
+      maps = s.maps;
+      insns = insns;
+      labels = s.labels;
+      uses = with_use s (name_span s k r.name);
+    })
 
 -- ---- labels
 
 -- the name is defined as the next slot
 abbrev pub named_by : ReadSoFar → Option TokenSpan → Result ReadSoFar Refusal
 named_by s None = Ok s
-named_by s (Some place) =
-    refused_at place.0 (with_label s.labels place.1 (length (slots s.insns)))
-    >>= λ labels. Ok (record { tokens = s.tokens; places = s.places; version = s.version; maps = s.maps; insns = s.insns; labels = labels; uses = s.uses })
+named_by s (Some span) =
+    refused_at span.0 (with_label s.labels span.1 (length (slots s.insns)))
+    >>= λ labels. Ok
+    (record {
+      tokens = s.tokens;
+      spans = s.spans;
+      version = s.version;
+      maps = s.maps;
+      insns = s.insns;
+      labels = labels;
+      uses = s.uses;
+    })
 
 -- the statement's first token is the name
 abbrev pub named : ReadSoFar → Result ReadSoFar Refusal
-named s = named_by s (slice_get s.places 0)
+named s = named_by s (slice_get s.spans 0)
 
 -- ---- statements
 
@@ -130,50 +160,90 @@ abbrev pub is_one : Version → Bool
 is_one One = true
 is_one Two = false
 
--- no statement was read that is not empty: each one leaves a name, a version, a row or an instruction
+-- only empty statements were read: each other one leaves a name, a version, a row or an instruction
 abbrev pub is_first : ReadSoFar → Bool
-is_first s = length s.labels == 0 && (is_one s.version && (length s.maps == 0 && (length s.insns == 0)))
+is_first s =
+    length s.labels == 0 && (is_one s.version && (length s.maps == 0 && (length s.insns == 0)))
 
--- a statement is taken that follows a label of k tokens
+-- the statement, which follows a label of k tokens, is added to what was read
 abbrev pub ended : ReadSoFar → ℕ → Statement → Result ReadSoFar Refusal
-ended s k said.Empty = Ok (record { tokens = []; places = []; version = s.version; maps = s.maps; insns = s.insns; labels = s.labels; uses = s.uses })
-ended s k said.Version = Ok (record { tokens = []; places = []; version = Two; maps = s.maps; insns = s.insns; labels = s.labels; uses = s.uses })
-ended s k (said.Row row) = Ok (record { tokens = []; places = []; version = s.version; maps = s.maps ++ row ∷ []; insns = s.insns; labels = s.labels; uses = s.uses })
+ended s k said.Empty = Ok
+    (record {
+      tokens = [];
+      spans = [];
+      version = s.version;
+      maps = s.maps;
+      insns = s.insns;
+      labels = s.labels;
+      uses = s.uses;
+    })
+ended s k said.Version = Ok
+    (record {
+      tokens = [];
+      spans = [];
+      version = Two;
+      maps = s.maps;
+      insns = s.insns;
+      labels = s.labels;
+      uses = s.uses;
+    })
+ended s k (said.Row row) = Ok
+    (record {
+      tokens = [];
+      spans = [];
+      version = s.version;
+      maps = s.maps
+          ++ row ∷ [];
+      insns = s.insns;
+      labels = s.labels;
+      uses = s.uses;
+    })
 ended s k (said.Instruction r) = added s k r
 
--- a statement ends that follows a label of k tokens
-abbrev pub closed_behind : ReadSoFar → ℕ → Result ReadSoFar Refusal
-closed_behind s k =
+-- the end of a statement that follows a label of k tokens
+abbrev pub at_end_behind : ReadSoFar → ℕ → Result ReadSoFar Refusal
+at_end_behind s k =
     unless_wrong s k (spelled_behind k (drop k s.tokens))
     >>= λ said. unless_refused s k (objection (is_first s) s.insns s.maps said)
     >>= λ u. (if k == 0 then Ok s else named s)
     >>= λ t. ended t k said
 
--- at the end of a statement: what its tokens spell counts first, then the maps that it has or names, then its own name,
--- then its slots
-abbrev pub closed : ReadSoFar → Result ReadSoFar Refusal
-closed s = closed_behind s (label_length s.tokens)
+-- the end of a statement. What its tokens spell is tested first, then the maps that it has or
+-- names, then its label, then its slots
+abbrev pub at_end : ReadSoFar → Result ReadSoFar Refusal
+at_end s = at_end_behind s (label_length s.tokens)
 
 -- the next lexeme of the text, which begins there and has these bytes
 abbrev pub accept : ReadSoFar → Lexeme → TokenSpan → Result ReadSoFar Refusal
-accept s Blank place = Ok s
-accept s End place = closed s
-accept s (Solid t) place =
-    Ok (record { tokens = s.tokens ++ t ∷ []; places = s.places ++ place ∷ []; version = s.version; maps = s.maps; insns = s.insns; labels = s.labels; uses = s.uses })
+accept s Blank span = Ok s
+accept s End span = at_end s
+accept s (Solid t) span =
+    Ok (record {
+      tokens = s.tokens ++ t ∷ [];
+      spans = s.spans
+          ++ span ∷ [];
+      version = s.version;
+      maps = s.maps;
+      insns = s.insns;
+      labels = s.labels;
+      uses = s.uses;
+    })
 
 -- ---- texts
 
 -- the first lexeme of these bytes, which begin at offset `at` of the text
 abbrev pub next_lexeme : ℕ → List ℕ → Result (Lexeme × ℕ) Refusal
-next_lexeme at bs = ok_or (lexeme_at bs) (record { kind = UnknownByte; offset = at + fault_at bs })
+next_lexeme at bs =
+    ok_or (lexeme_at bs) (record { kind = UnknownByte; offset = at + unknown_at bs })
 
--- what the bytes at that offset of a text make, after the first k of them
+-- the result of reading the bytes at that offset of a text, after the first k of them
 abbrev pub read_on : List ℕ → ℕ → ℕ → ReadSoFar → Result ReadSoFar Refusal
-read_on [] k at s = closed s
+read_on [] k at s = at_end s
 read_on (b ∷ bs) (suc k) at s = read_on bs k (at + 1) s
 read_on (b ∷ bs) zero at s =
     next_lexeme at (b ∷ bs)
-    >>= λ (p : Lexeme × ℕ). accept s p.0 (at, take p.1 (b ∷ bs)) >>= λ t. read_on bs (p.1 - 1) (at + 1) t
+    >>= λ (p : Lexeme × ℕ). accept s p.0 (at, take p.1 (b ∷ bs))
+    >>= λ t. read_on bs (p.1 - 1) (at + 1) t
 
 -- the program of this version, these map rows and instructions; if there is no instruction, the
 -- refusal is at the start of the text
@@ -198,9 +268,9 @@ program_in text = read_on text 0 0 start >>= finished
 unfoldable pub assembled : List ℕ → Result Program AsmError
 assembled text = error_in text (program_in text)
 
--- ---- what calls answer
+-- ---- what calls return
 
--- that, or refused so, or out of memory
+-- a call returns, by its view, the wanted result or its refusal, or it is out of memory
 abbrev pub Answers : {A B : Type 0} → (A → B) → Result A Refusal → Result B Refusal → Type 0
 Answers view (Ok x) wanted = wanted ≡ Ok (view x)
 Answers view (Err e) wanted = (e.kind ≡ Memory) ⊎ (wanted ≡ Err e)

@@ -1,4 +1,4 @@
--- What a draft means.
+-- What a draft has read so far.
 use Rattle.std.specs.Prelude.{map}
 use Rattle.assembler.specs.declared.draft.Draft.{Draft}
 use Rattle.assembler.specs.declared.draft.Span.{Span}
@@ -13,7 +13,7 @@ abbrev pub progress_of : Draft → ReadSoFar
 progress_of d =
     record {
       tokens = d.tokens.items;
-      places = map span_of d.spans.items;
+      spans = map span_of d.spans.items;
       version = d.version;
       maps = d.maps.items;
       insns = d.code.insns.items;

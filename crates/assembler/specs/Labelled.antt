@@ -42,11 +42,13 @@ spelled ts =
 -- no label
 abbrev pub spelled_behind : ℕ → List Token → Result Statement Wrong
 spelled_behind k ts =
-    if begins_version_line (slice_get ts 0) then (if k == 0 then version_line ts else Err Form) else spelled ts
+    if begins_version_line (slice_get ts 0) then (if k == 0 then version_line ts else Err Form)
+    else spelled ts
 
 -- whether a form fits them: a version line whatever its number is, or an instruction
 abbrev pub fits_form : List Token → Bool
-fits_form ts = (begins_version_line (slice_get ts 0) && is_ok (version_number ts)) || is_ok (statement_of ts)
+fits_form ts =
+    (begins_version_line (slice_get ts 0) && is_ok (version_number ts)) || is_ok (statement_of ts)
 
 -- any number of the text as 0, which is in all ranges of instructions
 abbrev pub zeroed : Token → Token
@@ -64,6 +66,6 @@ abbrev pub is_label : Option Token → Option Token → Bool
 is_label (Some (Named x)) (Some (Signed sign.Colon)) = is_name x
 is_label t u = false
 
--- how many tokens the label of a statement is
+-- how many tokens the label of a statement has
 abbrev pub label_length : List Token → ℕ
 label_length ts = if is_label (slice_get ts 0) (slice_get ts 1) then 2 else 0

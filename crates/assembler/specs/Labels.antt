@@ -10,15 +10,16 @@ use Rattle.assembler.specs.declared.errors.AsmErrorKind.TheVariants.{DefinedTwic
 abbrev pub label_of : Bor (List ℕ) × ℕ → List ℕ × ℕ
 label_of label = (label.0.now, label.1)
 
--- the slot that a name means
+-- the slot of a name
 abbrev pub slot_in : List (List ℕ × ℕ) → List ℕ → Option ℕ
 slot_in labels name = lookup (bytes_eq name) labels
 
 -- one more name, which was not defined before; the others stay
 abbrev pub with_label : List (List ℕ × ℕ) → List ℕ → ℕ → Result (List (List ℕ × ℕ)) AsmErrorKind
-with_label labels name slot = if is_some (slot_in labels name) then Err DefinedTwice else Ok (labels ++ (name, slot) ∷ [])
+with_label labels name slot =
+    if is_some (slot_in labels name) then Err DefinedTwice else Ok (labels ++ (name, slot) ∷ [])
 
--- the wanted result, or its refusal, or out of memory
+-- a call returns, by its view, the wanted result or its refusal, or it is out of memory
 abbrev pub Makes : {A B : Type 0} → (A → B) → Result A AsmErrorKind → Result B AsmErrorKind → Type 0
 Makes view (Ok x) wanted = wanted ≡ Ok (view x)
 Makes view (Err kind) wanted = (kind ≡ Memory) ⊎ (wanted ≡ Err kind)

@@ -17,9 +17,14 @@ pub record NameUse : Type 0 where
   pub offset : ℕ
 
 abbrev pub use_of : Use → NameUse
-use_of used = record { index = used.index; slot = used.slot; name = used.name.now; offset = used.offset }
+use_of used = record {
+  index = used.index;
+  slot = used.slot;
+  name = used.name.now;
+  offset = used.offset;
+}
 
--- how far it is to a slot from after another
+-- the distance to a slot, from the slot after another
 abbrev pub distance : ℕ → ℕ → ℤ
 distance from to = pos to -ℤ pos (from + 1)
 
@@ -61,4 +66,5 @@ put u is (Err kind) = Err (record { kind = kind; offset = u.offset })
 -- refused, at its offset
 abbrev pub resolved : (List ℕ → Option ℕ) → List NameUse → List Insn → Result (List Insn) Refusal
 resolved slot_of [] is = Ok is
-resolved slot_of (u ∷ us) is = put u is (aim_used slot_of u (slice_get is u.index)) >>= λ next. resolved slot_of us next
+resolved slot_of (u ∷ us) is =
+    put u is (aim_used slot_of u (slice_get is u.index)) >>= λ next. resolved slot_of us next

@@ -148,12 +148,14 @@ signed_within half at false n = if nat_lt n half then Ok (pos n) else Err (Range
 
 -- 64 bits, signed or not
 abbrev pub wide_within : ℕ → Bool → ℕ → Result ℕ Wrong
-wide_within at true n = if nat_le n (2 ^ 63) then Ok (if n == 0 then 0 else 2 ^ 64 - n) else Err (Range at)
+wide_within at true n =
+    if nat_le n (2 ^ 63) then Ok (if n == 0 then 0 else 2 ^ 64 - n) else Err (Range at)
 wide_within at false n = if nat_lt n (2 ^ 64) then Ok n else Err (Range at)
 
 -- a sign and a number
 abbrev pub signed_at : ℕ → List Token → ℕ → Result ℤ Wrong
-signed_at half ts i = sign_at ts i >>= is_minus >>= λ minus. number_at ts (i + 1) >>= signed_within half i minus
+signed_at half ts i =
+    sign_at ts i >>= is_minus >>= λ minus. number_at ts (i + 1) >>= signed_within half i minus
 
 -- the index of the number at index i, after its minus if it has one
 abbrev pub number_index : ℕ → Token → Result (Bool × ℕ) Wrong
@@ -164,7 +166,8 @@ number_index i t = Err Form
 -- a number for imm, and the index after it
 abbrev pub constant_at : List Token → ℕ → Result (ℤ × ℕ) Wrong
 constant_at ts i =
-    token_at ts i >>= number_index i >>= λ (at : Bool × ℕ). number_at ts at.1 >>= signed_within (2 ^ 31) i at.0 >>= λ k. Ok (k, at.1 + 1)
+    token_at ts i >>= number_index i >>= λ (at : Bool × ℕ). number_at ts at.1 >>= signed_within
+    (2 ^ 31) i at.0 >>= λ k. Ok (k, at.1 + 1)
 
 -- ---- registers and places
 
@@ -196,19 +199,23 @@ operand_at w ts i = token_at ts i >>= operand_token w ts i
 
 -- a base, and an offset after its sign
 abbrev pub place_at : List Token → ℕ → Result Place Wrong
-place_at ts i = register_at Full64 ts i >>= λ b. signed_at (2 ^ 15) ts (i + 1) >>= λ by. Ok (record { base = b; offset = by })
+place_at ts i = register_at Full64 ts i >>= λ b. signed_at (2 ^ 15) ts (i + 1)
+    >>= λ by. Ok (record { base = b; offset = by })
 
 -- * ( size * ) ( place )
 abbrev pub memory_at : List Token → ℕ → Result (Word × Place) Wrong
 memory_at ts i =
-    expect_at ts i sign.Star >>= λ a. expect_at ts (i + 1) sign.Open >>= λ b. word_at ts (i + 2) >>= λ size.
-    expect_at ts (i + 3) sign.Star >>= λ c. expect_at ts (i + 4) sign.Close >>= λ d. expect_at ts (i + 5) sign.Open >>= λ e.
+    expect_at ts i sign.Star >>= λ a. expect_at ts (i + 1) sign.Open >>= λ b. word_at ts (i + 2)
+    >>= λ size.
+    expect_at ts (i + 3) sign.Star >>= λ c. expect_at ts (i + 4) sign.Close
+    >>= λ d. expect_at ts (i + 5) sign.Open >>= λ e.
     place_at ts (i + 6) >>= λ p. expect_at ts (i + 9) sign.Close >>= λ f. Ok (size, p)
 
 -- ( place ,
 abbrev pub argument_at : List Token → ℕ → Result Place Wrong
 argument_at ts i =
-    expect_at ts i sign.Open >>= λ a. place_at ts (i + 1) >>= λ p. expect_at ts (i + 4) sign.Comma >>= λ b. Ok p
+    expect_at ts i sign.Open >>= λ a. place_at ts (i + 1) >>= λ p. expect_at ts (i + 4) sign.Comma
+    >>= λ b. Ok p
 
 abbrev pub as_size : Word → Result Size Wrong
 as_size (word.Unsigned size) = Ok size
@@ -226,8 +233,10 @@ is_name word.Pc = false
 is_name x = true
 
 abbrev pub target_token : ℕ → List Token → ℕ → Token → Result (ℤ × Option ℕ) Wrong
-target_token half ts i (Signed s) = signed_at half ts i >>= λ by. keep (length ts == i + 2) (by, None)
-target_token half ts i (Named x) = if is_name x then keep (length ts == i + 1) (pos 0, Some i) else Err Form
+target_token half ts i (Signed s) =
+    signed_at half ts i >>= λ by. keep (length ts == i + 2) (by, None)
+target_token half ts i (Named x) =
+    if is_name x then keep (length ts == i + 1) (pos 0, Some i) else Err Form
 target_token half ts i (Number n) = Err Form
 
 -- a target at index i, and nothing after it
@@ -241,9 +250,9 @@ target_at half ts i = token_at ts i >>= target_token half ts i
 abbrev pub field_at : ℕ → List Token → ℕ → Result ℕ Wrong
 field_at most ts i = number_at ts i >>= λ n. Ok (if nat_le n most then n else most)
 
-abbrev pub as_kind : Word → Result MapType Wrong
-as_kind (word.Kind kind) = Ok kind
-as_kind x = Err Form
+abbrev pub as_map_type : Word → Result MapType Wrong
+as_map_type (word.MapType kind) = Ok kind
+as_map_type x = Err Form
 
 abbrev pub is_by_index : Word → Bool
 is_by_index word.MapByIndex = true
@@ -251,7 +260,8 @@ is_by_index x = false
 
 -- ( n )
 abbrev pub index_at : List Token → ℕ → Result ℕ Wrong
-index_at ts i = expect_at ts i sign.Open >>= λ a. field_at 4294967295 ts (i + 1) >>= λ n. expect_at ts (i + 2) sign.Close >>= λ b. Ok n
+index_at ts i = expect_at ts i sign.Open >>= λ a. field_at 4294967295 ts (i + 1)
+    >>= λ n. expect_at ts (i + 2) sign.Close >>= λ b. Ok n
 
 -- map_by_idx ( n )
 abbrev pub by_index_at : List Token → ℕ → Result ℕ Wrong

@@ -37,7 +37,7 @@ shown_byte b = if (b == 9) || (nat_le 32 b && nat_lt b 127) then b else 63
 abbrev pub padding_byte : ℕ → ℕ
 padding_byte b = if b == 9 then 9 else 32
 
--- a line and a line with a caret; an empty line is not shown, and none of over 160 bytes
+-- a line, and a line with a caret; empty lines and those of over 160 bytes are not shown
 abbrev pub shown_line : ℕ → List ℕ → List ℕ
 shown_line column bs =
     if (length bs == 0) || nat_lt 160 (length bs) then []
@@ -47,4 +47,5 @@ shown_line column bs =
 abbrev pub shown : List ℕ → AsmError → List ℕ
 shown text error =
     let bs = line_of error.line text in
-    shown_line error.column bs ++ (hint error.kind (before error.column bs) (from error.column bs) ++ codes "\n")
+    shown_line error.column bs
+    ++ (hint error.kind (before error.column bs) (from error.column bs) ++ codes "\n")

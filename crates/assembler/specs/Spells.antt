@@ -83,18 +83,21 @@ reg w r = Named (word.Register w r)
 
 -- a sign and a number from -half up to below half
 abbrev pub IsSigned : ℕ → Sign → ℕ → ℤ → Type 0
-IsSigned half s n k = ((s ≡ sign.Plus) × (n < half) × (k ≡ pos n)) ⊎ ((s ≡ sign.Minus) × (n ≤ half) × (k ≡ neg_ℤ (pos n)))
+IsSigned half s n k = ((s ≡ sign.Plus) × (n < half) × (k ≡ pos n))
+    ⊎ ((s ≡ sign.Minus) × (n ≤ half) × (k ≡ neg_ℤ (pos n)))
 
 -- N: a number of 32 bits, with or without a minus
 abbrev pub SpellsConstant : List Token → ℤ → Type 0
 SpellsConstant ts k =
-    ((n : ℕ) × (ts ≡ Number n ∷ []) × (n < 2 ^ 31) × (k ≡ pos n)) ⊎ ((n : ℕ) × (ts ≡ Signed sign.Minus ∷ Number n ∷ []) × (n ≤ 2 ^ 31) × (k ≡ neg_ℤ (pos n)))
+    ((n : ℕ) × (ts ≡ Number n ∷ []) × (n < 2 ^ 31) × (k ≡ pos n))
+    ⊎ ((n : ℕ) × (ts ≡ Signed sign.Minus ∷ Number n ∷ []) × (n ≤ 2 ^ 31) × (k ≡ neg_ℤ (pos n)))
 
 -- N of 64 bits, as a register holds it
 abbrev pub IsWide : List Token → ℕ → Type 0
 IsWide ts k =
     ((n : ℕ) × (ts ≡ Number n ∷ []) × (n < 2 ^ 64) × (k ≡ n))
-    ⊎ ((n : ℕ) × (ts ≡ Signed sign.Minus ∷ Number n ∷ []) × (n ≤ 2 ^ 63) × (k ≡ (if n == 0 then 0 else 2 ^ 64 - n)))
+    ⊎ ((n : ℕ) × (ts ≡ Signed sign.Minus ∷ Number n ∷ []) × (n ≤ 2 ^ 63)
+    × (k ≡ (if n == 0 then 0 else 2 ^ 64 - n)))
 
 -- a register of the width, or N
 abbrev pub IsOperand : Width → List Token → Operand → Type 0
@@ -111,7 +114,8 @@ place base s n rest = reg Full64 base ∷ Signed s ∷ Number n ∷ rest
 
 -- *(size *)(P), with what follows it
 abbrev pub memory : Word → Reg → Sign → ℕ → List Token → List Token
-memory size base s n rest = Signed sign.Star ∷ Signed sign.Open ∷ Named size ∷ Signed sign.Star ∷ Signed sign.Close ∷ Signed sign.Open ∷ place base s n (Signed sign.Close ∷ rest)
+memory size base s n rest = Signed sign.Star ∷ Signed sign.Open ∷ Named size ∷ Signed sign.Star
+    ∷ Signed sign.Close ∷ Signed sign.Open ∷ place base s n (Signed sign.Close ∷ rest)
 
 -- the tokens are those, with some sign and number before the offset
 abbrev pub Offset : Place → (Sign → ℕ → Type 0) → Type 0
@@ -125,50 +129,80 @@ IsTarget half ts by i name =
 
 -- ---- forms
 
--- the tokens spell the instruction; where its target is a name the distance is 0, and the name is the token at that index
+-- the tokens spell the instruction; where its target is a name the distance is 0, and the name is
+-- the token at that index
 unfoldable pub Spells : List Token → Insn → Option ℕ → Type 0
-Spells ts (Alu w o d x) name = (name ≡ None) × ((xs : List Token) × IsOperand w xs x × (ts ≡ reg w d ∷ Signed (assigns o) ∷ xs))
-Spells ts (Neg w d) name = (name ≡ None) × (ts ≡ reg w d ∷ Signed sign.Assign ∷ Signed sign.Minus ∷ reg w d ∷ [])
+Spells ts (Alu w o d x) name = (name ≡ None)
+    × ((xs : List Token) × IsOperand w xs x × (ts ≡ reg w d ∷ Signed (assigns o) ∷ xs))
+Spells ts (Neg w d) name =
+    (name ≡ None) × (ts ≡ reg w d ∷ Signed sign.Assign ∷ Signed sign.Minus ∷ reg w d ∷ [])
 Spells ts (MovSx e d s) name =
     (name ≡ None)
-    × (ts ≡ reg (extends e).0 d ∷ Signed sign.Assign ∷ Signed sign.Open ∷ Named (word.SignExtended (extends e).1) ∷ Signed sign.Close ∷ reg (extends e).0 s ∷ [])
-Spells ts (ByteSwap order span d) name = (name ≡ None) × (ts ≡ reg Full64 d ∷ Signed sign.Assign ∷ Named (word.Swapped order span) ∷ reg Full64 d ∷ [])
+    × (ts ≡ reg (extends e).0 d ∷ Signed sign.Assign ∷ Signed sign.Open
+    ∷ Named (word.SignExtended (extends e).1) ∷ Signed sign.Close ∷ reg (extends e).0 s ∷ [])
+Spells ts (ByteSwap order span d) name = (name ≡ None)
+    × (ts ≡ reg Full64 d ∷ Signed sign.Assign ∷ Named (word.Swapped order span) ∷ reg Full64 d ∷ [])
 Spells ts (LoadNumber d k) name =
-    (name ≡ None) × ((xs : List Token) × IsWide xs k × (ts ≡ reg Full64 d ∷ Signed sign.Assign ∷ (xs ++ Named word.Wide ∷ [])))
+    (name ≡ None) × ((xs : List Token) × IsWide xs k
+    × (ts ≡ reg Full64 d ∷ Signed sign.Assign ∷ (xs ++ Named word.Wide ∷ [])))
 Spells ts (LoadMap d m) name =
-    (name ≡ None) × ((n : ℕ) × (m ≡ field n) × (ts ≡ reg Full64 d ∷ Signed sign.Assign ∷ Named word.MapByIndex ∷ Signed sign.Open ∷ Number n ∷ Signed sign.Close ∷ []))
+    (name ≡ None) × ((n : ℕ) × (m ≡ field n)
+    × (ts ≡ reg Full64 d ∷ Signed sign.Assign ∷ Named word.MapByIndex ∷ Signed sign.Open
+    ∷ Number n ∷ Signed sign.Close ∷ []))
 Spells ts (LoadMapValue d m offset) name =
     (name ≡ None)
     × ((n : ℕ) × (k : ℕ) × (m ≡ field n) × (offset ≡ field k)
-    × (ts ≡ reg Full64 d ∷ Signed sign.Assign ∷ Named word.MapValue ∷ Signed sign.Open ∷ Named word.MapByIndex ∷ Signed sign.Open ∷ Number n ∷ Signed sign.Close ∷ Signed sign.Close
+    × (ts ≡ reg Full64 d ∷ Signed sign.Assign ∷ Named word.MapValue ∷ Signed sign.Open
+    ∷ Named word.MapByIndex ∷ Signed sign.Open ∷ Number n ∷ Signed sign.Close ∷ Signed sign.Close
     ∷ Signed sign.Plus ∷ Number k ∷ []))
 Spells ts (Load size d p) name =
-    (name ≡ None) × Offset p (λ s n. ts ≡ reg Full64 d ∷ Signed sign.Assign ∷ memory (word.Unsigned size) p.base s n [])
+    (name ≡ None) × Offset p
+    (λ s n. ts ≡ reg Full64 d ∷ Signed sign.Assign ∷ memory (word.Unsigned size) p.base s n [])
 Spells ts (LoadSx size d p) name =
-    (name ≡ None) × Offset p (λ s n. ts ≡ reg Full64 d ∷ Signed sign.Assign ∷ memory (word.SignExtended size) p.base s n [])
+    (name ≡ None) × Offset p
+    (λ s n. ts ≡ reg Full64 d ∷ Signed sign.Assign
+    ∷ memory (word.SignExtended size) p.base s n [])
 Spells ts (StoreConstant size p k) name =
-    (name ≡ None) × ((xs : List Token) × SpellsConstant xs k × Offset p (λ s n. ts ≡ memory (word.Unsigned size) p.base s n (Signed sign.Assign ∷ xs)))
+    (name ≡ None) × ((xs : List Token) × SpellsConstant xs k
+    × Offset p (λ s n. ts ≡ memory (word.Unsigned size) p.base s n (Signed sign.Assign ∷ xs)))
 Spells ts (Store size p r) name =
-    (name ≡ None) × Offset p (λ s n. ts ≡ memory (word.Unsigned size) p.base s n (Signed sign.Assign ∷ reg Full64 r ∷ []))
+    (name ≡ None) × Offset p
+    (λ s n. ts ≡ memory (word.Unsigned size) p.base s n
+    (Signed sign.Assign ∷ reg Full64 r ∷ []))
 Spells ts (Atomic w o false p r) name =
-    (name ≡ None) × Offset p (λ s n. ts ≡ Named word.Lock ∷ memory (word.Unsigned (width_size w)) p.base s n (Signed (changes o) ∷ reg Full64 r ∷ []))
+    (name ≡ None) × Offset p
+    (λ s n. ts ≡ Named word.Lock
+    ∷ memory (word.Unsigned (width_size w)) p.base s n (Signed (changes o) ∷ reg Full64 r ∷ []))
 Spells ts (Atomic w o true p r) name =
     (name ≡ None)
-    × Offset p (λ s n. ts ≡ reg Full64 r ∷ Signed sign.Assign ∷ Named (word.Fetch o w) ∷ Signed sign.Open ∷ place p.base s n (Signed sign.Comma ∷ reg Full64 r ∷ Signed sign.Close ∷ []))
+    × Offset p (λ s n. ts
+    ≡ reg Full64 r ∷ Signed sign.Assign ∷ Named (word.Fetch o w) ∷ Signed sign.Open
+    ∷ place p.base s n (Signed sign.Comma ∷ reg Full64 r ∷ Signed sign.Close ∷ []))
 Spells ts (Exchange w p r) name =
     (name ≡ None)
-    × Offset p (λ s n. ts ≡ reg Full64 r ∷ Signed sign.Assign ∷ Named (word.Exchange w) ∷ Signed sign.Open ∷ place p.base s n (Signed sign.Comma ∷ reg Full64 r ∷ Signed sign.Close ∷ []))
+    × Offset p (λ s n. ts
+    ≡ reg Full64 r ∷ Signed sign.Assign ∷ Named (word.Exchange w) ∷ Signed sign.Open
+    ∷ place p.base s n (Signed sign.Comma ∷ reg Full64 r ∷ Signed sign.Close ∷ []))
 Spells ts (CompareExchange w p r) name =
     (name ≡ None)
-    × Offset p (λ s n. ts ≡ reg Full64 R0 ∷ Signed sign.Assign ∷ Named (word.CompareExchange w) ∷ Signed sign.Open
-    ∷ place p.base s n (Signed sign.Comma ∷ reg Full64 R0 ∷ Signed sign.Comma ∷ reg Full64 r ∷ Signed sign.Close ∷ []))
-Spells ts (Jump by) name = (xs : List Token) × IsTarget (2 ^ 15) xs by 1 name × (ts ≡ Named word.Goto ∷ xs)
-Spells ts (JumpLong by) name = (xs : List Token) × IsTarget (2 ^ 31) xs by 1 name × (ts ≡ Named word.GotoLong ∷ xs)
+    × Offset p (λ s n. ts
+    ≡ reg Full64 R0 ∷ Signed sign.Assign ∷ Named (word.CompareExchange w) ∷ Signed sign.Open
+    ∷ place p.base s n
+    (Signed sign.Comma ∷ reg Full64 R0 ∷ Signed sign.Comma ∷ reg Full64 r ∷ Signed sign.Close ∷ []))
+Spells ts (Jump by) name =
+    (xs : List Token) × IsTarget (2 ^ 15) xs by 1 name × (ts ≡ Named word.Goto ∷ xs)
+Spells ts (JumpLong by) name =
+    (xs : List Token) × IsTarget (2 ^ 31) xs by 1 name × (ts ≡ Named word.GotoLong ∷ xs)
 Spells ts (JumpIf cond by) name =
-    (xs : List Token) × (ys : List Token) × IsOperand cond.width xs cond.operand × IsTarget (2 ^ 15) ys by (4 + length xs) name
-    × (ts ≡ Named word.If ∷ reg cond.width cond.register ∷ Signed (compares cond.comparison) ∷ (xs ++ Named word.Goto ∷ ys))
-Spells ts (CallHelper k) name = (name ≡ None) × ((xs : List Token) × SpellsConstant xs k × (ts ≡ Named word.Call ∷ xs))
+    (xs : List Token) × (ys : List Token) × IsOperand cond.width xs cond.operand
+    × IsTarget (2 ^ 15) ys by (4 + length xs) name
+    × (ts ≡ Named word.If ∷ reg cond.width cond.register ∷ Signed (compares cond.comparison)
+    ∷ (xs ++ Named word.Goto ∷ ys))
+Spells ts (CallHelper k) name =
+    (name ≡ None) × ((xs : List Token) × SpellsConstant xs k × (ts ≡ Named word.Call ∷ xs))
 Spells ts (CallLocal by) name =
-    ((name ≡ None) × ((s : Sign) × (n : ℕ) × IsSigned (2 ^ 31) s n by × (ts ≡ Named word.Call ∷ Named word.Pc ∷ Signed s ∷ Number n ∷ [])))
-    ⊎ ((x : Word) × (x ≢ word.Pc) × (by ≡ pos 0) × (name ≡ Some 1) × (ts ≡ Named word.Call ∷ Named x ∷ []))
+    ((name ≡ None) × ((s : Sign) × (n : ℕ) × IsSigned (2 ^ 31) s n by
+    × (ts ≡ Named word.Call ∷ Named word.Pc ∷ Signed s ∷ Number n ∷ [])))
+    ⊎ ((x : Word) × (x ≢ word.Pc) × (by ≡ pos 0) × (name ≡ Some 1)
+    × (ts ≡ Named word.Call ∷ Named x ∷ []))
 Spells ts Exit name = (name ≡ None) × (ts ≡ Named word.Exit ∷ [])

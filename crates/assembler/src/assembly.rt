@@ -131,7 +131,7 @@ pub fn assemble(alloc: Global, text: &[u8]) -> Result<Image, AsmError>
     ensures exact { MatchResult result (λ image. assembled text.now ≡ Ok image)
         (λ e. (e.kind ≡ AsmErrorKind.Memory) ⊎ (assembled text.now ≡ Err e)) }
 
-    // The canonical text of an image gives that image, or memory runs out.
+    // The canonical text of an image is assembled to that image, or memory runs out.
     ensures round_trip { (p : Program) → IsImage p → text.now ≡ canonical_text p
         → MatchResult result (λ image. image ≡ p) (λ e. e.kind ≡ AsmErrorKind.Memory) }
 {

@@ -138,7 +138,7 @@ fn swapped(
     plain(Insn::ByteSwap(order, span, register), tokens, 4)
 }
 
-// `(place, R)` after a word, the register being the destination.
+// `(place, R)` after a word, where R is the destination again.
 fn exchanged_place(register: Reg, tokens: &[Token]) -> Result<Place, Wrong>
     ensures { result ≡ exchanged_place register tokens.now }
 {
@@ -162,7 +162,7 @@ fn exchanged(width: Width, register: Reg, tokens: &[Token]) -> Result<Reading, W
     plain(Insn::Exchange(width, place, register), tokens, 10)
 }
 
-// `(place, r0, R)` after a word, the destination being r0.
+// `(place, r0, R)` after a word, where the destination is r0.
 fn compared(width: Width, register: Reg, tokens: &[Token]) -> Result<Reading, Wrong>
     ensures { result ≡ compared width register tokens.now }
 {

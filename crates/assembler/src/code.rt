@@ -21,6 +21,7 @@ impl AssembledCode {
     ghost use Rattle.assembler.specs.Assembling.{with_insn};
     ghost use Rattle.assembler.specs.Labels.{Makes};
 
+    /// No instructions.
     pub fn new(alloc: Global) -> Self
         ensures { result.insns.items ≡ [] }
     {

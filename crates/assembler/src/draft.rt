@@ -5,7 +5,7 @@ ghost use Rattle.lexer.specs.declared.tokens.Lexeme.TheVariants as Lexeme;
 ghost use Rattle.assembler.specs.declared.errors.AsmErrorKind.TheVariants as AsmErrorKind;
 ghost use Rattle.assembler.specs.declared.readings.Statement.TheVariants as Statement;
 ghost use Rattle.assembler.specs.Labelled.{is_label, label_length, has_form};
-ghost use Rattle.assembler.specs.Assembling.{start, accept, closed, ended, added, named, is_first, with_use, refused_by, refusal_of, offset_or, Answers};
+ghost use Rattle.assembler.specs.Assembling.{start, accept, at_end, ended, added, named, is_first, with_use, refused_by, refusal_of, offset_or, Answers};
 ghost use Rattle.assembler.specs.Drafts.{span_of, progress_of};
 ghost use Rattle.assembler.specs.Naming.{use_of};
 
@@ -54,6 +54,7 @@ fn is_label(first: Option<Token>, second: Option<Token>) -> bool
 }
 
 impl<'a> Draft<'a> {
+    /// The draft before the first token: version 1, and nothing else.
     pub fn new(alloc: Global) -> Self
         ensures { progress_of result ≡ start }
     {
@@ -83,7 +84,7 @@ impl<'a> Draft<'a> {
     fn take(&mut self, token: Token, span: Span<'a>) -> Result<(), Refusal>
         ensures exact { Answers (λ _. progress_of self.new) result
             (accept (progress_of self.old) (Lexeme.Solid token) (span_of span.entry)) }
-        ensures place { IfErr result
+        ensures offset { IfErr result
             (λ e. e.offset
             ≡ offset_or (slice_get (map span_of self.old.spans.items) 0) span.entry.offset) }
     {
@@ -100,7 +101,7 @@ impl<'a> Draft<'a> {
     /// Ends the statement: an optional label, and nothing, a map line or an instruction; or a
     /// version line.
     pub fn close(&mut self) -> Result<(), Refusal>
-        ensures { Answers (λ _. progress_of self.new) result (closed (progress_of self.old)) }
+        ensures { Answers (λ _. progress_of self.new) result (at_end (progress_of self.old)) }
     {
         let label = self.label_length();
         let statement = match spelled_behind(label, &self.tokens[label..]) {
@@ -142,7 +143,7 @@ impl<'a> Draft<'a> {
     fn add_row(&mut self, row: MapDef) -> Result<(), Refusal>
         ensures exact { Answers (λ _. progress_of self.new) result
             (ended (progress_of self.old) 0 (Statement.Row row)) }
-        ensures place { IfErr result
+        ensures offset { IfErr result
             (λ e. e.offset ≡ offset_or (slice_get (map span_of self.old.spans.items) 0) 0) }
     {
         let offset = self.offset_of(0, 0);
@@ -163,7 +164,7 @@ impl<'a> Draft<'a> {
     fn add(&mut self, reading: Reading, skipped: usize) -> Result<(), Refusal>
         ensures exact { Answers (λ _. progress_of self.new) result
             (added (progress_of self.old) skipped reading) }
-        ensures place { IfErr result
+        ensures offset { IfErr result
             (λ e. e.offset ≡ offset_or (slice_get (map span_of self.old.spans.items) 0) 0) }
     {
         let offset = self.offset_of(0, 0);
@@ -182,7 +183,7 @@ impl<'a> Draft<'a> {
 
     // Notes that the next instruction uses the name at that token.
     fn note_use(&mut self, index: usize) -> Result<(), Refusal>
-        ensures place { IfErr result
+        ensures offset { IfErr result
             (λ e. (e.kind ≡ AsmErrorKind.Memory)
             × (e.offset ≡ offset_or (slice_get (map span_of self.old.spans.items) 0) 0)) }
         ensures rest { (self.new.tokens.items ≡ self.old.tokens.items)
@@ -213,7 +214,7 @@ impl<'a> Draft<'a> {
         }
     }
 
-    // Whether no statement was read that is not empty.
+    // Whether only empty statements were read.
     fn is_first(&self) -> bool
         ensures { result ≡ is_first (progress_of self.now) }
     {
@@ -223,7 +224,7 @@ impl<'a> Draft<'a> {
             && self.code.insns.is_empty()
     }
 
-    // How many tokens the statement's label is.
+    // How many tokens the statement's label has.
     fn label_length(&self) -> usize
         ensures exact { result ≡ label_length self.now.tokens.items }
         ensures within { result ≤ length self.now.tokens.items }
@@ -285,7 +286,7 @@ impl<'a> Draft<'a> {
         }
     }
 
-    // The refusal of a token, counted without the first `skipped` ones.
+    // The refusal for an objection, whose token is counted without the first `skipped` ones.
     fn refused_by(&self, objection: Objection, skipped: usize) -> Refusal
         ensures { result ≡ refused_by (progress_of self.now) skipped objection }
     {

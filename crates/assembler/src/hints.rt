@@ -1,4 +1,4 @@
-//! What helps where a text is refused: a sentence for each case.
+//! The hint for a text that is refused: a sentence for each case.
 
 ghost use Rattle.std.specs.Prelude.{◌≡◌};
 ghost use Rattle.assembler.specs.Hints.{begins, has, begins_operator, names_byte_order, has_negation, names_no_register, names_action, begins_register, unknown_byte, no_jump, no_assignment, no_form, out_of_range, not_defined, wrong_map, hint};
@@ -24,7 +24,7 @@ fn has(bytes: &[u8], part: &[u8]) -> bool
     false
 }
 
-// Whether bytes begin with a sign of arithmetic or of a test that has no = behind it.
+// Whether bytes begin with a sign of arithmetic or of a test that has no `=` after it.
 fn begins_operator(bytes: &[u8]) -> bool
     ensures { result ≡ begins_operator bytes.now }
 {
@@ -35,7 +35,7 @@ fn begins_operator(bytes: &[u8]) -> bool
         || begins(bytes, b"!")
 }
 
-// What helps of a byte that begins no token.
+// The hint for a byte that begins no token.
 #[tactic(auto, unfolding(crate::specs::Hints::unknown_byte))]
 fn unknown_byte(front: &[u8], back: &[u8]) -> &'static str
     ensures { result.now ≡ unknown_byte front.now back.now }
@@ -65,7 +65,7 @@ fn unknown_byte(front: &[u8], back: &[u8]) -> &'static str
     }
 }
 
-// What helps of a statement that begins with a word of a jump or a call.
+// The hint for a statement that begins with a word of a jump or a call.
 #[tactic(auto, unfolding(crate::specs::Hints::no_jump))]
 fn no_jump(back: &[u8]) -> &'static str
     ensures { result.now ≡ no_jump back.now }
@@ -102,14 +102,14 @@ fn names_byte_order(bytes: &[u8]) -> bool
         || has(bytes, b"bswap")
 }
 
-// Whether a minus stands before a register.
+// Whether a minus comes before a register.
 fn has_negation(bytes: &[u8]) -> bool
     ensures { result ≡ has_negation bytes.now }
 {
     has(bytes, b"-r") || has(bytes, b"-w") || has(bytes, b"- r") || has(bytes, b"- w")
 }
 
-// What helps of a statement that begins with a register.
+// The hint for a statement that begins with a register.
 #[tactic(auto, unfolding(crate::specs::Hints::no_assignment))]
 fn no_assignment(back: &[u8]) -> &'static str
     ensures { result.now ≡ no_assignment back.now }
@@ -178,7 +178,7 @@ fn begins_register(bytes: &[u8]) -> bool
         || begins(bytes, b"w")
 }
 
-// What helps of a statement that no form fits.
+// The hint for a statement that no form fits.
 #[tactic(auto, unfolding(crate::specs::Hints::no_form))]
 fn no_form(back: &[u8]) -> &'static str
     ensures { result.now ≡ no_form back.now }
@@ -196,7 +196,7 @@ fn no_form(back: &[u8]) -> &'static str
     }
 }
 
-// What helps of a number that is out of range.
+// The hint for a number that is out of range.
 #[tactic(auto, unfolding(crate::specs::Hints::out_of_range))]
 fn out_of_range(front: &[u8], back: &[u8]) -> &'static str
     ensures { result.now ≡ out_of_range front.now back.now }
@@ -222,7 +222,7 @@ fn out_of_range(front: &[u8], back: &[u8]) -> &'static str
     }
 }
 
-// What helps of a name that is not defined.
+// The hint for a name that is not defined.
 #[tactic(auto, unfolding(crate::specs::Hints::not_defined))]
 fn not_defined(front: &[u8], back: &[u8]) -> &'static str
     ensures { result.now ≡ not_defined front.now back.now }
@@ -242,7 +242,7 @@ fn not_defined(front: &[u8], back: &[u8]) -> &'static str
     }
 }
 
-// What helps of a map line.
+// The hint for a map line.
 #[tactic(auto, unfolding(crate::specs::Hints::wrong_map))]
 fn wrong_map(back: &[u8]) -> &'static str
     ensures { result.now ≡ wrong_map back.now }
@@ -254,7 +254,7 @@ fn wrong_map(back: &[u8]) -> &'static str
     }
 }
 
-/// What helps: the front has the bytes of the line before the column, the back those from there on.
+/// The hint: the front has the bytes of the line before the column, the back those from there on.
 pub fn hint(kind: AsmErrorKind, front: &[u8], back: &[u8]) -> &'static str
     ensures { result.now ≡ hint kind front.now back.now }
 {

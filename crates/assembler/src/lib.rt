@@ -1,9 +1,9 @@
 //! Programs from text.
 //!
 //! Bytes become tokens (`lexer`), the tokens of a statement an instruction (`statements`), and
-//! instructions with their names a program (`draft`, `assembly`). `specs/` has one definition for
-//! each step, and the last of them, `assembled`, is what the whole text spells or why it spells
-//! nothing: each step does just what its definition says, or answers that memory runs out.
+//! instructions with their names a program (`draft`, `assembly`). `specs/` has a definition for
+//! each of these, and the last of them, `assembled`, is what the whole text spells or why it spells
+//! nothing. The code returns just what the definitions say, or that memory ran out.
 #![tactic(auto)]
 
 mod assembly;

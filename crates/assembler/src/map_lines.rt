@@ -4,12 +4,12 @@ ghost use Rattle.std.specs.Prelude.{◌≡◌, ◌+◌, ◌<◌, ◌≤◌, IfOk
 ghost use Rattle.assembler.specs.Operands.{field_at, index_at, by_index_at};
 ghost use Rattle.assembler.specs.Statements.{map_line};
 
-use super::parts::{as_kind, expect_at, is_by_index, number_at, word_at};
+use super::parts::{as_map_type, expect_at, is_by_index, number_at, word_at};
 use super::wrong::Wrong;
 use isa_model::MapDef;
 use lexer::{Sign, Token};
 
-/// A number without a sign, or the greatest in its place if it is larger.
+/// A number without a sign; one that is larger than the greatest counts as the greatest.
 pub fn field_at(most: u32, tokens: &[Token], i: usize) -> Result<u32, Wrong>
     ensures value { result ≡ field_at most tokens.now i }
     ensures fits { IfOk result (λ n. n ≤ most) }
@@ -49,7 +49,7 @@ pub fn by_index_at(tokens: &[Token], i: usize) -> Result<u32, Wrong>
 pub fn map_line(tokens: &[Token]) -> Result<MapDef, Wrong>
     ensures { result ≡ map_line tokens.now }
 {
-    let kind = as_kind(word_at(tokens, 1)?)?;
+    let kind = as_map_type(word_at(tokens, 1)?)?;
     let key_size = field_at(u32::from(u16::MAX), tokens, 2)? as u16;
     let value_size = field_at(u32::MAX, tokens, 3)?;
     let entries = field_at(u32::MAX, tokens, 4)?;

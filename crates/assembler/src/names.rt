@@ -21,7 +21,7 @@ pub struct Use<'a> {
     pub offset: usize,
 }
 
-// The slot that the name means.
+// The slot of the name.
 #[tactic(auto, using(crate::proofs::LabelLookups::lookup_label))]
 fn slot_of(labels: &Labels<'_>, name: &[u8]) -> Option<u16>
     ensures { result ≡ slot_in (map label_of labels.now.entries) name.now }
@@ -70,7 +70,7 @@ fn aimed(insn: Insn, by: i32) -> Option<Insn>
     }
 }
 
-// What the instruction at a use becomes.
+// The instruction at a use, with its distance.
 fn aim(labels: &Labels<'_>, used: &Use<'_>, insn: Insn) -> Result<Insn, AsmErrorKind>
     ensures { result ≡ aim
         (slot_in (map label_of labels.now.entries) used.now.name.now) used.now.slot insn }

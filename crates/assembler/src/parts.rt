@@ -1,7 +1,7 @@
 //! Single tokens of a statement.
 
 ghost use Rattle.std.specs.Prelude.{◌≡◌, slice_get};
-ghost use Rattle.assembler.specs.Operands.{token_at, sign_at, number_at, word_at, is_sign, expect_at, is_minus, op_of, atomic_op_of, comparison_of, width_of, extension_of, as_size, as_signed, as_kind, is_by_index};
+ghost use Rattle.assembler.specs.Operands.{token_at, sign_at, number_at, word_at, is_sign, expect_at, is_minus, op_of, atomic_op_of, comparison_of, width_of, extension_of, as_size, as_signed, as_map_type, is_by_index};
 ghost use Rattle.assembler.specs.Statements.{is_full};
 ghost use Rattle.assembler.specs.Labelled.{zeroed};
 
@@ -26,6 +26,7 @@ pub fn token_at(tokens: &[Token], i: usize) -> Result<Token, Wrong>
     }
 }
 
+/// The sign at the index.
 pub fn sign_at(tokens: &[Token], i: usize) -> Result<Sign, Wrong>
     ensures { result ≡ sign_at tokens.now i }
 {
@@ -37,6 +38,7 @@ pub fn sign_at(tokens: &[Token], i: usize) -> Result<Sign, Wrong>
     }
 }
 
+/// The number at the index.
 pub fn number_at(tokens: &[Token], i: usize) -> Result<u128, Wrong>
     ensures { result ≡ number_at tokens.now i }
 {
@@ -48,6 +50,7 @@ pub fn number_at(tokens: &[Token], i: usize) -> Result<u128, Wrong>
     }
 }
 
+/// The word at the index.
 pub fn word_at(tokens: &[Token], i: usize) -> Result<Word, Wrong>
     ensures { result ≡ word_at tokens.now i }
 {
@@ -176,6 +179,7 @@ pub fn extension_of(width: Width, size: SignedSize) -> Result<Extension, Wrong>
     }
 }
 
+/// The size that the word names, as `u32` does.
 pub fn as_size(word: Word) -> Result<Size, Wrong>
     ensures { result ≡ as_size word }
 {
@@ -185,6 +189,7 @@ pub fn as_size(word: Word) -> Result<Size, Wrong>
     }
 }
 
+/// The size that the word names, as `s32` does.
 pub fn as_signed(word: Word) -> Result<SignedSize, Wrong>
     ensures { result ≡ as_signed word }
 {
@@ -195,11 +200,11 @@ pub fn as_signed(word: Word) -> Result<SignedSize, Wrong>
 }
 
 /// The type of a map line.
-pub fn as_kind(word: Word) -> Result<MapType, Wrong>
-    ensures { result ≡ as_kind word }
+pub fn as_map_type(word: Word) -> Result<MapType, Wrong>
+    ensures { result ≡ as_map_type word }
 {
     match word {
-        Word::Kind(kind) => Ok(kind),
+        Word::MapType(kind) => Ok(kind),
         _ => Err(Wrong::Form),
     }
 }

@@ -118,7 +118,7 @@ fn shown_line(alloc: Global, line: &[u8], column: usize) -> Result<String, Alloc
 /// The message about a text that is refused, after the sentence with line and column: the
 /// line with a caret under the column, and a hint.
 pub fn shown(alloc: Global, text: &[u8], error: AsmError) -> Result<String, AllocError>
-    ensures { IfOk result (λ told. string_bytes told ≡ shown text.now error) }
+    ensures { IfOk result (λ message. string_bytes message ≡ shown text.now error) }
 {
     let line = line_of(text, error.line);
     let (front, back) = parted(line, error.column);

@@ -1,4 +1,5 @@
--- What is kept where pointers are compared, and that numbers are what the condition compares where both are known.
+-- What is kept where pointers are compared, and that numbers are what the condition compares where
+-- both are known.
 use Rattle.std.specs.Prelude.{◌≡◌, ◌≢◌, ℕ, zero, suc, ◌==◌, ℤ, pos, ◌+ℤ◌, ◌≤ℤ◌, max, Bool, true, false, not, if◌then◌else◌, IsTrue, refl}
 use Rattle.std.proofs.Common.{sym, ap, ◌∙◌, subst, arith}
 use Rattle.isa_model.specs.declared.sizes.Width.{Width}
@@ -19,7 +20,7 @@ use Rattle.stack_state.specs.declared.states.State.{State}
 use Rattle.stack_state.specs.Meaning.{MeansBy}
 use Rattle.stack_state.specs.Places.{kind_of}
 use Rattle.stack_state.specs.Effects.{map_kinds, proved_kind}
-use Rattle.stack_state.proofs.EffectLaws.{MeansBy-map_kinds, MeansBy-proved, MeansBy-tested}
+use Rattle.stack_state.proofs.KindEffects.{MeansBy-map_kinds, MeansBy-proved, MeansBy-tested}
 use Rattle.branch_refine.specs.declared.comparing.Compared.{Compared}
 use Rattle.branch_refine.specs.declared.comparing.Compared.TheVariants as sort
 use Rattle.branch_refine.specs.declared.comparing.Compared.TheVariants.{Numbers, OrNull, Live, Undefined}
@@ -32,20 +33,26 @@ use Rattle.branch_refine.specs.Refining.{IsNumberKind, IsNumberOperand, IsJust, 
 -- no bytes are proved: a kind stays
 pub proved_kind-none : (i : ℕ) (k : Kind) → proved_kind i 0 k ≡ k
 proved_kind-none i (Packet fixed identity least greatest proved) =
-    elim (identity == i) as (λ b. Packet fixed identity least greatest (if b then max proved 0 else proved) ≡ Packet fixed identity least greatest proved) [
-      | true ↦ let more : max proved 0 ≡ proved = omega arith in ap (Packet fixed identity least greatest) more
+    elim (identity == i) as (λ b.
+    Packet fixed identity least greatest (if b then max proved 0 else proved)
+    ≡ Packet fixed identity least greatest proved) [
+      | true ↦
+          let more : max proved 0 ≡ proved = omega arith in
+          ap (Packet fixed identity least greatest) more
       | false ↦ refl
     ]
 proved_kind-none i k = refl
 
 -- n bytes after the identity's number are in the packet, if n is not 0
-pub MeansBy-proves : (p : Program) (e : Assigned) (a : State) (s : Machine.State) (i n : ℕ) → IsProved e i n → MeansBy p e a s
-    → MeansBy p e (map_kinds (proved_kind i n) a) s
+pub MeansBy-proves : (p : Program) (e : Assigned) (a : State) (s : Machine.State) (i n : ℕ)
+    → IsProved e i n → MeansBy p e a s → MeansBy p e (map_kinds (proved_kind i n) a) s
 MeansBy-proves p e a s i zero inside m =
-    MeansBy-map_kinds p e (proved_kind i 0) a s refl (λ k v h. subst (λ l. Allows e l v) (sym (proved_kind-none i k)) h) m
+    MeansBy-map_kinds p e (proved_kind i 0) a s refl
+    (λ k v h. subst (λ l. Allows e l v) (sym (proved_kind-none i k)) h) m
 MeansBy-proves p e a s i (suc n) inside m =
     MeansBy-proved p e a s i (suc n)
-    (subst (λ l. (e.offset i +ℤ pos (suc n)) ≤ℤ pos l) m.assigned.length_is (inside (omega arith))) m
+    (subst (λ l. (e.offset i +ℤ pos (suc n)) ≤ℤ pos l) m.assigned.length_is (inside (omega arith)))
+    m
 
 same_is : (taken outcome : Bool) → same taken outcome ≡ true → taken ≡ outcome
 same_is true true h = refl
@@ -53,48 +60,68 @@ same_is true false h = absurd (cc)
 same_is false true h = absurd (cc)
 same_is false false h = refl
 
-packet_kept : (p : Program) (e : Assigned) (a : State) (s : Machine.State) (i n : ℕ) (taken shows b : Bool) → same taken shows ≡ b
-    → (taken ≡ shows → IsProved e i n) → MeansBy p e a s → MeansBy p e (if b then map_kinds (proved_kind i n) a else a) s
-packet_kept p e a s i n taken shows true is says m = MeansBy-proves p e a s i n (says (same_is taken shows is)) m
+packet_kept : (p : Program) (e : Assigned) (a : State) (s : Machine.State) (i n : ℕ)
+    (taken shows b : Bool) → same taken shows ≡ b
+    → (taken ≡ shows → IsProved e i n) → MeansBy p e a s
+    → MeansBy p e (if b then map_kinds (proved_kind i n) a else a) s
+packet_kept p e a s i n taken shows true is says m =
+    MeansBy-proves p e a s i n (says (same_is taken shows is)) m
 packet_kept p e a s i n taken shows false is says m = m
 
-pointers_kept : (p : Program) (e : Assigned) (a : State) (s : Machine.State) (c : Compared) (taken some : Bool) (b : State) → c ≢ Numbers
-    → LearnsOf c taken a some b → SaysUnder e c taken → MeansBy p e a s → IsTrue some × MeansBy p e b s
+pointers_kept : (p : Program) (e : Assigned) (a : State) (s : Machine.State) (c : Compared)
+    (taken some : Bool) (b : State) → c ≢ Numbers
+    → LearnsOf c taken a some b → SaysUnder e c taken → MeansBy p e a s
+    → IsTrue some × MeansBy p e b s
 pointers_kept p e a s Numbers taken some b other h says m = absurd (other refl)
-pointers_kept p e a s (sort.Packet i shows n) taken some b other h says m =
-    (h.0, subst (λ b. MeansBy p e b s) (sym h.1) (packet_kept p e a s i n taken shows (same taken shows) refl says m))
+pointers_kept p e a s (sort.Packet i shows n) taken some b other h says m = (
+  h.0,
+  subst (λ b. MeansBy p e b s) (sym h.1)
+      (packet_kept p e a s i n taken shows (same taken shows) refl says m),
+)
 pointers_kept p e a s (OrNull i null) taken some b other h says m =
-    let (numbers, has, constant, is) = h.1 in
-    (h.0, subst (λ b. MeansBy p e b s) (sym is) (MeansBy-tested p e a s i (same taken null) numbers says has m))
-pointers_kept p e a s (Live null) taken some b other h says m = (h.0 ∙ ap not says, subst (λ b. MeansBy p e b s) (sym h.1) m)
-pointers_kept p e a s Undefined taken some b other h says m = (h.0, subst (λ b. MeansBy p e b s) (sym h.1) m)
+    let (numbers, has, constant, is) = h.1 in (
+      h.0,
+      subst (λ b. MeansBy p e b s) (sym is)
+          (MeansBy-tested p e a s i (same taken null) numbers says has m),
+    )
+pointers_kept p e a s (Live null) taken some b other h says m =
+    (h.0 ∙ ap not says, subst (λ b. MeansBy p e b s) (sym h.1) m)
+pointers_kept p e a s Undefined taken some b other h says m =
+    (h.0, subst (λ b. MeansBy p e b s) (sym h.1) m)
 
-pub KeepsMembers-pointers : (cond : Cond) (taken : Bool) (a : State) (some : Bool) (b : State) → compared_by a cond ≢ Numbers
+pub KeepsMembers-pointers : (cond : Cond) (taken : Bool) (a : State) (some : Bool) (b : State)
+    → compared_by a cond ≢ Numbers
     → LearnsOf (compared_by a cond) taken a some b → KeepsMembers cond taken a some b
 unfolding KeepsMembers
 KeepsMembers-pointers cond taken a some b other h = λ p e s m says.
     pointers_kept p e a s (compared_by a cond) taken some b other h
-    (OutcomeIs-says e (compared_by a cond) (test_of s cond) taken says (test-outcome p e a s cond m)) m
+    (OutcomeIs-says e (compared_by a cond) (test_of s cond) taken says
+    (test-outcome p e a s cond m)) m
 
 -- ---- two numbers
 
-registers-numbers : (c : Comparison) (w : Width) (j k : Kind) → IsNumberKind j → IsNumberKind k → registers_by c w j k ≡ Numbers
+registers-numbers : (c : Comparison) (w : Width) (j k : Kind) → IsNumberKind j → IsNumberKind k
+    → registers_by c w j k ≡ Numbers
 registers-numbers c w (Number x) (Number y) left right = refl
 registers-numbers c w (Number x) k left right = absurd right
 registers-numbers c w j k left right = absurd left
 
-constant-numbers : (c : Comparison) (w : Width) (k : Kind) (n : ℤ) → IsNumberKind k → constant_by c w k n ≡ Numbers
+constant-numbers : (c : Comparison) (w : Width) (k : Kind) (n : ℤ) → IsNumberKind k
+    → constant_by c w k n ≡ Numbers
 constant-numbers c w (Number x) n is = refl
 constant-numbers c w k n is = absurd is
 
-operand-numbers : (a : State) (cond : Cond) (operand : Operand) → IsNumberKind (kind_of a cond.register) → IsNumberOperand a operand
+operand-numbers : (a : State) (cond : Cond) (operand : Operand)
+    → IsNumberKind (kind_of a cond.register) → IsNumberOperand a operand
     → operand_by a cond operand ≡ Numbers
-operand-numbers a cond (Constant n) left right = constant-numbers cond.comparison cond.width (kind_of a cond.register) n left
+operand-numbers a cond (Constant n) left right =
+    constant-numbers cond.comparison cond.width (kind_of a cond.register) n left
 operand-numbers a cond (Register r) left right =
     registers-numbers cond.comparison cond.width (kind_of a cond.register) (kind_of a r) left right
 
 -- numbers are compared where both operands are known to be numbers
-pub compared_by-numbers : (a : State) (cond : Cond) → AreCompared a cond → compared_by a cond ≡ Numbers
+pub compared_by-numbers : (a : State) (cond : Cond) → AreCompared a cond
+    → compared_by a cond ≡ Numbers
 compared_by-numbers a cond both = operand-numbers a cond cond.operand both.0 both.1
 
 -- and only there
@@ -122,7 +149,8 @@ with_numbers : (k : Kind) → with_number k ≡ Numbers → IsNumberKind k
 with_numbers (Number x) h = tt
 with_numbers k h = absurd (cc)
 
-registers_are : (c : Comparison) (w : Width) (j k : Kind) → registers_by c w j k ≡ Numbers → IsNumberKind j × IsNumberKind k
+registers_are : (c : Comparison) (w : Width) (j k : Kind) → registers_by c w j k ≡ Numbers
+    → IsNumberKind j × IsNumberKind k
 registers_are c w (Number x) k h = (tt, with_numbers k h)
 registers_are c Full64 j k h = absurd (pointers_no_numbers c j k h)
 registers_are c Low32 j k h = absurd (cc)
@@ -137,21 +165,26 @@ zero_no_numbers Equal k = null_no_numbers true k
 zero_no_numbers NotEqual k = null_no_numbers false k
 zero_no_numbers c k = λ h. absurd (cc)
 
-if_no_numbers : (b : Bool) (c : Comparison) (k : Kind) → (if b then zero_by c k else Undefined) ≢ Numbers
+if_no_numbers : (b : Bool) (c : Comparison) (k : Kind)
+    → (if b then zero_by c k else Undefined) ≢ Numbers
 if_no_numbers true c k = zero_no_numbers c k
 if_no_numbers false c k = λ h. absurd (cc)
 
-constant_is : (c : Comparison) (w : Width) (k : Kind) (n : ℤ) → constant_by c w k n ≡ Numbers → IsNumberKind k
+constant_is : (c : Comparison) (w : Width) (k : Kind) (n : ℤ) → constant_by c w k n ≡ Numbers
+    → IsNumberKind k
 constant_is c w (Number x) n h = tt
 constant_is c Full64 k (pos n) h = absurd (if_no_numbers (n == 0) c k h)
 constant_is c w k n h = absurd (cc)
 
 operands_are : (a : State) (cond : Cond) (operand : Operand) → operand_by a cond operand ≡ Numbers
     → IsNumberKind (kind_of a cond.register) × IsNumberOperand a operand
-operands_are a cond (Constant n) h = (constant_is cond.comparison cond.width (kind_of a cond.register) n h, tt)
-operands_are a cond (Register r) h = registers_are cond.comparison cond.width (kind_of a cond.register) (kind_of a r) h
+operands_are a cond (Constant n) h =
+    (constant_is cond.comparison cond.width (kind_of a cond.register) n h, tt)
+operands_are a cond (Register r) h =
+    registers_are cond.comparison cond.width (kind_of a cond.register) (kind_of a r) h
 
-pub numbers-compared_by : (a : State) (cond : Cond) → compared_by a cond ≡ Numbers → AreCompared a cond
+pub numbers-compared_by : (a : State) (cond : Cond) → compared_by a cond ≡ Numbers
+    → AreCompared a cond
 numbers-compared_by a cond h = operands_are a cond cond.operand h
 
 -- ---- all that is promised
@@ -160,18 +193,21 @@ is_number : (k : Kind) (x : ℕ) → IsJust k x → IsNumberKind k
 is_number (Number numbers) x h = tt
 is_number k x h = absurd h
 
-is_number_operand : (a : State) (w : Width) (operand : Operand) (y : ℕ) → IsJustOperand a w operand y → IsNumberOperand a operand
+is_number_operand : (a : State) (w : Width) (operand : Operand) (y : ℕ)
+    → IsJustOperand a w operand y → IsNumberOperand a operand
 is_number_operand a w (Constant n) y h = tt
 is_number_operand a w (Register r) y h = is_number (kind_of a r) y h
 
-stays : (c : Compared) (taken : Bool) (a : State) (some : Bool) (b : State) → c ≢ Numbers → LearnsOf c taken a some b → some ≡ false → b ≡ a
+stays : (c : Compared) (taken : Bool) (a : State) (some : Bool) (b : State) → c ≢ Numbers
+    → LearnsOf c taken a some b → some ≡ false → b ≡ a
 stays Numbers taken a some b other h none = absurd (other refl)
 stays (sort.Packet i shows n) taken a some b other h none = absurd (cc h.0)
 stays (OrNull i null) taken a some b other h none = absurd (cc h.0)
 stays (Live null) taken a some b other h none = h.1
 stays Undefined taken a some b other h none = h.1
 
-pub Refines-pointers : (cond : Cond) (taken : Bool) (a : State) (some : Bool) (b : State) → compared_by a cond ≢ Numbers
+pub Refines-pointers : (cond : Cond) (taken : Bool) (a : State) (some : Bool) (b : State)
+    → compared_by a cond ≢ Numbers
     → LearnsOf (compared_by a cond) taken a some b → Refines cond taken a some b
 Refines-pointers cond taken a some b other h =
     let no : AreCompared a cond → ⊥ = λ both. other (compared_by-numbers a cond both) in
@@ -182,8 +218,14 @@ Refines-pointers cond taken a some b other h =
       others = λ both. absurd (no both);
       shown = λ both some. absurd (no both);
       constants = λ x y left right apart.
-          absurd (no (is_number (kind_of a cond.register) x left, is_number_operand a cond.width cond.operand y right));
+          absurd (no (
+            is_number (kind_of a cond.register) x left,
+            is_number_operand a cond.width cond.operand y right,
+          ));
       constants_go = λ x y left right goes.
-          absurd (no (is_number (kind_of a cond.register) x left, is_number_operand a cond.width cond.operand y right));
+          absurd (no (
+            is_number (kind_of a cond.register) x left,
+            is_number_operand a cond.width cond.operand y right,
+          ));
       pointers = h;
     }

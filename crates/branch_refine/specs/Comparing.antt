@@ -1,7 +1,7 @@
 -- What a condition compares, by the kinds of its operands: two numbers, a packet pointer and the
 -- packet end, or null and what may point to a map's value. No other comparison has an outcome.
--- Linux, Documentation/bpf/verifier.rst (direct packet access;
--- null tests of what a lookup answered).
+-- Linux, Documentation/bpf/verifier.rst (direct packet access; null tests of what a look-up
+-- answered).
 use Rattle.std.specs.Prelude.{ℕ, ◌==◌, ℤ, pos, negsuc, ◌+ℤ◌, Bool, true, false, not, if◌then◌else◌}
 use Rattle.isa_model.specs.declared.sizes.Width.{Width}
 use Rattle.isa_model.specs.declared.sizes.Width.TheVariants.{Low32, Full64}
@@ -93,7 +93,7 @@ abbrev pub IsDefined : Compared → Type 0
 IsDefined Undefined = ⊥
 IsDefined c = Unit {0}
 
--- one outcome, as `shows` and `null` say which
+-- whether two outcomes are the same
 abbrev pub same : Bool → Bool → Bool
 same true b = b
 same false b = not b

@@ -10,12 +10,12 @@ use Rattle.branch_refine.specs.Numbers.{with_compared}
 use Rattle.branch_refine.specs.declared.outcomes.BranchOutcome.{BranchOutcome}
 use Rattle.branch_refine.specs.declared.outcomes.BranchOutcome.TheVariants.{Never, Same, Narrowed, Learned}
 
--- some member may go this way
+-- some member may take this edge
 abbrev pub goes : BranchOutcome → Bool
 goes Never = false
 goes o = true
 
--- what goes this way; where nothing does, the state as it is
+-- the state narrowed to the members that take this edge; if none does, the state as it is
 abbrev pub left_in : Cond → State → BranchOutcome → State
 left_in cond a Never = a
 left_in cond a Same = a

@@ -1,5 +1,5 @@
--- What is kept of an abstract state on one way of a conditional jump.
--- Linux, Documentation/bpf/verifier.rst (how the verifier narrows registers at conditional jumps).
+-- What is kept of an abstract state on one edge of a conditional jump. Linux,
+-- Documentation/bpf/verifier.rst (how the verifier narrows registers at conditional jumps).
 use Rattle.std.specs.Prelude.{◌≡◌, ◌≢◌, ℕ, ◌⊎◌, Bool, true, false, not, if◌then◌else◌, IsTrue, Some, Ok}
 use Rattle.isa_model.specs.declared.sizes.Width.{Width}
 use Rattle.isa_model.specs.declared.registers.Reg.{Reg}
@@ -34,7 +34,7 @@ abbrev pub IsNumberKind : Kind → Type 0
 IsNumberKind (Number numbers) = Unit {0}
 IsNumberKind k = ⊥
 
--- the one number, written as a constant
+-- the kind has this one number, known as a constant
 abbrev pub IsJust : Kind → ℕ → Type 0
 IsJust (Number numbers) x = Has numbers x × IsConstant numbers x
 IsJust k x = ⊥
@@ -54,8 +54,8 @@ AreCompared a cond = IsNumberKind (kind_of a cond.register) × IsNumberOperand a
 
 -- ---- what is kept
 
--- each member that goes this way is still one, under the same assignment; if the state has no
--- members left, no member goes this way
+-- each member that takes this edge is still one, under the same assignment; if the state has no
+-- members left, no member takes this edge
 unfoldable pub KeepsMembers : Cond → Bool → State → Bool → State → Type 0
 KeepsMembers cond taken a some b =
     (p : Program) (e : Assigned) (s : Machine.State) → MeansBy p e a s → test_of s cond ≡ Ok taken
@@ -108,14 +108,14 @@ LearnsOf (OrNull identity null) taken a some b =
 LearnsOf (Live null) taken a some b = (some ≡ not (same taken null)) × (b ≡ a)
 LearnsOf Undefined taken a some b = IsTrue some × (b ≡ a)
 
--- all that is promised of the state that is left: b, where some member goes this way
+-- all that is promised of the state that is left: b, where some member takes this edge
 pub record Refines (cond : Cond) (taken : Bool) (a : State) (some : Bool) (b : State) : Type 0 where
   pub kept : KeepsMembers cond taken a some b
   pub never : some ≡ false → b ≡ a
   pub narrowed : AreCompared a cond → Narrows a b
   pub others : AreCompared a cond → KeepsOtherRegisters cond a b
   pub shown : AreCompared a cond → IsTrue some → Refined cond taken a b
-  -- two constants go one way only
+  -- two constants take one edge only
   pub constants : (x y : ℕ) → IsJust (kind_of a cond.register) x
       → IsJustOperand a cond.width cond.operand y
       → holds cond.comparison cond.width x y ≢ taken → some ≡ false

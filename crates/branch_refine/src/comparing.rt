@@ -21,7 +21,7 @@ pub enum Compared {
         shows: bool,
         bytes: u32,
     },
-    /// What a lookup answered and 0: null where the test comes out as `null` says.
+    /// What a look-up answered and 0: null where the test comes out as `null` says.
     OrNull {
         identity: u32,
         null: bool,
@@ -142,7 +142,7 @@ fn end_with(comparison: Comparison, right: Kind) -> Compared
     }
 }
 
-/// The comparison that goes the same way when its operands are exchanged.
+/// The comparison that has the same outcome once its operands are exchanged.
 fn turned(comparison: Comparison) -> Comparison
     ensures { result ≡ exchanged comparison }
 {

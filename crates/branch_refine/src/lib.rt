@@ -23,10 +23,10 @@ use isa_model::Cond;
 use reg_state::{Domain, Scalar};
 use stack_state::{Fact, State};
 
-/// What is left of a state on one way of a conditional jump.
+/// What is left of a state on one edge of a conditional jump.
 #[derive(Drop)]
 pub enum Branch {
-    /// No member goes this way.
+    /// No member takes this edge.
     Never,
     Goes(State),
 }
@@ -97,7 +97,7 @@ fn is_same(taken: bool, outcome: bool) -> bool
     if taken { outcome } else { !outcome }
 }
 
-// What the test shows where two numbers are compared; of others it shows nothing.
+// What the test shows where two numbers are compared; of other operands it shows nothing.
 fn numbers_outcome(cond: Cond, taken: bool, state: &State) -> BranchOutcome
     ensures kept { KeepsMembers cond taken state.now (goes result) (left_in cond state.now result) }
     ensures narrowed { Narrows state.now (left_in cond state.now result) }

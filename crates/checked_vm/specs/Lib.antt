@@ -1,5 +1,5 @@
 pub mod Reads
 pub mod Machine
-pub mod Outcomes
+pub mod StepResults
 pub mod Machines
 pub mod Stops

@@ -116,10 +116,10 @@ fn pointer_in(cells: &[Cell]) -> Result<Value, TrapReason>
 fn are_pieces(region: Region, offset: i64, cells: &[Cell]) -> bool
     ensures { result ≡ are_pieces region offset cells.now }
 {
-    cells.len() == 8 && each_is_piece(region, offset, cells)
+    cells.len() == 8 && has_only_pieces(region, offset, cells)
 }
 
-fn each_is_piece(region: Region, offset: i64, cells: &[Cell]) -> bool
+fn has_only_pieces(region: Region, offset: i64, cells: &[Cell]) -> bool
     ensures { result ≡ list_all (λ e. is_piece region offset e.0 e.1) (enumerate_from 0 cells.now) }
 {
     for (k, cell) in cells.iter().enumerate() {

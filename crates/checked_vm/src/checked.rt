@@ -1,4 +1,4 @@
-//! The checked machine: an image, and the room to run it.
+//! The checked machine: an image, and the memory to run it.
 
 ghost use Rattle.std.specs.Prelude.{◌≡◌, ◌+◌, ◌≤◌, ℕ, length, IfOk};
 ghost use Rattle.isa_model.specs.{max_packet};
@@ -56,7 +56,7 @@ fn version_of(image: &Image) -> Version
 }
 
 impl Checked {
-    /// Makes the maps as they start, and all room that runs fill.
+    /// Makes the maps with their starting contents, and takes all memory that runs need.
     pub fn new(alloc: Global, image: Image) -> Result<Self, VmError>
         ensures made { IfOk result (λ machine. machine
             ≡ record { program = image; contents = starting_contents image.maps }) }
@@ -67,7 +67,7 @@ impl Checked {
         Checked::with_maps(alloc, image, maps)
     }
 
-    /// Makes all room that runs fill, on maps of the image's rows.
+    /// Takes maps of the image's rows, and all memory that runs need.
     pub fn with_maps(alloc: Global, image: Image, maps: Maps) -> Result<Self, VmError>
         requires rows { rows_of maps ≡ image.maps }
         ensures made { IfOk result (λ machine. machine
@@ -99,13 +99,13 @@ impl Checked {
             ≡ (turn_from self.old limit (C.at clock.old) head packet.old).contents }
         ensures program { self.new.program ≡ self.old.program }
         ensures clock { (k : ℕ) → C.at clock.new k
-            ≡ C.at clock.old ((turn_from self.old limit (C.at clock.old) head packet.old).clock_calls
-            + k) }
+            ≡ C.at clock.old
+            ((turn_from self.old limit (C.at clock.old) head packet.old).clock_calls + k) }
     {
         self.run_to_stop(head, packet, clock, limit).end
     }
 
-    /// Runs the program as `run` does, and answers where the run stopped.
+    /// Runs the program as `run` does, and returns where the run stopped.
     #[tactic(auto, unfolding(crate::specs::Stops::stop_of))]
     pub fn run_to_stop<C: Clock>(
         &mut self,
@@ -127,8 +127,8 @@ impl Checked {
             ≡ (turn_from self.old limit (C.at clock.old) head packet.old).contents }
         ensures program { self.new.program ≡ self.old.program }
         ensures clock { (k : ℕ) → C.at clock.new k
-            ≡ C.at clock.old ((turn_from self.old limit (C.at clock.old) head packet.old).clock_calls
-            + k) }
+            ≡ C.at clock.old
+            ((turn_from self.old limit (C.at clock.old) head packet.old).clock_calls + k) }
     {
         self.image.recall();
         let version = version_of(&self.image);
@@ -144,7 +144,7 @@ impl Checked {
         }
     }
 
-    /// Gives the maps back.
+    /// Returns the maps.
     pub fn into_maps(self) -> Maps
         ensures rows { rows_of result ≡ self.program.maps }
         ensures contents { contents_of result ≡ self.contents }

@@ -46,7 +46,8 @@ pub fn compared(
     }
 }
 
-/// The test of a map value's pointer against 0: it is live or not, and never 0.
+/// The test of a pointer to a map value against 0. The pointer is never 0, even where the value is
+/// gone.
 fn null_test(comparison: Comparison, width: Width, region: Region) -> Result<bool, TrapReason>
     ensures { result ≡ null_test comparison width region }
 {

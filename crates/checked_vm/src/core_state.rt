@@ -12,7 +12,7 @@ use isa_model::{CallFrame, Cell, FRAME_SIZE, FrameHead, MAX_CALL_FRAMES, Reg, Re
 use live_maps::LiveMaps;
 use std::alloc::{AllocError, Global};
 
-/// A run's state, the packet aside.
+/// The state of a run, without the packet.
 #[derive(Drop)]
 pub struct Core {
     /// Where the next instruction begins.
@@ -24,7 +24,7 @@ pub struct Core {
     /// The interface and the queue that the packet came in by.
     pub interface: u32,
     pub queue: u32,
-    /// The maps, and the serials of values and call frames. None is used twice in a run.
+    /// The maps, and the serials of map values and call frames. None is used twice in a run.
     pub maps: LiveMaps,
     /// How often the run asked the clock.
     pub clock_calls: u64,

@@ -4,7 +4,7 @@
 //! `checked` is the machine that callers see. Under it are whole runs (`runs`), single steps with
 //! the tests before them (`steps`), one function for each form of instruction (`forms`), what these
 //! do to memory (`memory`), and the machine's registers and call frames (`core_state`). `values`,
-//! `comparisons`, `cells` and `places` compute on values only. Each function answers what the
+//! `comparisons`, `cells` and `places` compute on values only. Each function returns what the
 //! definition of its name in `isa_model` says.
 #![tactic(auto)]
 

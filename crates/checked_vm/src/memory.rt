@@ -1,4 +1,4 @@
-//! Loads and stores in call frames, the packet, values of maps and the context.
+//! Loads and stores in call frames, the packet, map values and the context.
 
 ghost use Rattle.std.specs.Prelude.{◌≡◌, ◌+◌, ◌<◌, ◌≤◌, ℕ, ◌+ℤ◌, List, length, map, slice_index, Some, Ok, Err, MatchResult, vec_len};
 ghost use Rattle.isa_model.specs.Code.Numbers.{number_from};
@@ -218,7 +218,7 @@ impl Core {
         Ok(())
     }
 
-    /// Writes bytes at a place of a map's value.
+    /// Writes bytes at a place of a map value.
     fn write_value(
         &mut self,
         index: u32,

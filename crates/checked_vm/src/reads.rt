@@ -1,4 +1,4 @@
-//! Reads of cells and bytes in call frames, the packet and values of maps.
+//! Reads of cells and bytes in call frames, the packet and map values.
 
 ghost use Rattle.std.specs.Prelude.{◌≡◌, ◌+◌, ◌<◌, ◌≤◌, ℕ, List, length, map, slice_index, Some, Ok, Err, IfOk, MatchResult, vec_len};
 ghost use Rattle.isa_model.specs.Code.Limits.{max_value_size};
@@ -116,7 +116,7 @@ impl Core {
         bytes_at(packet, at, n)
     }
 
-    /// The bytes of a map's value at a place.
+    /// The bytes of a map value at a place.
     pub fn read_value(
         &self,
         index: u32,

@@ -8,7 +8,7 @@ ghost use Rattle.isa_model.specs.Machine.Steps.{step};
 ghost use Rattle.isa_model.specs.Running.Runs.{progress, turn_of, left, turn, start_state};
 ghost use Rattle.checked_vm.specs.Machine.{state_of, NamesAllRows, IsRunning, StaysRunning};
 ghost use Rattle.checked_vm.specs.declared.steps.Stepped.{Stepped};
-ghost use Rattle.checked_vm.specs.Outcomes.{IsStep, ClockAnswers};
+ghost use Rattle.checked_vm.specs.StepResults.{IsStep, ClockAnswers};
 ghost use Rattle.checked_vm.specs.Stops.{state_at};
 
 use crate::core_state::Core;
@@ -16,7 +16,7 @@ use crate::steps::Stepped;
 use isa_model::{Clock, End, FrameHead, Insn, TrapReason, Version};
 
 impl Core {
-    /// One step in the code, by slot, of a program of this version.
+    /// One step of a program of this version, whose instructions are listed by slot.
     #[tactic(auto, unfolding(isa_model::specs::Machine::Steps::step))]
     fn step(&mut self, insns: &[Option<Insn>], version: Version, packet: &mut [u8]) -> Stepped
         requires running { IsRunning self.old }

@@ -10,12 +10,12 @@ ghost use Rattle.isa_model.specs.Code.MapRows.{NamesRows};
 ghost use Rattle.isa_model.specs.Machine.States.{value_at};
 ghost use Rattle.isa_model.specs.Machine.Steps.{is_unset, is_answer, act, performed};
 ghost use Rattle.checked_vm.specs.Machine.{state_of, IsRunning, StaysRunning, PerformsIn};
-ghost use Rattle.checked_vm.specs.Outcomes.{IsStep};
+ghost use Rattle.checked_vm.specs.StepResults.{IsStep};
 
 use crate::core_state::Core;
 use isa_model::{Insn, MAX_CALL_FRAMES, Reg, Region, TrapReason, Value, Version, destination};
 
-/// What a step came to.
+/// The result of a step.
 #[derive(Clone, Copy, PartialEq, Eq, Debug)]
 pub enum Stepped {
     Went,
@@ -38,7 +38,8 @@ fn is_answer(version: Version, number: u64) -> bool
 }
 
 impl Core {
-    fn lacks(&self, register: Option<Reg>) -> bool
+    /// Whether there is a register, and it is unset.
+    fn is_unset(&self, register: Option<Reg>) -> bool
         ensures { result ≡ list_any (λ r. is_unset (value_at self.now.regs (reg_number r)))
             (option_to_list register) }
     {
@@ -49,12 +50,15 @@ impl Core {
     }
 
     /// Whether a register that an instruction reads is unset.
-    fn reads_unset(&self, insn: &Insn) -> bool
+    fn is_reading_unset(&self, insn: &Insn) -> bool
         ensures { result ≡ list_any (λ r. is_unset (value_at self.now.regs (reg_number r)))
             (reads insn.now) }
     {
         let (first, second, third, fourth) = insn.read();
-        self.lacks(first) || self.lacks(second) || self.lacks(third) || self.lacks(fourth)
+        self.is_unset(first)
+            || self.is_unset(second)
+            || self.is_unset(third)
+            || self.is_unset(fourth)
     }
 
     /// What an instruction other than EXIT does, once its registers are set.
@@ -141,7 +145,7 @@ impl Core {
         }
     }
 
-    /// An instruction of a program of this version, the tests of its registers first.
+    /// Performs an instruction of a program of this version, after the tests of its registers.
     pub fn perform(
         &mut self,
         insn: &Insn,
@@ -159,7 +163,7 @@ impl Core {
             IsStep clock (performed p clock (state_of self.old packet.old) insn.now) result
             (state_of self.old packet.old) (state_of self.new packet.new) }
     {
-        if self.reads_unset(insn) {
+        if self.is_reading_unset(insn) {
             return Stepped::Stopped(TrapReason::UnsetRead);
         }
         if insn.writes_frame_pointer() {

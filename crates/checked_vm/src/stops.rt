@@ -2,8 +2,8 @@
 
 use isa_model::{End, Insn, Value};
 
-/// Where a run stopped: at the instruction that trapped or was the last exit, or before the one
-/// that the limit kept from being done.
+/// Where a run stopped: at the instruction that trapped or was the last exit, or before the first
+/// one that the limit excludes.
 #[derive(Clone, Copy)]
 pub struct RunEnd {
     pub end: End,

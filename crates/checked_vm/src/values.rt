@@ -5,7 +5,7 @@ ghost use Rattle.isa_model.specs.Code.Numbers.{low, negated, sign_extended, reor
 ghost use Rattle.isa_model.specs.Machine.Pointers.{moved_to, pointer_and_number, number_and_pointer, moved, combined, arithmetic, on_number};
 ghost use Rattle.isa_model.specs.Machine.Memory.{and_then};
 
-use isa_model::numbers::{compute, low_word, negate, reorder, sign_extend};
+use isa_model::numbers::{compute, low_32_bits, negate, reorder, sign_extend};
 use isa_model::{
     AluOp, ByteOrder, Extension, OFFSET_LIMIT, Region, SwapWidth, TrapReason, Value, Width,
 };
@@ -73,7 +73,7 @@ pub fn low(width: Width, n: u64) -> u64
     ensures { result ≡ low width n }
 {
     match width {
-        Width::Low32 => u64::from(low_word(n)),
+        Width::Low32 => u64::from(low_32_bits(n)),
         Width::Full64 => n,
     }
 }
@@ -107,7 +107,7 @@ fn combined(op: AluOp, width: Width, a: Value, b: Value) -> Result<Value, TrapRe
     }
 }
 
-/// What an arithmetic instruction gives on its two operands.
+/// The result of an arithmetic instruction on its two operands.
 pub fn arithmetic(op: AluOp, width: Width, a: Value, b: Value) -> Result<Value, TrapReason>
     ensures { result ≡ arithmetic op width a b }
 {
@@ -117,8 +117,8 @@ pub fn arithmetic(op: AluOp, width: Width, a: Value, b: Value) -> Result<Value, 
     }
 }
 
-/// The number that an operation takes which is defined on numbers only.
-fn number_alone(value: Value) -> Result<u64, TrapReason>
+/// The operand of an operation that is defined on numbers only.
+fn only_number(value: Value) -> Result<u64, TrapReason>
     ensures { (f : ℕ → ℕ) → on_number f value ≡ and_then result (λ n. Ok (Value.Num (f n))) }
 {
     match value {
@@ -132,19 +132,19 @@ fn number_alone(value: Value) -> Result<u64, TrapReason>
 pub fn negated(width: Width, value: Value) -> Result<Value, TrapReason>
     ensures { result ≡ on_number (negated width) value }
 {
-    Ok(Value::Num(negate(width, number_alone(value)?)))
+    Ok(Value::Num(negate(width, only_number(value)?)))
 }
 
 /// MOVSX.
 pub fn sign_extended(extension: Extension, value: Value) -> Result<Value, TrapReason>
     ensures { result ≡ on_number (sign_extended extension) value }
 {
-    Ok(Value::Num(sign_extend(extension, number_alone(value)?)))
+    Ok(Value::Num(sign_extend(extension, only_number(value)?)))
 }
 
 /// END.
 pub fn reordered(order: ByteOrder, span: SwapWidth, value: Value) -> Result<Value, TrapReason>
     ensures { result ≡ on_number (reordered order span) value }
 {
-    Ok(Value::Num(reorder(order, span, number_alone(value)?)))
+    Ok(Value::Num(reorder(order, span, only_number(value)?)))
 }

@@ -9,7 +9,11 @@ use Rattle.commands.specs.declared.outcomes.TaskOutcome.{TaskOutcome}
 use Rattle.commands.specs.Statuses.{IsWriteFailureBy}
 use Rattle.commands.specs.Streams.{EndsTask}
 
--- a run came to its end, and then the file failed, and lacks what still waits
-pub fails_at_the_end : (name waits : List ℕ) (cause : Option ErrorKind) (form : FileForm) (ended : Result Tally HostError) (tally : Tally) (handed got : Option (List ℕ)) (r : TaskOutcome) → ended ≡ Ok tally
-    → Keeps handed (append_known got waits) → IsWriteFailureBy name cause r → EndsTask name cause form ended handed got r
-fails_at_the_end name waits cause form ended tally handed got r e kept failed = rw e (inr ((waits, kept), failed))
+-- the stream came to its end, and then the file failed, and lacks the bytes that still wait
+pub fails_at_the_end : (name waits : List ℕ) (cause : Option ErrorKind) (form : FileForm)
+    (ended : Result Tally HostError) (tally : Tally) (handed got : Option (List ℕ))
+    (r : TaskOutcome) → ended ≡ Ok tally
+    → Keeps handed (append_known got waits) → IsWriteFailureBy name cause r
+    → EndsTask name cause form ended handed got r
+fails_at_the_end name waits cause form ended tally handed got r e kept failed =
+    rw e (inr ((waits, kept), failed))

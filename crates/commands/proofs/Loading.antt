@@ -1,4 +1,4 @@
--- What is done with an image that was read, if standard output got nothing.
+-- That what a task did is what its command does, by how far it came: an image, a table, a text.
 use Rattle.std.proofs.Common.{◌≡◌, ℕ, List, Option, None, String, Result, Ok, Err, subst, sym, inl, inr, ◌⊎◌, ◌∙◌}
 use Rattle.std.specs.Prelude.{IfOk, IfErr}
 use Rattle.std.specs.declared.alloc.Global.{Global}
@@ -26,17 +26,19 @@ use Rattle.words.specs.Requests.{RunFiles, ProofFiles}
 use Rattle.commands.specs.Commands.{LoadsNone, ShowsNone, TracesFile, TracesSome, IsShown, VerifiesFile, RechecksFile, ProvesFile, ProvesSome, RunsFile, RunsOn, RunsShown, RunsSome, OpensNone, Assembles, AssemblesFile, StoresSome}
 
 -- the streams were not opened
-opens-none : (files : RunFiles) (old new : Option (List ℕ)) (r : TaskOutcome) → new ≡ old → IsReadFailure files.frames r ⊎ IsMakeFailure files.out r → OpensNone files old new r
+opens-none : (files : RunFiles) (old new : Option (List ℕ)) (r : TaskOutcome) → new ≡ old
+    → IsReadFailure files.frames r ⊎ IsMakeFailure files.out r → OpensNone files old new r
 opens-none files old new r e (inl h) = inl (h, e)
 opens-none files old new r e (inr h) = inr (h, e)
 
--- beside how the task ended nothing is known
-pub tells-none : (p : Program) (o : TaskOutcome) (why : Option (String Global)) → why ≡ None → Tells p o why
+-- a message without a text at its end says nothing of a program
+pub tells-none : (p : Program) (o : TaskOutcome) (why : Option (String Global)) → why ≡ None
+    → Tells p o why
 tells-none p Done why e = e
 tells-none p (WrongWords text) why e = e
 tells-none p (Refused (rejection.Image error form)) why e = e
 tells-none p (Refused (rejection.Program refusal slot insn)) why e = rw e tt
-tells-none p (Refused (rejection.Table error place)) why e = e
+tells-none p (Refused (rejection.Table error position)) why e = e
 tells-none p (Refused rejection.Explored) why e = e
 tells-none p (Refused (rejection.Text error)) why e = e
 tells-none p (Faulted fault form) why e = e
@@ -46,30 +48,44 @@ tells-none p (CannotReplace path) why e = e
 tells-none p NoMemory why e = e
 
 -- the image was not loaded
-unloaded : (path : List ℕ) (old new : Option (List ℕ)) (o : TaskOutcome) (r : Ending) → LoadsNone path old new o → r.outcome ≡ o → r.why ≡ None → Plainly (LoadsNone path old new) r
+unloaded : (path : List ℕ) (old new : Option (List ℕ)) (o : TaskOutcome) (r : Ending)
+    → LoadsNone path old new o → r.outcome ≡ o → r.why ≡ None → Plainly (LoadsNone path old new) r
 unloaded path old new o r h same none = (subst (LoadsNone path old new) (sym same) h, none)
 
-pub verify_unloaded : (path : List ℕ) (old new : Option (List ℕ)) (o : TaskOutcome) (r : Ending) → LoadsNone path old new o → r.outcome ≡ o → r.why ≡ None → VerifiesFile path old new r
+pub verify_unloaded : (path : List ℕ) (old new : Option (List ℕ)) (o : TaskOutcome) (r : Ending)
+    → LoadsNone path old new o → r.outcome ≡ o → r.why ≡ None → VerifiesFile path old new r
 verify_unloaded path old new o r h same none = inl (unloaded path old new o r h same none)
 
-pub run_unloaded : (files : RunFiles) (old new : Option (List ℕ)) (o : TaskOutcome) (r : Ending) → LoadsNone files.image old new o → r.outcome ≡ o → r.why ≡ None → RunsFile files old new r
+pub run_unloaded : (files : RunFiles) (old new : Option (List ℕ)) (o : TaskOutcome) (r : Ending)
+    → LoadsNone files.image old new o → r.outcome ≡ o → r.why ≡ None → RunsFile files old new r
 run_unloaded files old new o r h same none = inl (unloaded files.image old new o r h same none)
 
-pub image_verified : (path : List ℕ) (old mid new : Option (List ℕ)) (p : Program) (r : Ending) → mid ≡ old → IsImage p → Verifies p mid new r.outcome → IsKnownOfProgram p r → VerifiesFile path old new r
+pub image_verified : (path : List ℕ) (old mid new : Option (List ℕ)) (p : Program) (r : Ending)
+    → mid ≡ old → IsImage p → Verifies p mid new r.outcome → IsKnownOfProgram p r
+    → VerifiesFile path old new r
 image_verified path old mid new p r e h v known =
     inr (p, h, (subst (λ (o : Option (List ℕ)). Verifies p o new r.outcome) e v, known))
 
--- ---- runs with checks
+-- ---- `trace`
 
-pub trace_unloaded : (files : RunFiles) (limit : ℕ) (old new : Option (List ℕ)) (o : TaskOutcome) (r : Ending) → LoadsNone files.image old new o → r.outcome ≡ o → r.why ≡ None → TracesFile files limit old new r
-trace_unloaded files limit old new o r h same none = inl (unloaded files.image old new o r h same none)
+pub trace_unloaded : (files : RunFiles) (limit : ℕ) (old new : Option (List ℕ)) (o : TaskOutcome)
+    (r : Ending) → LoadsNone files.image old new o → r.outcome ≡ o → r.why ≡ None
+    → TracesFile files limit old new r
+trace_unloaded files limit old new o r h same none =
+    inl (unloaded files.image old new o r h same none)
 
-pub trace_unopened : (files : RunFiles) (limit : ℕ) (old new : Option (List ℕ)) (p : Program) (o : TaskOutcome) (r : Ending) → new ≡ old → IsImage p → IsReadFailure files.frames o ⊎ IsMakeFailure files.out o
+pub trace_unopened : (files : RunFiles) (limit : ℕ) (old new : Option (List ℕ)) (p : Program)
+    (o : TaskOutcome) (r : Ending) → new ≡ old → IsImage p
+    → IsReadFailure files.frames o ⊎ IsMakeFailure files.out o
     → r.outcome ≡ o → r.why ≡ None → TracesFile files limit old new r
-trace_unopened files limit old new p o r e h failed same none = inr (p, h, inl ((rw same (opens-none files old new o e failed)), none))
+trace_unopened files limit old new p o r e h failed same none =
+    inr (p, h, inl ((rw same (opens-none files old new o e failed)), none))
 
-pub image_traced : (files : RunFiles) (limit : ℕ) (old mid new before after source : Option (List ℕ)) (form : FileForm) (cause : Option ErrorKind) (p : Program) (r : Ending) → mid ≡ old → IsImage p
-    → Traces p limit source form files.out cause (record { report = mid; frames = before }) (record { report = new; frames = after }) r → TracesFile files limit old new r
+pub image_traced : (files : RunFiles) (limit : ℕ)
+    (old mid new before after source : Option (List ℕ)) (form : FileForm) (cause : Option ErrorKind)
+    (p : Program) (r : Ending) → mid ≡ old → IsImage p
+    → Traces p limit source form files.out cause (record { report = mid; frames = before })
+    (record { report = new; frames = after }) r → TracesFile files limit old new r
 image_traced files limit old mid new before after source form cause p r e h traces =
     let some : TracesSome p limit files.out old new r = record {
       source = source;
@@ -77,23 +93,33 @@ image_traced files limit old mid new before after source form cause p r e h trac
       before = before;
       after = after;
       cause = cause;
-      traces = subst (λ (x : Option (List ℕ)). Traces p limit source form files.out cause (record { report = x; frames = before }) (record { report = new; frames = after }) r) e traces;
+      traces =
+          subst (λ (x : Option (List ℕ)). Traces p limit source form files.out cause
+          (record { report = x; frames = before }) (record { report = new; frames = after }) r) e
+          traces;
     } in
     inr (p, h, inr some)
 
--- ---- runs of accepted programs
+-- ---- `run`
 
--- what the verifier says of an accepted program, of its own program
-pub bound_of_verified : (p : Program) (v : Bounded) → v.program ≡ p → IsVerified v → HasNumber p start v.bound → BoundsAll p v.bound → IsBoundOf v.program v.bound
-bound_of_verified p v same h number bounds = record { verified = h; number = rw same number; bounds = rw same bounds }
+-- the clauses of the verifier, of the program that it returns
+pub bound_of_verified : (p : Program) (v : Bounded) → v.program ≡ p → IsVerified v
+    → HasNumber p start v.bound → BoundsAll p v.bound → IsBoundOf v.program v.bound
+bound_of_verified p v same h number bounds =
+    record { verified = h; number = rw same number; bounds = rw same bounds }
 
-pub image_refused : (files : RunFiles) (old mid new : Option (List ℕ)) (p : Program) (r : Ending) → mid ≡ old → IsImage p → RefusesProgram p mid new r.outcome → IsKnownOfProgram p r → RunsFile files old new r
+pub image_refused : (files : RunFiles) (old mid new : Option (List ℕ)) (p : Program) (r : Ending)
+    → mid ≡ old → IsImage p → RefusesProgram p mid new r.outcome → IsKnownOfProgram p r
+    → RunsFile files old new r
 image_refused files old mid new p r e h v known =
     inr (p, h, (inl (subst (λ (o : Option (List ℕ)). RefusesProgram p o new r.outcome) e v), known))
 
--- standard output got the report of a run, and nothing before it
-runs-on : (files : RunFiles) (old mid now new before after source : Option (List ℕ)) (form : FileForm) (cause : Option ErrorKind) (v : Bounded) (o r : TaskOutcome) → mid ≡ old → now ≡ mid
-    → RunsAccepted v source form files.out cause (record { report = now; frames = before }) (record { report = new; frames = after }) o → r ≡ o → RunsOn files v old new r
+-- standard output got the report, and nothing before it
+runs-on : (files : RunFiles) (old mid now new before after source : Option (List ℕ))
+    (form : FileForm) (cause : Option ErrorKind) (v : Bounded) (o r : TaskOutcome) → mid ≡ old
+    → now ≡ mid
+    → RunsAccepted v source form files.out cause (record { report = now; frames = before })
+    (record { report = new; frames = after }) o → r ≡ o → RunsOn files v old new r
 runs-on files old mid now new before after source form cause v o r e f runs same =
     let some : RunsSome v files.out old new r = record {
       source = source;
@@ -101,107 +127,206 @@ runs-on files old mid now new before after source form cause v o r e f runs same
       before = before;
       after = after;
       cause = cause;
-      runs = rw same (subst (λ (x : Option (List ℕ)). RunsAccepted v source form files.out cause (record { report = x; frames = before }) (record { report = new; frames = after }) o) (f ∙ e) runs);
+      runs =
+          rw same (subst
+          (λ (x : Option (List ℕ)). RunsAccepted v source form files.out cause
+          (record { report = x; frames = before }) (record { report = new; frames = after }) o)
+          (f ∙ e) runs);
     } in
     inr some
 
-opens-on : (files : RunFiles) (old mid new : Option (List ℕ)) (v : Bounded) (o r : TaskOutcome) → mid ≡ old → new ≡ mid → IsReadFailure files.frames o ⊎ IsMakeFailure files.out o → r ≡ o → RunsOn files v old new r
-opens-on files old mid new v o r e f failed same = inl (rw same (opens-none files old new o (f ∙ e) failed))
+opens-on : (files : RunFiles) (old mid new : Option (List ℕ)) (v : Bounded) (o r : TaskOutcome)
+    → mid ≡ old → new ≡ mid → IsReadFailure files.frames o ⊎ IsMakeFailure files.out o → r ≡ o
+    → RunsOn files v old new r
+opens-on files old mid new v o r e f failed same =
+    inl (rw same (opens-none files old new o (f ∙ e) failed))
 
-pub image_run : (files : RunFiles) (old mid now new before after source : Option (List ℕ)) (form : FileForm) (cause : Option ErrorKind) (v : Bounded) (o : TaskOutcome) (r : Ending) → mid ≡ old → now ≡ mid → IsBoundOf v.program v.bound
-    → RunsAccepted v source form files.out cause (record { report = now; frames = before }) (record { report = new; frames = after }) o → r.outcome ≡ o → r.why ≡ None → RunsFile files old new r
+pub image_run : (files : RunFiles) (old mid now new before after source : Option (List ℕ))
+    (form : FileForm) (cause : Option ErrorKind) (v : Bounded) (o : TaskOutcome) (r : Ending)
+    → mid ≡ old → now ≡ mid → IsBoundOf v.program v.bound
+    → RunsAccepted v source form files.out cause (record { report = now; frames = before })
+    (record { report = new; frames = after }) o → r.outcome ≡ o → r.why ≡ None
+    → RunsFile files old new r
 image_run files old mid now new before after source form cause v o r e f h runs same none =
-    inr (v.program, h.verified.image, (inr (v.bound, h, runs-on files old mid now new before after source form cause v o r.outcome e f runs same), tells-none v.program r.outcome r.why none))
+    inr (
+      v.program,
+      h.verified.image,
+      (
+        inr (
+          v.bound,
+          h,
+          runs-on files old mid now new before after source form cause v o r.outcome
+              e f runs same,
+        ),
+        tells-none v.program r.outcome r.why none,
+      ),
+    )
 
-pub run_unopened : (files : RunFiles) (old mid new : Option (List ℕ)) (v : Bounded) (o : TaskOutcome) (r : Ending) → mid ≡ old → new ≡ mid → IsBoundOf v.program v.bound
-    → IsReadFailure files.frames o ⊎ IsMakeFailure files.out o → r.outcome ≡ o → r.why ≡ None → RunsFile files old new r
+pub run_unopened : (files : RunFiles) (old mid new : Option (List ℕ)) (v : Bounded)
+    (o : TaskOutcome) (r : Ending) → mid ≡ old → new ≡ mid → IsBoundOf v.program v.bound
+    → IsReadFailure files.frames o ⊎ IsMakeFailure files.out o → r.outcome ≡ o → r.why ≡ None
+    → RunsFile files old new r
 run_unopened files old mid new v o r e f h failed same none =
-    inr (v.program, h.verified.image, (inr (v.bound, h, opens-on files old mid new v o r.outcome e f failed same), tells-none v.program r.outcome r.why none))
+    inr (
+      v.program,
+      h.verified.image,
+      (
+        inr (v.bound, h, opens-on files old mid new v o r.outcome e f failed same),
+        tells-none
+            v.program r.outcome r.why none,
+      ),
+    )
 
 -- ---- tables
 
--- what a table shows of its own program
-shown_of : (p : Program) (bytes : List ℕ) (v : Bounded) → v.program ≡ p → IsVerified v → ShowsBound p bytes v.bound → IsShown v
+-- a table shows the bound of the program that is returned
+shown_of : (p : Program) (bytes : List ℕ) (v : Bounded) → v.program ≡ p → IsVerified v
+    → ShowsBound p bytes v.bound → IsShown v
 shown_of p bytes v same h shows = (bytes, record { verified = h; shows = rw same shows })
 
-pub shows_unloaded : (files : ProofFiles) (old new : Option (List ℕ)) (o : TaskOutcome) (r : Ending) → LoadsNone files.image old new o → r.outcome ≡ o → r.why ≡ None → ShowsNone files old new r
+pub shows_unloaded : (files : ProofFiles) (old new : Option (List ℕ)) (o : TaskOutcome) (r : Ending)
+    → LoadsNone files.image old new o → r.outcome ≡ o → r.why ≡ None → ShowsNone files old new r
 shows_unloaded files old new o r h same none = inl (unloaded files.image old new o r h same none)
 
-pub shows_unread : (files : ProofFiles) (old new : Option (List ℕ)) (p : Program) (o : TaskOutcome) (r : Ending) → new ≡ old → IsImage p → IsReadFailure files.table o → r.outcome ≡ o → r.why ≡ None → ShowsNone files old new r
+pub shows_unread : (files : ProofFiles) (old new : Option (List ℕ)) (p : Program) (o : TaskOutcome)
+    (r : Ending) → new ≡ old → IsImage p → IsReadFailure files.table o → r.outcome ≡ o
+    → r.why ≡ None → ShowsNone files old new r
 shows_unread files old new p o r e h failed same none = inr (p, h, inl ((rw same failed, e), none))
 
-shows_refused : (files : ProofFiles) (old mid new : Option (List ℕ)) (p : Program) (bytes : List ℕ) (r : Ending) → mid ≡ old → IsImage p → RefusesTable p bytes mid new r.outcome → IsKnownOfTable p bytes r → ShowsNone files old new r
+shows_refused : (files : ProofFiles) (old mid new : Option (List ℕ)) (p : Program) (bytes : List ℕ)
+    (r : Ending) → mid ≡ old → IsImage p → RefusesTable p bytes mid new r.outcome
+    → IsKnownOfTable p bytes r → ShowsNone files old new r
 shows_refused files old mid new p bytes r e h refused known =
-    inr (p, h, inr (bytes, subst (λ (o : Option (List ℕ)). RefusesTable p bytes o new r.outcome) e refused, known))
+    inr (
+      p,
+      h,
+      inr (
+        bytes,
+        subst
+            (λ (o : Option (List ℕ)). RefusesTable p bytes o new r.outcome) e refused,
+        known,
+      ),
+    )
 
--- the same of an answer
-pub shown_if : (p : Program) (bytes : List ℕ) (r : Result Bounded Ending) → IfOk r (λ v. v.program ≡ p) → IfOk r IsVerified → IfOk r (λ v. ShowsBound p bytes v.bound) → IfOk r IsShown
+-- the same for a result
+pub shown_if : (p : Program) (bytes : List ℕ) (r : Result Bounded Ending)
+    → IfOk r (λ v. v.program ≡ p) → IfOk r IsVerified → IfOk r (λ v. ShowsBound p bytes v.bound)
+    → IfOk r IsShown
 shown_if p bytes (Ok v) same h shows = shown_of p bytes v same h shows
 shown_if p bytes (Err ending) same h shows = tt
 
-pub refused_if : (files : ProofFiles) (old mid new : Option (List ℕ)) (p : Program) (bytes : List ℕ) (r : Result Bounded Ending) → mid ≡ old → IsImage p
-    → IfErr r (λ e. RefusesTable p bytes mid new e.outcome) → IfErr r (λ e. IsKnownOfTable p bytes e) → IfErr r (λ e. ShowsNone files old new e)
+pub refused_if : (files : ProofFiles) (old mid new : Option (List ℕ)) (p : Program) (bytes : List ℕ)
+    (r : Result Bounded Ending) → mid ≡ old → IsImage p
+    → IfErr r (λ e. RefusesTable p bytes mid new e.outcome)
+    → IfErr r (λ e. IsKnownOfTable p bytes e) → IfErr r (λ e. ShowsNone files old new e)
 refused_if files old mid new p bytes (Ok v) e h refused known = tt
-refused_if files old mid new p bytes (Err ending) e h refused known = shows_refused files old mid new p bytes ending e h refused known
+refused_if files old mid new p bytes (Err ending) e h refused known =
+    shows_refused files old mid new p bytes ending e h refused known
 
-pub bound_said : (files : ProofFiles) (old mid new : Option (List ℕ)) (v : Bounded) (o : TaskOutcome) (r : Ending) → mid ≡ old → IsShown v → Accepts v mid new o → r.outcome ≡ o → r.why ≡ None → RechecksFile files old new r
+pub bound_said : (files : ProofFiles) (old mid new : Option (List ℕ)) (v : Bounded)
+    (o : TaskOutcome) (r : Ending) → mid ≡ old → IsShown v → Accepts v mid new o → r.outcome ≡ o
+    → r.why ≡ None → RechecksFile files old new r
 bound_said files old mid new v o r e is accepts same none =
     inr (v, is, (rw same (subst (λ (x : Option (List ℕ)). Accepts v x new o) e accepts), none))
 
-pub shown_run : (files : RunFiles) (table : List ℕ) (old mid now new before after source : Option (List ℕ)) (form : FileForm) (cause : Option ErrorKind) (v : Bounded) (o : TaskOutcome) (r : Ending) → mid ≡ old → now ≡ mid → IsShown v
-    → RunsAccepted v source form files.out cause (record { report = now; frames = before }) (record { report = new; frames = after }) o → r.outcome ≡ o → r.why ≡ None → RunsShown files table old new r
+pub shown_run : (files : RunFiles) (table : List ℕ)
+    (old mid now new before after source : Option (List ℕ)) (form : FileForm)
+    (cause : Option ErrorKind) (v : Bounded) (o : TaskOutcome) (r : Ending) → mid ≡ old → now ≡ mid
+    → IsShown v
+    → RunsAccepted v source form files.out cause (record { report = now; frames = before })
+    (record { report = new; frames = after }) o → r.outcome ≡ o → r.why ≡ None
+    → RunsShown files table old new r
 shown_run files table old mid now new before after source form cause v o r e f is runs same none =
-    inr (v, is, (runs-on files old mid now new before after source form cause v o r.outcome e f runs same, none))
+    inr (
+      v,
+      is,
+      (
+        runs-on files old mid now new before after source form cause v o r.outcome e f runs
+            same,
+        none,
+      ),
+    )
 
-pub shown_unopened : (files : RunFiles) (table : List ℕ) (old mid new : Option (List ℕ)) (v : Bounded) (o : TaskOutcome) (r : Ending) → mid ≡ old → new ≡ mid → IsShown v
-    → IsReadFailure files.frames o ⊎ IsMakeFailure files.out o → r.outcome ≡ o → r.why ≡ None → RunsShown files table old new r
+pub shown_unopened : (files : RunFiles) (table : List ℕ) (old mid new : Option (List ℕ))
+    (v : Bounded) (o : TaskOutcome) (r : Ending) → mid ≡ old → new ≡ mid → IsShown v
+    → IsReadFailure files.frames o ⊎ IsMakeFailure files.out o → r.outcome ≡ o → r.why ≡ None
+    → RunsShown files table old new r
 shown_unopened files table old mid new v o r e f is failed same none =
     inr (v, is, (opens-on files old mid new v o r.outcome e f failed same, none))
 
--- ---- proofs
+-- ---- `prove`
 
-pub prove_unloaded : (files : ProofFiles) (old new : Option (List ℕ)) (o : TaskOutcome) (r : Ending) → LoadsNone files.image old new o → r.outcome ≡ o → r.why ≡ None → ProvesFile files old new r
+pub prove_unloaded : (files : ProofFiles) (old new : Option (List ℕ)) (o : TaskOutcome) (r : Ending)
+    → LoadsNone files.image old new o → r.outcome ≡ o → r.why ≡ None → ProvesFile files old new r
 prove_unloaded files old new o r h same none = inl (unloaded files.image old new o r h same none)
 
-pub prove_refused : (files : ProofFiles) (old mid new : Option (List ℕ)) (p : Program) (r : Ending) → mid ≡ old → IsImage p → RefusesProgram p mid new r.outcome → IsKnownOfProgram p r → ProvesFile files old new r
+pub prove_refused : (files : ProofFiles) (old mid new : Option (List ℕ)) (p : Program) (r : Ending)
+    → mid ≡ old → IsImage p → RefusesProgram p mid new r.outcome → IsKnownOfProgram p r
+    → ProvesFile files old new r
 prove_refused files old mid new p r e h v known =
     inr (p, h, (inl (subst (λ (o : Option (List ℕ)). RefusesProgram p o new r.outcome) e v), known))
 
-pub prove_unmade : (files : ProofFiles) (old mid new : Option (List ℕ)) (v : Bounded) (o : TaskOutcome) (r : Ending) → mid ≡ old → new ≡ mid → IsBoundOf v.program v.bound → IsMakeFailure files.table o
+pub prove_unmade : (files : ProofFiles) (old mid new : Option (List ℕ)) (v : Bounded)
+    (o : TaskOutcome) (r : Ending) → mid ≡ old → new ≡ mid → IsBoundOf v.program v.bound
+    → IsMakeFailure files.table o
     → r.outcome ≡ o → r.why ≡ None → ProvesFile files old new r
 prove_unmade files old mid new v o r e f h failed same none =
-    inr (v.program, h.verified.image, (inr (v.bound, h, inl (rw same failed, f ∙ e)), tells-none v.program r.outcome r.why none))
+    inr (
+      v.program,
+      h.verified.image,
+      (inr (v.bound, h, inl (rw same failed, f ∙ e)), tells-none v.program r.outcome r.why none),
+    )
 
-pub table_stored : (files : ProofFiles) (old mid now new before after : Option (List ℕ)) (v : Bounded) (line : List ℕ) (o : TaskOutcome) (r : Ending) → mid ≡ old → now ≡ mid → IsBoundOf v.program v.bound
-    → line ≡ bound_line v.bound → StoresTable v.program line files.table before after now new o → r.outcome ≡ o → r.why ≡ None → ProvesFile files old new r
+pub table_stored : (files : ProofFiles) (old mid now new before after : Option (List ℕ))
+    (v : Bounded) (line : List ℕ) (o : TaskOutcome) (r : Ending) → mid ≡ old → now ≡ mid
+    → IsBoundOf v.program v.bound
+    → line ≡ bound_line v.bound → StoresTable v.program line files.table before after now new o
+    → r.outcome ≡ o → r.why ≡ None → ProvesFile files old new r
 table_stored files old mid now new before after v line o r e f h is stores same none =
     let some : ProvesSome v.program v.bound files.table old new r.outcome = record {
       before = before;
       after = after;
-      stores = rw same (subst (λ (x : Option (List ℕ)). StoresTable v.program (bound_line v.bound) files.table before after x new o) (f ∙ e)
-          (subst (λ (l : List ℕ). StoresTable v.program l files.table before after now new o) is stores));
+      stores =
+          rw same (subst
+          (λ (x : Option (List ℕ)). StoresTable v.program
+          (bound_line v.bound) files.table before after x new o) (f ∙ e)
+          (subst (λ (l : List ℕ). StoresTable v.program l files.table before after now new o) is
+          stores));
     } in
-    inr (v.program, h.verified.image, (inr (v.bound, h, inr some), tells-none v.program r.outcome r.why none))
+    inr (
+      v.program,
+      h.verified.image,
+      (inr (v.bound, h, inr some), tells-none v.program r.outcome r.why none),
+    )
 
 -- ---- texts
 
--- the image of a text that was read is written, and its size is said
-pub text_stored : (old mid new before after : Option (List ℕ)) (source line path : List ℕ) (p : Program) (r : TaskOutcome) → mid ≡ old → assembled source ≡ Ok p → line ≡ size_line p → StoresImage p line path before after mid new r → Assembles source path old new r
+-- the image of a text that was read is written, and then the line with its size
+pub text_stored : (old mid new before after : Option (List ℕ)) (source line path : List ℕ)
+    (p : Program) (r : TaskOutcome) → mid ≡ old → assembled source ≡ Ok p → line ≡ size_line p
+    → StoresImage p line path before after mid new r → Assembles source path old new r
 text_stored old mid new before after source line path p r e found same s =
     let some : StoresSome p path old new r = record {
       before = before;
       after = after;
-      stores = subst (λ (o : Option (List ℕ)). StoresImage p (size_line p) path before after o new r) e (subst (λ (l : List ℕ). StoresImage p l path before after mid new r) same s);
+      stores =
+          subst (λ (o : Option (List ℕ)). StoresImage p (size_line p) path before after o new r) e
+          (subst (λ (l : List ℕ). StoresImage p l path before after mid new r) same s);
     } in
     inr (p, found, inr some)
 
-pub text_unmade : (old new : Option (List ℕ)) (source path : List ℕ) (p : Program) (r : TaskOutcome) → new ≡ old → assembled source ≡ Ok p → IsMakeFailure path r → Assembles source path old new r
+pub text_unmade : (old new : Option (List ℕ)) (source path : List ℕ) (p : Program) (r : TaskOutcome)
+    → new ≡ old → assembled source ≡ Ok p → IsMakeFailure path r → Assembles source path old new r
 text_unmade old new source path p r e found h = inr (p, found, inl (h, e))
 
 -- the text could not be read
-pub text_unread : (text image : List ℕ) (old new : Option (List ℕ)) (o : TaskOutcome) (r : Ending) → new ≡ old → IsReadFailure text o → r.outcome ≡ o → r.why ≡ None → AssemblesFile text image old new r
+pub text_unread : (text image : List ℕ) (old new : Option (List ℕ)) (o : TaskOutcome) (r : Ending)
+    → new ≡ old → IsReadFailure text o → r.outcome ≡ o → r.why ≡ None
+    → AssemblesFile text image old new r
 text_unread text image old new o r e failed same none = inl ((rw same failed, e), none)
 
--- a text that was read, and what is shown of it where it is refused
-pub text_assembled : (source text image : List ℕ) (old new : Option (List ℕ)) (o : TaskOutcome) (r : Ending) → Assembles source image old new o → r.outcome ≡ o → IsKnownOfText source r → AssemblesFile text image old new r
+-- a text was read, and if it is refused, what is shown of it is known
+pub text_assembled : (source text image : List ℕ) (old new : Option (List ℕ)) (o : TaskOutcome)
+    (r : Ending) → Assembles source image old new o → r.outcome ≡ o → IsKnownOfText source r
+    → AssemblesFile text image old new r
 text_assembled source text image old new o r h same known = inr (source, rw same h, known)

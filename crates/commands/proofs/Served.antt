@@ -1,4 +1,4 @@
--- What is done where words ask for something, and where they ask for nothing.
+-- That the program does what its arguments ask for, where they ask for something and where not.
 use Rattle.std.proofs.Common.{◌≡◌, ℕ, List, Option, Some, None, Err, true, subst, sym, refl, inl, inr}
 use Rattle.std.proofs.lemmas.Bool.{both_ways}
 use Rattle.std.specs.String.{string_bytes}
@@ -14,20 +14,37 @@ use Rattle.commands.specs.declared.outcomes.TaskOutcome.TheVariants.{Done, Wrong
 use Rattle.commands.specs.declared.endings.Ending.{Ending}
 use Rattle.commands.specs.Statuses.{IsWordsEnd, SaysWrongWords, IsWrongWords, is_silent}
 use Rattle.commands.specs.Commands.{Serves}
-use Rattle.commands.specs.HandingOn.{Flushes}
+use Rattle.commands.specs.Flushing.{Flushes}
 use Rattle.commands.specs.Executing.{Executes}
 
--- standard output that was asked for nothing more
-handed : {W : Type 0} (contents : W → Option (List ℕ)) (given : PromptWriter W) (r : Ending) → is_silent r.outcome ≡ true → Flushes contents given given r r
-handed contents given r silent = record { kept = Keeps-refl (held contents given); silent = λ _. (refl, refl); ends = inl ((λ loud. absurd (both_ways (is_silent r.outcome) loud silent)), refl) }
+-- standard output to which nothing was written, after it was left as it is
+handed : {W : Type 0} (contents : W → Option (List ℕ)) (given : PromptWriter W) (r : Ending)
+    → is_silent r.outcome ≡ true → Flushes contents given given r r
+handed contents given r silent =
+    record {
+      kept = Keeps-refl (held contents given);
+      silent = λ _. (refl, refl);
+      ends = inl
+          ((λ loud. absurd (both_ways (is_silent r.outcome) loud silent)), refl);
+    }
 
--- what is asked for is done, and standard output hands it on
-pub asked-served : {W : Type 0} (contents : W → Option (List ℕ)) (words : List (List ℕ)) (request : TaskRequest) (old given new : PromptWriter W) (ended r : Ending) → asked words ≡ Some request
-    → Serves (Some request) (held contents old) (held contents given) ended → Flushes contents given new ended r → Executes contents words old new r
+-- the request is served, and then standard output is flushed
+pub asked-served : {W : Type 0} (contents : W → Option (List ℕ)) (words : List (List ℕ))
+    (request : TaskRequest) (old given new : PromptWriter W) (ended r : Ending)
+    → asked words ≡ Some request
+    → Serves (Some request) (held contents old) (held contents given) ended
+    → Flushes contents given new ended r → Executes contents words old new r
 asked-served contents words request old given new ended r is h on =
-    inr (record { given = given; ended = ended; serves = subst (λ (x : Option TaskRequest). Serves x (held contents old) (held contents given) ended) (sym is) h; hands_on = on })
+    inr (record {
+      given = given;
+      ended = ended;
+      serves = subst
+          (λ (x : Option TaskRequest). Serves x (held contents old) (held contents given) ended)
+          (sym is) h;
+      hands_on = on;
+    })
 
--- what is said to be wrong for some reason is wrong
+-- arguments that are wrong for some reason are wrong
 wrong : (text : List ℕ) (o : TaskOutcome) → SaysWrongWords text o → IsWrongWords o
 wrong text (WrongWords said) h = tt
 wrong text Done h = absurd h
@@ -48,16 +65,21 @@ wrong_silent text (CannotWrite path cause) h = absurd h
 wrong_silent text (CannotReplace path) h = absurd h
 wrong_silent text NoMemory h = absurd h
 
--- words that ask for nothing
-pub unasked : {W : Type 0} (contents : W → Option (List ℕ)) (words : List (List ℕ)) (error : WordsError) (out : PromptWriter W) (o : TaskOutcome) → AsksFor words (Err error) → IsWordsEnd error o
+-- arguments that ask for nothing
+pub unasked : {W : Type 0} (contents : W → Option (List ℕ)) (words : List (List ℕ))
+    (error : WordsError) (out : PromptWriter W) (o : TaskOutcome) → AsksFor words (Err error)
+    → IsWordsEnd error o
     → Executes contents words out out (record { outcome = o; why = None })
 unasked contents words (Wrong text) out o none is =
     let ending : Ending = record { outcome = o; why = None } in
-    let serves : Serves None (held contents out) (held contents out) ending = ((wrong (string_bytes text) o is, refl), refl) in
+    let serves : Serves None (held contents out)
+    (held contents out) ending = ((wrong (string_bytes text) o is, refl), refl) in
     inr (record {
       given = out;
       ended = ending;
-      serves = subst (λ (x : Option TaskRequest). Serves x (held contents out) (held contents out) ending) (sym none) serves;
+      serves =
+          subst (λ (x : Option TaskRequest). Serves x (held contents out)
+          (held contents out) ending) (sym none) serves;
       hands_on = handed contents out ending (wrong_silent (string_bytes text) o is);
     })
 unasked contents words Memory out o none is = inl ((is, refl), refl)

@@ -28,7 +28,7 @@ cause_line Unsupported = codes "\nthe operation is not supported\n"
 cause_line OutOfMemory = codes "\nout of memory\n"
 cause_line kind = codes "\nthe system gave another error\n"
 
--- the same where the cause may not be known
+-- the end of the line, and the line with the cause if it is known
 abbrev pub line_after : Option ErrorKind → List ℕ
 line_after None = codes "\n"
 line_after (Some kind) = cause_line kind

@@ -31,21 +31,23 @@ MakesNone path old new result = IsMakeFailure path result × (new ≡ old)
 
 -- the image could not be read, or its bytes are refused
 abbrev pub LoadsNone : List ℕ → Option (List ℕ) → Option (List ℕ) → TaskOutcome → Type 0
-LoadsNone path old new result = ReadsNone path old new result ⊎ ((bytes : List ℕ) × RefusesImage bytes old new result)
+LoadsNone path old new result =
+    ReadsNone path old new result ⊎ ((bytes : List ℕ) × RefusesImage bytes old new result)
 
 -- an image was read, and P holds of its program
 abbrev pub ReadsImage : (Program → Type 0) → Type 0
 ReadsImage P = (p : Program) × IsImage p × P p
 
--- the image could not be read, or after it the table; or one of the two is refused, and what the
--- message says beside that is true
+-- the image could not be read, or after it the table; or one of the two is refused, and the text at
+-- the end of the message says what is known
 abbrev pub ShowsNone : ProofFiles → Option (List ℕ) → Option (List ℕ) → Ending → Type 0
 ShowsNone files old new result =
     Plainly (LoadsNone files.image old new) result
     ⊎ ReadsImage (λ p. Plainly (ReadsNone files.table old new) result
-    ⊎ ((bytes : List ℕ) × RefusesTable p bytes old new result.outcome × IsKnownOfTable p bytes result))
+    ⊎ ((bytes : List ℕ) × RefusesTable p bytes old new result.outcome
+    × IsKnownOfTable p bytes result))
 
--- a table was read, and it shows this bound of the program
+-- a table was read, and it shows this bound for the program
 abbrev pub IsShown : Bounded → Type 0
 IsShown v = (bytes : List ℕ) × IsBoundShown v.program bytes v.bound
 
@@ -53,88 +55,112 @@ IsShown v = (bytes : List ℕ) × IsBoundShown v.program bytes v.bound
 abbrev pub ShowsSome : (Bounded → Type 0) → Type 0
 ShowsSome P = (v : Bounded) × IsShown v × P v
 
--- the frame stream could not be opened, or the file of the frames out not be made
+-- the frame stream could not be opened, or the file for the frames out could not be made
 abbrev pub OpensNone : RunFiles → Option (List ℕ) → Option (List ℕ) → TaskOutcome → Type 0
-OpensNone files old new result = ReadsNone files.frames old new result ⊎ MakesNone files.out old new result
+OpensNone files old new result =
+    ReadsNone files.frames old new result ⊎ MakesNone files.out old new result
 
--- a run over some source, which begins as some file does; the frames out go to the file at the path
-pub record TracesSome (p : Program) (limit : ℕ) (out : List ℕ) (old new : Option (List ℕ)) (result : Ending) : Type 0 where
+-- a program is traced on some source, whose first bytes have some form; the frames out are written
+-- to the file at the path
+pub record TracesSome (p : Program) (limit : ℕ) (out : List ℕ) (old new : Option (List ℕ))
+    (result : Ending) : Type 0 where
   pub source : Option (List ℕ)
   pub form : FileForm
   pub before : Option (List ℕ)
   pub after : Option (List ℕ)
   pub cause : Option ErrorKind
-  pub traces : Traces p limit source form out cause (record { report = old; frames = before }) (record { report = new; frames = after }) result
+  pub traces : Traces p limit source form out cause (record { report = old; frames = before })
+      (record { report = new; frames = after }) result
 
-pub record RunsSome (v : Bounded) (out : List ℕ) (old new : Option (List ℕ)) (result : TaskOutcome) : Type 0 where
+-- the same for a program with its bound that is run
+pub record RunsSome (v : Bounded) (out : List ℕ) (old new : Option (List ℕ))
+    (result : TaskOutcome) : Type 0 where
   pub source : Option (List ℕ)
   pub form : FileForm
   pub before : Option (List ℕ)
   pub after : Option (List ℕ)
   pub cause : Option ErrorKind
-  pub runs : RunsAccepted v source form out cause (record { report = old; frames = before }) (record { report = new; frames = after }) result
+  pub runs : RunsAccepted v source form out cause (record { report = old; frames = before })
+      (record { report = new; frames = after }) result
 
--- the image of a program was written to the file at the path, and its size was said
-pub record StoresSome (p : Program) (path : List ℕ) (old new : Option (List ℕ)) (result : TaskOutcome) : Type 0 where
+-- the image of a program was written to the file at the path, and then the line with its size
+pub record StoresSome (p : Program) (path : List ℕ) (old new : Option (List ℕ))
+    (result : TaskOutcome) : Type 0 where
   pub before : Option (List ℕ)
   pub after : Option (List ℕ)
   pub stores : StoresImage p (size_line p) path before after old new result
 
--- a proof table was written to the file at the path, and the bound was said
-pub record ProvesSome (p : Program) (bound : ℕ) (path : List ℕ) (old new : Option (List ℕ)) (result : TaskOutcome) : Type 0 where
+-- a proof table was written to the file at the path, and then the line with the bound
+pub record ProvesSome (p : Program) (bound : ℕ) (path : List ℕ) (old new : Option (List ℕ))
+    (result : TaskOutcome) : Type 0 where
   pub before : Option (List ℕ)
   pub after : Option (List ℕ)
   pub stores : StoresTable p (bound_line bound) path before after old new result
 
 -- ---- the commands
 
--- standard error says where the runs stopped that ended without an action
+-- `trace`: the text at the end of the message says where runs stopped without an action
 abbrev pub TracesFile : RunFiles → ℕ → Option (List ℕ) → Option (List ℕ) → Ending → Type 0
 TracesFile files limit old new result =
     Plainly (LoadsNone files.image old new) result
-    ⊎ ReadsImage (λ p. Plainly (OpensNone files old new) result ⊎ TracesSome p limit files.out old new result)
+    ⊎ ReadsImage
+    (λ p. Plainly (OpensNone files old new) result ⊎ TracesSome p limit files.out old new result)
 
 -- a program with its bound is run
 abbrev pub RunsOn : RunFiles → Bounded → Option (List ℕ) → Option (List ℕ) → TaskOutcome → Type 0
 RunsOn files v old new result = OpensNone files old new result ⊎ RunsSome v files.out old new result
 
 -- a program is accepted, with its bound, and run
-abbrev pub AcceptsAndRuns : RunFiles → Program → Option (List ℕ) → Option (List ℕ) → TaskOutcome → Type 0
+abbrev pub AcceptsAndRuns : RunFiles → Program → Option (List ℕ) → Option (List ℕ) → TaskOutcome
+    → Type 0
 AcceptsAndRuns files p old new result =
-    (bound : ℕ) × IsBoundOf p bound × RunsOn files (record { program = p; bound = bound }) old new result
+    (bound : ℕ) × IsBoundOf p bound
+    × RunsOn files (record { program = p; bound = bound }) old new result
 
--- if the program is refused, what else the message says is known
+-- `run`: if the program is refused, the text at the end of the message says what is known
 abbrev pub RunsFile : RunFiles → Option (List ℕ) → Option (List ℕ) → Ending → Type 0
 RunsFile files old new result =
     Plainly (LoadsNone files.image old new) result
-    ⊎ ReadsImage (λ p. (RefusesProgram p old new result.outcome ⊎ AcceptsAndRuns files p old new result.outcome) × IsKnownOfProgram p result)
+    ⊎ ReadsImage
+    (λ p. (RefusesProgram p old new result.outcome ⊎ AcceptsAndRuns files p old new result.outcome)
+    × IsKnownOfProgram p result)
 
--- the same where a table takes the place of the verifier
+-- `run --table`: a table takes the place of the verifier
 abbrev pub RunsShown : RunFiles → List ℕ → Option (List ℕ) → Option (List ℕ) → Ending → Type 0
 RunsShown files table old new result =
-    ShowsNone (record { image = files.image; table = table }) old new result ⊎ ShowsSome (λ v. Plainly (RunsOn files v old new) result)
+    ShowsNone (record { image = files.image; table = table }) old new result
+    ⊎ ShowsSome (λ v. Plainly (RunsOn files v old new) result)
 
--- the bound that a table shows is said
+-- `recheck`: standard output says the bound that a table shows
 abbrev pub RechecksFile : ProofFiles → Option (List ℕ) → Option (List ℕ) → Ending → Type 0
 RechecksFile files old new result =
     ShowsNone files old new result ⊎ ShowsSome (λ v. Plainly (Accepts v old new) result)
 
+-- `verify`: standard output says the verdict
 abbrev pub VerifiesFile : List ℕ → Option (List ℕ) → Option (List ℕ) → Ending → Type 0
 VerifiesFile path old new result =
-    Plainly (LoadsNone path old new) result ⊎ ReadsImage (λ p. Verifies p old new result.outcome × IsKnownOfProgram p result)
+    Plainly (LoadsNone path old new) result
+    ⊎ ReadsImage (λ p. Verifies p old new result.outcome × IsKnownOfProgram p result)
 
 -- a program is accepted, with its bound, and then a table of it is written
-abbrev pub AcceptsAndProves : List ℕ → Program → Option (List ℕ) → Option (List ℕ) → TaskOutcome → Type 0
+abbrev pub AcceptsAndProves : List ℕ → Program → Option (List ℕ) → Option (List ℕ) → TaskOutcome
+    → Type 0
 AcceptsAndProves table p old new result =
-    (bound : ℕ) × IsBoundOf p bound × (MakesNone table old new result ⊎ ProvesSome p bound table old new result)
+    (bound : ℕ) × IsBoundOf p bound
+    × (MakesNone table old new result ⊎ ProvesSome p bound table old new result)
 
+-- `prove`: if the program is refused, the text at the end of the message says what is known
 abbrev pub ProvesFile : ProofFiles → Option (List ℕ) → Option (List ℕ) → Ending → Type 0
 ProvesFile files old new result =
     Plainly (LoadsNone files.image old new) result
-    ⊎ ReadsImage (λ p. (RefusesProgram p old new result.outcome ⊎ AcceptsAndProves files.table p old new result.outcome) × IsKnownOfProgram p result)
+    ⊎ ReadsImage
+    (λ p. (RefusesProgram p old new result.outcome
+    ⊎ AcceptsAndProves files.table p old new result.outcome) × IsKnownOfProgram p result)
 
+-- `dis`: standard output gets the text of the image's program
 abbrev pub DisassemblesFile : List ℕ → Option (List ℕ) → Option (List ℕ) → TaskOutcome → Type 0
-DisassemblesFile path old new result = LoadsNone path old new result ⊎ ReadsImage (λ p. Says old new (canonical_text p) outcome.Done result)
+DisassemblesFile path old new result = LoadsNone path old new result
+    ⊎ ReadsImage (λ p. Says old new (canonical_text p) outcome.Done result)
 
 -- a text was read, and it spells a program with the property P
 abbrev pub ReadsText : List ℕ → (Program → Type 0) → Type 0
@@ -143,17 +169,19 @@ ReadsText source P = (p : Program) × (assembled source ≡ Ok p) × P p
 -- a text that was read is refused, or its image is written to the file at the path
 abbrev pub Assembles : List ℕ → List ℕ → Option (List ℕ) → Option (List ℕ) → TaskOutcome → Type 0
 Assembles source image old new result =
-    RefusesText source old new result ⊎ ReadsText source (λ p. MakesNone image old new result ⊎ StoresSome p image old new result)
+    RefusesText source old new result
+    ⊎ ReadsText source (λ p. MakesNone image old new result ⊎ StoresSome p image old new result)
 
--- where the text is refused, what is shown of it is known
+-- `asm`: if the text is refused, the text at the end of the message shows its line
 abbrev pub AssemblesFile : List ℕ → List ℕ → Option (List ℕ) → Option (List ℕ) → Ending → Type 0
 AssemblesFile text image old new result =
     Plainly (ReadsNone text old new) result
-    ⊎ ((source : List ℕ) × Assembles source image old new result.outcome × IsKnownOfText source result)
+    ⊎ ((source : List ℕ) × Assembles source image old new result.outcome
+    × IsKnownOfText source result)
 
 -- ---- the program
 
--- what is done where this is asked for
+-- what is done for a request, or where the arguments make none
 abbrev pub Serves : Option TaskRequest → Option (List ℕ) → Option (List ℕ) → Ending → Type 0
 Serves None old new result = Plainly (λ o. IsWrongWords o × (new ≡ old)) result
 Serves (Some (Trace files limit)) old new result = TracesFile files limit old new result

@@ -1,4 +1,4 @@
--- What the program does where it is given words.
+-- What the program does for its arguments, and what standard error gets.
 use Rattle.std.specs.Prelude.{◌≡◌, ℕ, List, ◌++◌, Option, Some, ◌⊎◌}
 use Rattle.exact_io.specs.declared.buffering.PromptWriter.{PromptWriter}
 use Rattle.exact_io.specs.Waiting.{held}
@@ -27,37 +27,45 @@ use Rattle.commands.specs.Stopped.{stop_lines}
 use Rattle.commands.specs.Saying.{AppendsPart, LacksMemory}
 use Rattle.commands.specs.Known.{Plainly, told_of}
 use Rattle.commands.specs.Commands.{Serves}
-use Rattle.commands.specs.HandingOn.{Flushes}
+use Rattle.commands.specs.Flushing.{Flushes}
 
--- What is asked for was done, and ended in some way; then standard output was flushed. Where only
--- that fails, the program ends with this failure.
-pub record ServesWhole {W : Type 0} (contents : W → Option (List ℕ)) (request : Option TaskRequest) (old new : PromptWriter W) (result : Ending) : Type 0 where
+-- The request was served, which ended in some way; then standard output was flushed. If only the
+-- flush failed, the program ends with that failure.
+pub record ServesWhole {W : Type 0} (contents : W → Option (List ℕ)) (request : Option TaskRequest)
+    (old new : PromptWriter W) (result : Ending) : Type 0 where
   pub given : PromptWriter W
   pub ended : Ending
   pub serves : Serves request (held contents old) (held contents given) ended
   pub hands_on : Flushes contents given new ended result
 
--- the program does what the words ask for; or memory ran out before that was known
-abbrev pub Executes : {W : Type 0} → (W → Option (List ℕ)) → List (List ℕ) → PromptWriter W → PromptWriter W → Ending → Type 0
+-- the program does what the arguments ask for; or memory ran out before that was known
+abbrev pub Executes : {W : Type 0} → (W → Option (List ℕ)) → List (List ℕ) → PromptWriter W
+    → PromptWriter W → Ending → Type 0
 Executes contents words old new result =
-    Plainly (LacksMemory (held contents old) (held contents new)) result ⊎ ServesWhole contents (asked words) old new result
+    Plainly (LacksMemory (held contents old) (held contents new)) result
+    ⊎ ServesWhole contents (asked words) old new result
 
--- the program does what the words ask for, answers how that ended, and writes its messages to
--- standard error
-abbrev pub AnswersWords : {W : Type 0} → (W → Option (List ℕ)) → List (List ℕ) → PromptWriter W → PromptWriter W → Option (List ℕ) → Option (List ℕ) → ℕ → Type 0
+-- the program does what the arguments ask for, returns the status of how that ended, and writes its
+-- messages to standard error
+abbrev pub AnswersWords : {W : Type 0} → (W → Option (List ℕ)) → List (List ℕ) → PromptWriter W
+    → PromptWriter W → Option (List ℕ) → Option (List ℕ) → ℕ → Type 0
 AnswersWords contents words old new before after status =
-    (e : Ending) × (status ≡ status_of e.outcome) × Executes contents words old new e × AppendsPart before after (told_of e)
+    (e : Ending) × (status ≡ status_of e.outcome) × Executes contents words old new e
+    × AppendsPart before after (told_of e)
 
--- the words could not be read: standard error says why, and nothing is done
-abbrev pub AnswersError : {W : Type 0} → WordsError → PromptWriter W → PromptWriter W → Option (List ℕ) → Option (List ℕ) → ℕ → Type 0
+-- the arguments could not be read: standard error says why, and nothing is done
+abbrev pub AnswersError : {W : Type 0} → WordsError → PromptWriter W → PromptWriter W
+    → Option (List ℕ) → Option (List ℕ) → ℕ → Type 0
 AnswersError error old new before after status =
-    (o : TaskOutcome) × IsWordsEnd error o × (status ≡ status_of o) × (new ≡ old) × AppendsPart before after (message_of o)
+    (o : TaskOutcome) × IsWordsEnd error o × (status ≡ status_of o) × (new ≡ old)
+    × AppendsPart before after (message_of o)
 
 -- standard error got why something is refused, or a beginning of it
 abbrev pub TellsReason : Option (List ℕ) → Option (List ℕ) → Type 0
 TellsReason old new = (rejection : Rejection) × AppendsPart old new (reason_of rejection)
 
--- a program is refused, and standard error got why, and then what is known of that refusal; or a beginning of it
+-- a program is refused, and standard error got why, and then what is known of that refusal; or a
+-- beginning of this text
 pub record TellsKnown (old new : Option (List ℕ)) : Type 0 where
   pub program : Program
   pub refusal : Refusal
@@ -67,8 +75,8 @@ pub record TellsKnown (old new : Option (List ℕ)) : Type 0 where
   pub known : IsReason program refusal slot why
   pub said : AppendsPart old new (reason_of (rejection.Program refusal slot insn) ++ why)
 
--- a table is refused, and standard error got why, and then what is known of the entry whose step was tested; or a beginning
--- of it
+-- a table is refused, and standard error got why, and then what is known of the entry whose step
+-- was tested; or a beginning of this text
 pub record TellsEntryKnown (old new : Option (List ℕ)) : Type 0 where
   pub program : Program
   pub bytes : List ℕ
@@ -79,7 +87,8 @@ pub record TellsEntryKnown (old new : Option (List ℕ)) : Type 0 where
   pub known : IsEntryReason program bytes error slot insn why
   pub said : AppendsPart old new (reason_of (rejection.Table error (Some (slot, insn))) ++ why)
 
--- a text is refused, and standard error got why, and then what is shown of it; or a beginning of it
+-- a text is refused, and standard error got why, and then its line and a hint; or a beginning of
+-- these lines
 pub record TellsShown (old new : Option (List ℕ)) : Type 0 where
   pub source : List ℕ
   pub error : AsmError
@@ -87,18 +96,21 @@ pub record TellsShown (old new : Option (List ℕ)) : Type 0 where
   pub known : why ≡ shown source error
   pub said : AppendsPart old new (reason_of (rejection.Text error) ++ why)
 
+-- standard error got why something is refused, with what is known of it, or a beginning of that
 abbrev pub IsTold : Option (List ℕ) → Option (List ℕ) → Type 0
-IsTold old new = TellsReason old new ⊎ (TellsKnown old new ⊎ (TellsEntryKnown old new ⊎ TellsShown old new))
+IsTold old new =
+    TellsReason old new ⊎ (TellsKnown old new ⊎ (TellsEntryKnown old new ⊎ TellsShown old new))
 
--- standard error got why a frame stream ended early, and for a trace where the runs of frames
--- stopped; or a beginning of it
+-- standard error got why a frame stream ended early, and after a trace where runs stopped that
+-- ended without an action; or a beginning of this text
 abbrev pub TellsFault : Option (List ℕ) → Option (List ℕ) → Type 0
 TellsFault old new =
     (fault : Fault) × (form : FileForm)
-    × (AppendsPart old new (fault_lines fault form) ⊎ ((noted : Noted) × AppendsPart old new (fault_lines fault form ++ stop_lines noted)))
+    × (AppendsPart old new (fault_lines fault form)
+    ⊎ ((noted : Noted) × AppendsPart old new (fault_lines fault form ++ stop_lines noted)))
 
--- the words ask for a trace, and standard error got where the runs of frames stopped that ended without an action, or a
--- beginning of it
+-- the arguments ask for a trace, and standard error got where runs stopped that ended without an
+-- action, or a beginning of this text
 pub record TellsTrace (words : List (List ℕ)) (old new : Option (List ℕ)) : Type 0 where
   pub files : RunFiles
   pub limit : ℕ
@@ -106,6 +118,6 @@ pub record TellsTrace (words : List (List ℕ)) (old new : Option (List ℕ)) : 
   pub noted : Noted
   pub said : AppendsPart old new (stop_lines noted)
 
--- where all is done standard error gets nothing, except for a trace
+-- after a task that was done standard error has got nothing, unless the task was a trace
 abbrev pub TellsDone : List (List ℕ) → Option (List ℕ) → Option (List ℕ) → Type 0
 TellsDone words old new = (new ≡ old) ⊎ TellsTrace words old new

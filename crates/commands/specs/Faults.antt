@@ -1,4 +1,4 @@
--- Why a frame stream ended early, and what helps.
+-- Why a frame stream ended early, and a hint.
 use Rattle.std.specs.Prelude.{ℕ, List, ◌++◌, codes}
 use Rattle.isa_model.specs.declared.streams.Fault.{Fault}
 use Rattle.isa_model.specs.declared.streams.Fault.TheVariants.{BadMagic, TruncatedHead, TooLong, TruncatedBody, ReadFailed, TooManyRecords}
@@ -10,12 +10,13 @@ use Rattle.commands.specs.Forms.{stream_line}
 abbrev pub fault_help : Fault → FileForm → List ℕ
 fault_help BadMagic form = stream_line form
 fault_help TruncatedHead form = codes "\nthe file was cut: make it again\n"
-fault_help TooLong form = codes "\nshorten the frame, or make a stream of XPF2 by frames.py --reasons\n"
+fault_help TooLong form =
+    codes "\nshorten the frame, or make a stream of XPF2 by frames.py --reasons\n"
 fault_help TruncatedBody form = codes "\nthe file was cut: make it again\n"
 fault_help ReadFailed form = codes "\nsee that it is a file, and that the disk is sound\n"
 fault_help TooManyRecords form = codes "\nsplit the stream\n"
 
--- what the frames out are, where no frame could be found
+-- what the frames out hold, if the stream's magic is wrong
 abbrev pub fault_rest : Fault → List ℕ
 fault_rest BadMagic = codes "the frames out are a magic alone\n"
 fault_rest fault = codes ""

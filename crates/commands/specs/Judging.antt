@@ -29,73 +29,85 @@ use Rattle.commands.specs.Statuses.{IsWriteFailure}
 use Rattle.commands.specs.Lines.{image_line, verdict_line, table_line, text_line, bound_line, is_memory, is_table_memory}
 use Rattle.commands.specs.Saying.{Says, LacksMemory}
 
--- bytes are no image, and standard output says why; or memory ran out
+-- bytes are not an image, and standard output says why; or memory ran out
 abbrev pub RefusesImage : List ℕ → Option (List ℕ) → Option (List ℕ) → TaskOutcome → Type 0
 RefusesImage bytes old new result =
     LacksMemory old new result
-    ⊎ ((error : ImageError) × (refusal_of bytes ≡ Some error) × Says old new (image_line error) (Refused (rejection.Image error (file_form_of bytes))) result)
+    ⊎ ((error : ImageError) × (refusal_of bytes ≡ Some error)
+    × Says old new (image_line error) (Refused (rejection.Image error (file_form_of bytes))) result)
 
 -- standard output says that a program is refused at a slot, where this instruction begins;
 -- or memory ran out
-abbrev pub SaysRefused : Refusal → ℕ → Option Insn → Option (List ℕ) → Option (List ℕ) → TaskOutcome → Type 0
+abbrev pub SaysRefused : Refusal → ℕ → Option Insn → Option (List ℕ) → Option (List ℕ) → TaskOutcome
+    → Type 0
 SaysRefused refusal slot insn old new result =
     LacksMemory old new result
-    ⊎ ((is_memory refusal ≡ false) × Says old new (verdict_line refusal slot) (Refused (rejection.Program refusal slot insn)) result)
+    ⊎ ((is_memory refusal ≡ false)
+    × Says old new (verdict_line refusal slot)
+    (Refused (rejection.Program refusal slot insn)) result)
 
 -- a program is refused, and standard output says why and where; or memory ran out
 abbrev pub RefusesProgram : Program → Option (List ℕ) → Option (List ℕ) → TaskOutcome → Type 0
 RefusesProgram p old new result =
     LacksMemory old new result
     ⊎ ((refusal : Refusal) × (slot : ℕ) × IsRefused p refusal slot × (is_memory refusal ≡ false)
-    × Says old new (verdict_line refusal slot) (Refused (rejection.Program refusal slot (fetch p slot))) result)
+    × Says old new (verdict_line refusal slot)
+    (Refused (rejection.Program refusal slot (fetch p slot))) result)
 
 -- standard output says the bound of an accepted program; or memory ran out
 abbrev pub Accepts : Bounded → Option (List ℕ) → Option (List ℕ) → TaskOutcome → Type 0
-Accepts v old new result = LacksMemory old new result ⊎ Says old new (bound_line v.bound) Done result
+Accepts v old new result =
+    LacksMemory old new result ⊎ Says old new (bound_line v.bound) Done result
 
--- the bound of an accepted program: every run exits within it;
--- it is the number of the start state; and it is small
--- enough, or the very one, where that is known of a program that must be accepted
+-- the bound of an accepted program: every run exits within it, it is the number of the start state,
+-- and `BoundsAll` says more of it for programs that must be accepted
 pub record IsBoundOf (p : Program) (bound : ℕ) : Type 0 where
   pub verified : IsVerified (record { program = p; bound = bound })
   pub number : HasNumber p start bound
   pub bounds : BoundsAll p bound
 
--- a program is accepted with its bound, and this is the bound that is said
+-- a program is accepted with its bound, and standard output says this bound
 abbrev pub AcceptsSome : Program → Option (List ℕ) → Option (List ℕ) → TaskOutcome → Type 0
-AcceptsSome p old new result = (bound : ℕ) × IsBoundOf p bound × Accepts (record { program = p; bound = bound }) old new result
+AcceptsSome p old new result =
+    (bound : ℕ) × IsBoundOf p bound × Accepts (record { program = p; bound = bound }) old new result
 
 abbrev pub Verifies : Program → Option (List ℕ) → Option (List ℕ) → TaskOutcome → Type 0
 Verifies p old new result = AcceptsSome p old new result ⊎ RefusesProgram p old new result
 
 -- ---- tables
 
--- The bound that a table shows, whoever made it: its bytes are a closed table of the program with
--- this number first, and so every run exits within it.
+-- The bound that a table shows, whoever made the table: its bytes are a closed table of the program
+-- with this number first, and so every run exits within it.
 pub record IsBoundShown (p : Program) (bytes : List ℕ) (bound : ℕ) : Type 0 where
   pub verified : IsVerified (record { program = p; bound = bound })
   pub shows : ShowsBound p bytes bound
 
--- standard output says that a table is refused; the slot of an entry whose step was tested may be
--- known. Or memory ran out
-abbrev pub SaysTable : TableError → Option (ℕ × Insn) → Option (List ℕ) → Option (List ℕ) → TaskOutcome → Type 0
-SaysTable error place old new result =
-    LacksMemory old new result ⊎ Says old new (table_line error) (Refused (rejection.Table error place)) result
+-- standard output says that a table is refused, where the slot of an entry whose step was tested
+-- may be known; or memory ran out
+abbrev pub SaysTable : TableError → Option (ℕ × Insn) → Option (List ℕ) → Option (List ℕ)
+    → TaskOutcome → Type 0
+SaysTable error position old new result =
+    LacksMemory old new result
+    ⊎ Says old new (table_line error) (Refused (rejection.Table error position)) result
 
--- the same, where this is the refusal of the program with those bytes as its table; if the control
--- flow is not good, the message says that the program is refused
+-- the same for a refusal of a table of this program; if the program's control flow is refused, the
+-- message says that the program is
 abbrev pub SaysOfTable : Program → TableError → Option (List ℕ) → Option (List ℕ) → TaskOutcome
     → Type 0
-SaysOfTable p (table.Flow error slot) old new result = SaysRefused (Flow error) slot (fetch p slot) old new result
+SaysOfTable p (table.Flow error slot) old new result =
+    SaysRefused (Flow error) slot (fetch p slot) old new result
 SaysOfTable p error old new result =
     LacksMemory old new result
-    ⊎ ((place : Option (ℕ × Insn)) × (is_table_memory error ≡ false) × Says old new (table_line error) (Refused (rejection.Table error place)) result)
+    ⊎ ((position : Option (ℕ × Insn)) × (is_table_memory error ≡ false)
+    × Says old new (table_line error) (Refused (rejection.Table error position)) result)
 
 -- a table is refused, and standard output says why and where; or memory ran out
 abbrev pub RefusesTable : Program → List ℕ → Option (List ℕ) → Option (List ℕ) → TaskOutcome
     → Type 0
 RefusesTable p bytes old new result =
-    LacksMemory old new result ⊎ ((error : TableError) × rechecking.TableIsRefused p bytes error × SaysOfTable p error old new result)
+    LacksMemory old new result
+    ⊎ ((error : TableError) × rechecking.TableIsRefused p bytes error
+    × SaysOfTable p error old new result)
 
 -- ---- texts
 
@@ -110,9 +122,10 @@ RefusesText source old new result =
 abbrev pub IsStoreFailure : List ℕ → TaskOutcome → Type 0
 IsStoreFailure name result = (result ≡ NoMemory) ⊎ IsWriteFailure name result
 
--- an image was written, and then standard output says the line;
--- or a beginning of it, and standard output got nothing
-abbrev pub StoresImage : Program → List ℕ → List ℕ → Option (List ℕ) → Option (List ℕ) → Option (List ℕ) → Option (List ℕ) → TaskOutcome → Type 0
+-- an image was written, and then standard output says the line; or a beginning of the image was,
+-- and standard output got nothing
+abbrev pub StoresImage : Program → List ℕ → List ℕ → Option (List ℕ) → Option (List ℕ)
+    → Option (List ℕ) → Option (List ℕ) → TaskOutcome → Type 0
 StoresImage p line name before after old new result =
     (Appends before after (image_bytes p) × Says old new line Done result)
     ⊎ (AppendsBeginning before after (image_bytes p) × IsStoreFailure name result × (new ≡ old))

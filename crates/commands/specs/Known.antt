@@ -1,5 +1,5 @@
--- What is known of a refused program or proof table. The message says it after the sentence and the
--- place.
+-- What is known of a refused program, proof table or text. The message says it after the sentence
+-- and the position.
 use Rattle.std.specs.Prelude.{◌≡◌, ℕ, List, ◌++◌, Option, Some, None, String, IfSome, IsSomeAnd, option_map}
 use Rattle.std.specs.declared.alloc.Global.{Global}
 use Rattle.std.specs.String.{string_bytes}
@@ -15,17 +15,19 @@ use Rattle.commands.specs.declared.outcomes.TaskOutcome.TheVariants.{Refused}
 use Rattle.commands.specs.declared.endings.Ending.{Ending}
 use Rattle.commands.specs.Statuses.{message_of}
 
--- the text that a message has after a task on this program: it has one only where the program was
--- refused, and that is what is known of the refusal at its slot
+-- the text at the end of the message after a task on this program: there is one only if the program
+-- was refused, and it says what is known of the refusal at its slot
 abbrev pub Tells : Program → TaskOutcome → Option (String Global) → Type 0
-Tells p (Refused (rejection.Program refusal slot insn)) why = IfSome why (λ text. IsReason p refusal slot (string_bytes text))
+Tells p (Refused (rejection.Program refusal slot insn)) why =
+    IfSome why (λ text. IsReason p refusal slot (string_bytes text))
 Tells p outcome why = why ≡ None
 
 abbrev pub IsKnownOfProgram : Program → Ending → Type 0
 IsKnownOfProgram p ending = Tells p ending.outcome ending.why
 
--- the text after a task on these bytes as a proof table of the program: if the step of an entry was
--- tested, the message may name its slot and its instruction, and the text is what is known there
+-- the text at the end of the message after a task on these bytes as a proof table of the program:
+-- if the step of an entry was tested, the message may name its slot and its instruction, and the
+-- text says what is known there
 abbrev pub TellsTable : Program → List ℕ → TaskOutcome → Option (String Global) → Type 0
 TellsTable p bytes (Refused (rejection.Table error (Some (slot, insn)))) why =
     IsSomeAnd why (λ text. IsEntryReason p bytes error slot insn (string_bytes text))
@@ -34,24 +36,26 @@ TellsTable p bytes outcome why = why ≡ None
 abbrev pub IsKnownOfTable : Program → List ℕ → Ending → Type 0
 IsKnownOfTable p bytes ending = TellsTable p bytes ending.outcome ending.why
 
--- the text after a task that read this program text: where it was refused, the line with a caret
+-- the text at the end of the message after a task that read this program text: if it was refused,
+-- the line with a caret
 abbrev pub TellsText : List ℕ → TaskOutcome → Option (String Global) → Type 0
-TellsText source (Refused (rejection.Text error)) why = IfSome why (λ text. string_bytes text ≡ shown source error)
+TellsText source (Refused (rejection.Text error)) why =
+    IfSome why (λ text. string_bytes text ≡ shown source error)
 TellsText source outcome why = why ≡ None
 
 abbrev pub IsKnownOfText : List ℕ → Ending → Type 0
 IsKnownOfText source ending = TellsText source ending.outcome ending.why
 
--- ---- what was found of an entry
+-- ---- what was found about an entry
 
 -- the slot of its step, and the instruction there
-abbrev pub place_found : Option EntryReason → Option (ℕ × Insn)
-place_found found = option_map (λ f. (f.slot, f.insn)) found
+abbrev pub position_found : Option EntryReason → Option (ℕ × Insn)
+position_found found = option_map (λ f. (f.slot, f.insn)) found
 
 abbrev pub why_found : Option EntryReason → Option (String Global)
 why_found found = option_map (λ f. f.text) found
 
--- a text is kept only with a refusal
+-- a text is kept only after a refusal
 abbrev pub with_refusal : TaskOutcome → Option (String Global) → Option (String Global)
 with_refusal (Refused rejection) why = why
 with_refusal outcome why = None
@@ -67,5 +71,6 @@ abbrev pub outcome_text : TaskOutcome → Option (String Global) → List ℕ
 outcome_text outcome None = message_of outcome
 outcome_text outcome (Some text) = message_of outcome ++ string_bytes text
 
+-- the same for how a task ended
 abbrev pub told_of : Ending → List ℕ
 told_of ending = outcome_text ending.outcome ending.why

@@ -4,7 +4,7 @@ pub mod Forms
 pub mod Messages
 pub mod Statuses
 pub mod Known
-pub mod HandingOn
+pub mod Flushing
 pub mod Lines
 pub mod Saying
 pub mod Judging

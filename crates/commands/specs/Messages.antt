@@ -7,7 +7,7 @@ use Rattle.image.specs.declared.errors.ImageError.TheVariants.{Magic, MapRow, Co
 use Rattle.image.specs.Messages as image
 use Rattle.walks.specs.Messages as walks
 use Rattle.transfer.specs.Messages as transfer
-use Rattle.table_entries.specs.declared.faults.TableRefusal.TheVariants as fault
+use Rattle.table_entries.specs.declared.refusals.TableRefusal.TheVariants as table_refusal
 use Rattle.rechecking.specs.declared.errors.TableError.{TableError}
 use Rattle.rechecking.specs.declared.errors.TableError.TheVariants as table
 use Rattle.rechecking.specs.Messages as rechecking
@@ -22,11 +22,11 @@ use Rattle.commands.specs.declared.rejections.Rejection.TheVariants.{Image, Prog
 abbrev pub sentence_of : Rejection → List ℕ
 sentence_of (Image error form) = image.sentence_of error
 sentence_of (Program refusal slot insn) = walks.sentence_of refusal
-sentence_of (Table error place) = rechecking.sentence_of error
+sentence_of (Table error position) = rechecking.sentence_of error
 sentence_of Explored = proof_table.sentence_of unwritten.Explored
 sentence_of (Text error) = assembler.sentence_of error.kind
 
--- ---- where it is, each a line
+-- ---- the position of what is refused, in a line
 
 -- a slot, and the instruction that begins there
 abbrev pub insn_position : ℕ → Insn → List ℕ
@@ -38,14 +38,15 @@ slot_position slot (Some insn) = insn_position slot insn
 
 abbrev pub text_position : ℕ → ℕ → List ℕ
 text_position line column =
-    (codes "line " ++ (decimal line ++ codes " ")) ++ (codes "column " ++ (decimal column ++ codes "\n"))
+    (codes "line " ++ (decimal line ++ codes " "))
+    ++ (codes "column " ++ (decimal column ++ codes "\n"))
 
--- ---- what helps
+-- ---- hints
 
 abbrev pub cure_line : ImageError → List ℕ
 cure_line error = image.cure_of error ++ codes "\n"
 
--- where a table is no proof of the program, or an entry of it has no meaning
+-- the hint where a table does not show a bound of the program, or an entry spells no state
 abbrev pub anew : List ℕ
 anew = codes "make the table anew: xdpvm prove IMAGE TABLE\n"
 
@@ -56,18 +57,19 @@ entry_anew index =
 abbrev pub entry_position : ℕ → List ℕ
 entry_position index = codes "entry " ++ (decimal index ++ codes "\n")
 
--- an entry, and the slot of its step with the instruction that begins there, where it is known
+-- an entry, and the slot of its step with the instruction that begins there, if they are known
 abbrev pub step_position : ℕ → Option (ℕ × Insn) → List ℕ
 step_position index None = entry_position index
 step_position index (Some (slot, insn)) = entry_position index ++ insn_position slot insn
 
--- a table is refused at an entry, or as a whole, and made anew; where its step is refused, with the
--- reason
+-- an entry that spells no state, and a hint; an entry whose step is refused, with the reason, or
+-- whose successor is; or a hint, for a table that is refused as a whole
 abbrev pub table_position : TableError → Option (ℕ × Insn) → List ℕ
-table_position (table.Fault (fault.Entry index)) place = entry_anew index
-table_position (table.Step index refusal) place = step_position index place ++ (transfer.sentence_of refusal ++ codes "\n")
-table_position (table.Successor index) place = step_position index place
-table_position error place = anew
+table_position (table.Bytes (table_refusal.Entry index)) position = entry_anew index
+table_position (table.Step index refusal) position =
+    step_position index position ++ (transfer.sentence_of refusal ++ codes "\n")
+table_position (table.Successor index) position = step_position index position
+table_position error position = anew
 
 abbrev pub slot_line : ℕ → List ℕ
 slot_line slot = codes "slot " ++ (decimal slot ++ codes "\n")
@@ -75,8 +77,8 @@ slot_line slot = codes "slot " ++ (decimal slot ++ codes "\n")
 abbrev pub map_line : ℕ → List ℕ
 map_line index = codes "map " ++ (decimal index ++ codes "\n")
 
--- an image is refused at a slot, at a map row, or as a whole; for another magic, what the file
--- looks like, else what helps
+-- an image is refused at a slot, at a map row, or as a whole, and a hint; for another magic, what
+-- the file looks like
 abbrev pub image_position : ImageError → FileForm → List ℕ
 image_position Magic form = file_line form
 image_position Memory form = []
@@ -89,10 +91,10 @@ image_position error form = cure_line error
 abbrev pub position_of : Rejection → List ℕ
 position_of (Image error form) = image_position error form
 position_of (Program refusal slot insn) = slot_position slot insn
-position_of (Table error place) = table_position error place
+position_of (Table error position) = table_position error position
 position_of Explored = []
 position_of (Text error) = text_position error.line error.column
 
--- the sentence in a line, and then where it is
+-- the sentence in a line, and then the position
 abbrev pub reason_of : Rejection → List ℕ
 reason_of rejection = (sentence_of rejection ++ codes "\n") ++ position_of rejection

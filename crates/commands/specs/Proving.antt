@@ -14,17 +14,24 @@ use Rattle.commands.specs.Saying.{LacksMemory, Says}
 use Rattle.commands.specs.Judging.{IsStoreFailure}
 use Rattle.commands.specs.Streams.{IsBeginningOf}
 
--- how the task ends where this is why no table was written to the file with this name
-abbrev pub EndsUnwritten : List ℕ → WriteTableError → Option (List ℕ) → Option (List ℕ) → TaskOutcome → Type 0
+-- how the task ends if the table was not written to the file with this name, for this reason
+abbrev pub EndsUnwritten : List ℕ → WriteTableError → Option (List ℕ) → Option (List ℕ)
+    → TaskOutcome → Type 0
 EndsUnwritten name Memory old new result = LacksMemory old new result
-EndsUnwritten name Explored old new result = LacksMemory old new result ⊎ Says old new explored_line (Refused rejection.Explored) result
-EndsUnwritten name (Writer kind) old new result = IsWriteFailureBy name (Some kind) result × (new ≡ old)
+EndsUnwritten name Explored old new result =
+    LacksMemory old new result ⊎ Says old new explored_line (Refused rejection.Explored) result
+EndsUnwritten name (Writer kind) old new result =
+    IsWriteFailureBy name (Some kind) result × (new ≡ old)
 
--- A table of the program was handed on for the file with this name, or a beginning of one. The file got all of the table,
--- and then standard output says the line; or it failed and got a beginning, and standard output got nothing; or it got a
--- beginning of what was handed on, and the table was not written for some reason.
-pub record StoresTable (p : Program) (line name : List ℕ) (before after old new : Option (List ℕ)) (result : TaskOutcome) : Type 0 where
+-- `handed` is what was written to the buffer of the file with this name: a table of the program, or
+-- a beginning of one. Either the file got the whole table, and then standard output says the line;
+-- or the file failed and got a beginning, and standard output got nothing; or the table was not
+-- written whole for some reason, and the file got a beginning of what was.
+pub record StoresTable (p : Program) (line name : List ℕ) (before after old new : Option (List ℕ))
+    (result : TaskOutcome) : Type 0 where
   pub handed : Option (List ℕ)
   pub ends : (GainsTable p before handed × Keeps handed after × Says old new line Done result)
-      ⊎ ((GainsTable p before handed × IsBeginningOf after handed × IsStoreFailure name result × (new ≡ old))
-      ⊎ (BeginsTable p before handed × IsBeginningOf after handed × ((error : WriteTableError) × EndsUnwritten name error old new result)))
+      ⊎ ((GainsTable p before handed × IsBeginningOf after handed × IsStoreFailure name result
+      × (new ≡ old))
+      ⊎ (BeginsTable p before handed × IsBeginningOf after handed
+      × ((error : WriteTableError) × EndsUnwritten name error old new result)))

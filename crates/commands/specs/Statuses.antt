@@ -1,4 +1,4 @@
--- How the program ends, and what the outputs have got by then.
+-- The program's status and its message on standard error, by how a task ended.
 use Rattle.std.specs.Prelude.{◌≡◌, ℕ, Bool, true, false, List, [], ◌++◌, Option, Some, codes}
 use Rattle.std.specs.declared.io.ErrorKind.{ErrorKind}
 use Rattle.std.specs.String.{string_bytes}
@@ -21,7 +21,7 @@ status_of (CannotWrite path cause) = 4
 status_of (CannotReplace path) = 4
 status_of NoMemory = 5
 
--- whether standard output has got nothing
+-- whether nothing was written to standard output
 abbrev pub is_silent : TaskOutcome → Bool
 is_silent Done = false
 is_silent (WrongWords text) = true
@@ -32,7 +32,7 @@ is_silent (CannotWrite path cause) = false
 is_silent (CannotReplace path) = true
 is_silent NoMemory = true
 
--- whether standard error has nothing to say
+-- whether there is no message on standard error
 abbrev pub is_unsaid : TaskOutcome → Bool
 is_unsaid Done = true
 is_unsaid (WrongWords text) = false
@@ -46,7 +46,7 @@ is_unsaid NoMemory = false
 abbrev pub usage : List ℕ
 usage = codes "usage: xdpvm asm|dis|verify|run|trace|prove|recheck\n"
 
--- what standard error gets
+-- the message on standard error
 abbrev pub message_of : TaskOutcome → List ℕ
 message_of Done = []
 message_of (WrongWords text) = text.now ++ usage
@@ -60,17 +60,17 @@ message_of NoMemory = codes "out of memory\n"
 
 -- ---- what an outcome is
 
--- the words ask for nothing, and this text says why
+-- the arguments ask for nothing, and this text says why
 abbrev pub SaysWrongWords : List ℕ → TaskOutcome → Type 0
 SaysWrongWords text (WrongWords said) = said.now ≡ text
 SaysWrongWords text outcome = ⊥
 
--- the words ask for nothing
+-- the arguments ask for nothing
 abbrev pub IsWrongWords : TaskOutcome → Type 0
 IsWrongWords (WrongWords said) = Unit {0}
 IsWrongWords outcome = ⊥
 
--- how the task ends where the words ask for nothing
+-- how the task ends if the arguments ask for nothing
 abbrev pub IsWordsEnd : WordsError → TaskOutcome → Type 0
 IsWordsEnd (Wrong text) outcome = SaysWrongWords (string_bytes text) outcome
 IsWordsEnd Memory outcome = outcome ≡ NoMemory
@@ -80,7 +80,7 @@ abbrev pub IsWriteFailure : List ℕ → TaskOutcome → Type 0
 IsWriteFailure name (CannotWrite path cause) = path.now ≡ name
 IsWriteFailure name outcome = ⊥
 
--- the same, with this as the reason, if one is known
+-- the same, with this as the cause, if one is known
 abbrev pub IsWriteFailureBy : List ℕ → Option ErrorKind → TaskOutcome → Type 0
 IsWriteFailureBy name cause (CannotWrite path told) = (path.now ≡ name) × (told ≡ cause)
 IsWriteFailureBy name cause outcome = ⊥

@@ -18,12 +18,12 @@ use Rattle.host.specs.Stops.{Noted, noted_of}
 use Rattle.commands.specs.declared.outcomes.TaskOutcome.{TaskOutcome}
 use Rattle.commands.specs.declared.outcomes.TaskOutcome.TheVariants.{Done, Faulted}
 
--- the instruction that begins at the slot, and what the registers held that it reads
+-- the instruction that begins at the slot, and the values of the registers that it reads
 abbrev pub insn_lines : Option Insn → List Value → List ℕ
 insn_lines None registers = codes "no instruction begins there\n"
 insn_lines (Some insn) registers = line_of insn ++ value_lines registers insn
 
--- why a run stopped, and what helps
+-- a hint for a trap
 abbrev pub trap_line : TrapReason → List ℕ
 trap_line NoCode = codes "end each path by exit, and jump to where an instruction begins\n"
 trap_line UnsetRead =
@@ -43,13 +43,14 @@ trap_line TooManyFrames =
 trap_line NoResult = codes "r0 has to be a number: 0 ABORTED, 1 DROP, 2 PASS, 3 TX\n"
 trap_line BadAction = codes "the low half of r0 has to be 0 to 4: mask it (r0 &= 3) or test it\n"
 
+-- a hint for how a run ended
 abbrev pub end_line : End → List ℕ
 end_line (Exit value steps) =
     codes "r0 names no action: 0 ABORTED, 1 DROP, 2 PASS, 3 TX, 4 REDIRECT\n"
 end_line (Trap reason steps) = trap_line reason
 end_line Limit = codes "the limit of instructions is reached: give more by --limit, or end a loop\n"
 
--- a frame, and where its run stopped
+-- a packet frame, and where its run stopped
 abbrev pub stop_line : FrameStop → List ℕ
 stop_line f =
     codes "frame " ++ (decimal f.frame ++ (codes ", slot " ++ (decimal f.stop.slot ++ (codes ": "
@@ -59,25 +60,27 @@ abbrev pub first_lines : List FrameStop → List ℕ
 first_lines [] = []
 first_lines (f ∷ fs) = stop_line f ++ first_lines fs
 
--- how many more frames ended without an action
+-- how many more runs ended without an action
 abbrev pub more_line : ℕ → List ℕ
-more_line more = if more == 0 then [] else codes "and " ++ (decimal more ++ codes " more frames that ended without an action\n")
+more_line more = if more == 0 then []
+    else codes "and " ++ (decimal more ++ codes " more frames that ended without an action\n")
 
 abbrev pub stop_lines : Noted → List ℕ
 stop_lines noted = first_lines noted.first ++ more_line (noted.count - length noted.first)
 
--- ---- runs
+-- ---- the message of a trace
 
--- a text, if any, has these lines; there is no text if no frame is noted, and it may be missing if
--- memory ran out
+-- the text, if there is one, has these lines; there is none if no frame is noted, and there may be
+-- none if memory ran out
 abbrev pub TellsStops : Stops → Option (String Global) → Type 0
-TellsStops stops why = (stops.count ≡ 0 → why ≡ None) × IfSome why (λ text. string_bytes text ≡ stop_lines (noted_of stops))
+TellsStops stops why = (stops.count ≡ 0 → why ≡ None)
+    × IfSome why (λ text. string_bytes text ≡ stop_lines (noted_of stops))
 
 abbrev pub TellsStopsOf : Result Traced HostError → Option (String Global) → Type 0
 TellsStopsOf (Ok traced) why = TellsStops traced.stops why
 TellsStopsOf (Err error) why = why ≡ None
 
--- the message is written if the run came to its end and all its output was flushed
+-- the message is written if the report was completed and all output was flushed
 abbrev pub at_end : TaskOutcome → Option (String Global) → Option (String Global)
 at_end Done why = why
 at_end (Faulted fault form) why = why

@@ -1,4 +1,4 @@
--- What a run over a stream writes, and how the task ends then.
+-- What a program that is run on a frame stream writes, and how the task ends then.
 use Rattle.std.specs.Prelude.{◌≡◌, ◌≢◌, ℕ, List, Option, Some, None, String, Result, Ok, Err, ◌⊎◌}
 use Rattle.std.specs.declared.alloc.Global.{Global}
 use Rattle.std.specs.Io.KnownBytes.{Keeps, append_known}
@@ -11,7 +11,7 @@ use Rattle.host.specs.declared.errors.HostError.{HostError}
 use Rattle.host.specs.declared.errors.HostError.TheVariants as failure
 use Rattle.host.specs.declared.tallies.Tally.{Tally}
 use Rattle.host.specs.declared.traced.Traced.{Traced}
-use Rattle.host.specs.Stops.{TellsTraced}
+use Rattle.host.specs.Stops.{ShowsTraced}
 use Rattle.host.specs.Tallies.{tallied}
 use Rattle.host.specs.Writing.{Outputs}
 use Rattle.host.specs.Reported.{Reports}
@@ -23,13 +23,13 @@ use Rattle.commands.specs.declared.outcomes.TaskOutcome.TheVariants.{Done, Fault
 use Rattle.commands.specs.Statuses.{IsOutputFailure, IsWriteFailureBy}
 use Rattle.commands.specs.Stopped.{TellsStopsOf, at_end}
 
--- a stream that begins so came to its end, or had a fault
+-- how a task ends after a stream of this form that came to its end, or had a fault
 abbrev pub outcome_at : FileForm → Option (Fault × ℕ) → TaskOutcome
 outcome_at form None = Done
 outcome_at form (Some (fault, at)) = Faulted fault form
 
--- how a task ends by how its run did on a stream that begins so, the frames out going to the file with this name, which
--- failed for this reason, if it did
+-- how a task ends, from the result on a stream of this form; the frames out are written to the file
+-- with this name, and `cause` is why that failed, if it did
 abbrev pub EndsBy : List ℕ → Option ErrorKind → FileForm → Result Tally HostError → TaskOutcome
     → Type 0
 EndsBy name cause form (Ok tally) result = result ≡ outcome_at form tally.fault
@@ -37,26 +37,32 @@ EndsBy name cause form (Err failure.Memory) result = result ≡ NoMemory
 EndsBy name cause form (Err failure.Report) result = IsOutputFailure result
 EndsBy name cause form (Err failure.Frames) result = IsWriteFailureBy name cause result
 
--- the same where the file did not get all of the frames out: it failed, or the report or memory had failed before
+-- the same if the file did not get all of the frames out: it failed, or before it standard output
+-- did or memory ran out
 abbrev pub FailsBy : List ℕ → Option ErrorKind → FileForm → Result Tally HostError → TaskOutcome
     → Type 0
 FailsBy name cause form (Ok tally) result = IsWriteFailureBy name cause result
 FailsBy name cause form (Err error) result = EndsBy name cause form (Err error) result
 
--- a file got the beginning of some bytes, where they are known, and lacks the others
+-- a file got a beginning of some bytes, and lacks the rest, if the bytes are known
 abbrev pub IsBeginningOf : Option (List ℕ) → Option (List ℕ) → Type 0
 IsBeginningOf got bytes = (lost : List ℕ) × Keeps bytes (append_known got lost)
 
--- How a task ends by how its run did, which handed these frames out on for the file with this name. The file got all of
--- them; or it got a beginning, and then it failed, or something had failed before.
-abbrev pub EndsTask : List ℕ → Option ErrorKind → FileForm → Result Tally HostError → Option (List ℕ) → Option (List ℕ) → TaskOutcome → Type 0
+-- How a task ends, from the result `ended` on a stream. `handed` is what was written to the buffer
+-- of the file with this name. The file got all of it; or it got a beginning, and then it failed, or
+-- something had failed before.
+abbrev pub EndsTask : List ℕ → Option ErrorKind → FileForm → Result Tally HostError
+    → Option (List ℕ) → Option (List ℕ) → TaskOutcome → Type 0
 EndsTask name cause form ended handed got result =
-    (Keeps handed got × EndsBy name cause form ended result) ⊎ (IsBeginningOf got handed × FailsBy name cause form ended result)
+    (Keeps handed got × EndsBy name cause form ended result)
+    ⊎ (IsBeginningOf got handed × FailsBy name cause form ended result)
 
--- that were found, which are those that the source's bytes spell, where it tells them. If the file
--- of the frames out failed, `cause` is why, and the message says it. It also says where the runs
--- stopped that ended without an action.
-pub record Traces (p : Program) (limit : ℕ) (source : Option (List ℕ)) (form : FileForm) (name : List ℕ) (cause : Option ErrorKind) (old new : Outputs) (result : Ending) : Type 0 where
+-- A program is traced on a stream: what is written is exactly the checked report of the program and
+-- of the frames that were found, which are those that the source's bytes spell, if those are known.
+-- If the file of the frames out failed, `cause` is why, and the message says it. The message also
+-- says where runs stopped that ended without an action.
+pub record Traces (p : Program) (limit : ℕ) (source : Option (List ℕ)) (form : FileForm)
+    (name : List ℕ) (cause : Option ErrorKind) (old new : Outputs) (result : Ending) : Type 0 where
   pub ended : Result Traced HostError
   pub handed : Option (List ℕ)
   pub ends : EndsTask name cause form (tallied ended) handed new.frames result.outcome
@@ -65,15 +71,19 @@ pub record Traces (p : Program) (limit : ℕ) (source : Option (List ℕ)) (form
   pub lines : Option (String Global)
   pub tells : TellsStopsOf ended lines
   pub why : result.why ≡ at_end result.outcome lines
-  pub reports : ended ≢ Err failure.Memory → Reports source (checked_report p limit) (TellsTraced p limit) old (record { report = new.report; frames = handed }) ended
+  pub reports : ended ≢ Err failure.Memory
+      → Reports source (checked_report p limit) (ShowsTraced p limit) old
+      (record { report = new.report; frames = handed }) ended
 
--- A run of an accepted program: what is written is exactly the report of the program and of the frames that were found,
--- which are those that the source's bytes spell, where it tells them; no run of a frame meets a trap, and each exits
--- within the bound.
-pub record RunsAccepted (v : Bounded) (source : Option (List ℕ)) (form : FileForm) (name : List ℕ) (cause : Option ErrorKind) (old new : Outputs) (result : TaskOutcome) : Type 0 where
+-- An accepted program is run on a stream: what is written is exactly the report of the program and
+-- of the frames that were found, which are those that the source's bytes spell, if those are known;
+-- no run meets a trap, and each exits within the bound.
+pub record RunsAccepted (v : Bounded) (source : Option (List ℕ)) (form : FileForm) (name : List ℕ)
+    (cause : Option ErrorKind) (old new : Outputs) (result : TaskOutcome) : Type 0 where
   pub ended : Result Tally HostError
   pub handed : Option (List ℕ)
   pub ends : EndsTask name cause form ended handed new.frames result
   pub report_untouched : ended ≡ Err failure.Memory → new.report ≡ old.report
   pub frames_untouched : ended ≡ Err failure.Memory → handed ≡ old.frames
-  pub reports : ended ≢ Err failure.Memory → ReportsRun v source old (record { report = new.report; frames = handed }) ended
+  pub reports : ended ≢ Err failure.Memory
+      → ReportsRun v source old (record { report = new.report; frames = handed }) ended

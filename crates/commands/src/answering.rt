@@ -1,9 +1,9 @@
-//! What the program does with its words, and its status.
+//! What the program does for its arguments, and the status that it ends with.
 
 ghost use Rattle.std.specs.Prelude.{◌≡◌, ◌≢◌, ◌≤◌, map, MatchResult};
 ghost use Rattle.std.specs.String.{string_bytes};
 ghost use Rattle.exact_io.specs.Waiting.{held};
-ghost use Rattle.commands.specs.HandingOn.{IsFlushed};
+ghost use Rattle.commands.specs.Flushing.{IsFlushed};
 ghost use Rattle.commands.specs.Executing.{AnswersWords, AnswersError, IsTold, TellsDone, TellsFault};
 
 use super::outcomes::TaskOutcome;
@@ -13,7 +13,7 @@ use std::io::Write;
 use std::rt::{Clock, Files};
 use words::{WordsError, read_words};
 
-/// Does what the arguments ask for, and answers the program's status: 0 done, 1 invalid arguments,
+/// Does what the arguments ask for, and returns the program's status: 0 done, 1 invalid arguments,
 /// 2 refused, 3 the report ended in a fault, 4 a file or an output failed, 5 out of memory.
 ///
 /// `asked` says which command the arguments ask for, on which files and with which limit, and
@@ -23,9 +23,10 @@ use words::{WordsError, read_words};
 ///
 /// The first word is the program's name. `out` is standard output with its buffer, and `err` is
 /// standard error. At status 0, 2 and 3 all output has been written through the buffer. At status 1
-/// and 5 it gets no byte; at 0 standard error gets none, but of a trace the frames whose runs ended
-/// without an action. At 2 it gets why something was refused and where, of a program also what is
-/// known there, and of a text its line and what helps; at 3 why the frame stream ended early.
+/// and 5 nothing is written to standard output. At 0 nothing is written to standard error, except
+/// by `trace`, which names the packet frames whose runs ended without an action. At 2 standard
+/// error says what was refused, why and where; for a program also what is known there, for a text
+/// also the line and a hint. At 3 it says why the frame stream ended early.
 #[tactic(auto, using(crate::proofs::StatusesLaws::statuses))]
 pub fn execute<R: Files + Clock + AllocGlobal, W1: Write + Drop, W2: Write>(
     rt: &R,
@@ -51,7 +52,7 @@ pub fn execute<R: Files + Clock + AllocGlobal, W1: Write + Drop, W2: Write>(
     }
 }
 
-/// Does what the program's words ask for, and answers its status; if they could not be read,
+/// Does what the program's arguments ask for, and returns its status; if they could not be read,
 /// standard error says why.
 pub fn answer<R: Files + Clock + AllocGlobal, W1: Write + Drop, W2: Write>(
     rt: &R,

@@ -11,7 +11,7 @@ use std::io::Write;
 // How many bytes of standard output are written at a time, if it is a file on a disk.
 const BUFFER: usize = 64 * 1024;
 
-// Standard output through which each write goes at once, and before which no memory is taken.
+// Standard output without a buffer: each write goes through immediately, and no memory is taken.
 fn watched<W: Write + Drop>(alloc: Global, out: W) -> io::Result<PromptWriter<W>>
     ensures behind { IfOk result (λ w. behind w ≡ out) }
     ensures empty { IfOk result (λ w. waiting w ≡ []) }
@@ -22,7 +22,7 @@ fn watched<W: Write + Drop>(alloc: Global, out: W) -> io::Result<PromptWriter<W>
 }
 
 /// Puts the buffer in front of standard output. If that is a file on a disk, it is written in parts
-/// of 64 KiB; otherwise each write goes through immediately, for whoever watches.
+/// of 64 KiB; otherwise each write goes through immediately, so that a reader sees it.
 pub fn buffered<W: Write + Drop>(
     alloc: Global,
     is_stored: bool,

@@ -55,7 +55,7 @@ pub fn cause_line(kind: ErrorKind) -> &'static str
     }
 }
 
-/// The same where the cause may not be known.
+/// The end of the line, and the line with the cause if it is known.
 pub fn line_after(cause: Option<ErrorKind>) -> &'static str
     ensures { result.now ≡ line_after cause }
 {

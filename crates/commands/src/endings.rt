@@ -1,4 +1,4 @@
-//! How a task ended, with what is known of a program that was refused.
+//! How a task ended, with the lines at the end of its message.
 
 ghost use Rattle.std.specs.Prelude.{◌≡◌, None, true, OnOk, OnErr};
 ghost use Rattle.std.specs.Io.KnownBytes.{Appends};
@@ -6,7 +6,7 @@ ghost use Rattle.exact_io.specs.Transfers.{AppendsBeginning};
 ghost use Rattle.commands.specs.Statuses.{status_of, is_unsaid};
 ghost use Rattle.commands.specs.Saying.{AppendsPart};
 ghost use Rattle.commands.specs.Known.{IsKnownOfProgram, IsKnownOfText, told_of};
-ghost use Rattle.commands.specs.HandingOn.{Flushes};
+ghost use Rattle.commands.specs.Flushing.{Flushes};
 
 use super::outcomes::{STANDARD_OUTPUT, TaskOutcome};
 use super::rejections::Rejection;
@@ -18,18 +18,18 @@ use std::alloc::Global;
 use std::io;
 use std::io::Write;
 
-/// How a task ended, and what is known where a program was refused.
+/// How a task ended, and the lines at the end of its message, if there are any.
 #[derive(Drop)]
 pub struct Ending<'a> {
     pub outcome: TaskOutcome<'a>,
-    /// The registers and stack slots that concern the refused instruction, and the last jumps on
-    /// the path there; or the line of a text that was refused, and what helps; or of a trace, where
-    /// packet frames stopped; in lines.
+    /// Of a refused program, the registers and stack slots that concern the instruction, and
+    /// the last jumps on the path to it; of a refused text, its line and a hint; of a trace, where
+    /// the runs stopped that ended without an action.
     pub why: Option<String>,
 }
 
 impl<'a> Ending<'a> {
-    /// The task ended so, and nothing is known beside that.
+    /// A task that ended with this outcome, about which nothing more is known.
     pub fn plain(outcome: TaskOutcome<'a>) -> Self
         ensures outcome { result.outcome ≡ outcome.entry }
         ensures why { result.why ≡ None }
@@ -37,8 +37,8 @@ impl<'a> Ending<'a> {
         Ending { outcome, why: None }
     }
 
-    /// A task that judged this program ended so. Where the program was refused, what is known of
-    /// that is looked for: nothing is known where memory runs out.
+    /// How a task that judged this program ended. If the program was refused, this looks for what
+    /// is known of the refusal; if memory runs out, nothing is.
     pub fn of_program(alloc: Global, image: &Image, outcome: TaskOutcome<'a>) -> Self
         ensures outcome { result.outcome ≡ outcome.entry }
         ensures known { IsKnownOfProgram image.now result }
@@ -52,8 +52,8 @@ impl<'a> Ending<'a> {
         Ending { outcome, why }
     }
 
-    /// A task that read this text ended so. Where it was refused, the line is shown, and what
-    /// helps; nothing is shown where memory runs out.
+    /// How a task that read this text ended. If the text was refused, its line is shown with a
+    /// hint; if memory runs out, nothing is shown.
     pub fn of_text(alloc: Global, text: &[u8], outcome: TaskOutcome<'a>) -> Self
         ensures outcome { result.outcome ≡ outcome.entry }
         ensures known { IsKnownOfText text.now result }
@@ -65,9 +65,9 @@ impl<'a> Ending<'a> {
         Ending { outcome, why }
     }
 
-    /// Flushes standard output after a task that ended so. After a failed flush the task has ended
-    /// in that failure: it says why standard output failed, also if it had failed before. If
-    /// nothing was written to standard output, it is left as it is.
+    /// Flushes standard output after a task. If the flush fails, that failure becomes the outcome:
+    /// it says why standard output failed, even if an earlier write had failed too. If the task
+    /// wrote nothing to standard output, it is left as it is.
     pub fn flushed<W: Write + Drop>(self, out: &mut PromptWriter<W>) -> Self
         ensures { Flushes W.contents out.old out.new self.entry result }
     {
@@ -98,8 +98,8 @@ impl<'a> Ending<'a> {
         }
     }
 
-    /// Says on standard error what went wrong and what is known, and answers the program's status.
-    /// Nothing can be said of a failure of standard error.
+    /// Says on standard error what went wrong and what is known, and returns the program's status.
+    /// A failure of standard error is not reported.
     pub fn tell<W: Write>(self, err: &mut W) -> u8
         ensures status { result ≡ status_of self.entry.outcome }
         ensures said { AppendsPart (W.contents err.old) (W.contents err.new)

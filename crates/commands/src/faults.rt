@@ -1,4 +1,4 @@
-//! Why a frame stream ended early, and what helps.
+//! Why a frame stream ended early, and a hint.
 
 ghost use Rattle.std.specs.Prelude.{◌≡◌, OnOk, OnErr};
 ghost use Rattle.std.specs.Io.KnownBytes.{Appends};
@@ -11,8 +11,8 @@ use isa_model::Fault;
 use std::io;
 use std::io::Write;
 
-// The end of the line with the sentence, and then a line with a hint; for a file with another magic
-// one that says what it is.
+// The end of the line with the sentence, and then a line with a hint; for a file with another
+// magic, a line that says what the file is.
 fn fault_help(fault: Fault, form: FileForm) -> &'static str
     ensures { result.now ≡ fault_help fault form }
 {
@@ -25,7 +25,7 @@ fn fault_help(fault: Fault, form: FileForm) -> &'static str
     }
 }
 
-// What the frames out are, where no frame could be found.
+// What the frames out hold, if the stream's magic is wrong.
 fn fault_rest(fault: Fault) -> &'static str
     ensures { result.now ≡ fault_rest fault }
 {
@@ -35,7 +35,8 @@ fn fault_rest(fault: Fault) -> &'static str
     }
 }
 
-/// Says why a frame stream that begins so ended early, and in the next line a hint.
+/// Says why a frame stream whose first bytes have this form ended early, and in the next line a
+/// hint.
 pub fn say_fault<W: Write>(err: &mut W, fault: Fault, form: FileForm) -> io::Result<()>
     ensures ok { OnOk result
         (Appends (W.contents err.old) (W.contents err.new) (fault_lines fault form)) }

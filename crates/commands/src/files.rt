@@ -24,15 +24,15 @@ use std::io::{BufReader, Write};
 use std::rt::{Clock, Files};
 use words::{Assembly, RunPaths, StepLimit};
 
-// One byte more than the longest image has: its head, the rows of its maps and its slots. The rest
-// of a longer file changes nothing.
+// One byte more than the longest image has: its head, its map rows and its slots. A longer file is
+// refused whatever the rest of it is.
 const PAST_ANY_IMAGE: u64 = 8 + 12 * MAX_MAPS as u64 + 8 * MAX_SLOTS as u64 + 1;
 
-/// How many bytes go to or from a file of packet frames or a table at once.
+/// How many bytes of packet frames or of a proof table are read or written at a time.
 pub const BUFFER: usize = 64 * 1024;
 
-// The length of the magic, with which frames out begin. It is written through the buffer, so that a
-// file that cannot be written is found before the report begins.
+// The length of the magic that frames out begin with. It is written through the buffer immediately,
+// so that a file that cannot be written is found before the report begins.
 const MAGIC: usize = 4;
 
 /// A source of frames, what it is by its first bytes, and where the frames out go.
@@ -80,10 +80,9 @@ pub fn load_image<'a, R: Files, W: Write>(
     image_of(alloc, bytes.as_slice(), out)
 }
 
-/// Opens the frames, and then the frames out, which are written over none of the files that are
-/// read. The buffer of each is made before any of its bytes is read or written;
-/// in the end the first
-/// bytes of the frames are read ahead.
+/// Opens the frames, and then the frames out, which may not replace a file that is read. The buffer
+/// of each is made before any of its bytes is read or written. At the end the first bytes of the
+/// frames are read ahead.
 pub fn open_streams<'a, 'b, R: Files + Clock>(
     rt: &'b R,
     alloc: Global,
@@ -111,7 +110,7 @@ pub fn open_streams<'a, 'b, R: Files + Clock>(
 }
 
 /// Runs a program on a frame stream with checks: the image is read and judged, then the frames are
-/// opened, then the frames out. The report goes to standard output as it comes.
+/// opened, then the frames out. The report is written to standard output as it is made.
 pub fn trace<'a, R: Files + Clock, W: Write>(
     rt: &R,
     alloc: Global,
@@ -135,7 +134,7 @@ pub fn trace<'a, R: Files + Clock, W: Write>(
 }
 
 /// Verifies a program and runs it on a frame stream: the image is read and judged, then the frames
-/// are opened, then the frames out. The report goes to standard output as it comes.
+/// are opened, then the frames out. The report is written to standard output as it is made.
 pub fn run_verified<'a, R: Files + Clock, W: Write>(
     rt: &R,
     alloc: Global,
@@ -178,7 +177,8 @@ pub fn verify_file<'a, R: Files + Clock, W: Write>(
     say_verdict(rt, alloc, image, out)
 }
 
-/// Writes the text of an image: it is read and judged, and then the text goes to standard output.
+/// Writes the text of an image: it is read and judged, and then its text is written to standard
+/// output.
 pub fn disassemble_file<'a, R: Files, W: Write>(
     rt: &R,
     alloc: Global,
@@ -219,7 +219,7 @@ fn assemble_text<'a, R: Files, W: Write>(
 }
 
 /// Makes the image of a text: the text is read and judged, then the image is written, and then
-/// standard output says how large it is. Where memory runs out no file is opened for the image.
+/// standard output says how large it is. If memory runs out, no file is made for the image.
 pub fn assemble_file<'a, R: Files, W: Write>(
     rt: &R,
     alloc: Global,

@@ -1,16 +1,16 @@
-//! What a file is that is no image or no frame stream, and what makes one of it.
+//! What a file is that is not an image or not a frame stream, and what makes one from it.
 
 ghost use Rattle.std.specs.Prelude.{◌≡◌, bytes_eq};
 ghost use Rattle.std.specs.List.{list_all};
 ghost use Rattle.commands.specs.Forms.{front_of, is_text_byte, file_form_by, file_form_of, file_line, stream_line};
 
-/// What the first bytes of a file show that it is.
+/// What a file is, by its first bytes.
 #[derive(Clone, Copy)]
 pub enum FileForm {
     Unknown,
     /// It has fewer than four bytes.
     Short,
-    /// An object of a compiler.
+    /// An ELF object, as a compiler makes it.
     Elf,
     Gzip,
     Pcap,
@@ -20,7 +20,7 @@ pub enum FileForm {
     Frames,
     /// A proof table.
     Table,
-    /// A program text, or another one.
+    /// A program text, or any other text.
     Text,
 }
 
@@ -37,7 +37,7 @@ fn is_same(front: &[u8], magic: &[u8]) -> bool
     front == magic
 }
 
-// A line feed, a tab, or what ASCII prints.
+// A line feed, a tab, or a printable character of ASCII.
 fn is_text_byte(byte: u8) -> bool
     ensures { result ≡ is_text_byte byte }
 {
@@ -78,7 +78,7 @@ fn file_form_by(front: &[u8]) -> FileForm
     }
 }
 
-/// What a file is that begins so.
+/// What a file with these bytes is.
 #[tactic(auto, unfolding(crate::specs::Forms::file_form_of))]
 pub fn file_form_of(bytes: &[u8]) -> FileForm
     ensures { result ≡ file_form_of bytes.now }
@@ -109,7 +109,9 @@ impl FileForm {
             FileForm::Text => "it looks like a text: xdpvm asm makes an image of it\n",
         }
     }
-    /// The end of a line, and then the same where frames belong.
+
+    /// The end of a line, and then a line that says what the file is and what makes a frame stream
+    /// from it.
     pub fn stream_line(self) -> &'static str
         ensures { result.now ≡ stream_line self }
     {

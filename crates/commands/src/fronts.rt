@@ -13,8 +13,8 @@ use std::rt::{Clock, Files};
 /// How many bytes are read ahead.
 const FRONT: usize = 4;
 
-/// A source of packet frames. Where reading it failed, each later read fails too. A terminal is
-/// shown how much was read.
+/// A source of packet frames. Once a read has failed, each later one fails too. A terminal shows
+/// how much was read.
 #[derive(Drop)]
 pub struct Watched<'a, R: Files + Clock, S> {
     source: S,
@@ -61,7 +61,7 @@ impl<R: Files + Clock, S: Read> Read for Watched<'_, R, S> {
 /// A source whose first bytes were read ahead.
 pub type Ahead<S> = Chain<Take<Cursor<[u8; FRONT]>>, S>;
 
-// Reads the first bytes: how many there are, and what they show that the file is.
+// Reads the first bytes: how many there are, and what the file is by them.
 fn read_front<S: Read>(source: &mut S, front: &mut [u8; FRONT]) -> (usize, FileForm)
     ensures { IfSome (S.remaining source.old) (λ bytes. IsFileFormOf bytes result.1) }
 {
@@ -72,7 +72,7 @@ fn read_front<S: Read>(source: &mut S, front: &mut [u8; FRONT]) -> (usize, FileF
     }
 }
 
-/// A source that gives what the given one does, and what its first bytes show that it is. If
+/// A source with the bytes of the given one, and what the given one is by its first bytes. If
 /// reading them failed, each later read of the given one has to fail too.
 pub fn read_ahead<S: Read>(mut source: S) -> (Ahead<S>, FileForm)
     ensures { IfSome (S.remaining source) (λ bytes. IsFileFormOf bytes result.1) }

@@ -1,5 +1,5 @@
 //! What each command does with bytes, readers, writers and files, how it ends, and what the program
-//! does with its words.
+//! does for its arguments.
 #![tactic(auto)]
 
 mod answering;
@@ -10,7 +10,7 @@ mod faults;
 mod files;
 mod forms;
 mod fronts;
-mod names;
+mod lines;
 mod outcomes;
 mod proving;
 mod reading;

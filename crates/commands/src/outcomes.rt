@@ -1,4 +1,4 @@
-//! How a task ended, and what is said of it.
+//! How a task ended, and the message about it.
 
 ghost use Rattle.std.specs.Prelude.{◌≡◌, ◌≢◌, true, OnOk, OnErr};
 ghost use Rattle.std.specs.Io.KnownBytes.{Appends};
@@ -30,14 +30,14 @@ pub enum TaskOutcome<'a> {
     Done,
     /// No command was given in full. The text says what is wrong, or is the help.
     WrongWords(&'a str),
-    /// The image, the program, the table or the text was refused, which standard output says.
+    /// The image, the program, the table or the text was refused, as standard output says.
     Refused(Rejection),
-    /// The report ended in this fault, and the stream begins as such a file does.
+    /// The report ended in this fault; the stream's first bytes have this form.
     Faulted(Fault, FileForm),
     /// The file at the path cannot be read.
     CannotRead(&'a str, ErrorKind),
-    /// The file or output of this name cannot be written. If standard output failed in a run, the
-    /// reason is known when it is flushed.
+    /// The file or output of this name cannot be written. If standard output failed while a report
+    /// was written, the cause is known when it is flushed.
     CannotWrite(&'a str, Option<ErrorKind>),
     /// The file that was to be written is one of those that are read. It was left as it is.
     CannotReplace(&'a str),
@@ -84,7 +84,7 @@ impl<'a> TaskOutcome<'a> {
         }
     }
 
-    /// Whether standard output was given nothing.
+    /// Whether nothing was written to standard output.
     pub(crate) fn is_silent(&self) -> bool
         ensures { result ≡ is_silent self.now }
     {
@@ -146,8 +146,8 @@ impl<'a> TaskOutcome<'a> {
         }
     }
 
-    /// Says on standard error what went wrong, and answers the program's status. Nothing can be
-    /// said of a failure of standard error.
+    /// Says on standard error what went wrong, and returns the program's status. A failure of
+    /// standard error is not reported.
     pub fn tell<W: Write>(self, err: &mut W) -> u8
         ensures status { result ≡ status_of self.entry }
         ensures said { AppendsPart (W.contents err.old) (W.contents err.new)

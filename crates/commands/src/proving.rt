@@ -1,4 +1,4 @@
-//! Proof tables that are written.
+//! Writing a proof table, and how the task ends then.
 
 ghost use Rattle.std.specs.Prelude.{◌≡◌};
 ghost use Rattle.exact_io.specs.Waiting.{behind, held};
@@ -13,7 +13,7 @@ use proof_table::{WriteTableError, write_table};
 use std::alloc::Global;
 use std::io::Write;
 
-// How the task ends where a table was not written to the file at the path.
+// How the task ends if a table was not written to the file at the path.
 fn say_unwritten<'a, W: Write>(
     path: &'a str,
     error: WriteTableError,
@@ -34,8 +34,8 @@ fn say_unwritten<'a, W: Write>(
     }
 }
 
-/// Writes a proof table to a file that was opened by this path, behind a buffer, and then says a
-/// line.
+/// Writes a proof table through a buffer to a file that was opened by this path, and then a line to
+/// standard output.
 pub fn store_table<'a, W1: Write, W2: Write + Drop>(
     alloc: Global,
     verified: &Verified,

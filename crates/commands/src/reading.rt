@@ -1,4 +1,4 @@
-//! What files hold.
+//! Reading a file: all of it, or its first bytes.
 
 ghost use Rattle.std.specs.Prelude.{◌≡◌, IfOk, IfSome, take};
 
@@ -7,8 +7,8 @@ use std::io::Read;
 use std::rt::Files;
 use std::{fs, io};
 
-/// All bytes of a source. Where they are not read to their end, also because memory ran out, it is
-/// an error.
+/// All bytes of a source. If they cannot be read to the end, or memory runs out, this returns an
+/// error.
 fn read_all<S: Read + Drop>(alloc: Global, mut source: S) -> io::Result<Vec<u8>>
     ensures { IfOk result (λ bytes. IfSome (S.remaining source) (λ held. bytes.items ≡ held)) }
 {
@@ -17,7 +17,7 @@ fn read_all<S: Read + Drop>(alloc: Global, mut source: S) -> io::Result<Vec<u8>>
     Ok(bytes)
 }
 
-/// The first bytes of a source, this many or all.
+/// The first bytes of a source, at most this many.
 fn read_front<S: Read + Drop>(alloc: Global, source: S, most: u64) -> io::Result<Vec<u8>>
     ensures { IfOk result (λ bytes. IfSome (S.remaining source)
         (λ held. bytes.items ≡ take most held)) }
@@ -25,12 +25,12 @@ fn read_front<S: Read + Drop>(alloc: Global, source: S, most: u64) -> io::Result
     read_all(alloc, source.take(most))
 }
 
-/// What a file holds, to its end.
+/// All bytes of a file.
 pub fn read_file<R: Files>(rt: &R, alloc: Global, path: &str) -> io::Result<Vec<u8>> {
     read_all(alloc, fs::open(rt, path)?)
 }
 
-/// The first bytes of a file, this many or all.
+/// The first bytes of a file, at most this many.
 pub fn read_start<R: Files>(rt: &R, alloc: Global, path: &str, most: u64) -> io::Result<Vec<u8>> {
     read_front(alloc, fs::open(rt, path)?, most)
 }

@@ -4,10 +4,10 @@ ghost use Rattle.std.specs.Prelude.{◌≡◌, IfOk, IfErr, OnOk};
 ghost use Rattle.bounds.specs.Bounds.{IsVerified};
 ghost use Rattle.rechecking.specs.Refusing.{ShowsBound};
 ghost use Rattle.commands.specs.Judging.{SaysTable, SaysOfTable, RefusesTable};
-ghost use Rattle.commands.specs.Known.{IsKnownOfTable, place_found, why_found, with_refusal};
+ghost use Rattle.commands.specs.Known.{IsKnownOfTable, position_found, why_found, with_refusal};
 
 use super::endings::Ending;
-use super::names::table_line;
+use super::lines::table_line;
 use super::outcomes::TaskOutcome;
 use super::rejections::Rejection;
 use super::verdicts::{say_made, say_refused};
@@ -19,7 +19,7 @@ use std::alloc::Global;
 use std::io::Write;
 use table_entries::TableRefusal;
 
-// How a task ended whose message about a refusal was written so, with what is known.
+// How a task ended, with what is known of the refusal, if it ended in one.
 fn ending_with<'a>(outcome: TaskOutcome<'a>, why: Option<String>) -> Ending<'a>
     ensures outcome { result.outcome ≡ outcome.entry }
     ensures why { result.why ≡ with_refusal outcome.entry why }
@@ -30,22 +30,22 @@ fn ending_with<'a>(outcome: TaskOutcome<'a>, why: Option<String>) -> Ending<'a>
     }
 }
 
-// Says that a table is refused, with what was found of the entry.
+// Says that a table is refused, with what was found about the entry.
 fn say_found<'a, W: Write>(
     alloc: Global,
     error: TableError,
     found: Option<EntryReason>,
     out: &mut W,
 ) -> Ending<'a>
-    ensures said { SaysTable error (place_found found) (W.contents out.old) (W.contents out.new)
+    ensures said { SaysTable error (position_found found) (W.contents out.old) (W.contents out.new)
         result.outcome }
     ensures why { result.why ≡ with_refusal result.outcome (why_found found) }
 {
-    let (place, why) = match found {
+    let (position, why) = match found {
         Some(found) => (Some((found.slot, found.insn)), Some(found.text)),
         None => (None, None),
     };
-    let refused = TaskOutcome::Refused(Rejection::Table(error, place));
+    let refused = TaskOutcome::Refused(Rejection::Table(error, position));
     let outcome = say_made(table_line(alloc, error), refused, out);
     ending_with(outcome, why)
 }
@@ -67,7 +67,7 @@ fn say_rejected<'a, W: Write>(
             let insn = image.at(slot).copied();
             Ending::plain(say_refused(alloc, Refusal::Flow(flow), slot, insn, out))
         }
-        TableError::Fault(TableRefusal::Memory) => Ending::plain(TaskOutcome::NoMemory),
+        TableError::Bytes(TableRefusal::Memory) => Ending::plain(TaskOutcome::NoMemory),
         _ => say_found(alloc, error, entry_reason(alloc, image, bytes, error), out),
     }
 }

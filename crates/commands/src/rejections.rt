@@ -25,7 +25,7 @@ use table_entries::TableRefusal;
 /// What is refused, and why.
 #[derive(Clone, Copy)]
 pub enum Rejection {
-    /// The bytes are no image, and look like this.
+    /// The bytes are not an image; their form is what they look like.
     Image(ImageError, FileForm),
     /// The program is not accepted, at a slot. The instruction is the one that begins there.
     Program(Refusal, usize, Option<Insn>),
@@ -34,7 +34,7 @@ pub enum Rejection {
     Table(TableError, Option<(usize, Insn)>),
     /// The program was accepted, and could not be explored again for its table.
     Explored,
-    /// The text is no program.
+    /// The text spells no program.
     Text(AsmError),
 }
 
@@ -52,19 +52,19 @@ impl Rejection {
     }
 
     // Writes where it is refused.
-    fn say_place<W: Write>(self, err: &mut W) -> io::Result<()>
+    fn say_position<W: Write>(self, err: &mut W) -> io::Result<()>
         ensures ok { OnOk result
             (Appends (W.contents err.old) (W.contents err.new) (position_of self)) }
         ensures err { OnErr result
             (AppendsBeginning (W.contents err.old) (W.contents err.new) (position_of self)) }
     {
         match self {
-            Rejection::Image(error, form) => say_image_place(err, error, form),
+            Rejection::Image(error, form) => say_image_position(err, error, form),
             Rejection::Program(_, slot, None) => say_slot(err, slot, "\n"),
             Rejection::Program(_, slot, Some(insn)) => say_insn(err, slot, &insn),
-            Rejection::Table(error, place) => say_table_place(err, error, place),
+            Rejection::Table(error, position) => say_table_position(err, error, position),
             Rejection::Explored => Ok(()),
-            Rejection::Text(error) => say_text_place(err, error.line, error.column),
+            Rejection::Text(error) => say_text_position(err, error.line, error.column),
         }
     }
 
@@ -76,11 +76,11 @@ impl Rejection {
             (AppendsBeginning (W.contents err.old) (W.contents err.new) (reason_of self)) }
     {
         write_texts(err, "", self.sentence(), "\n")?;
-        self.say_place(err)
+        self.say_position(err)
     }
 }
 
-// Writes what a file looks like that is no image.
+// Writes what a file that is not an image looks like.
 fn say_form<W: Write>(err: &mut W, form: FileForm) -> io::Result<()>
     ensures ok { OnOk result (Appends (W.contents err.old) (W.contents err.new)
         (file_line form)) }
@@ -90,18 +90,18 @@ fn say_form<W: Write>(err: &mut W, form: FileForm) -> io::Result<()>
     write_bytes(err, form.line().as_bytes())
 }
 
-// Writes what is counted, and its number.
-fn say_number<W: Write>(err: &mut W, word: &str, number: usize) -> io::Result<()>
+// Writes a unit, as `map` or `slot`, and a number.
+fn say_number<W: Write>(err: &mut W, unit: &str, number: usize) -> io::Result<()>
     ensures ok { OnOk result (Appends (W.contents err.old) (W.contents err.new)
-        (word.now ++ (decimal number ++ codes "\n"))) }
+        (unit.now ++ (decimal number ++ codes "\n"))) }
     ensures err { OnErr result (AppendsBeginning (W.contents err.old) (W.contents err.new)
-        (word.now ++ (decimal number ++ codes "\n"))) }
+        (unit.now ++ (decimal number ++ codes "\n"))) }
 {
     let mut buffer = Buffer::new();
-    write_texts(err, word, buffer.format(number as u64), "\n")
+    write_texts(err, unit, buffer.format(number as u64), "\n")
 }
 
-// Writes what helps where bytes are no image.
+// Writes a hint where bytes are not an image.
 fn say_cure<W: Write>(err: &mut W, error: ImageError) -> io::Result<()>
     ensures ok { OnOk result (Appends (W.contents err.old) (W.contents err.new)
         (cure_line error)) }
@@ -111,19 +111,19 @@ fn say_cure<W: Write>(err: &mut W, error: ImageError) -> io::Result<()>
     write_texts(err, "", error.cure(), "\n")
 }
 
-// Writes what is counted with its number, and what helps.
-fn say_cured<W: Write>(err: &mut W, word: &str, number: usize, error: ImageError) -> io::Result<()>
+// Writes a unit with a number, and a hint.
+fn say_cured<W: Write>(err: &mut W, unit: &str, number: usize, error: ImageError) -> io::Result<()>
     ensures ok { OnOk result (Appends (W.contents err.old) (W.contents err.new)
-        ((word.now ++ (decimal number ++ codes "\n")) ++ cure_line error)) }
+        ((unit.now ++ (decimal number ++ codes "\n")) ++ cure_line error)) }
     ensures err { OnErr result (AppendsBeginning (W.contents err.old) (W.contents err.new)
-        ((word.now ++ (decimal number ++ codes "\n")) ++ cure_line error)) }
+        ((unit.now ++ (decimal number ++ codes "\n")) ++ cure_line error)) }
 {
-    say_number(err, word, number)?;
+    say_number(err, unit, number)?;
     say_cure(err, error)
 }
 
-// Writes where bytes are no image, and what helps.
-fn say_image_place<W: Write>(err: &mut W, error: ImageError, form: FileForm) -> io::Result<()>
+// Writes where bytes are not an image, and a hint.
+fn say_image_position<W: Write>(err: &mut W, error: ImageError, form: FileForm) -> io::Result<()>
     ensures ok { OnOk result (Appends (W.contents err.old) (W.contents err.new)
         (image_position error form)) }
     ensures err { OnErr result (AppendsBeginning (W.contents err.old) (W.contents err.new)
@@ -172,7 +172,7 @@ fn say_entry<W: Write>(err: &mut W, index: usize) -> io::Result<()>
     write_texts(err, "entry ", buffer.format(index as u64), "\n")
 }
 
-// Writes the index of an entry that has no meaning, and what helps.
+// Writes the index of an entry that spells no state, and a hint.
 fn say_entry_anew<W: Write>(err: &mut W, index: usize) -> io::Result<()>
     ensures ok { OnOk result (Appends (W.contents err.old) (W.contents err.new)
         (entry_anew index)) }
@@ -188,7 +188,7 @@ fn say_entry_anew<W: Write>(err: &mut W, index: usize) -> io::Result<()>
     )
 }
 
-// What helps where a table is no proof of the program.
+// The hint where a table does not show a bound of the program.
 fn anew() -> &'static str
     ensures { result.now ≡ anew }
 {
@@ -196,45 +196,45 @@ fn anew() -> &'static str
 }
 
 // Writes the index of an entry, and where its step is, if that is known.
-fn say_step<W: Write>(err: &mut W, index: usize, place: Option<(usize, Insn)>) -> io::Result<()>
+fn say_step<W: Write>(err: &mut W, index: usize, position: Option<(usize, Insn)>) -> io::Result<()>
     ensures ok { OnOk result (Appends (W.contents err.old) (W.contents err.new)
-        (step_position index place)) }
+        (step_position index position)) }
     ensures err { OnErr result (AppendsBeginning (W.contents err.old) (W.contents err.new)
-        (step_position index place)) }
+        (step_position index position)) }
 {
     say_entry(err, index)?;
-    match place {
+    match position {
         None => Ok(()),
         Some((slot, insn)) => say_insn(err, slot, &insn),
     }
 }
 
-// Writes where a table is refused, and why the step of an entry is.
-fn say_table_place<W: Write>(
+// Writes where a table is refused, and why an entry's step is, if it is.
+fn say_table_position<W: Write>(
     err: &mut W,
     error: TableError,
-    place: Option<(usize, Insn)>,
+    position: Option<(usize, Insn)>,
 ) -> io::Result<()>
     ensures ok { OnOk result (Appends (W.contents err.old) (W.contents err.new)
-        (table_position error place)) }
+        (table_position error position)) }
     ensures err { OnErr result (AppendsBeginning (W.contents err.old) (W.contents err.new)
-        (table_position error place)) }
+        (table_position error position)) }
 {
     match error {
-        TableError::Fault(TableRefusal::Entry(index)) => say_entry_anew(err, index),
+        TableError::Bytes(TableRefusal::Entry(index)) => say_entry_anew(err, index),
         TableError::Step(index, refusal) => {
-            say_step(err, index, place)?;
+            say_step(err, index, position)?;
             write_texts(err, "", refusal.sentence(), "\n")
         }
-        TableError::Successor(index) => say_step(err, index, place),
-        TableError::Flow(_, _) | TableError::Fault(_) | TableError::Start => {
+        TableError::Successor(index) => say_step(err, index, position),
+        TableError::Flow(_, _) | TableError::Bytes(_) | TableError::Start => {
             write_bytes(err, anew().as_bytes())
         }
     }
 }
 
 // Writes a line and a column.
-fn say_text_place<W: Write>(err: &mut W, line: usize, column: usize) -> io::Result<()>
+fn say_text_position<W: Write>(err: &mut W, line: usize, column: usize) -> io::Result<()>
     ensures ok { OnOk result (Appends (W.contents err.old) (W.contents err.new)
         (text_position line column)) }
     ensures err { OnErr result (AppendsBeginning (W.contents err.old) (W.contents err.new)

@@ -1,4 +1,4 @@
-//! What is done where something is asked for.
+//! The function that does each task.
 
 ghost use Rattle.std.specs.Prelude.{Some, option_map};
 ghost use Rattle.words.specs.Requests.{Run, files_of, request_of};
@@ -29,7 +29,7 @@ fn run<'a, R: Files + Clock, W: Write>(
     }
 }
 
-/// Does what is asked for. Files are opened by their paths, and `out` is standard output.
+/// Does a task. Files are opened by their paths, and `out` is standard output.
 pub fn serve<'a, R: Files + Clock, W: Write>(
     rt: &R,
     alloc: Global,

@@ -1,4 +1,4 @@
-//! Paths that lead to one file.
+//! Whether two paths lead to the same file.
 
 ghost use Rattle.std.specs.Prelude.{◌≡◌, ◌≢◌, ◌↔◌, IsTrue};
 
@@ -7,14 +7,14 @@ use std::fs::Metadata;
 use std::os::unix::fs::MetadataExt;
 use std::rt::Files;
 
-/// The numbers by which the system tells files apart.
+/// The numbers that identify a file to the system.
 #[derive(Clone, Copy)]
 struct FileNumbers {
     device: u64,
     inode: u64,
 }
 
-// Whether files with these numbers are one. A file system that does not number its files gives 0.
+// Whether files with these numbers are the same. A file system without inode numbers returns 0.
 fn is_one(one: FileNumbers, other: FileNumbers) -> bool
     ensures { IsTrue result
         ↔ ((one.device ≡ other.device) × (one.inode ≡ other.inode) × (one.inode ≢ 0)) }

@@ -1,4 +1,4 @@
-//! What a terminal shows of work that takes longer.
+//! What a terminal shows of work that takes over a second.
 
 use exact_io::write_bytes;
 use std::alloc::Global;
@@ -7,16 +7,17 @@ use std::os::unix::fs::{FileTypeExt, MetadataExt};
 use std::rt::{Clock, Files};
 use std::time::Instant;
 
-/// What goes before a line, so that it takes the place of the one before it.
+/// What is written before a line, so that it replaces the line before it.
 const CLEARED: &str = "\r\x1b[K";
 
-/// After how many milliseconds something is shown, and how often then.
+/// After how many milliseconds something is shown first.
 const FIRST: u128 = 1000;
 
+/// How many milliseconds are between two lines.
 const NEXT: u128 = 200;
 
-/// Standard error where it is a terminal, and the work takes over a second. What was shown is
-/// cleared in the end.
+/// Standard error, if it is a terminal, for work that takes over a second. What was shown is
+/// cleared at the end.
 pub struct Screen<'a, R: Files + Clock> {
     rt: &'a R,
     alloc: Global,
@@ -30,7 +31,7 @@ pub struct Screen<'a, R: Files + Clock> {
 }
 
 /// Whether a path is a terminal. Linux gives consoles and serial lines the major number 4, the
-/// terminal of a process and the console of the system 5, and the terminals of windows 136 to 143.
+/// terminal of a process and the system's console 5, and the pseudoterminals 136 to 143.
 fn is_terminal<R: Files>(rt: &R, path: &str) -> bool {
     match fs::metadata(rt, path) {
         Ok(output) => {
@@ -42,7 +43,7 @@ fn is_terminal<R: Files>(rt: &R, path: &str) -> bool {
 }
 
 impl<'a, R: Files + Clock> Screen<'a, R> {
-    /// Work begins that writes to standard output only in its end.
+    /// For work that begins now, and writes to standard output only at its end.
     pub fn new(rt: &'a R, alloc: Global) -> Self {
         Screen {
             rt,
@@ -54,8 +55,8 @@ impl<'a, R: Files + Clock> Screen<'a, R> {
         }
     }
 
-    /// The same of work that writes to standard output as it goes on: nothing is shown where that
-    /// is a terminal too.
+    /// For work that writes to standard output throughout: nothing is shown if standard output is a
+    /// terminal too.
     pub fn shared(rt: &'a R, alloc: Global) -> Self {
         let mut screen = Screen::new(rt, alloc);
         screen.is_shared = true;
@@ -69,7 +70,7 @@ impl<'a, R: Files + Clock> Screen<'a, R> {
         }
     }
 
-    /// Whether it is time to show something. Where nothing can be shown, it is not.
+    /// Whether it is time to show something, and it can be shown.
     pub fn is_due(&mut self) -> bool {
         let Some(start) = self.start else {
             return false;

@@ -1,4 +1,4 @@
-//! The verifier, while a terminal shows how far it is.
+//! Verifying a program while a terminal shows how far the verifier is.
 
 ghost use Rattle.std.specs.Prelude.{◌≡◌, IfOk, IfErr};
 ghost use Rattle.bounds.specs.Bounds.{IsVerified};
@@ -16,8 +16,8 @@ use std::convert::Infallible;
 use std::rt::{Clock, Files};
 use transfer::Ways;
 
-/// After how many explored instructions the clock is looked at.
-const TURN: u32 = 4096;
+/// After how many explored instructions the clock is read.
+const PERIOD: u32 = 4096;
 
 /// Counts explored instructions for a terminal.
 #[derive(Drop)]
@@ -60,7 +60,7 @@ impl<R: Files + Clock> Listener for Counter<'_, R> {
         _kept: Option<&Kept>,
     ) -> Result<(), Infallible> {
         self.explored = self.explored.wrapping_add(1);
-        if self.explored % TURN == 0 {
+        if self.explored % PERIOD == 0 {
             self.show();
         }
         Ok(())
@@ -80,8 +80,8 @@ impl<R: Files + Clock> Listener for Counter<'_, R> {
     fn refused(&mut self, _refusal: Refusal, _slot: usize) {}
 }
 
-/// Verifies a program as `verify` does. Where that takes over a second and standard error is a
-/// terminal, that shows how many instructions are explored, and nothing in the end.
+/// Verifies a program as `verify` does. If that takes over a second and standard error is a
+/// terminal, the terminal shows how many instructions are explored, and is cleared at the end.
 pub fn verify_shown<R: Files + Clock>(
     rt: &R,
     alloc: Global,

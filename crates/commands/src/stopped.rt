@@ -27,7 +27,7 @@ fn insn_text(alloc: Global, insn: &Insn) -> Result<String, AllocError>
     }
 }
 
-// The instruction at a stop, and what the registers held that it reads.
+// The instruction where a run stopped, and the values of the registers that it reads.
 fn insn_lines(
     alloc: Global,
     insn: Option<Insn>,
@@ -45,7 +45,7 @@ fn insn_lines(
     }
 }
 
-// Why a run trapped, and what helps.
+// A hint for a trap.
 fn trap_line(reason: TrapReason) -> &'static str
     ensures { result.now ≡ trap_line reason }
 {
@@ -72,7 +72,7 @@ fn trap_line(reason: TrapReason) -> &'static str
     }
 }
 
-// Why a run stopped, and what helps.
+// A hint for how a run ended.
 fn end_line(end: End) -> &'static str
     ensures { result.now ≡ end_line end }
 {
@@ -83,7 +83,7 @@ fn end_line(end: End) -> &'static str
     }
 }
 
-// The lines of a frame.
+// The lines for a packet frame.
 fn stop_line(alloc: Global, found: &FrameStop) -> Result<String, AllocError>
     ensures { IfOk result (λ text. string_bytes text ≡ stop_line found.now) }
 {
@@ -94,7 +94,7 @@ fn stop_line(alloc: Global, found: &FrameStop) -> Result<String, AllocError>
     format!(in alloc; "frame {frame}, slot {slot}: {lines}{end}")
 }
 
-// The lines of some frames.
+// The lines for the first frames.
 fn first_lines(alloc: Global, first: &[FrameStop]) -> Result<String, AllocError>
     ensures { IfOk result (λ text. string_bytes text ≡ first_lines first.now) }
 {
@@ -106,7 +106,7 @@ fn first_lines(alloc: Global, first: &[FrameStop]) -> Result<String, AllocError>
     Ok(text)
 }
 
-// How many frames there are beside the first ones.
+// The line that says how many more frames there are, if any.
 fn more_line(alloc: Global, more: u64) -> Result<String, AllocError>
     ensures { IfOk result (λ text. string_bytes text ≡ more_line more) }
 {
@@ -116,7 +116,7 @@ fn more_line(alloc: Global, more: u64) -> Result<String, AllocError>
     format!(in alloc; "and {more} more frames that ended without an action\n")
 }
 
-// The lines of the first frames, and how many more there are.
+// The lines for the first frames, and how many more there are.
 fn stop_lines(alloc: Global, stops: &Stops) -> Result<String, AllocError>
     ensures { IfOk result (λ text. string_bytes text ≡ stop_lines (noted_of stops.now)) }
 {
@@ -127,7 +127,7 @@ fn stop_lines(alloc: Global, stops: &Stops) -> Result<String, AllocError>
     format!(in alloc; "{lines}{rest}")
 }
 
-// The lines of the first frames, and how many more there are. None: no frame is noted, or memory
+// The lines for the first frames, and how many more there are. `None`: no frame is noted, or memory
 // ran out.
 fn known_of(alloc: Global, stops: &Stops) -> Option<String>
     ensures none { stops.now.count ≡ 0 → result ≡ None }
@@ -139,7 +139,7 @@ fn known_of(alloc: Global, stops: &Stops) -> Option<String>
     stop_lines(alloc, stops).ok()
 }
 
-/// The message about the frames of a run with checks, if the run came to its last line.
+/// The message about the packet frames of a trace, if its report was completed.
 pub fn lines_of_stops(alloc: Global, ended: &Result<Traced, HostError>) -> Option<String>
     ensures { TellsStopsOf ended.now result }
 {
@@ -149,7 +149,7 @@ pub fn lines_of_stops(alloc: Global, ended: &Result<Traced, HostError>) -> Optio
     }
 }
 
-/// It is written if all of the run's output was flushed.
+/// The message after a trace with this outcome: it is written if all of the output was flushed.
 pub fn at_end(outcome: TaskOutcome<'_>, why: Option<String>) -> Option<String>
     ensures { result ≡ at_end outcome.entry why }
 {

@@ -1,4 +1,4 @@
-//! Runs over streams, and images that are written.
+//! Programs that are run on frame streams, and images that are written.
 
 ghost use Rattle.commands.specs.Judging.{StoresImage};
 ghost use Rattle.commands.specs.Streams.{EndsTask, Traces, RunsAccepted};
@@ -17,9 +17,9 @@ use std::alloc::Global;
 use std::io::{Read, Write};
 use words::StepLimit;
 
-// How a task ended whose run over a stream ended so, the frames out going to the file at the path.
-// The rest of the buffer is written to the file, unless the file has failed before. A failure of
-// standard output is reported when it is flushed.
+// How a task ended that ran a program on a frame stream, and wrote the frames out to the file at
+// the path. The rest of the buffer is written to the file, unless the file has failed before. A
+// failure of standard output is reported when it is flushed.
 fn outcome_of<'a, W: Write + Drop>(
     path: &'a str,
     form: FileForm,
@@ -46,10 +46,9 @@ fn outcome_of<'a, W: Write + Drop>(
     }
 }
 
-/// Runs a program on a frame stream that begins so, with checks. The report goes to `out` as it
-/// comes, and the frames out to a file that was opened by this path, behind a buffer. Where the run
-/// came to its end, it is known where the runs of its first frames stopped that ended without an
-/// action.
+/// Runs a program on a frame stream of this form, with checks. The report is written to `out` as it
+/// is made, and the frames out through a buffer to a file that was opened by this path. If the
+/// report was completed, `why` says where the first runs stopped that ended without an action.
 pub fn trace_stream<'a, R: Read + Drop, W1: Write, W2: Write + Drop>(
     alloc: Global,
     image: Image,
@@ -73,8 +72,8 @@ pub fn trace_stream<'a, R: Read + Drop, W1: Write, W2: Write + Drop>(
     }
 }
 
-/// Runs an accepted program on a frame stream that begins so. The report goes to `out` as it comes,
-/// and the frames out to a file that was opened by this path, behind a buffer.
+/// Runs an accepted program on a frame stream of this form. The report is written to `out` as it is
+/// made, and the frames out through a buffer to a file that was opened by this path.
 pub fn run_stream<'a, R: Read + Drop, W1: Write, W2: Write + Drop>(
     alloc: Global,
     verified: Verified,
@@ -92,7 +91,7 @@ pub fn run_stream<'a, R: Read + Drop, W1: Write, W2: Write + Drop>(
     outcome_of(path, form, ended, file)
 }
 
-/// Writes an image to a file that was opened by this path, and then says a line.
+/// Writes an image to a file that was opened by this path, and then a line to standard output.
 pub fn store_image<'a, W1: Write, W2: Write>(
     image: &Image,
     line: &str,

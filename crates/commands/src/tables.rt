@@ -21,7 +21,7 @@ use std::io::Write;
 use std::rt::{Clock, Files};
 use words::{Proof, RunPaths};
 
-// The program of an image with the bound that a table shows, or how the task ends without: the
+// The program of an image with the bound that a table shows, or how the task ends without one: the
 // image is read and judged, then the table.
 fn load_shown<'a, R: Files, W: Write>(
     rt: &R,
@@ -63,7 +63,7 @@ pub fn recheck_file<'a, R: Files, W: Write>(
 
 /// Runs a program on a frame stream after testing a proof table, in place of verifying the program:
 /// the image is read and judged, then the table, then the frames are opened, then the frames out.
-/// The report goes to standard output as it comes.
+/// The report is written to standard output as it is made.
 pub fn run_shown<'a, R: Files + Clock, W: Write>(
     rt: &R,
     alloc: Global,
@@ -104,7 +104,7 @@ fn create_table<'a, R: Files>(
 }
 
 /// Proves a program: its image is read and judged, then the table is written, and then standard
-/// output says the most steps of a run. Where the program is refused no file is made for the table.
+/// output says the most steps of a run. If the program is refused, no file is made for the table.
 pub fn prove_file<'a, R: Files + Clock, W: Write>(
     rt: &R,
     alloc: Global,

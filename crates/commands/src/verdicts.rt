@@ -1,4 +1,4 @@
-//! What standard output says of an image, a program or a text that was judged.
+//! The verdicts on images, programs and texts, as standard output says them.
 
 ghost use Rattle.std.specs.Prelude.{◌≡◌, false, true, Ok, IfOk, IfErr, OnOk, MatchResult};
 ghost use Rattle.std.specs.String.{string_bytes};
@@ -18,7 +18,7 @@ ghost use Rattle.commands.specs.Known.{IsKnownOfProgram};
 
 use super::endings::Ending;
 use super::forms::file_form_of;
-use super::names::{image_line, text_line, verdict_line};
+use super::lines::{image_line, text_line, verdict_line};
 use super::outcomes::{STANDARD_OUTPUT, TaskOutcome};
 use super::rejections::Rejection;
 use super::searches::verify_shown;
@@ -63,7 +63,7 @@ pub fn say_made<'a, W: Write>(
     }
 }
 
-/// The image that bytes are. Where they are none, writes why, and answers the task's outcome.
+/// The image that bytes spell. If they spell none, writes why, and returns the task's outcome.
 pub fn image_of<'a, W: Write>(
     alloc: Global,
     bytes: &[u8],
@@ -88,7 +88,7 @@ pub fn image_of<'a, W: Write>(
     }
 }
 
-/// Writes that a program is refused at a slot, where this instruction begins.
+/// Writes that a program is refused at a slot, at which this instruction begins.
 pub fn say_refused<'a, W: Write>(
     alloc: Global,
     refusal: Refusal,
@@ -108,8 +108,8 @@ pub fn say_refused<'a, W: Write>(
     }
 }
 
-/// The verifier's answer. Where it refuses, writes why, with the slot, and answers the task's
-/// outcome with what is known there.
+/// The verifier's verdict. If it refuses, writes why, with the slot, and returns the task's outcome
+/// with what is known there.
 pub fn judge<'a, R: Files + Clock, W: Write>(
     rt: &R,
     alloc: Global,
@@ -183,8 +183,8 @@ pub fn say_text<'a, W: Write>(image: &Image, out: &mut W) -> TaskOutcome<'a>
     }
 }
 
-/// The image of a text. Where it is refused, writes why, with the line and the column, and answers
-/// the task's outcome.
+/// The image of a text. If the text is refused, writes why, with the line and the column, and
+/// returns the task's outcome.
 pub fn assembled<'a, W: Write>(
     alloc: Global,
     text: &[u8],

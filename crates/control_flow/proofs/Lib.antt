@@ -10,6 +10,7 @@ mod StackUses
 mod LiveMasks
 mod Graphs
 mod Chains
+mod MaskSteps
 mod Working
 pub mod FlowLaws
 pub mod LivenessLaws

@@ -13,14 +13,17 @@ home_live : (p q : Program) (masks items : List HomeMask) (m : HomeMask) (slot :
     → (h : Home) → HasHome m h ↔ IsHomeLive p h slot
 home_live p q masks items m slot same list is live h =
     subst (λ (x : Program). HasHome m h ↔ IsHomeLive x h slot) (sym same)
-    (subst (λ (x : HomeMask). HasHome x h ↔ IsHomeLive q h slot) (sym (is ∙ ap (λ (l : List HomeMask). mask_at l slot) list)) (live h slot))
+    (subst (λ (x : HomeMask). HasHome x h ↔ IsHomeLive q h slot)
+    (sym (is ∙ ap (λ (l : List HomeMask). mask_at l slot) list)) (live h slot))
 
 pub register_live : (p q : Program) (masks items : List HomeMask) (m : HomeMask) (slot : ℕ) → p ≡ q
     → masks ≡ items → m ≡ mask_at masks slot → MarksLive q items
     → (r : Reg) → HasRegister m.registers r ↔ IsLive p r slot
-register_live p q masks items m slot same list is live r = home_live p q masks items m slot same list is live (InRegister r)
+register_live p q masks items m slot same list is live r =
+    home_live p q masks items m slot same list is live (InRegister r)
 
 pub slot_live : (p q : Program) (masks items : List HomeMask) (m : HomeMask) (slot : ℕ) → p ≡ q
     → masks ≡ items → m ≡ mask_at masks slot → MarksLive q items
     → (j : ℕ) → HasSlot m.slots j ↔ IsSlotLive p j slot
-slot_live p q masks items m slot same list is live j = home_live p q masks items m slot same list is live (InSlot j)
+slot_live p q masks items m slot same list is live j =
+    home_live p q masks items m slot same list is live (InSlot j)

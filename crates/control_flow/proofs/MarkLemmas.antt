@@ -13,58 +13,77 @@ use Rattle.control_flow.proofs.FlowLaws.{HasEdge-inside}
 abbrev pub AreTargetsMarked : (ℕ → Type 0) → (ℕ → Option ℕ) → ℕ → ℕ → Type 0
 AreTargetsMarked Start target n k = Start k ⊎ ((slot : ℕ) × (slot < n) × (target slot ≡ Some k))
 
-pub record MarksBelow (Start : ℕ → Type 0) (target : ℕ → Option ℕ) (size n : ℕ) (marks : List Bool) : Type 0 where
+pub record MarksBelow (Start : ℕ → Type 0) (target : ℕ → Option ℕ) (size n : ℕ)
+    (marks : List Bool) : Type 0 where
   pub same : length marks ≡ size
   pub found : (k : ℕ) → IsMarked marks k → AreTargetsMarked Start target n k
   pub marked : (k : ℕ) → AreTargetsMarked Start target n k → IsMarked marks k
 
 -- what was read of a list
-pub read_at : {X : Type 0} (marks : List X) (k : ℕ) (x d : X) → k < length marks → x ≡ get_or marks k x → get_or marks k d ≡ x
-read_at marks k x d inside e = get_or_from_slice_get marks k x d (slice_get_read marks (length marks) k x refl inside e)
+pub read_at : {X : Type 0} (marks : List X) (k : ℕ) (x d : X) → k < length marks
+    → x ≡ get_or marks k x → get_or marks k d ≡ x
+read_at marks k x d inside e =
+    get_or_from_slice_get marks k x d (slice_get_read marks (length marks) k x refl inside e)
 
 -- marks are inside the list
 pub IsMarked-inside : (marks : List Bool) (k : ℕ) → IsMarked marks k → k < length marks
 IsMarked-inside marks k h =
     elim (cases_lt k (length marks)) [
       | inl inside ↦ inside
-      | inr past ↦ let e : get_or marks k false ≡ false = get_or_past marks k false past in absurd cc
+      | inr past ↦
+          let e : get_or marks k false ≡ false = get_or_past marks k false past in absurd cc
     ]
 
 -- a slot is marked that was not, or was
-pub IsMarked-set : (marks : List Bool) (to k : ℕ) → to < length marks → IsMarked (set marks to true) k → IsMarked marks k ⊎ (to ≡ k)
+pub IsMarked-set : (marks : List Bool) (to k : ℕ) → to < length marks
+    → IsMarked (set marks to true) k → IsMarked marks k ⊎ (to ≡ k)
 IsMarked-set marks to k inside h =
     elim (cases_eq k to) [
       | inl e ↦ inr (sym e)
       | inr other ↦ inl (sym (get_or-set_other marks to k true false other) ∙ h)
     ]
 
-pub set-IsMarked : (marks : List Bool) (to k : ℕ) → to < length marks → IsMarked marks k → IsMarked (set marks to true) k
+pub set-IsMarked : (marks : List Bool) (to k : ℕ) → to < length marks → IsMarked marks k
+    → IsMarked (set marks to true) k
 set-IsMarked marks to k inside h =
     elim (cases_eq k to) [
-      | inl e ↦ ap (λ (i : ℕ). get_or (set marks to true) i false) e ∙ get_or-set_same marks to true false inside
+      | inl e ↦
+          ap (λ (i : ℕ). get_or (set marks to true) i false) e
+          ∙ get_or-set_same marks to true false inside
       | inr other ↦ get_or-set_other marks to k true false other ∙ h
     ]
 
-pub set-IsMarked_here : (marks : List Bool) (to : ℕ) → to < length marks → IsMarked (set marks to true) to
+pub set-IsMarked_here : (marks : List Bool) (to : ℕ) → to < length marks
+    → IsMarked (set marks to true) to
 set-IsMarked_here marks to inside = get_or-set_same marks to true false inside
 
 -- nothing is marked in a new list
 pub new-IsMarked : (n k : ℕ) → IsMarked (replicate n false) k → ⊥
 new-IsMarked n k h =
     elim (cases_lt k n) [
-      | inl inside ↦ let e : get_or (replicate n false) k false ≡ false = get_or-replicate n k false false inside in absurd cc
-      | inr past ↦ let e : get_or (replicate n false) k false ≡ false = get_or_past (replicate n false) k false (omega (arith, length-replicate n false)) in absurd cc
+      | inl inside ↦
+          let e : get_or (replicate n false) k false ≡ false =
+          get_or-replicate n k false false inside in absurd cc
+      | inr past ↦
+          let e : get_or (replicate n false) k false ≡ false =
+          get_or_past (replicate n false) k false (omega (arith, length-replicate n false)) in
+          absurd cc
     ]
 
-pub marks_none : (target : ℕ → Option ℕ) (n : ℕ) → MarksBelow (λ k. ⊥) target n 0 (replicate n false)
+pub marks_none : (target : ℕ → Option ℕ) (n : ℕ)
+    → MarksBelow (λ k. ⊥) target n 0 (replicate n false)
 marks_none target n = record {
   same = length-replicate n false;
   found = λ k h. absurd (new-IsMarked n k h);
-  marked = λ k h. elim h [ inl no_start ↦ absurd no_start | inr w ↦ absurd (let low = w.1 in omega arith) ];
+  marked =
+      λ k h. elim h
+      [ inl no_start ↦ absurd no_start | inr w ↦ absurd (let low = w.1 in omega arith) ];
 }
 
 -- a first slot is marked
-pub marks_first : (target : ℕ → Option ℕ) (size : ℕ) (first : ℕ) (marks : List Bool) → first < size → MarksBelow (λ k. ⊥) target size 0 marks → MarksBelow (λ k. k ≡ first) target size 0 (set marks first true)
+pub marks_first : (target : ℕ → Option ℕ) (size : ℕ) (first : ℕ) (marks : List Bool) → first < size
+    → MarksBelow (λ k. ⊥) target size 0 marks
+    → MarksBelow (λ k. k ≡ first) target size 0 (set marks first true)
 marks_first target size first marks inside m =
     let lt : first < length marks = omega (arith, m.same) in record {
       same = length-set marks first true ∙ m.same;
@@ -73,48 +92,65 @@ marks_first target size first marks inside m =
         | inr e ↦ inl (sym e)
       ];
       marked = λ k h. elim h [
-        | inl e ↦ subst (λ (i : ℕ). IsMarked (set marks first true) i) (sym e) (set-IsMarked_here marks first lt)
+        | inl e ↦
+            subst (λ (i : ℕ). IsMarked (set marks first true) i) (sym e)
+            (set-IsMarked_here marks first lt)
         | inr w ↦ absurd (let low = w.1 in omega arith)
       ];
     }
 
 -- the next slot leads nowhere
-pub marks_more_none : (Start : ℕ → Type 0) (target : ℕ → Option ℕ) (size n : ℕ) (marks : List Bool) → None ≡ target n → MarksBelow Start target size n marks → MarksBelow Start target size (n + 1) marks
+pub marks_more_none : (Start : ℕ → Type 0) (target : ℕ → Option ℕ) (size n : ℕ) (marks : List Bool)
+    → None ≡ target n → MarksBelow Start target size n marks
+    → MarksBelow Start target size (n + 1) marks
 marks_more_none Start target size n marks none m = record {
   same = m.same;
-  found = λ k h. elim (m.found k h) [ inl start ↦ inl start | inr w ↦ inr (w.0, omega (arith, w.1), w.2) ];
+  found =
+      λ k h. elim (m.found k h)
+      [ inl start ↦ inl start | inr w ↦ inr (w.0, omega (arith, w.1), w.2) ];
   marked = λ k h. elim h [
     | inl start ↦ m.marked k (inl start)
     | inr w ↦ elim (cases_eq w.0 n) [
-      | inl e ↦ let some : target n ≡ Some k = subst (λ (i : ℕ). target i ≡ Some k) e w.2 in absurd cc
+      | inl e ↦
+          let some : target n ≡ Some k = subst (λ (i : ℕ). target i ≡ Some k) e w.2 in absurd cc
       | inr other ↦ m.marked k (inr (w.0, (let low = w.1 in omega arith), w.2))
     ]
   ];
 }
 
 -- the next slot leads to one that is marked now
-pub marks_more_some : (Start : ℕ → Type 0) (target : ℕ → Option ℕ) (size n to : ℕ) (marks : List Bool) → Some to ≡ target n → to < size → MarksBelow Start target size n marks → MarksBelow Start target size (n + 1) (set marks to true)
+pub marks_more_some : (Start : ℕ → Type 0) (target : ℕ → Option ℕ) (size n to : ℕ)
+    (marks : List Bool) → Some to ≡ target n → to < size → MarksBelow Start target size n marks
+    → MarksBelow Start target size (n + 1) (set marks to true)
 marks_more_some Start target size n to marks some inside m =
     let lt : to < length marks = omega (arith, m.same) in record {
       same = length-set marks to true ∙ m.same;
       found = λ k h. elim (IsMarked-set marks to k lt h) [
-        | inl old ↦ elim (m.found k old) [ inl start ↦ inl start | inr w ↦ inr (w.0, omega (arith, w.1), w.2) ]
+        | inl old ↦
+            elim (m.found k old)
+            [ inl start ↦ inl start | inr w ↦ inr (w.0, omega (arith, w.1), w.2) ]
         | inr e ↦ inr (n, omega arith, subst (λ (i : ℕ). target n ≡ Some i) e (sym some))
       ];
       marked = λ k h. elim h [
         | inl start ↦ set-IsMarked marks to k lt (m.marked k (inl start))
         | inr w ↦ elim (cases_eq w.0 n) [
           | inl e ↦
-              let here : to ≡ k = same_Some to k (some ∙ subst (λ (i : ℕ). target i ≡ Some k) e w.2) in
+              let here : to ≡ k =
+              same_Some to k (some ∙ subst (λ (i : ℕ). target i ≡ Some k) e w.2) in
               subst (λ (i : ℕ). IsMarked (set marks to true) i) here (set-IsMarked_here marks to lt)
-          | inr other ↦ set-IsMarked marks to k lt (m.marked k (inr (w.0, (let low = w.1 in omega arith), w.2)))
+          | inr other ↦
+              set-IsMarked marks to k lt
+              (m.marked k (inr (w.0, (let low = w.1 in omega arith), w.2)))
         ]
       ];
     }
 
 -- the targets of jumps
-pub MarksJoins-below : (p : Program) (marks : List Bool) (n : ℕ) → length p.insns ≤ n → MarksBelow (λ k. ⊥) (jump_to p) (length p.insns) n marks → MarksJoins p marks
+pub MarksJoins-below : (p : Program) (marks : List Bool) (n : ℕ) → length p.insns ≤ n
+    → MarksBelow (λ k. ⊥) (jump_to p) (length p.insns) n marks → MarksJoins p marks
 MarksJoins-below p marks n all m = λ slot. (
   λ h. elim (m.found slot h) [ inl no_start ↦ absurd no_start | inr w ↦ (w.0, w.2) ],
-  λ (from, e). m.marked slot (inr (from, (let low = HasEdge-inside p from slot (Jumps e) in omega arith), e)),
+  λ (from, e).
+      m.marked slot
+      (inr (from, (let low = HasEdge-inside p from slot (Jumps e) in omega arith), e)),
 )

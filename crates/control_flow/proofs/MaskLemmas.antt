@@ -18,18 +18,27 @@ use Rattle.control_flow.specs.Masks.{no_registers, HasRegister, no_slots, HasSlo
 
 -- ---- one register more
 
-with_bit : (old n k : ℕ) → n < 16 → (bit_at (bit_or old (1 * 2 ^ n % 2 ^ 16)) k ≡ 1) ↔ ((bit_at old k ≡ 1) ⊎ (k ≡ n))
+with_bit : (old n k : ℕ) → n < 16
+    → (bit_at (bit_or old (1 * 2 ^ n % 2 ^ 16)) k ≡ 1) ↔ ((bit_at old k ≡ 1) ⊎ (k ≡ n))
 with_bit old n k within = elim (cases_eq k n) [
-  | inl e ↦ (λ h. inr e, λ w. ap (λ (i : ℕ). bit_at (bit_or old (1 * 2 ^ n % 2 ^ 16)) i) e ∙ bit_at_set_same w16 old n within)
+  | inl e ↦ (
+    λ h. inr e,
+    λ w. ap (λ (i : ℕ). bit_at (bit_or old (1 * 2 ^ n % 2 ^ 16)) i) e
+        ∙ bit_at_set_same w16 old n within,
+  )
   | inr other ↦ (
     λ h. inl (sym (bit_at_set_other w16 old n within k other) ∙ h),
-    λ w. elim w [ inl h ↦ bit_at_set_other w16 old n within k other ∙ h | inr e ↦ absurd (other e) ],
+    λ w. elim w [
+      | inl h ↦ bit_at_set_other w16 old n within k other ∙ h
+      | inr e ↦ absurd (other e)
+    ],
   )
 ]
 
 -- the mask with a register has it and those that it had
 pub with_has : (mask : RegisterMask) (register : Reg) (n : ℕ) → n ≡ reg_number register → (r : Reg)
-    → (bit_at (bit_or mask.bits (1 * 2 ^ n % 2 ^ 16)) (reg_number r) ≡ 1) ↔ (HasRegister mask r ⊎ (r ≡ register))
+    → (bit_at (bit_or mask.bits (1 * 2 ^ n % 2 ^ 16)) (reg_number r) ≡ 1)
+    ↔ (HasRegister mask r ⊎ (r ≡ register))
 with_has mask register n is r =
     let low = number_below register in
     let test = with_bit mask.bits n (reg_number r) (omega arith) in (
@@ -56,7 +65,8 @@ min_one a b la lb = (
   λ (had, none). elim (cases_eq b 1) [ inl e ↦ absurd (none e) | inr apart ↦ omega arith ],
 )
 
-pub without_has : (a b i : ℕ) → (bit_at (bit_and a (bit_xor a b)) i ≡ 1) ↔ ((bit_at a i ≡ 1) × (bit_at b i ≡ 1 → ⊥))
+pub without_has : (a b i : ℕ)
+    → (bit_at (bit_and a (bit_xor a b)) i ≡ 1) ↔ ((bit_at a i ≡ 1) × (bit_at b i ≡ 1 → ⊥))
 without_has a b i =
     let is = bit_at_and a (bit_xor a b) i ∙ ap (min (bit_at a i)) (bit_at_xor a b i) in
     let only = min_one (bit_at a i) (bit_at b i) (bit_at-lt a i) (bit_at-lt b i) in
@@ -77,7 +87,8 @@ no_home (InSlot j) h = no_slot j h
 pub mask_at-none : (n slot : ℕ) → mask_at (replicate n no_homes) slot ≡ no_homes
 mask_at-none n slot = elim (cases_lt slot n) [
   | inl inside ↦ get_or-replicate n slot no_homes no_homes inside
-  | inr past ↦ get_or_past (replicate n no_homes) slot no_homes (omega (arith, length-replicate n no_homes))
+  | inr past ↦
+      get_or_past (replicate n no_homes) slot no_homes (omega (arith, length-replicate n no_homes))
 ]
 
 -- ---- stack slots
@@ -98,17 +109,23 @@ none_in bits from j none low high h =
     let there : bit_at (bits / 2 ^ from) k ≡ bit_at bits j =
     ap (λ x. x % 2) (shr-shr bits from k) ∙ ap (bit_at bits) at in
     let one : bit_at 255 k ≡ 1 = bit_at_ones 8 k (omega arith) in
-    let both : bit_at (bit_and (bits / 2 ^ from) 255) k ≡ min (bit_at (bits / 2 ^ from) k) (bit_at 255 k) =
+    let both : bit_at (bit_and (bits / 2 ^ from) 255) k
+    ≡ min (bit_at (bits / 2 ^ from) k) (bit_at 255 k) =
     bit_at_and (bits / 2 ^ from) 255 k in
-    let zero : bit_at (bit_and (bits / 2 ^ from) 255) k ≡ 0 = ap (λ (x : ℕ). bit_at x k) none ∙ bit_at-zero k in
+    let zero : bit_at (bit_and (bits / 2 ^ from) 255) k ≡ 0 = ap (λ (x : ℕ). bit_at x k) none
+    ∙ bit_at-zero k in
     omega (arith, there, one, both, zero, h)
 
 -- one of them
 pub one_has : (n j : ℕ) → n < 64 → (bit_at (1 * 2 ^ n % 2 ^ 64) j ≡ 1) ↔ (j ≡ n)
 one_has n j within = elim (cases_eq j n) [
-  | inl e ↦ (λ h. e, λ h. ap (λ (i : ℕ). bit_at (1 * 2 ^ n % 2 ^ 64) i) e ∙ bit_at_set_same w64 0 n within)
+  | inl e ↦ (
+    λ h. e,
+    λ h. ap (λ (i : ℕ). bit_at (1 * 2 ^ n % 2 ^ 64) i) e ∙ bit_at_set_same w64 0 n within,
+  )
   | inr other ↦ (
-    λ h. let none : bit_at (1 * 2 ^ n % 2 ^ 64) j ≡ 0 = bit_at_set_other w64 0 n within j other ∙ bit_at-zero j in absurd cc,
+    λ h. let none : bit_at (1 * 2 ^ n % 2 ^ 64) j ≡ 0 = bit_at_set_other w64 0 n within j other
+        ∙ bit_at-zero j in absurd cc,
     λ e. absurd (other e),
   )
 ]
@@ -116,8 +133,10 @@ one_has n j within = elim (cases_eq j n) [
 pub some_has : (o : Option ℕ) (n : ℕ) → o ≡ Some n → n < 64 → (j : ℕ)
     → (bit_at (1 * 2 ^ n % 2 ^ 64) j ≡ 1) ↔ (o ≡ Some j)
 some_has o n is within j =
-    let one = one_has n j within in
-    (λ h. is ∙ ap (λ (k : ℕ). let some : Option ℕ = Some k in some) (sym (one.0 h)), λ e. one.1 (sym (same_Some n j (sym is ∙ e))))
+    let one = one_has n j within in (
+      λ h. is ∙ ap (λ (k : ℕ). let some : Option ℕ = Some k in some) (sym (one.0 h)),
+      λ e. one.1 (sym (same_Some n j (sym is ∙ e))),
+    )
 
 -- ---- registers and stack slots
 

@@ -24,7 +24,8 @@ append-right (x ∷ xs) ys r h = inr (append-right xs ys r h)
 append-cases : (xs ys : List Reg) (r : Reg) → IsOneOf (xs ++ ys) r → IsOneOf xs r ⊎ IsOneOf ys r
 append-cases [] ys r h = inr h
 append-cases (x ∷ xs) ys r (inl e) = inl (inl e)
-append-cases (x ∷ xs) ys r (inr h) = elim (append-cases xs ys r h) [ inl front ↦ inl (inr front) | inr back ↦ inr back ]
+append-cases (x ∷ xs) ys r (inr h) =
+    elim (append-cases xs ys r h) [ inl front ↦ inl (inr front) | inr back ↦ inr back ]
 
 option-one : (o : Option Reg) (r : Reg) → o ≡ Some r → IsOneOf (option_to_list o) r
 option-one (Some d) r e = inl (sym (same_Some d r e))
@@ -36,7 +37,8 @@ one-option (Some d) r (inr h) = absurd h
 one-option None r h = absurd h
 
 -- no register, and the one that may be there
-pub found-with : (A B : Type 0) (o q : Option Reg) (r : Reg) → o ≡ q → (A → ⊥) → B ↔ (A ⊎ (o ≡ Some r)) → B ↔ IsOneOf (option_to_list q) r
+pub found-with : (A B : Type 0) (o q : Option Reg) (r : Reg) → o ≡ q → (A → ⊥)
+    → B ↔ (A ⊎ (o ≡ Some r)) → B ↔ IsOneOf (option_to_list q) r
 found-with A B o q r same none x = (
   λ b. elim (x.0 b) [ inl a ↦ absurd (none a) | inr e ↦ option-one q r (sym same ∙ e) ],
   λ among. x.1 (inr (same ∙ one-option q r among)),
@@ -59,26 +61,33 @@ among-last a b c d r h = elim h [
   | inl e ↦
       append-left ((option_to_list a ++ option_to_list b) ++ option_to_list c) (option_to_list d) r
       (append-right (option_to_list a ++ option_to_list b) (option_to_list c) r (option-one c r e))
-  | inr e ↦ append-right ((option_to_list a ++ option_to_list b) ++ option_to_list c) (option_to_list d) r (option-one d r e)
+  | inr e ↦
+      append-right ((option_to_list a ++ option_to_list b) ++ option_to_list c) (option_to_list d) r
+      (option-one d r e)
 ]
 
-pub among-cases : (a b c d : Option Reg) (r : Reg) → IsOneOf (((option_to_list a ++ option_to_list b) ++ option_to_list c) ++ option_to_list d) r
+pub among-cases : (a b c d : Option Reg) (r : Reg)
+    → IsOneOf (((option_to_list a ++ option_to_list b) ++ option_to_list c) ++ option_to_list d) r
     → ((a ≡ Some r) ⊎ (b ≡ Some r)) ⊎ ((c ≡ Some r) ⊎ (d ≡ Some r))
 among-cases a b c d r h =
-    elim (append-cases ((option_to_list a ++ option_to_list b) ++ option_to_list c) (option_to_list d) r h) [
+    elim (append-cases ((option_to_list a ++ option_to_list b) ++ option_to_list c)
+    (option_to_list d) r h) [
       | inr last ↦ inr (inr (one-option d r last))
-      | inl three ↦ elim (append-cases (option_to_list a ++ option_to_list b) (option_to_list c) r three) [
-        | inr third ↦ inr (inl (one-option c r third))
-        | inl two ↦ elim (append-cases (option_to_list a) (option_to_list b) r two) [
-          | inl first ↦ inl (inl (one-option a r first))
-          | inr second ↦ inl (inr (one-option b r second))
-        ]
-      ]
+      | inl three ↦
+          elim (append-cases (option_to_list a ++ option_to_list b) (option_to_list c) r three) [
+            | inr third ↦ inr (inl (one-option c r third))
+            | inl two ↦ elim (append-cases (option_to_list a) (option_to_list b) r two) [
+              | inl first ↦ inl (inl (one-option a r first))
+              | inr second ↦ inl (inr (one-option b r second))
+            ]
+          ]
     ]
 
 -- no register, and those of the four that are there
-pub among-with : (A B C D E : Type 0) (a b c d : Option Reg) (r : Reg) → (A → ⊥) → B ↔ (A ⊎ (a ≡ Some r)) → C ↔ (B ⊎ (b ≡ Some r)) → D ↔ (C ⊎ (c ≡ Some r)) → E ↔ (D ⊎ (d ≡ Some r))
-    → E ↔ IsOneOf (((option_to_list a ++ option_to_list b) ++ option_to_list c) ++ option_to_list d) r
+pub among-with : (A B C D E : Type 0) (a b c d : Option Reg) (r : Reg) → (A → ⊥)
+    → B ↔ (A ⊎ (a ≡ Some r)) → C ↔ (B ⊎ (b ≡ Some r)) → D ↔ (C ⊎ (c ≡ Some r))
+    → E ↔ (D ⊎ (d ≡ Some r)) → E ↔ IsOneOf
+    (((option_to_list a ++ option_to_list b) ++ option_to_list c) ++ option_to_list d) r
 among-with A B C D E a b c d r none x y z w = (
   λ h4. elim (w.0 h4) [
     | inr e ↦ among-last a b c d r (inr e)
@@ -86,12 +95,17 @@ among-with A B C D E a b c d r none x y z w = (
       | inr e ↦ among-last a b c d r (inl e)
       | inl h2 ↦ elim (y.0 h2) [
         | inr e ↦ among-first a b c d r (inr e)
-        | inl h1 ↦ elim (x.0 h1) [ inr e ↦ among-first a b c d r (inl e) | inl h0 ↦ absurd (none h0) ]
+        | inl h1 ↦
+            elim (x.0 h1) [ inr e ↦ among-first a b c d r (inl e) | inl h0 ↦ absurd (none h0) ]
       ]
     ]
   ],
   λ among. elim (among-cases a b c d r among) [
-    | inl front ↦ elim front [ inl e ↦ w.1 (inl (z.1 (inl (y.1 (inl (x.1 (inr e))))))) | inr e ↦ w.1 (inl (z.1 (inl (y.1 (inr e))))) ]
+    | inl front ↦
+        elim front [
+          | inl e ↦ w.1 (inl (z.1 (inl (y.1 (inl (x.1 (inr e)))))))
+          | inr e ↦ w.1 (inl (z.1 (inl (y.1 (inr e)))))
+        ]
     | inr back ↦ elim back [ inl e ↦ w.1 (inl (z.1 (inr e))) | inr e ↦ w.1 (inr e) ]
   ],
 )
@@ -99,14 +113,15 @@ among-with A B C D E a b c d r none x y z w = (
 -- ---- instructions
 
 -- all but calls of functions and exits read what has to be set
-pub read_others : (i : Insn) → ((by : ℤ) → i ≡ CallLocal by → ⊥) → (i ≡ Exit → ⊥) → read_registers i ≡ reads i
+pub read_others : (i : Insn) → ((by : ℤ) → i ≡ CallLocal by → ⊥) → (i ≡ Exit → ⊥)
+    → read_registers i ≡ reads i
 read_others (CallLocal by) call exit = absurd (call by refl)
 read_others Exit call exit = absurd (exit refl)
 read_others i call exit = refl
 
 -- all but calls write the one register that their form says
-pub written_others : (i : Insn) → ((number : ℤ) → i ≡ CallHelper number → ⊥) → ((by : ℤ) → i ≡ CallLocal by → ⊥)
-    → written_registers i ≡ option_to_list (writes i)
+pub written_others : (i : Insn) → ((number : ℤ) → i ≡ CallHelper number → ⊥)
+    → ((by : ℤ) → i ≡ CallLocal by → ⊥) → written_registers i ≡ option_to_list (writes i)
 written_others (CallHelper number) helper call = absurd (helper number refl)
 written_others (CallLocal by) helper call = absurd (call by refl)
 written_others i helper call = refl

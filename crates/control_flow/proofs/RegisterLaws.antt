@@ -18,7 +18,8 @@ numbered (suc (suc (suc (suc (suc (suc (suc zero))))))) h = (R7, refl, refl)
 numbered (suc (suc (suc (suc (suc (suc (suc (suc zero)))))))) h = (R8, refl, refl)
 numbered (suc (suc (suc (suc (suc (suc (suc (suc (suc zero))))))))) h = (R9, refl, refl)
 numbered (suc (suc (suc (suc (suc (suc (suc (suc (suc (suc zero)))))))))) h = (R10, refl, refl)
-numbered (suc (suc (suc (suc (suc (suc (suc (suc (suc (suc (suc n))))))))))) h = absurd (omega arith)
+numbered (suc (suc (suc (suc (suc (suc (suc (suc (suc (suc (suc n))))))))))) h =
+    absurd (omega arith)
 
 -- the register of a number has it
 pub number_of : (n : ℕ) (r : Reg) → n < 11 → Some r ≡ reg_numbered n → reg_number r ≡ n

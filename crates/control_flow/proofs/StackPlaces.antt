@@ -23,7 +23,8 @@ byte_below place o byte is only = ((only byte).0 is).0
 pub within_some : (place : Place) (o : Option ℕ) (byte : ℕ) → o ≡ Some byte → OnlyByte place o
     → (j : ℕ) → (some_number (byte / 8) ≡ Some j) ↔ IsWithinSlot place j
 within_some place o byte is only j = (
-  λ e. let same : byte / 8 ≡ j = same_Some (byte / 8) j e in (byte, (only byte).0 is, omega (arith, same), omega (arith, same)),
+  λ e. let same : byte / 8 ≡ j = same_Some (byte / 8) j e in
+      (byte, (only byte).0 is, omega (arith, same), omega (arith, same)),
   λ (n, there, low, high).
       let same : byte ≡ n = same_Some byte n (sym is ∙ (only n).1 there) in
       let at : byte / 8 ≡ j = omega (arith, same, low, high) in
@@ -44,11 +45,14 @@ made base offset = record { base = base; offset = offset }
 
 place_is : (place : Place) (base : Reg) (offset : ℤ) → place.base ≡ base → place.offset ≡ offset
     → place ≡ made base offset
-place_is place base offset b o = ap (λ (r : Reg). made r place.offset) b ∙ ap (λ (z : ℤ). made base z) o
+place_is place base offset b o =
+    ap (λ (r : Reg). made r place.offset) b ∙ ap (λ (z : ℤ). made base z) o
 
 whole_byte : (place : Place) (o : Option ℕ) (j : ℕ) → OnlyByte place o → IsWholeSlot place j
     → o ≡ Some (8 * j)
-whole_byte place o j only (below, is) = (only (8 * j)).1 (omega (arith, below), ap (λ (q : Place). q.base) is, ap (λ (q : Place). q.offset) is)
+whole_byte place o j only (below, is) =
+    (only (8 * j)).1
+    (omega (arith, below), ap (λ (q : Place). q.base) is, ap (λ (q : Place). q.offset) is)
 
 pub whole_some : (place : Place) (o : Option ℕ) (byte : ℕ) → o ≡ Some byte → OnlyByte place o
     → byte % 8 ≡ 0 → (j : ℕ) → (some_number (byte / 8) ≡ Some j) ↔ IsWholeSlot place j
@@ -56,15 +60,19 @@ whole_some place o byte is only even j = (
   λ e.
       let same : byte / 8 ≡ j = same_Some (byte / 8) j e in
       let (below, base, offset) = (only byte).0 is in
-      let at : byte ≡ 8 * j = omega (arith, same, even) in
-      (omega (arith, at, below), place_is place R10 (slot_offset j) base (offset ∙ ap (λ (n : ℕ). pos n -ℤ pos frame_size) at)),
+      let at : byte ≡ 8 * j = omega (arith, same, even) in (
+        omega (arith, at, below),
+        place_is place R10 (slot_offset j) base
+            (offset ∙ ap (λ (n : ℕ). pos n -ℤ pos frame_size) at),
+      ),
   λ whole.
       let same : byte ≡ 8 * j = same_Some byte (8 * j) (sym is ∙ whole_byte place o j only whole) in
       let at : byte / 8 ≡ j = omega (arith, same) in
       ap some_number at,
 )
 
-pub whole_other : (place : Place) (o : Option ℕ) (byte : ℕ) → o ≡ Some byte → OnlyByte place o → byte % 8 ≢ 0 → (j : ℕ) → (let none : Option ℕ = None in none ≡ Some j) ↔ IsWholeSlot place j
+pub whole_other : (place : Place) (o : Option ℕ) (byte : ℕ) → o ≡ Some byte → OnlyByte place o
+    → byte % 8 ≢ 0 → (j : ℕ) → (let none : Option ℕ = None in none ≡ Some j) ↔ IsWholeSlot place j
 whole_other place o byte is only odd j = (
   λ e. absurd cc,
   λ whole.

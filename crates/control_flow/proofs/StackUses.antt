@@ -13,7 +13,7 @@ use Rattle.isa_model.specs.declared.instructions.Insn.TheVariants.{Load, LoadSx,
 use Rattle.isa_model.specs.Code.Instructions.{Program, fetch}
 use Rattle.isa_model.specs.MustAccept.Paths.{IsOneOf}
 use Rattle.control_flow.specs.Accesses.{read_registers}
-use Rattle.control_flow.specs.StackUse.{ReadsSlot, WritesSlot, TakesFrameAddress, HandsOnAt, FrameAddressIsTaken}
+use Rattle.control_flow.specs.StackUse.{ReadsSlot, WritesSlot, TakesFrameAddress, TakesFrameAddressAt, FrameAddressIsTaken}
 use Rattle.control_flow.specs.Liveness.{InRegister, ReadsHome}
 
 pub reads_below : (i : Insn) (j : ℕ) → ReadsSlot i j → j < 64
@@ -28,34 +28,37 @@ writes_below (StoreConstant U64 place k) j h = h.0
 writes_below (StoreConstant size place k) j h = absurd h
 writes_below i j h = absurd h
 
--- all but loads and stores hand r10 on where they read it
-pub others_hand_on : (i : Insn) → ((s : Size) (d : Reg) (q : Place) → i ≡ Load s d q → ⊥)
+-- all but loads and stores take the call frame's address if they read r10
+pub others_take_address : (i : Insn) → ((s : Size) (d : Reg) (q : Place) → i ≡ Load s d q → ⊥)
     → ((s : SignedSize) (d : Reg) (q : Place) → i ≡ LoadSx s d q → ⊥)
     → ((s : Size) (q : Place) (k : ℤ) → i ≡ StoreConstant s q k → ⊥)
     → ((s : Size) (q : Place) (r : Reg) → i ≡ Store s q r → ⊥)
     → (A B : Type 0) → A ↔ B → B ↔ IsOneOf (read_registers i) R10 → A ↔ TakesFrameAddress i
-others_hand_on (Load s d q) load signed constant store A B x y = absurd (load s d q refl)
-others_hand_on (LoadSx s d q) load signed constant store A B x y = absurd (signed s d q refl)
-others_hand_on (StoreConstant s q k) load signed constant store A B x y = absurd (constant s q k refl)
-others_hand_on (Store s q r) load signed constant store A B x y = absurd (store s q r refl)
-others_hand_on i load signed constant store A B x y = (λ a. y.0 (x.0 a), λ h. x.1 (y.1 h))
+others_take_address (Load s d q) load signed constant store A B x y = absurd (load s d q refl)
+others_take_address (LoadSx s d q) load signed constant store A B x y = absurd (signed s d q refl)
+others_take_address (StoreConstant s q k) load signed constant store A B x y =
+    absurd (constant s q k refl)
+others_take_address (Store s q r) load signed constant store A B x y = absurd (store s q r refl)
+others_take_address i load signed constant store A B x y = (λ a. y.0 (x.0 a), λ h. x.1 (y.1 h))
 
 -- an instruction reads the registers that its slot reads
 pub reads_there : (p : Program) (slot : ℕ) (i : Insn) (r : Reg) → fetch p slot ≡ Some i
     → ReadsHome p (InRegister r) slot ↔ IsOneOf (read_registers i) r
 reads_there p slot i r here = (
-  λ (j, there, by). subst (λ (x : Insn). IsOneOf (read_registers x) r) (same_Some j i (sym there ∙ here)) by,
+  λ (j, there, by).
+      subst (λ (x : Insn). IsOneOf (read_registers x) r) (same_Some j i (sym there ∙ here)) by,
   λ by. (i, here, by),
 )
 
--- r10 is handed on as is said, if no slot hands it on where that is denied
-pub handed_on_as_said : (p : Program) (n : ℕ) (handed_on : Bool) → (IsTrue handed_on → FrameAddressIsTaken p)
-    → (handed_on ≡ false → (k : ℕ) → k < n → ¬ HandsOnAt p k)
-    → ((k : ℕ) → HandsOnAt p k → k < n) → IsTrue handed_on ↔ FrameAddressIsTaken p
-handed_on_as_said p n true is none inside = (is, λ h. refl)
-handed_on_as_said p n false is none inside = (is, λ (k, at). absurd (none refl k (inside k at) at))
+-- `taken` is right if, where it is false, no slot takes the frame's address
+pub taken_iff : (p : Program) (n : ℕ) (taken : Bool)
+    → (IsTrue taken → FrameAddressIsTaken p)
+    → (taken ≡ false → (k : ℕ) → k < n → ¬ TakesFrameAddressAt p k)
+    → ((k : ℕ) → TakesFrameAddressAt p k → k < n) → IsTrue taken ↔ FrameAddressIsTaken p
+taken_iff p n true is none inside = (is, λ h. refl)
+taken_iff p n false is none inside = (is, λ (k, at). absurd (none refl k (inside k at) at))
 
--- an instruction reads r10 if it takes it for more than the base of a load or a store
+-- an instruction that takes the frame's address reads r10
 pub taken_is_read : (i : Insn) → TakesFrameAddress i → IsOneOf (read_registers i) R10
 taken_is_read (Load size d place) takes = absurd takes
 taken_is_read (LoadSx size d place) takes = absurd takes

@@ -1,6 +1,6 @@
--- The work list: what one slot that is taken from it adds, what the list keeps, and what is live when it is empty.
-use Rattle.std.proofs.Common.{◌≡◌, ◌≢◌, ℕ, zero, suc, ◌+◌, ◌*◌, ◌^◌, ◌<◌, ◌≤◌, Bool, true, false, not, cond, eqb, eq-eqb, List, [], ◌∷◌, ◌++◌, length, take, drop, replicate, get_or, set, sum_by, Option, Some, None, refl, sym, ap, ◌∙◌, subst, arith, inl, inr}
-use Rattle.std.specs.Prelude.{◌↔◌, ◌⊎◌, ◌&&◌, slice_get, count_by, Contains}
+-- The loop of the work list: what the list keeps, that it ends, and what is live when it is empty.
+use Rattle.std.proofs.Common.{◌≡◌, ◌≢◌, ℕ, zero, suc, ◌+◌, ◌*◌, ◌<◌, ◌≤◌, Bool, true, false, not, cond, List, [], ◌∷◌, ◌++◌, length, take, drop, replicate, get_or, set, sum_by, Option, Some, None, refl, sym, ap, ◌∙◌, subst, arith, inl, inr}
+use Rattle.std.specs.Prelude.{◌⊎◌, slice_get, count_by, Contains}
 use Rattle.std.proofs.Math.Nat.{mul-le-mul_left}
 use Rattle.std.proofs.lemmas.Bool.{cases_eq}
 use Rattle.std.proofs.lemmas.Option.{same_Some, slice_get_within}
@@ -15,122 +15,27 @@ use Rattle.control_flow.specs.Graph.{Falls, Jumps}
 use Rattle.control_flow.proofs.FlowLaws.{BeginsInsn-inside, fetch-BeginsInsn, HasEdge-inside}
 use Rattle.control_flow.specs.Flows.{IsMarked, MarksLive}
 use Rattle.control_flow.specs.Masks.{HasHome, no_homes, mask_at}
-use Rattle.control_flow.specs.Liveness.{Home, IsReadAfter, IsHomeLive}
-use Rattle.control_flow.specs.Nodes.{IsNode, AreNodes, ComesFrom, HasBehind, IsLiveBefore, AreSound, IsClosedAt, room_in, room_left, AddsAt}
+use Rattle.control_flow.specs.Liveness.{Home, IsReadAfter}
+use Rattle.control_flow.specs.Nodes.{AreNodes, ComesFrom, HasBehind, IsLiveBefore, AreSound, HasLiveBefore, room_left, AddsAt}
 use Rattle.control_flow.specs.Searches.{Extends, HasAll}
 use Rattle.control_flow.proofs.MarkLemmas.{IsMarked-inside}
 use Rattle.control_flow.proofs.MaskLemmas.{no_home, mask_at-none}
 use Rattle.control_flow.proofs.SlotSearch.{Contains-one, no-Contains, on_top}
 use Rattle.control_flow.proofs.Graphs.{node_at, node-fall_from, node-jump_from}
 
--- ---- one slot
-
--- what is live after an instruction is live at one of its successors
-behind_to : (p : Program) (masks : List HomeMask) (o : Option ℕ) (r : Home) → AreSound p masks
-    → HasBehind masks o r → (to : ℕ) × (o ≡ Some to) × IsHomeLive p r to
-behind_to p masks None r sound h = absurd h
-behind_to p masks (Some to) r sound h = (to, refl, sound r to h)
-
-before_live : (p : Program) (masks : List HomeMask) (slot : ℕ) (node : Node) (r : Home)
-    → IsNode p slot node → AreSound p masks → IsLiveBefore masks node r → IsHomeLive p r slot
-before_live p masks slot node r is sound (inl reads) = (zero, (is.reads r).0 reads)
-before_live p masks slot node r is sound (inr (inl falls, keeps)) =
-    let way = behind_to p masks node.falls_to r sound falls in
-    (suc way.2.0, (way.0, inl (sym is.falls ∙ way.1), λ w. keeps ((is.writes r).1 w), way.2.1))
-before_live p masks slot node r is sound (inr (inr jumps, keeps)) =
-    let way = behind_to p masks node.jumps_to r sound jumps in
-    (suc way.2.0, (way.0, inr (sym is.jumps ∙ way.1), λ w. keeps ((is.writes r).1 w), way.2.1))
-
--- ---- what the code finds at a slot
-
-abbrev IsStep : List Node → ℕ → Node → List HomeMask → HomeMask → HomeMask → Type 0
-IsStep nodes n node masks before mask =
-    (slice_get nodes n ≡ Some node) × ((r : Home) → HasHome before r ↔ IsLiveBefore masks node r) × ((r : Home) → HasHome mask r ↔ (HasHome (mask_at masks n) r ⊎ HasHome before r))
-
--- the mask of the slot stays
-pub step_same : (nodes : List Node) (n : ℕ) (node : Node) (masks : List HomeMask) (before mask : HomeMask) → IsStep nodes n node masks before mask
-    → mask ≡ mask_at masks n → AddsAt nodes n masks masks false
-step_same nodes n node masks before mask (here, adds, both) stays =
-    record {
-      same = refl;
-      sound = λ p are sound. sound;
-      kept = λ r h. h;
-      added = λ x there r live.
-          let one : x ≡ node = same_Some x node (sym there ∙ here) in
-          let has : HasHome mask r = (both r).1 (inr ((adds r).1 (subst (λ (y : Node). IsLiveBefore masks y r) one live))) in
-          subst (λ x. HasHome x r) stays has;
-      others = λ k apart. refl;
-      still = λ e. refl;
-      less = λ e. absurd cc;
-    }
-
--- masks that a test tells apart
-pub masks_apart : (a b : HomeMask)
-    → (eqb a.registers.bits b.registers.bits && eqb a.slots.bits b.slots.bits) ≡ false → a ≡ b → ⊥
-masks_apart a b apart same =
-    let registers = eq-eqb a.registers.bits b.registers.bits (ap (λ (m : HomeMask). m.registers.bits) same) in
-    let slots = eq-eqb a.slots.bits b.slots.bits (ap (λ (m : HomeMask). m.slots.bits) same) in
-    absurd cc
-
--- a mask that grew has less room
-abbrev made : ℕ → ℕ → HomeMask
-made registers slots = record { registers = record { bits = registers }; slots = record { bits = slots } }
-
-same_mask : (a b : HomeMask) → a.registers.bits ≡ b.registers.bits → a.slots.bits ≡ b.slots.bits
-    → b ≡ a
-same_mask a b rs js = ap (λ (x : ℕ). made x b.slots.bits) (sym rs) ∙ ap (λ (y : ℕ). made a.registers.bits y) (sym js)
-
-less_room : (a b : HomeMask) → b.registers.bits < 2 ^ 16 → b.slots.bits < 2 ^ 64
-    → a.registers.bits ≤ b.registers.bits → a.slots.bits ≤ b.slots.bits
-    → (b ≡ a → ⊥) → room_in b < room_in a
-less_room a b fits wide up more other = elim (cases_eq a.registers.bits b.registers.bits) [
-  | inl rs ↦ elim (cases_eq a.slots.bits b.slots.bits) [
-    | inl js ↦ absurd (other (same_mask a b rs js))
-    | inr apart ↦ omega arith
-  ]
-  | inr apart ↦ omega arith
-]
-
--- the mask of the slot grows
-pub step_more : (nodes : List Node) (n : ℕ) (node : Node) (masks : List HomeMask) (before mask : HomeMask) → IsStep nodes n node masks before mask
-    → n < length masks → mask.registers.bits < 2 ^ 16 → mask.slots.bits < 2 ^ 64
-    → (mask_at masks n).registers.bits ≤ mask.registers.bits
-    → (mask_at masks n).slots.bits ≤ mask.slots.bits → (mask ≡ mask_at masks n → ⊥)
-    → AddsAt nodes n masks (set masks n mask) true
-step_more nodes n node masks before mask (here, adds, both) inside fits wide up more other =
-    let is : mask_at (set masks n mask) n ≡ mask = get_or-set_same masks n mask no_homes inside in record {
-      same = length-set masks n mask;
-      sound = λ p are sound r slot h. elim (cases_eq slot n) [
-        | inl e ↦
-            let has : HasHome mask r = subst (λ x. HasHome x r) (ap (mask_at (set masks n mask)) e ∙ is) h in
-            subst (λ (k : ℕ). IsHomeLive p r k) (sym e) (elim ((both r).0 has) [
-              | inl had ↦ sound r n had
-              | inr live ↦ before_live p masks n node r (are.each n node here) sound ((adds r).0 live)
-            ])
-        | inr elsewhere ↦ sound r slot (subst (λ x. HasHome x r) (get_or-set_other masks n slot mask no_homes elsewhere) h)
-      ];
-      kept = λ r h. subst (λ x. HasHome x r) (sym is) ((both r).1 (inl h));
-      added = λ x there r live.
-          let one : x ≡ node = same_Some x node (sym there ∙ here) in
-          subst (λ y. HasHome y r) (sym is) ((both r).1 (inr ((adds r).1 (subst (λ (y : Node). IsLiveBefore masks y r) one live))));
-      others = λ k elsewhere. get_or-set_other masks n k mask no_homes elsewhere;
-      still = λ e. absurd cc;
-      less = λ e.
-          let moved = sum_by-set room_in masks n mask no_homes inside in
-          let less = less_room (mask_at masks n) mask fits wide up more other in
-          omega (arith, moved, less);
-    }
-
 -- ---- the loop
 
--- the masks have nothing that is not live, and all that is live before each instruction whose slot is not on the list
-pub record IsWorking (p : Program) (nodes : List Node) (masks : List HomeMask) (found : List Bool) (frontier : List ℕ) : Type 0 where
+-- the masks have nothing that is not live, and all that is live before each instruction whose slot
+-- is not on the list
+pub record IsWorking (p : Program) (nodes : List Node) (masks : List HomeMask) (found : List Bool)
+    (frontier : List ℕ) : Type 0 where
   pub same : length masks ≡ length nodes
   pub same_found : length found ≡ length nodes
   pub sound : AreSound p masks
   pub inside : (k : ℕ) → Contains frontier k → k < length nodes
   pub waits : (k : ℕ) → IsMarked found k → Contains frontier k
-  pub closed : (k : ℕ) (node : Node) → slice_get nodes k ≡ Some node → IsMarked found k ⊎ IsClosedAt masks k node
+  pub closed : (k : ℕ) (node : Node) → slice_get nodes k ≡ Some node
+      → IsMarked found k ⊎ HasLiveBefore masks k node
   pub room : count_by not found + length frontier ≤ length nodes
 
 -- no slot is left to be found
@@ -141,7 +46,8 @@ none_left (suc n) =
     let rest = none_left n in
     omega (arith, counted, rest)
 
-pub working_start : (p : Program) (nodes : List Node) (n size : ℕ) (found : List Bool) (frontier : List ℕ)
+pub working_start : (p : Program) (nodes : List Node) (n size : ℕ) (found : List Bool)
+    (frontier : List ℕ)
     → n ≡ length nodes → size ≡ length nodes → HasAll size found frontier
     → IsWorking p nodes (replicate n no_homes) found frontier
 working_start p nodes n size found frontier all all_found x =
@@ -162,9 +68,11 @@ working_start p nodes n size found frontier all all_found x =
     }
 
 -- the slot on top is inside the code
-pub working_inside : (p : Program) (nodes : List Node) (masks : List HomeMask) (found : List Bool) (frontier rest : List ℕ) (slot : ℕ)
+pub working_inside : (p : Program) (nodes : List Node) (masks : List HomeMask) (found : List Bool)
+    (frontier rest : List ℕ) (slot : ℕ)
     → frontier ≡ rest ++ slot ∷ [] → IsWorking p nodes masks found frontier → slot < length nodes
-working_inside p nodes masks found frontier rest slot popped m = m.inside slot (on_top slot frontier rest popped)
+working_inside p nodes masks found frontier rest slot popped m =
+    m.inside slot (on_top slot frontier rest popped)
 
 -- what is live after it, by masks that are the same there
 behind_same : (old new : List HomeMask) (o : Option ℕ) (r : Home)
@@ -174,10 +82,13 @@ behind_same old new None r same h = h
 behind_same old new (Some to) r same h = subst (λ x. HasHome x r) (same to refl) h
 
 before_same : (old new : List HomeMask) (node : Node) (r : Home)
-    → ((to : ℕ) → (node.falls_to ≡ Some to) ⊎ (node.jumps_to ≡ Some to) → mask_at new to ≡ mask_at old to) → IsLiveBefore new node r → IsLiveBefore old node r
+    → ((to : ℕ) → (node.falls_to ≡ Some to) ⊎ (node.jumps_to ≡ Some to)
+    → mask_at new to ≡ mask_at old to) → IsLiveBefore new node r → IsLiveBefore old node r
 before_same old new node r same (inl reads) = inl reads
-before_same old new node r same (inr (inl falls, keeps)) = inr (inl (behind_same old new node.falls_to r (λ to e. same to (inl e)) falls), keeps)
-before_same old new node r same (inr (inr jumps, keeps)) = inr (inr (behind_same old new node.jumps_to r (λ to e. same to (inr e)) jumps), keeps)
+before_same old new node r same (inr (inl falls, keeps)) =
+    inr (inl (behind_same old new node.falls_to r (λ to e. same to (inl e)) falls), keeps)
+before_same old new node r same (inr (inr jumps, keeps)) =
+    inr (inr (behind_same old new node.jumps_to r (λ to e. same to (inr e)) jumps), keeps)
 
 -- an edge leads to a slot or not
 leads_there : (o : Option ℕ) (slot : ℕ) → (o ≡ Some slot) ⊎ ((to : ℕ) → o ≡ Some to → to ≢ slot)
@@ -187,7 +98,9 @@ leads_there (Some k) slot = elim (cases_eq k slot) [
   | inr apart ↦ inr (λ to e same. apart (same_Some k to e ∙ same))
 ]
 
-node_there : (node : Node) (slot : ℕ) → ((node.falls_to ≡ Some slot) ⊎ (node.jumps_to ≡ Some slot)) ⊎ ((to : ℕ) → (node.falls_to ≡ Some to) ⊎ (node.jumps_to ≡ Some to) → to ≢ slot)
+node_there : (node : Node) (slot : ℕ)
+    → ((node.falls_to ≡ Some slot) ⊎ (node.jumps_to ≡ Some slot))
+    ⊎ ((to : ℕ) → (node.falls_to ≡ Some to) ⊎ (node.jumps_to ≡ Some to) → to ≢ slot)
 node_there node slot = elim (leads_there node.falls_to slot) [
   | inl falls ↦ inl (inl falls)
   | inr other ↦ elim (leads_there node.jumps_to slot) [
@@ -196,17 +109,21 @@ node_there node slot = elim (leads_there node.falls_to slot) [
   ]
 ]
 
-comes_from : (nodes : List Node) (k slot : ℕ) (node : Node) → slice_get nodes k ≡ Some node → (node.falls_to ≡ Some slot) ⊎ (node.jumps_to ≡ Some slot) → ComesFrom nodes slot k
+comes_from : (nodes : List Node) (k slot : ℕ) (node : Node) → slice_get nodes k ≡ Some node
+    → (node.falls_to ≡ Some slot) ⊎ (node.jumps_to ≡ Some slot) → ComesFrom nodes slot k
 comes_from nodes k slot node here (inl falls) = inl (node-fall_from nodes k node here ∙ falls)
 comes_from nodes k slot node here (inr jumps) = inr (node-jump_from nodes k node here ∙ jumps)
 
--- a slot that was not on the list, or was on its top, has what is live before it by the masks of before
-closed_old : (nodes : List Node) (slot k : ℕ) (node : Node) (old new : List HomeMask) (grown : Bool) (r : Home) → slice_get nodes k ≡ Some node
-    → AddsAt nodes slot old new grown → (k ≡ slot) ⊎ IsClosedAt old k node → IsLiveBefore old node r
-    → HasHome (mask_at new k) r
-closed_old nodes slot k node old new grown r here x closed live = elim (cases_eq k slot) [
+-- a slot that was not on the list, or was on its top, has what is live before it by the old masks
+live_before_old : (nodes : List Node) (slot k : ℕ) (node : Node) (old new : List HomeMask)
+    (grown : Bool)
+    (r : Home) → slice_get nodes k ≡ Some node
+    → AddsAt nodes slot old new grown → (k ≡ slot) ⊎ HasLiveBefore old k node
+    → IsLiveBefore old node r → HasHome (mask_at new k) r
+live_before_old nodes slot k node old new grown r here x closed live = elim (cases_eq k slot) [
   | inl e ↦
-      let there : slice_get nodes slot ≡ Some node = subst (λ (i : ℕ). slice_get nodes i ≡ Some node) e here in
+      let there : slice_get nodes slot ≡ Some node =
+      subst (λ (i : ℕ). slice_get nodes i ≡ Some node) e here in
       subst (λ (i : ℕ). HasHome (mask_at new i) r) (sym e) (x.added node there r live)
   | inr apart ↦ elim closed [
     | inl e ↦ absurd (apart e)
@@ -215,41 +132,59 @@ closed_old nodes slot k node old new grown r here x closed live = elim (cases_eq
 ]
 
 -- the marks of the slots but the one that is taken
-unmarked : (found : List Bool) (slot k : ℕ) → slot < length found → IsMarked (set found slot false) k → IsMarked found k × (k ≢ slot)
+unmarked : (found : List Bool) (slot k : ℕ) → slot < length found
+    → IsMarked (set found slot false) k → IsMarked found k × (k ≢ slot)
 unmarked found slot k inside h = elim (cases_eq k slot) [
   | inl e ↦
-      let none : get_or (set found slot false) k false ≡ false = ap (λ (i : ℕ). get_or (set found slot false) i false) e ∙ get_or-set_same found slot false false inside in
+      let none : get_or (set found slot false) k false ≡ false =
+      ap (λ (i : ℕ). get_or (set found slot false) i false) e
+      ∙ get_or-set_same found slot false false inside in
       absurd cc
   | inr apart ↦ (sym (get_or-set_other found slot k false false apart) ∙ h, apart)
 ]
 
-still_marked : (found : List Bool) (slot k : ℕ) → k ≢ slot → IsMarked found k → IsMarked (set found slot false) k
+still_marked : (found : List Bool) (slot k : ℕ) → k ≢ slot → IsMarked found k
+    → IsMarked (set found slot false) k
 still_marked found slot k apart h = get_or-set_other found slot k false false apart ∙ h
 
-count-unset : (found : List Bool) (slot : ℕ) → slot < length found → count_by not (set found slot false) ≤ count_by not found + 1
+count-unset : (found : List Bool) (slot : ℕ) → slot < length found
+    → count_by not (set found slot false) ≤ count_by not found + 1
 count-unset found slot inside =
-    let moved : sum_by (λ x. cond (not x) 1 0) (set found slot false) + cond (not (get_or found slot false)) 1 0 ≡ sum_by (λ x. cond (not x) 1 0) found + cond (not false) 1 0 = sum_by-set (λ x. cond (not x) 1 0) found slot false false inside in
+    let moved : sum_by (λ x. cond (not x) 1 0) (set found slot false)
+    + cond (not (get_or found slot false)) 1 0
+    ≡ sum_by (λ x. cond (not x) 1 0) found
+    + cond (not false) 1 0 = sum_by-set (λ x. cond (not x) 1 0) found slot false false inside in
     omega (arith, moved)
 
--- a slot is taken from the list; if its mask grows, the slots from which control comes there go on it
-pub working_next : (p : Program) (nodes : List Node) (W : ℕ → Type 0) (slot : ℕ) (old new : List HomeMask) (grown : Bool) (f : List Bool) (s rest : List ℕ) (g : List Bool) (t : List ℕ)
-    → AreNodes p nodes → s ≡ rest ++ slot ∷ [] → AddsAt nodes slot old new grown → Extends W (set f slot false) rest g t
+-- a slot is taken from the list; if its mask grows, the slots from which control comes there go on
+-- it
+pub working_next : (p : Program) (nodes : List Node) (W : ℕ → Type 0) (slot : ℕ)
+    (old new : List HomeMask) (grown : Bool) (f : List Bool) (s rest : List ℕ) (g : List Bool)
+    (t : List ℕ)
+    → AreNodes p nodes → s ≡ rest ++ slot ∷ [] → AddsAt nodes slot old new grown
+    → Extends W (set f slot false) rest g t
     → (grown ≡ false) ⊎ ((k : ℕ) → ComesFrom nodes slot k → W k)
     → IsWorking p nodes old f s → IsWorking p nodes new g t
 working_next p nodes W slot old new grown f s rest g t are popped x y wants m =
-    let low : slot < length f = let first = m.inside slot (on_top slot s rest popped) in omega (arith, first, m.same_found) in
-    let same_found : length g ≡ length nodes = y.same ∙ length-set f slot false ∙ m.same_found in record {
+    let low : slot < length f = let first = m.inside slot (on_top slot s rest popped) in
+    omega (arith, first, m.same_found) in
+    let same_found : length g ≡ length nodes = y.same ∙ length-set f slot false ∙ m.same_found in
+    record {
       same = x.same ∙ m.same;
       same_found = same_found;
       sound = x.sound p are m.sound;
       inside = λ k c. elim (y.adds k c) [
-        | inl below ↦ m.inside k (subst (λ (l : List ℕ). Contains l k) (sym popped) (Contains-append_left rest (slot ∷ []) k below))
+        | inl below ↦
+            m.inside k
+            (subst (λ (l : List ℕ). Contains l k) (sym popped)
+            (Contains-append_left rest (slot ∷ []) k below))
         | inr marked ↦ let within = IsMarked-inside g k marked in omega (arith, within, same_found)
       ];
       waits = λ k h. elim (y.new k h) [
         | inl marked ↦
             let was = unmarked f slot k low marked in
-            elim (Contains-append_cases rest (slot ∷ []) k (subst (λ (l : List ℕ). Contains l k) popped (m.waits k was.0))) [
+            elim (Contains-append_cases rest (slot ∷ []) k
+            (subst (λ (l : List ℕ). Contains l k) popped (m.waits k was.0))) [
               | inl below ↦ y.stays k below
               | inr one ↦ absurd (was.1 (sym (Contains-one slot k one)))
             ]
@@ -258,18 +193,23 @@ working_next p nodes W slot old new grown f s rest g t are popped x y wants m =
       closed = λ k node here. elim (before k node here) [
         | inl marked ↦ inl (y.kept k marked)
         | inr was ↦ elim wants [
-          | inl still ↦ inr (λ r live. closed_old nodes slot k node old new grown r here x was
-              (before_same old new node r (λ to way. ap (λ (l : List HomeMask). mask_at l to) (x.still still)) live))
+          | inl still ↦ inr (λ r live. live_before_old nodes slot k node old new grown r here x was
+              (before_same old new node r
+              (λ to way. ap (λ (l : List HomeMask). mask_at l to) (x.still still)) live))
           | inr all ↦ elim (node_there node slot) [
             | inl way ↦ inl (y.all k (all k (comes_from nodes k slot node here way)))
-            | inr other ↦ inr (λ r live. closed_old nodes slot k node old new grown r here x was
+            | inr other ↦
+                inr (λ r live. live_before_old nodes slot k node old new grown r here x was
                 (before_same old new node r (λ to way. x.others to (other to way)) live))
           ]
         ]
       ];
-      room = let more = count-unset f slot low in omega (arith, more, y.even, m.room, ap length popped, length-append rest (slot ∷ []));
+      room =
+          let more = count-unset f slot low in
+          omega (arith, more, y.even, m.room, ap length popped, length-append rest (slot ∷ []));
     } where
-      before : (k : ℕ) (node : Node) → slice_get nodes k ≡ Some node → IsMarked (set f slot false) k ⊎ ((k ≡ slot) ⊎ IsClosedAt old k node)
+      before : (k : ℕ) (node : Node) → slice_get nodes k ≡ Some node
+          → IsMarked (set f slot false) k ⊎ ((k ≡ slot) ⊎ HasLiveBefore old k node)
       before k node here = elim (cases_eq k slot) [
         | inl e ↦ inr (inl e)
         | inr apart ↦ elim (m.closed k node here) [
@@ -278,17 +218,20 @@ working_next p nodes W slot old new grown f s rest g t are popped x y wants m =
         ]
       ]
 
--- ---- it comes to an end
+-- ---- it ends
 
 -- what may still be added, and for each of that the whole list
 abbrev pub work_left : List Node → List HomeMask → List ℕ → ℕ
 work_left nodes masks frontier = (length nodes + 1) * room_left masks + length frontier
 
 -- a mask has grown
-pub work_less : (p : Program) (nodes : List Node) (old new : List HomeMask) (g : List Bool) (s t : List ℕ) → room_left new < room_left old
+pub work_less : (p : Program) (nodes : List Node) (old new : List HomeMask) (g : List Bool)
+    (s t : List ℕ) → room_left new < room_left old
     → IsWorking p nodes new g t → work_left nodes new t < work_left nodes old s
 work_less p nodes old new g s t less m =
-    let product = mul-le-mul_left {m = room_left new + 1} {n = room_left old} (length nodes + 1) (omega arith) in
+    let product =
+    mul-le-mul_left {m = room_left new + 1} {n = room_left old} (length nodes + 1)
+    (omega arith) in
     omega (arith, product, m.room)
 
 -- ---- the list is empty
@@ -298,24 +241,34 @@ behind : (masks : List HomeMask) (o : Option ℕ) (to : ℕ) (r : Home) → o �
 behind masks o to r e h = subst (λ (x : Option ℕ). HasBehind masks x r) (sym e) h
 
 live_has : (p : Program) (nodes : List Node) (masks : List HomeMask) → AreNodes p nodes
-    → ((k : ℕ) (node : Node) → slice_get nodes k ≡ Some node → IsClosedAt masks k node)
+    → ((k : ℕ) (node : Node) → slice_get nodes k ≡ Some node → HasLiveBefore masks k node)
     → (r : Home) (n slot : ℕ) → IsReadAfter p r n slot → HasHome (mask_at masks slot) r
 live_has p nodes masks are closed r zero slot reads =
-    let inside : slot < length p.insns = BeginsInsn-inside p slot (fetch-BeginsInsn p slot reads.0 reads.1) in
+    let inside : slot < length p.insns =
+    BeginsInsn-inside p slot (fetch-BeginsInsn p slot reads.0 reads.1) in
     let found = node_at p nodes slot are inside in
     closed slot found.0 found.1 r (inl (((are.each slot found.0 found.1).reads r).1 reads))
 live_has p nodes masks are closed r (suc n) slot (next, inl falls, keeps, path) =
     let found = node_at p nodes slot are (HasEdge-inside p slot next (Falls falls)) in
     let is = are.each slot found.0 found.1 in
     let has = live_has p nodes masks are closed r n next path in
-    closed slot found.0 found.1 r (inr (inl (behind masks found.0.falls_to next r (is.falls ∙ falls) has), λ w. keeps ((is.writes r).0 w)))
+    closed slot found.0 found.1 r
+    (inr (
+      inl (behind masks found.0.falls_to next r (is.falls ∙ falls) has),
+      λ w. keeps ((is.writes r).0 w),
+    ))
 live_has p nodes masks are closed r (suc n) slot (next, inr jumps, keeps, path) =
     let found = node_at p nodes slot are (HasEdge-inside p slot next (Jumps jumps)) in
     let is = are.each slot found.0 found.1 in
     let has = live_has p nodes masks are closed r n next path in
-    closed slot found.0 found.1 r (inr (inr (behind masks found.0.jumps_to next r (is.jumps ∙ jumps) has), λ w. keeps ((is.writes r).0 w)))
+    closed slot found.0 found.1 r
+    (inr (
+      inr (behind masks found.0.jumps_to next r (is.jumps ∙ jumps) has),
+      λ w. keeps ((is.writes r).0 w),
+    ))
 
-pub working_end : (p : Program) (nodes : List Node) (masks : List HomeMask) (found : List Bool) (frontier : List ℕ) → length frontier ≡ 0 → AreNodes p nodes
+pub working_end : (p : Program) (nodes : List Node) (masks : List HomeMask) (found : List Bool)
+    (frontier : List ℕ) → length frontier ≡ 0 → AreNodes p nodes
     → IsWorking p nodes masks found frontier → MarksLive p masks
 working_end p nodes masks found [] over are m r slot = (
   λ h. m.sound r slot h,
@@ -331,4 +284,5 @@ pub written_back : (n : ℕ) (new old : List HomeMask) → n ≡ length old → 
     → take n (new ++ drop (length new) old) ≡ new
 written_back n new old all same =
     let none : drop (length new) old ≡ [] = drop_of_length-le old (omega arith) in
-    ap (λ (l : List HomeMask). take n (new ++ l)) none ∙ ap (take n) (append-nil new) ∙ take_all n new (omega arith)
+    ap (λ (l : List HomeMask). take n (new ++ l)) none ∙ ap (take n) (append-nil new)
+    ∙ take_all n new (omega arith)

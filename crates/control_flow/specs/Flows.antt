@@ -38,20 +38,20 @@ Fails p FallsOff slot = (to : ℕ) × (fall_to p slot ≡ Some to) × EndsFuncti
 Fails p Unreachable slot = BeginsInsn p slot × (¬ Reached p slot)
 Fails p Memory slot = ⊥
 
--- the order of the tests
-abbrev pub place : FlowError → ℕ
-place TargetOutside = 1
-place SecondHalf = 2
-place OtherFunction = 3
-place FallsOff = 4
-place Unreachable = 5
-place Memory = 6
+-- the number of a test in the order of the tests
+abbrev pub test_number : FlowError → ℕ
+test_number TargetOutside = 1
+test_number SecondHalf = 2
+test_number OtherFunction = 3
+test_number FallsOff = 4
+test_number Unreachable = 5
+test_number Memory = 6
 
 -- the first test that fails, at the lowest slot at which it does
 pub record IsFirst (p : Program) (e : FlowError) (slot : ℕ) : Type 0 where
   pub fails : Fails p e slot
   pub lowest : (k : ℕ) → k < slot → ¬ Fails p e k
-  pub first : (d : FlowError) (k : ℕ) → place d < place e → ¬ Fails p d k
+  pub first : (d : FlowError) (k : ℕ) → test_number d < test_number e → ¬ Fails p d k
 
 -- memory may run out at any test
 abbrev pub IsRefusal : Program → FlowError → ℕ → Type 0

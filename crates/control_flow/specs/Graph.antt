@@ -46,7 +46,7 @@ pub data HasEdge (p : Program) (slot to : ℕ) : Type 0 where
 
 -- ---- paths
 
--- a path of n steps goes from slot 0 to the slot
+-- a path of n edges goes from slot 0 to the slot
 abbrev pub ReachedIn : Program → ℕ → ℕ → Type 0
 ReachedIn p zero slot = slot ≡ 0
 ReachedIn p (suc n) slot = (from : ℕ) × ReachedIn p n from × HasEdge p from slot

@@ -17,8 +17,8 @@ pub data Home : Type 0 where
 
 -- the instruction reads it. If a frame's address is taken, any instruction may read any stack slot
 abbrev pub IsReadBy : Type 0 → Insn → Home → Type 0
-IsReadBy handed_on i (InRegister r) = IsOneOf (read_registers i) r
-IsReadBy handed_on i (InSlot j) = ReadsSlot i j ⊎ ((j < 64) × handed_on)
+IsReadBy taken i (InRegister r) = IsOneOf (read_registers i) r
+IsReadBy taken i (InSlot j) = ReadsSlot i j ⊎ ((j < 64) × taken)
 
 -- it writes all of it
 abbrev pub IsWrittenBy : Insn → Home → Type 0
@@ -38,7 +38,8 @@ WritesHome p h slot = (i : Insn) × (fetch p slot ≡ Some i) × IsWrittenBy i h
 abbrev pub GoesTo : Program → ℕ → ℕ → Type 0
 GoesTo p slot to = (fall_to p slot ≡ Some to) ⊎ (jump_to p slot ≡ Some to)
 
--- a path of n steps goes from a slot to one that reads it, and no instruction before writes it
+-- a path of n edges goes from a slot to one that reads it, and no instruction before that one
+-- writes it
 abbrev pub IsReadAfter : Program → Home → ℕ → ℕ → Type 0
 IsReadAfter p h zero slot = ReadsHome p h slot
 IsReadAfter p h (suc n) slot =

@@ -41,7 +41,7 @@ FallsNear nodes = (slot to : ℕ) → fall_from nodes slot ≡ Some to → (slot
 
 -- ---- what is live before an instruction
 
--- the slot to which control goes has it
+-- the mask of the slot to which control goes has it
 abbrev pub HasBehind : List HomeMask → Option ℕ → Home → Type 0
 HasBehind masks None r = ⊥
 HasBehind masks (Some to) r = HasHome (mask_at masks to) r
@@ -60,8 +60,9 @@ abbrev pub AreSound : Program → List HomeMask → Type 0
 AreSound p masks = (r : Home) (slot : ℕ) → HasHome (mask_at masks slot) r → IsHomeLive p r slot
 
 -- the mask of a slot has what is live before its instruction, by the masks of its successors
-abbrev pub IsClosedAt : List HomeMask → ℕ → Node → Type 0
-IsClosedAt masks slot node = (r : Home) → IsLiveBefore masks node r → HasHome (mask_at masks slot) r
+abbrev pub HasLiveBefore : List HomeMask → ℕ → Node → Type 0
+HasLiveBefore masks slot node =
+    (r : Home) → IsLiveBefore masks node r → HasHome (mask_at masks slot) r
 
 -- what may still be added
 abbrev pub room_in : HomeMask → ℕ

@@ -3,8 +3,8 @@
 use Rattle.std.specs.Prelude.{◌≡◌, ℕ, ◌+◌, ◌*◌, ◌<◌, ◌≤◌, ◌⊎◌, Bool, true, not, List, length, replicate, count_by, Contains}
 use Rattle.control_flow.specs.Flows.{IsMarked}
 
--- what is left of the search: two steps for each slot that it has not found, and one for each of
--- the frontier
+-- how much of the search is left: 2 for each slot that it has not found, and 1 for each of the
+-- frontier
 abbrev pub room_of : List Bool → List ℕ → ℕ
 room_of found frontier = 2 * count_by not found + length frontier
 

@@ -49,8 +49,8 @@ TakesFrameAddress (StoreConstant size place k) = ⊥
 TakesFrameAddress (Store size place r) = r ≡ R10
 TakesFrameAddress i = IsOneOf (read_registers i) R10
 
-abbrev pub HandsOnAt : Program → ℕ → Type 0
-HandsOnAt p slot = (i : Insn) × (fetch p slot ≡ Some i) × TakesFrameAddress i
+abbrev pub TakesFrameAddressAt : Program → ℕ → Type 0
+TakesFrameAddressAt p slot = (i : Insn) × (fetch p slot ≡ Some i) × TakesFrameAddress i
 
 abbrev pub FrameAddressIsTaken : Program → Type 0
-FrameAddressIsTaken p = (slot : ℕ) × HandsOnAt p slot
+FrameAddressIsTaken p = (slot : ℕ) × TakesFrameAddressAt p slot

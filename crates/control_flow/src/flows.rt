@@ -41,7 +41,7 @@ impl<'a> Model for Flow<'a> {
     ghost invariant = { λ flow. DescribesFlow flow.image.now flow.joins.items flow.live.items };
 }
 
-/// Runs the tests in their order; each is run over the whole code.
+/// Makes the tests in their order; each looks at the whole code.
 fn test_all(alloc: Global, image: &Image) -> Result<(), (FlowError, usize)>
     ensures good { IfOk result (λ _. IsFlow image.now) }
     ensures refused { IfErr result (λ refusal. IsRefusal image.now refusal.0 refusal.1) }

@@ -89,11 +89,11 @@ fn go_back(
     Ok(())
 }
 
-/// For each slot the registers that are live there.
+/// For each slot the registers and stack slots that are live there.
 ///
 /// The work that is left is a list of slots, at first all of them, the last one on top. When a mask
 /// grows, the predecessors of its slot are put on the list again. A mask grows at most once for
-/// each register, so the time is linear in slots times registers.
+/// each register and each stack slot, so the time is linear in slots times these.
 pub fn live_homes(alloc: Global, image: &Image) -> Result<Vec<HomeMask>, AllocError>
     requires { (slot : ℕ) → ¬ Fails image.now FlowError.TargetOutside slot }
     ensures { IfOk result (λ masks. MarksLive image.now masks.items) }

@@ -8,7 +8,7 @@ ghost use Rattle.control_flow.specs.Nodes.{IsNode, AreNodes};
 ghost use Rattle.control_flow.specs.StackUse.{FrameAddressIsTaken};
 
 use crate::homes::HomeMask;
-use crate::stack_accesses::{hands_on_at, homes_read, homes_written};
+use crate::stack_accesses::{homes_read, homes_written, takes_address_at};
 use crate::targets::{fall_target, jump_target};
 use image::Image;
 use std::alloc::{AllocError, Global};
@@ -23,10 +23,10 @@ pub struct Node {
     pub jumps_to: Option<usize>,
 }
 
-/// The node of a slot, if r10 is handed on as is said.
-fn node_of(image: &Image, slot: usize, handed_on: bool) -> Node
+/// The node of a slot; `taken` says whether the program takes a call frame's address.
+fn node_of(image: &Image, slot: usize, taken: bool) -> Node
     requires { slot < 2 ^ 63 }
-    ensures node { (IsTrue handed_on ↔ FrameAddressIsTaken image.now)
+    ensures node { (IsTrue taken ↔ FrameAddressIsTaken image.now)
         → IsNode image.now slot result }
     ensures registers { (r : TheReg) → HasRegister result.reads.registers r
         ↔ ReadsHome image.now (InRegister r) slot }
@@ -35,7 +35,7 @@ fn node_of(image: &Image, slot: usize, handed_on: bool) -> Node
     let jumps_to = jump_target(image, slot);
     match image.at(slot) {
         Some(insn) => Node {
-            reads: homes_read(insn, handed_on),
+            reads: homes_read(insn, taken),
             writes: homes_written(insn),
             falls_to,
             jumps_to,
@@ -49,17 +49,18 @@ fn node_of(image: &Image, slot: usize, handed_on: bool) -> Node
     }
 }
 
-/// The nodes of all slots, if r10 is handed on as is said. None: it is, which was not said.
-fn nodes_if(alloc: Global, image: &Image, handed_on: bool) -> Result<Option<Vec<Node>>, AllocError>
-    requires { IsTrue handed_on → FrameAddressIsTaken image.now }
+/// The nodes of all slots; `taken` says whether the program takes a frame's address. `None`: it
+/// does, and `taken` is false.
+fn nodes_if(alloc: Global, image: &Image, taken: bool) -> Result<Option<Vec<Node>>, AllocError>
+    requires { IsTrue taken → FrameAddressIsTaken image.now }
     ensures { IfOk result (λ found. MatchOption found
-        (FrameAddressIsTaken image.now × (handed_on ≡ false))
+        (FrameAddressIsTaken image.now × (taken ≡ false))
         (λ nodes. AreNodes image.now nodes.items)) }
 {
     let mut nodes = Vec::with_capacity(alloc, image.slots())?;
     for slot in 0..image.slots() {
-        let node = node_of(image, slot, handed_on);
-        if !handed_on && hands_on_at(image, slot, node.reads.registers) {
+        let node = node_of(image, slot, taken);
+        if !taken && takes_address_at(image, slot, node.reads.registers) {
             return Ok(None);
         }
         nodes.push(node)?;

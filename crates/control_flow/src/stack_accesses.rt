@@ -5,7 +5,7 @@ ghost use Rattle.std.specs.Prelude.{◌≡◌, ℕ, ◌<◌, ◌^◌, ◌↔◌,
 ghost use Rattle.isa_model.specs.declared.registers.Reg.{Reg as TheReg};
 ghost use Rattle.isa_model.specs.MustAccept.Paths.{IsOneOf};
 ghost use Rattle.control_flow.specs.Accesses.{read_registers};
-ghost use Rattle.control_flow.specs.StackUse.{IsByte, IsWithinSlot, IsWholeSlot, ReadsSlot, WritesSlot, TakesFrameAddress, HandsOnAt};
+ghost use Rattle.control_flow.specs.StackUse.{IsByte, IsWithinSlot, IsWholeSlot, ReadsSlot, WritesSlot, TakesFrameAddress, TakesFrameAddressAt};
 ghost use Rattle.control_flow.specs.Liveness.{Home, InRegister, ReadsHome, IsReadBy, IsWrittenBy};
 ghost use Rattle.control_flow.specs.Masks.{HasRegister, HasSlot, HasHome};
 
@@ -16,7 +16,7 @@ use crate::slot_masks::SlotMask;
 use image::Image;
 use isa_model::{FRAME_SIZE, Insn, Place, Reg, Size};
 
-/// The byte of the frame, from its lowest address on, at a place that r10 is the base of.
+/// The byte of the frame, counted from its lowest address, at a place with the base r10.
 fn byte_of(place: Place) -> Option<usize>
     ensures { (n : ℕ) → (result ≡ Some n) ↔ IsByte place n }
 {
@@ -29,7 +29,7 @@ fn byte_of(place: Place) -> Option<usize>
     }
 }
 
-/// The stack slot in which a place lies that r10 is the base of.
+/// The stack slot that a place with the base r10 is in.
 fn slot_of(place: Place) -> Option<u8>
     ensures { (j : ℕ) → (result ≡ Some j) ↔ IsWithinSlot place j }
 {
@@ -39,7 +39,7 @@ fn slot_of(place: Place) -> Option<u8>
     }
 }
 
-/// The stack slot that begins at a place that r10 is the base of.
+/// The stack slot that begins at a place with the base r10.
 fn slot_at(place: Place) -> Option<u8>
     ensures { (j : ℕ) → (result ≡ Some j) ↔ IsWholeSlot place j }
 {
@@ -77,9 +77,9 @@ fn slot_written(insn: &Insn) -> Option<u8>
     }
 }
 
-/// Whether an instruction takes r10 for more than the base of a load or a store, by the registers
-/// that it reads.
-fn hands_on(insn: &Insn, read: RegisterMask) -> bool
+/// Whether an instruction takes the address of its frame: uses r10 other than as the base of a load
+/// or a store. `read` has the registers that it reads.
+fn takes_address(insn: &Insn, read: RegisterMask) -> bool
     requires { HasRegister read TheReg.R10 ↔ IsOneOf (read_registers insn.now) TheReg.R10 }
     ensures { IsTrue result ↔ TakesFrameAddress insn.now }
 {
@@ -91,25 +91,26 @@ fn hands_on(insn: &Insn, read: RegisterMask) -> bool
 }
 
 /// The same of the instruction at a slot of the code, which reads these registers.
-pub fn hands_on_at(image: &Image, slot: usize, read: RegisterMask) -> bool
+pub fn takes_address_at(image: &Image, slot: usize, read: RegisterMask) -> bool
     requires { HasRegister read TheReg.R10 ↔ ReadsHome image.now (InRegister TheReg.R10) slot }
-    ensures { IsTrue result ↔ HandsOnAt image.now slot }
+    ensures { IsTrue result ↔ TakesFrameAddressAt image.now slot }
 {
     if !read.has(Reg::R10) {
         return false;
     }
     match image.at(slot) {
-        Some(insn) => hands_on(insn, read),
+        Some(insn) => takes_address(insn, read),
         None => false,
     }
 }
 
-/// The stack slots that an instruction reads: any one, where a frame's address is handed on.
-fn slots_read(insn: &Insn, handed_on: bool) -> SlotMask
+/// The stack slots that an instruction reads: all, if `taken` says that the program takes a frame's
+/// address.
+fn slots_read(insn: &Insn, taken: bool) -> SlotMask
     ensures { (j : ℕ) → HasSlot result j
-        ↔ (ReadsSlot insn.now j ⊎ ((j < 64) × IsTrue handed_on)) }
+        ↔ (ReadsSlot insn.now j ⊎ ((j < 64) × IsTrue taken)) }
 {
-    if handed_on {
+    if taken {
         SlotMask::all()
     } else {
         SlotMask::of(slot_read(insn))
@@ -117,12 +118,12 @@ fn slots_read(insn: &Insn, handed_on: bool) -> SlotMask
 }
 
 /// The registers and stack slots that an instruction reads.
-pub fn homes_read(insn: &Insn, handed_on: bool) -> HomeMask
-    ensures { (h : Home) → HasHome result h ↔ IsReadBy (IsTrue handed_on) insn.now h }
+pub fn homes_read(insn: &Insn, taken: bool) -> HomeMask
+    ensures { (h : Home) → HasHome result h ↔ IsReadBy (IsTrue taken) insn.now h }
 {
     HomeMask {
         registers: registers_read(insn),
-        slots: slots_read(insn, handed_on),
+        slots: slots_read(insn, taken),
     }
 }
 

@@ -1,4 +1,4 @@
--- Texts that were written in part.
+-- Laws of texts that were written in part.
 use Rattle.std.proofs.Common.{◌≡◌, ℕ, suc, ◌<◌, List, ◌++◌, take, drop, length, get_or, Option, sym, ap, ◌∙◌, subst, drop-cons}
 use Rattle.std.specs.List.{flat_map}
 use Rattle.std.proofs.lemmas.Grind.{flat_map-append}
@@ -8,7 +8,9 @@ use Rattle.exact_io.specs.Transfers.{AppendsBeginning}
 use Rattle.exact_io.proofs.TransferLaws.{AppendsBeginning-first, AppendsBeginning-second}
 
 -- texts in a row, in three parts at one of them
-texts-split : {X : Type 0} (text : X → List ℕ) (xs : List X) (k : ℕ) (x d : X) → k < length xs → get_or xs k d ≡ x → flat_map text xs ≡ flat_map text (take k xs) ++ (text x ++ flat_map text (drop (suc k) xs))
+texts-split : {X : Type 0} (text : X → List ℕ) (xs : List X) (k : ℕ) (x d : X) → k < length xs
+    → get_or xs k d ≡ x
+    → flat_map text xs ≡ flat_map text (take k xs) ++ (text x ++ flat_map text (drop (suc k) xs))
 texts-split text xs k x d lt e =
     ap (λ l. flat_map text l) (sym (take-append-drop k xs))
     ∙ flat_map-append text (take k xs) (drop k xs)
@@ -16,7 +18,10 @@ texts-split text xs k x d lt e =
     ∙ ap (λ y. flat_map text (take k xs) ++ (text y ++ flat_map text (drop (suc k) xs))) e
 
 -- after the texts before it, a beginning of one was written
-pub text_failed : {X : Type 0} (text : X → List ℕ) (old mid new : Option (List ℕ)) (xs : List X) (k : ℕ) (x d : X) → k < length xs → get_or xs k d ≡ x → Appends old mid (flat_map text (take k xs)) → AppendsBeginning mid new (text x) → AppendsBeginning old new (flat_map text xs)
+pub text_failed : {X : Type 0} (text : X → List ℕ) (old mid new : Option (List ℕ)) (xs : List X)
+    (k : ℕ) (x d : X) → k < length xs → get_or xs k d ≡ x
+    → Appends old mid (flat_map text (take k xs)) → AppendsBeginning mid new (text x)
+    → AppendsBeginning old new (flat_map text xs)
 text_failed text old mid new xs k x d lt e before part =
     let rest = flat_map text (drop (suc k) xs) in
     subst (λ (l : List ℕ). AppendsBeginning old new l) (sym (texts-split text xs k x d lt e))

@@ -1,6 +1,6 @@
 //! Programs as canonical text: a line for each map row and then for each instruction.
 //!
-//! Nothing here takes memory: each line is made in a buffer of fixed size, and written at once.
+//! Nothing here allocates memory: each line is made in a buffer of fixed size, and written at once.
 #![tactic(auto)]
 
 mod lines;

@@ -7,8 +7,8 @@ ghost use Rattle.disassembler.specs.Parts.{fetch_insn_text};
 use super::numbers::{CodeLine, push_distance, push_hex, push_number, push_signed};
 use super::parts::{push_memory, push_operand, push_place, push_reg};
 use super::words::{
-    atomic_sign, comparison_sign, extension_width, extension_word, fetch_word, kind_word, op_sign,
-    order_word, signed_word, size_word, span_word, width_word,
+    atomic_sign, comparison_sign, extension_width, extension_word, fetch_word, map_type_word,
+    op_sign, order_word, signed_word, size_word, span_word, width_word,
 };
 use isa_model::{
     AluOp, AtomicOp, ByteOrder, Cond, Extension, Insn, MapDef, Operand, Place, Reg, SignedSize,
@@ -320,7 +320,7 @@ pub fn line_of_row(row: &MapDef) -> CodeLine
 {
     let mut line = CodeLine::new();
     line.push_str("map ");
-    line.push_str(kind_word(row.kind));
+    line.push_str(map_type_word(row.kind));
     line.push_str(" ");
     push_number(&mut line, u64::from(row.key_size));
     line.push_str(" ");

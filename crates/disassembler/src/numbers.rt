@@ -86,18 +86,18 @@ fn hex_digit(digit: u64) -> &'static str
     }
 }
 
-// Appends at most `places` hexadecimal digits.
-fn push_digits(line: &mut CodeLine, number: u64, places: u32)
-    requires { array_string_len line.old + places ≤ 96 }
-    ensures bytes { line.new.bytes ≡ line.old.bytes ++ hex_digits places number }
-    ensures len { array_string_len line.new ≤ array_string_len line.old + places }
+// Appends at most `count` hexadecimal digits.
+fn push_digits(line: &mut CodeLine, number: u64, count: u32)
+    requires { array_string_len line.old + count ≤ 96 }
+    ensures bytes { line.new.bytes ≡ line.old.bytes ++ hex_digits count number }
+    ensures len { array_string_len line.new ≤ array_string_len line.old + count }
 {
-    if places == 0 {
+    if count == 0 {
         return;
     }
     let before = number / 16;
     if before != 0 {
-        push_digits(line, before, places - 1);
+        push_digits(line, before, count - 1);
     }
     line.push_str(hex_digit(number % 16));
 }

@@ -99,9 +99,8 @@ fn write_program<W: Write>(image: &Image, out: &mut W) -> io::Result<()>
 
 /// Writes the canonical text of the image's program.
 ///
-/// The writer's first error, of any kind, is the failure and is handed on; a write of no byte is
-/// the failure
-/// `ErrorKind::WriteZero`. Nothing is tried again.
+/// The writer's first error, of any kind, is the failure and is returned; a write of no byte is the
+/// failure `ErrorKind::WriteZero`. Nothing is tried again.
 pub fn disassemble<W: Write>(image: &Image, out: &mut W) -> io::Result<()>
     ensures ok { OnOk result
         (Appends (W.contents out.old) (W.contents out.new) (canonical_text image.now)) }

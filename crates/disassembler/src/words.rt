@@ -1,7 +1,7 @@
 //! The words and signs of instructions.
 
 ghost use Rattle.std.specs.Prelude.{◌≡◌, ◌≤◌, length};
-ghost use Rattle.isa_model.specs.Text.CanonicalText.{reg_digits, size_text, signed_text, extension_text, extension_width, span_text, order_text, width_text, op_text, comparison_text, atomic_text, fetch_text, kind_text};
+ghost use Rattle.isa_model.specs.Text.CanonicalText.{reg_digits, size_text, signed_text, extension_text, extension_width, span_text, order_text, width_text, op_text, comparison_text, atomic_text, fetch_text, map_type_text};
 
 use isa_model::{
     AluOp, AtomicOp, ByteOrder, Comparison, Extension, MapType, Reg, SignedSize, Size, SwapWidth,
@@ -180,8 +180,8 @@ pub fn fetch_word(op: AtomicOp) -> &'static str
 }
 
 /// A type of map.
-pub fn kind_word(kind: MapType) -> &'static str
-    ensures text { result.now ≡ kind_text kind }
+pub fn map_type_word(kind: MapType) -> &'static str
+    ensures text { result.now ≡ map_type_text kind }
     ensures short { length result.now ≤ 5 }
 {
     match kind {

@@ -1,7 +1,7 @@
 //! Tests of the calls from C and Rust: of `verdict_calls`, `table_calls`, `run_calls` and
 //! `session_calls`.
 //!
-//! They are here, since a crate with tests is proved twice.
+//! They have a crate of their own, since a crate with tests is proved twice.
 #![tactic(auto)]
 
 #[cfg(test)]

@@ -1,4 +1,4 @@
-//! Each call made, on images of the documents and with each kind of bad argument.
+//! Each call, on images of the documents and with arguments that are invalid in each way.
 
 mod buffers;
 mod images;

@@ -1,4 +1,4 @@
--- Writes of two parts, one after the other, of which one failed.
+-- Laws of two parts that are written one after the other, where one of the writes failed.
 use Rattle.std.proofs.Common.{◌≡◌, ℕ, ◌+◌, List, ◌++◌, length, take, drop, Option, refl, sym, ap, ◌∙◌, subst, length-append, arith}
 use Rattle.std.proofs.lemmas.List.{take_at, drop_at, take-append-le}
 use Rattle.std.specs.Io.KnownBytes.{Appends}
@@ -7,16 +7,28 @@ use lib.Seq.{take-add}
 use Rattle.exact_io.specs.Transfers.{AppendsBeginning}
 
 -- a beginning of the first part is a beginning of both
-pub AppendsBeginning-first : (old new : Option (List ℕ)) (front rest : List ℕ) → AppendsBeginning old new front → AppendsBeginning old new (front ++ rest)
+pub AppendsBeginning-first : (old new : Option (List ℕ)) (front rest : List ℕ)
+    → AppendsBeginning old new front → AppendsBeginning old new (front ++ rest)
 AppendsBeginning-first old new front rest p =
-    let (n, less, appended) = p in
-    (n, omega (arith, length-append front rest), subst (Appends old new) (sym (take-append-le n front rest (omega arith))) appended)
+    let (n, less, appended) = p in (
+      n,
+      omega (arith, length-append front rest),
+      subst (Appends old new) (sym (take-append-le n front rest (omega arith))) appended,
+    )
 
 -- a beginning of the second part, after all of the first, is a beginning of both
-pub AppendsBeginning-second : (old mid new : Option (List ℕ)) (front rest : List ℕ) → Appends old mid front → AppendsBeginning mid new rest → AppendsBeginning old new (front ++ rest)
+pub AppendsBeginning-second : (old mid new : Option (List ℕ)) (front rest : List ℕ)
+    → Appends old mid front → AppendsBeginning mid new rest
+    → AppendsBeginning old new (front ++ rest)
 AppendsBeginning-second old mid new front rest p q =
     let (n, less, appended) = q in
     let size = length front in
     let same : take (size + n) (front ++ rest) ≡ front ++ take n rest =
-    take-add size n (front ++ rest) ∙ ap (λ l. l ++ take n (drop size (front ++ rest))) (take_at front rest size refl) ∙ ap (λ l. front ++ take n l) (drop_at front rest size refl) in
-    (size + n, omega (arith, length-append front rest), subst (Appends old new) (sym same) (Appends-trans old mid new front (take n rest) p appended))
+    take-add size n (front ++ rest)
+    ∙ ap (λ l. l ++ take n (drop size (front ++ rest))) (take_at front rest size refl)
+    ∙ ap (λ l. front ++ take n l) (drop_at front rest size refl) in (
+      size + n,
+      omega (arith, length-append front rest),
+      subst (Appends old new) (sym same)
+          (Appends-trans old mid new front (take n rest) p appended),
+    )

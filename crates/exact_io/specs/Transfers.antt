@@ -1,4 +1,5 @@
--- What a reader has lost and a writer has gained, where it tells its bytes, also after a failure.
+-- The bytes that a reader has lost and a writer has gained, where they are known, also after a
+-- failure.
 use Rattle.std.specs.Prelude.{ℕ, ◌<◌, List, length, take, Option}
 use Rattle.std.specs.Io.KnownBytes.{Appends, Consumes, IsAtEnd}
 use Rattle.exact_io.specs.declared.reading.Filled.{Filled}

@@ -1,9 +1,9 @@
 //! Reads and writes that say exactly what was read and written, also where they fail, and a
 //! buffered writer.
 //!
-//! std's `write_all` and `read_exact` say nothing of a failure, and try again where a call was
-//! interrupted. Here an error of any kind is the failure, nothing is tried again, and it is known
-//! what was moved before it.
+//! std's `write_all` and `read_exact` do not say what was moved before a failure, and try again
+//! where a call was interrupted. Here an error of any kind is the failure, nothing is tried again,
+//! and it is known what was moved before it.
 #![tactic(auto)]
 
 mod buffering;

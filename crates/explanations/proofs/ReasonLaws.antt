@@ -1,4 +1,4 @@
--- What is said of a refusal: the lines of a state, or of the instruction in refused control flow.
+-- The text about a refusal: the lines of a state, or of the instruction in refused control flow.
 use Rattle.std.proofs.Common.{◌≡◌, ℕ, Some, String, Result, Ok, Err}
 use Rattle.std.specs.Prelude.{IfOk, IfSome}
 use Rattle.std.specs.Result.{result_ok}

@@ -40,7 +40,7 @@ count_line successors named =
     codes "successors: "
     ++ (decimal successors ++ (codes "; entries named: " ++ (decimal named ++ codes "\n")))
 
--- why the entry with this index does not pass for the nth state
+-- why the entry with this index cannot be named for the nth state
 pub record TellsNamed (t : EntryAt) (number nth index : ℕ) (state : State)
     (text : List ℕ) : Type 0 where
   pub other : State
@@ -58,7 +58,7 @@ pub record TellsOne (t : EntryAt) (number : ℕ) (named : List ℕ) (states : Li
   pub is_led : slice_get states nth ≡ Some state
   pub tells : TellsNamed t number nth index state text
 
--- the counts differ; or one of the entries that are named does not pass
+-- the counts differ; or one of the entries that are named cannot be named for its state
 abbrev pub TellsSuccessors : EntryAt → ℕ → List ℕ → List State → List ℕ → Type 0
 TellsSuccessors t number named states text =
     ((length states ≢ length named) × (text ≡ count_line (length states) (length named)))

@@ -1,4 +1,4 @@
--- What is said of a program whose control flow is refused, beside the sentence and the slot.
+-- What is said of a program whose control flow is refused, besides the sentence and the slot.
 use Rattle.std.specs.Prelude.{ℕ, zero, suc, ◌+◌, ◌-◌, ◌==◌, nat_le, max, ℤ, pos, ◌+ℤ◌, List, [], ◌++◌, length, Option, Some, None, codes, decimal, if◌then◌else◌}
 use Rattle.std.specs.Fmt.{signed_decimal}
 use Rattle.std.specs.Option.{option_map, option_and_then}
@@ -25,7 +25,7 @@ target_at p slot = option_map (destination p slot) (option_and_then distance_of 
 unfoldable pub called_at : Program → ℕ → Option ℕ
 called_at p slot = option_map (destination p slot) (option_and_then call_distance (fetch p slot))
 
--- the slot, if what it leads to is the one that is looked for
+-- the slot, if it leads to the one that is looked for
 abbrev pub found_at : (slot to : ℕ) → Option ℕ → Option ℕ
 found_at slot to None = None
 found_at slot to (Some k) = if k == to then Some slot else None
@@ -43,12 +43,12 @@ abbrev pub first_calling : Program → (to count : ℕ) → Option ℕ
 first_calling p to zero = None
 first_calling p to (suc n) = or_later (first_calling p to n) (found_at n to (called_at p n))
 
--- the later of two slots at which functions begin, of those that are not after the slot
+-- the later of two slots at which functions begin; one after the given slot does not count
 abbrev pub later_of : (slot : ℕ) → Option ℕ → ℕ → ℕ
 later_of slot None found = found
 later_of slot (Some k) found = if nat_le k slot then max k found else found
 
--- where the function begins that a slot is in, by the calls below a count: at 0, or where a call
+-- where the function of a slot begins, by the calls at slots below a count: at 0, or where a call
 -- leads
 abbrev pub function_at : Program → (slot count : ℕ) → ℕ
 function_at p slot zero = 0

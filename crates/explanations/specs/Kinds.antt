@@ -40,7 +40,7 @@ value_words m least greatest =
     ++ (codes " at " ++ (signed_decimal least ++ (codes " to " ++ signed_decimal greatest))))
     else codes "value of map " ++ (decimal m ++ (codes " at " ++ signed_decimal least))
 
--- a value, where the innermost call frame has this number; offsets on the stack count from its end
+-- a value, where the innermost call frame has this index; offsets on the stack count from its end
 abbrev pub kind_words : ℕ → Kind → List ℕ
 kind_words innermost Unset = codes "unset"
 kind_words innermost (Number numbers) = number_words numbers

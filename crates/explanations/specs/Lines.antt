@@ -28,7 +28,7 @@ use Rattle.explanations.specs.Slots.{byte_at, byte_line, slot_line, first_open}
 
 -- ---- registers
 
--- those that it reads; an exit hands r0 back
+-- those that it reads; an exit returns r0
 abbrev pub concerned : Insn → List Reg
 concerned Exit = R0 ∷ []
 concerned i = reads i
@@ -43,7 +43,7 @@ register_lines a i = flat_map (register_line a) (concerned i)
 
 -- ---- answers
 
--- the low half of a number that has to name an action, and the cure
+-- the low half of a number that has to name an action, and what helps
 abbrev pub half_line : Kind → List ℕ
 half_line (Number numbers) =
     codes "low half of r0: "
@@ -110,7 +110,7 @@ stack_lines rows a (CompareExchange w place r) = place_line a place
 stack_lines rows a (CallHelper number) = helper_lines rows a (helper_numbered number)
 stack_lines rows a i = []
 
--- ---- the way
+-- ---- the last jumps
 
 -- the jumps after the first
 abbrev pub more_jumps : List Jump → List ℕ

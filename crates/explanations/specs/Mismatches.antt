@@ -1,4 +1,4 @@
--- Why a named entry of a table does not cover a successor, in words.
+-- Why an entry of a table cannot be named for a successor, in words.
 use Rattle.std.specs.Prelude.{◌≡◌, ◌≢◌, ℕ, ◌-◌, ◌<◌, ◌≤◌, List, ◌++◌, length, Some, None, codes, decimal}
 use Rattle.std.specs.Fmt.{signed_decimal}
 use Rattle.stack_state.specs.declared.states.State.{State}
@@ -45,7 +45,7 @@ pub record EntryHasNumber (t : EntryAt) (number index other : ℕ) : Type 0 wher
   pub number_is : entry.number ≡ other
   pub greater : number ≤ other
 
--- why the entry of that index does not pass for the state a, after an entry of that number
+-- why the entry of that index cannot be named for the state a, by an entry of that number
 abbrev pub IsMismatch : EntryAt → ℕ → ℕ → State → State → Mismatch → Type 0
 IsMismatch t number index e a Missing = t index ≡ None
 IsMismatch t number index e a (NotSmaller other) = EntryHasNumber t number index other

@@ -1,4 +1,4 @@
--- What is said of a refusal beside its sentence and its slot.
+-- What is said of a refusal besides its sentence and its slot.
 use Rattle.std.specs.Prelude.{◌≡◌, ℕ, Bool, if◌then◌else◌, List, ◌++◌, Some, codes}
 use Rattle.isa_model.specs.declared.instructions.Insn.{Insn}
 use Rattle.isa_model.specs.Code.Instructions.{Program, fetch}
@@ -21,8 +21,8 @@ cut_line cut = if cut
     else codes ""
 
 -- the registers, what is needed, a loop with what differs from turn to turn, an answer's low half
--- and the stack slots that concern the instruction, in the state in which it is refused so, the
--- last jumps, and whether states were compared
+-- and the stack slots that concern the instruction, in the state in which it is refused, the last
+-- jumps, and whether states were compared
 abbrev pub lines_of : Program → Insn → Refusal → Explanation → List ℕ
 lines_of p i e x =
     register_lines x.state i ++ (case_line p.maps x.state i e
@@ -30,8 +30,8 @@ lines_of p i e x =
     ++ (answer_line x.state e ++ (stack_lines p.maps x.state i
     ++ (way_line x.way.items ++ cut_line x.is_cut_off))))))
 
--- the lines of a state in which the program is refused so, at the slot; or the line of the
--- instruction there, where control flow is refused
+-- the lines of a state in which the program is refused for this reason, at the slot; or the line of
+-- the instruction there, where control flow is refused
 pub data IsReason (p : Program) (e : Refusal) (slot : ℕ) (text : List ℕ) : Type 0 where
   OfState : (found : Explanation) (insn : Insn) → Explains p e slot found
       → fetch p slot ≡ Some insn → text ≡ lines_of p insn e found → IsReason p e slot text

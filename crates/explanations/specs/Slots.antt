@@ -24,7 +24,7 @@ abbrev pub written_words : ℕ → ℕ → ℕ → List ℕ
 written_words slot marks zero = []
 written_words slot marks (suc n) = byte_word slot marks (7 - n) ++ written_words slot marks n
 
--- what is known of the stack slot, where the innermost frame has this number
+-- what is known of the stack slot, where the innermost frame has this index
 abbrev pub slot_words : ℕ → ℕ → StackSlot → List ℕ
 slot_words innermost slot (Written marks) =
     if marks == 0 then codes "unset"

@@ -14,7 +14,7 @@ turn_line place before now =
     else place ++ (codes " from turn to turn: "
     ++ (before ++ (codes ", then " ++ (now ++ codes "\n"))))
 
--- ---- the innermost frame of the earlier state e and of the state a
+-- ---- the innermost call frame of the earlier state e and of the state a
 
 abbrev pub register_turn : State → State → ℕ → List ℕ
 register_turn e a register =

@@ -270,7 +270,7 @@ fn sizes_line(alloc: Global, maps: &[MapDef], state: &State) -> Result<String, A
     }
 }
 
-// What an exit hands back.
+// What an exit returns.
 fn exit_line(callers: usize) -> &'static str
     ensures { result.now ≡ exit_line callers }
 {

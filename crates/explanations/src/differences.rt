@@ -1,4 +1,4 @@
-//! Why a named entry of a table does not pass for a state, in words.
+//! Why an entry of a table cannot be named for a state, in words.
 
 ghost use Rattle.std.specs.Prelude.{◌≡◌, ◌<◌, IfOk, decimal};
 ghost use Rattle.std.specs.String.{string_bytes};
@@ -13,7 +13,7 @@ use reg_state::Kind;
 use stack_state::{StackSlot, State};
 use std::alloc::{AllocError, Global};
 
-/// How many calls up from the innermost frame this one is.
+/// How many calls up from the innermost call frame this one is.
 fn up_words(alloc: Global, state: &State, frame: usize) -> Result<String, AllocError>
     ensures { IfOk result (λ text. string_bytes text ≡ up_words state.now frame) }
 {

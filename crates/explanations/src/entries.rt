@@ -185,6 +185,6 @@ pub fn entry_reason(
     match error {
         TableError::Step(index, refusal) => step_reason(alloc, image, &table, index, refusal),
         TableError::Successor(index) => successor_reason(alloc, image, &table, index),
-        TableError::Flow(_, _) | TableError::Fault(_) | TableError::Start => None,
+        TableError::Flow(_, _) | TableError::Bytes(_) | TableError::Start => None,
     }
 }

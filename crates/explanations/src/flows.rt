@@ -56,7 +56,7 @@ fn called_at(image: &Image, slot: usize) -> Option<usize>
     Some(destination(slot, by, image.slots()))
 }
 
-// The slot, if what it leads to is the one that is looked for.
+// The slot, if it leads to the one that is looked for.
 fn found_at(slot: usize, to: usize, target: Option<usize>) -> Option<usize>
     ensures { result ≡ found_at slot to target }
 {
@@ -97,7 +97,7 @@ fn first_calling(image: &Image, to: usize) -> Option<usize>
     found
 }
 
-// The later of two slots at which functions begin, of those that are not after the slot.
+// The later of two slots at which functions begin; one after the given slot does not count.
 fn later_of(slot: usize, called: Option<usize>, found: usize) -> usize
     ensures { result ≡ later_of slot called found }
 {
@@ -113,7 +113,7 @@ fn later_of(slot: usize, called: Option<usize>, found: usize) -> usize
     }
 }
 
-// Where the function begins that a slot is in.
+// Where the function of a slot begins.
 fn function_at(image: &Image, slot: usize) -> usize
     ensures { result ≡ function_at image.now slot (length image.now.insns) }
 {
@@ -124,7 +124,7 @@ fn function_at(image: &Image, slot: usize) -> usize
     found
 }
 
-// Where a jump or a call leads that has its target outside.
+// Where a jump or a call leads whose target is outside.
 fn outside_words(alloc: Global, to: i64, last: usize) -> Result<String, AllocError>
     ensures { IfOk result (λ text. string_bytes text ≡ outside_words to last) }
 {
@@ -153,7 +153,7 @@ fn outside_line(
     }
 }
 
-// Where a jump or a call leads that has the second half of a wide load as its target.
+// Where a jump or a call leads whose target is the second half of a wide load.
 fn second_half_words(alloc: Global, to: usize, first: usize) -> Result<String, AllocError>
     ensures { IfOk result (λ text. string_bytes text ≡ second_half_words to first) }
 {
@@ -190,7 +190,7 @@ fn function_words(alloc: Global, image: &Image, begin: usize) -> Result<String, 
     format!(in alloc; "from slot {begin} on{called}")
 }
 
-// Where a jump leads, the function that is in, and the one of the jump.
+// Where a jump leads, which function that is in, and which one the jump is in.
 fn other_words(alloc: Global, to: usize, there: &str, here: &str) -> Result<String, AllocError>
     ensures { IfOk result (λ text. string_bytes text ≡ other_words to there.now here.now) }
 {
@@ -260,7 +260,7 @@ fn unreached_line(alloc: Global, from: Option<usize>) -> Result<String, AllocErr
     }
 }
 
-/// What is said where control flow is refused, beside the sentence and the slot, of the
+/// What is said where control flow is refused, besides the sentence and the slot, of the
 /// instruction at the slot.
 pub fn flow_line(
     alloc: Global,

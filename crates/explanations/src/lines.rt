@@ -172,7 +172,7 @@ pub fn stack_lines(
     }
 }
 
-// ---- the way
+// ---- the last jumps
 
 /// The jumps after the first, each after a comma.
 fn more_jumps(alloc: Global, way: &[Jump]) -> Result<String, AllocError>
@@ -187,7 +187,7 @@ fn more_jumps(alloc: Global, way: &[Jump]) -> Result<String, AllocError>
     Ok(text)
 }
 
-/// The line of the way, if there are jumps.
+/// The line of the last jumps, if there are any.
 pub fn way_line(alloc: Global, way: &[Jump]) -> Result<String, AllocError>
     ensures { IfOk result (λ text. string_bytes text ≡ spec.way_line way.now) }
 {

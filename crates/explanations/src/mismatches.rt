@@ -1,4 +1,4 @@
-//! Why a named entry of a table does not cover a successor.
+//! Why an entry of a table cannot be named for a successor.
 
 ghost use Rattle.std.specs.Prelude.{◌≡◌, ◌<◌, IfSome};
 ghost use Rattle.stack_state.specs.Meaning.{depth, abstract_frame_at};
@@ -12,7 +12,7 @@ use stack_state::{AbstractFrame, FRAME_SLOTS, StackSlot, StackState, State};
 use state_cover::covers;
 use table_entries::Table;
 
-/// Why a named entry does not pass for a state. Frames count from the outermost, 0.
+/// Why an entry cannot be named for a state. Call frames are counted from the outermost, 0.
 #[derive(Clone, Copy)]
 pub enum Mismatch {
     /// There is no such entry.
@@ -126,7 +126,7 @@ fn first_place(entry: &State, state: &State, frame: usize) -> Option<Mismatch>
     }
 }
 
-/// In what the state of an entry differs that does not cover another.
+/// In what the state of an entry differs from another one that it does not cover.
 fn difference(entry: &State, state: &State) -> Option<Mismatch>
     ensures { IfSome result
         (λ found. Differs entry.now state.now found × IsInBoth entry.now state.now found) }
@@ -145,8 +145,8 @@ fn difference(entry: &State, state: &State) -> Option<Mismatch>
     None
 }
 
-/// Why the entry of that index does not pass for a state, after one of that number. Its state is
-/// read into the room for it.
+/// Why the entry of that index cannot be named for a state, by an entry of that number. Its state
+/// is read into the room for it.
 pub fn mismatch_of(
     image: &Image,
     table: &Table,

@@ -4,7 +4,7 @@ ghost use Rattle.std.specs.Prelude.{◌≡◌, IfOk};
 ghost use Rattle.std.specs.String.{string_bytes};
 ghost use Rattle.explanations.specs.Numbers.{says_more, limit_words, number_words, low_least, low_greatest, half_words, is_half_known, low_part};
 
-use isa_model::numbers::low_word;
+use isa_model::numbers::low_32_bits;
 use ranges::Wide;
 use reg_state::Scalar;
 use std::alloc::{AllocError, Global};
@@ -41,7 +41,7 @@ fn limit_words(alloc: Global, numbers: Scalar) -> Result<String, AllocError>
 fn low_least(numbers: Scalar) -> u32
     ensures { result ≡ low_least numbers }
 {
-    low_word(numbers.bits.value).max(numbers.range.low.least)
+    low_32_bits(numbers.bits.value).max(numbers.range.low.least)
 }
 
 /// The greatest that bits and limits show of the low half.

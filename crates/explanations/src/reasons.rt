@@ -1,4 +1,4 @@
-//! What is said of a refusal beside its sentence and its slot.
+//! What is said of a refusal besides its sentence and its slot.
 
 ghost use Rattle.std.specs.Prelude.{◌≡◌, IfOk, IfSome};
 ghost use Rattle.std.specs.String.{string_bytes};
@@ -48,11 +48,11 @@ fn lines_of(
     format!(in alloc; "{registers}{case}{taken}{turns}{answer}{stack}{way}{cut}")
 }
 
-/// What is known where a program is refused so, at this slot: the registers and the stack slots
-/// that concern its instruction, what it needs, the loop that is not explored to its end, with how
-/// often it was taken and what differs from turn to turn, the low half of an answer that has to
-/// name an action, the last jumps on the path there, and whether states were no longer compared; or
-/// where a jump leads, and what helps, if control flow is refused. None: memory ran out.
+/// What is known where a program is refused for this reason, at this slot: the registers and the
+/// stack slots that concern its instruction, what it needs, the loop that is not explored to its
+/// end, with how often it was taken and what differs from turn to turn, the low half of an answer
+/// that has to name an action, the last jumps on the path there, and whether states were no longer
+/// compared. If control flow is refused: where a jump leads, and what helps. None: memory ran out.
 pub fn reason(alloc: Global, image: &Image, refusal: Refusal, slot: usize) -> Option<String>
     ensures { IfSome result (λ text. IsReason image.now refusal slot (string_bytes text)) }
 {

@@ -28,7 +28,7 @@ fn turn_line(alloc: Global, place: &str, before: &str, now: &str) -> Result<Stri
     format!(in alloc; "{place} from turn to turn: {before}, then {now}\n")
 }
 
-/// The line of a register of the innermost frame.
+/// The line of a register of the innermost call frame.
 fn register_turn(
     alloc: Global,
     earlier: &State,

@@ -19,63 +19,95 @@ use Rattle.explorer.specs.Followed.{HasFollowed, IsWalk, slots_along}
 use Rattle.explorer.proofs.Stores.{slice_get-push, slice_get-seam}
 use Rattle.explorer.proofs.Ways.{led_start}
 
--- ---- the way along the path
+-- ---- the last jumps of the path
 
-walk_from : (p : Program) (rest before : List State) (s : State) → IsWalk p (rest ++ s ∷ before) → IsWalk p (s ∷ before)
+walk_from : (p : Program) (rest before : List State) (s : State) → IsWalk p (rest ++ s ∷ before)
+    → IsWalk p (s ∷ before)
 walk_from p [] before s h = h
 walk_from p (c ∷ rest) before s h = walk_from p rest before s h.1
 
 pub length-slots : (path : List State) → length (slots_along path) ≡ length path
 length-slots [] = refl
-length-slots (s ∷ path) = length-append (slots_along path) (s.slot ∷ []) ∙ omega (arith, length-slots path)
+length-slots (s ∷ path) =
+    length-append (slots_along path) (s.slot ∷ []) ∙ omega (arith, length-slots path)
 
-pub slots_some : (slots : List ℕ) (s : State) (before : List State) → slots ≡ slots_along (s ∷ before) → 1 ≤ length slots
-slots_some slots s before are = omega (arith, ap (λ (xs : List ℕ). length xs) are, length-slots (s ∷ before))
+pub slots_some : (slots : List ℕ) (s : State) (before : List State)
+    → slots ≡ slots_along (s ∷ before) → 1 ≤ length slots
+slots_some slots s before are =
+    omega (arith, ap (λ (xs : List ℕ). length xs) are, length-slots (s ∷ before))
 
-slot_here : (before : List State) (s : State) → slice_get (slots_along before ++ s.slot ∷ []) (length before) ≡ Some s.slot
-slot_here before s = subst (λ k. slice_get (slots_along before ++ s.slot ∷ []) k ≡ Some s.slot) (length-slots before) (slice_get-seam (slots_along before) s.slot)
+slot_here : (before : List State) (s : State)
+    → slice_get (slots_along before ++ s.slot ∷ []) (length before) ≡ Some s.slot
+slot_here before s =
+    subst (λ k. slice_get (slots_along before ++ s.slot ∷ []) k ≡ Some s.slot) (length-slots before)
+    (slice_get-seam (slots_along before) s.slot)
 
-slot_in : (rest before : List State) (s : State) → slice_get (slots_along (rest ++ s ∷ before)) (length before) ≡ Some s.slot
+slot_in : (rest before : List State) (s : State)
+    → slice_get (slots_along (rest ++ s ∷ before)) (length before) ≡ Some s.slot
 slot_in [] before s = slot_here before s
-slot_in (c ∷ rest) before s = slice_get-push (slots_along (rest ++ s ∷ before)) c.slot (length before) s.slot (slot_in rest before s)
+slot_in (c ∷ rest) before s =
+    slice_get-push (slots_along (rest ++ s ∷ before)) c.slot (length before) s.slot
+    (slot_in rest before s)
 
--- the jumps lead to the state that is number `count` of the path
+-- the jumps lead to the `count`th state of the path
 pub record LedAt (p : Program) (path : List State) (count : ℕ) (way : List Jump) : Type 0 where
-  pub led : (rest before : List State) (s : State) → path ≡ rest ++ s ∷ before → length before + 1 ≡ count → IsLed p s way
+  pub led : (rest before : List State) (s : State) → path ≡ rest ++ s ∷ before
+      → length before + 1 ≡ count → IsLed p s way
 
-led_first : (p : Program) (path : List State) (way : List Jump) → IsWalk p path → way ≡ [] → (rest before : List State) (s : State) → path ≡ rest ++ s ∷ before → length before + 1 ≡ 1 → IsLed p s way
-led_first p path way walk none rest [] s is count = led_start p s way (walk_from p rest [] s (subst (IsWalk p) is walk)).0 none
+led_first : (p : Program) (path : List State) (way : List Jump) → IsWalk p path → way ≡ []
+    → (rest before : List State) (s : State) → path ≡ rest ++ s ∷ before → length before + 1 ≡ 1
+    → IsLed p s way
+led_first p path way walk none rest [] s is count =
+    led_start p s way (walk_from p rest [] s (subst (IsWalk p) is walk)).0 none
 led_first p path way walk none rest (b ∷ before) s is count = absurd (omega (arith, count))
 
-pub LedAt-first : (p : Program) (path : List State) (way : List Jump) → IsWalk p path → way ≡ [] → LedAt p path 1 way
+pub LedAt-first : (p : Program) (path : List State) (way : List Jump) → IsWalk p path → way ≡ []
+    → LedAt p path 1 way
 LedAt-first p path way walk none = record { led = led_first p path way walk none }
 
 -- the next state on the path
-led_next : (p : Program) (path : List State) (slots : List ℕ) (k from to : ℕ) (way new : List Jump) → IsWalk p path → slots ≡ slots_along path → 1 ≤ k
+led_next : (p : Program) (path : List State) (slots : List ℕ) (k from to : ℕ) (way new : List Jump)
+    → IsWalk p path → slots ≡ slots_along path → 1 ≤ k
     → slice_get slots (k - 1) ≡ Some from → slice_get slots k ≡ Some to
-    → ((a s : State) → a.slot ≡ from → s.slot ≡ to → StepsTo p a s → IsLed p a way → IsLed p s new) → LedAt p path k way
-    → (rest before : List State) (s : State) → path ≡ rest ++ s ∷ before → length before + 1 ≡ k + 1 → IsLed p s new
-led_next p path slots k from to way new walk are some at next goes h rest [] s is count = absurd (omega (arith, some, count))
+    → ((a s : State) → a.slot ≡ from → s.slot ≡ to → StepsTo p a s → IsLed p a way → IsLed p s new)
+    → LedAt p path k way
+    → (rest before : List State) (s : State) → path ≡ rest ++ s ∷ before → length before + 1 ≡ k + 1
+    → IsLed p s new
+led_next p path slots k from to way new walk are some at next goes h rest [] s is count =
+    absurd (omega (arith, some, count))
 led_next p path slots k from to way new walk are some at next goes h rest (a ∷ before) s is count =
     let here = slot_in rest (a ∷ before) s in
-    let again : path ≡ (rest ++ s ∷ []) ++ a ∷ before = is ∙ sym (append_assoc rest (s ∷ []) (a ∷ before)) in
+    let again : path ≡ (rest ++ s ∷ []) ++ a ∷ before =
+    is ∙ sym (append_assoc rest (s ∷ []) (a ∷ before)) in
     let there = slot_in (rest ++ s ∷ []) before a in
     let length_a : length before ≡ k - 1 = omega (arith, count) in
     let length_s : length (a ∷ before) ≡ k = omega (arith, count) in
-    let from_is : Some from ≡ Some a.slot = sym at ∙ (ap (λ (xs : List ℕ). slice_get xs (k - 1)) (are ∙ ap slots_along again) ∙ (ap (λ n. slice_get (slots_along ((rest ++ s ∷ []) ++ a ∷ before)) n) (sym length_a) ∙ there)) in
-    let to_is : Some to ≡ Some s.slot = sym next ∙ (ap (λ (xs : List ℕ). slice_get xs k) (are ∙ ap slots_along is) ∙ (ap (λ n. slice_get (slots_along (rest ++ s ∷ a ∷ before)) n) (sym length_s) ∙ here)) in
+    let from_is : Some from ≡ Some a.slot =
+    sym at ∙ (ap (λ (xs : List ℕ). slice_get xs (k - 1)) (are ∙ ap slots_along again)
+    ∙ (ap (λ n. slice_get (slots_along ((rest ++ s ∷ []) ++ a ∷ before)) n) (sym length_a)
+    ∙ there)) in
+    let to_is : Some to ≡ Some s.slot =
+    sym next ∙ (ap (λ (xs : List ℕ). slice_get xs k) (are ∙ ap slots_along is)
+    ∙ (ap (λ n. slice_get (slots_along (rest ++ s ∷ a ∷ before)) n) (sym length_s)
+    ∙ here)) in
     let steps = (walk_from p rest (a ∷ before) s (subst (IsWalk p) is walk)).0 in
     goes a s (cc) (cc) steps (h.led (rest ++ s ∷ []) before a again (omega (arith, count)))
 
-pub LedAt-next : (p : Program) (path : List State) (slots : List ℕ) (k from to : ℕ) (way new : List Jump) → IsWalk p path → slots ≡ slots_along path → 1 ≤ k
+pub LedAt-next : (p : Program) (path : List State) (slots : List ℕ) (k from to : ℕ)
+    (way new : List Jump) → IsWalk p path → slots ≡ slots_along path → 1 ≤ k
     → slice_get slots (k - 1) ≡ Some from → slice_get slots k ≡ Some to
-    → ((a s : State) → a.slot ≡ from → s.slot ≡ to → StepsTo p a s → IsLed p a way → IsLed p s new) → LedAt p path k way → LedAt p path (k + 1) new
-LedAt-next p path slots k from to way new walk are some at next goes h = record { led = led_next p path slots k from to way new walk are some at next goes h }
+    → ((a s : State) → a.slot ≡ from → s.slot ≡ to → StepsTo p a s → IsLed p a way → IsLed p s new)
+    → LedAt p path k way → LedAt p path (k + 1) new
+LedAt-next p path slots k from to way new walk are some at next goes h =
+    record { led = led_next p path slots k from to way new walk are some at next goes h }
 
 -- the end of the path
-pub LedAt-last : (p : Program) (path : List State) (slots : List ℕ) (s : State) (k : ℕ) (way : List Jump) → slots ≡ slots_along (s ∷ path) → k ≡ length slots → LedAt p (s ∷ path) k way → IsLed p s way
+pub LedAt-last : (p : Program) (path : List State) (slots : List ℕ) (s : State) (k : ℕ)
+    (way : List Jump) → slots ≡ slots_along (s ∷ path) → k ≡ length slots → LedAt p (s ∷ path) k way
+    → IsLed p s way
 LedAt-last p path slots s k way are count h =
-    let same : length slots ≡ length (s ∷ path) = ap (λ (xs : List ℕ). length xs) are ∙ length-slots (s ∷ path) in
+    let same : length slots ≡ length (s ∷ path) =
+    ap (λ (xs : List ℕ). length xs) are ∙ length-slots (s ∷ path) in
     h.led [] path s refl (omega (arith, count, same))
 
 -- the slots of a path are those of the walk to its end
@@ -88,8 +120,10 @@ came_through p (a ∷ before) s walk =
 -- ---- what is kept
 
 -- a path came to one more state
-pub arrived : (image p : Program) (slots new_slots : List ℕ) (slot : ℕ) (turns new_turns : Turns) (path : List State) (last s : State) → new_slots ≡ slots ++ s.slot ∷ []
-    → (s.slot ≡ slot → new_turns.last ≡ s) → (AreOn path turns → AreOn (s ∷ path) new_turns) → ComesTo p path s → HasFollowed image slots slot turns p path last
+pub arrived : (image p : Program) (slots new_slots : List ℕ) (slot : ℕ) (turns new_turns : Turns)
+    (path : List State) (last s : State) → new_slots ≡ slots ++ s.slot ∷ []
+    → (s.slot ≡ slot → new_turns.last ≡ s) → (AreOn path turns → AreOn (s ∷ path) new_turns)
+    → ComesTo p path s → HasFollowed image slots slot turns p path last
     → HasFollowed image new_slots slot new_turns p (s ∷ path) s
 arrived image p slots new_slots slot turns new_turns path last s are found on comes h = record {
   program = h.program;
@@ -99,21 +133,30 @@ arrived image p slots new_slots slot turns new_turns path last s are found on co
   turns_are = on h.turns_are;
 }
 
-pub count_of : (image p : Program) (slots : List ℕ) (slot : ℕ) (turns : Turns) (path : List State) (last : State) → HasFollowed image slots slot turns p path last → length path ≡ length slots
-count_of image p slots slot turns path last h = sym (ap (λ (xs : List ℕ). length xs) h.slots_are ∙ length-slots path)
+pub count_of : (image p : Program) (slots : List ℕ) (slot : ℕ) (turns : Turns) (path : List State)
+    (last : State) → HasFollowed image slots slot turns p path last → length path ≡ length slots
+count_of image p slots slot turns path last h =
+    sym (ap (λ (xs : List ℕ). length xs) h.slots_are ∙ length-slots path)
 
-popped : (slots new_slots : List ℕ) (slot : Option ℕ) (s : State) (path : List State) → slots ≡ new_slots ++ option_to_list slot → IsSome slot
+popped : (slots new_slots : List ℕ) (slot : Option ℕ) (s : State) (path : List State)
+    → slots ≡ new_slots ++ option_to_list slot → IsSome slot
     → slots ≡ slots_along (s ∷ path) → new_slots ≡ slots_along path
 popped slots new_slots None s path items some are = absurd (cc some)
-popped slots new_slots (Some k) s path items some are = (same_from_push new_slots (slots_along path) k s.slot (sym items ∙ are)).0
+popped slots new_slots (Some k) s path items some are =
+    (same_from_push new_slots (slots_along path) k s.slot (sym items ∙ are)).0
 
 -- a path left its last state
-pub went_back : (image p : Program) (slots new_slots : List ℕ) (popped_slot : Option ℕ) (slot : ℕ) (turns new_turns : Turns) (s : State) (path : List State) (last : State)
-    → slots ≡ new_slots ++ option_to_list popped_slot → (1 ≤ length slots → IsSome popped_slot) → new_turns.last ≡ turns.last
-    → (length path ≡ length new_slots → AreOn (s ∷ path) turns → AreOn path new_turns) → HasFollowed image slots slot turns p (s ∷ path) last
+pub went_back : (image p : Program) (slots new_slots : List ℕ) (popped_slot : Option ℕ) (slot : ℕ)
+    (turns new_turns : Turns) (s : State) (path : List State) (last : State)
+    → slots ≡ new_slots ++ option_to_list popped_slot → (1 ≤ length slots → IsSome popped_slot)
+    → new_turns.last ≡ turns.last
+    → (length path ≡ length new_slots → AreOn (s ∷ path) turns → AreOn path new_turns)
+    → HasFollowed image slots slot turns p (s ∷ path) last
     → HasFollowed image new_slots slot new_turns p path last
-went_back image p slots new_slots popped_slot slot turns new_turns s path last items some same on h =
-    let rest : new_slots ≡ slots_along path = popped slots new_slots popped_slot s path items (some (slots_some slots s path h.slots_are)) h.slots_are in
+went_back image p slots new_slots top slot turns new_turns s path last items some same on h =
+    let rest : new_slots ≡ slots_along path =
+    popped slots new_slots top s path items
+    (some (slots_some slots s path h.slots_are)) h.slots_are in
     record {
       program = h.program;
       walk = h.walk.1;
@@ -124,16 +167,19 @@ went_back image p slots new_slots popped_slot slot turns new_turns s path last i
 
 -- ---- what is known in the end
 
-stops_in : (p : Program) (tale : List State → State → Type 0) (e : Refusal) (slot : ℕ) → EndsIn p tale e slot → (e ≡ Memory → ⊥) → IsToStop p tale e slot
+stops_in : (p : Program) (tale : List State → State → Type 0) (e : Refusal) (slot : ℕ)
+    → EndsIn p tale e slot → (e ≡ Memory → ⊥) → IsToStop p tale e slot
 stops_in p tale (Flow e) slot h known = h
 stops_in p tale (Step e) slot h known = h
 stops_in p tale Repeats slot h known = h
 stops_in p tale TooLong slot h known = h
 stops_in p tale Memory slot h known = absurd (known refl)
 
-explains : (p : Program) (tale : List State → State → Type 0) (e : Refusal) (slot : ℕ) (x : Explanation) → StopsAt p e slot → IsToStop p tale e slot
+explains : (p : Program) (tale : List State → State → Type 0) (e : Refusal) (slot : ℕ)
+    (x : Explanation) → StopsAt p e slot → IsToStop p tale e slot
     → ((before : List State) (s : State) → tale (s ∷ before) s → s.slot ≡ slot
-    → (x.state ≡ s) × IsLed p s x.way.items × IsTurnBefore p s x.earlier × ComesThrough p s x.slots.items)
+    → (x.state ≡ s) × IsLed p s x.way.items × IsTurnBefore p s x.earlier
+    × ComesThrough p s x.slots.items)
     → Explains p e slot x
 explains p tale e slot x refused h shown =
     let known = shown h.before h.state h.told h.slot_is in
@@ -148,12 +194,16 @@ explains p tale e slot x refused h shown =
     }
 
 -- the search found the refusal, at the slot
-pub explains_by : (p q : Program) (tale : Program → List State → State → Type 0) (found e : Refusal) (at slot : ℕ) (x : Explanation) → p ≡ q → found ≡ e → at ≡ slot → (e ≡ Memory → ⊥)
+pub explains_by : (p q : Program) (tale : Program → List State → State → Type 0) (found e : Refusal)
+    (at slot : ℕ) (x : Explanation) → p ≡ q → found ≡ e → at ≡ slot → (e ≡ Memory → ⊥)
     → StopsAt p found at → EndsIn p (tale p) found at
     → ((r : Program) (before : List State) (s : State) → tale r (s ∷ before) s → s.slot ≡ slot
-    → (x.state ≡ s) × IsLed r s x.way.items × IsTurnBefore r s x.earlier × ComesThrough r s x.slots.items)
+    → (x.state ≡ s) × IsLed r s x.way.items × IsTurnBefore r s x.earlier
+    × ComesThrough r s x.slots.items)
     → Explains q e slot x
 explains_by p q tale found e at slot x same is here known stops ends shown =
     let refused = subst (λ k. StopsAt p e k) here (subst (λ r. StopsAt p r at) is stops) in
-    let stopped = subst (λ k. EndsIn p (tale p) e k) here (subst (λ r. EndsIn p (tale p) r at) is ends) in
-    subst (λ r. Explains r e slot x) same (explains p (tale p) e slot x refused (stops_in p (tale p) e slot stopped known) (shown p))
+    let stopped =
+    subst (λ k. EndsIn p (tale p) e k) here (subst (λ r. EndsIn p (tale p) r at) is ends) in
+    subst (λ r. Explains r e slot x) same
+    (explains p (tale p) e slot x refused (stops_in p (tale p) e slot stopped known) (shown p))

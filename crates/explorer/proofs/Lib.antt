@@ -1,7 +1,8 @@
 pub mod Stores
-pub mod PieceLaws
+pub mod GroupLaws
 pub mod Paths
 pub mod Steps
+pub mod Starts
 pub mod Unfinished
 pub mod Walking
 pub mod Ways

@@ -12,108 +12,173 @@ use Rattle.explorer.specs.declared.stored_states.StoredState.{StoredState}
 use Rattle.explorer.specs.declared.trail.Visit.{Visit}
 use Rattle.walks.specs.Counts.{StepsInto, HasNumber, LeadsToOne, LeadsToTwo}
 use Rattle.explorer.specs.Search.{MeantBy, StepsCovered, NumberFollowsBoth, NumberFollows, Waiting, Path}
-use Rattle.explorer.proofs.Stores.{KeepsPlaces, KeepsPlaces-at}
+use Rattle.explorer.proofs.Stores.{KeepsStates, KeepsStates-at}
 
 -- ---- paths
 
-Waiting-more : (p : Program) (m n : ℕ) (old new : List StoredState) (visit : Visit) (s child : State) → m ≤ n → KeepsPlaces old new → Waiting p m old visit s child → Waiting p n new visit s child
+Waiting-more : (p : Program) (m n : ℕ) (old new : List StoredState) (visit : Visit)
+    (s child : State) → m ≤ n → KeepsStates old new → Waiting p m old visit s child
+    → Waiting p n new visit s child
 Waiting-more p m n old new visit s child le kept h =
-    record { waits = h.waits; awaits = h.awaits; steps = h.steps; steps_aside = h.steps_aside; best = omega (arith, h.best); stored = KeepsPlaces-at old new visit.stored s kept h.stored; ready = h.ready }
+    record {
+      waits = h.waits;
+      awaits = h.awaits;
+      steps = h.steps;
+      steps_aside = h.steps_aside;
+      best = omega (arith, h.best);
+      stored = KeepsStates-at old new visit.stored s kept h.stored;
+      ready = h.ready;
+    }
 
-pub Path-more : (p : Program) (m n : ℕ) (old new : List StoredState) → m ≤ n → KeepsPlaces old new → (path : List Visit) (a b : State) → Path p m old a path b → Path p n new a path b
+pub Path-more : (p : Program) (m n : ℕ) (old new : List StoredState) → m ≤ n → KeepsStates old new
+    → (path : List Visit) (a b : State) → Path p m old a path b → Path p n new a path b
 unfolding Path
 Path-more p m n old new le kept [] a b h = h
-Path-more p m n old new le kept (visit ∷ path) a b h =
-    (h.0, Waiting-more p m n old new visit a h.0 le kept h.1, Path-more p m n old new le kept path h.0 b h.2)
+Path-more p m n old new le kept (visit ∷ path) a b h = (
+  h.0,
+  Waiting-more p m n old new visit a h.0 le kept h.1,
+  Path-more p m n old new le kept path
+      h.0 b h.2,
+)
 
-pub Path-push : (p : Program) (m : ℕ) (entries : List StoredState) (path : List Visit) (visit : Visit) (a s child : State) → Path p m entries a path s → Waiting p m entries visit s child → Path p m entries a (path ++ visit ∷ []) child
+pub Path-push : (p : Program) (m : ℕ) (states : List StoredState) (path : List Visit)
+    (visit : Visit) (a s child : State) → Path p m states a path s
+    → Waiting p m states visit s child → Path p m states a (path ++ visit ∷ []) child
 unfolding Path
-Path-push p m entries [] visit a s child h waiting = (child, subst (λ x. Waiting p m entries visit x child) h waiting, refl)
-Path-push p m entries (first ∷ path) visit a s child h waiting = (h.0, h.1, Path-push p m entries path visit h.0 s child h.2 waiting)
+Path-push p m states [] visit a s child h waiting =
+    (child, subst (λ x. Waiting p m states visit x child) h waiting, refl)
+Path-push p m states (first ∷ path) visit a s child h waiting =
+    (h.0, h.1, Path-push p m states path visit h.0 s child h.2 waiting)
 
 -- the last visit of a path
-pub record LastVisit (p : Program) (m : ℕ) (entries : List StoredState) (a : State) (path : List Visit) (visit : Visit) (child : State) : Type 0 where
+pub record LastVisit (p : Program) (m : ℕ) (states : List StoredState) (a : State)
+    (path : List Visit) (visit : Visit) (child : State) : Type 0 where
   pub state : State
-  pub before : Path p m entries a path state
-  pub waiting : Waiting p m entries visit state child
+  pub before : Path p m states a path state
+  pub waiting : Waiting p m states visit state child
 
-pub Path-pop : (p : Program) (m : ℕ) (entries : List StoredState) (path : List Visit) (visit : Visit) (a child : State) → Path p m entries a (path ++ visit ∷ []) child → LastVisit p m entries a path visit child
+pub Path-pop : (p : Program) (m : ℕ) (states : List StoredState) (path : List Visit) (visit : Visit)
+    (a child : State) → Path p m states a (path ++ visit ∷ []) child
+    → LastVisit p m states a path visit child
 unfolding Path
-Path-pop p m entries [] visit a child h =
-    record { state = a; before = refl; waiting = subst (λ x. Waiting p m entries visit a x) (sym h.2) h.1 }
-Path-pop p m entries (first ∷ path) visit a child h =
-    let rest = Path-pop p m entries path visit h.0 child h.2 in
+Path-pop p m states [] visit a child h =
+    record {
+      state = a;
+      before = refl;
+      waiting = subst (λ x. Waiting p m states visit a x)
+          (sym h.2) h.1;
+    }
+Path-pop p m states (first ∷ path) visit a child h =
+    let rest = Path-pop p m states path visit h.0 child h.2 in
     record { state = rest.state; before = (h.0, h.1, rest.before); waiting = rest.waiting }
 
-pub Path-none : (p : Program) (m : ℕ) (entries : List StoredState) (path : List Visit) (a b : State) → length path ≡ 0 → Path p m entries a path b → b ≡ a
+pub Path-none : (p : Program) (m : ℕ) (states : List StoredState) (path : List Visit) (a b : State)
+    → length path ≡ 0 → Path p m states a path b → b ≡ a
 unfolding Path
-Path-none p m entries [] a b none h = h
-Path-none p m entries (visit ∷ path) a b none h = absurd (omega arith)
+Path-none p m states [] a b none h = h
+Path-none p m states (visit ∷ path) a b none h = absurd (omega arith)
 
-pub Path-here : (p : Program) (m : ℕ) (entries : List StoredState) (path : List Visit) (a b : State) → path ≡ [] → b ≡ a → Path p m entries a path b
+pub Path-here : (p : Program) (m : ℕ) (states : List StoredState) (path : List Visit) (a b : State)
+    → path ≡ [] → b ≡ a → Path p m states a path b
 unfolding Path
-Path-here p m entries path a b none e = subst (λ x. Path p m entries a x b) (sym none) e
+Path-here p m states path a b none e = subst (λ x. Path p m states a x b) (sym none) e
 
 -- ---- what a visit waits for
 
 -- the child ends within its number, and nothing is pending
-pub StepsCovered-ends : (p : Program) (visit : Visit) (s child : State) (n best : ℕ) → StepsCovered p visit s child → visit.pending ≡ None → Within p child n → best ≡ max visit.best n → Within p s (best + 1)
+pub StepsCovered-ends : (p : Program) (visit : Visit) (s child : State) (n best : ℕ)
+    → StepsCovered p visit s child → visit.pending ≡ None → Within p child n
+    → best ≡ max visit.best n → Within p s (best + 1)
 unfolding StepsCovered Within Ends
 StepsCovered-ends p visit s child n best waits none within is = rw add-one (λ clock fits w means.
-    After-weaker (λ v. Means p child v ⊎ (MeantBy p visit.pending v ⊎ Ends p clock v visit.best)) (λ v. Ends p clock v best) (step p clock w)
+    After-weaker (λ v. Means p child v ⊎ (MeantBy p visit.pending v ⊎ Ends p clock v visit.best))
+    (λ v. Ends p clock v best) (step p clock w)
     (λ v h. elim h [
       | inl a ↦ Ends-more p clock v n best (omega arith) (within clock fits v a)
-      | inr b ↦ elim b [ inl q ↦ absurd (subst (λ o. MeantBy p o v) none q) | inr e ↦ Ends-more p clock v visit.best best (omega arith) e ]
+      | inr b ↦
+          elim b [
+            | inl q ↦ absurd
+                (subst (λ o. MeantBy p o v) none q)
+            | inr e ↦ Ends-more p clock v visit.best best
+                (omega arith) e
+          ]
     ])
     (waits clock fits w means))
 
 -- the pending state is explored next
-pub StepsCovered-next : (p : Program) (visit : Visit) (s child other : State) (n : ℕ) → StepsCovered p visit s child → visit.pending ≡ Some other → Within p child n
-    → StepsCovered p (record { pending = None; best = max visit.best n; stored = visit.stored }) s other
+pub StepsCovered-next : (p : Program) (visit : Visit) (s child other : State) (n : ℕ)
+    → StepsCovered p visit s child → visit.pending ≡ Some other → Within p child n
+    → StepsCovered p
+    (record { pending = None; best = max visit.best n; stored = visit.stored }) s other
 unfolding StepsCovered Within Ends
 StepsCovered-next p visit s child other n waits some within = λ clock fits w means.
-    After-weaker (λ v. Means p child v ⊎ (MeantBy p visit.pending v ⊎ Ends p clock v visit.best)) (λ v. Means p other v ⊎ (⊥ ⊎ Ends p clock v (max visit.best n))) (step p clock w)
+    After-weaker (λ v. Means p child v ⊎ (MeantBy p visit.pending v ⊎ Ends p clock v visit.best))
+    (λ v. Means p other v ⊎ (⊥ ⊎ Ends p clock v (max visit.best n))) (step p clock w)
     (λ v h. elim h [
-      | inl a ↦ inr (inr (Ends-more p clock v n (max visit.best n) (omega arith) (within clock fits v a)))
-      | inr b ↦ elim b [ inl q ↦ inl (subst (λ o. MeantBy p o v) some q) | inr e ↦ inr (inr (Ends-more p clock v visit.best (max visit.best n) (omega arith) e)) ]
+      | inl a ↦
+          inr (inr (Ends-more p clock v n (max visit.best n) (omega arith) (within clock fits v a)))
+      | inr b ↦
+          elim b [
+            | inl q ↦ inl (subst (λ o. MeantBy p o v) some q)
+            | inr e ↦ inr
+                (inr (Ends-more p clock v visit.best (max visit.best n) (omega arith) e))
+          ]
     ])
     (waits clock fits w means)
 
 -- ---- the number that a visit awaits
 
-pub NumberFollows-ends : (p : Program) (visit : Visit) (s child : State) (n best : ℕ) → NumberFollows p visit s child → visit.pending ≡ None → HasNumber p child n → best ≡ max visit.best n → HasNumber p s (best + 1)
+pub NumberFollows-ends : (p : Program) (visit : Visit) (s child : State) (n best : ℕ)
+    → NumberFollows p visit s child → visit.pending ≡ None → HasNumber p child n
+    → best ≡ max visit.best n → HasNumber p s (best + 1)
 unfolding NumberFollows
 NumberFollows-ends p visit s child n best awaits none number is =
-    let own : HasNumber p s (max visit.best n + 1) = subst (λ o. NumberFollowsBoth p o s (max visit.best n)) none (awaits n number) in
+    let own : HasNumber p s (max visit.best n + 1) =
+    subst (λ o. NumberFollowsBoth p o s (max visit.best n)) none (awaits n number) in
     subst (λ b. HasNumber p s (b + 1)) (sym is) own
 
-pub NumberFollows-next : (p : Program) (visit : Visit) (s child other : State) (n : ℕ) → NumberFollows p visit s child → visit.pending ≡ Some other → HasNumber p child n
-    → NumberFollows p (record { pending = None; best = max visit.best n; stored = visit.stored }) s other
+pub NumberFollows-next : (p : Program) (visit : Visit) (s child other : State) (n : ℕ)
+    → NumberFollows p visit s child → visit.pending ≡ Some other → HasNumber p child n
+    → NumberFollows p
+    (record { pending = None; best = max visit.best n; stored = visit.stored }) s other
 unfolding NumberFollows
-NumberFollows-next p visit s child other n awaits some number = subst (λ o. NumberFollowsBoth p o s (max visit.best n)) some (awaits n number)
+NumberFollows-next p visit s child other n awaits some number =
+    subst (λ o. NumberFollowsBoth p o s (max visit.best n)) some (awaits n number)
 
-pub NumberFollows-one : (p : Program) (s a b : State) (stored : Option ℕ) → StepsInto p s ways.One a b → NumberFollows p (record { pending = None; best = 0; stored = stored }) s a
+pub NumberFollows-one : (p : Program) (s a b : State) (stored : Option ℕ)
+    → StepsInto p s ways.One a b
+    → NumberFollows p (record { pending = None; best = 0; stored = stored }) s a
 unfolding NumberFollows
-NumberFollows-one p s a b stored step = λ n number. LeadsToOne s a b n (max 0 n + 1) step number (omega arith)
+NumberFollows-one p s a b stored step =
+    λ n number. LeadsToOne s a b n (max 0 n + 1) step number (omega arith)
 
-pub NumberFollows-two : (p : Program) (s a b : State) (stored : Option ℕ) → StepsInto p s ways.Two a b → NumberFollows p (record { pending = Some b; best = 0; stored = stored }) s a
+pub NumberFollows-two : (p : Program) (s a b : State) (stored : Option ℕ)
+    → StepsInto p s ways.Two a b
+    → NumberFollows p (record { pending = Some b; best = 0; stored = stored }) s a
 unfolding NumberFollows
-NumberFollows-two p s a b stored step = λ n number k other. LeadsToTwo s a b n k (max (max 0 n) k + 1) step number other (omega arith)
+NumberFollows-two p s a b stored step =
+    λ n number k other. LeadsToTwo s a b n k (max (max 0 n) k + 1) step number other (omega arith)
 
 -- ---- where a step leads
 
--- nothing goes on
+-- the step has no successor
 pub LeadsTo-ends : (p : Program) (s a b : State) → LeadsTo p s ways.None a b → Within p s 1
 unfolding LeadsTo Within Ends
-LeadsTo-ends p s a b leads = λ clock fits w means. After-weaker (λ v. ⊥) (λ v. Ends p clock v 0) (step p clock w) (λ v h. h) (leads clock fits w means)
+LeadsTo-ends p s a b leads =
+    λ clock fits w means. After-weaker (λ v. ⊥) (λ v. Ends p clock v 0) (step p clock w) (λ v h. h)
+    (leads clock fits w means)
 
-pub StepsCovered-one : (p : Program) (s a b : State) (stored : Option ℕ) → LeadsTo p s ways.One a b → StepsCovered p (record { pending = None; best = 0; stored = stored }) s a
+pub StepsCovered-one : (p : Program) (s a b : State) (stored : Option ℕ) → LeadsTo p s ways.One a b
+    → StepsCovered p (record { pending = None; best = 0; stored = stored }) s a
 unfolding LeadsTo StepsCovered
 StepsCovered-one p s a b stored leads = λ clock fits w means.
-    After-weaker (λ v. Means p a v) (λ v. Means p a v ⊎ (⊥ ⊎ Ends p clock v 0)) (step p clock w) (λ v h. inl h) (leads clock fits w means)
+    After-weaker (λ v. Means p a v) (λ v. Means p a v ⊎ (⊥ ⊎ Ends p clock v 0)) (step p clock w)
+    (λ v h. inl h) (leads clock fits w means)
 
-pub StepsCovered-two : (p : Program) (s a b : State) (stored : Option ℕ) → LeadsTo p s ways.Two a b → StepsCovered p (record { pending = Some b; best = 0; stored = stored }) s a
+pub StepsCovered-two : (p : Program) (s a b : State) (stored : Option ℕ) → LeadsTo p s ways.Two a b
+    → StepsCovered p (record { pending = Some b; best = 0; stored = stored }) s a
 unfolding LeadsTo StepsCovered
 StepsCovered-two p s a b stored leads = λ clock fits w means.
-    After-weaker (λ v. Means p a v ⊎ Means p b v) (λ v. Means p a v ⊎ (Means p b v ⊎ Ends p clock v 0)) (step p clock w)
+    After-weaker (λ v. Means p a v ⊎ Means p b v)
+    (λ v. Means p a v ⊎ (Means p b v ⊎ Ends p clock v 0)) (step p clock w)
     (λ v h. elim h [ inl x ↦ inl x | inr y ↦ inr (inl y) ]) (leads clock fits w means)

@@ -1,20 +1,13 @@
--- What a search keeps, step by step.
+-- What stays true of a search, move by move.
 use Rattle.std.proofs.Common.{◌≡◌, ◌≤◌, ◌+◌, ◌∷◌, ◌++◌, [], ℕ, Some, None, Option, List, length, length-append, max, arith, refl, sym, ap, ◌∙◌, subst, inl, inr}
 use Rattle.std.specs.Prelude.{IsSome}
 use Rattle.std.specs.List.{All}
-use Rattle.std.proofs.lemmas.List.Elements.{All-nil, All-cons, All-push, All-pop}
+use Rattle.std.proofs.lemmas.List.Elements.{All-push, All-pop}
 use Rattle.isa_model.specs.declared.instructions.Insn.{Insn}
 use Rattle.isa_model.specs.declared.instructions.Insn.TheVariants.{CallLocal}
 use Rattle.isa_model.specs.Code.Instructions.{Program, fetch}
-use Rattle.image.specs.Images.{IsImage}
-use Rattle.image.proofs.ImageLaws.{fetch-zero}
-use Rattle.image.proofs.Programs.{IsProgram-IsImage}
-use Rattle.isa_model.specs.Running.Runs.{start_state}
 use Rattle.stack_state.specs.Starts.{start}
-use Rattle.stack_state.proofs.StartsLaws.{Means-start}
 use Rattle.stack_state.specs.declared.states.State.{State}
-use Rattle.isa_model.specs.Running.Outcomes.{StartsEnd}
-use Rattle.stack_state.specs.Meaning.{Within}
 use Rattle.control_flow.specs.Flows.{IsFlow}
 use Rattle.control_flow.proofs.FlowLaws.{IsFlow-Follows, IsFlow-fall, IsFlow-call}
 use Rattle.control_flow.specs.Graph.{BeginsInsn}
@@ -33,7 +26,7 @@ use Rattle.explorer.specs.declared.moves.Move.TheVariants.{New, Covered, Finishe
 use Rattle.explorer.specs.StoredStates.{StoredAt, GetsNumber}
 use Rattle.explorer.specs.Search.{Settles, Spends, CountsTo, Arrives, AllSettled, IsAtInsns, IfReady, IfStepsTo, Waiting, Path, OnPath, HasEnded, Explores, Comes, AfterMove}
 use Rattle.walks.specs.Forgetting.{Forgets}
-use Rattle.walks.proofs.Forgotten.{Forgets-slot, Forgets-returns, LeadsTo-forgets, GoesOnTo-forgets}
+use Rattle.walks.proofs.Forgotten.{LeadsTo-forgets, GoesOnTo-forgets}
 use Rattle.explorer.proofs.Walking.{steps_by, into_by, Path-walks}
 use Rattle.explorer.proofs.Counting.{Spends-one, Spends-two, spent_here, spent_into, spent_on}
 use Rattle.walks.specs.Counts.{StepsInto, LeadsNowhere, Nothing}
@@ -43,11 +36,12 @@ use Rattle.explorer.proofs.Paths.{LastVisit, Path-more, Path-push, Path-pop, Ste
 
 -- ---- an arrival
 
-pub comes_to : (p : Program) (old : Search) (states : StoredStates) (scratch : State) (made : Move) → Comes p old → Arrives p old.stored.entries.items old.current made states.entries.items
+pub comes_to : (p : Program) (old : Search) (states : StoredStates) (scratch : State) (made : Move)
+    → Comes p old → Arrives p old.stored.states.items old.current made states.states.items
     → AfterMove p (record old { stored = states; scratch = scratch }) made
 comes_to p old states scratch (New stored) h arrives =
-    let before = old.stored.entries.items in
-    let after = states.entries.items in
+    let before = old.stored.states.items in
+    let after = states.states.items in
     let path = old.path.items in
     let kept = Arrives-keeps p before old.current (New stored) after arrives in
     record {
@@ -55,7 +49,9 @@ comes_to p old states scratch (New stored) h arrives =
         fine = Arrives-fine p old.finished before old.current (New stored) after arrives h.at.fine;
         first = h.at.first;
         begins = h.at.begins;
-        path = Path-more p old.finished old.finished before after (omega arith) kept path h.at.first old.current h.at.path;
+        path =
+            Path-more p old.finished old.finished before after
+            (omega arith) kept path h.at.first old.current h.at.path;
       };
       on_path = OnPath-arrives p before after path old.current stored arrives h.on_path;
       stored_at = Arrives-stored p before old.current stored after arrives;
@@ -63,8 +59,8 @@ comes_to p old states scratch (New stored) h arrives =
       ready = h.ready;
     }
 comes_to p old states scratch (Covered k n) h arrives =
-    let before = old.stored.entries.items in
-    let after = states.entries.items in
+    let before = old.stored.states.items in
+    let after = states.states.items in
     let path = old.path.items in
     let total = old.finished + length path in
     let kept = Arrives-keeps p before old.current (Covered k n) after arrives in
@@ -75,11 +71,15 @@ comes_to p old states scratch (Covered k n) h arrives =
         fine = Arrives-fine p old.finished before old.current (Covered k n) after arrives h.at.fine;
         first = h.at.first;
         begins = h.at.begins;
-        path = Path-more p old.finished old.finished before after (omega arith) kept path h.at.first old.current h.at.path;
+        path =
+            Path-more p old.finished old.finished before after
+            (omega arith) kept path h.at.first old.current h.at.path;
       };
       on_path = OnPath-same before after path None arrives.2 h.on_path;
       within = known.0;
-      spent = spent_here p h.at.first path old.current total 0 total h.spent (Nothing old.current 0 refl) (omega arith);
+      spent =
+          spent_here p h.at.first path old.current total 0 total h.spent
+          (Nothing old.current 0 refl) (omega arith);
       some = arrives.1.finished;
       most = known.1;
     }
@@ -88,18 +88,22 @@ comes_to p old states scratch (Finished n) h arrives = absurd arrives
 -- ---- a visit that ends
 
 -- the number is written, and the search is at the state before
-pub record IsBack (p : Program) (m : ℕ) (entries : List StoredState) (a : State) (path : List Visit) (number : ℕ) : Type 0 where
+pub record IsBack (p : Program) (m : ℕ) (states : List StoredState) (a : State) (path : List Visit)
+    (number : ℕ) : Type 0 where
   pub state : State
-  pub fine : AllSettled p m entries
-  pub before : Path p m entries a path state
-  pub on_path : OnPath entries path None
+  pub fine : AllSettled p m states
+  pub before : Path p m states a path state
+  pub on_path : OnPath states path None
   pub within : Settles p state number
   pub most : number ≤ m
 
-pub step_back : (p : Program) (m : ℕ) (old new : List StoredState) (a : State) (path : List Visit) (visit : Visit) (child : State) (n best : ℕ)
-    → Forgets p start a → AllSettled p m old → LastVisit p m old a path visit child → OnPath old path visit.stored → Settles p child n → n ≤ m → visit.pending ≡ None → best ≡ max visit.best n
+pub step_back : (p : Program) (m : ℕ) (old new : List StoredState) (a : State) (path : List Visit)
+    (visit : Visit) (child : State) (n best : ℕ)
+    → Forgets p start a → AllSettled p m old → LastVisit p m old a path visit child
+    → OnPath old path visit.stored → Settles p child n → n ≤ m → visit.pending ≡ None
+    → best ≡ max visit.best n
     → GetsNumber old visit.stored (best + 1) new → IsBack p (m + 1) new a path (best + 1)
-step_back p m old new a path visit child n best root fine last on_path within le nothing is numbered =
+step_back p m old new a path visit child n best root fine last on within le nothing is gets =
     let s = last.state in
     let waiting = last.waiting in
     let own : Settles p s (best + 1) = record {
@@ -107,28 +111,35 @@ step_back p m old new a path visit child n best root fine last on_path within le
       number = NumberFollows-ends p visit s child n best waiting.awaits nothing within.number is;
     } in
     let most : best ≤ m = omega (arith, waiting.best, le, is) in
-    let kept = GetsNumber-keeps old visit.stored s (best + 1) new numbered waiting.stored in
+    let kept = GetsNumber-keeps old visit.stored s (best + 1) new gets waiting.stored in
     record {
       state = s;
-      fine = GetsNumber-fine p (m + 1) old visit.stored s (best + 1) new numbered waiting.stored own (omega (arith, most))
-          (length path, Path-walks p m old path a s root last.before) (AllSettled-more p m (m + 1) old (omega arith) fine);
+      fine =
+          GetsNumber-fine p (m + 1) old visit.stored s (best + 1) new gets waiting.stored own
+          (omega (arith, most))
+          (length path, Path-walks p m old path a s root last.before)
+          (AllSettled-more p m (m + 1) old (omega arith) fine);
       before = Path-more p m (m + 1) old new (omega arith) kept path a s last.before;
-      on_path = OnPath-finish old new path visit.stored s (best + 1) numbered waiting.stored (omega arith) on_path;
+      on_path =
+          OnPath-finish old new path visit.stored s (best + 1) gets waiting.stored
+          (omega arith) on;
       within = own;
       most = omega (arith, most);
     }
 
--- ---- a visit that goes on
+-- ---- a visit that continues
 
 -- the path to the pending state, once the child has its number
-step_aside : (p : Program) (m : ℕ) (entries : List StoredState) (a : State) (path : List Visit) (visit : Visit) (child : State) (n : ℕ) (current : State)
-    → LastVisit p m entries a path visit child → Settles p child n → n ≤ m
+step_aside : (p : Program) (m : ℕ) (states : List StoredState) (a : State) (path : List Visit)
+    (visit : Visit) (child : State) (n : ℕ) (current : State)
+    → LastVisit p m states a path visit child → Settles p child n → n ≤ m
     → visit.pending ≡ Some current
-    → Path p m entries a (path ++ record { pending = None; best = max visit.best n; stored = visit.stored } ∷ []) current
-step_aside p m entries a path visit child n current last within le is =
+    → Path p m states a
+    (path ++ record { pending = None; best = max visit.best n; stored = visit.stored } ∷ []) current
+step_aside p m states a path visit child n current last within le is =
     let s = last.state in
     let next : Visit = record { pending = None; best = max visit.best n; stored = visit.stored } in
-    let waiting : Waiting p m entries next s current =
+    let waiting : Waiting p m states next s current =
     record {
       waits = StepsCovered-next p visit s child current n last.waiting.waits is within.within;
       awaits = NumberFollows-next p visit s child current n last.waiting.awaits is within.number;
@@ -138,45 +149,73 @@ step_aside p m entries a path visit child n current last within le is =
       stored = last.waiting.stored;
       ready = tt;
     } in
-    Path-push p m entries path next a s current last.before waiting
+    Path-push p m states path next a s current last.before waiting
 
--- the last visit of the path goes on with what was pending
-pub comes_aside : (p : Program) (old : Search) (path : List Visit) (visit rest : Visit) (whole : Visits) (n : ℕ) (current : State) → HasEnded p old n
-    → old.path.items ≡ path ++ visit ∷ [] → visit.pending ≡ Some current → rest ≡ record { pending = None; best = max visit.best n; stored = visit.stored } → whole.items ≡ path ++ rest ∷ []
+-- the last visit of the path continues with what was pending
+pub comes_aside : (p : Program) (old : Search) (path : List Visit) (visit rest : Visit)
+    (whole : Visits) (n : ℕ) (current : State) → HasEnded p old n
+    → old.path.items ≡ path ++ visit ∷ [] → visit.pending ≡ Some current
+    → rest ≡ record { pending = None; best = max visit.best n; stored = visit.stored }
+    → whole.items ≡ path ++ rest ∷ []
     → Comes p (record old { path = whole; current = current })
 comes_aside p old path visit rest whole n current h was is rest_is pushed =
-    let entries = old.stored.entries.items in
+    let states = old.stored.states.items in
     let a = h.at.first in
     let next : Visit = record { pending = None; best = max visit.best n; stored = visit.stored } in
-    let last = Path-pop p old.finished entries path visit a h.state (subst (λ (x : List Visit). Path p old.finished entries a x h.state) was h.at.path) in
-    let again : whole.items ≡ path ++ next ∷ [] = pushed ∙ ap (λ (v : Visit). path ++ v ∷ []) rest_is in
+    let last =
+    Path-pop p old.finished states path visit a h.state
+    (subst (λ (x : List Visit). Path p old.finished states a x h.state) was h.at.path) in
+    let again : whole.items ≡ path ++ next ∷ [] =
+    pushed ∙ ap (λ (v : Visit). path ++ v ∷ []) rest_is in
     let same : length old.path.items ≡ length whole.items =
-    ap (λ (xs : List Visit). length xs) was ∙ (length-append path (visit ∷ []) ∙ (sym (length-append path (next ∷ [])) ∙ ap (λ (xs : List Visit). length xs) (sym again))) in
-    let aside = step_aside p old.finished entries a path visit h.state n current last h.within h.most is in
+    ap (λ (xs : List Visit). length xs) was
+    ∙ (length-append path (visit ∷ [])
+    ∙ (sym (length-append path (next ∷ []))
+    ∙ ap (λ (xs : List Visit). length xs) (sym again))) in
+    let aside =
+    step_aside p old.finished states a path visit h.state n current last h.within h.most is in
     record {
-      at = record { fine = h.at.fine; first = a; begins = h.at.begins; path = subst (λ (x : List Visit). Path p old.finished entries a x current) (sym again) aside };
-      on_path = OnPath-push entries path whole.items next again (OnPath-pop entries path old.path.items visit was h.on_path);
+      at =
+          record {
+            fine = h.at.fine;
+            first = a;
+            begins = h.at.begins;
+            path = subst
+                (λ (x : List Visit). Path p old.finished states a x current) (sym again) aside;
+          };
+      on_path =
+          OnPath-push states path whole.items next again
+          (OnPath-pop states path old.path.items visit was h.on_path);
       spent = subst (λ k. CountsTo p a whole.items current (old.finished + k)) same
-          (spent_on p a path old.path.items whole.items visit next current (old.finished + length old.path.items) was again is refl h.spent);
+          (spent_on p a path old.path.items whole.items visit next current
+          (old.finished + length old.path.items) was again is refl h.spent);
       ready = subst (IfReady p) is last.waiting.ready;
     }
 
 -- ---- a visit that begins
 
--- where control flow is good an instruction begins after each step, and where exits lead
-IsAtInsns-next : (p : Program) (s next : State) → IsFlow p → IsAtInsns p s → GoesOnTo p s next → IsAtInsns p next
+-- where control flow is good, an instruction begins at the slot of each successor, and at each slot
+-- to which an exit returns
+IsAtInsns-next : (p : Program) (s next : State) → IsFlow p → IsAtInsns p s → GoesOnTo p s next
+    → IsAtInsns p next
 IsAtInsns-next p s next flow ready (inl h) = record {
   begins = IsFlow-Follows p s.slot next.slot flow h.follows;
   returns = subst (All (BeginsInsn p)) (sym h.returns) ready.returns;
 }
 IsAtInsns-next p s next flow ready (inr (inl h)) = record {
-  begins = subst (BeginsInsn p) (sym h.target) (IsFlow-call p s.slot (CallLocal h.by) h.by flow h.here refl);
+  begins =
+      subst (BeginsInsn p) (sym h.target)
+      (IsFlow-call p s.slot (CallLocal h.by) h.by flow h.here refl);
   returns = subst (All (BeginsInsn p)) (sym h.returns)
-      (All-push (BeginsInsn p) (returns_of s) (s.slot + 1) ready.returns (IsFlow-fall p s.slot (CallLocal h.by) flow h.here refl));
+      (All-push (BeginsInsn p) (returns_of s) (s.slot + 1) ready.returns
+      (IsFlow-fall p s.slot (CallLocal h.by) flow h.here refl));
 }
 IsAtInsns-next p s next flow ready (inr (inr h)) =
-    let all : All (BeginsInsn p) (returns_of next ++ next.slot ∷ []) = subst (All (BeginsInsn p)) h.returns ready.returns in
-    let (returns, begins) = All-pop (BeginsInsn p) (returns_of next ++ next.slot ∷ []) (returns_of next) (Some next.slot) refl all in
+    let all : All (BeginsInsn p) (returns_of next ++ next.slot ∷ []) =
+    subst (All (BeginsInsn p)) h.returns ready.returns in
+    let (returns, begins) =
+    All-pop (BeginsInsn p) (returns_of next ++ next.slot ∷ []) (returns_of next)
+    (Some next.slot) refl all in
     record { begins = begins; returns = returns }
 
 some_there : (o : Option Insn) → IsSome o → (i : Insn) × (o ≡ Some i)
@@ -187,112 +226,134 @@ pub fetched : (p : Program) (s : State) → IsAtInsns p s → (i : Insn) × (fet
 fetched p s ready = some_there (fetch p s.slot) ready.begins
 
 -- the instruction's state waits for the state after it
-pub record Entered (p : Program) (m : ℕ) (entries : List StoredState) (visit : Visit) (s next : State) : Type 0 where
-  pub waiting : Waiting p m entries visit s next
+pub record Entered (p : Program) (m : ℕ) (states : List StoredState) (visit : Visit)
+    (s next : State) : Type 0 where
+  pub waiting : Waiting p m states visit s next
   pub ready : IsAtInsns p next
   pub spends : Spends p visit s next 1
 
-pub one_way : (p q : Program) (m : ℕ) (entries : List StoredState) (stored : Option ℕ) (s a b first : State) (w : Ways) (pending : Option State) → p ≡ q → IsFlow p → IsAtInsns p s → StoredAt entries stored s
-    → LeadsTo q s w a b → ((i : Insn) → fetch q s.slot ≡ Some i → StepsToWays q s i w a b) → EachWay w a b (GoesOnTo q s) → Forgets p a first → w ≡ ways.One → pending ≡ None
-    → Entered p m entries (record { pending = pending; best = 0; stored = stored }) s first
-one_way p q m entries stored s a b first w pending same flow ready at leads makes follows forgets is none =
+pub one_way : (p q : Program) (m : ℕ) (states : List StoredState) (stored : Option ℕ)
+    (s a b first : State) (w : Ways) (pending : Option State) → p ≡ q → IsFlow p → IsAtInsns p s
+    → StoredAt states stored s
+    → LeadsTo q s w a b → ((i : Insn) → fetch q s.slot ≡ Some i → StepsToWays q s i w a b)
+    → EachWay w a b (GoesOnTo q s) → Forgets p a first → w ≡ ways.One → pending ≡ None
+    → Entered p m states (record { pending = pending; best = 0; stored = stored }) s first
+one_way p q m all stored s a b first w pending same flow ready at leads makes goes forgets is none =
     let (i, here) = fetched p s ready in
-    let leads' = LeadsTo-forgets p s ways.One a b first b forgets (subst (λ x. LeadsTo x s ways.One a b) (sym same) (subst (λ x. LeadsTo q s x a b) is leads)) in
-    let follows' : GoesOnTo p s a = subst (λ x. GoesOnTo x s a) (sym same) (subst (λ x. EachWay x a b (GoesOnTo q s)) is follows) in
+    let leads' =
+    LeadsTo-forgets p s ways.One a b first b forgets
+    (subst (λ x. LeadsTo x s ways.One a b) (sym same)
+    (subst (λ x. LeadsTo q s x a b) is leads)) in
+    let follows' : GoesOnTo p s a =
+    subst (λ x. GoesOnTo x s a) (sym same)
+    (subst (λ x. EachWay x a b (GoesOnTo q s)) is goes) in
     let into = into_by p q s a b first b w ways.One same makes i here is forgets in
-    subst (λ x. Entered p m entries (record { pending = x; best = 0; stored = stored }) s first) (sym none) (record {
-      waiting = record { waits = StepsCovered-one p s first b stored leads'; awaits = NumberFollows-one p s first b stored into; steps = steps_by p q s a b a first w ways.One same makes i here is refl forgets; steps_aside = tt; best = omega arith; stored = at; ready = tt };
+    subst (λ x. Entered p m all (record { pending = x; best = 0; stored = stored }) s first)
+    (sym none) (record {
+      waiting =
+          record {
+            waits = StepsCovered-one p s first b stored leads';
+            awaits = NumberFollows-one p s first b stored into;
+            steps = steps_by p q s a b a first w ways.One same makes i here is refl forgets;
+            steps_aside = tt;
+            best = omega arith;
+            stored = at;
+            ready = tt;
+          };
       ready = IsAtInsns-next p s first flow ready (GoesOnTo-forgets p s a first forgets follows');
       spends = Spends-one p s first b stored into;
     })
 
-pub two_ways : (p q : Program) (m : ℕ) (entries : List StoredState) (stored : Option ℕ) (s a b first other : State) (w : Ways) (pending : Option State) → p ≡ q → IsFlow p → IsAtInsns p s → StoredAt entries stored s
-    → LeadsTo q s w a b → ((i : Insn) → fetch q s.slot ≡ Some i → StepsToWays q s i w a b) → EachWay w a b (GoesOnTo q s) → Forgets p a first → Forgets p b other → w ≡ ways.Two → pending ≡ Some other
-    → Entered p m entries (record { pending = pending; best = 0; stored = stored }) s first
-two_ways p q m entries stored s a b first other w pending same flow ready at leads makes follows forgets aside is some =
-    let (i, here) = fetched p s ready in
-    let leads' = LeadsTo-forgets p s ways.Two a b first other (forgets, aside) (subst (λ x. LeadsTo x s ways.Two a b) (sym same) (subst (λ x. LeadsTo q s x a b) is leads)) in
+pub two_ways : (p q : Program) (m : ℕ) (states : List StoredState) (stored : Option ℕ)
+    (s a b first other : State) (w : Ways) (pending : Option State) → p ≡ q → IsFlow p
+    → IsAtInsns p s → StoredAt states stored s
+    → LeadsTo q s w a b → ((i : Insn) → fetch q s.slot ≡ Some i → StepsToWays q s i w a b)
+    → EachWay w a b (GoesOnTo q s) → Forgets p a first → Forgets p b other → w ≡ ways.Two
+    → pending ≡ Some other
+    → Entered p m states (record { pending = pending; best = 0; stored = stored }) s first
+two_ways p q m all stored s a b first other w left eq good on at leads by goes less aside is some =
+    let (i, here) = fetched p s on in
+    let leads' =
+    LeadsTo-forgets p s ways.Two a b first other (less, aside)
+    (subst (λ x. LeadsTo x s ways.Two a b) (sym eq)
+    (subst (λ x. LeadsTo q s x a b) is leads)) in
     let follows' : GoesOnTo p s a × GoesOnTo p s b =
-    subst (λ x. GoesOnTo x s a × GoesOnTo x s b) (sym same) (subst (λ x. EachWay x a b (GoesOnTo q s)) is follows) in
-    let into = into_by p q s a b first other w ways.Two same makes i here is (forgets, aside) in
-    subst (λ x. Entered p m entries (record { pending = x; best = 0; stored = stored }) s first) (sym some) (record {
+    subst (λ x. GoesOnTo x s a × GoesOnTo x s b) (sym eq)
+    (subst (λ x. EachWay x a b (GoesOnTo q s)) is goes) in
+    let into = into_by p q s a b first other w ways.Two eq by i here is (less, aside) in
+    subst (λ x. Entered p m all (record { pending = x; best = 0; stored = stored }) s first)
+    (sym some) (record {
       waiting = record {
         waits = StepsCovered-two p s first other stored leads';
         awaits = NumberFollows-two p s first other stored into;
-        steps = steps_by p q s a b a first w ways.Two same makes i here is (inl refl) forgets;
-        steps_aside = steps_by p q s a b b other w ways.Two same makes i here is (inr refl) aside;
+        steps = steps_by p q s a b a first w ways.Two eq by i here is (inl refl) less;
+        steps_aside = steps_by p q s a b b other w ways.Two eq by i here is (inr refl) aside;
         best = omega arith;
         stored = at;
-        ready = IsAtInsns-next p s other flow ready (GoesOnTo-forgets p s b other aside follows'.1);
+        ready = IsAtInsns-next p s other good on (GoesOnTo-forgets p s b other aside follows'.1);
       };
-      ready = IsAtInsns-next p s first flow ready (GoesOnTo-forgets p s a first forgets follows'.0);
+      ready = IsAtInsns-next p s first good on (GoesOnTo-forgets p s a first less follows'.0);
       spends = Spends-two p s first other stored into;
     })
 
 -- the path goes on from the state to the first of those that are left to explore
-pub comes_into : (p : Program) (old x : Search) (stored : Option ℕ) (pending : Option State) (whole : Visits) (a o first : State) → x ≡ record old { current = a; scratch = o } → Explores p old stored
-    → Entered p old.finished old.stored.entries.items (record { pending = pending; best = 0; stored = stored }) old.current first
-    → whole.items ≡ x.path.items ++ record { pending = pending; best = 0; stored = stored } ∷ [] → Comes p (record x { current = first; path = whole })
+pub comes_into : (p : Program) (old x : Search) (stored : Option ℕ) (pending : Option State)
+    (whole : Visits) (a o first : State) → x ≡ record old { current = a; scratch = o }
+    → Explores p old stored
+    → Entered p old.finished old.stored.states.items
+    (record { pending = pending; best = 0; stored = stored }) old.current first
+    → whole.items ≡ x.path.items ++ record { pending = pending; best = 0; stored = stored } ∷ []
+    → Comes p (record x { current = first; path = whole })
 comes_into p old x stored pending whole a o first is at entered pushed =
     let visit : Visit = record { pending = pending; best = 0; stored = stored } in
-    let entries = old.stored.entries.items in
+    let states = old.stored.states.items in
     let path = old.path.items in
     let root = at.at.first in
-    let again : whole.items ≡ path ++ visit ∷ [] = pushed ∙ ap (λ (y : Search). y.path.items ++ visit ∷ []) is in
-    let more : length whole.items ≡ length path + 1 = ap (λ (xs : List Visit). length xs) again ∙ length-append path (visit ∷ []) in
+    let again : whole.items ≡ path ++ visit ∷ [] =
+    pushed ∙ ap (λ (y : Search). y.path.items ++ visit ∷ []) is in
+    let more : length whole.items ≡ length path + 1 =
+    ap (λ (xs : List Visit). length xs) again ∙ length-append path (visit ∷ []) in
     subst (λ (y : Search). Comes p (record y { current = first; path = whole })) (sym is) (record {
       at = record {
         fine = at.at.fine;
         first = root;
         begins = at.at.begins;
-        path = subst (λ (y : List Visit). Path p old.finished entries root y first) (sym again) (Path-push p old.finished entries path visit root old.current first at.at.path entered.waiting);
+        path =
+            subst (λ (y : List Visit). Path p old.finished states root y first) (sym again)
+            (Path-push p old.finished states path visit root old.current first at.at.path
+            entered.waiting);
       };
-      on_path = OnPath-push entries path whole.items visit again at.on_path;
-      spent = spent_into p root path whole.items visit old.current first (old.finished + length path) (old.finished + length whole.items) again at.spent entered.spends (omega (arith, more));
+      on_path = OnPath-push states path whole.items visit again at.on_path;
+      spent =
+          spent_into p root path whole.items visit old.current first (old.finished + length path)
+          (old.finished + length whole.items) again at.spent entered.spends
+          (omega (arith, more));
       ready = entered.ready;
     })
 
--- nothing goes on, and the number 1 is written
-pub step_ends : (p q : Program) (m : ℕ) (old new : List StoredState) (a : State) (path : List Visit) (stored : Option ℕ) (s x y : State) (w : Ways) → Forgets p start a → p ≡ q → AllSettled p m old → Path p m old a path s → StoredAt old stored s
-    → OnPath old path stored → LeadsTo q s w x y → StepsInto p s ways.None x y → w ≡ ways.None → GetsNumber old stored 1 new → IsBack p (m + 1) new a path 1
-step_ends p q m old new a path stored s x y w root same fine before at on_path leads into is numbered =
+-- the step has no successor, and the state gets the number 1
+pub step_ends : (p q : Program) (m : ℕ) (old new : List StoredState) (a : State) (path : List Visit)
+    (stored : Option ℕ) (s x y : State) (w : Ways) → Forgets p start a → p ≡ q → AllSettled p m old
+    → Path p m old a path s → StoredAt old stored s
+    → OnPath old path stored → LeadsTo q s w x y → StepsInto p s ways.None x y → w ≡ ways.None
+    → GetsNumber old stored 1 new → IsBack p (m + 1) new a path 1
+step_ends p q m old new a path stored s x y w root same fine before at on leads into is numbered =
     let within : Settles p s 1 = record {
-      within = LeadsTo-ends p s x y (subst (λ z. LeadsTo z s ways.None x y) (sym same) (subst (λ z. LeadsTo q s z x y) is leads));
+      within =
+          LeadsTo-ends p s x y
+          (subst (λ z. LeadsTo z s ways.None x y) (sym same)
+          (subst (λ z. LeadsTo q s z x y) is leads));
       number = LeadsNowhere s x y 1 into refl;
     } in
     record {
       state = s;
       fine = GetsNumber-fine p (m + 1) old stored s 1 new numbered at within (omega arith)
-          (length path, Path-walks p m old path a s root before) (AllSettled-more p m (m + 1) old (omega arith) fine);
-      before = Path-more p m (m + 1) old new (omega arith) (GetsNumber-keeps old stored s 1 new numbered at) path a s before;
-      on_path = OnPath-finish old new path stored s 1 numbered at (omega arith) on_path;
+          (length path, Path-walks p m old path a s root before)
+          (AllSettled-more p m (m + 1) old (omega arith) fine);
+      before =
+          Path-more p m (m + 1) old new (omega arith)
+          (GetsNumber-keeps old stored s 1 new numbered at) path a s before;
+      on_path = OnPath-finish old new path stored s 1 numbered at (omega arith) on;
       within = within;
       most = omega arith;
     }
-
--- ---- the start
-
-pub empty_fine : (p : Program) (m : ℕ) (entries : List StoredState) → entries ≡ [] → AllSettled p m entries
-unfolding AllSettled
-empty_fine p m entries e = subst (λ x. AllSettled p m x) (sym e) (λ k d h. absurd (omega arith))
-
-start_ready : (p : Program) → IsImage p → IsAtInsns p start
-unfolding start
-start_ready p image =
-    let first = fetch-zero p image in
-    let begins : BeginsInsn p 0 = subst (λ (o : Option Insn). IsSome o) (sym first.1) refl in
-    record { begins = begins; returns = All-cons (BeginsInsn p) 0 [] begins (All-nil (BeginsInsn p)) }
-
-IsAtInsns-forgets : (p : Program) (a b : State) → Forgets p a b → IsAtInsns p a → IsAtInsns p b
-IsAtInsns-forgets p a b f ready = record {
-  begins = subst (BeginsInsn p) (sym (Forgets-slot p a b f)) ready.begins;
-  returns = subst (All (BeginsInsn p)) (sym (Forgets-returns p a b f)) ready.returns;
-}
-
-pub starts_ready : (p q : Program) (s : State) → p ≡ q → IsImage q → Forgets p start s → IsAtInsns p s
-starts_ready p q s same image begins = IsAtInsns-forgets p start s begins (start_ready p (subst IsImage (sym same) image))
-
-pub starts_end : (p q : Program) (n : ℕ) → p ≡ q → IsImage q → Within p start n → StartsEnd q n
-unfolding Within StartsEnd
-starts_end p q n same image within = λ clock head packet contents fits given.
-    subst (λ x. Within x start n) same within clock fits (start_state head packet contents) (Means-start q head packet contents (IsProgram-IsImage q image) given)

@@ -16,14 +16,15 @@ use Rattle.explorer.specs.declared.trail.Visit.{Visit}
 use Rattle.walks.specs.Walks.{IsAmong, StepsTo, HasPath, WalksTo}
 use Rattle.walks.specs.Forgetting.{Forgets}
 use Rattle.walks.specs.Counts.{AreForgotten, StepsInto}
-use Rattle.explorer.specs.Listening.{ComesBackAt}
 use Rattle.walks.specs.Refused.{StopsAt}
 use Rattle.explorer.specs.StoredStates.{StoredAt}
-use Rattle.explorer.specs.Search.{Path, TurnsBack, zeros_from, with_first, places_of, OnPath}
+use Rattle.explorer.specs.Search.{Path, TurnsBack, zeros_from, with_first, indexes_of, OnPath}
 
 -- ---- steps
 
-pub steps_by : (p q : Program) (s a b n t : State) (w v : Ways) → p ≡ q → ((i : Insn) → fetch q s.slot ≡ Some i → StepsToWays q s i w a b) → (i : Insn) → fetch p s.slot ≡ Some i
+pub steps_by : (p q : Program) (s a b n t : State) (w v : Ways) → p ≡ q
+    → ((i : Insn) → fetch q s.slot ≡ Some i → StepsToWays q s i w a b) → (i : Insn)
+    → fetch p s.slot ≡ Some i
     → w ≡ v → IsAmong v a b n → Forgets p n t → StepsTo p s t
 steps_by p q s a b n t w v same makes i here is among forgets =
     let there : fetch q s.slot ≡ Some i = subst (λ x. fetch x s.slot ≡ Some i) same here in
@@ -39,12 +40,22 @@ steps_by p q s a b n t w v same makes i here is among forgets =
       forgets = forgets;
     }
 
-pub into_by : (p q : Program) (s a b first other : State) (w v : Ways) → p ≡ q → ((i : Insn) → fetch q s.slot ≡ Some i → StepsToWays q s i w a b) → (i : Insn) → fetch p s.slot ≡ Some i
+pub into_by : (p q : Program) (s a b first other : State) (w v : Ways) → p ≡ q
+    → ((i : Insn) → fetch q s.slot ≡ Some i → StepsToWays q s i w a b) → (i : Insn)
+    → fetch p s.slot ≡ Some i
     → w ≡ v → AreForgotten p v a b first other → StepsInto p s v first other
 into_by p q s a b first other w v same makes i here is forgets =
     let there : fetch q s.slot ≡ Some i = subst (λ x. fetch x s.slot ≡ Some i) same here in
     let made = subst (λ x. StepsToWays x s i w a b) (sym same) (makes i there) in
-    record { insn = i; here = here; next = a; aside = b; makes = subst (λ x. StepsToWays p s i x a b) is made; forgets = forgets }
+    record {
+      insn = i;
+      here = here;
+      next = a;
+      aside = b;
+      makes = subst
+          (λ x. StepsToWays p s i x a b) is made;
+      forgets = forgets;
+    }
 
 -- ---- the path is a walk
 
@@ -53,14 +64,17 @@ pub WalksTo-start : (p : Program) (first : State) → Forgets p start first → 
 unfolding HasPath
 WalksTo-start p first begins = record { first = first; begins = begins; leads = refl }
 
-pub Path-leads : (p : Program) (m : ℕ) (entries : List StoredState) (path : List Visit) (a b : State) → Path p m entries a path b → HasPath p (length path) a b
+pub Path-leads : (p : Program) (m : ℕ) (states : List StoredState) (path : List Visit) (a b : State)
+    → Path p m states a path b → HasPath p (length path) a b
 unfolding Path HasPath
-Path-leads p m entries [] a b h = h
-Path-leads p m entries (visit ∷ path) a b h = (h.0, h.1.steps, Path-leads p m entries path h.0 b h.2)
+Path-leads p m states [] a b h = h
+Path-leads p m states (visit ∷ path) a b h = (h.0, h.1.steps, Path-leads p m states path h.0 b h.2)
 
 -- and comes from the start
-pub Path-walks : (p : Program) (m : ℕ) (entries : List StoredState) (path : List Visit) (a b : State) → Forgets p start a → Path p m entries a path b → WalksTo p (length path) b
-Path-walks p m entries path a b begins h = record { first = a; begins = begins; leads = Path-leads p m entries path a b h }
+pub Path-walks : (p : Program) (m : ℕ) (states : List StoredState) (path : List Visit) (a b : State)
+    → Forgets p start a → Path p m states a path b → WalksTo p (length path) b
+Path-walks p m states path a b begins h =
+    record { first = a; begins = begins; leads = Path-leads p m states path a b h }
 
 -- ---- indexes
 
@@ -68,22 +82,28 @@ abbrev IsIn : ℕ → List ℕ → Type 0
 IsIn k [] = ⊥
 IsIn k (x ∷ xs) = (k ≡ x) ⊎ IsIn k xs
 
-zeros_from-in : (k : ℕ) (ns : List ℕ) (i j : ℕ) → j ≡ k + i → slice_get ns i ≡ Some 0 → IsIn j (zeros_from k ns)
+zeros_from-in : (k : ℕ) (ns : List ℕ) (i j : ℕ) → j ≡ k + i → slice_get ns i ≡ Some 0
+    → IsIn j (zeros_from k ns)
 zeros_from-in k [] i j at e = absurd (cc)
 zeros_from-in k (zero ∷ ns) zero j at e = inl (omega (arith, at))
-zeros_from-in k (zero ∷ ns) (suc i) j at e = inr (zeros_from-in (suc k) ns i j (omega (arith, at)) e)
+zeros_from-in k (zero ∷ ns) (suc i) j at e =
+    inr (zeros_from-in (suc k) ns i j (omega (arith, at)) e)
 zeros_from-in k (suc n ∷ ns) zero j at e = absurd (cc)
 zeros_from-in k (suc n ∷ ns) (suc i) j at e = zeros_from-in (suc k) ns i j (omega (arith, at)) e
 
-in_first : (o : Option ℕ) (k : ℕ) (xs : List ℕ) → IsIn k (with_first o xs) → (o ≡ Some k) ⊎ IsIn k xs
+in_first : (o : Option ℕ) (k : ℕ) (xs : List ℕ) → IsIn k (with_first o xs)
+    → (o ≡ Some k) ⊎ IsIn k xs
 in_first None k xs h = inr h
 in_first (Some i) k xs (inl e) = inl (ap Some (sym e))
 in_first (Some i) k xs (inr h) = inr h
 
 -- two states that are stored at one index are one
-same_stored : (entries : List StoredState) (k n : ℕ) (s t : State) → StoredAt entries (Some k) s → slice_get entries k ≡ Some (record { state = t; number = n }) → t ≡ s
-same_stored entries k n s t at e =
-    let q : ◌≡◌ {A = StoredState} (record { state = t; number = n }) (record { state = s; number = at.0 }) = cc (e, at.1) in
+same_stored : (states : List StoredState) (k n : ℕ) (s t : State) → StoredAt states (Some k) s
+    → slice_get states k ≡ Some (record { state = t; number = n }) → t ≡ s
+same_stored states k n s t at e =
+    let q : ◌≡◌ {A = StoredState} (record { state = t; number = n })
+    (record { state = s; number = at.0 }) =
+    cc (e, at.1) in
     ap (λ (x : StoredState). x.state) q
 
 -- a walk goes through the state
@@ -93,47 +113,72 @@ record Through (p : Program) (a t b : State) : Type 0 where
   leads : HasPath p before a t
   leads_on : HasPath p (suc between) t b
 
-starts_here : (p : Program) (n : ℕ) (a t b : State) → t ≡ a → HasPath p (suc n) a b → Through p a t b
+starts_here : (p : Program) (n : ℕ) (a t b : State) → t ≡ a → HasPath p (suc n) a b
+    → Through p a t b
 unfolding HasPath
-starts_here p n a t b e h = record { before = 0; between = n; leads = e; leads_on = subst (λ x. HasPath p (suc n) x b) (sym e) h }
+starts_here p n a t b e h =
+    record {
+      before = 0;
+      between = n;
+      leads = e;
+      leads_on = subst (λ x. HasPath p (suc n) x b)
+          (sym e) h;
+    }
 
 one_more : (p : Program) (a c t b : State) → StepsTo p a c → Through p c t b → Through p a t b
 unfolding HasPath
-one_more p a c t b step h = record { before = suc h.before; between = h.between; leads = (c, step, h.leads); leads_on = h.leads_on }
+one_more p a c t b step h =
+    record {
+      before = suc h.before;
+      between = h.between;
+      leads = (c, step, h.leads);
+      leads_on = h.leads_on;
+    }
 
-through : (p : Program) (m : ℕ) (entries : List StoredState) (path : List Visit) (a b : State) (k : ℕ) (t : State) → Path p m entries a path b → IsIn k (places_of path)
-    → slice_get entries k ≡ Some (record { state = t; number = 0 }) → Through p a t b
+through : (p : Program) (m : ℕ) (states : List StoredState) (path : List Visit) (a b : State)
+    (k : ℕ) (t : State) → Path p m states a path b → IsIn k (indexes_of path)
+    → slice_get states k ≡ Some (record { state = t; number = 0 }) → Through p a t b
 unfolding Path HasPath
-through p m entries [] a b k t h member e = absurd member
-through p m entries (visit ∷ path) a b k t h member e =
+through p m states [] a b k t h member e = absurd member
+through p m states (visit ∷ path) a b k t h member e =
     let child = h.0 in
     let waiting = h.1 in
-    elim (in_first visit.stored k (places_of path) member) [
+    elim (in_first visit.stored k (indexes_of path) member) [
       | inl is ↦
-          starts_here p (length path) a t b (same_stored entries k 0 a t (subst (λ x. StoredAt entries x a) is waiting.stored) e)
-          (child, waiting.steps, Path-leads p m entries path child b h.2)
-      | inr rest ↦ one_more p a child t b waiting.steps (through p m entries path child b k t h.2 rest e)
+          starts_here p (length path) a t b
+          (same_stored states k 0 a t (subst (λ x. StoredAt states x a) is waiting.stored) e)
+          (child, waiting.steps, Path-leads p m states path child b h.2)
+      | inr rest ↦
+          one_more p a child t b waiting.steps (through p m states path child b k t h.2 rest e)
     ]
 
 -- ---- why a path is turned back
 
-unfinished_in : (entries : List StoredState) (path : List Visit) (k : ℕ) (t : State) → OnPath entries path None → slice_get entries k ≡ Some (record { state = t; number = 0 }) → IsIn k (places_of path)
+unfinished_in : (states : List StoredState) (path : List Visit) (k : ℕ) (t : State)
+    → OnPath states path None → slice_get states k ≡ Some (record { state = t; number = 0 })
+    → IsIn k (indexes_of path)
 unfolding OnPath
-unfinished_in entries path k t on e =
+unfinished_in states path k t on e =
     let f : StoredState → ℕ = λ x. x.number in
-    let found : slice_get (map f entries) k ≡ Some 0 = slice_get-map f entries k ∙ ap (option_map f) e in
-    subst (IsIn k) on (zeros_from-in 0 (map f entries) k k (omega arith) found)
+    let found : slice_get (map f states) k ≡ Some 0 =
+    slice_get-map f states k ∙ ap (option_map f) e in
+    subst (IsIn k) on (zeros_from-in 0 (map f states) k k (omega arith) found)
 
-pub turned_back : (p : Program) (m : ℕ) (entries : List StoredState) (path : List Visit) (a b : State) (e : Refusal) (slot : ℕ) → Forgets p start a → Path p m entries a path b → OnPath entries path None
-    → TurnsBack p entries b e slot → StopsAt p e slot
-turned_back p m entries path a b (Flow e) slot begins h on back = absurd back
-turned_back p m entries path a b (Step e) slot begins h on back = absurd back
-turned_back p m entries path a b Repeats slot begins h on back =
+pub turned_back : (p : Program) (m : ℕ) (states : List StoredState) (path : List Visit)
+    (a b : State) (e : Refusal) (slot : ℕ) → Forgets p start a → Path p m states a path b
+    → OnPath states path None
+    → TurnsBack p states b e slot → StopsAt p e slot
+turned_back p m states path a b (Flow e) slot begins h on back = absurd back
+turned_back p m states path a b (Step e) slot begins h on back = absurd back
+turned_back p m states path a b Repeats slot begins h on back =
     let repeated = back.1 in
-    let walk = through p m entries path a b repeated.index repeated.entry h (unfinished_in entries path repeated.index repeated.entry on repeated.stored) repeated.stored in
+    let walk =
+    through p m states path a b repeated.index repeated.other h
+    (unfinished_in states path repeated.index repeated.other on repeated.stored)
+    repeated.stored in
     record {
       join = subst (λ n. IsJoin p n) (sym back.2) back.0;
-      first = repeated.entry;
+      first = repeated.other;
       again = b;
       before = walk.before;
       between = walk.between;
@@ -144,12 +189,5 @@ turned_back p m entries path a b Repeats slot begins h on back =
       covers = repeated.covers p;
       covered = repeated.covered p;
     }
-turned_back p m entries path a b TooLong slot begins h on back = absurd back
-turned_back p m entries path a b Memory slot begins h on back = back
-
-pub TurnsBack-at : (p : Program) (entries : List StoredState) (s : State) (e : Refusal) (slot : ℕ) → TurnsBack p entries s e slot → ComesBackAt s e slot
-TurnsBack-at p entries s (Flow e) slot h = absurd h
-TurnsBack-at p entries s (Step e) slot h = absurd h
-TurnsBack-at p entries s Repeats slot h = sym h.2
-TurnsBack-at p entries s TooLong slot h = absurd h
-TurnsBack-at p entries s Memory slot h = tt
+turned_back p m states path a b TooLong slot begins h on back = absurd back
+turned_back p m states path a b Memory slot begins h on back = back

@@ -15,15 +15,17 @@ use Rattle.explorer.specs.declared.explanations.TheConstants.{MOST_JUMPS}
 
 -- the jump of a step, if it does not go to the next instruction
 abbrev pub jump_of : State → Insn → State → List Jump
-jump_of a i b = if b.slot == a.slot + slots_filled i then [] else record { from = a.slot; to = b.slot } ∷ []
+jump_of a i b =
+    if b.slot == a.slot + slots_filled i then [] else record { from = a.slot; to = b.slot } ∷ []
 
 -- a walk from the start reaches the state, and these are all its jumps
 pub data ComesBy (p : Program) : State → List Jump → Type 0 where
   IsStart : (s : State) (jumps : List Jump) → Forgets p start s → jumps ≡ [] → ComesBy p s jumps
-  OneMore : (a s : State) (i : Insn) (before jumps : List Jump) → ComesBy p a before → fetch p a.slot ≡ Some i → StepsTo p a s
+  OneMore : (a s : State) (i : Insn) (before jumps : List Jump) → ComesBy p a before
+      → fetch p a.slot ≡ Some i → StepsTo p a s
       → jumps ≡ before ++ jump_of a i s → ComesBy p s jumps
 
--- this count of the last jumps, or all
+-- the last jumps, `count` of them, or all if there are fewer
 unfoldable pub last : ℕ → List Jump → List Jump
 last count jumps = drop (length jumps - count) jumps
 
@@ -33,8 +35,7 @@ pub record IsLed (p : Program) (s : State) (way : List Jump) : Type 0 where
   pub comes : ComesBy p s jumps
   pub last_are : way ≡ last MOST_JUMPS jumps
 
--- a walk leads to the state from the state of the turn of the loop before, if there is one, which
--- is at the same slot
+-- if there is a previous turn of the loop, steps lead from its state to this one, at the same slot
 abbrev pub IsTurnBefore : Program → State → Option State → Type 0
 IsTurnBefore p s None = Unit {0}
 IsTurnBefore p s (Some e) = (e.slot ≡ s.slot) × ((more : ℕ) × HasPath p (suc more) e s)
@@ -47,8 +48,9 @@ pub data ComesThrough (p : Program) : State → List ℕ → Type 0 where
   AfterOne : (a s : State) (before slots : List ℕ) → ComesThrough p a before → StepsTo p a s
       → slots ≡ before ++ s.slot ∷ [] → ComesThrough p s slots
 
--- the program is refused so, at the slot; the abstract state there, that of the turn of the loop
--- before, the last jumps of a path to it, and all slots of one
+-- the program is refused for this reason at the slot; x has the abstract state there, that of the
+-- previous turn of the loop, the last jumps of a walk to it, and the slots of all states of a walk
+-- to it
 pub record Explains (p : Program) (e : Refusal) (slot : ℕ) (x : Explanation) : Type 0 where
   pub refused : StopsAt p e slot
   pub led : IsLed p x.state x.way.items

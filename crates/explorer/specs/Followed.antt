@@ -17,7 +17,8 @@ slots_along [] = []
 slots_along (s ∷ before) = slots_along before ++ s.slot ∷ []
 
 -- the slots are those of the path, and of the states that came to one slot the last ones are kept
-pub record HasFollowed (image : Program) (slots : List ℕ) (slot : ℕ) (turns : Turns) (p : Program) (path : List State) (last : State) : Type 0 where
+pub record HasFollowed (image : Program) (slots : List ℕ) (slot : ℕ) (turns : Turns) (p : Program)
+    (path : List State) (last : State) : Type 0 where
   pub program : image ≡ p
   pub walk : IsWalk p path
   pub slots_are : slots ≡ slots_along path

@@ -4,7 +4,7 @@ use Rattle.walks.specs.declared.refusals.Refusal.{Refusal}
 use Rattle.explorer.specs.declared.limited.NoBound.{NoBound}
 use Rattle.explorer.specs.declared.limited.NoBound.TheVariants.{Refused, Limit}
 
--- a fact of the refusal and its slot, if the limit did not come first
+-- the fact holds of the refusal and its slot, unless the limit was reached first
 abbrev pub IfRefuses : NoBound → (Refusal → ℕ → Type 0) → Type 0
 IfRefuses (Refused e slot) fact = fact e slot
 IfRefuses Limit fact = Unit {0}

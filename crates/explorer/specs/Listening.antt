@@ -18,7 +18,7 @@ use Rattle.explorer.specs.declared.moves.Move.TheVariants.{New, Covered, Finishe
 use Rattle.explorer.specs.declared.moves.NextMove.{NextMove}
 use Rattle.explorer.specs.declared.moves.NextMove.TheVariants.{Explore, Done}
 
--- a fact of the refusal, if the search ended with one
+-- the fact holds of the refusal, if the search ended with one
 abbrev pub IfRefused : {S : Type 0} → Halt S → (Refusal → ℕ → Type 0) → Type 0
 IfRefused (Refused e slot) fact = fact e slot
 IfRefused (Stopped stop) fact = Unit {0}
@@ -38,17 +38,18 @@ BeginsPath p (Finished n) path current = ⊥
 
 -- a visit was appended to the path: that of a state whose successors are the current one and what
 -- is pending
-pub record AddsVisit (p : Program) (s : State) (old new : List Visit) (current : State) : Type 0 where
+pub record AddsVisit (p : Program) (s : State) (old new : List Visit)
+    (current : State) : Type 0 where
   pub visit : Visit
   pub pushed : new ≡ old ++ visit ∷ []
   pub steps : StepsTo p s current
   pub aside : IfStepsTo p s visit.pending
 
 -- the step of a state has no successor, or the current one
-abbrev pub TellsStep : Program → State → List Visit → Move → List Visit → State → Type 0
-TellsStep p s old (Finished n) new current = new ≡ old
-TellsStep p s old (New stored) new current = AddsVisit p s old new current
-TellsStep p s old (Covered k n) new current = AddsVisit p s old new current
+abbrev pub ShowsStep : Program → State → List Visit → Move → List Visit → State → Type 0
+ShowsStep p s old (Finished n) new current = new ≡ old
+ShowsStep p s old (New stored) new current = AddsVisit p s old new current
+ShowsStep p s old (Covered k n) new current = AddsVisit p s old new current
 
 -- the last visit was waiting for the current state, and has nothing else pending
 pub record GoesAside (old new : List Visit) (current : State) : Type 0 where
@@ -61,18 +62,19 @@ pub record GoesAside (old new : List Visit) (current : State) : Type 0 where
   pub nothing : rest.pending ≡ None
 
 -- the last visit ends, or continues with what was pending
-abbrev pub TellsReturn : List Visit → Move → List Visit → State → Type 0
-TellsReturn old (Finished n) new current = (visit : Visit) × (old ≡ new ++ visit ∷ [])
-TellsReturn old (New stored) new current = GoesAside old new current
-TellsReturn old (Covered k n) new current = GoesAside old new current
+abbrev pub ShowsReturn : List Visit → Move → List Visit → State → Type 0
+ShowsReturn old (Finished n) new current = (visit : Visit) × (old ≡ new ++ visit ∷ [])
+ShowsReturn old (New stored) new current = GoesAside old new current
+ShowsReturn old (Covered k n) new current = GoesAside old new current
 
 abbrev pub IfReturns : List Visit → Option Move → List Visit → State → Type 0
 IfReturns old None new current = Unit {0}
-IfReturns old (Some made) new current = TellsReturn old made new current
+IfReturns old (Some made) new current = ShowsReturn old made new current
 
 -- ---- why a search stops
 
--- why it stops in a state: its step is refused so, or the search has been in it, or has explored enough
+-- why it stops in a state: its step is refused, the path has been in the state before, or the limit
+-- of explored instructions is reached
 abbrev pub StopsIn : Program → State → Refusal → Type 0
 StopsIn p s (Flow e) = ⊥
 StopsIn p s (Step e) = (i : Insn) × (fetch p s.slot ≡ Some i) × RefusesStep p s i e
@@ -86,7 +88,7 @@ ComesBackAt current Repeats slot = current.slot ≡ slot
 ComesBackAt current Memory slot = Unit {0}
 ComesBackAt current e slot = ⊥
 
--- the same at the start
+-- why a search stops at its start
 abbrev pub BeginFails : Program → State → Refusal → ℕ → Type 0
 BeginFails p current Repeats slot = (current.slot ≡ slot) × ComesTo p [] current
 BeginFails p current Memory slot = Unit {0}
@@ -123,31 +125,36 @@ abbrev pub AreVisited : Program → List Visit → List State → Type 0
 AreVisited p [] [] = Unit {0}
 AreVisited p [] (s ∷ states) = ⊥
 AreVisited p (visit ∷ visits) [] = ⊥
-AreVisited p (visit ∷ visits) (s ∷ states) = IfStepsTo p s visit.pending × AreVisited p visits states
+AreVisited p (visit ∷ visits) (s ∷ states) =
+    IfStepsTo p s visit.pending × AreVisited p visits states
 
 -- the listener was called for all visits of the path
-pub record HeardPath (p : Program) (tale : List State → State → Type 0) (path : List Visit) : Type 0 where
+pub record HeardPath (p : Program) (tale : List State → State → Type 0)
+    (path : List Visit) : Type 0 where
   pub states : List State
   pub last : State
   pub visited : AreVisited p (reverse path) states
   pub told : tale states last
 
--- and then of the current state
-pub record FollowsTo (p : Program) (tale : List State → State → Type 0) (path : List Visit) (current : State) : Type 0 where
+-- the listener was called for all visits of the path, and then for the current state
+pub record FollowsTo (p : Program) (tale : List State → State → Type 0) (path : List Visit)
+    (current : State) : Type 0 where
   pub states : List State
   pub visited : AreVisited p (reverse path) states
   pub told : tale (current ∷ states) current
 
--- the call is still to come that says that the path arrives at the current state
-pub record IsToArrive (p : Program) (tale : List State → State → Type 0) (path : List Visit) (current : State) : Type 0 where
+-- the call for the arrival at the current state is still to come
+pub record IsToArrive (p : Program) (tale : List State → State → Type 0) (path : List Visit)
+    (current : State) : Type 0 where
   pub states : List State
   pub last : State
   pub visited : AreVisited p (reverse path) states
   pub comes : ComesTo p states current
   pub told : tale states last
 
--- the call is still to come that says that a state after the path has its number
-pub record IsToFinish (p : Program) (tale : List State → State → Type 0) (path : List Visit) : Type 0 where
+-- the call for the number of the state after the path is still to come
+pub record IsToFinish (p : Program) (tale : List State → State → Type 0)
+    (path : List Visit) : Type 0 where
   pub state : State
   pub states : List State
   pub last : State
@@ -165,20 +172,23 @@ HearsMove p tale path current (New stored) = FollowsTo p tale path current
 HearsMove p tale path current (Covered k n) = HeardPath p tale path
 HearsMove p tale path current (Finished n) = HeardPath p tale path
 
--- and where a state is to be explored
-abbrev pub FollowsTurn : Program → (List State → State → Type 0) → List Visit → State → NextMove → Type 0
-FollowsTurn p tale path current (Explore stored) = FollowsTo p tale path current
-FollowsTurn p tale path current (Done n) = Unit {0}
+-- the same for what comes next: a state is to be explored, or the search has ended
+abbrev pub FollowsNext : Program → (List State → State → Type 0) → List Visit → State → NextMove
+    → Type 0
+FollowsNext p tale path current (Explore stored) = FollowsTo p tale path current
+FollowsNext p tale path current (Done n) = Unit {0}
 
 -- before the call for a refusal
-pub record IsToStop (p : Program) (tale : List State → State → Type 0) (e : Refusal) (slot : ℕ) : Type 0 where
+pub record IsToStop (p : Program) (tale : List State → State → Type 0) (e : Refusal)
+    (slot : ℕ) : Type 0 where
   pub state : State
   pub before : List State
   pub slot_is : state.slot ≡ slot
   pub stops : StopsIn p state e
   pub told : tale (state ∷ before) state
 
-pub record IsToComeBack (p : Program) (tale : List State → State → Type 0) (current : State) (slot : ℕ) : Type 0 where
+pub record IsToComeBack (p : Program) (tale : List State → State → Type 0) (current : State)
+    (slot : ℕ) : Type 0 where
   pub states : List State
   pub last : State
   pub slot_is : current.slot ≡ slot

@@ -30,16 +30,17 @@ use Rattle.explorer.specs.StoredStates.{IsCovered, IsRepeated, StoredAt}
 -- ---- arriving at a state
 
 abbrev pub stored_too : List StoredState → State → List StoredState
-stored_too entries s = entries ++ record { state = s; number = 0 } ∷ []
+stored_too states s = states ++ record { state = s; number = 0 } ∷ []
 
--- a state at a join has the number of one that covers it, or is stored; or it is new, as at other slots
+-- a state at a join has the number of one that covers it, or is stored; or it is new, as at other
+-- slots
 abbrev pub Arrives : Program → List StoredState → State → Move → List StoredState → Type 0
 Arrives p old s (Covered k n) new = IsJoin p s.slot × IsCovered old k s n × (new ≡ old)
 Arrives p old s (New None) new = new ≡ old
 Arrives p old s (New (Some k)) new = IsJoin p s.slot × (k ≡ length old) × (new ≡ stored_too old s)
 Arrives p old s (Finished n) new = ⊥
 
--- the path has come to a state
+-- the move is an arrival at a state
 abbrev pub IsArrival : Move → Type 0
 IsArrival (New stored) = Unit {0}
 IsArrival (Covered k n) = Unit {0}
@@ -47,24 +48,26 @@ IsArrival (Finished n) = ⊥
 
 -- why a path is turned back at a state, and at which slot
 abbrev pub TurnsBack : Program → List StoredState → State → Refusal → ℕ → Type 0
-TurnsBack p entries s Repeats slot = IsJoin p s.slot × IsRepeated entries s × (slot ≡ s.slot)
-TurnsBack p entries s Memory slot = slot ≡ 0
-TurnsBack p entries s e slot = ⊥
+TurnsBack p states s Repeats slot = IsJoin p s.slot × IsRepeated states s × (slot ≡ s.slot)
+TurnsBack p states s Memory slot = slot ≡ 0
+TurnsBack p states s e slot = ⊥
 
 -- ---- what is known of the stored states and of the path
 
--- each run from the state ends within the state's number of steps
+-- runs from members of the state end within n steps, and n is the number of the state
 pub record Settles (p : Program) (s : State) (n : ℕ) : Type 0 where
   pub within : Within p s n
   pub number : HasNumber p s n
 
--- runs from the state of an entry with a number end within that number, no number is above the
--- count of finished instructions, and a walk from the start reaches the state
+-- runs from a stored state with a number end within that number, no number is above the count of
+-- finished instructions, and a walk from the start reaches the state
 abbrev pub IsSettled : Program → ℕ → StoredState → Type 0
-IsSettled p finished e = 0 < e.number → Settles p e.state e.number × (e.number ≤ finished) × ((steps : ℕ) × WalksTo p steps e.state)
+IsSettled p finished e =
+    0 < e.number → Settles p e.state e.number × (e.number ≤ finished)
+    × ((steps : ℕ) × WalksTo p steps e.state)
 
 unfoldable pub AllSettled : Program → ℕ → List StoredState → Type 0
-AllSettled p finished entries = All (IsSettled p finished) entries
+AllSettled p finished states = All (IsSettled p finished) states
 
 -- an instruction begins at the state's slot, and at each slot to which a live call frame returns
 pub record IsAtInsns (p : Program) (s : State) : Type 0 where
@@ -87,32 +90,37 @@ MeantBy p (Some s) w = Means p s w
 -- pending, or to what ends in time
 unfoldable pub StepsCovered : Program → Visit → State → State → Type 0
 StepsCovered p visit s child = (clock : ℕ → ℕ) → IsClock clock → (w : Machine.State) → Means p s w
-    → After (λ v. Means p child v ⊎ (MeantBy p visit.pending v ⊎ Ends p clock v visit.best)) (step p clock w)
+    → After (λ v. Means p child v ⊎ (MeantBy p visit.pending v ⊎ Ends p clock v visit.best))
+    (step p clock w)
 
 -- the number that a state has once what is pending has one
 abbrev pub NumberFollowsBoth : Program → Option State → State → ℕ → Type 0
 NumberFollowsBoth p None s best = HasNumber p s (best + 1)
-NumberFollowsBoth p (Some other) s best = (k : ℕ) → HasNumber p other k → HasNumber p s (max best k + 1)
+NumberFollowsBoth p (Some other) s best =
+    (k : ℕ) → HasNumber p other k → HasNumber p s (max best k + 1)
 
--- and once the child has one
+-- the number that a state has once its child and what is pending have one
 unfoldable pub NumberFollows : Program → Visit → State → State → Type 0
-NumberFollows p visit s child = (n : ℕ) → HasNumber p child n → NumberFollowsBoth p visit.pending s (max visit.best n)
+NumberFollows p visit s child =
+    (n : ℕ) → HasNumber p child n → NumberFollowsBoth p visit.pending s (max visit.best n)
 
 -- a visit of a state that waits for another one
-pub record Waiting (p : Program) (finished : ℕ) (entries : List StoredState) (visit : Visit) (s child : State) : Type 0 where
+pub record Waiting (p : Program) (finished : ℕ) (states : List StoredState) (visit : Visit)
+    (s child : State) : Type 0 where
   pub waits : StepsCovered p visit s child
   pub awaits : NumberFollows p visit s child
   pub steps : StepsTo p s child
   pub steps_aside : IfStepsTo p s visit.pending
   pub best : visit.best ≤ finished
-  pub stored : StoredAt entries visit.stored s
+  pub stored : StoredAt states visit.stored s
   pub ready : IfReady p visit.pending
 
 -- the path goes from one state to another, with a visit for each instruction
 unfoldable pub Path : Program → ℕ → List StoredState → State → List Visit → State → Type 0
-Path p finished entries from [] to = to ≡ from
-Path p finished entries from (visit ∷ path) to =
-    (child : State) × Waiting p finished entries visit from child × Path p finished entries child path to
+Path p finished states from [] to = to ≡ from
+Path p finished states from (visit ∷ path) to =
+    (child : State) × Waiting p finished states visit from child
+    × Path p finished states child path to
 
 -- ---- how many instructions were explored
 
@@ -121,7 +129,7 @@ abbrev pub TakesBoth : Program → Option State → State → ℕ → Type 0
 TakesBoth p None s n = Takes p s n
 TakesBoth p (Some other) s n = (y : ℕ) → Takes p other y → Takes p s (n + y)
 
--- and those of the child included; `own` were explored already
+-- the same with those of the child; `own` were explored already
 unfoldable pub Spends : Program → Visit → State → State → ℕ → Type 0
 Spends p visit s child own = (x : ℕ) → Takes p child x → TakesBoth p visit.pending s (own + x)
 
@@ -129,7 +137,8 @@ Spends p visit s child own = (x : ℕ) → Takes p child x → TakesBoth p visit
 unfoldable pub CountsTo : Program → State → List Visit → State → ℕ → Type 0
 CountsTo p from [] to n = (to ≡ from) × (n ≡ 0)
 CountsTo p from (visit ∷ path) to n =
-    (child : State) × (own : ℕ) × (rest : ℕ) × Spends p visit from child own × CountsTo p child path to rest × (n ≡ own + rest)
+    (child : State) × (own : ℕ) × (rest : ℕ) × Spends p visit from child own
+    × CountsTo p child path to rest × (n ≡ own + rest)
 
 -- the path goes to a state that is explored in full, and `total` instructions were explored
 pub record HasSpent (p : Program) (from : State) (path : List Visit) (total : ℕ) : Type 0 where
@@ -140,7 +149,7 @@ pub record HasSpent (p : Program) (from : State) (path : List Visit) (total : �
   pub takes : Takes p state own
   pub total_is : before + own ≡ total
 
--- ---- the entries without a number
+-- ---- the stored states without a number
 
 -- the indexes of zeros in a list whose first index is k
 abbrev pub zeros_from : ℕ → List ℕ → List ℕ
@@ -148,70 +157,72 @@ zeros_from k [] = []
 zeros_from k (zero ∷ numbers) = k ∷ zeros_from (suc k) numbers
 zeros_from k (suc n ∷ numbers) = zeros_from (suc k) numbers
 
--- their indexes, in the order in which they were stored
+-- the indexes of the states without a number, in the order in which they were stored
 abbrev pub unfinished : List StoredState → List ℕ
-unfinished entries = zeros_from 0 (map (λ e. e.number) entries)
+unfinished states = zeros_from 0 (map (λ e. e.number) states)
 
 -- the indexes with one in front of them, or after them, if there is one
 abbrev pub with_first : Option ℕ → List ℕ → List ℕ
-with_first None places = places
-with_first (Some k) places = k ∷ places
+with_first None indexes = indexes
+with_first (Some k) indexes = k ∷ indexes
 
 abbrev pub with_last : List ℕ → Option ℕ → List ℕ
-with_last places None = places
-with_last places (Some k) = places ++ k ∷ []
+with_last indexes None = indexes
+with_last indexes (Some k) = indexes ++ k ∷ []
 
--- where the states of the path are stored
-abbrev pub places_of : List Visit → List ℕ
-places_of [] = []
-places_of (visit ∷ path) = with_first visit.stored (places_of path)
+-- the indexes at which the states of the path are stored
+abbrev pub indexes_of : List Visit → List ℕ
+indexes_of [] = []
+indexes_of (visit ∷ path) = with_first visit.stored (indexes_of path)
 
--- the entries without a number are those of the path and the one after it, in their order, and no others
+-- the stored states without a number are those of the path and the one after it, in their order
 unfoldable pub OnPath : List StoredState → List Visit → Option ℕ → Type 0
-OnPath entries path stored = unfinished entries ≡ with_last (places_of path) stored
+OnPath states path stored = unfinished states ≡ with_last (indexes_of path) stored
 
 -- ---- the search
 
 -- the search is at the start, and nothing was explored
 pub record IsNew (search : Search) : Type 0 where
   pub current : search.current ≡ start
-  pub stored : search.stored.entries.items ≡ []
+  pub stored : search.stored.states.items ≡ []
   pub path : search.path.items ≡ []
   pub finished : search.finished ≡ 0
 
 -- the search is at this state, and its path goes there from the start
 pub record IsAt (p : Program) (search : Search) (s : State) : Type 0 where
-  pub fine : AllSettled p search.finished search.stored.entries.items
+  pub fine : AllSettled p search.finished search.stored.states.items
   pub first : State
   pub begins : Forgets p start first
-  pub path : Path p search.finished search.stored.entries.items first search.path.items s
+  pub path : Path p search.finished search.stored.states.items first search.path.items s
 
 -- the search is at a state that ends within this number
 pub record HasEnded (p : Program) (search : Search) (n : ℕ) : Type 0 where
   pub state : State
   pub at : IsAt p search state
-  pub on_path : OnPath search.stored.entries.items search.path.items None
+  pub on_path : OnPath search.stored.states.items search.path.items None
   pub within : Settles p state n
   pub spent : HasSpent p at.first search.path.items (search.finished + length search.path.items)
   pub some : 0 < n
   pub most : n ≤ search.finished
 
--- the search is at its current state, which is stored there
+-- the search is at its current state, which is stored with this index
 pub record Explores (p : Program) (search : Search) (stored : Option ℕ) : Type 0 where
   pub at : IsAt p search search.current
-  pub on_path : OnPath search.stored.entries.items search.path.items stored
-  pub stored_at : StoredAt search.stored.entries.items stored search.current
-  pub spent : CountsTo p at.first search.path.items search.current (search.finished + length search.path.items)
+  pub on_path : OnPath search.stored.states.items search.path.items stored
+  pub stored_at : StoredAt search.stored.states.items stored search.current
+  pub spent : CountsTo p at.first search.path.items search.current
+      (search.finished + length search.path.items)
   pub ready : IsAtInsns p search.current
 
 -- the path comes to the current state, which is not explored yet
 pub record Comes (p : Program) (search : Search) : Type 0 where
   pub at : IsAt p search search.current
-  pub on_path : OnPath search.stored.entries.items search.path.items None
-  pub spent : CountsTo p at.first search.path.items search.current (search.finished + length search.path.items)
+  pub on_path : OnPath search.stored.states.items search.path.items None
+  pub spent : CountsTo p at.first search.path.items search.current
+      (search.finished + length search.path.items)
   pub ready : IsAtInsns p search.current
 
--- after a move the current state is to be explored, or the path has come to a state with a number
+-- after a move the current state is to be explored, or the path has reached a state with a number
 abbrev pub AfterMove : Program → Search → Move → Type 0
 AfterMove p search (New stored) = Explores p search stored
 AfterMove p search (Covered k n) = HasEnded p search n
@@ -222,11 +233,11 @@ pub record IsFull (search : Search) (slot : ℕ) : Type 0 where
   pub explored : search.finished + length search.path.items ≡ MAX_EXPLORED
   pub next : slot ≡ search.current.slot
 
-abbrev pub TakesTurn : Program → Search → NextMove → Type 0
-TakesTurn p search (Explore stored) = Explores p search stored
-TakesTurn p search (Done n) = Settles p start n × (0 < n) × (n ≤ search.finished)
+abbrev pub IsNext : Program → Search → NextMove → Type 0
+IsNext p search (Explore stored) = Explores p search stored
+IsNext p search (Done n) = Settles p start n × (0 < n) × (n ≤ search.finished)
 
--- if the path is empty, its state is the start, and all is explored
+-- the same; or the path is empty, and the start, which has this number, is explored in full
 abbrev pub AfterMoveOrEnd : Program → Search → ℕ → Option Move → Type 0
-AfterMoveOrEnd p search n None = TakesTurn p search (Done n)
+AfterMoveOrEnd p search n None = IsNext p search (Done n)
 AfterMoveOrEnd p search n (Some made) = AfterMove p search made

@@ -7,31 +7,33 @@ use Rattle.explorer.specs.declared.stored_states.StoredState.{StoredState}
 
 -- the stored state with this index is s, and has this number
 abbrev pub IsStored : List StoredState → ℕ → State → ℕ → Type 0
-IsStored entries index s n = slice_get entries index ≡ Some (record { state = s; number = n })
+IsStored states index s n = slice_get states index ≡ Some (record { state = s; number = n })
 
 -- the stored state with this index is finished, has this number, and covers s
-pub record IsCovered (entries : List StoredState) (index : ℕ) (s : State) (n : ℕ) : Type 0 where
-  pub entry : State
-  pub stored : slice_get entries index ≡ Some (record { state = entry; number = n })
+pub record IsCovered (states : List StoredState) (index : ℕ) (s : State) (n : ℕ) : Type 0 where
+  pub other : State
+  pub stored : slice_get states index ≡ Some (record { state = other; number = n })
   pub finished : 0 < n
-  pub same_slot : entry.slot ≡ s.slot
-  pub covers : (p : Program) → Covers p entry s
+  pub same_slot : other.slot ≡ s.slot
+  pub covers : (p : Program) → Covers p other s
 
--- an unfinished entry and the state cover one another
-pub record IsRepeated (entries : List StoredState) (s : State) : Type 0 where
+-- an unfinished stored state and the state cover one another
+pub record IsRepeated (states : List StoredState) (s : State) : Type 0 where
   pub index : ℕ
-  pub entry : State
-  pub stored : slice_get entries index ≡ Some (record { state = entry; number = 0 })
-  pub same_slot : entry.slot ≡ s.slot
-  pub covers : (p : Program) → Covers p entry s
-  pub covered : (p : Program) → Covers p s entry
+  pub other : State
+  pub stored : slice_get states index ≡ Some (record { state = other; number = 0 })
+  pub same_slot : other.slot ≡ s.slot
+  pub covers : (p : Program) → Covers p other s
+  pub covered : (p : Program) → Covers p s other
 
--- where a state is stored, if it is
+-- the index at which a state is stored, if it is
 abbrev pub StoredAt : List StoredState → Option ℕ → State → Type 0
-StoredAt entries None s = Unit {0}
-StoredAt entries (Some k) s = (n : ℕ) × (slice_get entries k ≡ Some (record { state = s; number = n }))
+StoredAt states None s = Unit {0}
+StoredAt states (Some k) s =
+    (n : ℕ) × (slice_get states k ≡ Some (record { state = s; number = n }))
 
--- the entry that was stored, if there is one, has the number, and the other entries are as they were
+-- the state that was stored, if there is one, has the number, and the other stored states are as
+-- they were
 abbrev pub GetsNumber : List StoredState → Option ℕ → ℕ → List StoredState → Type 0
 GetsNumber old None n new = new ≡ old
 GetsNumber old (Some k) n new =

@@ -22,8 +22,9 @@ states_left true (s ∷ states) = states
 
 unfoldable pub visits_of : List KeptVisit → List State → List Visit
 visits_of [] states = []
-visits_of (step ∷ steps) states =
-    record { pending = pending_of step.waits states; best = step.best; stored = step.stored } ∷ visits_of steps (states_left step.waits states)
+visits_of (kept ∷ visits) states =
+    record { pending = pending_of kept.waits states; best = kept.best; stored = kept.stored }
+    ∷ visits_of visits (states_left kept.waits states)
 
 abbrev pub one_if : Bool → ℕ
 one_if false = 0
@@ -32,4 +33,4 @@ one_if true = 1
 -- how many visits have a pending state
 abbrev pub waiting_count : List KeptVisit → ℕ
 waiting_count [] = 0
-waiting_count (step ∷ steps) = one_if step.waits + waiting_count steps
+waiting_count (kept ∷ visits) = one_if kept.waits + waiting_count visits

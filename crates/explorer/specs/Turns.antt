@@ -3,18 +3,18 @@ use Rattle.std.specs.Prelude.{◌≡◌, ℕ, ◌+◌, ◌<◌, List, ◌∷◌,
 use Rattle.stack_state.specs.declared.states.State.{State}
 use Rattle.explorer.specs.declared.turns.Turns.{Turns}
 
--- the state is on the path, whose last state is the first here, and `place` states come before it
-pub record IsAt (path : List State) (s : State) (place : ℕ) : Type 0 where
+-- the state is on the path, whose last state is the first here, and `index` states come before it
+pub record IsAtIndex (path : List State) (s : State) (index : ℕ) : Type 0 where
   pub after : List State
   pub before : List State
   pub split : path ≡ after ++ s ∷ before
-  pub place_is : length before ≡ place
+  pub index_is : length before ≡ index
 
--- both are on the path, where it is said how many states come before them
+-- each of the two is on the path, if it has an index there
 pub record AreOn (path : List State) (turns : Turns) : Type 0 where
-  pub last : IfSome turns.place (λ place. IsAt path turns.last place)
-  pub earlier : IfSome turns.earlier_place (λ place. IsAt path turns.earlier place)
+  pub last : IfSome turns.index (λ index. IsAtIndex path turns.last index)
+  pub earlier : IfSome turns.earlier_index (λ index. IsAtIndex path turns.earlier index)
 
 -- the state is on the path, and it is not the last one
 abbrev pub IsFurtherBack : List State → State → Type 0
-IsFurtherBack path s = (place : ℕ) × IsAt path s place × (place + 1 < length path)
+IsFurtherBack path s = (index : ℕ) × IsAtIndex path s index × (index + 1 < length path)

@@ -1,4 +1,4 @@
-//! Frames about which nothing is known.
+//! Call frames about which nothing is known.
 
 ghost use Rattle.std.specs.Prelude.{◌≡◌};
 ghost use Rattle.state_index.specs.Parts.{unset_frame};

@@ -36,7 +36,7 @@ pub struct Jump {
 pub struct Explanation {
     /// The abstract state in which it is.
     pub state: State,
-    /// The state of the turn of the loop before: the last one on the path there that came to the
+    /// The state of the previous turn of the loop: the last one on the path there that came to the
     /// same slot.
     pub earlier: Option<State>,
     /// The last jumps on the path there.
@@ -61,8 +61,8 @@ fn note(way: &mut ArrayVec<Jump, 8>, jump: Jump)
     way.push(jump);
 }
 
-/// Extends a way by the step from one slot to another, which is noted if it is a jump. None: no
-/// instruction begins at `from`.
+/// Extends the last jumps of a path by the step from one slot to another, if that is a jump. None:
+/// no instruction begins at `from`.
 fn go_on(image: &Image, way: &mut ArrayVec<Jump, 8>, from: usize, to: usize) -> Option<()>
     ensures { IfSome result (λ _. (a s : TheState) → a.slot ≡ from → s.slot ≡ to
         → StepsTo image.now a s → IsLed image.now a way.old.items
@@ -186,7 +186,8 @@ fn are_one(one: Refusal, other: Refusal) -> bool
     }
 }
 
-/// What a second search finds where it stops for this refusal at this slot. None: it does not.
+/// What a second search finds where it stops with this refusal at this slot. None: it does not stop
+/// so.
 fn explained(
     alloc: Global,
     image: &Image,
@@ -211,7 +212,8 @@ fn explained(
     }
 }
 
-/// What is known where a program is refused so, at this slot: a second search looks for it.
+/// What is known where a program is refused for this reason, at this slot: a second search looks
+/// for it.
 ///
 /// None: the refusal is one of control flow, memory ran out, or this is not what the program is
 /// refused for.

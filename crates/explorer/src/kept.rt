@@ -15,7 +15,7 @@ use std::rc::Rc;
 /// How many parts a call frame has: its registers and its stack slots.
 pub const PLACES: usize = 10 + FRAME_SIZE / 8;
 
-/// How many words a state takes beside its frames.
+/// How many words a state takes besides its call frames.
 const STATE_WORDS: u32 = 16;
 
 /// Keeps the callers of a state: those of another state, where they are the same.
@@ -53,7 +53,7 @@ fn own_words(innermost: &KeptFrame, callers: &Rc<Vec<KeptFrame>>) -> u32 {
     words
 }
 
-/// A state that is kept for later: its live frames only.
+/// A state that is kept for later: its live call frames only.
 ///
 /// Contracts see the state.
 #[derive(Drop)]

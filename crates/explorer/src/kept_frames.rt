@@ -5,7 +5,7 @@ ghost use Rattle.stack_state.specs.Slots.{frame_slots};
 ghost use Rattle.state_index.specs.Parts.{AreParts, register_parts, slot_parts};
 
 use crate::blanks::clear_frame;
-use crate::pieces::{FEW, KeptParts, Rest, may_cover_all, words_of, write_all};
+use crate::groups::{FEW, KeptParts, Rest, may_cover_all, words_of, write_all};
 use arrayvec::ArrayVec;
 use reg_state::Kind;
 use stack_state::{AbstractFrame, FRAME_SLOTS, MAX_CALLERS, StackSlot};
@@ -26,19 +26,20 @@ impl Model for KeptFrame {
     ghost use Rattle.std.specs.Prelude.{◌≡◌, ◌++◌};
     ghost use Rattle.stack_state.specs.declared.states.AbstractFrame.{AbstractFrame};
     ghost use Rattle.state_index.specs.Parts.{unset_frame, all_written, parts_of};
-    ghost use Rattle.explorer.specs.Pieces.{whole, few_of, pieces_of};
+    ghost use Rattle.explorer.specs.Groups.{whole, few_of, groups_of};
 
     ghost Value = { AbstractFrame };
 
     ghost view = { λ k. all_written (unset_frame k.return_slot)
-        (few_of k.parts ++ whole (pieces_of k.parts)) };
+        (few_of k.parts ++ whole (groups_of k.parts)) };
 
     ghost invariant = { λ k. parts_of (all_written (unset_frame k.return_slot)
-        (few_of k.parts ++ whole (pieces_of k.parts))) ≡ few_of k.parts ++ whole (pieces_of k.parts) };
+        (few_of k.parts ++ whole (groups_of k.parts)))
+        ≡ few_of k.parts ++ whole (groups_of k.parts) };
 }
 
 impl KeptFrame {
-    /// Keeps a frame with these parts, in pieces, some of which it may share with another frame.
+    /// Keeps a frame with these parts, in groups, some of which it may share with another frame.
     pub fn with_parts(
         alloc: Global,
         frame: &AbstractFrame,
@@ -49,7 +50,7 @@ impl KeptFrame {
         ensures { IfOk result (λ kept. kept ≡ frame.now) }
     {
         let others = match other {
-            Some(other) => other.parts.pieces(),
+            Some(other) => other.parts.groups(),
             None => &[],
         };
         let parts = KeptParts::of(alloc, parts, others, FEW)?;
@@ -83,9 +84,9 @@ impl KeptFrame {
         if !may_cover_all(self.parts.few(), frame) {
             return false;
         }
-        let pieces = self.parts.pieces();
-        for index in 0..pieces.len() {
-            if !may_cover_all(pieces[index].parts(), frame) {
+        let groups = self.parts.groups();
+        for index in 0..groups.len() {
+            if !may_cover_all(groups[index].parts(), frame) {
                 return false;
             }
         }
@@ -96,20 +97,20 @@ impl KeptFrame {
     pub fn restore(&self, frame: &mut AbstractFrame)
         ensures { frame.new ≡ self.now }
     {
-        let pieces = self.parts.pieces();
+        let groups = self.parts.groups();
         frame.return_slot = self.return_slot;
         clear_frame(frame);
         write_all(frame, self.parts.few());
-        for index in 0..pieces.len() {
-            write_all(frame, pieces[index].parts());
+        for index in 0..groups.len() {
+            write_all(frame, groups[index].parts());
         }
     }
 
     /// Puts its parts after others.
     pub fn put_parts(&self, parts: &mut Vec<Part>) -> Result<(), AllocError> {
         parts.extend_from_slice(self.parts.few())?;
-        for piece in self.parts.pieces() {
-            parts.extend_from_slice(piece.parts())?;
+        for group in self.parts.groups() {
+            parts.extend_from_slice(group.parts())?;
         }
         Ok(())
     }
@@ -119,8 +120,8 @@ impl KeptFrame {
         let mut fingerprints = fingerprints
             .with_frame(self.return_slot)
             .with_parts(self.parts.few());
-        for piece in self.parts.pieces() {
-            fingerprints = fingerprints.with_parts(piece.parts());
+        for group in self.parts.groups() {
+            fingerprints = fingerprints.with_parts(group.parts());
         }
         fingerprints
     }
@@ -128,8 +129,8 @@ impl KeptFrame {
     /// Puts its limits after those of the frames around it.
     pub fn put_limits(&self, limits: &mut Vec<PartLimits>, level: u32) -> Result<(), AllocError> {
         add_limits(limits, level, self.parts.few())?;
-        for piece in self.parts.pieces() {
-            add_limits(limits, level, piece.parts())?;
+        for group in self.parts.groups() {
+            add_limits(limits, level, group.parts())?;
         }
         Ok(())
     }
@@ -137,8 +138,8 @@ impl KeptFrame {
     /// How many words it takes that no other state shares.
     pub fn own_words(&self) -> u32 {
         let mut words = words_of(self.parts.few());
-        for piece in self.parts.pieces() {
-            words = words.saturating_add(piece.own_words());
+        for group in self.parts.groups() {
+            words = words.saturating_add(group.own_words());
         }
         u32::try_from(words).unwrap_or(u32::MAX)
     }
@@ -146,8 +147,8 @@ impl KeptFrame {
     /// How many of its parts name an identity.
     pub fn named(&self) -> usize {
         let mut count = named_in(self.parts.few());
-        for piece in self.parts.pieces() {
-            count = count.saturating_add(named_in(piece.parts()));
+        for group in self.parts.groups() {
+            count = count.saturating_add(named_in(group.parts()));
         }
         count
     }

@@ -7,6 +7,7 @@
 
 mod blanks;
 pub mod explanations;
+mod groups;
 mod kept;
 mod kept_frames;
 pub mod limited;
@@ -14,7 +15,6 @@ pub mod listened;
 mod listening;
 mod listing;
 mod moves;
-mod pieces;
 mod search;
 mod stored_states;
 mod trail;

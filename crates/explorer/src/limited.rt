@@ -25,7 +25,7 @@ use walks::Refusal;
 /// Why a search up to a limit has no bound.
 #[derive(Clone, Copy)]
 pub enum NoBound {
-    /// The program is refused so, at this slot.
+    /// The program is refused for this reason, at this slot.
     Refused(Refusal, usize),
     /// More instructions than the limit would have to be explored.
     Limit,
@@ -72,9 +72,9 @@ impl Listener for Countdown {
     }
 }
 
-/// Verifies a program as `verify` does, but explores no more instructions than the limit. Within it
-/// the answer has each clause of `verify`'s, and with a limit of `MAX_EXPLORED` or more it is that
-/// one's.
+/// Verifies a program as `verify` does, but explores no more instructions than the limit. If the
+/// limit suffices, the answer has each clause of `verify`'s. With a limit of `MAX_EXPLORED` or more
+/// the answer is that of `verify`.
 pub fn verify_within(alloc: Global, image: Image, limit: u32) -> Result<Verified, NoBound>
     ensures program { IfOk result (λ verified. verified.program ≡ image) }
     ensures verified { IfOk result IsVerified }

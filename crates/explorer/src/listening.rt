@@ -51,7 +51,7 @@ pub trait Listener {
         Ok(())
     }
 
-    /// The step of the path's last state has these ways.
+    /// The step of the path's last state has this number of successors.
     #[inline(always)]
     fn stepped(&mut self, _ways: Ways) -> Result<(), Self::Stop>
         ensures { (p : Program) (path : List TheState) (last : TheState)
@@ -73,7 +73,7 @@ pub trait Listener {
     {}
 }
 
-/// Reports a move to this state, and the state that was stored last.
+/// Calls the listener for a move to this state, with the state that was stored last.
 #[inline(always)]
 pub fn tell<L: Listener>(
     listener: &mut L,
@@ -90,9 +90,9 @@ pub fn tell<L: Listener>(
             listener.arrives(state)?;
             listener.explores(state, stored, kept)
         }
-        Move::Covered(place, number) => {
+        Move::Covered(index, number) => {
             listener.arrives(state)?;
-            listener.covered(place, number)
+            listener.covered(index, number)
         }
         Move::Finished(number) => listener.finished(number),
     }

@@ -41,7 +41,7 @@ pub struct ExploredInsn {
 /// Contracts see the explored instructions.
 #[derive(Drop)]
 pub struct Explored {
-    entries: Vec<ExploredInsn>,
+    insns: Vec<ExploredInsn>,
 }
 
 impl Model for Explored {
@@ -50,7 +50,7 @@ impl Model for Explored {
 
     ghost Value = { List ExploredInsn };
 
-    ghost view = { λ explored. explored.entries.items };
+    ghost view = { λ explored. explored.insns.items };
 }
 
 impl Explored {
@@ -58,14 +58,14 @@ impl Explored {
     pub fn len(&self) -> usize
         ensures { result ≡ length self.now }
     {
-        self.entries.len()
+        self.insns.len()
     }
 
     /// The one with this index.
-    pub fn entry(&self, index: usize) -> Option<&ExploredInsn>
+    pub fn insn(&self, index: usize) -> Option<&ExploredInsn>
         ensures { option_copied result ≡ slice_get self.now index }
     {
-        self.entries.get(index)
+        self.insns.get(index)
     }
 }
 
@@ -73,15 +73,15 @@ impl Explored {
 #[derive(Drop)]
 struct Lister {
     alloc: Global,
-    entries: Vec<ExploredInsn>,
+    insns: Vec<ExploredInsn>,
     /// Where the instructions of the stored states are in the list.
     stored: Vec<u32>,
     /// Where those of the path's states are.
     path: Vec<u32>,
     /// For the parts of a call frame.
     room: Vec<Part>,
-    /// A state about which nothing is known: a placeholder in the list of stored states until their
-    /// values are restored.
+    /// A state about which nothing is known: a placeholder in the list for stored states until
+    /// these are restored.
     blank: State,
     kept_blank: Option<Kept>,
 }
@@ -92,7 +92,7 @@ impl Lister {
         clear_frame(&mut blank.innermost);
         Lister {
             alloc,
-            entries: Vec::new(alloc),
+            insns: Vec::new(alloc),
             stored: Vec::new(alloc),
             path: Vec::new(alloc),
             room: Vec::new(alloc),
@@ -107,10 +107,10 @@ impl Lister {
             return;
         };
         let last = *last as usize;
-        if last >= self.entries.len() {
+        if last >= self.insns.len() {
             return;
         }
-        let successors = &mut self.entries[last].successors;
+        let successors = &mut self.insns[last].successors;
         if !successors.is_full() {
             successors.push(index);
         }
@@ -136,11 +136,11 @@ impl Lister {
     /// are stored.
     fn take_stored(&mut self, states: &mut [StoredState]) {
         for index in 0..states.len() {
-            let Some(entry) = self.stored.get(index).copied() else {
+            let Some(at) = self.stored.get(index).copied() else {
                 return;
             };
-            if let Some(entry) = self.entries.get_mut(entry as usize) {
-                mem::swap(&mut entry.state, &mut states[index].state);
+            if let Some(insn) = self.insns.get_mut(at as usize) {
+                mem::swap(&mut insn.state, &mut states[index].state);
             }
         }
     }
@@ -153,7 +153,7 @@ impl Lister {
         stored: Option<usize>,
         kept: Option<&Kept>,
     ) -> Result<(), AllocError> {
-        let Ok(index) = u32::try_from(self.entries.len()) else {
+        let Ok(index) = u32::try_from(self.insns.len()) else {
             return Err(AllocError);
         };
         self.lead_to(index);
@@ -161,7 +161,7 @@ impl Lister {
             Some(_) => self.keep_blank()?,
             None => Kept::of(self.alloc, state, &mut self.room, kept)?,
         };
-        self.entries.push(ExploredInsn {
+        self.insns.push(ExploredInsn {
             number: 0,
             state,
             successors: ArrayVec::new(),
@@ -184,8 +184,8 @@ impl Listener for Lister {
     }
 
     fn covered(&mut self, index: usize, _number: u32) -> Result<(), AllocError> {
-        if let Some(entry) = self.stored.get(index).copied() {
-            self.lead_to(entry);
+        if let Some(at) = self.stored.get(index).copied() {
+            self.lead_to(at);
         }
         Ok(())
     }
@@ -202,8 +202,8 @@ impl Listener for Lister {
     fn finished(&mut self, number: u32) -> Result<(), AllocError> {
         if let Some(last) = self.path.pop() {
             let last = last as usize;
-            if last < self.entries.len() {
-                self.entries[last].number = number;
+            if last < self.insns.len() {
+                self.insns[last].number = number;
             }
         }
         Ok(())
@@ -226,9 +226,9 @@ fn listed(
     let mut lister = Lister::new(alloc);
     match search.explore(alloc, image, flow, &mut lister) {
         Ok(_) => {
-            lister.take_stored(search.stored.entries.as_mut_slice());
+            lister.take_stored(search.stored.states.as_mut_slice());
             Ok(Explored {
-                entries: lister.entries,
+                insns: lister.insns,
             })
         }
         Err(Halt::Refused(refusal, slot)) => Err((refusal, slot)),
@@ -236,8 +236,8 @@ fn listed(
     }
 }
 
-/// Explores a program as `verify` does, and answers all that was explored, or why the program is
-/// refused, and at which slot.
+/// Explores a program as `verify` does. Returns all that was explored, or why and at which slot the
+/// program is refused.
 pub fn explore(alloc: Global, image: &Image) -> Result<Explored, (Refusal, usize)>
     ensures { IfErr result (λ r. IsRefused image.now r.0 r.1) }
 {

@@ -2,7 +2,7 @@
 
 use walks::Refusal;
 
-/// A refusal, and the slot at which it is given.
+/// A refusal and its slot.
 pub type Refused = (Refusal, usize);
 
 /// The refusal where memory runs out.
@@ -31,7 +31,7 @@ pub enum NextMove {
 /// Why a search finds no number.
 #[derive(Clone, Copy, Drop)]
 pub enum Halt<S> {
-    /// The program is refused so, at this slot.
+    /// The program is refused for this reason, at this slot.
     Refused(Refusal, usize),
     /// The listener stopped it.
     Stopped(S),

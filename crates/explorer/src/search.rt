@@ -10,8 +10,8 @@ ghost use Rattle.image.specs.Images.{IsImage};
 ghost use Rattle.control_flow.specs.Flows.{IsFlow, IsJoin};
 ghost use Rattle.walks.specs.Forgetting.{IsForgotten};
 ghost use Rattle.walks.specs.Refused.{StopsAt};
-ghost use Rattle.explorer.specs.Search.{Arrives, IsArrival, TurnsBack, IsNew, Comes, HasEnded, AfterMove, AfterMoveOrEnd, TakesTurn, IsFull};
-ghost use Rattle.explorer.specs.Listening.{BeginsPath, BeginFails, TellsStep, StepFails, ComesBackAt, IfReturns, ReturnFails, IfRefused, IsToTell, FollowsTo, FollowsTurn, EndsIn};
+ghost use Rattle.explorer.specs.Search.{Arrives, IsArrival, TurnsBack, IsNew, Comes, HasEnded, AfterMove, AfterMoveOrEnd, IsNext, IsFull};
+ghost use Rattle.explorer.specs.Listening.{BeginsPath, BeginFails, ShowsStep, StepFails, ComesBackAt, IfReturns, ReturnFails, IfRefused, IsToTell, FollowsTo, FollowsNext, EndsIn};
 
 use crate::kept::Kept;
 use crate::listening::{Listener, halt, tell};
@@ -39,7 +39,8 @@ pub struct Search {
     pub scratch: State,
 }
 
-/// A path arrives at a state, which may have been kept already: if it is stored, that is taken.
+/// A path arrives at a state. If the state was kept already and is to be stored, the kept one is
+/// taken.
 fn arrive(
     alloc: Global,
     flow: &Flow<'_>,
@@ -50,22 +51,22 @@ fn arrive(
 ) -> Result<Move, Refused>
     requires kept { IfSome kept.old (λ s. s ≡ state.now) }
     requires forgotten { kept.old ≡ None → IsForgotten flow.now state.now }
-    ensures arrives { IfOk result (λ made. Arrives flow.now stored.old.entries.items
-        state.now made stored.new.entries.items) }
+    ensures arrives { IfOk result (λ made. Arrives flow.now stored.old.states.items
+        state.now made stored.new.states.items) }
     ensures limits { IfOk result (λ made. made ≡ Move.New None → IsJoin flow.now state.now.slot
         → IsTrue stored.new.is_over ⊎ IsTrue stored.new.is_full) }
-    ensures refused { IfErr result (λ r. TurnsBack flow.now stored.old.entries.items
+    ensures refused { IfErr result (λ r. TurnsBack flow.now stored.old.states.items
         state.now r.0 r.1) }
 {
     if !flow.is_join(state.slot) || stored.is_over {
         return Ok(Move::New(None));
     }
     let known = kept_slots(flow, state.slot);
-    let Ok(()) = stored.turn_to(alloc, state, kept, known) else {
+    let Ok(()) = stored.take_up(alloc, state, kept, known) else {
         return Err(NO_MEMORY);
     };
-    if let Some((place, number)) = stored.cover_of(state, scratch) {
-        return Ok(Move::Covered(place, number));
+    if let Some((index, number)) = stored.cover_of(state, scratch) {
+        return Ok(Move::Covered(index, number));
     }
     if stored.repeats(state, scratch) {
         return Err((Refusal::Repeats, state.slot));
@@ -74,7 +75,7 @@ fn arrive(
         return Ok(Move::New(None));
     }
     match stored.store(alloc, state, kept) {
-        Ok(place) => Ok(Move::New(Some(place))),
+        Ok(index) => Ok(Move::New(Some(index))),
         Err(_) => Err(NO_MEMORY),
     }
 }
@@ -95,7 +96,7 @@ impl Search {
         })
     }
 
-    /// The path arrives at the current state, which may have been kept already.
+    /// The path arrives at the current state, which may have been kept before.
     #[inline(always)]
     fn come(
         &mut self,
@@ -139,8 +140,9 @@ impl Search {
         self.come(alloc, flow, None)
     }
 
-    /// Explores the instruction at the current state, which is stored there. What is dead at its
-    /// successors is forgotten, and the pending state is stored compactly; `room` is scratch space.
+    /// Explores the instruction at the current state, which is stored with that index, if there is
+    /// one. What is dead at its successors is forgotten, and the pending state is stored compactly;
+    /// `room` is scratch space.
     #[inline(always)]
     fn step(
         &mut self,
@@ -152,10 +154,10 @@ impl Search {
     ) -> Result<(Ways, Move), Refused>
         requires image { flow.now ≡ image.now }
         requires good { IsFlow flow.now }
-        requires at { TakesTurn flow.now self.old (NextMove.Explore stored) }
+        requires at { IsNext flow.now self.old (NextMove.Explore stored) }
         requires room { self.old.finished + length self.old.path.items < MAX_EXPLORED }
         ensures moves { IfOk result (λ made. AfterMove flow.now self.new made.1) }
-        ensures steps { IfOk result (λ made. TellsStep flow.now self.old.current
+        ensures steps { IfOk result (λ made. ShowsStep flow.now self.old.current
             self.old.path.items made.1 self.new.path.items self.new.current) }
         ensures stops { IfErr result (λ r. StopsAt flow.now r.0 r.1) }
         ensures fails { IfErr result (λ r. StepFails flow.now self.old.current
@@ -242,7 +244,7 @@ impl Search {
         Ok(Some(made))
     }
 
-    /// Reports a move, and goes back along the path to what is next.
+    /// Calls the listener for a move, and goes back along the path to what is next.
     #[inline(always)]
     fn settle<L: Listener>(
         &mut self,
@@ -255,8 +257,8 @@ impl Search {
         requires room { self.old.finished + length self.old.path.items ≤ MAX_EXPLORED }
         requires untold { IsToTell flow.now (L.follows listener.old flow.now)
             self.old.path.items self.old.current first }
-        ensures goes { IfOk result (λ turn. TakesTurn flow.now self.new turn) }
-        ensures told { IfOk result (λ turn. FollowsTurn flow.now (L.follows listener.new flow.now)
+        ensures goes { IfOk result (λ turn. IsNext flow.now self.new turn) }
+        ensures told { IfOk result (λ turn. FollowsNext flow.now (L.follows listener.new flow.now)
             self.new.path.items self.new.current turn) }
         ensures stops { IfErr result (λ h. IfRefused h (StopsAt flow.now)) }
         ensures not_long { IfErr result (λ h. IfRefused h (λ e _. e ≢ Refusal.TooLong)) }
@@ -295,12 +297,12 @@ impl Search {
     ) -> Result<NextMove, Halt<L::Stop>>
         requires image { flow.now ≡ image.now }
         requires good { IsFlow flow.now }
-        requires at { TakesTurn flow.now self.old (NextMove.Explore stored) }
+        requires at { IsNext flow.now self.old (NextMove.Explore stored) }
         requires room { self.old.finished + length self.old.path.items < MAX_EXPLORED }
         requires told { FollowsTo flow.now (L.follows listener.old flow.now)
             self.old.path.items self.old.current }
-        ensures goes { IfOk result (λ turn. TakesTurn flow.now self.new turn) }
-        ensures told { IfOk result (λ turn. FollowsTurn flow.now (L.follows listener.new flow.now)
+        ensures goes { IfOk result (λ turn. IsNext flow.now self.new turn) }
+        ensures told { IfOk result (λ turn. FollowsNext flow.now (L.follows listener.new flow.now)
             self.new.path.items self.new.current turn) }
         ensures stops { IfErr result (λ h. IfRefused h (StopsAt flow.now)) }
         ensures not_long { IfErr result (λ h. IfRefused h (λ e _. e ≢ Refusal.TooLong)) }
@@ -333,7 +335,7 @@ impl Search {
         requires good { IsFlow flow.now }
         requires new { IsNew self.old }
         requires untold { (last : TheState) × L.follows listener.old flow.now [] last }
-        ensures settles { IfOk result (λ n. TakesTurn flow.now self.new (NextMove.Done n)) }
+        ensures settles { IfOk result (λ n. IsNext flow.now self.new (NextMove.Done n)) }
         ensures most { IfOk result (λ n. n ≤ MAX_EXPLORED) }
         ensures stops { IfErr result (λ h. IfRefused h (StopsAt flow.now)) }
         ensures too_long { IfErr result (λ h. IfRefused h
@@ -360,7 +362,7 @@ impl Search {
         }
     }
 
-    /// Explores all that can be reached from the start, and answers its number.
+    /// Explores all that can be reached from the start, and returns the number of the start.
     pub fn explore<L: Listener>(
         &mut self,
         alloc: Global,

@@ -39,7 +39,7 @@ const CALLER_READINGS: usize = 3;
 /// The stored states, in the order in which they were met.
 #[derive(Drop)]
 pub struct StoredStates {
-    pub entries: Vec<StoredState>,
+    pub states: Vec<StoredState>,
     index: StateIndex,
     /// The key of the state that is looked up.
     key: Key,
@@ -56,21 +56,21 @@ pub struct StoredStates {
 }
 
 /// The state that was stored last.
-fn last_of(entries: &[StoredState]) -> Option<&Kept> {
-    let entry = entries.last()?;
-    Some(&entry.state)
+fn last_of(states: &[StoredState]) -> Option<&Kept> {
+    let last = states.last()?;
+    Some(&last.state)
 }
 
 impl StoredStates {
     /// No states yet, for code of this number of slots.
     pub fn new(alloc: Global, slots: usize) -> Result<Self, AllocError>
-        ensures empty { IfOk result (λ stored. stored.entries.items ≡ []) }
+        ensures empty { IfOk result (λ stored. stored.states.items ≡ []) }
         ensures room { IfOk result (λ stored. HasShapeRoom stored.index slots) }
     {
         let index = StateIndex::new(alloc, slots)?;
         let key = Key::new(alloc)?;
         Ok(StoredStates {
-            entries: Vec::new(alloc),
+            states: Vec::new(alloc),
             index,
             key,
             longest: Scan { known: 0, count: 0 },
@@ -88,20 +88,19 @@ impl StoredStates {
 
     /// The state that was stored last.
     pub fn last(&self) -> Option<&Kept> {
-        last_of(self.entries.as_slice())
+        last_of(self.states.as_slice())
     }
 
     /// Makes a tree of the finished states with these known bits.
     fn add_tree(&mut self, alloc: Global, known: u64) -> Result<(), AllocError>
-        ensures { self.new.entries.items ≡ self.old.entries.items }
+        ensures { self.new.states.items ≡ self.old.states.items }
     {
-        let (positions, left) = self.index.tree_candidates(alloc, known, &mut self.effort)?;
-        self.effort
-            .spend_tree(positions.len(), self.key.limits.len());
+        let (indexes, left) = self.index.tree_candidates(alloc, known, &mut self.effort)?;
+        self.effort.spend_tree(indexes.len(), self.key.limits.len());
         if self.effort.is_over() {
             return Ok(());
         }
-        let rows = self.rows_of(alloc, &positions)?;
+        let rows = self.rows_of(alloc, &indexes)?;
         self.index.add_tree(known, left, Tree::of(alloc, rows)?)
     }
 
@@ -109,13 +108,13 @@ impl StoredStates {
     fn spread_of(
         &self,
         alloc: Global,
-        positions: &[u32],
+        indexes: &[u32],
         limits: &mut Vec<PartLimits>,
     ) -> Result<Spread, AllocError> {
         let mut spread = Spread::new(alloc);
-        for position in positions {
-            if let Some(entry) = self.entries.get(*position as usize) {
-                entry.state.take_limits(limits)?;
+        for index in indexes {
+            if let Some(stored) = self.states.get(*index as usize) {
+                stored.state.take_limits(limits)?;
                 spread.add(limits.as_slice())?;
             }
         }
@@ -125,31 +124,31 @@ impl StoredStates {
     /// Adds the rows of stored states.
     fn add_rows(
         &self,
-        positions: &[u32],
+        indexes: &[u32],
         limits: &mut Vec<PartLimits>,
         rows: &mut Rows,
     ) -> Result<(), AllocError> {
-        for position in positions {
-            if let Some(entry) = self.entries.get(*position as usize) {
-                entry.state.take_limits(limits)?;
-                rows.add(*position, limits.as_slice())?;
+        for index in indexes {
+            if let Some(stored) = self.states.get(*index as usize) {
+                stored.state.take_limits(limits)?;
+                rows.add(*index, limits.as_slice())?;
             }
         }
         Ok(())
     }
 
     /// The rows of stored states for a tree.
-    fn rows_of(&self, alloc: Global, positions: &[u32]) -> Result<Rows, AllocError> {
+    fn rows_of(&self, alloc: Global, indexes: &[u32]) -> Result<Rows, AllocError> {
         let mut limits = Vec::new(alloc);
-        let spread = self.spread_of(alloc, positions, &mut limits)?;
+        let spread = self.spread_of(alloc, indexes, &mut limits)?;
         let mut rows = Rows::of(alloc, &spread)?;
-        self.add_rows(positions, &mut limits, &mut rows)?;
+        self.add_rows(indexes, &mut limits, &mut rows)?;
         Ok(rows)
     }
 
     /// Takes a state to be looked up and stored next. It may have been kept already; if not,
     /// nothing is known of its innermost stack but of these stack slots.
-    pub fn turn_to(
+    pub fn take_up(
         &mut self,
         alloc: Global,
         state: &State,
@@ -157,7 +156,7 @@ impl StoredStates {
         known: SlotMask,
     ) -> Result<(), AllocError>
         requires { kept.now ≡ None → AreBlankBeside known state.now.innermost.stack.slots }
-        ensures same { self.new.entries.items ≡ self.old.entries.items }
+        ensures same { self.new.states.items ≡ self.old.states.items }
         ensures drawn { OnOk result (kept.now ≡ None
             → AreParts self.new.key.parts.items state.now.innermost) }
     {
@@ -186,20 +185,20 @@ impl StoredStates {
         scratch: &mut State,
         effort: &mut Effort,
     ) -> Option<u32>
-        ensures covered { IfSome result (λ n. IsCovered self.now.entries.items index state.now n) }
-        ensures equal { (n : ℕ) → IsStored self.now.entries.items index state.now n → 0 < n
+        ensures covered { IfSome result (λ n. IsCovered self.now.states.items index state.now n) }
+        ensures equal { (n : ℕ) → IsStored self.now.states.items index state.now n → 0 < n
             → result ≡ Some n }
     {
-        let entry = self.entries.get(index)?;
-        if entry.number == 0 || !entry.state.may_cover(state) {
+        let stored = self.states.get(index)?;
+        if stored.number == 0 || !stored.state.may_cover(state) {
             return None;
         }
-        effort.spend(entry.state.part_count());
-        entry.state.restore(scratch);
+        effort.spend(stored.state.part_count());
+        stored.state.restore(scratch);
         if !covers(scratch, state) {
             return None;
         }
-        Some(entry.number)
+        Some(stored.number)
     }
 
     /// The first finished state that covers this one, of those with these known bits, if it was
@@ -212,16 +211,16 @@ impl StoredStates {
         scratch: &mut State,
         effort: &mut Effort,
     ) -> (Option<(usize, u32)>, usize)
-        ensures { IfSome result.0 (λ r. IsCovered self.now.entries.items r.0 state.now r.1) }
+        ensures { IfSome result.0 (λ r. IsCovered self.now.states.items r.0 state.now r.1) }
     {
         let mut found = None;
         let mut before = match other {
-            Some((place, _)) => place,
+            Some((index, _)) => index,
             None => usize::MAX,
         };
         effort.spend_test();
         let mut candidates = self.index.finished_candidates(known, &self.key.limits);
-        for scanned in 0..self.entries.len() {
+        for scanned in 0..self.states.len() {
             let next = match effort.is_over() {
                 true => None,
                 false => candidates.next_before(before, effort),
@@ -234,7 +233,7 @@ impl StoredStates {
                 before = index;
             }
         }
-        (found, self.entries.len())
+        (found, self.states.len())
     }
 
     /// The first finished state that covers this one, and the longest scan on the way to it.
@@ -244,7 +243,7 @@ impl StoredStates {
         scratch: &mut State,
         effort: &mut Effort,
     ) -> (Option<(usize, u32)>, Scan)
-        ensures { IfSome result.0 (λ r. IsCovered self.now.entries.items r.0 state.now r.1) }
+        ensures { IfSome result.0 (λ r. IsCovered self.now.states.items r.0 state.now r.1) }
     {
         let mut first = None;
         let mut longest = Scan { known: 0, count: 0 };
@@ -265,8 +264,8 @@ impl StoredStates {
     /// The first finished state that covers this one: its index and its number.
     pub fn cover_of(&mut self, state: &State, scratch: &mut State) -> Option<(usize, u32)>
         ensures covered { IfSome result
-            (λ r. IsCovered self.old.entries.items r.0 state.now r.1) }
-        ensures same { self.new.entries.items ≡ self.old.entries.items }
+            (λ r. IsCovered self.old.states.items r.0 state.now r.1) }
+        ensures same { self.new.states.items ≡ self.old.states.items }
         ensures drawn { self.new.key ≡ self.old.key }
     {
         let mut effort = self.effort;
@@ -287,17 +286,17 @@ impl StoredStates {
         scratch: &mut State,
         effort: &mut Effort,
     ) -> bool
-        ensures repeated { IsTrue result → IsRepeated self.now.entries.items state.now }
-        ensures equal { IsStored self.now.entries.items index state.now 0 → IsTrue result }
+        ensures repeated { IsTrue result → IsRepeated self.now.states.items state.now }
+        ensures equal { IsStored self.now.states.items index state.now 0 → IsTrue result }
     {
-        let Some(entry) = self.entries.get(index) else {
+        let Some(stored) = self.states.get(index) else {
             return false;
         };
-        if entry.number != 0 {
+        if stored.number != 0 {
             return false;
         }
-        effort.spend(entry.state.part_count());
-        entry.state.restore(scratch);
+        effort.spend(stored.state.part_count());
+        stored.state.restore(scratch);
         if !covers(scratch, state) {
             return false;
         }
@@ -306,8 +305,8 @@ impl StoredStates {
 
     /// Whether an unfinished state is equal to this one: each covers the other.
     pub fn repeats(&mut self, state: &State, scratch: &mut State) -> bool
-        ensures repeated { IsTrue result → IsRepeated self.old.entries.items state.now }
-        ensures same { self.new.entries.items ≡ self.old.entries.items }
+        ensures repeated { IsTrue result → IsRepeated self.old.states.items state.now }
+        ensures same { self.new.states.items ≡ self.old.states.items }
         ensures drawn { self.new.key ≡ self.old.key }
     {
         let mut effort = self.effort;
@@ -316,9 +315,9 @@ impl StoredStates {
         repeats
     }
 
-    /// The same, if looking up may cost more.
+    /// The same, as long as looking up may cost more.
     fn is_repeated(&self, state: &State, scratch: &mut State, effort: &mut Effort) -> bool
-        ensures { IsTrue result → IsRepeated self.now.entries.items state.now }
+        ensures { IsTrue result → IsRepeated self.now.states.items state.now }
     {
         let fingerprint = self.key.fingerprints.whole;
         for index in self.index.unfinished_candidates(fingerprint) {
@@ -335,8 +334,8 @@ impl StoredStates {
         false
     }
 
-    /// Stores the state that was taken, and answers its index. If it was kept already, that is
-    /// taken.
+    /// Stores the state that was taken, and returns its index. If the state was kept before, the
+    /// kept one is stored.
     pub fn store(
         &mut self,
         alloc: Global,
@@ -346,12 +345,12 @@ impl StoredStates {
         requires drawn { kept.old ≡ None
             → AreParts self.old.key.parts.items state.now.innermost }
         requires kept { IfSome kept.old (λ s. s ≡ state.now) }
-        ensures place { IfOk result (λ k. k ≡ length self.old.entries.items) }
-        ensures stored { IfOk result (λ _. self.new.entries.items
-            ≡ self.old.entries.items ++ record { state = state.now; number = 0 } ∷ []) }
-        ensures err { OnErr result (self.new.entries.items ≡ self.old.entries.items) }
+        ensures place { IfOk result (λ k. k ≡ length self.old.states.items) }
+        ensures stored { IfOk result (λ _. self.new.states.items
+            ≡ self.old.states.items ++ record { state = state.now; number = 0 } ∷ []) }
+        ensures err { OnErr result (self.new.states.items ≡ self.old.states.items) }
     {
-        let index = self.entries.len();
+        let index = self.states.len();
         if self.key.is_sought {
             self.index
                 .add(alloc, state.slot, &self.key, &mut self.effort)?;
@@ -359,7 +358,7 @@ impl StoredStates {
         let state = match kept.take() {
             Some(kept) => kept,
             None => {
-                let last = last_of(&self.entries);
+                let last = last_of(&self.states);
                 Kept::of_parts(alloc, state, &mut self.key.parts, last)?
             }
         };
@@ -369,18 +368,18 @@ impl StoredStates {
         };
         self.words = self.words.saturating_add(u64::from(words));
         self.is_full = self.words >= MOST_WORDS;
-        self.entries.push(StoredState { state, number: 0 })?;
+        self.states.push(StoredState { state, number: 0 })?;
         Ok(index)
     }
 
     /// Gives a state that was stored its number.
     pub fn finish(&mut self, stored: Option<usize>, number: u32)
-        requires { (s : TheState) × StoredAt self.old.entries.items stored s }
-        ensures { GetsNumber self.old.entries.items stored number self.new.entries.items }
+        requires { (s : TheState) × StoredAt self.old.states.items stored s }
+        ensures { GetsNumber self.old.states.items stored number self.new.states.items }
     {
         if let Some(index) = stored {
-            let entry = &mut self.entries[index];
-            entry.number = number;
+            let state = &mut self.states[index];
+            state.number = number;
             self.index.finish(index);
         }
     }

@@ -38,7 +38,7 @@ struct KeptVisit {
 /// Contracts see the visits.
 #[derive(Drop)]
 pub struct Trail {
-    steps: Vec<KeptVisit>,
+    visits: Vec<KeptVisit>,
     pending: Vec<Kept>,
     /// How many words the pending states take.
     words: u64,
@@ -50,31 +50,31 @@ impl Model for Trail {
 
     ghost Value = { Visits };
 
-    ghost view = { λ trail. record { items = visits_of trail.steps.items trail.pending.items } };
+    ghost view = { λ trail. record { items = visits_of trail.visits.items trail.pending.items } };
 
-    ghost invariant = { λ trail. waiting_count trail.steps.items ≡ length trail.pending.items };
+    ghost invariant = { λ trail. waiting_count trail.visits.items ≡ length trail.pending.items };
 }
 
-/// The index of a stored state in half the room, if it has room there.
+/// The index of a stored state in 4 bytes, if it fits.
 #[inline(always)]
-fn narrowed(stored: Option<usize>) -> Result<Option<u32>, AllocError>
-    ensures { IfOk result (λ narrow. narrow ≡ stored) }
+fn as_u32(stored: Option<usize>) -> Result<Option<u32>, AllocError>
+    ensures { IfOk result (λ index. index ≡ stored) }
 {
-    let Some(place) = stored else {
+    let Some(index) = stored else {
         return Ok(None);
     };
-    match u32::try_from(place) {
-        Ok(place) => Ok(Some(place)),
+    match u32::try_from(index) {
+        Ok(index) => Ok(Some(index)),
         Err(_) => Err(AllocError),
     }
 }
 
 #[inline(always)]
-fn widened(stored: Option<u32>) -> Option<usize>
+fn as_usize(stored: Option<u32>) -> Option<usize>
     ensures { result ≡ stored }
 {
     match stored {
-        Some(place) => Some(place as usize),
+        Some(index) => Some(index as usize),
         None => None,
     }
 }
@@ -122,7 +122,7 @@ impl Trail {
         ensures { result.items ≡ [] }
     {
         Trail {
-            steps: Vec::new(alloc),
+            visits: Vec::new(alloc),
             pending: Vec::new(alloc),
             words: 0,
         }
@@ -139,15 +139,15 @@ impl Trail {
             best,
             stored,
         } = visit;
-        let stored = narrowed(stored)?;
+        let stored = as_u32(stored)?;
         let waits = pending.is_some();
         put_pending(&mut self.pending, &mut self.words, pending)?;
-        let step = KeptVisit {
+        let kept = KeptVisit {
             best,
             stored,
             waits,
         };
-        let Ok(()) = self.steps.push(step) else {
+        let Ok(()) = self.visits.push(kept) else {
             let _state = take_pending(&mut self.pending, &mut self.words, waits);
             return Err(AllocError);
         };
@@ -162,14 +162,14 @@ impl Trail {
             (length self.old.items ≡ 0 × length self.new.items ≡ 0)
             (λ _. length self.new.items + 1 ≡ length self.old.items) }
     {
-        let Some(step) = self.steps.pop() else {
+        let Some(kept) = self.visits.pop() else {
             return None;
         };
-        let pending = take_pending(&mut self.pending, &mut self.words, step.waits);
+        let pending = take_pending(&mut self.pending, &mut self.words, kept.waits);
         Some(Visit {
             pending,
-            best: step.best,
-            stored: widened(step.stored),
+            best: kept.best,
+            stored: as_usize(kept.stored),
         })
     }
 }

@@ -2,20 +2,20 @@
 
 ghost use Rattle.std.specs.Prelude.{◌≡◌, ◌≢◌, ◌∷◌, [], length, ℕ, List, Some, IfSome};
 ghost use Rattle.stack_state.specs.declared.states.State.{State as TheState};
-ghost use Rattle.explorer.specs.Turns.{AreOn, IsAt, IsFurtherBack};
+ghost use Rattle.explorer.specs.Turns.{AreOn, IsAtIndex, IsFurtherBack};
 
 use stack_state::State;
 
-/// The last two states of a path that came to one slot. Beside each is how many states of the path
-/// come before it, while it is on the path.
+/// The last two states of a path that came to one slot. Each has its index on the path, while it is
+/// there.
 #[derive(Drop)]
 pub struct Turns {
     /// The state that came last, also where the path has left it.
     pub last: State,
-    pub place: Option<usize>,
+    pub index: Option<usize>,
     /// The one before it.
     pub earlier: State,
-    pub earlier_place: Option<usize>,
+    pub earlier_index: Option<usize>,
 }
 
 impl Turns {
@@ -25,9 +25,9 @@ impl Turns {
     {
         Turns {
             last: State::start(),
-            place: None,
+            index: None,
             earlier: State::start(),
-            earlier_place: None,
+            earlier_index: None,
         }
     }
 
@@ -35,11 +35,11 @@ impl Turns {
     #[tactic(auto, using(crate::proofs::Turning::earlier_last, crate::proofs::Turning::earlier_kept))]
     fn set_aside(&mut self)
         ensures earlier { (path : List TheState) → AreOn path self.old
-            → IfSome self.new.earlier_place (IsAt path self.new.earlier) }
+            → IfSome self.new.earlier_index (IsAtIndex path self.new.earlier) }
     {
-        if self.place.is_some() {
+        if self.index.is_some() {
             self.earlier.copy_from(&self.last);
-            self.earlier_place = self.place;
+            self.earlier_index = self.index;
         }
     }
 
@@ -51,7 +51,7 @@ impl Turns {
     {
         self.set_aside();
         self.last.copy_from(state);
-        self.place = Some(count);
+        self.index = Some(count);
     }
 
     /// A path of this many states comes to one more, which may be at the slot.
@@ -71,8 +71,8 @@ impl Turns {
         ensures on { (s : TheState) (path : List TheState) → length path ≡ count
             → AreOn (s ∷ path) self.old → AreOn path self.new }
     {
-        self.place = without(self.place, count);
-        self.earlier_place = without(self.earlier_place, count);
+        self.index = without(self.index, count);
+        self.earlier_index = without(self.earlier_index, count);
     }
 
     /// The earlier one, if it is at the slot, and on a path of this many states before the last.
@@ -81,7 +81,7 @@ impl Turns {
         ensures { IfSome result (λ e. (e.slot ≡ slot) × ((path : List TheState)
             → length path ≡ count → AreOn path self → IsFurtherBack path e)) }
     {
-        let next = self.earlier_place?.checked_add(1)?;
+        let next = self.earlier_index?.checked_add(1)?;
         if next < count && self.earlier.slot == slot {
             Some(self.earlier)
         } else {
@@ -90,11 +90,11 @@ impl Turns {
     }
 }
 
-/// The count of states before one, unless it is this count.
-fn without(place: Option<usize>, count: usize) -> Option<usize>
-    ensures kept { (n : ℕ) → result ≡ Some n → (place ≡ Some n) × (n ≢ count) }
+/// The index, unless it is this one.
+fn without(index: Option<usize>, count: usize) -> Option<usize>
+    ensures kept { (n : ℕ) → result ≡ Some n → (index ≡ Some n) × (n ≢ count) }
 {
-    match place {
+    match index {
         Some(found) if found != count => Some(found),
         _ => None,
     }

@@ -15,7 +15,7 @@ use image::Image;
 use std::alloc::Global;
 use walks::Refusal;
 
-/// Looks for a bound on the steps of each run, or refuses, with the slot at which it does.
+/// Looks for a bound on the steps of each run, or refuses the program at a slot.
 ///
 /// Control flow is tested first. Then states are explored from the start; a state's number is 1
 /// more than the greatest of its successors', and the bound is the number of the start. No more
@@ -26,9 +26,9 @@ pub fn verify(alloc: Global, image: Image) -> Result<Verified, (Refusal, usize)>
     ensures refused { IfErr result (λ r. IsRefused image r.0 r.1) }
     ensures number { IfOk result (λ verified. HasNumber image start verified.bound) }
 
-    // Programs of the forms that must be accepted are refused only when memory runs out, plain and
-    // guarded ones of version 2 also where an exit is not shown to answer with an action, and have
-    // the bounds that are known of them.
+    // Programs of the classes that must be accepted are refused only when memory runs out, plain
+    // and guarded ones of version 2 also where an exit is not shown to answer with an action, and
+    // have the bounds that are known of them.
     ensures accepts { IfErr result (λ r. AcceptsAll image r.0) }
     ensures bounds { IfOk result (λ verified. BoundsAll image verified.bound) }
 {

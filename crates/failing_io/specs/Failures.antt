@@ -2,7 +2,7 @@
 use Rattle.std.specs.Prelude.{ℕ, ◌-◌, min, Option, Some, None}
 use Rattle.failing_io.specs.declared.Failure.{Failure}
 
--- how many of `most` bytes a call moves, if it does not fail: at most a step, and no more than are
+-- how many of `most` bytes a call moves, if it does not fail: at most `step`, and no more than are
 -- left before the failure
 abbrev pub count_of : ℕ → ℕ → ℕ → Option Failure → ℕ
 count_of most step room None = min most step

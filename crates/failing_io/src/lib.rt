@@ -100,8 +100,8 @@ impl Write for Writer {
     }
 }
 
-/// Gives at most `step` bytes a call. If it is to fail, it fails once, after `room` bytes, and
-/// gives more after that.
+/// Returns at most `step` bytes a call. If it is to fail, it fails once, after `room` bytes, and
+/// returns more after that.
 #[derive(Drop)]
 pub struct Reader<'a> {
     pub left: &'a [u8],

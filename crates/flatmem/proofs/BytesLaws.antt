@@ -1,4 +1,4 @@
--- Reading some bytes after others were written.
+-- Laws of bytes that are read after some were written.
 use Rattle.std.proofs.Common.{◌≡◌, ℕ, ◌+◌, ◌-◌, ◌≤◌, List, ◌++◌, length, take, drop, sym, ap, ◌∙◌, append_assoc, arith, take-add}
 use Rattle.std.proofs.lemmas.List.{take_at, drop_at, drop-drop, drop-take, take-take, length-append, length-take, length-drop, take-append-le, drop-append-le}
 use Rattle.flatmem.specs.Bytes.{with_bytes, bytes_at}
@@ -37,7 +37,8 @@ module _ (b : List ℕ) (i : ℕ) (v : List ℕ) (inside : i + length v ≤ leng
   bytes_after j n h =
       let d : ℕ = j - (i + length v) in
       let e : i + length v + d ≡ j = omega arith in
-      ap (take n) (ap (λ (k : ℕ). drop k X) (sym e) ∙ sym (drop-drop d (i + length v) X) ∙ ap (drop d) drop_past
+      ap (take n) (ap (λ (k : ℕ). drop k X) (sym e) ∙ sym (drop-drop d (i + length v) X)
+      ∙ ap (drop d) drop_past
       ∙ drop-drop d (i + length v) b ∙ ap (λ (k : ℕ). drop k b) e)
 
   pub bytes_before : (j n : ℕ) → j + n ≤ i → bytes_at X j n ≡ bytes_at b j n
@@ -53,11 +54,13 @@ pub length-bytes_at : (b : List ℕ) (j n : ℕ) → j + n ≤ length b → leng
 length-bytes_at b j n h = let e = length-take n (drop j b) in let f = length-drop j b in omega arith
 
 -- a part of a part
-pub bytes_of_bytes : (b : List ℕ) (j n d m : ℕ) → d + m ≤ n → bytes_at (bytes_at b j n) d m ≡ bytes_at b (j + d) m
+pub bytes_of_bytes : (b : List ℕ) (j n d m : ℕ) → d + m ≤ n
+    → bytes_at (bytes_at b j n) d m ≡ bytes_at b (j + d) m
 bytes_of_bytes b j n d m h =
     let k : ℕ = n - d in
     let e : d + k ≡ n = omega arith in
-    ap (λ (x : ℕ). take m (drop d (take x (drop j b)))) (sym e) ∙ ap (take m) (drop-take d k (drop j b)
+    ap (λ (x : ℕ). take m (drop d (take x (drop j b)))) (sym e)
+    ∙ ap (take m) (drop-take d k (drop j b)
     ∙ ap (take k) (drop-drop d j b))
     ∙ take-take m k (drop (j + d) b) (omega arith)
 
@@ -85,7 +88,8 @@ with_take c d n v h g =
     ∙ ap (λ (x : List ℕ). (take d c ++ v) ++ take k x) (drop_past c d v inside)
     ∙ append_assoc (take d c) v (take k (drop f c))
     ∙ ap (λ (x : List ℕ). x ++ (v ++ take k (drop f c))) (sym (take-take d n c (omega arith)))
-    ∙ ap (λ (x : List ℕ). take d (take n c) ++ (v ++ x)) (sym (ap (λ (x : ℕ). drop f (take x c)) (sym e)
+    ∙ ap (λ (x : List ℕ). take d (take n c) ++ (v ++ x))
+    (sym (ap (λ (x : ℕ). drop f (take x c)) (sym e)
     ∙ drop-take f k c))
 
 pub bytes_with : (b : List ℕ) (j n d : ℕ) (v : List ℕ) → d + length v ≤ n → j + n ≤ length b

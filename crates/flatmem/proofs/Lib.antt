@@ -1,3 +1,3 @@
-mod Rows
+mod Arrays
 mod Copies
 pub mod BytesLaws

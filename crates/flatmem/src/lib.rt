@@ -1,4 +1,4 @@
-//! Little-endian numbers in lent bytes, at any place, with no test when they run: the caller proves
+//! Little-endian numbers in lent bytes, at any index, without a test at run time: the caller proves
 //! that the bytes are there.
 //!
 //! A raw pointer is made in each call, and none is kept. It points to an array of bytes, whose

@@ -18,25 +18,31 @@ use Rattle.frames.specs.Inputs.{AreReadFrom, IsBegunBy, IsBegunVersion}
 
 -- Packet frames of a stream of this version were found by a reader that was fresh at first. Its
 -- source had the bytes `old` then, and has `known` now.
-pub record HasFound (v : Version) (frames : List PacketFrame) (old known : Option (List ℕ)) (position : Position) : Type 0 where
-  pub stands : position ≡ At v (length frames) (offset_after v frames)
+pub record HasFound (v : Version) (frames : List PacketFrame) (old known : Option (List ℕ))
+    (position : Position) : Type 0 where
+  pub position_is : position ≡ At v (length frames) (offset_after v frames)
   pub are_open : AreOpen v frames
   pub lost : Consumes old known (stream_bytes v frames)
 
 -- a reader that has read only the magic has found no frame
-pub HasFound-opened : (v : Version) (old known : Option (List ℕ)) → ReadsMagic old known (Ok v) → HasFound v [] old known (At v 0 4)
-HasFound-opened v old known r = record { stands = refl; are_open = AreOpen-nil v; lost = lost old known r }
+pub HasFound-opened : (v : Version) (old known : Option (List ℕ)) → ReadsMagic old known (Ok v)
+    → HasFound v [] old known (At v 0 4)
+HasFound-opened v old known r =
+    record { position_is = refl; are_open = AreOpen-nil v; lost = lost old known r }
   where
-    lost : (old known : Option (List ℕ)) → ReadsMagic old known (Ok v) → Consumes old known (stream_magic v ++ [])
+    lost : (old known : Option (List ℕ)) → ReadsMagic old known (Ok v)
+        → Consumes old known (stream_magic v ++ [])
     lost None known r = tt
     lost (Some bytes) None r = absurd r
-    lost (Some bytes) (Some rest) r = r ∙ ap (λ (l : List ℕ). l ++ rest) (sym (append-nil (stream_magic v)))
+    lost (Some bytes) (Some rest) r =
+        r ∙ ap (λ (l : List ℕ). l ++ rest) (sym (append-nil (stream_magic v)))
 
--- the stream with a fault in place of the magic
+-- the stream with a fault instead of the magic
 abbrev pub unopened : Fault → Stream
 unopened fault = stream_with One ([], finish.Fault fault 0)
 
-unopened_read : (bytes read unread : List ℕ) (e : InputEnding) (fault : Fault) → bytes ≡ read ++ unread → (e ≡ ByEnd → unread ≡ []) → (e ≡ ByError → fault ≡ ReadFailed)
+unopened_read : (bytes read unread : List ℕ) (e : InputEnding) (fault : Fault)
+    → bytes ≡ read ++ unread → (e ≡ ByEnd → unread ≡ []) → (e ≡ ByError → fault ≡ ReadFailed)
     → opened read e ≡ Err fault → AreReadFrom (Some bytes) (unopened fault)
 unopened_read bytes read unread e fault split all error h =
     let input : Input = record { bytes = read; ending = e } in
@@ -47,20 +53,26 @@ unopened_read bytes read unread e fault split all error h =
         unread = unread;
         split = split;
         all = all;
-        error = λ by. (0, ap (λ (t : Stream). t.finish) same ∙ ap (λ f. finish.Fault f 0) (error by));
+        error =
+            λ by. (0, ap (λ (t : Stream). t.finish) same ∙ ap (λ f. finish.Fault f 0) (error by));
       };
       stream = same;
     }
 
-unopened_all : (bytes : List ℕ) (fault : Fault) → opened bytes ByEnd ≡ Err fault → AreReadFrom (Some bytes) (unopened fault)
-unopened_all bytes fault h = unopened_read bytes bytes [] ByEnd fault (sym (append-nil bytes)) (λ _. refl) (λ e. cc) h
+unopened_all : (bytes : List ℕ) (fault : Fault) → opened bytes ByEnd ≡ Err fault
+    → AreReadFrom (Some bytes) (unopened fault)
+unopened_all bytes fault h =
+    unopened_read bytes bytes [] ByEnd fault (sym (append-nil bytes)) (λ _. refl) (λ e. cc) h
 
-unopened_error : (bytes : List ℕ) (new : Option (List ℕ)) → ReadsMagic (Some bytes) new (Err ReadFailed) → AreReadFrom (Some bytes) (unopened ReadFailed)
+unopened_error : (bytes : List ℕ) (new : Option (List ℕ))
+    → ReadsMagic (Some bytes) new (Err ReadFailed) → AreReadFrom (Some bytes) (unopened ReadFailed)
 unopened_error bytes None h = absurd h.1
-unopened_error bytes (Some rest) h = unopened_read bytes h.0 rest ByError ReadFailed h.1 (λ e. cc) (λ _. refl) h.2
+unopened_error bytes (Some rest) h =
+    unopened_read bytes h.0 rest ByError ReadFailed h.1 (λ e. cc) (λ _. refl) h.2
 
 -- Where no magic can be read, that fault was read.
-pub unopened_from : (old new : Option (List ℕ)) (fault : Fault) → ReadsMagic old new (Err fault) → MayOpen (Err fault) → AreReadFrom old (unopened fault)
+pub unopened_from : (old new : Option (List ℕ)) (fault : Fault) → ReadsMagic old new (Err fault)
+    → MayOpen (Err fault) → AreReadFrom old (unopened fault)
 unopened_from None new fault r may =
     let input : Input = record { bytes = may.0; ending = may.1 } in
     record { input = input; from_source = tt; stream = stream_of-unopened input fault may.2 }
@@ -72,41 +84,61 @@ unopened_from (Some bytes) new ReadFailed r may = unopened_error bytes new r
 unopened_from (Some bytes) new TooManyRecords r may = unopened_all bytes TooManyRecords r
 
 -- a source has lost the bytes of a record that was found
-Consumes-found : (v : Version) (number offset : ℕ) (old new : Option (List ℕ)) (f : PacketFrame) → FindsNext (At v number offset) old new (Found f) → Consumes old new (frame_bytes v f)
+Consumes-found : (v : Version) (number offset : ℕ) (old new : Option (List ℕ)) (f : PacketFrame)
+    → FindsNext (At v number offset) old new (Found f) → Consumes old new (frame_bytes v f)
 Consumes-found v number offset None new f r = tt
 Consumes-found v number offset (Some bytes) None f r = absurd r
 Consumes-found v number offset (Some bytes) (Some rest) f r = r
 
 -- the bytes of one more record
-more_bytes : (v : Version) (frames : List PacketFrame) (f : PacketFrame) → records_bytes v (frames ++ f ∷ []) ≡ records_bytes v frames ++ frame_bytes v f
-more_bytes v frames f = flat_map-append (frame_bytes v) frames (f ∷ []) ∙ ap (λ l. records_bytes v frames ++ l) (append-nil (frame_bytes v f))
+more_bytes : (v : Version) (frames : List PacketFrame) (f : PacketFrame)
+    → records_bytes v (frames ++ f ∷ []) ≡ records_bytes v frames ++ frame_bytes v f
+more_bytes v frames f = flat_map-append (frame_bytes v) frames (f ∷ [])
+    ∙ ap (λ l. records_bytes v frames ++ l) (append-nil (frame_bytes v f))
 
 -- one more frame was found
-pub HasFound-next : (v : Version) (frames : List PacketFrame) (old known new : Option (List ℕ)) (p : Position) (f : PacketFrame) → HasFound v frames old known p → FindsNext p known new (Found f) → IsOpen p f
+pub HasFound-next : (v : Version) (frames : List PacketFrame) (old known new : Option (List ℕ))
+    (p : Position) (f : PacketFrame) → HasFound v frames old known p
+    → FindsNext p known new (Found f) → IsOpen p f
     → HasFound v (frames ++ f ∷ []) old new (next_position p (Found f))
 HasFound-next v frames old known new p f s r ok =
     let number = length frames in
     let offset = offset_after v frames in
     let here = At v number offset in
-    let may = subst (λ (x : Position). IsOpen x f) s.stands ok in
-    let lost = Consumes-found v number offset known new f (subst (λ (x : Position). FindsNext x known new (Found f)) s.stands r) in
+    let may = subst (λ (x : Position). IsOpen x f) s.position_is ok in
+    let lost = Consumes-found v number offset known new f
+    (subst (λ (x : Position). FindsNext x known new (Found f)) s.position_is r) in
     let bytes = more_bytes v frames f in
-    let counted : number + 1 ≡ length (frames ++ f ∷ []) = omega (arith, length-append frames (f ∷ [])) in
+    let counted : number + 1 ≡ length (frames ++ f ∷ []) =
+    omega (arith, length-append frames (f ∷ [])) in
     let sized : offset + record_size v f ≡ offset_after v (frames ++ f ∷ []) =
-    omega (arith, ap (λ (l : List ℕ). length l) bytes, length-append (records_bytes v frames) (frame_bytes v f), size-frame_bytes v f) in
+    omega (
+      arith,
+      ap (λ (l : List ℕ). length l) bytes,
+      length-append (records_bytes v frames)
+          (frame_bytes v f),
+      size-frame_bytes v f,
+    ) in
     record {
-      stands = ap (λ (x : Position). next_position x (Found f)) s.stands ∙ ap (λ n. At v n (offset + record_size v f)) counted ∙ ap (λ n. At v (length (frames ++ f ∷ [])) n) sized;
+      position_is = ap (λ (x : Position). next_position x (Found f)) s.position_is
+          ∙ ap (λ n. At v n (offset + record_size v f)) counted
+          ∙ ap (λ n. At v (length (frames ++ f ∷ [])) n) sized;
       are_open = AreOpen-push v frames f s.are_open may.0 may.1;
-      lost = subst (Consumes old new) (append_assoc (stream_magic v) (records_bytes v frames) (frame_bytes v f) ∙ ap (λ l. stream_magic v ++ l) (sym bytes))
+      lost =
+          subst (Consumes old new)
+          (append_assoc (stream_magic v) (records_bytes v frames) (frame_bytes v f)
+          ∙ ap (λ l. stream_magic v ++ l) (sym bytes))
           (Consumes-trans old known new _ _ s.lost lost);
     }
 
 -- the reader's number counts the frames that were found
-pub HasFound-count : (v : Version) (frames : List PacketFrame) (old known : Option (List ℕ)) (number offset : ℕ) → HasFound v frames old known (At v number offset) → number ≡ length frames
-HasFound-count v frames old known number offset s = let h = s.stands in cc
+pub HasFound-count : (v : Version) (frames : List PacketFrame) (old known : Option (List ℕ))
+    (number offset : ℕ) → HasFound v frames old known (At v number offset) → number ≡ length frames
+HasFound-count v frames old known number offset s = let h = s.position_is in cc
 
 -- the bytes that a source has left
-left_of : (v : Version) (frames : List PacketFrame) (bytes : List ℕ) (known : Option (List ℕ)) → Consumes (Some bytes) known (stream_bytes v frames)
+left_of : (v : Version) (frames : List PacketFrame) (bytes : List ℕ) (known : Option (List ℕ))
+    → Consumes (Some bytes) known (stream_bytes v frames)
     → (rest : List ℕ) × (known ≡ Some rest) × (bytes ≡ stream_bytes v frames ++ rest)
 left_of v frames bytes None h = absurd h
 left_of v frames bytes (Some rest) h = (rest, refl, h)
@@ -121,32 +153,65 @@ record ReadsStop (v : Version) (number offset : ℕ) (rest : List ℕ) (stop : F
   error : ending ≡ ByError → (at : ℕ) × (stop ≡ finish.Fault ReadFailed at)
   stops : stop_at v number offset read ending ≡ Some stop
 
-whole_stop : (v : Version) (number offset : ℕ) (rest : List ℕ) (stop : Finish) → stop_at v number offset rest ByEnd ≡ Some stop → ReadsStop v number offset rest stop
-whole_stop v number offset rest stop h = record { read = rest; unread = []; ending = ByEnd; split = sym (append-nil rest); all = λ _. refl; error = λ e. cc; stops = h }
+whole_stop : (v : Version) (number offset : ℕ) (rest : List ℕ) (stop : Finish)
+    → stop_at v number offset rest ByEnd ≡ Some stop → ReadsStop v number offset rest stop
+whole_stop v number offset rest stop h =
+    record {
+      read = rest;
+      unread = [];
+      ending = ByEnd;
+      split = sym (append-nil rest);
+      all = λ _. refl;
+      error = λ e. cc;
+      stops = h;
+    }
 
-read_error : (v : Version) (number offset : ℕ) (rest : List ℕ) (new : Option (List ℕ)) (at : ℕ) → StopsReading (At v number offset) rest new (finish.Fault ReadFailed at)
+read_error : (v : Version) (number offset : ℕ) (rest : List ℕ) (new : Option (List ℕ)) (at : ℕ)
+    → StopsReading (At v number offset) rest new (finish.Fault ReadFailed at)
     → ReadsStop v number offset rest (finish.Fault ReadFailed at)
 read_error v number offset rest None at h = absurd h.1
-read_error v number offset rest (Some left) at h = record { read = h.0; unread = left; ending = ByError; split = h.1; all = λ e. cc; error = λ _. (at, refl); stops = h.2 }
+read_error v number offset rest (Some left) at h =
+    record {
+      read = h.0;
+      unread = left;
+      ending = ByError;
+      split = h.1;
+      all = λ e. cc;
+      error = λ _.
+          (at, refl);
+      stops = h.2;
+    }
 
-read_stop : (v : Version) (number offset : ℕ) (rest : List ℕ) (new : Option (List ℕ)) (stop : Finish) → StopsReading (At v number offset) rest new stop → ReadsStop v number offset rest stop
+read_stop : (v : Version) (number offset : ℕ) (rest : List ℕ) (new : Option (List ℕ))
+    (stop : Finish) → StopsReading (At v number offset) rest new stop
+    → ReadsStop v number offset rest stop
 read_stop v number offset rest new finish.End h = whole_stop v number offset rest finish.End h
-read_stop v number offset rest new (finish.Fault BadMagic o) h = whole_stop v number offset rest (finish.Fault BadMagic o) h
-read_stop v number offset rest new (finish.Fault TruncatedHead o) h = whole_stop v number offset rest (finish.Fault TruncatedHead o) h
-read_stop v number offset rest new (finish.Fault TooLong o) h = whole_stop v number offset rest (finish.Fault TooLong o) h
-read_stop v number offset rest new (finish.Fault TruncatedBody o) h = whole_stop v number offset rest (finish.Fault TruncatedBody o) h
-read_stop v number offset rest new (finish.Fault ReadFailed o) h = read_error v number offset rest new o h
-read_stop v number offset rest new (finish.Fault TooManyRecords o) h = whole_stop v number offset rest (finish.Fault TooManyRecords o) h
+read_stop v number offset rest new (finish.Fault BadMagic o) h =
+    whole_stop v number offset rest (finish.Fault BadMagic o) h
+read_stop v number offset rest new (finish.Fault TruncatedHead o) h =
+    whole_stop v number offset rest (finish.Fault TruncatedHead o) h
+read_stop v number offset rest new (finish.Fault TooLong o) h =
+    whole_stop v number offset rest (finish.Fault TooLong o) h
+read_stop v number offset rest new (finish.Fault TruncatedBody o) h =
+    whole_stop v number offset rest (finish.Fault TruncatedBody o) h
+read_stop v number offset rest new (finish.Fault ReadFailed o) h =
+    read_error v number offset rest new o h
+read_stop v number offset rest new (finish.Fault TooManyRecords o) h =
+    whole_stop v number offset rest (finish.Fault TooManyRecords o) h
 
 -- the input that begins with these frames
 abbrev input_of : Version → List PacketFrame → List ℕ → InputEnding → Input
-input_of v frames rest e = record { bytes = stream_magic v ++ (records_bytes v frames ++ rest); ending = e }
+input_of v frames rest e =
+    record { bytes = stream_magic v ++ (records_bytes v frames ++ rest); ending = e }
 
 -- Where the reader stops, the frames that it found and that end or fault were read.
-pub HasFound-stops : (v : Version) (frames : List PacketFrame) (old known new : Option (List ℕ)) (p : Position) (stop : Finish) → HasFound v frames old known p → FindsNext p known new (Stopped stop)
+pub HasFound-stops : (v : Version) (frames : List PacketFrame) (old known new : Option (List ℕ))
+    (p : Position) (stop : Finish) → HasFound v frames old known p
+    → FindsNext p known new (Stopped stop)
     → CanStop p stop → AreReadFrom old (stream_with v (frames, stop))
 HasFound-stops v frames None known new p stop s r can =
-    let h : CanStop (At v (length frames) (offset_after v frames)) stop = subst (λ (x : Position). CanStop x stop) s.stands can in
+    let h : CanStop (At v (length frames) (offset_after v frames)) stop =
+    subst (λ (x : Position). CanStop x stop) s.position_is can in
     record {
       input = input_of v frames h.bytes h.ending;
       from_source = tt;
@@ -156,15 +221,20 @@ HasFound-stops v frames (Some bytes) known new p stop s r can =
     let number = length frames in
     let offset = offset_after v frames in
     let (rest, is_known, split) = left_of v frames bytes known s.lost in
-    let there = subst (λ (x : Position). FindsNext x known new (Stopped stop)) s.stands r in
-    let h = read_stop v number offset rest new stop (subst (λ (k : Option (List ℕ)). FindsNext (At v number offset) k new (Stopped stop)) is_known there) in
-    let same : stream_of (input_of v frames h.read h.ending) ≡ stream_with v (frames, stop) = stream_of-stops v frames h.read h.ending stop s.are_open h.stops in
+    let there = subst (λ (x : Position). FindsNext x known new (Stopped stop)) s.position_is r in
+    let h = read_stop v number offset rest new stop
+    (subst (λ (k : Option (List ℕ)). FindsNext (At v number offset) k new (Stopped stop))
+    is_known there) in
+    let same : stream_of (input_of v frames h.read h.ending) ≡ stream_with v (frames, stop) =
+    stream_of-stops v frames h.read h.ending stop s.are_open h.stops in
     record {
       input = input_of v frames h.read h.ending;
       from_source = record {
         unread = h.unread;
-        split = split ∙ ap (λ l. stream_bytes v frames ++ l) h.split ∙ sym (append_assoc (stream_bytes v frames) h.read h.unread)
-            ∙ ap (λ l. l ++ h.unread) (append_assoc (stream_magic v) (records_bytes v frames) h.read);
+        split = split ∙ ap (λ l. stream_bytes v frames ++ l) h.split
+            ∙ sym (append_assoc (stream_bytes v frames) h.read h.unread)
+            ∙ ap (λ l. l ++ h.unread)
+            (append_assoc (stream_magic v) (records_bytes v frames) h.read);
         all = h.all;
         error = λ e. ((h.error e).0, ap (λ (t : Stream). t.finish) same ∙ (h.error e).1);
       };
@@ -172,61 +242,81 @@ HasFound-stops v frames (Some bytes) known new p stop s r can =
     }
 
 -- Where nothing more is read, the source begins with the frames that were found.
-pub HasFound-begins : (v : Version) (frames : List PacketFrame) (old known : Option (List ℕ)) (p : Position) → HasFound v frames old known p → IsBegunBy old v frames
+pub HasFound-begins : (v : Version) (frames : List PacketFrame) (old known : Option (List ℕ))
+    (p : Position) → HasFound v frames old known p → IsBegunBy old v frames
 HasFound-begins v frames None known p s = tt
-HasFound-begins v frames (Some bytes) known p s = let (rest, is_known, split) = left_of v frames bytes known s.lost in (rest, split)
+HasFound-begins v frames (Some bytes) known p s =
+    let (rest, is_known, split) = left_of v frames bytes known s.lost in (rest, split)
 
--- No magic could be read: the stream counts as one of the first version, it has no frames, and the
--- reader is done.
-pub record IsUnopened (v : Version) (frames : List PacketFrame) (old : Option (List ℕ)) (position : Position) : Type 0 where
+-- No magic could be read: the stream counts as one of version 1, it has no frames, and the reader
+-- is done.
+pub record IsUnopened (v : Version) (frames : List PacketFrame) (old : Option (List ℕ))
+    (position : Position) : Type 0 where
   pub fault : Fault
   pub first : v ≡ One
   pub none : frames ≡ []
-  pub stands : position ≡ Done One (finish.Fault fault 0)
+  pub position_is : position ≡ Done One (finish.Fault fault 0)
   pub read : AreReadFrom old (unopened fault)
 
 -- the reader has read the magic of this version and then these frames, or it found no magic
 abbrev pub HasBegun : Version → List PacketFrame → Option (List ℕ) → Option (List ℕ) → Position
     → Type 0
-HasBegun v frames old known position = HasFound v frames old known position ⊎ IsUnopened v frames old position
+HasBegun v frames old known position =
+    HasFound v frames old known position ⊎ IsUnopened v frames old position
 
 -- a fresh reader has begun when the magic is read
-pub HasBegun-opens : (v : Version) (old new : Option (List ℕ)) (after : Position) → OpensStream Fresh old new after → IsBegunVersion (begun_at after) v → HasBegun v [] old new after
+pub HasBegun-opens : (v : Version) (old new : Option (List ℕ)) (after : Position)
+    → OpensStream Fresh old new after → IsBegunVersion (begun_at after) v
+    → HasBegun v [] old new after
 HasBegun-opens v old new after opens is = go opens.0 opens.1 opens.2 opens.3
   where
-    go : (answer : Result Version Fault) → ReadsMagic old new answer → MayOpen answer → after ≡ position_opened answer → HasBegun v [] old new after
-    go (Ok w) reads may stands =
-        let told = subst (λ (x : Position). IsBegunVersion (begun_at x) v) stands is in
+    go : (answer : Result Version Fault) → ReadsMagic old new answer → MayOpen answer
+        → after ≡ position_opened answer → HasBegun v [] old new after
+    go (Ok w) reads may position_is =
+        let told = subst (λ (x : Position). IsBegunVersion (begun_at x) v) position_is is in
         let same : v ≡ w = told w refl in
-        inl (subst (λ (x : Position). HasFound v [] old new x) (ap (λ (x : Version). At x 0 4) same ∙ sym stands)
-        (HasFound-opened v old new (subst (λ (x : Version). ReadsMagic old new (Ok x)) (sym same) reads)))
-    go (Err fault) reads may stands = inr (record {
+        inl (subst (λ (x : Position). HasFound v [] old new x)
+        (ap (λ (x : Version). At x 0 4) same ∙ sym position_is)
+        (HasFound-opened v old new
+        (subst (λ (x : Version). ReadsMagic old new (Ok x)) (sym same) reads)))
+    go (Err fault) reads may position_is = inr (record {
       fault = fault;
-      first = subst (λ (x : Position). IsBegunVersion (begun_at x) v) stands is;
+      first = subst (λ (x : Position). IsBegunVersion (begun_at x) v) position_is is;
       none = refl;
-      stands = stands;
+      position_is = position_is;
       read = unopened_from old new fault reads may;
     })
 
 -- these frames are allowed in the stream
-pub HasBegun-open : (v : Version) (frames : List PacketFrame) (old known : Option (List ℕ)) (p : Position) → HasBegun v frames old known p → AreOpen v frames
+pub HasBegun-open : (v : Version) (frames : List PacketFrame) (old known : Option (List ℕ))
+    (p : Position) → HasBegun v frames old known p → AreOpen v frames
 HasBegun-open v frames old known p (inl s) = s.are_open
 HasBegun-open v frames old known p (inr u) = subst (AreOpen v) (sym u.none) (AreOpen-nil v)
 
 -- a call that finds one more frame, for which there is room
-pub HasBegun-found : (v : Version) (frames : List PacketFrame) (old known new : Option (List ℕ)) (p q : Position) (f : PacketFrame) → HasBegun v frames old known p → Finds p known new q (Found f)
+pub HasBegun-found : (v : Version) (frames : List PacketFrame) (old known new : Option (List ℕ))
+    (p q : Position) (f : PacketFrame) → HasBegun v frames old known p
+    → Finds p known new q (Found f)
     → HasFound v (frames ++ f ∷ []) old new q × (length frames < max_frames) × IsPacketFrame v f
 HasBegun-found v frames old known new p q f (inl s) h =
     let here = At v (length frames) (offset_after v frames) in
-    let (begun_is, left_is) = subst (λ (x : Position). OpensStream x known h.left h.begun) s.stands h.opens in
-    let begun : h.begun ≡ p = begun_is ∙ sym s.stands in
+    let (begun_is, left_is) = subst
+    (λ (x : Position). OpensStream x known h.left h.begun) s.position_is h.opens in
+    let begun : h.begun ≡ p = begun_is ∙ sym s.position_is in
     let open_here = subst (λ (x : Position). IsOpen x f) begun h.room in
-    let reads = subst (λ (k : Option (List ℕ)). FindsNext p k new (Found f)) left_is (subst (λ (x : Position). FindsNext x h.left new (Found f)) begun h.reads) in
-    let may = subst (λ (x : Position). IsOpen x f) s.stands open_here in
-    let moved : q ≡ next_position p (Found f) = h.stands ∙ ap (λ (x : Position). next_position x (Found f)) begun in
-    (subst (HasFound v (frames ++ f ∷ []) old new) (sym moved) (HasFound-next v frames old known new p f s reads open_here), may.0, may.1)
+    let reads = subst (λ (k : Option (List ℕ)). FindsNext p k new (Found f)) left_is
+    (subst (λ (x : Position). FindsNext x h.left new (Found f)) begun h.reads) in
+    let may = subst (λ (x : Position). IsOpen x f) s.position_is open_here in
+    let moved : q ≡ next_position p (Found f) =
+    h.position_is ∙ ap (λ (x : Position). next_position x (Found f)) begun in (
+      subst (HasFound v (frames ++ f ∷ []) old new) (sym moved)
+          (HasFound-next v frames old known new p f s reads open_here),
+      may.0,
+      may.1,
+    )
 HasBegun-found v frames old known new p q f (inr u) h =
-    let (begun_is, left_is) = subst (λ (x : Position). OpensStream x known h.left h.begun) u.stands h.opens in
+    let (begun_is, left_is) = subst
+    (λ (x : Position). OpensStream x known h.left h.begun) u.position_is h.opens in
     absurd (subst (λ (x : Position). IsOpen x f) begun_is h.room)
 
 -- what a reader that is done finds
@@ -234,15 +324,23 @@ done_stops : (v : Version) (stop found : Finish) → CanStop (Done v stop) found
 done_stops v stop found can = let h : Some stop ≡ Some found = can.stops in cc
 
 -- a call that finds the end or a fault: the frames that were found and that end or fault were read
-pub HasBegun-stopped : (v : Version) (frames : List PacketFrame) (old known new : Option (List ℕ)) (p q : Position) (stop : Finish) → HasBegun v frames old known p → Finds p known new q (Stopped stop)
+pub HasBegun-stopped : (v : Version) (frames : List PacketFrame) (old known new : Option (List ℕ))
+    (p q : Position) (stop : Finish) → HasBegun v frames old known p
+    → Finds p known new q (Stopped stop)
     → AreReadFrom old (stream_with v (frames, stop))
 HasBegun-stopped v frames old known new p q stop (inl s) h =
-    let (begun_is, left_is) = subst (λ (x : Position). OpensStream x known h.left h.begun) s.stands h.opens in
-    let begun : h.begun ≡ p = begun_is ∙ sym s.stands in
-    let reads = subst (λ (k : Option (List ℕ)). FindsNext p k new (Stopped stop)) left_is (subst (λ (x : Position). FindsNext x h.left new (Stopped stop)) begun h.reads) in
-    HasFound-stops v frames old known new p stop s reads (subst (λ (x : Position). CanStop x stop) begun h.room)
+    let (begun_is, left_is) = subst
+    (λ (x : Position). OpensStream x known h.left h.begun) s.position_is h.opens in
+    let begun : h.begun ≡ p = begun_is ∙ sym s.position_is in
+    let reads = subst (λ (k : Option (List ℕ)). FindsNext p k new (Stopped stop)) left_is
+    (subst (λ (x : Position). FindsNext x h.left new (Stopped stop)) begun h.reads) in
+    HasFound-stops v frames old known new p stop s reads
+    (subst (λ (x : Position). CanStop x stop) begun h.room)
 HasBegun-stopped v frames old known new p q stop (inr u) h =
-    let (begun_is, left_is) = subst (λ (x : Position). OpensStream x known h.left h.begun) u.stands h.opens in
-    let same = done_stops One (finish.Fault u.fault 0) stop (subst (λ (x : Position). CanStop x stop) begun_is h.room) in
-    let whole : unopened u.fault ≡ stream_with v (frames, stop) = rw (u.first, u.none, ← same) refl in
+    let (begun_is, left_is) = subst
+    (λ (x : Position). OpensStream x known h.left h.begun) u.position_is h.opens in
+    let same = done_stops One (finish.Fault u.fault 0) stop
+    (subst (λ (x : Position). CanStop x stop) begun_is h.room) in
+    let whole : unopened u.fault ≡ stream_with v (frames, stop) =
+    rw (u.first, u.none, ← same) refl in
     subst (AreReadFrom old) whole u.read

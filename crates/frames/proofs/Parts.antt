@@ -1,4 +1,4 @@
--- Bytes that were written in two parts, and the head of a record of the first version.
+-- Bytes that were written in two parts, and the head of a record of version 1.
 use Rattle.std.proofs.Common.{◌≡◌, ℕ, List, ◌++◌, length, take, drop, Option, Result, Ok, Err, OnOk, OnErr, refl, sym, ap, ◌∙◌, subst}
 use Rattle.std.proofs.lemmas.List.{take-append-drop}
 use Rattle.std.specs.Io.KnownBytes.{Appends}
@@ -10,31 +10,40 @@ use Rattle.isa_model.specs.declared.versions.Version.TheVariants.{One}
 use Rattle.isa_model.specs.Reporting.Streams.{head_bytes}
 
 -- where the second part fails, a beginning of both was written
-pub second_fails : {X E : Type 0} (r : Result X E) (old mid new : Option (List ℕ)) (front rest : List ℕ) → Appends old mid front → OnErr r (AppendsBeginning mid new rest)
+pub second_fails : {X E : Type 0} (r : Result X E) (old mid new : Option (List ℕ))
+    (front rest : List ℕ) → Appends old mid front → OnErr r (AppendsBeginning mid new rest)
     → OnErr r (AppendsBeginning old new (front ++ rest))
 second_fails (Ok x) old mid new front rest p q = tt
 second_fails (Err e) old mid new front rest p q = AppendsBeginning-second old mid new front rest p q
 
 -- where a write took the first n bytes, and the rest fails, a beginning of all was written
-pub rest_fails : {X E : Type 0} (r : Result X E) (old mid new : Option (List ℕ)) (n : ℕ) (bs : List ℕ) → Appends old mid (take n bs) → OnErr r (AppendsBeginning mid new (drop n bs))
+pub rest_fails : {X E : Type 0} (r : Result X E) (old mid new : Option (List ℕ)) (n : ℕ)
+    (bs : List ℕ) → Appends old mid (take n bs) → OnErr r (AppendsBeginning mid new (drop n bs))
     → OnErr r (AppendsBeginning old new bs)
 rest_fails r old mid new n bs p q =
-    subst (λ l. OnErr r (AppendsBeginning old new l)) (take-append-drop n bs) (second_fails r old mid new (take n bs) (drop n bs) p q)
+    subst (λ l. OnErr r (AppendsBeginning old new l)) (take-append-drop n bs)
+    (second_fails r old mid new (take n bs) (drop n bs) p q)
 
--- a record of the first version shows no reason
-first_head : (h : FrameHead) (n reason : ℕ) → head_bytes One h n 0 ≡ head_bytes One h n reason
+-- a record of version 1 has no reason
+version_1_head : (h : FrameHead) (n reason : ℕ) → head_bytes One h n 0 ≡ head_bytes One h n reason
 unfolding head_bytes
-first_head h n reason = refl
+version_1_head h n reason = refl
 
-module _ (v : Version) (h : FrameHead) (n reason : ℕ) (front body : List ℕ) (one : v ≡ One) (is : front ≡ head_bytes One h n 0) (same : n ≡ length body) where
-  first_record : front ++ body ≡ head_bytes v h (length body) reason ++ body
-  first_record =
+module _ (v : Version) (h : FrameHead) (n reason : ℕ) (front body : List ℕ) (one : v ≡ One)
+    (is : front ≡ head_bytes One h n 0) (same : n ≡ length body) where
+  version_1_record : front ++ body ≡ head_bytes v h (length body) reason ++ body
+  version_1_record =
       ap (λ l. l ++ body)
-      (is ∙ ap (λ m. head_bytes One h m 0) same ∙ first_head h (length body) reason ∙ ap (λ (w : Version). head_bytes w h (length body) reason) (sym one))
+      (is ∙ ap (λ m. head_bytes One h m 0) same ∙ version_1_head h (length body) reason
+      ∙ ap (λ (w : Version). head_bytes w h (length body) reason) (sym one))
 
-  pub first_written : {X E : Type 0} (r : Result X E) (old new : Option (List ℕ)) → OnOk r (Appends old new (front ++ body)) → OnOk r (Appends old new (head_bytes v h (length body) reason ++ body))
-  first_written r old new p = subst (λ l. OnOk r (Appends old new l)) first_record p
+  pub version_1_written : {X E : Type 0} (r : Result X E) (old new : Option (List ℕ))
+      → OnOk r (Appends old new (front ++ body))
+      → OnOk r (Appends old new (head_bytes v h (length body) reason ++ body))
+  version_1_written r old new p = subst (λ l. OnOk r (Appends old new l)) version_1_record p
 
-  pub first_failed : {X E : Type 0} (r : Result X E) (old new : Option (List ℕ)) → OnErr r (AppendsBeginning old new (front ++ body))
+  pub version_1_failed : {X E : Type 0} (r : Result X E) (old new : Option (List ℕ))
+      → OnErr r (AppendsBeginning old new (front ++ body))
       → OnErr r (AppendsBeginning old new (head_bytes v h (length body) reason ++ body))
-  first_failed r old new p = subst (λ l. OnErr r (AppendsBeginning old new l)) first_record p
+  version_1_failed r old new p =
+      subst (λ l. OnErr r (AppendsBeginning old new l)) version_1_record p

@@ -1,4 +1,5 @@
--- A frame reader gives the stream of the input that it reads, in whatever pieces its source gives the bytes.
+-- A frame reader finds the stream of the input that it reads, however many bytes each read of its
+-- source returns.
 use Rattle.std.proofs.Common.{◌≡◌, ℕ, ◌+◌, ◌++◌, List, [], Option, Result, Ok, Err, IfSome}
 use Rattle.isa_model.specs.declared.streams.Fault.{Fault}
 use Rattle.isa_model.specs.declared.streams.Fault.TheVariants.{ReadFailed}
@@ -8,16 +9,17 @@ use Rattle.isa_model.specs.declared.versions.Version.TheVariants.{One}
 use Rattle.isa_model.specs.Code.Versions.{version_number}
 use Rattle.isa_model.specs.Reporting.Streams.{PacketFrame, Input, ByEnd, ByError, Stream, stream_of, stream_bytes}
 
--- The input was read from a source with these bytes: all of them and then the end, or the first of them and then an
--- error. An error is read only where the stream's fault is ReadFailed.
+-- The input was read from a source with these bytes: all of them and then the end, or the first of
+-- them and then an error. An error is read only where the stream's fault is ReadFailed.
 pub record IsReadFrom (bytes : List ℕ) (input : Input) : Type 0 where
   pub unread : List ℕ
   pub split : bytes ≡ input.bytes ++ unread
   pub all : input.ending ≡ ByEnd → unread ≡ []
-  pub error : input.ending ≡ ByError → (offset : ℕ) × ((stream_of input).finish ≡ finish.Fault ReadFailed offset)
+  pub error : input.ending ≡ ByError
+      → (offset : ℕ) × ((stream_of input).finish ≡ finish.Fault ReadFailed offset)
 
--- This stream was read from the source: it is the stream of an input, and where the bytes of the source are known, of an
--- input that was read from those bytes.
+-- This stream was read from the source: it is the stream of an input, and where the bytes of the
+-- source are known, of an input that was read from those bytes.
 pub record AreReadFrom (source : Option (List ℕ)) (found : Stream) : Type 0 where
   pub input : Input
   pub from_source : IfSome source (λ bytes. IsReadFrom bytes input)
@@ -25,14 +27,16 @@ pub record AreReadFrom (source : Option (List ℕ)) (found : Stream) : Type 0 wh
 
 -- ---- where reading breaks off
 
--- a source begins with the magic of this version and the records of these frames, where its bytes are known; whatever
--- follows them
+-- a source begins with the magic of this version and the records of these frames, where its bytes
+-- are known; whatever follows them
 abbrev pub IsBegunBy : Option (List ℕ) → Version → List PacketFrame → Type 0
-IsBegunBy source v frames = IfSome source (λ bytes. (rest : List ℕ) × (bytes ≡ stream_bytes v frames ++ rest))
+IsBegunBy source v frames =
+    IfSome source (λ bytes. (rest : List ℕ) × (bytes ≡ stream_bytes v frames ++ rest))
 
 -- ---- a reader that has begun
 
--- the version of the stream that is begun, by what `begin` answers: the first one where there is no magic
+-- the version of the stream that was begun, by the answer of `begin`: version 1 where there is no
+-- magic
 abbrev pub IsBegunVersion : Result ℕ (Fault × ℕ) → Version → Type 0
 IsBegunVersion (Ok number) v = (w : Version) → number ≡ version_number w → v ≡ w
 IsBegunVersion (Err fault) v = v ≡ One

@@ -16,30 +16,33 @@ use Rattle.frames.specs.declared.reader.Next.TheVariants as next
 
 -- ---- the magic
 
--- a reader's position after the magic, or after a fault in its place
+-- a reader's position after the magic, or after a fault instead of it
 abbrev pub position_opened : Result Version Fault → Position
 position_opened (Ok version) = At version 0 4
 position_opened (Err fault) = Done One (finish.Fault fault 0)
 
--- The magic of a version was read from a source with these bytes left before and those after; or it
--- is the fault in its place, and only for ReadFailed did the source return an error, after the
+-- The magic of a version was read from a source with these bytes left before and those after; or a
+-- fault was found instead, and only for ReadFailed did the source return an error, after the
 -- bytes that were read.
 abbrev pub ReadsMagic : Option (List ℕ) → Option (List ℕ) → Result Version Fault → Type 0
 ReadsMagic None new answer = Unit {0}
-ReadsMagic (Some bytes) new (Err ReadFailed) = (read : List ℕ) × Consumes (Some bytes) new read × (opened read ByError ≡ Err ReadFailed)
+ReadsMagic (Some bytes) new (Err ReadFailed) =
+    (read : List ℕ) × Consumes (Some bytes) new read × (opened read ByError ≡ Err ReadFailed)
 ReadsMagic (Some bytes) new (Err fault) = opened bytes ByEnd ≡ Err fault
 ReadsMagic (Some bytes) None (Ok version) = ⊥
 ReadsMagic (Some bytes) (Some rest) (Ok version) = bytes ≡ stream_magic version ++ rest
 
--- there are bytes, and a way in which they end, with this fault in place of the magic
+-- there are bytes, and a way in which they end, with this fault instead of the magic
 abbrev pub MayOpen : Result Version Fault → Type 0
 MayOpen (Ok version) = Unit {0}
 MayOpen (Err fault) = (bytes : List ℕ) × (ending : InputEnding) × (opened bytes ending ≡ Err fault)
 
 -- the magic is read once: a reader after it reads nothing and stays there
 abbrev pub OpensStream : Position → Option (List ℕ) → Option (List ℕ) → Position → Type 0
-OpensStream Fresh old new after = (answer : Result Version Fault) × ReadsMagic old new answer × MayOpen answer × (after ≡ position_opened answer)
-OpensStream (At version number offset) old new after = (after ≡ At version number offset) × (new ≡ old)
+OpensStream Fresh old new after = (answer : Result Version Fault) × ReadsMagic old new answer
+    × MayOpen answer × (after ≡ position_opened answer)
+OpensStream (At version number offset) old new after =
+    (after ≡ At version number offset) × (new ≡ old)
 OpensStream (Done version stop) old new after = (after ≡ Done version stop) × (new ≡ old)
 
 -- the version of the stream that is read, or the fault that ended it
@@ -56,9 +59,10 @@ pub data Finding : Type 0 where
   Found : PacketFrame → Finding
   Stopped : Finish → Finding
 
--- what a call answered, with what it left in the buffer
+-- what a call returned, with what it left in the buffer
 abbrev pub finding_of : Next → List ℕ → Finding
-finding_of (next.Frame head n reason) buffer = Found (record { head = head; body = take n buffer; reason = reason })
+finding_of (next.Frame head n reason) buffer =
+    Found (record { head = head; body = take n buffer; reason = reason })
 finding_of next.End buffer = Stopped finish.End
 finding_of (next.Fault f offset) buffer = Stopped (finish.Fault f offset)
 
@@ -85,7 +89,8 @@ stop_from (Done version stop) bytes ending = Some stop
 -- after it. Only for ReadFailed did the source return an error, after the bytes that were read.
 abbrev pub StopsReading : Position → List ℕ → Option (List ℕ) → Finish → Type 0
 StopsReading position bytes new (finish.Fault ReadFailed offset) =
-    (read : List ℕ) × Consumes (Some bytes) new read × (stop_from position read ByError ≡ Some (finish.Fault ReadFailed offset))
+    (read : List ℕ) × Consumes (Some bytes) new read
+    × (stop_from position read ByError ≡ Some (finish.Fault ReadFailed offset))
 StopsReading position bytes new stop = stop_from position bytes ByEnd ≡ Some stop
 
 -- the bytes begin with this record, and then there are others
@@ -93,8 +98,8 @@ abbrev pub Begins : Position → List ℕ → PacketFrame → List ℕ → Type 
 Begins (At version number offset) bytes f rest = bytes ≡ frame_bytes version f ++ rest
 Begins position bytes f rest = ⊥
 
--- What a call does where the source's bytes are known: the bytes of the record that it finds are gone, or the
--- stream stops there.
+-- What a call does where the source's bytes are known: the bytes of the record that it finds are
+-- gone, or the stream stops there.
 abbrev pub FindsNext : Position → Option (List ℕ) → Option (List ℕ) → Finding → Type 0
 FindsNext position None new finding = Unit {0}
 FindsNext position (Some bytes) new (Stopped stop) = StopsReading position bytes new stop
@@ -106,7 +111,8 @@ abbrev pub IsOpen : Position → PacketFrame → Type 0
 IsOpen (At version number offset) f = (number < max_frames) × IsPacketFrame version f
 IsOpen position f = ⊥
 
--- there are bytes, and a way in which they end, with which a stream stops so at the position
+-- there are bytes, and a way in which they end, with which a stream stops at the position as `stop`
+-- says
 pub record CanStop (position : Position) (stop : Finish) : Type 0 where
   pub bytes : List ℕ
   pub ending : InputEnding
@@ -119,13 +125,14 @@ HasRoom position (Stopped stop) = CanStop position stop
 
 -- What a call of `next` finds, and where it leaves the reader. The magic is read first, if it was
 -- not read before.
-pub record Finds (before : Position) (old new : Option (List ℕ)) (after : Position) (finding : Finding) : Type 0 where
+pub record Finds (before : Position) (old new : Option (List ℕ)) (after : Position)
+    (finding : Finding) : Type 0 where
   pub begun : Position
   pub left : Option (List ℕ)
   pub opens : OpensStream before old left begun
   pub reads : FindsNext begun left new finding
   pub room : HasRoom begun finding
-  pub stands : after ≡ next_position begun finding
+  pub position_is : after ≡ next_position begun finding
 
 -- a body fits the buffer
 abbrev pub FitsBuffer : Next → Type 0
@@ -133,6 +140,7 @@ FitsBuffer (next.Frame head n reason) = n ≤ max_packet
 FitsBuffer next.End = Unit {0}
 FitsBuffer (next.Fault f offset) = Unit {0}
 
--- a reader that is done answers the same again, and reads nothing
+-- a reader that is done returns the same again, and reads nothing
 abbrev pub StaysDone : {R : Type 0} → ReaderState R → ReaderState R → Finding → Type 0
-StaysDone old new finding = (version : Version) (stop : Finish) → old.position ≡ Done version stop → (finding ≡ Stopped stop) × (new ≡ old)
+StaysDone old new finding = (version : Version) (stop : Finish) → old.position ≡ Done version stop
+    → (finding ≡ Stopped stop) × (new ≡ old)

@@ -34,6 +34,8 @@ HasRoomForRecord number (next.Fault f offset) = Unit {0}
 
 -- the stage after what was found where a record may begin
 abbrev pub IsStageAfter : Version → ℕ → ℕ → Next → Stage → Type 0
-IsStageAfter version number offset (next.Frame head n reason) after = after ≡ stage.At version (number + 1) (offset + (head_size version + n))
+IsStageAfter version number offset (next.Frame head n reason) after =
+    after ≡ stage.At version (number + 1) (offset + (head_size version + n))
 IsStageAfter version number offset next.End after = after ≡ stage.Done version finish.End
-IsStageAfter version number offset (next.Fault f at) after = after ≡ stage.Done version (finish.Fault f at)
+IsStageAfter version number offset (next.Fault f at) after =
+    after ≡ stage.Done version (finish.Fault f at)

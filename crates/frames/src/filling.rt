@@ -1,4 +1,4 @@
-//! Fills a buffer, mostly by one read.
+//! Fills a buffer, in most cases by one read.
 ghost use Rattle.std.specs.Prelude.{◌≡◌, ◌<◌, length, take, Option, List, ℕ};
 ghost use Rattle.std.specs.Io.KnownBytes.{Consumes, IsAtEnd};
 ghost use Rattle.exact_io.specs.Transfers.{Fills};
@@ -6,7 +6,8 @@ ghost use Rattle.exact_io.specs.Transfers.{Fills};
 use exact_io::{Filled, fill};
 use std::io::Read;
 
-/// Fills the buffer from its front, as `fill` does; nearly always by one read, which is inlined.
+/// Fills the buffer from its front, as `fill` does; the first read, which is inlined, is nearly
+/// always enough.
 #[inline(always)]
 pub fn fill_at_once<R: Read>(source: &mut R, buffer: &mut [u8]) -> Filled
     ensures { Fills (R.remaining source.old) (R.remaining source.new) result buffer.new }
@@ -26,7 +27,8 @@ pub fn fill_at_once<R: Read>(source: &mut R, buffer: &mut [u8]) -> Filled
     }
 }
 
-// Fills what is left of a buffer, after a read gave its first `count` bytes, or found the end.
+// Fills what is left of a buffer, after a read returned its first `count` bytes, or none at the
+// end.
 #[cold]
 #[inline(never)]
 fn fill_rest<R: Read>(source: &mut R, buffer: &mut [u8], count: usize) -> Filled

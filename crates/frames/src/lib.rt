@@ -3,7 +3,7 @@
 //! memory.
 //!
 //! `isa_model`'s `specs/Reporting/Streams.antt` defines which frames a stream has and how it ends,
-//! and `specs/Inputs.antt` here says that a reader gives just these.
+//! and `specs/Inputs.antt` here says that a reader returns exactly these.
 #![tactic(auto)]
 
 mod filling;

@@ -1,4 +1,4 @@
-//! Reads records one by one.
+//! Reads the records of a stream one by one.
 ghost use Rattle.std.specs.Prelude.{◌≡◌, ◌≢◌, ◌+◌, ◌*◌, ◌≤◌, Option};
 ghost use Rattle.isa_model.specs.Machine.MachineStates.{AreBytes};
 ghost use Rattle.frames.specs.Readers.{Position, Fresh, At};
@@ -65,8 +65,8 @@ impl<R: Read> FrameReader<R> {
         }
     }
 
-    /// Reads the magic, and answers the stream's version, 1 or 2, or the fault in its place. If the
-    /// magic was read before, it reads nothing, and answers the same again.
+    /// Reads the magic, and returns the stream's version, 1 or 2, or else the fault. If the
+    /// magic was read before, it reads nothing, and returns the same again.
     pub fn begin(&mut self) -> Result<u8, (Fault, u64)>
         ensures opens { OpensStream self.old.position (R.remaining self.old.source)
             (R.remaining self.new.source) self.new.position }
@@ -87,7 +87,7 @@ impl<R: Read> FrameReader<R> {
     /// if it was not read before.
     ///
     /// The source's first error, of any kind, is the fault `ReadFailed`, and nothing is tried
-    /// again. After the end or a fault each further call answers the same and reads nothing.
+    /// again. After the end or a fault each further call returns the same and reads nothing.
     #[inline(always)]
     pub fn next(&mut self, buffer: &mut [u8; MAX_PACKET]) -> Next
         ensures finds { Finds self.old.position (R.remaining self.old.source)
@@ -146,7 +146,7 @@ fn stage_after(version: Version, number: u32, offset: u64, next: &Next) -> Stage
     }
 }
 
-// Reads the magic, or says which fault is in its place.
+// Reads the magic, or returns the fault that was found instead.
 #[cold]
 #[inline(never)]
 fn read_magic<R: Read>(source: &mut R) -> Result<Version, Fault>
@@ -169,7 +169,7 @@ fn read_magic<R: Read>(source: &mut R) -> Result<Version, Fault>
     }
 }
 
-// What its type says of a body.
+// Makes known to proofs what the type of a body says.
 fn in_range(body: &[u8])
     ensures { AreBytes body.now }
 {

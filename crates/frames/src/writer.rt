@@ -1,4 +1,4 @@
-//! Writes records.
+//! Writes the records of a stream one by one.
 ghost use Rattle.std.specs.Prelude.{◌<◌, ◌≤◌, ◌++◌, length, drop, OnOk, OnErr};
 ghost use Rattle.std.specs.Io.KnownBytes.{Appends};
 ghost use Rattle.isa_model.specs.declared.versions.Version.TheVariants.{One, Two};
@@ -12,8 +12,7 @@ use isa_model::{FrameHead, Version};
 use std::io;
 use std::io::Write;
 
-/// A writer answered an error, or took no byte of those that it was given. What its error said is
-/// not kept.
+/// A writer returned an error, or took none of the bytes. The error itself is not kept.
 #[derive(Clone, Copy, PartialEq, Eq, Debug)]
 pub struct Unwritten;
 

@@ -8,7 +8,7 @@ use Rattle.std.specs.Box.Ownership.{box_owns}
 use Rattle.machine.specs.Running.{Running}
 use Rattle.machine.specs.contracts.machines.Machine.{the_row}
 
--- nothing, at null; or the machine behind the pointer, and the right to free its block
+-- nothing, at null; or the machine that the pointer points to, and the right to free its block
 abbrev pub session_owns : Option Running → Ptr → Fml
 session_owns None p = fex (p ≡ null_ptr) (λ _. ftrue)
 session_owns (Some r) p = fex Global (λ heap. box_owns (ghosts.dealloc_token heap) the_row p r)

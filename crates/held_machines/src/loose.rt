@@ -26,7 +26,7 @@ impl<T: Drop, A: Allocator> Loose<T, A> {
         Loose { at, alloc }
     }
 
-    /// The box again.
+    /// Makes the box again.
     pub fn into_box(self) -> Box<T, A>
         ensures { result.value ≡ self.value }
     {

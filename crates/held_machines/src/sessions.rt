@@ -1,4 +1,4 @@
-//! Sessions: what C holds of a program that stays open.
+//! Sessions: the pointers by which C holds programs that stay open.
 
 ghost use Rattle.std.specs.Prelude.{◌≡◌, Option, None, Some};
 ghost use Rattle.std.specs.Option.{option_map};
@@ -12,14 +12,14 @@ use std::marker::Model;
 use std::mem::replace;
 use std::ptr::null_mut;
 
-/// What is behind a session's pointer: nothing that C may read.
+/// What a session's pointer points to: nothing that C may read.
 #[repr(C)]
 pub struct Opaque {
     unused: u8,
 }
 
 /// A program that stays open, or nothing: then the pointer is null. Only the calls below change it,
-/// and a copy of it is not one more.
+/// and a copy of it is no second session.
 ///
 /// Contracts see the machine that it holds.
 #[repr(C)]

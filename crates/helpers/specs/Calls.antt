@@ -36,12 +36,12 @@ found None = Number 0
 abbrev pub ChangesOne : ℕ → List MapState → List MapState → Type 0
 ChangesOne m old new = new ≡ slice_set old m (map_at new m)
 
--- An update and a delete answer 0 or an error.
+-- an update and a delete answer 0 or an error
 abbrev pub IsNumberAnswer : Answer → (ℕ → Type 0) → Type 0
 IsNumberAnswer (Number n) P = P n
 IsNumberAnswer (Value place) P = ⊥
 
--- A look-up and the time leave the maps as they are. An update and a delete change only their map.
+-- a look-up and the time leave the maps as they are, an update and a delete change only their map
 abbrev pub AnswersAt : (clock : ℕ → ℕ) → Helper → (map : ℕ) → (key value : List ℕ) → (flags : ℕ)
     → (old : List MapState) → Answer → (new : List MapState) → Type 0
 AnswersAt clock MapLookupElem m key value flags old answer new =

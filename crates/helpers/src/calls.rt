@@ -7,7 +7,7 @@ use isa_model::{Clock, Helper};
 use maps::Maps;
 
 /// What a program asks of a helper. A map is named by its index, and a key and a value have the
-/// sizes of its row. What the helper does not take is not looked at.
+/// sizes of its row. Arguments that the helper does not take are ignored.
 #[derive(Clone, Copy)]
 pub struct Request<'a> {
     pub helper: Helper,

@@ -1,8 +1,8 @@
 //! The helpers that programs call, on the maps of an image and on a clock.
 //!
-//! A machine tests the kinds of the arguments, and reads the bytes of keys and values, before it
-//! makes a request. `specs/Calls.antt` says what each request is answered, and what it makes of the
-//! maps.
+//! A machine tests what the arguments are, and reads the bytes of keys and values, before it makes
+//! a request. `specs/Calls.antt` says what the answer to each request is, and what it
+//! changes in the maps.
 #![tactic(auto)]
 
 pub mod calls;

@@ -23,8 +23,8 @@ use Rattle.checked_vm.specs.Machines.{LoadedProgram as Checking}
 use Rattle.host.specs.declared.errors.HostError.{HostError}
 use Rattle.host.specs.declared.tallies.Tally.{Tally}
 use Rattle.host.specs.declared.traced.Traced.{Traced}
-use Rattle.host.specs.Stops.{Noted, Noting, nothing_noted, checked_notes, TellsNoted, TellsTraced}
-use Rattle.host.specs.Tallies.{tallied, TellsTally}
+use Rattle.host.specs.Stops.{Noted, Noting, nothing_noted, checked_notes, ShowsNoted, ShowsTraced}
+use Rattle.host.specs.Tallies.{tallied, ShowsTally}
 use Rattle.host.specs.Writing.{Outputs, WroteBefore, WritesEach}
 use Rattle.host.specs.Reported.{Reports, ReportsBy, front_in}
 use Rattle.host.specs.Accepted.{ReportsRun, RunsWhole, RunsFront}
@@ -33,7 +33,8 @@ use Rattle.host.proofs.Turns.{turns_pieces-append}
 use Rattle.host.proofs.Fronts.{first_pieces}
 
 -- a machine's answer is the turn of its program
-pub turn-AnswersRun : (r : Running) (head : FrameHead) (packet : List ℕ) (clock : ℕ → ℕ) (exit : TheExit) (after : List ℕ) (left : List KeyValues) (coming : ℕ → ℕ)
+pub turn-AnswersRun : (r : Running) (head : FrameHead) (packet : List ℕ) (clock : ℕ → ℕ)
+    (exit : TheExit) (after : List ℕ) (left : List KeyValues) (coming : ℕ → ℕ)
     → AnswersRun r head packet clock exit after left coming
     → ((turn r.program r.bound clock head packet r.contents).ends ≡ Exit exit.r0 exit.steps)
     × ((turn r.program r.bound clock head packet r.contents).packet ≡ after)
@@ -41,7 +42,8 @@ pub turn-AnswersRun : (r : Running) (head : FrameHead) (packet : List ℕ) (cloc
 turn-AnswersRun r head packet clock exit after left coming h =
     let o = h.outcome in
     let same = turn-outcome r.program head packet r.contents clock o r.bound h.found h.few in
-    let numbers : Exit o.number o.steps ≡ Exit exit.r0 exit.steps = rw (h.number_is, h.steps_are) refl in (
+    let numbers : Exit o.number o.steps ≡ Exit exit.r0 exit.steps =
+    rw (h.number_is, h.steps_are) refl in (
       ap (λ (t : Turn). t.ends) same ∙ numbers,
       ap (λ (t : Turn). t.packet) same ∙ sym h.packet_is,
       ap (λ (t : Turn). t.contents) same ∙ sym h.contents_are,
@@ -50,20 +52,30 @@ turn-AnswersRun r head packet clock exit after left coming h =
 -- ---- from what a machine writes to the reports
 
 -- However a stream goes on after these packet frames, its checked report begins with their pieces.
-front_goes_on : (limit : ℕ) (program : Version) (rows : List MapDef) (rule : Rule) (contents : List KeyValues) (v : Version) (frames more : List PacketFrame) (finish : Finish)
-    → (rest : List OutputPart) × (report_of limit program rows rule contents (stream_with v (frames ++ more, finish)) ≡ front_in (record { limit = limit; program = program; stream = v }) rule contents frames ++ rest)
+front_goes_on : (limit : ℕ) (program : Version) (rows : List MapDef) (rule : Rule)
+    (contents : List KeyValues) (v : Version) (frames more : List PacketFrame) (finish : Finish)
+    → (rest : List OutputPart)
+    × (report_of limit program rows rule contents (stream_with v (frames ++ more, finish))
+    ≡ front_in (record { limit = limit; program = program; stream = v }) rule contents frames
+    ++ rest)
 front_goes_on limit program rows rule contents v frames more finish =
     let form : ReportForm = record { limit = limit; program = program; stream = v } in
-    let later = turns_pieces form rule (0 + length frames) (contents_after rule contents frames) more in
-    let closing = maps_pieces 0 rows (contents_after rule contents (frames ++ more)) ++ ToReport (last_line (length (frames ++ more)) finish) ∷ [] in (
+    let later = turns_pieces form rule (0 + length frames)
+    (contents_after rule contents frames) more in
+    let closing = maps_pieces 0 rows (contents_after rule contents (frames ++ more))
+    ++ ToReport (last_line (length (frames ++ more)) finish) ∷ [] in (
       later ++ closing,
-      ap (λ (l : List OutputPart). (ToFrames (stream_magic v) ∷ l) ++ closing) (turns_pieces-append form rule 0 contents frames more)
+      ap (λ (l : List OutputPart). (ToFrames (stream_magic v) ∷ l) ++ closing)
+          (turns_pieces-append form rule 0 contents frames more)
           ∙ append_assoc (front_in form rule contents frames) later closing,
     )
 
 -- what a machine with checks writes is the checked report
-pub Reports-By : (p : Program) (limit : ℕ) (source : Option (List ℕ)) (old new : Outputs) (result : Result Traced HostError)
-    → ReportsBy source limit p.version p.maps (checked_rule p limit) (starting_contents p.maps) (TellsTraced p limit) old new result → Reports source (checked_report p limit) (TellsTraced p limit) old new result
+pub Reports-By : (p : Program) (limit : ℕ) (source : Option (List ℕ)) (old new : Outputs)
+    (result : Result Traced HostError)
+    → ReportsBy source limit p.version p.maps (checked_rule p limit) (starting_contents p.maps)
+    (ShowsTraced p limit) old new result
+    → Reports source (checked_report p limit) (ShowsTraced p limit) old new result
 Reports-By p limit source old new result (inl r) = inl r
 Reports-By p limit source old new result (inr (error, is, r)) = inr (
   error,
@@ -74,37 +86,59 @@ Reports-By p limit source old new result (inr (error, is, r)) = inr (
     are_open = r.are_open;
     begun = r.begun;
     writes = λ more finish.
-        let (rest, whole) = front_goes_on limit p.version p.maps (checked_rule p limit) (starting_contents p.maps) r.version r.frames more finish in
-        subst (λ (l : List OutputPart). WroteBefore old new l error) (sym whole) (WroteBefore-more old new _ rest error r.writes);
+        let (rest, whole) = front_goes_on limit p.version p.maps (checked_rule p limit)
+        (starting_contents p.maps) r.version r.frames more finish in
+        subst (λ (l : List OutputPart). WroteBefore old new l error) (sym whole)
+        (WroteBefore-more old new _ rest error r.writes);
   },
 )
 
 -- the same of the checked machine that was made of the program and its maps as they start
-abbrev TellsOf : Checking → ℕ → Noted → Stream → Traced → Type 0
-TellsOf m limit noted = TellsNoted (checked_notes m.program limit) (checked_rule m.program limit) noted m.contents
+abbrev AgreesOf : Checking → ℕ → Noted → Stream → Traced → Type 0
+AgreesOf m limit noted =
+    ShowsNoted (checked_notes m.program limit) (checked_rule m.program limit) noted m.contents
 
-pub Reports-machine : (p : Program) (limit : ℕ) (source : Option (List ℕ)) (old new : Outputs) (result : Result Traced HostError) (program : Version) (m : Checking) (noted : Noted) → program ≡ p.version
+pub Reports-machine : (p : Program) (limit : ℕ) (source : Option (List ℕ)) (old new : Outputs)
+    (result : Result Traced HostError) (program : Version) (m : Checking) (noted : Noted)
+    → program ≡ p.version
     → m ≡ record { program = p; contents = starting_contents p.maps } → noted ≡ nothing_noted
-    → ReportsBy source limit program m.program.maps (checked_rule m.program limit) m.contents (TellsOf m limit noted) old new result → Reports source (checked_report p limit) (TellsTraced p limit) old new result
+    → ReportsBy source limit program m.program.maps (checked_rule m.program limit) m.contents
+    (AgreesOf m limit noted) old new result
+    → Reports source (checked_report p limit) (ShowsTraced p limit) old new result
 Reports-machine p limit source old new result program m noted version made none r =
-    let versioned = subst (λ (v : Version). ReportsBy source limit v m.program.maps (checked_rule m.program limit) m.contents (TellsOf m limit noted) old new result) version r in
-    let nothing = subst (λ (x : Noted). ReportsBy source limit p.version m.program.maps (checked_rule m.program limit) m.contents (TellsOf m limit x) old new result) none versioned in
+    let versioned = subst
+    (λ (v : Version). ReportsBy source limit v m.program.maps
+    (checked_rule m.program limit) m.contents (AgreesOf m limit noted) old new result) version
+    r in
+    let nothing = subst
+    (λ (x : Noted). ReportsBy source limit p.version m.program.maps
+    (checked_rule m.program limit) m.contents (AgreesOf m limit x) old new result) none
+    versioned in
     Reports-By p limit source old new result
-    (subst (λ (q : Checking). ReportsBy source limit p.version q.program.maps (checked_rule q.program limit) q.contents (TellsOf q limit nothing_noted) old new result) made nothing)
+    (subst (λ (q : Checking). ReportsBy source limit p.version q.program.maps
+    (checked_rule q.program limit) q.contents (AgreesOf q limit nothing_noted) old new result)
+    made nothing)
 
 -- the report of a stream, and the exits of its frames' runs
 reported : (a : Bounded) (found : Stream) → IsVerified a → AreOpen found.version found.frames
-    → IsReport a.program found (checked_report a.program a.bound found) × AllExit a.program a.bound (starting_contents a.program.maps) found.frames
+    → IsReport a.program found (checked_report a.program a.bound found)
+    × AllExit a.program a.bound (starting_contents a.program.maps) found.frames
 reported a found h open_here =
-    IsReport-checked a.program a.bound found (IsProgram-IsImage a.program h.image) h.ends (IsImage-starting_contents a.program h.image) open_here.fit
+    IsReport-checked a.program a.bound found (IsProgram-IsImage a.program h.image) h.ends
+    (IsImage-starting_contents a.program h.image) open_here.fit
 
 -- what was written of an accepted program's turns is its report
-pub ReportsRun-By : (a : Bounded) (source : Option (List ℕ)) (old new : Outputs) (result : Result Tally HostError) → IsVerified a
-    → ReportsBy source a.bound a.program.version a.program.maps (checked_rule a.program a.bound) (starting_contents a.program.maps) TellsTally old new result → ReportsRun a source old new result
+pub ReportsRun-By : (a : Bounded) (source : Option (List ℕ)) (old new : Outputs)
+    (result : Result Tally HostError) → IsVerified a
+    → ReportsBy source a.bound a.program.version a.program.maps (checked_rule a.program a.bound)
+    (starting_contents a.program.maps) ShowsTally old new result
+    → ReportsRun a source old new result
 ReportsRun-By a source old new result h r = record { some = h.some; most = h.most; reports = go r }
   where
-    go : ReportsBy source a.bound a.program.version a.program.maps (checked_rule a.program a.bound) (starting_contents a.program.maps) TellsTally old new result
-        → RunsWhole a source old new result ⊎ ((error : HostError) × (result ≡ Err error) × RunsFront a source old new error)
+    go : ReportsBy source a.bound a.program.version a.program.maps (checked_rule a.program a.bound)
+        (starting_contents a.program.maps) ShowsTally old new result
+        → RunsWhole a source old new result
+        ⊎ ((error : HostError) × (result ≡ Err error) × RunsFront a source old new error)
     go (inl r) =
         let (is_report, exits) = reported a r.found h r.are_open in
         inl (record {
@@ -118,7 +152,8 @@ ReportsRun-By a source old new result h r = record { some = h.some; most = h.mos
           tells = r.tells;
         })
     go (inr (error, is, r)) =
-        let (is_report, exits) = reported a (stream_with r.version (r.frames, finish.End)) h r.are_open in
+        let (is_report, exits) =
+        reported a (stream_with r.version (r.frames, finish.End)) h r.are_open in
         inr (
           error,
           is,
@@ -129,42 +164,70 @@ ReportsRun-By a source old new result h r = record { some = h.some; most = h.mos
             begun = r.begun;
             exits = exits;
             writes = λ more finish pieces report.
-                let (rest, whole) = first_pieces a.program a.bound r.version r.frames more finish pieces exits report in
-                subst (λ (l : List OutputPart). WroteBefore old new l error) (sym whole) (WroteBefore-more old new _ rest error r.writes);
+                let (rest, whole) =
+                first_pieces a.program a.bound r.version r.frames more finish pieces exits report in
+                subst (λ (l : List OutputPart). WroteBefore old new l error) (sym whole)
+                (WroteBefore-more old new _ rest error r.writes);
           },
         )
 
--- what is noted of frames aside
-WritesEach-tallied : (old new : Outputs) (result : Result Traced HostError) (pieces : List OutputPart) → WritesEach old new result pieces → WritesEach old new (tallied result) pieces
+-- without what is noted of frames
+WritesEach-tallied : (old new : Outputs) (result : Result Traced HostError)
+    (pieces : List OutputPart) → WritesEach old new result pieces
+    → WritesEach old new (tallied result) pieces
 WritesEach-tallied old new (Ok traced) pieces w = w
 WritesEach-tallied old new (Err e) pieces w = w
 
-tells-tallied : (notes : Noting) (rule : Rule) (noted : Noted) (contents : List KeyValues) (found : Stream) (result : Result Traced HostError)
-    → IfOk result (TellsNoted notes rule noted contents found) → IfOk (tallied result) (TellsTally found)
-tells-tallied notes rule noted contents found (Ok traced) h = h.0
-tells-tallied notes rule noted contents found (Err e) h = tt
+agrees-tallied : (notes : Noting) (rule : Rule) (noted : Noted) (contents : List KeyValues)
+    (found : Stream) (result : Result Traced HostError)
+    → IfOk result (ShowsNoted notes rule noted contents found)
+    → IfOk (tallied result) (ShowsTally found)
+agrees-tallied notes rule noted contents found (Ok traced) h = h.0
+agrees-tallied notes rule noted contents found (Err e) h = tt
 
-ReportsBy-tallied : (source : Option (List ℕ)) (limit : ℕ) (program : Version) (rows : List MapDef) (rule : Rule) (contents : List KeyValues) (notes : Noting) (noted : Noted) (old new : Outputs) (result : Result Traced HostError)
-    → ReportsBy source limit program rows rule contents (TellsNoted notes rule noted contents) old new result → ReportsBy source limit program rows rule contents TellsTally old new (tallied result)
-ReportsBy-tallied source limit program rows rule contents notes noted old new result (inl r) = inl (record {
-  found = r.found;
-  are_open = r.are_open;
-  read = r.read;
-  writes = WritesEach-tallied old new result _ r.writes;
-  tells = tells-tallied notes rule noted contents r.found result r.tells;
-})
-ReportsBy-tallied source limit program rows rule contents notes noted old new result (inr (error, is, r)) = inr (error, ap tallied is, r)
+ReportsBy-tallied : (source : Option (List ℕ)) (limit : ℕ) (program : Version) (rows : List MapDef)
+    (rule : Rule) (contents : List KeyValues) (notes : Noting) (noted : Noted) (old new : Outputs)
+    (result : Result Traced HostError)
+    → ReportsBy source limit program rows rule contents
+    (ShowsNoted notes rule noted contents) old new result
+    → ReportsBy source limit program rows rule contents ShowsTally old new (tallied result)
+ReportsBy-tallied source limit program rows rule contents notes noted old new result (inl r) =
+    inl (record {
+      found = r.found;
+      are_open = r.are_open;
+      read = r.read;
+      writes = WritesEach-tallied old new result _ r.writes;
+      tells = agrees-tallied notes rule noted contents r.found result r.tells;
+    })
+ReportsBy-tallied source limit program rows rule contents notes noted old new result
+    (inr (error, is, r)) = inr (error, ap tallied is, r)
 
 -- the same of the machine that was made of the program and its maps as they start, with its bound
 -- as the limit
-pub ReportsRun-machine : (a : Bounded) (source : Option (List ℕ)) (old new : Outputs) (result : Result Traced HostError) (limit : ℕ) (program : Version) (contents : List KeyValues) (m : Running) (notes : Noting) (noted : Noted) → IsVerified a
-    → limit ≡ a.bound → program ≡ a.program.version → contents ≡ starting_contents a.program.maps → m ≡ record { program = a.program; bound = a.bound; contents = contents }
-    → ReportsBy source limit program m.program.maps (checked_rule m.program m.bound) m.contents (TellsNoted notes (checked_rule m.program m.bound) noted m.contents) old new result
+pub ReportsRun-machine : (a : Bounded) (source : Option (List ℕ)) (old new : Outputs)
+    (result : Result Traced HostError) (limit : ℕ) (program : Version) (contents : List KeyValues)
+    (m : Running) (notes : Noting) (noted : Noted) → IsVerified a
+    → limit ≡ a.bound → program ≡ a.program.version → contents ≡ starting_contents a.program.maps
+    → m ≡ record { program = a.program; bound = a.bound; contents = contents }
+    → ReportsBy source limit program m.program.maps (checked_rule m.program m.bound) m.contents
+    (ShowsNoted notes (checked_rule m.program m.bound) noted m.contents) old new result
     → ReportsRun a source old new (tallied result)
-ReportsRun-machine a source old new result limit program contents m notes noted h bound version start made r =
-    let tallied_only = ReportsBy-tallied source limit program m.program.maps (checked_rule m.program m.bound) m.contents notes noted old new result r in
-    let bounded = subst (λ n. ReportsBy source n program m.program.maps (checked_rule m.program m.bound) m.contents TellsTally old new (tallied result)) bound tallied_only in
-    let versioned = subst (λ (v : Version). ReportsBy source a.bound v m.program.maps (checked_rule m.program m.bound) m.contents TellsTally old new (tallied result)) version bounded in
-    let by_program = subst (λ (q : Running). ReportsBy source a.bound a.program.version q.program.maps (checked_rule q.program q.bound) q.contents TellsTally old new (tallied result)) made versioned in
+ReportsRun-machine a source old new result limit program contents m notes noted h bound version
+    start made r =
+    let tallied_only = ReportsBy-tallied source limit program m.program.maps
+    (checked_rule m.program m.bound) m.contents notes noted old new result r in
+    let bounded = subst
+    (λ n. ReportsBy source n program m.program.maps
+    (checked_rule m.program m.bound) m.contents ShowsTally old new (tallied result)) bound
+    tallied_only in
+    let versioned = subst
+    (λ (v : Version). ReportsBy source a.bound v m.program.maps
+    (checked_rule m.program m.bound) m.contents ShowsTally old new (tallied result)) version
+    bounded in
+    let by_program = subst
+    (λ (q : Running). ReportsBy source a.bound a.program.version q.program.maps
+    (checked_rule q.program q.bound) q.contents ShowsTally old new (tallied result)) made
+    versioned in
     ReportsRun-By a source old new (tallied result) h
-    (subst (λ (c : List KeyValues). ReportsBy source a.bound a.program.version a.program.maps (checked_rule a.program a.bound) c TellsTally old new (tallied result)) start by_program)
+    (subst (λ (c : List KeyValues). ReportsBy source a.bound a.program.version a.program.maps
+    (checked_rule a.program a.bound) c ShowsTally old new (tallied result)) start by_program)

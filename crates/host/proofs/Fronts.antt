@@ -22,7 +22,8 @@ module _ (p : Program) (n : ℕ) where
   turn_if contents f runs = if runs then Some (checked_rule p n f.head f.body contents) else None
 
   module _ (form : ReportForm) (number : ℕ) (contents : List KeyValues) (f : PacketFrame) where
-    exit_pieces : (o : Outcome) → frame_pieces form number f (turn_by o) ≡ frame_pieces (limited form) number f (turn_by o)
+    exit_pieces : (o : Outcome)
+        → frame_pieces form number f (turn_by o) ≡ frame_pieces (limited form) number f (turn_by o)
     unfolding frame_pieces frame_line
     exit_pieces o = refl
 
@@ -31,48 +32,70 @@ module _ (p : Program) (n : ℕ) where
     kept_pieces = refl
 
     -- one frame's pieces, and what it leaves
-    one_frame : (runs : Bool) (pieces : List OutputPart) (next after : List KeyValues) → ExitsOn p n contents f runs next → ReportsFrame form p number contents f runs pieces after
-        → (pieces ≡ turn_pieces (limited form) number f (turn_if contents f runs)) × (after ≡ contents_left contents (turn_if contents f runs)) × (next ≡ contents_left contents (turn_if contents f runs))
+    one_frame : (runs : Bool) (pieces : List OutputPart) (next after : List KeyValues)
+        → ExitsOn p n contents f runs next → ReportsFrame form p number contents f runs pieces after
+        → (pieces ≡ turn_pieces (limited form) number f (turn_if contents f runs))
+        × (after ≡ contents_left contents (turn_if contents f runs))
+        × (next ≡ contents_left contents (turn_if contents f runs))
     one_frame false pieces next after on h = (h.0 ∙ kept_pieces, h.1, on)
     one_frame true pieces next after on h =
         let (o, found, few, leaves) = on in
         let (q, also, was, left) = h in
-        let one : q ≡ o = HasOutcome-same p f.head f.body contents (λ k. f.head.time) q o also found in
-        let same : checked_rule p n f.head f.body contents ≡ turn_by o = turn-outcome p f.head f.body contents (λ k. f.head.time) o n found few in (
-          was ∙ ap (λ (x : Outcome). frame_pieces form number f (turn_by x)) one ∙ exit_pieces o ∙ ap (λ (t : Turn). frame_pieces (limited form) number f t) (sym same),
+        let one : q ≡ o = HasOutcome-same p f.head f.body contents
+        (λ k. f.head.time) q o also found in
+        let same : checked_rule p n f.head f.body contents ≡ turn_by o =
+        turn-outcome p f.head f.body contents (λ k. f.head.time) o n found few in (
+          was ∙ ap (λ (x : Outcome). frame_pieces form number f (turn_by x)) one ∙ exit_pieces o
+              ∙ ap (λ (t : Turn). frame_pieces (limited form) number f t) (sym same),
           left ∙ ap (λ (x : Outcome). x.contents) one ∙ ap (λ (t : Turn). t.contents) (sym same),
           leaves ∙ ap (λ (t : Turn). t.contents) (sym same),
         )
 
   -- the pieces of frames whose runs exit, from any number on
-  first_frames : (form : ReportForm) (number : ℕ) (contents : List KeyValues) (fs gs : List PacketFrame) (turns : List OutputPart) (last : List KeyValues) → AllExit p n contents fs
-      → ReportsFrames form p number contents (fs ++ gs) turns last → (rest : List OutputPart) × (turns ≡ turns_pieces (limited form) (checked_rule p n) number contents fs ++ rest)
+  first_frames : (form : ReportForm) (number : ℕ) (contents : List KeyValues)
+      (fs gs : List PacketFrame) (turns : List OutputPart) (last : List KeyValues)
+      → AllExit p n contents fs
+      → ReportsFrames form p number contents (fs ++ gs) turns last
+      → (rest : List OutputPart)
+      × (turns ≡ turns_pieces (limited form) (checked_rule p n) number contents fs ++ rest)
   first_frames form number contents [] gs turns last exits h = (turns, refl)
   first_frames form number contents (f ∷ fs) gs turns last exits h =
       let (next, on, all) = exits in
       let (front, behind, after, one, split, more) = h in
       let rule = checked_rule p n in
       let t = turn_on rule contents f in
-      let (is, leaves, exits_to) = one_frame form number contents f (f.reason == 0) front next after on one in
+      let (is, leaves, exits_to) =
+      one_frame form number contents f (f.reason == 0) front next after on one in
       let all_left = subst (λ (c : List KeyValues). AllExit p n c fs) exits_to all in
-      let more_left = subst (λ (c : List KeyValues). ReportsFrames form p (number + 1) c (fs ++ gs) behind last) leaves more in
-      let (rest, same) = first_frames form (number + 1) (contents_left contents t) fs gs behind last all_left more_left in
+      let more_left = subst
+      (λ (c : List KeyValues). ReportsFrames form p (number + 1) c (fs ++ gs) behind last)
+      leaves more in
+      let (rest, same) = first_frames form (number + 1)
+      (contents_left contents t) fs gs behind last all_left more_left in
       let here = turn_pieces (limited form) number f t in
       let later = turns_pieces (limited form) rule (number + 1) (contents_left contents t) fs in (
         rest,
-        split ∙ ap (λ (l : List OutputPart). l ++ behind) is ∙ ap (λ (l : List OutputPart). here ++ l) same ∙ sym (append_assoc here later rest),
+        split ∙ ap (λ (l : List OutputPart). l ++ behind) is
+            ∙ ap (λ (l : List OutputPart). here ++ l) same ∙ sym (append_assoc here later rest),
       )
 
   -- a report begins with the magic and the first frames' pieces
-  pub first_pieces : (v : Version) (frames more : List PacketFrame) (finish : Finish) (pieces : List OutputPart) → AllExit p n (starting_contents p.maps) frames
+  pub first_pieces : (v : Version) (frames more : List PacketFrame) (finish : Finish)
+      (pieces : List OutputPart) → AllExit p n (starting_contents p.maps) frames
       → IsReport p (stream_with v (frames ++ more, finish)) pieces
-      → (rest : List OutputPart) × (pieces ≡ front_in (record { limit = n; program = p.version; stream = v }) (checked_rule p n) (starting_contents p.maps) frames ++ rest)
+      → (rest : List OutputPart)
+      × (pieces ≡ front_in (record { limit = n; program = p.version; stream = v })
+      (checked_rule p n) (starting_contents p.maps) frames ++ rest)
   first_pieces v frames more finish pieces exits h =
       let found = stream_with v (frames ++ more, finish) in
       let form = report_form_of p found in
-      let (rest, same) = first_frames form 0 (starting_contents p.maps) frames more h.turns h.last exits h.frames in
-      let front = turns_pieces (limited form) (checked_rule p n) 0 (starting_contents p.maps) frames in
-      let closing = maps_pieces 0 p.maps h.last ++ ToReport (last_line (length (frames ++ more)) finish) ∷ [] in (
+      let (rest, same) = first_frames form 0
+      (starting_contents p.maps) frames more h.turns h.last exits h.frames in
+      let front = turns_pieces (limited form) (checked_rule p n) 0
+      (starting_contents p.maps) frames in
+      let closing = maps_pieces 0 p.maps h.last
+      ++ ToReport (last_line (length (frames ++ more)) finish) ∷ [] in (
         rest ++ closing,
-        h.whole ∙ ap (λ (l : List OutputPart). (ToFrames (stream_magic v) ∷ l) ++ closing) same ∙ append_assoc (ToFrames (stream_magic v) ∷ front) rest closing,
+        h.whole ∙ ap (λ (l : List OutputPart). (ToFrames (stream_magic v) ∷ l) ++ closing) same
+            ∙ append_assoc (ToFrames (stream_magic v) ∷ front) rest closing,
       )

@@ -12,45 +12,59 @@ use Rattle.host.specs.declared.errors.HostError.{HostError}
 use Rattle.host.specs.declared.errors.HostError.TheVariants as failure
 use Rattle.host.specs.Writing.{Outputs, Wrote, WroteBefore}
 
--- what is made of the pieces of two lists in a row
-flat_map-append : {X A : Type 0} (f : X → List A) (xs ys : List X) → flat_map f (xs ++ ys) ≡ flat_map f xs ++ flat_map f ys
+-- a list that is made of two lists, one after the other
+flat_map-append : {X A : Type 0} (f : X → List A) (xs ys : List X)
+    → flat_map f (xs ++ ys) ≡ flat_map f xs ++ flat_map f ys
 flat_map-append f [] ys = refl
-flat_map-append f (x ∷ xs) ys = ap (λ l. f x ++ l) (flat_map-append f xs ys) ∙ sym (append_assoc (f x) (flat_map f xs) (flat_map f ys))
+flat_map-append f (x ∷ xs) ys = ap (λ l. f x ++ l) (flat_map-append f xs ys)
+    ∙ sym (append_assoc (f x) (flat_map f xs) (flat_map f ys))
 
 take-nil : (n : ℕ) → take {A = ℕ} n [] ≡ []
 take-nil zero = refl
 take-nil (suc n) = refl
 
--- pieces after pieces
-pub Wrote-append : (a b c : Outputs) (p q : List OutputPart) → Wrote a b p → Wrote b c q → Wrote a c (p ++ q)
+-- pieces after others
+pub Wrote-append : (a b c : Outputs) (p q : List OutputPart) → Wrote a b p → Wrote b c q
+    → Wrote a c (p ++ q)
 Wrote-append a b c p q first second = record {
-  report = rw (flat_map-append _ p q) (Appends-trans a.report b.report c.report _ _ first.report second.report);
-  frames = rw (flat_map-append _ p q) (Appends-trans a.frames b.frames c.frames _ _ first.frames second.frames);
+  report =
+      rw (flat_map-append _ p q)
+      (Appends-trans a.report b.report c.report _ _ first.report second.report);
+  frames =
+      rw (flat_map-append _ p q)
+      (Appends-trans a.frames b.frames c.frames _ _ first.frames second.frames);
 }
 
--- pieces after pieces, where a later one failed
-pub WroteBefore-append : (a b c : Outputs) (p q : List OutputPart) (e : HostError) → Wrote a b p → WroteBefore b c q e → WroteBefore a c (p ++ q) e
+-- pieces after others, where a later one failed
+pub WroteBefore-append : (a b c : Outputs) (p q : List OutputPart) (e : HostError) → Wrote a b p
+    → WroteBefore b c q e → WroteBefore a c (p ++ q) e
 WroteBefore-append a b c p q e first second = record {
   before = p ++ second.before;
   failed = second.failed;
   rest = second.rest;
   count = second.count;
-  split = ap (λ l. p ++ l) second.split ∙ sym (append_assoc p second.before (second.failed ∷ second.rest));
-  kind = second.kind;
+  split = ap (λ l. p ++ l) second.split
+      ∙ sym (append_assoc p second.before (second.failed ∷ second.rest));
+  error_is = second.error_is;
   short = second.short;
-  report = rw (flat_map-append _ p second.before, append_assoc) (Appends-trans a.report b.report c.report _ _ first.report second.report);
-  frames = rw (flat_map-append _ p second.before, append_assoc) (Appends-trans a.frames b.frames c.frames _ _ first.frames second.frames);
+  report =
+      rw (flat_map-append _ p second.before, append_assoc)
+      (Appends-trans a.report b.report c.report _ _ first.report second.report);
+  frames =
+      rw (flat_map-append _ p second.before, append_assoc)
+      (Appends-trans a.frames b.frames c.frames _ _ first.frames second.frames);
 }
 
 -- after a failure no later piece is written
-pub WroteBefore-more : (a b : Outputs) (p q : List OutputPart) (e : HostError) → WroteBefore a b p e → WroteBefore a b (p ++ q) e
+pub WroteBefore-more : (a b : Outputs) (p q : List OutputPart) (e : HostError) → WroteBefore a b p e
+    → WroteBefore a b (p ++ q) e
 WroteBefore-more a b p q e w = record {
   before = w.before;
   failed = w.failed;
   rest = w.rest ++ q;
   count = w.count;
   split = ap (λ l. l ++ q) w.split ∙ append_assoc w.before (w.failed ∷ w.rest) q;
-  kind = w.kind;
+  error_is = w.error_is;
   short = w.short;
   report = w.report;
   frames = w.frames;
@@ -58,35 +72,45 @@ WroteBefore-more a b p q e w = record {
 
 -- ---- one piece
 
-pub wrote_report : (r s f : Option (List ℕ)) (bytes : List ℕ) → Appends r s bytes → Wrote (record { report = r; frames = f }) (record { report = s; frames = f }) (ToReport bytes ∷ [])
-wrote_report r s f bytes p = record { report = subst (Appends r s) (sym (append-nil bytes)) p; frames = Appends-nil f }
+pub wrote_report : (r s f : Option (List ℕ)) (bytes : List ℕ) → Appends r s bytes
+    → Wrote (record { report = r; frames = f }) (record { report = s; frames = f })
+    (ToReport bytes ∷ [])
+wrote_report r s f bytes p =
+    record { report = subst (Appends r s) (sym (append-nil bytes)) p; frames = Appends-nil f }
 
-pub wrote_frames : (r f g : Option (List ℕ)) (bytes : List ℕ) → Appends f g bytes → Wrote (record { report = r; frames = f }) (record { report = r; frames = g }) (ToFrames bytes ∷ [])
-wrote_frames r f g bytes p = record { report = Appends-nil r; frames = subst (Appends f g) (sym (append-nil bytes)) p }
+pub wrote_frames : (r f g : Option (List ℕ)) (bytes : List ℕ) → Appends f g bytes
+    → Wrote (record { report = r; frames = f }) (record { report = r; frames = g })
+    (ToFrames bytes ∷ [])
+wrote_frames r f g bytes p =
+    record { report = Appends-nil r; frames = subst (Appends f g) (sym (append-nil bytes)) p }
 
-pub report_failed : (r s f : Option (List ℕ)) (bytes : List ℕ) (rest : List OutputPart) → AppendsBeginning r s bytes
-    → WroteBefore (record { report = r; frames = f }) (record { report = s; frames = f }) (ToReport bytes ∷ rest) failure.Report
+pub report_failed : (r s f : Option (List ℕ)) (bytes : List ℕ) (rest : List OutputPart)
+    → AppendsBeginning r s bytes
+    → WroteBefore (record { report = r; frames = f }) (record { report = s; frames = f })
+    (ToReport bytes ∷ rest) failure.Report
 report_failed r s f bytes rest p = record {
   before = [];
   failed = ToReport bytes;
   rest = rest;
   count = p.0;
   split = refl;
-  kind = refl;
+  error_is = refl;
   short = p.1;
   report = p.2;
   frames = subst (Appends f f) (sym (take-nil p.0)) (Appends-nil f);
 }
 
-pub frames_failed : (r f g : Option (List ℕ)) (bytes : List ℕ) (rest : List OutputPart) → AppendsBeginning f g bytes
-    → WroteBefore (record { report = r; frames = f }) (record { report = r; frames = g }) (ToFrames bytes ∷ rest) failure.Frames
+pub frames_failed : (r f g : Option (List ℕ)) (bytes : List ℕ) (rest : List OutputPart)
+    → AppendsBeginning f g bytes
+    → WroteBefore (record { report = r; frames = f }) (record { report = r; frames = g })
+    (ToFrames bytes ∷ rest) failure.Frames
 frames_failed r f g bytes rest p = record {
   before = [];
   failed = ToFrames bytes;
   rest = rest;
   count = p.0;
   split = refl;
-  kind = refl;
+  error_is = refl;
   short = p.1;
   report = subst (Appends r r) (sym (take-nil p.0)) (Appends-nil r);
   frames = p.2;
@@ -103,32 +127,46 @@ module _ (form : ReportForm) (number : ℕ) (frame : PacketFrame) (t : Turn) (e 
 
     -- the line failed
     pub line_failed : (r s f : Option (List ℕ)) → AppendsBeginning r s line
-        → WroteBefore (record { report = r; frames = f }) (record { report = s; frames = f }) (frame_pieces form number frame t) failure.Report
+        → WroteBefore (record { report = r; frames = f }) (record { report = s; frames = f })
+        (frame_pieces form number frame t) failure.Report
     unfolding frame_pieces
-    line_failed r s f p = report_failed r s f _ (record_pieces form frame.head t) (subst (AppendsBeginning r s) line_is p)
+    line_failed r s f p =
+        report_failed r s f _ (record_pieces form frame.head t)
+        (subst (AppendsBeginning r s) line_is p)
 
     -- the frame is not written out
     pub frame_kept : (r s f : Option (List ℕ)) → is_sent form.stream e ≡ false → Appends r s line
-        → Wrote (record { report = r; frames = f }) (record { report = s; frames = f }) (frame_pieces form number frame t)
+        → Wrote (record { report = r; frames = f }) (record { report = s; frames = f })
+        (frame_pieces form number frame t)
     unfolding frame_pieces
     frame_kept r s f sent p =
-        let kept : is_sent form.stream t.ends ≡ false = ap (is_sent form.stream) (sym ended) ∙ sent in
+        let kept : is_sent form.stream t.ends ≡ false =
+        ap (is_sent form.stream) (sym ended) ∙ sent in
         rw kept (wrote_report r s f _ (subst (Appends r s) line_is p))
 
-    module _ (bytes : List ℕ) (left : bytes ≡ t.packet) (reason : ℕ) (told : reason ≡ end_reason form.program e) (sent : is_sent form.stream e ≡ true) where
+    module _ (bytes : List ℕ) (left : bytes ≡ t.packet) (reason : ℕ)
+        (told : reason ≡ end_reason form.program e) (sent : is_sent form.stream e ≡ true) where
       -- the record as it was made is the turn's
-      record_is : frame_bytes form.stream (record { head = frame.head; body = bytes; reason = reason })
-          ≡ frame_bytes form.stream (record { head = frame.head; body = t.packet; reason = end_reason form.program t.ends })
+      record_is : frame_bytes form.stream
+          (record { head = frame.head; body = bytes; reason = reason })
+          ≡ frame_bytes form.stream
+          (record { head = frame.head; body = t.packet; reason = end_reason form.program t.ends })
       record_is =
-          ap (λ l. frame_bytes form.stream (record { head = frame.head; body = l; reason = reason })) left
-          ∙ ap (λ n. frame_bytes form.stream (record { head = frame.head; body = t.packet; reason = n })) (told ∙ ap (λ (x : End). end_reason form.program x) ended)
+          ap (λ l. frame_bytes form.stream
+          (record { head = frame.head; body = l; reason = reason })) left
+          ∙ ap (λ n. frame_bytes form.stream
+          (record { head = frame.head; body = t.packet; reason = n }))
+          (told ∙ ap (λ (x : End). end_reason form.program x) ended)
 
       goes_out : is_sent form.stream t.ends ≡ true
       goes_out = ap (is_sent form.stream) (sym ended) ∙ sent
 
       -- the frame is written out after its line
-      pub frame_sent : (r s f g : Option (List ℕ)) → Appends r s line → Appends f g (frame_bytes form.stream (record { head = frame.head; body = bytes; reason = reason }))
-          → Wrote (record { report = r; frames = f }) (record { report = s; frames = g }) (frame_pieces form number frame t)
+      pub frame_sent : (r s f g : Option (List ℕ)) → Appends r s line
+          → Appends f g
+          (frame_bytes form.stream (record { head = frame.head; body = bytes; reason = reason }))
+          → Wrote (record { report = r; frames = f }) (record { report = s; frames = g })
+          (frame_pieces form number frame t)
       unfolding frame_pieces
       frame_sent r s f g p q =
           let out : is_sent form.stream t.ends ≡ true = goes_out in
@@ -137,8 +175,11 @@ module _ (form : ReportForm) (number : ℕ) (frame : PacketFrame) (t : Turn) (e 
           (wrote_frames s f g _ (subst (Appends f g) record_is q)))
 
       -- the record failed after the line
-      pub record_failed : (r s f g : Option (List ℕ)) → Appends r s line → AppendsBeginning f g (frame_bytes form.stream (record { head = frame.head; body = bytes; reason = reason }))
-          → WroteBefore (record { report = r; frames = f }) (record { report = s; frames = g }) (frame_pieces form number frame t) failure.Frames
+      pub record_failed : (r s f g : Option (List ℕ)) → Appends r s line
+          → AppendsBeginning f g
+          (frame_bytes form.stream (record { head = frame.head; body = bytes; reason = reason }))
+          → WroteBefore (record { report = r; frames = f }) (record { report = s; frames = g })
+          (frame_pieces form number frame t) failure.Frames
       unfolding frame_pieces
       record_failed r s f g p q =
           let out : is_sent form.stream t.ends ≡ true = goes_out in
@@ -148,20 +189,32 @@ module _ (form : ReportForm) (number : ℕ) (frame : PacketFrame) (t : Turn) (e 
 
 -- ---- the pieces of a frame that is not run
 
-module _ (form : ReportForm) (number : ℕ) (frame : PacketFrame) (line : List ℕ) (is : line ≡ skip_line number (length frame.body) frame.reason) (r s f : Option (List ℕ)) where
+module _ (form : ReportForm) (number : ℕ) (frame : PacketFrame) (line : List ℕ)
+    (is : line ≡ skip_line number (length frame.body) frame.reason) (r s f : Option (List ℕ)) where
   -- the line failed
-  pub skip_line_failed : AppendsBeginning r s line → WroteBefore (record { report = r; frames = f }) (record { report = s; frames = f }) (skip_pieces form number frame) failure.Report
+  pub skip_line_failed : AppendsBeginning r s line
+      → WroteBefore (record { report = r; frames = f }) (record { report = s; frames = f })
+      (skip_pieces form number frame) failure.Report
   unfolding skip_pieces
-  skip_line_failed p = report_failed r s f _ (ToFrames (frame_bytes form.stream frame) ∷ []) (subst (AppendsBeginning r s) is p)
+  skip_line_failed p =
+      report_failed r s f _ (ToFrames (frame_bytes form.stream frame) ∷ [])
+      (subst (AppendsBeginning r s) is p)
 
   -- the record failed after the line
-  pub skip_record_failed : (g : Option (List ℕ)) → Appends r s line → AppendsBeginning f g (frame_bytes form.stream frame)
-      → WroteBefore (record { report = r; frames = f }) (record { report = s; frames = g }) (skip_pieces form number frame) failure.Frames
+  pub skip_record_failed : (g : Option (List ℕ)) → Appends r s line
+      → AppendsBeginning f g (frame_bytes form.stream frame)
+      → WroteBefore (record { report = r; frames = f }) (record { report = s; frames = g })
+      (skip_pieces form number frame) failure.Frames
   unfolding skip_pieces
   skip_record_failed g p q =
-      WroteBefore-append _ _ _ (ToReport _ ∷ []) (ToFrames _ ∷ []) _ (wrote_report r s f _ (subst (Appends r s) is p)) (frames_failed s f g _ [] q)
+      WroteBefore-append _ _ _ (ToReport _ ∷ []) (ToFrames _ ∷ []) _
+      (wrote_report r s f _ (subst (Appends r s) is p)) (frames_failed s f g _ [] q)
 
-  pub skip_written : (g : Option (List ℕ)) → Appends r s line → Appends f g (frame_bytes form.stream frame)
-      → Wrote (record { report = r; frames = f }) (record { report = s; frames = g }) (skip_pieces form number frame)
+  pub skip_written : (g : Option (List ℕ)) → Appends r s line
+      → Appends f g (frame_bytes form.stream frame)
+      → Wrote (record { report = r; frames = f }) (record { report = s; frames = g })
+      (skip_pieces form number frame)
   unfolding skip_pieces
-  skip_written g p q = Wrote-append _ _ _ (ToReport _ ∷ []) (ToFrames _ ∷ []) (wrote_report r s f _ (subst (Appends r s) is p)) (wrote_frames s f g _ q)
+  skip_written g p q =
+      Wrote-append _ _ _ (ToReport _ ∷ []) (ToFrames _ ∷ [])
+      (wrote_report r s f _ (subst (Appends r s) is p)) (wrote_frames s f g _ q)

@@ -9,7 +9,10 @@ use Rattle.host.specs.Writing.{Outputs, Wrote}
 use Rattle.host.specs.Reported.{front_in}
 
 -- These frames were found and taken, and their pieces were written.
-pub record WrittenSoFar (form : ReportForm) (rule : Rule) (start : List KeyValues) (source : Option (List ℕ)) (before : Outputs) (frames : List PacketFrame) (known : Option (List ℕ)) (position : Position) (number : ℕ) (contents : List KeyValues) (now : Outputs) : Type 0 where
+pub record WrittenSoFar (form : ReportForm) (rule : Rule) (start : List KeyValues)
+    (source : Option (List ℕ)) (before : Outputs) (frames : List PacketFrame)
+    (known : Option (List ℕ)) (position : Position) (number : ℕ) (contents : List KeyValues)
+    (now : Outputs) : Type 0 where
   pub begun : HasBegun form.stream frames source known position
   pub numbered : number ≡ length frames
   pub wrote : Wrote before now (front_in form rule start frames)

@@ -1,4 +1,4 @@
--- What a run writes of the stream that it reads.
+-- What a run with checks writes of the stream that it reads, and the run of any machine.
 use Rattle.std.specs.Prelude.{◌≡◌, ℕ, List, ◌∷◌, ◌++◌, length, Option, Result, Err, IfOk, ◌⊎◌}
 use Rattle.isa_model.specs.declared.map_defs.MapDef.{MapDef}
 use Rattle.isa_model.specs.declared.streams.Finish.{Finish}
@@ -13,15 +13,15 @@ use Rattle.host.specs.Writing.{Outputs, WritesEach, WroteBefore}
 
 -- The stream was read to its end, or to a fault: it is the stream of the source's bytes, where they
 -- are known. The heads, the lengths of the bodies and the reasons fit, and the bodies are bytes.
--- The stream's pieces were written, all of them or those before one that failed, and what the run
--- answers tells of the stream what it is to tell.
+-- The stream's pieces were written, all of them or those before one that failed, and the result of
+-- the run agrees with the stream, as `Agrees` says.
 pub record ReportsWhole {X : Type 0} (source : Option (List ℕ)) (pieces : Stream → List OutputPart)
-    (Tells : Stream → X → Type 0) (old new : Outputs) (result : Result X HostError) : Type 0 where
+    (Agrees : Stream → X → Type 0) (old new : Outputs) (result : Result X HostError) : Type 0 where
   pub found : Stream
   pub are_open : AreOpen found.version found.frames
   pub read : AreReadFrom source found
   pub writes : WritesEach old new result (pieces found)
-  pub tells : IfOk result (Tells found)
+  pub tells : IfOk result (Agrees found)
 
 -- An output failed at the magic or at a packet frame, and no more was read: the source begins with
 -- these frames, where its bytes are known. However its stream goes on and ends, the outputs hold a
@@ -41,8 +41,8 @@ pub record ReportsFront (source : Option (List ℕ)) (pieces : Stream → List O
 abbrev pub Reports : {X : Type 0} → Option (List ℕ) → (Stream → List OutputPart)
     → (Stream → X → Type 0)
     → Outputs → Outputs → Result X HostError → Type 0
-Reports source pieces Tells old new result =
-    ReportsWhole source pieces Tells old new result
+Reports source pieces Agrees old new result =
+    ReportsWhole source pieces Agrees old new result
     ⊎ ((error : HostError) × (result ≡ Err error) × ReportsFront source pieces old new error)
 
 -- ---- the same of a machine, which runs frames by a rule
@@ -65,8 +65,8 @@ pub record StopsAtFrame (source : Option (List ℕ)) (limit : ℕ) (program : Ve
 
 abbrev pub ReportsBy : {X : Type 0} → Option (List ℕ) → ℕ → Version → List MapDef → Rule
     → List KeyValues → (Stream → X → Type 0) → Outputs → Outputs → Result X HostError → Type 0
-ReportsBy source limit program rows rule contents Tells old new result =
+ReportsBy source limit program rows rule contents Agrees old new result =
     ReportsWhole source
-    (λ found. report_of limit program rows rule contents found) Tells old new result
+    (λ found. report_of limit program rows rule contents found) Agrees old new result
     ⊎ ((error : HostError) × (result ≡ Err error)
     × StopsAtFrame source limit program rule contents old new error)

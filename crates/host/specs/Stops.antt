@@ -18,7 +18,7 @@ use Rattle.host.specs.declared.stops.TheConstants.{MOST_STOPS}
 use Rattle.host.specs.declared.traced.Traced.{Traced}
 use Rattle.host.specs.Tallies.{tally_of}
 
--- the first of these frames, and how many there are
+-- the first frames that were noted, and how many were
 pub record Noted : Type 0 where
   pub first : List FrameStop
   pub count : ℕ
@@ -43,7 +43,8 @@ is_noted Limit = true
 abbrev pub with_first : List FrameStop → FrameStop → List FrameStop
 with_first first stop = if nat_lt (length first) MOST_STOPS then first ++ stop ∷ [] else first
 
--- the run of a frame with this number stopped; a stream has fewer frames than the count can be
+-- the run of the frame with this number stopped there; the count has room for every frame of a
+-- stream
 abbrev pub note : Noted → ℕ → RunEnd → Noted
 note noted number stop =
     if is_noted stop.end
@@ -53,7 +54,7 @@ note noted number stop =
     }
     else noted
 
--- ---- frames in a row
+-- ---- frames one after another
 
 -- what is noted of a frame that is run on map contents
 abbrev pub Noting : Type 0
@@ -64,14 +65,15 @@ abbrev pub noted_on : Noting → Noted → ℕ → List KeyValues → PacketFram
 noted_on notes noted number contents f =
     if f.reason == 0 then notes noted number f.head f.body contents else noted
 
--- frames by their numbers, the maps' contents carried along
+-- frames from this number on, each run on the contents that the one before left
 abbrev pub noted_after : Noting → Rule → Noted → ℕ → List KeyValues → List PacketFrame → Noted
 noted_after notes rule noted number contents [] = noted
 noted_after notes rule noted number contents (f ∷ frames) =
     noted_after notes rule (noted_on notes noted number contents f) (number + 1)
     (contents_left contents (turn_on rule contents f)) frames
 
--- where each run with checks stopped; every answer of the clock is the frame's time
+-- notes where each run on the checked machine stopped; every answer of the clock is the frame's
+-- time
 abbrev pub checked_notes : Program → ℕ → Noting
 checked_notes p limit noted number head body contents =
     note noted number (stop_of p limit (λ k. head.time) head body contents)
@@ -83,13 +85,13 @@ no_notes noted number head body contents = noted
 -- ---- whole runs
 
 -- what the last line shows, and what is noted of the stream's frames
-abbrev pub TellsNoted : Noting → Rule → Noted → List KeyValues → Stream → Traced → Type 0
-TellsNoted notes rule noted contents found traced =
+abbrev pub ShowsNoted : Noting → Rule → Noted → List KeyValues → Stream → Traced → Type 0
+ShowsNoted notes rule noted contents found traced =
     (traced.tally ≡ tally_of (length found.frames) found.finish)
     × (noted_of traced.stops ≡ noted_after notes rule noted 0 contents found.frames)
 
 -- the same of a run with checks
-abbrev pub TellsTraced : Program → ℕ → Stream → Traced → Type 0
-TellsTraced p limit found traced =
-    TellsNoted (checked_notes p limit) (checked_rule p limit) nothing_noted
+abbrev pub ShowsTraced : Program → ℕ → Stream → Traced → Type 0
+ShowsTraced p limit found traced =
+    ShowsNoted (checked_notes p limit) (checked_rule p limit) nothing_noted
     (starting_contents p.maps) found traced

@@ -1,4 +1,4 @@
--- What is counted of a run, and the fault that ended its stream.
+-- The tally of a run: how many packet frames it had, and the fault that ended its stream.
 use Rattle.std.specs.Prelude.{◌≡◌, ℕ, length, Option, Some, None, Result, Ok, Err}
 use Rattle.isa_model.specs.declared.streams.Fault.{Fault}
 use Rattle.isa_model.specs.declared.streams.Finish.{Finish}
@@ -13,15 +13,15 @@ abbrev pub fault_of : Finish → Option (Fault × ℕ)
 fault_of finish.End = None
 fault_of (finish.Fault fault offset) = Some (fault, offset)
 
--- what the last line shows, by the number of packet frames and how the stream ended
+-- what the last line shows, by how many packet frames there were and how the stream ended
 abbrev pub tally_of : ℕ → Finish → Tally
-tally_of number stop = record { frames = number; fault = fault_of stop }
+tally_of count ending = record { frames = count; fault = fault_of ending }
 
 -- the tally of a run with checks, if it came to its last line
 abbrev pub tallied : Result Traced HostError → Result Tally HostError
 tallied (Ok traced) = Ok traced.tally
 tallied (Err error) = Err error
 
--- of a tally: it is what the last line of the stream's report shows
-abbrev pub TellsTally : Stream → Tally → Type 0
-TellsTally found tally = tally ≡ tally_of (length found.frames) found.finish
+-- the tally is what the last line of the stream's report shows
+abbrev pub ShowsTally : Stream → Tally → Type 0
+ShowsTally found tally = tally ≡ tally_of (length found.frames) found.finish

@@ -6,7 +6,7 @@ use Rattle.isa_model.specs.Reporting.Reports.{OutputPart, ToReport, ToFrames, re
 use Rattle.host.specs.declared.errors.HostError.{HostError}
 use Rattle.host.specs.declared.errors.HostError.TheVariants as failure
 
--- what the report and the frames out hold, where their writers tell it
+-- what the report and the frames out hold; None where contracts do not know it
 pub record Outputs : Type 0 where
   pub report : Option (List ℕ)
   pub frames : Option (List ℕ)
@@ -20,13 +20,13 @@ abbrev pub piece_bytes : OutputPart → List ℕ
 piece_bytes (ToReport bytes) = bytes
 piece_bytes (ToFrames bytes) = bytes
 
--- which error tells of a piece that failed
+-- the error for a piece that failed
 abbrev pub failure_of : OutputPart → HostError
 failure_of (ToReport bytes) = failure.Report
 failure_of (ToFrames bytes) = failure.Frames
 
--- The outputs grew by the pieces before one that failed, and of that one by a beginning that is
--- shorter than it; neither output has anything more.
+-- the outputs grew by the pieces before one that failed, and by a beginning of that one that is
+-- shorter than it; nothing else was written
 pub record WroteBefore (old new : Outputs) (pieces : List OutputPart)
     (error : HostError) : Type 0 where
   pub before : List OutputPart
@@ -34,7 +34,7 @@ pub record WroteBefore (old new : Outputs) (pieces : List OutputPart)
   pub rest : List OutputPart
   pub count : ℕ
   pub split : pieces ≡ before ++ failed ∷ rest
-  pub kind : error ≡ failure_of failed
+  pub error_is : error ≡ failure_of failed
   pub short : count < length (piece_bytes failed)
   pub report : Appends old.report new.report
       (report_bytes before ++ take count (report_part failed))

@@ -1,9 +1,9 @@
-//! Runs on the checked machine.
+//! Runs on the checked machine over streams.
 ghost use Rattle.std.specs.Prelude.{◌≡◌, ◌≢◌, ◌≤◌};
 ghost use Rattle.isa_model.specs.Code.Limits.{max_steps};
 ghost use Rattle.isa_model.specs.Reporting.Reports.{checked_report};
 ghost use Rattle.host.specs.Reported.{Reports};
-ghost use Rattle.host.specs.Stops.{TellsTraced};
+ghost use Rattle.host.specs.Stops.{ShowsTraced};
 
 use super::clocks::FrameClock;
 use super::engine::run_frames;
@@ -62,11 +62,11 @@ impl Runner for CheckedRunner {
 }
 
 /// Runs an image's program, with every access tested, on the frames of the stream that a source
-/// gives, at most `limit` steps a frame. The report goes to one writer, and the frames that are
-/// sent on to the other.
+/// returns, at most `limit` steps a frame. The report is written to one writer, and the frames that
+/// are sent on to the other.
 ///
-/// A frame with a reason is not run, and is sent on unchanged. If a run ends without an action, it
-/// is noted where it stopped.
+/// A frame with a reason is not run, and is sent on unchanged. Where a run ends without an action,
+/// the result says where it stopped.
 ///
 /// Every answer of a frame's clock is the frame's time. Memory is taken before the first byte is
 /// written, and none after that. Nothing is tried again, and after a failure nothing is written to
@@ -87,7 +87,7 @@ pub fn run_checked<R: Read + Drop, W1: Write, W2: Write>(
         → W2.contents out.new ≡ W2.contents out.old }
     ensures reports { result ≢ Err HostError.Memory
         → Reports (R.remaining source) (checked_report image limit)
-        (TellsTraced image limit)
+        (ShowsTraced image limit)
         record { report = W1.contents report.old; frames = W2.contents out.old }
         record { report = W1.contents report.new; frames = W2.contents out.new } result }
 {

@@ -3,7 +3,7 @@ ghost use Rattle.std.specs.Prelude.{◌≡◌, ◌≢◌, ◌≤◌, [], ◌∷�
 ghost use Rattle.isa_model.specs.Code.Limits.{max_body};
 ghost use Rattle.isa_model.specs.Reporting.Reports.{ToReport, maps_pieces, last_line, frame_pieces, skip_pieces, turn_pieces, turn_on, contents_left};
 ghost use Rattle.host.specs.Forms.{report_form_by};
-ghost use Rattle.host.specs.Stops.{noted_of, noted_on, TellsNoted};
+ghost use Rattle.host.specs.Stops.{noted_of, noted_on, ShowsNoted};
 ghost use Rattle.host.specs.Tallies.{tally_of};
 ghost use Rattle.host.specs.Writing.{WritesEach, WritesReport};
 ghost use Rattle.host.specs.Reported.{ReportsBy};
@@ -12,8 +12,8 @@ use super::errors::HostError;
 use super::forms::ReportForm;
 use super::lines::{line_of_finish, line_of_frame, line_of_skip};
 use super::listings::write_maps;
+use super::magics::write_magic;
 use super::reasons::{end_reason, is_written};
-use super::records::write_magic;
 use super::runners::Runner;
 use super::tallies::Tally;
 use super::traced::Traced;
@@ -22,7 +22,7 @@ use frames::{FrameReader, Next, write_record, write_whole};
 use isa_model::{Finish, FrameHead, MAX_PACKET, Version};
 use std::io::{Read, Write};
 
-// A frame of the stream, beside its bytes: its number, its head, and its reason.
+// A frame of the stream without its bytes: its number, its head, and its reason.
 #[derive(Clone, Copy)]
 struct Arrival {
     number: u32,
@@ -171,9 +171,9 @@ fn end_run<M: Runner + Drop, W1: Write>(
     }
 }
 
-/// Runs the frames of the stream that a source gives, by a program of this version. The report goes
-/// to one writer, and the frames out to the other, after the same magic as the stream's. Answers
-/// what the machine noted of the frames.
+/// Runs a program of this version on the frames of the stream that a source returns. The report is
+/// written to one writer, and the frames out to the other, after the stream's magic. Returns what
+/// the machine noted of the frames.
 pub fn run_frames<M: Runner + Drop, R: Read + Drop, W1: Write, W2: Write>(
     mut machine: M,
     limit: u32,
@@ -184,7 +184,7 @@ pub fn run_frames<M: Runner + Drop, R: Read + Drop, W1: Write, W2: Write>(
 ) -> Result<Traced, HostError>
     ensures reports { ReportsBy (R.remaining source) limit program
         (M.rows machine) (M.rule machine) (M.contents machine)
-        (TellsNoted (M.notes machine) (M.rule machine) (M.noted machine) (M.contents machine))
+        (ShowsNoted (M.notes machine) (M.rule machine) (M.noted machine) (M.contents machine))
         record { report = W1.contents report.old; frames = W2.contents out.old }
         record { report = W1.contents report.new; frames = W2.contents out.new } result }
     ensures made { result ≢ Err HostError.Memory }

@@ -1,4 +1,4 @@
-//! Why a run over a stream did not come to its end.
+//! Errors: why a run over a stream stopped before its last line.
 
 ghost use Rattle.std.specs.Prelude.{◌≡◌, Some};
 ghost use Rattle.host.specs.Messages.{code_of, sentence_of};
@@ -6,12 +6,12 @@ ghost use Rattle.host.specs.Messages.{code_of, sentence_of};
 use std::error::Error;
 use std::fmt;
 
-/// Why a run over a stream did not come to its last line.
+/// Why a run over a stream stopped before its last line.
 #[derive(Clone, Copy, PartialEq, Eq, Debug)]
 pub enum HostError {
     /// Out of memory, before any byte was written.
     Memory,
-    /// The report's writer answered an error, or took no byte of those that it was given.
+    /// The report's writer returned an error, or took none of the bytes.
     Report,
     /// The same of the writer of the frames out.
     Frames,

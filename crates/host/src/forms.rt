@@ -1,4 +1,4 @@
-//! What the lines of a report depend on beside the runs.
+//! What the lines of a report depend on besides the runs.
 
 use isa_model::Version;
 

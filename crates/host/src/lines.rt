@@ -1,4 +1,4 @@
-//! The lines of the report, made in a buffer of fixed size.
+//! The report's lines of packet frames and its last line, made in a buffer of fixed size.
 ghost use Rattle.std.specs.Prelude.{◌≡◌, ◌+◌, ◌≤◌, ◌++◌, length, IfSome, decimal};
 ghost use Rattle.arrayvec.specs.ArrayString.{array_string_len};
 ghost use Rattle.isa_model.specs.Reporting.Reports.{frame_line, skip_line, last_line, reason_text};
@@ -127,7 +127,7 @@ pub fn line_of_skip(number: u32, size: usize, reason: u32) -> ReportLine
     line
 }
 
-/// The last line, by how many frames were run and how the stream ended.
+/// The last line, by how many frames were found and how the stream ended.
 #[tactic(auto, unfolding(isa_model::specs::Reporting::Reports::last_line))]
 pub fn line_of_finish(frames: u32, finish: Finish) -> ReportLine
     ensures { result.bytes ≡ last_line frames finish }

@@ -14,7 +14,7 @@ use isa_model::MapDef;
 use maps::{KEY_ROOM, Maps, Ordered};
 use std::io::Write;
 
-// Writes the line of a key, which is the front of this size, and its value.
+// Writes the line of a key and its value; the key is the first `size` bytes.
 fn write_key_value<W1: Write>(
     line: &mut KeyValueLine,
     index: usize,
@@ -40,19 +40,19 @@ fn write_key_value<W1: Write>(
 fn write_key_values<W1: Write>(
     index: usize,
     row: MapDef,
-    entries: &Ordered<'_>,
+    key_values: &Ordered<'_>,
     report: &mut W1,
 ) -> Result<(), HostError>
-    requires { AreListed row (listed_key_values entries.now) }
+    requires { AreListed row (listed_key_values key_values.now) }
     ensures writes { WritesReport (W1.contents report.old) (W1.contents report.new) result
-        (map (λ e. ToReport (map_line index e)) (listed_key_values entries.now)) }
+        (map (λ e. ToReport (map_line index e)) (listed_key_values key_values.now)) }
     ensures made { result ≢ Err HostError.Memory }
 {
     let size = row.key_size as usize;
     let mut line = KeyValueLine::new();
     let mut key = [0u8; KEY_ROOM];
     for k in 0..row.entries as usize {
-        match entries.entry(k, &mut key) {
+        match key_values.key_value(k, &mut key) {
             Some(value) => match write_key_value(&mut line, index, &key, size, value, report) {
                 Ok(()) => {}
                 Err(error) => return Err(error),
@@ -71,8 +71,8 @@ pub fn write_maps<W1: Write>(maps: &mut Maps, report: &mut W1) -> Result<(), Hos
 {
     for i in 0..maps.count() {
         let row = maps.row(i);
-        let entries = maps.order(i);
-        match write_key_values(i, row, &entries, report) {
+        let key_values = maps.order(i);
+        match write_key_values(i, row, &key_values, report) {
             Ok(()) => {}
             Err(error) => return Err(error),
         }

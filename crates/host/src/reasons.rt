@@ -26,13 +26,13 @@ pub fn reason_of(program: Version, value: u64) -> u32
     match program {
         Version::One => 1,
         Version::Two => {
-            let told = (value >> 32) as u32;
-            if told == 0 { 1 } else { told }
+            let reason = (value >> 32) as u32;
+            if reason == 0 { 1 } else { reason }
         }
     }
 }
 
-/// The reason with which a frame whose run ended so is written out.
+/// The reason with which a frame is written out, by how its run ended.
 pub fn end_reason(program: Version, end: End) -> u32
     ensures { result ≡ end_reason program end }
 {

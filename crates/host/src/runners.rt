@@ -1,4 +1,4 @@
-//! What runs packet frames.
+//! The machines that run packet frames.
 ghost use Rattle.std.specs.Prelude.{◌≡◌, ◌≤◌, length, List};
 ghost use Rattle.isa_model.specs.declared.map_defs.MapDef.{MapDef};
 ghost use Rattle.isa_model.specs.{KeyValues, max_packet};
@@ -18,7 +18,7 @@ pub trait Runner {
     /// The maps' contents.
     ghost contents: { Self → List KeyValues };
 
-    /// What running a frame on map contents gives.
+    /// The turn of a run on a frame and on map contents.
     ghost rule: { Self → Rule };
 
     /// What is noted of the frames that were run.
@@ -40,7 +40,7 @@ pub trait Runner {
         ensures rule { rule self.new ≡ rule self.old }
         ensures rows { rows self.new ≡ rows self.old };
 
-    /// Gives the maps back, and the frames that are noted.
+    /// Returns the maps, and what is noted of the frames.
     fn into_parts(self) -> (Maps, Stops)
         ensures rows { rows_of result.0 ≡ rows self }
         ensures contents { contents_of result.0 ≡ contents self }

@@ -51,7 +51,7 @@ fn is_noted(end: End) -> bool
     }
 }
 
-// Notes a frame after those that are kept, while there is room.
+// Keeps a frame after the others, while there is room.
 fn put_first(first: &mut ArrayVec<FrameStop, 20>, stop: FrameStop)
     ensures { first.new.items ≡ with_first first.old.items stop }
 {

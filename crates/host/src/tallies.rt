@@ -1,4 +1,4 @@
-//! The result of a whole run.
+//! The tally of a run over a stream.
 
 use isa_model::Fault;
 

@@ -1,4 +1,4 @@
-//! Runs of accepted programs.
+//! Runs of accepted programs over streams.
 ghost use Rattle.std.specs.Prelude.{◌≡◌, ◌≢◌};
 ghost use Rattle.host.specs.Accepted.{ReportsRun};
 
@@ -49,15 +49,15 @@ impl Runner for MachineRunner {
     }
 }
 
-/// Runs an accepted program on the packet frames of the stream that a source gives. The report goes
-/// to one writer, and the frames that are sent on to the other.
+/// Runs an accepted program on the packet frames of the stream that a source returns. The report is
+/// written to one writer, and the frames that are sent on to the other.
 ///
 /// What is written is exactly the report of the program and those frames; in every frame's run the
 /// step by step meaning of the program meets no trap, and it exits within the bound. Nothing is
-/// asked of the source: its stream may be damaged, cut off, without an end, or fail in the middle;
-/// at most 4,294,967,295 frames are run. A frame with a reason is not run, and goes out as it came.
-/// Where the source tells its bytes, the frames are those that they spell, from the first on; where
-/// it does not, as a file, they are those of some bytes.
+/// required of the source: its stream may be damaged, cut off, without an end, or fail in the
+/// middle; at most 4,294,967,295 frames are run. A frame with a reason is not run, and is sent on
+/// unchanged. Where contracts know the source's bytes, the frames are those that the bytes spell,
+/// from the first on; where they do not, as with a file, they are those of some bytes.
 ///
 /// Every answer of a frame's clock is the frame's time. Memory is taken before the first byte is
 /// written, and none after that. Nothing is tried again, and after a failure nothing is written to

@@ -15,7 +15,7 @@ pub fn version_of(number: u8) -> Version
     }
 }
 
-/// The version of a stream, by its reader's answer for the magic; version 1 if it found none.
+/// The version of a stream, by what its reader found as the magic; version 1 if it found none.
 pub fn version_begun(begun: Result<u8, (Fault, u64)>) -> Version
     ensures { IsBegunVersion begun result }
 {

@@ -1,4 +1,4 @@
--- Instructions in a row, and their slots.
+-- Laws of instructions in a row, and of their slots.
 use Rattle.std.proofs.Common.{◌≡◌, ◌≢◌, ◌+◌, Bool, true, false, List, [], ◌∷◌, ◌++◌, length, Option, Some, None, refl, ap, ◌∙◌, arith, length-append}
 use Rattle.isa_model.specs.declared.instructions.Insn.{Insn}
 use Rattle.isa_model.specs.declared.instructions.Insn.TheVariants.{LoadNumber, LoadMap, LoadMapValue}
@@ -17,8 +17,10 @@ AllFit (i ∷ is) = InsnFits i × AllFit is
 
 pub slots-append : (is js : List Insn) → slots (is ++ js) ≡ slots is ++ slots js
 slots-append [] js = refl
-slots-append (LoadNumber d n ∷ is) js = ap (λ (l : CodeSlots). Some (LoadNumber d n) ∷ None ∷ l) (slots-append is js)
-slots-append (LoadMap d m ∷ is) js = ap (λ (l : CodeSlots). Some (LoadMap d m) ∷ None ∷ l) (slots-append is js)
+slots-append (LoadNumber d n ∷ is) js =
+    ap (λ (l : CodeSlots). Some (LoadNumber d n) ∷ None ∷ l) (slots-append is js)
+slots-append (LoadMap d m ∷ is) js =
+    ap (λ (l : CodeSlots). Some (LoadMap d m) ∷ None ∷ l) (slots-append is js)
 slots-append (LoadMapValue d m o ∷ is) js =
     ap (λ (l : CodeSlots). Some (LoadMapValue d m o) ∷ None ∷ l) (slots-append is js)
 slots-append (i ∷ is) js = ap (λ (l : CodeSlots). Some i ∷ l) (slots-append is js)
@@ -44,8 +46,10 @@ length-slots (LoadMapValue d m o) = refl
 length-slots i = refl
 
 -- one more instruction adds its slots
-pub length-slots-more : (is : List Insn) (i : Insn) → length (slots (is ++ i ∷ [])) ≡ length (slots is) + slots_filled i
-length-slots-more is i = ap (λ (l : CodeSlots). length l) (slots-append is (i ∷ [])) ∙ length-append (slots is) (slots (i ∷ [])) ∙ ap (λ n. length (slots is) + n) (length-slots i)
+pub length-slots-more : (is : List Insn) (i : Insn)
+    → length (slots (is ++ i ∷ [])) ≡ length (slots is) + slots_filled i
+length-slots-more is i = ap (λ (l : CodeSlots). length l) (slots-append is (i ∷ []))
+    ∙ length-append (slots is) (slots (i ∷ [])) ∙ ap (λ n. length (slots is) + n) (length-slots i)
 
 pub IsCode-one : (i : Insn) → InsnFits i → IsCode false (slots (i ∷ []))
 IsCode-one (LoadNumber d n) h = (h, refl)
@@ -53,7 +57,8 @@ IsCode-one (LoadMap d m) h = (h, refl)
 IsCode-one (LoadMapValue d m o) h = (h, refl)
 IsCode-one i h = (h, refl)
 
-pub IsCode-append : (xs ys : List (Option Insn)) (half : Bool) → IsCode half xs → IsCode false ys → IsCode half (xs ++ ys)
+pub IsCode-append : (xs ys : List (Option Insn)) (half : Bool) → IsCode half xs → IsCode false ys
+    → IsCode half (xs ++ ys)
 IsCode-append [] ys true h k = absurd cc
 IsCode-append [] ys false h k = k
 IsCode-append (None ∷ xs) ys true h k = IsCode-append xs ys false h k
@@ -72,20 +77,25 @@ front (LoadMap d m) is = refl
 front (LoadMapValue d m o) is = refl
 front i is = refl
 
-halves-instructions : (xs : List (Option Insn)) (half : Bool) → IsCode half xs → halves half (instructions xs) ≡ xs
+halves-instructions : (xs : List (Option Insn)) (half : Bool) → IsCode half xs
+    → halves half (instructions xs) ≡ xs
 halves-instructions [] true h = absurd cc
 halves-instructions [] false h = refl
-halves-instructions (None ∷ xs) true h = ap (λ (l : CodeSlots). None ∷ l) (halves-instructions xs false h)
+halves-instructions (None ∷ xs) true h =
+    ap (λ (l : CodeSlots). None ∷ l) (halves-instructions xs false h)
 halves-instructions (Some i ∷ xs) true h = absurd h
 halves-instructions (None ∷ xs) false h = absurd h
-halves-instructions (Some i ∷ xs) false h = front i (instructions xs) ∙ ap (λ (l : CodeSlots). Some i ∷ l) (halves-instructions xs (is_wide i) h.1)
+halves-instructions (Some i ∷ xs) false h =
+    front i (instructions xs)
+    ∙ ap (λ (l : CodeSlots). Some i ∷ l) (halves-instructions xs (is_wide i) h.1)
 
 -- the slots of an image's instructions are its slots
 pub slots-instructions : (xs : List (Option Insn)) → IsCode false xs → slots (instructions xs) ≡ xs
 slots-instructions xs h = halves-instructions xs false h
 
 -- the numbers in code are of their types
-pub AllFit-instructions : (xs : List (Option Insn)) (half : Bool) → IsCode half xs → AllFit (instructions xs)
+pub AllFit-instructions : (xs : List (Option Insn)) (half : Bool) → IsCode half xs
+    → AllFit (instructions xs)
 AllFit-instructions [] half h = tt
 AllFit-instructions (None ∷ xs) true h = AllFit-instructions xs false h
 AllFit-instructions (Some i ∷ xs) true h = absurd h

@@ -1,4 +1,4 @@
--- The program of an image is one, as the meaning of programs wants it.
+-- The program of an image is well-formed: `IsProgram` holds of it.
 use Rattle.std.specs.Prelude.{◌≡◌, ℕ, ◌<◌, ◌⊎◌, length, Some, None, refl}
 use Rattle.std.specs.Option.{option_flatten}
 use Rattle.std.proofs.Common.{ap, arith, inl, inr}
@@ -25,7 +25,9 @@ fetch-below : (p : Program) (slot : ℕ) (i : Insn) → fetch p slot ≡ Some i 
 fetch-below p slot i e =
     elim (cases_lt slot (length p.insns)) [
       | inl inside ↦ inside
-      | inr past ↦ let none : fetch p slot ≡ None = ap option_flatten (slice_get_past p.insns slot past) in absurd (cc)
+      | inr past ↦
+          let none : fetch p slot ≡ None = ap option_flatten (slice_get_past p.insns slot past) in
+          absurd (cc)
     ]
 
 pub IsProgram-IsImage : (p : Program) → IsImage p → IsProgram p
@@ -43,5 +45,6 @@ IsProgram-IsImage p h = record {
 }
 
 -- the contents that maps start with fit their rows
-pub IsImage-starting_contents : (p : Program) → IsImage p → FitRows p.maps (starting_contents p.maps)
+pub IsImage-starting_contents : (p : Program) → IsImage p
+    → FitRows p.maps (starting_contents p.maps)
 IsImage-starting_contents p h = starting.FitRows-starting_contents p.maps h.rows

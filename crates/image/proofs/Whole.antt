@@ -1,15 +1,14 @@
--- An image's sizes, and the whole of it.
-use Rattle.std.proofs.Common.{◌≡◌, ℕ, zero, suc, ◌-◌, ◌+◌, ◌*◌, ◌/◌, ◌≤◌, Bool, true, false, cond, List, ◌++◌, take, drop, length, Option, Some, None, Result, Ok, Err, refl, sym, ap, ◌∙◌, subst, arith, inl, inr, drop-drop, length-append}
+-- Laws of images: the tests of their sizes, what is read from bytes, and refusals.
+use Rattle.std.proofs.Common.{◌≡◌, ℕ, zero, suc, ◌-◌, ◌+◌, ◌*◌, ◌/◌, ◌≤◌, Bool, true, false, cond, List, ◌++◌, take, drop, length, Option, Some, None, Result, Ok, Err, refl, sym, ap, ◌∙◌, subst, arith, inl, inr, drop-drop}
 use Rattle.std.specs.Prelude.{◌==◌, ◌⊎◌, nat_lt, nat_eq, sum_by, is_none, unwrap_or, if◌then◌else◌}
 use Rattle.std.specs.List.{starts_with, flat_map}
 use Rattle.std.specs.Option.{option_or}
 use Rattle.std.specs.Result.{result_err}
 use Rattle.std.specs.Cmp.Lexicographic.{same_text}
 use Rattle.std.proofs.Math.Seq.{take-add}
-use Rattle.std.proofs.lemmas.Bool.{ltb-false, le-ltb, ne_eqb}
-use Rattle.std.proofs.lemmas.List.{length-drop, take-append-drop, drop_at}
+use Rattle.std.proofs.lemmas.Bool.{ltb-false, le-ltb}
+use Rattle.std.proofs.lemmas.List.{length-drop, take-append-drop}
 use Rattle.byteorder.specs.Endian.{little_bytes}
-use Rattle.byteorder.specs.Numbers.{little_number-reads_back}
 use Rattle.isa_model.specs.declared.map_defs.MapDef.{MapDef}
 use Rattle.isa_model.specs.declared.instructions.Insn.{Insn}
 use Rattle.isa_model.specs.declared.versions.Version.{Version}
@@ -20,11 +19,11 @@ use Rattle.isa_model.proofs.LittleEndianLaws.{EachByte-drop, little_bytes-little
 use Rattle.image.specs.declared.errors.ImageError.{ImageError}
 use Rattle.image.specs.declared.errors.ImageError.TheVariants.{Magic, Short, Long, TooManyMaps, SlotCount, MapRoom, Memory}
 use Rattle.isa_model.specs.declared.limits.TheConstants.{MAX_MAPS, MAX_MAP_ROOM, MAX_SLOTS}
-use Rattle.image.specs.Images.{magic, row_bytes, head_bytes, code_bytes, image_bytes, IsCode, room_of, IsImage}
+use Rattle.image.specs.Images.{magic, row_bytes, head_bytes, image_bytes, IsCode, room_of, IsImage}
 use Rattle.image.specs.Refusals.{◌>>=◌, unless, count_refusal, rows_refusal, maps_refusal, parts_refusal, version_at, version_read, map_count, slot_count, size_of, size_refusal, rows_from, room_refusal, code_from, rows_read, code_read, program_read, refusal_of}
 use Rattle.image.proofs.RowLaws.{All-rows_refusal, NamesMaps-maps_refusal, neither}
-use Rattle.image.proofs.CodeSpelling.{Laws, take-rest, code_from-found, code_from-code_bytes, length-code_bytes}
-use Rattle.image.proofs.RowSpelling.{rows_from-fit, rows_from-found, rows_from-row_bytes, length-rows}
+use Rattle.image.proofs.CodeSpelling.{Laws, take-rest, code_from-found}
+use Rattle.image.proofs.RowSpelling.{rows_from-fit, rows_from-found}
 
 -- ---- the tests of the sizes
 
@@ -33,9 +32,14 @@ refused e = Some e
 
 abbrev tests : Bool → Bool → Bool → Bool → Bool → Bool → Bool → Option ImageError
 tests a m b c d e f =
-    cond a (refused Short) (cond m (refused Magic) (cond b (refused TooManyMaps) (cond c (refused SlotCount) (cond d (refused SlotCount) (cond e (refused Short) (cond f (refused Long) None))))))
+    cond a (refused Short)
+    (cond m (refused Magic)
+    (cond b (refused TooManyMaps)
+    (cond c (refused SlotCount)
+    (cond d (refused SlotCount) (cond e (refused Short) (cond f (refused Long) None))))))
 
-tests-pass : (a m b c d e f : Bool) → a ≡ false → m ≡ false → b ≡ false → c ≡ false → d ≡ false → e ≡ false → f ≡ false → tests a m b c d e f ≡ None
+pub tests-pass : (a m b c d e f : Bool) → a ≡ false → m ≡ false → b ≡ false → c ≡ false → d ≡ false
+    → e ≡ false → f ≡ false → tests a m b c d e f ≡ None
 tests-pass a m b c d e f h0 h1 h2 h3 h4 h5 h6 = rw (h0, h1, h2, h3, h4, h5, h6) refl
 
 record Passed (a m b c d e f : Bool) : Type 0 where
@@ -56,9 +60,17 @@ passed false false false false true e f h = absurd cc
 passed false false false false false true f h = absurd cc
 passed false false false false false false true h = absurd cc
 passed false false false false false false false h =
-    record { long = refl; text = refl; maps = refl; some = refl; few = refl; most = refl; least = refl }
+    record {
+      long = refl;
+      text = refl;
+      maps = refl;
+      some = refl;
+      few = refl;
+      most = refl;
+      least = refl;
+    }
 
--- what the tests say
+-- what is known of bytes that pass the tests
 pub record Sizes (bytes : List ℕ) : Type 0 where
   pub long : 8 ≤ length bytes
   pub text : take 4 bytes ≡ magic (version_read bytes)
@@ -68,14 +80,18 @@ pub record Sizes (bytes : List ℕ) : Type 0 where
   pub whole : length bytes ≡ 8 + 12 * map_count bytes + 8 * slot_count bytes
 
 -- the magic that was found
-magic_read : (bytes : List ℕ) → is_none (version_at bytes) ≡ false → take 4 bytes ≡ magic (version_read bytes)
-magic_read bytes h = which (starts_with nat_eq bytes (magic One)) (starts_with nat_eq bytes (magic Two)) refl refl h
+magic_read : (bytes : List ℕ) → is_none (version_at bytes) ≡ false
+    → take 4 bytes ≡ magic (version_read bytes)
+magic_read bytes h =
+    which (starts_with nat_eq bytes (magic One)) (starts_with nat_eq bytes (magic Two)) refl refl h
   where
     version_by : Bool → Bool → Option Version
     version_by one two = if one then Some One else if two then Some Two else None
 
-    which : (one two : Bool) → starts_with nat_eq bytes (magic One) ≡ one → starts_with nat_eq bytes (magic Two) ≡ two
-        → is_none (version_by one two) ≡ false → take 4 bytes ≡ magic (unwrap_or (version_by one two) One)
+    which : (one two : Bool) → starts_with nat_eq bytes (magic One) ≡ one
+        → starts_with nat_eq bytes (magic Two) ≡ two
+        → is_none (version_by one two) ≡ false
+        → take 4 bytes ≡ magic (unwrap_or (version_by one two) One)
     which true two a b h = sym (same_text (magic One) (take 4 bytes) (sym a))
     which false true a b h = sym (same_text (magic Two) (take 4 bytes) (sym b))
     which false false a b h = absurd cc
@@ -87,9 +103,14 @@ not_zero (suc n) h = omega arith
 pub sizes : (bytes : List ℕ) → size_refusal bytes ≡ None → Sizes bytes
 sizes bytes h =
     let size = size_of (map_count bytes) (slot_count bytes) in
-    let p = passed (nat_lt (length bytes) 8) (is_none (version_at bytes)) (nat_lt MAX_MAPS (map_count bytes)) (slot_count bytes == 0) (nat_lt MAX_SLOTS (slot_count bytes)) (nat_lt (length bytes) size) (nat_lt size (length bytes)) h in
-    let most : length bytes ≤ size_of (map_count bytes) (slot_count bytes) = ltb-false _ _ p.least in
-    let least : size_of (map_count bytes) (slot_count bytes) ≤ length bytes = ltb-false _ _ p.most in
+    let p = passed (nat_lt (length bytes) 8) (is_none (version_at bytes))
+    (nat_lt MAX_MAPS (map_count bytes)) (slot_count bytes == 0)
+    (nat_lt MAX_SLOTS (slot_count bytes)) (nat_lt (length bytes) size)
+    (nat_lt size (length bytes)) h in
+    let most : length bytes ≤ size_of (map_count bytes) (slot_count bytes) =
+    ltb-false _ _ p.least in
+    let least : size_of (map_count bytes) (slot_count bytes) ≤ length bytes =
+    ltb-false _ _ p.most in
     record {
       long = ltb-false _ _ p.long;
       text = magic_read bytes p.text;
@@ -107,21 +128,28 @@ CodeSlots = List (Option Insn)
 abbrev pub parts : Version → List MapDef → List (Option Insn) → Program
 parts v rows xs = record { insns = xs; maps = rows; version = v }
 
-abbrev program_ok : Program → Result Program ImageError
+abbrev pub program_ok : Program → Result Program ImageError
 program_ok p = Ok p
 
 pub same_program : (p q : Program) → program_ok p ≡ program_ok q → p ≡ q
 same_program p q e = cc
 
 -- the 8 bytes of the head
-head_spelled : (bytes : List ℕ) (m n : ℕ) → EachByte bytes → Sizes bytes → m ≡ map_count bytes → n ≡ slot_count bytes → magic (version_read bytes) ++ (little_bytes 2 m ++ little_bytes 2 n) ≡ take 8 bytes
+head_spelled : (bytes : List ℕ) (m n : ℕ) → EachByte bytes → Sizes bytes → m ≡ map_count bytes
+    → n ≡ slot_count bytes
+    → magic (version_read bytes) ++ (little_bytes 2 m ++ little_bytes 2 n) ≡ take 8 bytes
 head_spelled bytes m n small s rows count =
     let maps : little_bytes 2 m ≡ take 2 (drop 4 bytes) =
-    ap (little_bytes 2) rows ∙ little_bytes-little_from 2 0 (drop 4 bytes) (EachByte-drop 4 bytes small) (omega (arith, s.long, length-drop 4 bytes)) in
+    ap (little_bytes 2) rows
+    ∙ little_bytes-little_from 2 0 (drop 4 bytes) (EachByte-drop 4 bytes small)
+    (omega (arith, s.long, length-drop 4 bytes)) in
     let slots : little_bytes 2 n ≡ take 2 (drop 6 bytes) =
-    ap (little_bytes 2) count ∙ little_bytes-little_from 2 0 (drop 6 bytes) (EachByte-drop 6 bytes small) (omega (arith, s.long, length-drop 6 bytes)) in
+    ap (little_bytes 2) count
+    ∙ little_bytes-little_from 2 0 (drop 6 bytes) (EachByte-drop 6 bytes small)
+    (omega (arith, s.long, length-drop 6 bytes)) in
     let counts : take 4 (drop 4 bytes) ≡ take 2 (drop 4 bytes) ++ take 2 (drop 6 bytes) =
-    take-add 2 2 (drop 4 bytes) ∙ ap (λ (l : List ℕ). take 2 (drop 4 bytes) ++ take 2 l) (drop-drop 2 4 bytes) in
+    take-add 2 2 (drop 4 bytes)
+    ∙ ap (λ (l : List ℕ). take 2 (drop 4 bytes) ++ take 2 l) (drop-drop 2 4 bytes) in
     ap (λ (l : List ℕ). l ++ (little_bytes 2 m ++ little_bytes 2 n)) (sym s.text)
     ∙ ap (λ (l : List ℕ). take 4 bytes ++ (l ++ little_bytes 2 n)) maps
     ∙ ap (λ (l : List ℕ). take 4 bytes ++ (take 2 (drop 4 bytes) ++ l)) slots
@@ -135,7 +163,8 @@ record Read (bytes : List ℕ) (p : Program) : Type 0 where
   code : code_read bytes p.maps ≡ Ok p.insns
   version : version_read bytes ≡ p.version
 
-bind : {A B : Type 0} (r : Result A ImageError) (f : A → Result B ImageError) (y : B) → (r >>= f) ≡ Ok y → (x : A) × (r ≡ Ok x) × (f x ≡ Ok y)
+bind : {A B : Type 0} (r : Result A ImageError) (f : A → Result B ImageError) (y : B)
+    → (r >>= f) ≡ Ok y → (x : A) × (r ≡ Ok x) × (f x ≡ Ok y)
 bind (Ok x) f y e = (x, refl, e)
 bind (Err d) f y e = absurd cc
 
@@ -151,9 +180,13 @@ unless_ok (Some d) x y e = absurd cc
 
 read : (bytes : List ℕ) (p : Program) → program_read bytes ≡ Ok p → Read bytes p
 read bytes p e =
-    let a = bind (rows_read bytes) (λ rows. code_read bytes rows >>= λ xs. program_ok (parts (version_read bytes) rows xs)) p e in
-    let c = bind (code_read bytes a.0) (λ xs. program_ok (parts (version_read bytes) a.0 xs)) p a.2 in
-    let r = bind (rows_from (map_count bytes) 0 (drop 8 bytes)) (λ rows. unless (room_refusal rows) rows) a.0 a.1 in
+    let a = bind (rows_read bytes)
+    (λ rows. code_read bytes rows >>= λ xs. program_ok (parts (version_read bytes) rows xs)) p
+    e in
+    let c =
+    bind (code_read bytes a.0) (λ xs. program_ok (parts (version_read bytes) a.0 xs)) p a.2 in
+    let r = bind (rows_from (map_count bytes) 0 (drop 8 bytes))
+    (λ rows. unless (room_refusal rows) rows) a.0 a.1 in
     let u = unless_ok (room_refusal r.0) r.0 a.0 r.2 in
     subst (Read bytes) (same_program (parts (version_read bytes) a.0 c.0) p c.2) (record {
       rows = r.1 ∙ ap rows_ok u.1;
@@ -163,37 +196,48 @@ read bytes p e =
     })
 
 room_within : (rows : List MapDef) → room_refusal rows ≡ None → sum_by room_of rows ≤ MAX_MAP_ROOM
-room_within rows h = ltb-false MAX_MAP_ROOM (sum_by room_of rows) (passes (nat_lt MAX_MAP_ROOM (sum_by room_of rows)) h)
+room_within rows h = ltb-false MAX_MAP_ROOM (sum_by room_of rows)
+    (passes (nat_lt MAX_MAP_ROOM (sum_by room_of rows)) h)
   where
     passes : (b : Bool) → cond b (refused MapRoom) None ≡ None → b ≡ false
     passes true e = absurd cc
     passes false e = refl
 
-within_room : (rows : List MapDef) → sum_by room_of rows ≤ MAX_MAP_ROOM → room_refusal rows ≡ None
-within_room rows h = ap (λ (b : Bool). cond b (refused MapRoom) None) (le-ltb MAX_MAP_ROOM (sum_by room_of rows) h)
+pub within_room : (rows : List MapDef) → sum_by room_of rows ≤ MAX_MAP_ROOM
+    → room_refusal rows ≡ None
+within_room rows h =
+    ap (λ (b : Bool). cond b (refused MapRoom) None) (le-ltb MAX_MAP_ROOM (sum_by room_of rows) h)
 
 -- what was read is an image, and the bytes are its own
 pub record IsParsed (bytes : List ℕ) (p : Program) : Type 0 where
   pub spelled : bytes ≡ image_bytes p
   pub image : IsImage p
 
-pub program_read-found : Laws → (bytes : List ℕ) (p : Program) → EachByte bytes → Sizes bytes → program_read bytes ≡ Ok p → IsParsed bytes p
+pub program_read-found : Laws → (bytes : List ℕ) (p : Program) → EachByte bytes → Sizes bytes
+    → program_read bytes ≡ Ok p → IsParsed bytes p
 unfolding image_bytes
 program_read-found laws bytes p small s e =
     let m = map_count bytes in
     let n = slot_count bytes in
     let k = read bytes p e in
     let rows = rows_from-fit m 0 (drop 8 bytes) p.maps k.rows in
-    let rows_are : flat_map row_bytes p.maps ≡ take (12 * m) (drop 8 bytes) = rows_from-found m 0 (drop 8 bytes) p.maps (EachByte-drop 8 bytes small) (omega (arith, s.whole, length-drop 8 bytes)) k.rows in
-    let found = code_from-found laws p.maps n false 0 (drop (8 + 12 * m) bytes) p.insns (EachByte-drop (8 + 12 * m) bytes small) (omega (arith, s.whole, length-drop (8 + 12 * m) bytes)) tt k.code in
+    let rows_are : flat_map row_bytes p.maps ≡ take (12 * m) (drop 8 bytes) =
+    rows_from-found m 0 (drop 8 bytes) p.maps (EachByte-drop 8 bytes small)
+    (omega (arith, s.whole, length-drop 8 bytes)) k.rows in
+    let found = code_from-found laws p.maps n false 0 (drop (8 + 12 * m) bytes) p.insns
+    (EachByte-drop (8 + 12 * m) bytes small)
+    (omega (arith, s.whole, length-drop (8 + 12 * m) bytes)) tt k.code in
     record {
       spelled =
           sym (take-append-drop 8 bytes)
-          ∙ ap (λ (l : List ℕ). l ++ drop 8 bytes) (sym (head_spelled bytes (length p.maps) (length p.insns) small s rows.0 found.count)
-          ∙ ap (λ v. magic v ++ (little_bytes 2 (length p.maps) ++ little_bytes 2 (length p.insns))) k.version)
+          ∙ ap (λ (l : List ℕ). l ++ drop 8 bytes)
+          (sym (head_spelled bytes (length p.maps) (length p.insns) small s rows.0 found.count)
+          ∙ ap (λ v. magic v ++ (little_bytes 2 (length p.maps) ++ little_bytes 2 (length p.insns)))
+          k.version)
           ∙ ap (λ (l : List ℕ). head_bytes p ++ l) (sym (take-append-drop (12 * m) (drop 8 bytes))
           ∙ ap (λ (l : List ℕ). l ++ drop (12 * m) (drop 8 bytes)) (sym rows_are)
-          ∙ ap (λ (l : List ℕ). flat_map row_bytes p.maps ++ l) (drop-drop (12 * m) 8 bytes ∙ sym found.spelled));
+          ∙ ap (λ (l : List ℕ). flat_map row_bytes p.maps ++ l)
+          (drop-drop (12 * m) 8 bytes ∙ sym found.spelled));
       image = record {
         few_maps = omega (arith, rows.0, s.maps);
         rows = rows.1;
@@ -205,126 +249,57 @@ program_read-found laws bytes p small s e =
       };
     }
 
--- ---- images to bytes
-
-abbrev whole_bytes : Version → ℕ → ℕ → List ℕ → List ℕ
-whole_bytes v m n rest = (magic v ++ (little_bytes 2 m ++ little_bytes 2 n)) ++ rest
-
-map_count-whole_bytes : (v : Version) (m n : ℕ) (rest : List ℕ) → m ≤ MAX_MAPS → map_count (whole_bytes v m n rest) ≡ m
-map_count-whole_bytes One m n rest h = little_number-reads_back 2 m (little_bytes 2 n ++ rest) (omega arith)
-map_count-whole_bytes Two m n rest h = little_number-reads_back 2 m (little_bytes 2 n ++ rest) (omega arith)
-
-slot_count-whole_bytes : (v : Version) (m n : ℕ) (rest : List ℕ) → n ≤ MAX_SLOTS → slot_count (whole_bytes v m n rest) ≡ n
-slot_count-whole_bytes One m n rest h = little_number-reads_back 2 n rest (omega arith)
-slot_count-whole_bytes Two m n rest h = little_number-reads_back 2 n rest (omega arith)
-
--- the version that is written is read
-version_at-whole_bytes : (v : Version) (m n : ℕ) (rest : List ℕ) → version_at (whole_bytes v m n rest) ≡ Some v
-version_at-whole_bytes One m n rest = refl
-version_at-whole_bytes Two m n rest = refl
-
-length-whole_bytes : (v : Version) (m n : ℕ) (rest : List ℕ) → length (whole_bytes v m n rest) ≡ 8 + length rest
-length-whole_bytes One m n rest = omega arith
-length-whole_bytes Two m n rest = omega arith
-
-some_not_zero : (n : ℕ) → 1 ≤ n → (n == 0) ≡ false
-some_not_zero n h = ne_eqb n 0 (λ (e : n ≡ 0). omega arith)
-
-size_refusal-whole_bytes : (v : Version) (m n : ℕ) (rest : List ℕ) → m ≤ MAX_MAPS → 1 ≤ n → n ≤ MAX_SLOTS → length rest ≡ 12 * m + 8 * n → size_refusal (whole_bytes v m n rest) ≡ None
-size_refusal-whole_bytes v m n rest maps some few len =
-    let bytes = whole_bytes v m n rest in
-    let long : length bytes ≡ 8 + length rest = length-whole_bytes v m n rest in
-    let size = size_of (map_count bytes) (slot_count bytes) in
-    let rows : map_count bytes ≡ m = map_count-whole_bytes v m n rest maps in
-    let count : slot_count bytes ≡ n = slot_count-whole_bytes v m n rest few in
-    tests-pass (nat_lt (length bytes) 8) (is_none (version_at bytes)) (nat_lt MAX_MAPS (map_count bytes)) (slot_count bytes == 0) (nat_lt MAX_SLOTS (slot_count bytes)) (nat_lt (length bytes) size) (nat_lt size (length bytes))
-    (le-ltb _ _ (omega (arith, long))) (ap is_none (version_at-whole_bytes v m n rest))
-    (le-ltb _ _ (omega (arith, rows)))
-    (ap (λ (k : ℕ). k == 0) count ∙ some_not_zero n some)
-    (le-ltb _ _ (omega (arith, count)))
-    (le-ltb _ _ (omega (arith, count, rows, len, long)))
-    (le-ltb _ _ (omega (arith, count, rows, len, long)))
-
-drop-whole_bytes : (v : Version) (m n : ℕ) (rest : List ℕ) → drop 8 (whole_bytes v m n rest) ≡ rest
-drop-whole_bytes One m n rest = refl
-drop-whole_bytes Two m n rest = refl
-
--- an image is read
-pub record IsRead (bytes : List ℕ) (p : Program) : Type 0 where
-  pub sizes : size_refusal bytes ≡ None
-  pub program : program_read bytes ≡ Ok p
-
--- the head, the rows and the code that are written
-pub image_bytes-written : (p q : Program) (head : List ℕ) (m n : ℕ) → p ≡ q → head ≡ magic p.version ++ (little_bytes 2 m ++ little_bytes 2 n) → m ≡ length p.maps → n ≡ length p.insns → head ++ (flat_map row_bytes p.maps ++ code_bytes p.insns) ≡ image_bytes q
-unfolding image_bytes
-image_bytes-written p q head m n same e maps slots =
-    ap (λ (l : List ℕ). l ++ (flat_map row_bytes p.maps ++ code_bytes p.insns)) (e ∙ ap (λ (k : ℕ). magic p.version ++ (little_bytes 2 k ++ little_bytes 2 n)) maps ∙ ap (λ (k : ℕ). magic p.version ++ (little_bytes 2 (length p.maps) ++ little_bytes 2 k)) slots)
-    ∙ ap image_bytes same
-
-pub image_bytes-read : Laws → (bytes : List ℕ) (p : Program) → IsImage p → bytes ≡ image_bytes p → IsRead bytes p
-unfolding image_bytes
-image_bytes-read laws bytes p h e =
-    let m = length p.maps in
-    let n = length p.insns in
-    let rows = flat_map row_bytes p.maps in
-    let code = code_bytes p.insns in
-    let v = p.version in
-    let plain : bytes ≡ whole_bytes v m n (rows ++ code) = e in
-    let version : version_read bytes ≡ v = ap version_read plain ∙ ap (λ o. unwrap_or o One) (version_at-whole_bytes v m n (rows ++ code)) in
-    let rows_long : length rows ≡ 12 * m = length-rows p.maps in
-    let code_long : length code ≡ 8 * n = omega (arith, length-code_bytes p.insns false h.code) in
-    let maps : map_count bytes ≡ m = ap map_count plain ∙ map_count-whole_bytes v m n (rows ++ code) h.few_maps in
-    let slots : slot_count bytes ≡ n = ap slot_count plain ∙ slot_count-whole_bytes v m n (rows ++ code) h.few_slots in
-    let behind : drop 8 bytes ≡ rows ++ code = ap (drop 8) plain ∙ drop-whole_bytes v m n (rows ++ code) in
-    let last : drop (8 + 12 * map_count bytes) bytes ≡ code =
-    ap (λ (k : ℕ). drop (8 + 12 * k) bytes) maps ∙ sym (drop-drop (12 * m) 8 bytes) ∙ ap (drop (12 * m)) behind ∙ drop_at rows code (12 * m) rows_long in
-    let rows_are : rows_read bytes ≡ Ok p.maps =
-    ap (λ (r : Result (List MapDef) ImageError). r >>= λ l. unless (room_refusal l) l)
-    (ap (λ (k : ℕ). rows_from k 0 (drop 8 bytes)) maps ∙ rows_from-row_bytes p.maps 0 (drop 8 bytes) code h.rows behind)
-    ∙ ap (λ (o : Option ImageError). unless o p.maps) (within_room p.maps h.room) in
-    let code_is : code_read bytes p.maps ≡ Ok p.insns =
-    ap (λ (k : ℕ). code_from p.maps k false 0 (drop (8 + 12 * map_count bytes) bytes)) slots
-    ∙ code_from-code_bytes laws p.maps p.insns false 0 (drop (8 + 12 * map_count bytes) bytes) h.code h.named last in
-    record {
-      sizes = ap size_refusal plain ∙ size_refusal-whole_bytes v m n (rows ++ code) h.few_maps h.some_slots h.few_slots (omega (arith, length-append rows code, rows_long, code_long));
-      program =
-          ap (λ (r : Result (List MapDef) ImageError). r >>= λ l. code_read bytes l >>= λ xs. program_ok (parts (version_read bytes) l xs)) rows_are
-          ∙ ap (λ (r : Result CodeSlots ImageError). r >>= λ xs. program_ok (parts (version_read bytes) p.maps xs)) code_is
-          ∙ ap (λ (w : Version). program_ok (parts w p.maps p.insns)) version;
-    }
-
 -- ---- the parts, as they are read
 
-pub rows_from-slice : (bytes : List ℕ) (count : ℕ) → count ≡ map_count bytes → rows_from count 0 (take (length bytes - 8) (drop 8 bytes)) ≡ rows_from (map_count bytes) 0 (drop 8 bytes)
+pub rows_from-slice : (bytes : List ℕ) (count : ℕ) → count ≡ map_count bytes
+    → rows_from count 0 (take (length bytes - 8) (drop 8 bytes))
+    ≡ rows_from (map_count bytes) 0 (drop 8 bytes)
 rows_from-slice bytes count e =
-    ap (λ (l : List ℕ). rows_from count 0 l) (take-rest 8 bytes) ∙ ap (λ (k : ℕ). rows_from k 0 (drop 8 bytes)) e
+    ap (λ (l : List ℕ). rows_from count 0 l) (take-rest 8 bytes)
+    ∙ ap (λ (k : ℕ). rows_from k 0 (drop 8 bytes)) e
 
-pub code_read-slice : (bytes : List ℕ) (count : ℕ) (rows : List MapDef) → Sizes bytes → count ≡ map_count bytes
-    → code_from rows (length (take (length bytes - (8 + 12 * count)) (drop (8 + 12 * count) bytes)) / 8) false 0 (take (length bytes - (8 + 12 * count)) (drop (8 + 12 * count) bytes)) ≡ code_read bytes rows
+pub code_read-slice : (bytes : List ℕ) (count : ℕ) (rows : List MapDef) → Sizes bytes
+    → count ≡ map_count bytes
+    → code_from rows
+    (length (take (length bytes - (8 + 12 * count)) (drop (8 + 12 * count) bytes)) / 8) false 0
+    (take (length bytes - (8 + 12 * count)) (drop (8 + 12 * count) bytes)) ≡ code_read bytes rows
 code_read-slice bytes count rows s e =
-    let slots : length (drop (8 + 12 * map_count bytes) bytes) / 8 ≡ slot_count bytes = omega (arith, s.whole, length-drop (8 + 12 * map_count bytes) bytes) in
+    let slots : length (drop (8 + 12 * map_count bytes) bytes) / 8 ≡ slot_count bytes =
+    omega (arith, s.whole, length-drop (8 + 12 * map_count bytes) bytes) in
     ap (λ (l : List ℕ). code_from rows (length l / 8) false 0 l) (take-rest (8 + 12 * count) bytes)
-    ∙ ap (λ (k : ℕ). code_from rows (length (drop (8 + 12 * k) bytes) / 8) false 0 (drop (8 + 12 * k) bytes)) e
+    ∙ ap (λ (k : ℕ). code_from rows (length (drop (8 + 12 * k) bytes) / 8) false 0
+    (drop (8 + 12 * k) bytes)) e
     ∙ ap (λ (n : ℕ). code_from rows n false 0 (drop (8 + 12 * map_count bytes) bytes)) slots
 
--- where the rows were read, the code decides
-pub program_read-code : (bytes : List ℕ) (rows : List MapDef) (r : Result CodeSlots ImageError) → rows_from (map_count bytes) 0 (drop 8 bytes) ≡ Ok rows → room_refusal rows ≡ None → code_read bytes rows ≡ r → program_read bytes ≡ (r >>= λ xs. program_ok (parts (version_read bytes) rows xs))
+-- once the rows were read, the code decides what the bytes are read as
+pub program_read-code : (bytes : List ℕ) (rows : List MapDef) (r : Result CodeSlots ImageError)
+    → rows_from (map_count bytes) 0 (drop 8 bytes) ≡ Ok rows → room_refusal rows ≡ None
+    → code_read bytes rows ≡ r
+    → program_read bytes ≡ (r >>= λ xs. program_ok (parts (version_read bytes) rows xs))
 program_read-code bytes rows r h room e =
-    ap (λ (x : Result (List MapDef) ImageError). (x >>= λ l. unless (room_refusal l) l) >>= λ l. code_read bytes l >>= λ xs. program_ok (parts (version_read bytes) l xs)) h
-    ∙ ap (λ (o : Option ImageError). unless o rows >>= λ l. code_read bytes l >>= λ xs. program_ok (parts (version_read bytes) l xs)) room
-    ∙ ap (λ (x : Result CodeSlots ImageError). x >>= λ xs. program_ok (parts (version_read bytes) rows xs)) e
+    ap (λ (x : Result (List MapDef) ImageError).
+    (x >>= λ l. unless (room_refusal l) l) >>= λ l. code_read bytes l
+    >>= λ xs. program_ok (parts (version_read bytes) l xs)) h
+    ∙ ap (λ (o : Option ImageError). unless o rows >>= λ l. code_read bytes l
+    >>= λ xs. program_ok (parts (version_read bytes) l xs)) room
+    ∙ ap (λ (x : Result CodeSlots ImageError). x
+    >>= λ xs. program_ok (parts (version_read bytes) rows xs)) e
 
-pub code_fails : (bytes : List ℕ) (rows : List MapDef) (e : ImageError) → rows_from (map_count bytes) 0 (drop 8 bytes) ≡ Ok rows → room_refusal rows ≡ None → (e ≡ Memory) ⊎ (code_read bytes rows ≡ Err e) → (e ≡ Memory) ⊎ (program_read bytes ≡ Err e)
+pub code_fails : (bytes : List ℕ) (rows : List MapDef) (e : ImageError)
+    → rows_from (map_count bytes) 0 (drop 8 bytes) ≡ Ok rows → room_refusal rows ≡ None
+    → (e ≡ Memory) ⊎ (code_read bytes rows ≡ Err e) → (e ≡ Memory) ⊎ (program_read bytes ≡ Err e)
 code_fails bytes rows e h room (inl m) = inl m
 code_fails bytes rows e h room (inr r) = inr (program_read-code bytes rows (Err e) h room r)
 
 -- ---- parts that are given
 
-gate : (b : Bool) (e : ImageError) (o : Option ImageError) → cond b (refused e) o ≡ None → (b ≡ false) × (o ≡ None)
+gate : (b : Bool) (e : ImageError) (o : Option ImageError) → cond b (refused e) o ≡ None
+    → (b ≡ false) × (o ≡ None)
 gate true e o h = absurd cc
 gate false e o h = (refl, h)
 
-pub IsImage-parts : (v : Version) (rows : List MapDef) (xs : List (Option Insn)) → parts_refusal rows xs ≡ None → IsCode false xs → IsImage (parts v rows xs)
+pub IsImage-parts : (v : Version) (rows : List MapDef) (xs : List (Option Insn))
+    → parts_refusal rows xs ≡ None → IsCode false xs → IsImage (parts v rows xs)
 IsImage-parts v rows xs h code =
     let n = length xs in
     let few = gate (nat_lt MAX_MAPS (length rows)) TooManyMaps _ h in
@@ -345,17 +320,23 @@ IsImage-parts v rows xs h code =
 
 -- ---- refusals
 
-pub refusal_of-sizes : (bytes : List ℕ) (e : ImageError) → size_refusal bytes ≡ Some e → refusal_of bytes ≡ Some e
+pub refusal_of-sizes : (bytes : List ℕ) (e : ImageError) → size_refusal bytes ≡ Some e
+    → refusal_of bytes ≡ Some e
 unfolding refusal_of
-refusal_of-sizes bytes e h = ap (λ (o : Option ImageError). option_or o (result_err (program_read bytes))) h
+refusal_of-sizes bytes e h =
+    ap (λ (o : Option ImageError). option_or o (result_err (program_read bytes))) h
 
--- where the sizes are right, the rows and the code decide
-pub refusal_of-program : (bytes : List ℕ) (r : Result Program ImageError) → size_refusal bytes ≡ None → program_read bytes ≡ r → refusal_of bytes ≡ result_err r
+-- where the sizes are right, the rows and the code decide what the refusal is
+pub refusal_of-program : (bytes : List ℕ) (r : Result Program ImageError)
+    → size_refusal bytes ≡ None → program_read bytes ≡ r → refusal_of bytes ≡ result_err r
 unfolding refusal_of
-refusal_of-program bytes r h e = ap (λ (o : Option ImageError). option_or o (result_err (program_read bytes))) h ∙ ap result_err e
+refusal_of-program bytes r h e = ap
+    (λ (o : Option ImageError). option_or o (result_err (program_read bytes))) h ∙ ap result_err e
 
-pub not_both : (bytes : List ℕ) (e : ImageError) → size_refusal bytes ≡ Some e → size_refusal bytes ≡ None → ⊥
+pub not_both : (bytes : List ℕ) (e : ImageError) → size_refusal bytes ≡ Some e
+    → size_refusal bytes ≡ None → ⊥
 not_both bytes e h k = cc
 
-pub not_err : (bytes : List ℕ) (e : ImageError) (p : Program) → program_read bytes ≡ Err e → program_read bytes ≡ Ok p → ⊥
+pub not_err : (bytes : List ℕ) (e : ImageError) (p : Program) → program_read bytes ≡ Err e
+    → program_read bytes ≡ Ok p → ⊥
 not_err bytes e p h k = cc

@@ -22,13 +22,13 @@ magic One = codes "XBP1"
 magic Two = codes "XBP2"
 
 -- Linux, enum bpf_map_type
-abbrev pub kind_code : MapType → ℕ
-kind_code Hash = 1
-kind_code Array = 2
+abbrev pub map_type_code : MapType → ℕ
+map_type_code Hash = 1
+map_type_code Array = 2
 
 abbrev pub row_bytes : MapDef → List ℕ
 row_bytes row =
-    little_bytes 2 (kind_code row.kind)
+    little_bytes 2 (map_type_code row.kind)
     ++ (little_bytes 2 row.key_size
     ++ (little_bytes 4 row.value_size ++ little_bytes 4 row.entries))
 

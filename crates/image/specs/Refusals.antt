@@ -26,14 +26,14 @@ abbrev pub ◌>>=◌ : {A B : Type 0} → Result A ImageError → (A → Result 
 (Ok x) >>= f = f x
 (Err e) >>= f = Err e
 
--- a value, unless there is a refusal
+-- x, unless there is a refusal
 abbrev pub unless : {A : Type 0} → Option ImageError → A → Result A ImageError
 unless None x = Ok x
 unless (Some e) x = Err e
 
 -- ---- the head and the whole length
 
--- the version that the magic at the front of bytes says, if it is one
+-- the version that the magic at the front of bytes names, if there is a magic
 abbrev pub version_at : List ℕ → Option Version
 version_at bytes =
     if starts_with nat_eq bytes (magic One) then Some One
@@ -83,12 +83,12 @@ row_fits row =
     && (nat_le 1 row.value_size && nat_le row.value_size max_value_size)
     && (nat_le 1 row.entries && nat_le row.entries max_map_entries)
 
-abbrev pub kind_numbered : ℕ → Option MapType
-kind_numbered n = if n == 1 then Some Hash else if n == 2 then Some Array else None
+abbrev pub map_type_numbered : ℕ → Option MapType
+map_type_numbered n = if n == 1 then Some Hash else if n == 2 then Some Array else None
 
 -- the rest of a row, which the bytes begin with
-abbrev pub with_kind : List ℕ → MapType → MapDef
-with_kind bytes kind = record {
+abbrev pub with_map_type : List ℕ → MapType → MapDef
+with_map_type bytes kind = record {
   kind = kind;
   key_size = little_number 2 (drop 2 bytes);
   value_size = little_number 4 (drop 4 bytes);
@@ -102,7 +102,7 @@ tested index (Some row) = if row_fits row then Ok row else Err (MapRow index)
 -- the row of that index, which the bytes begin with
 abbrev pub row_at : ℕ → List ℕ → Result MapDef ImageError
 row_at index bytes =
-    tested index (option_map (with_kind bytes) (kind_numbered (little_number 2 bytes)))
+    tested index (option_map (with_map_type bytes) (map_type_numbered (little_number 2 bytes)))
 
 -- the n rows from this index on
 unfoldable pub rows_from : ℕ → ℕ → List ℕ → Result (List MapDef) ImageError
@@ -197,7 +197,7 @@ program_read bytes =
 unfoldable pub refusal_of : List ℕ → Option ImageError
 refusal_of bytes = option_or (size_refusal bytes) (result_err (program_read bytes))
 
--- the view of what a function returned is what reading gives, unless memory ran out
+-- a call returns, by its view, what is to be read or its refusal, or it is out of memory
 abbrev pub ReturnsParsed : {X Y : Type 0} → (X → Y) → Result X ImageError → Result Y ImageError
     → Type 0
 ReturnsParsed view (Ok x) read = read ≡ Ok (view x)

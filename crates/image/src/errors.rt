@@ -81,7 +81,7 @@ impl ImageError {
         }
     }
 
-    /// What helps, in a line without its end; empty for another magic and for memory.
+    /// The cure, in a line without its line feed; empty for another magic and for memory.
     pub fn cure(self) -> &'static str
         ensures { result.now ≡ cure_of self }
     {

@@ -37,7 +37,7 @@ pub fn size_refusal(bytes: &[u8]) -> Option<ImageError>
     None
 }
 
-/// The version that the magic says.
+/// The version that the magic names.
 pub fn version_of(bytes: &[u8]) -> Version
     ensures { result ≡ version_read bytes.now }
 {
@@ -50,7 +50,7 @@ pub fn version_of(bytes: &[u8]) -> Version
     }
 }
 
-/// How many map rows the head says.
+/// The map count in the head.
 pub fn map_count(bytes: &[u8]) -> usize
     requires { 8 ≤ length bytes.now }
     ensures { result ≡ map_count bytes.now }

@@ -1,4 +1,4 @@
-//! Images as values.
+//! The type of images, and how they are read, made and written.
 
 ghost use Rattle.std.specs.Prelude.{◌≡◌, ◌⊎◌, None, Some, length, IfOk, MatchResult, OnOk, OnErr};
 ghost use Rattle.std.specs.Option.{option_copied};
@@ -86,7 +86,7 @@ fn parts_refusal(maps: &[MapDef], code: &[Option<Insn>]) -> Option<ImageError>
 }
 
 impl Image {
-    /// The image that the bytes are.
+    /// The image with these bytes.
     ///
     /// Jump targets are not tested.
     pub fn parse(alloc: Global, bytes: &[u8]) -> Result<Self, ImageError>
@@ -145,7 +145,7 @@ impl Image {
         })
     }
 
-    /// Another one like it.
+    /// A copy of the image.
     pub fn copy(&self, alloc: Global) -> Result<Self, AllocError>
         ensures { IfOk result (λ copy. copy ≡ self.now) }
     {

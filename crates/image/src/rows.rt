@@ -5,8 +5,8 @@ ghost use Rattle.std.specs.List.{flat_map};
 ghost use Rattle.std.specs.Io.KnownBytes.{Appends};
 ghost use Rattle.isa_model.specs.Code.MapRows.{IsRow};
 ghost use Rattle.exact_io.specs.Transfers.{AppendsBeginning};
-ghost use Rattle.image.specs.Images.{kind_code, row_bytes, room_of};
-ghost use Rattle.image.specs.Refusals.{ReturnsParsed, key_fits, row_fits, kind_numbered, row_at, rows_from, rows_refusal, room_refusal};
+ghost use Rattle.image.specs.Images.{map_type_code, row_bytes, room_of};
+ghost use Rattle.image.specs.Refusals.{ReturnsParsed, key_fits, row_fits, map_type_numbered, row_at, rows_from, rows_refusal, room_refusal};
 
 use crate::errors::ImageError;
 use byteorder::{ByteOrder, LittleEndian};
@@ -75,8 +75,8 @@ pub fn room_refusal(rows: &[MapDef]) -> Option<ImageError>
 
 // ---- reading
 
-fn kind_numbered(number: u16) -> Option<MapType>
-    ensures { result ≡ kind_numbered number }
+fn map_type_numbered(number: u16) -> Option<MapType>
+    ensures { result ≡ map_type_numbered number }
 {
     match number {
         1 => Some(MapType::Hash),
@@ -90,7 +90,7 @@ fn row_at(index: usize, bytes: &[u8]) -> Result<MapDef, ImageError>
     requires { 12 ≤ length bytes.now }
     ensures { result ≡ row_at index bytes.now }
 {
-    let Some(kind) = kind_numbered(LittleEndian::read_u16(bytes)) else {
+    let Some(kind) = map_type_numbered(LittleEndian::read_u16(bytes)) else {
         return Err(ImageError::MapRow(index));
     };
     let row = MapDef {
@@ -106,7 +106,7 @@ fn row_at(index: usize, bytes: &[u8]) -> Result<MapDef, ImageError>
     }
 }
 
-/// As many rows, one after the other, as the count says.
+/// The `count` rows that the bytes begin with.
 pub fn rows_of(alloc: Global, count: usize, bytes: &[u8]) -> Result<Vec<MapDef>, ImageError>
     requires { 12 * count ≤ length bytes.now }
     ensures { ReturnsParsed (λ v. v.items) result (rows_from count 0 bytes.now) }
@@ -121,8 +121,8 @@ pub fn rows_of(alloc: Global, count: usize, bytes: &[u8]) -> Result<Vec<MapDef>,
 
 // ---- writing
 
-fn kind_code(kind: MapType) -> u16
-    ensures { result ≡ kind_code kind }
+fn map_type_code(kind: MapType) -> u16
+    ensures { result ≡ map_type_code kind }
 {
     match kind {
         MapType::Hash => 1,
@@ -134,7 +134,7 @@ fn bytes_of(row: &MapDef) -> [u8; 12]
     ensures { result ≡ row_bytes row.now }
 {
     let mut bytes = [0; 12];
-    LittleEndian::write_u16(&mut bytes, kind_code(row.kind));
+    LittleEndian::write_u16(&mut bytes, map_type_code(row.kind));
     LittleEndian::write_u16(&mut bytes[2..], row.key_size);
     LittleEndian::write_u32(&mut bytes[4..], row.value_size);
     LittleEndian::write_u32(&mut bytes[8..], row.entries);

@@ -1,4 +1,4 @@
--- What an instruction's spelling is decoded to.
+-- Laws of decoding: an instruction's spelling is decoded to that instruction.
 use Rattle.std.proofs.Common.{◌≡◌, ℕ, ◌+◌, ◌*◌, ◌/◌, ◌%◌, ◌^◌, ◌<◌, Bool, true, false, cond, ℤ, List, ◌++◌, length, Option, Some, Result, Ok, Err, refl, ap, ◌∙◌, arith}
 use Rattle.std.specs.Prelude.{nat_lt}
 use Rattle.std.specs.Int.{w16, w32, cast_signed, cast_unsigned}
@@ -52,7 +52,10 @@ abbrev fields : Reg → Reg → ℕ → ℕ → Fields
 fields d r o k = record { dst = d; src = r; offset = o; imm = k }
 
 -- the five tests passed
-through : (s : Slot) (f : Form) (d r : Reg) (rest : List ℕ) (i : Insn) → form_of s.opcode ≡ Some f → reg_numbered s.dst ≡ Some d → reg_numbered s.src ≡ Some r → zero_unused (uses f) (fields d r s.offset s.imm) ≡ true → meaning f (fields d r s.offset s.imm) rest ≡ Ok i → slot_meaning s rest ≡ Ok i
+through : (s : Slot) (f : Form) (d r : Reg) (rest : List ℕ) (i : Insn) → form_of s.opcode ≡ Some f
+    → reg_numbered s.dst ≡ Some d → reg_numbered s.src ≡ Some r
+    → zero_unused (uses f) (fields d r s.offset s.imm) ≡ true
+    → meaning f (fields d r s.offset s.imm) rest ≡ Ok i → slot_meaning s rest ≡ Ok i
 unfolding slot_meaning
 through s f d r rest i h1 h2 h3 h4 h5 =
     ap (λ (x : Option Form). with_form x s rest) h1
@@ -83,22 +86,26 @@ abbrev register_form : Width → AluOp → Form
 register_form w ops.Mov = form.MovRegister w
 register_form w op = form.AluRegister w (code_for op)
 
-form_alu_constant : (w : Width) (op : AluOp) → form_of (alu_code op + 0x00 + alu_class w) ≡ Some (form.AluConstant w (code_for op))
+form_alu_constant : (w : Width) (op : AluOp)
+    → form_of (alu_code op + 0x00 + alu_class w) ≡ Some (form.AluConstant w (code_for op))
 form_alu_constant Low32 ops.Mov = refl
 form_alu_constant Full64 ops.Mov = refl
 form_alu_constant w op = refl
 
-form_alu_register : (w : Width) (op : AluOp) → form_of (alu_code op + 0x08 + alu_class w) ≡ Some (register_form w op)
+form_alu_register : (w : Width) (op : AluOp)
+    → form_of (alu_code op + 0x08 + alu_class w) ≡ Some (register_form w op)
 form_alu_register Low32 ops.Mov = refl
 form_alu_register Full64 ops.Mov = refl
 form_alu_register w op = refl
 
-form_if_constant : (w : Width) (c : Comparison) → form_of (jump_code c + 0x00 + jump_class w) ≡ Some (form.JumpIfConstant w c)
+form_if_constant : (w : Width) (c : Comparison)
+    → form_of (jump_code c + 0x00 + jump_class w) ≡ Some (form.JumpIfConstant w c)
 form_if_constant Low32 Equal = refl
 form_if_constant Full64 Equal = refl
 form_if_constant w c = refl
 
-form_if_register : (w : Width) (c : Comparison) → form_of (jump_code c + 0x08 + jump_class w) ≡ Some (form.JumpIfRegister w c)
+form_if_register : (w : Width) (c : Comparison)
+    → form_of (jump_code c + 0x08 + jump_class w) ≡ Some (form.JumpIfRegister w c)
 form_if_register Low32 Equal = refl
 form_if_register Full64 Equal = refl
 form_if_register w c = refl
@@ -136,11 +143,13 @@ form_atomic w = refl
 abbrev ok_insn : Insn → Result Insn CodecError
 ok_insn i = Ok i
 
-zero_alu_constant : (w : Width) (op : AluOp) (d : Reg) (k : ℕ) → zero_unused (uses (form.AluConstant w (code_for op))) (fields d R0 (alu_offset op) k) ≡ true
+zero_alu_constant : (w : Width) (op : AluOp) (d : Reg) (k : ℕ)
+    → zero_unused (uses (form.AluConstant w (code_for op))) (fields d R0 (alu_offset op) k) ≡ true
 zero_alu_constant w ops.Mov d k = refl
 zero_alu_constant w op d k = refl
 
-zero_alu_register : (w : Width) (op : AluOp) (d r : Reg) → zero_unused (uses (register_form w op)) (fields d r (alu_offset op) 0) ≡ true
+zero_alu_register : (w : Width) (op : AluOp) (d r : Reg)
+    → zero_unused (uses (register_form w op)) (fields d r (alu_offset op) 0) ≡ true
 zero_alu_register w ops.Mov d r = refl
 zero_alu_register w op d r = refl
 
@@ -150,31 +159,41 @@ back32 k h = to_z-of_z w32 k h
 back16 : (k : ℤ) → FitsSigned w16 k → cast_signed w16 (cast_unsigned w16 k) ≡ k
 back16 k h = to_z-of_z w16 k h
 
-means_alu_constant : (w : Width) (op : AluOp) (d : Reg) (k : ℕ) (rest : List ℕ) → meaning (form.AluConstant w (code_for op)) (fields d R0 (alu_offset op) k) rest ≡ Ok (Alu w op d (Constant (cast_signed w32 k)))
-means_alu_constant w ops.Mov d k rest = refl
-means_alu_constant w op d k rest = refl
+meaning-alu_constant : (w : Width) (op : AluOp) (d : Reg) (k : ℕ) (rest : List ℕ)
+    → meaning (form.AluConstant w (code_for op)) (fields d R0 (alu_offset op) k) rest
+    ≡ Ok (Alu w op d (Constant (cast_signed w32 k)))
+meaning-alu_constant w ops.Mov d k rest = refl
+meaning-alu_constant w op d k rest = refl
 
-means_alu_register : (w : Width) (op : AluOp) (d r : Reg) (rest : List ℕ) → meaning (register_form w op) (fields d r (alu_offset op) 0) rest ≡ Ok (Alu w op d (Register r))
-means_alu_register w ops.Mov d r rest = refl
-means_alu_register w op d r rest = refl
+meaning-alu_register : (w : Width) (op : AluOp) (d r : Reg) (rest : List ℕ)
+    → meaning (register_form w op) (fields d r (alu_offset op) 0) rest
+    ≡ Ok (Alu w op d (Register r))
+meaning-alu_register w ops.Mov d r rest = refl
+meaning-alu_register w op d r rest = refl
 
-form_extension : (x : Extension) → (w : Width) × (form_of (0xb8 + extension_class x) ≡ Some (form.MovRegister w)) × ((d r : Reg) (rest : List ℕ) → meaning (form.MovRegister w) (fields d r (extension_bits x) 0) rest ≡ Ok (MovSx x d r))
+form_extension : (x : Extension)
+    → (w : Width) × (form_of (0xb8 + extension_class x) ≡ Some (form.MovRegister w))
+    × ((d r : Reg) (rest : List ℕ)
+    → meaning (form.MovRegister w) (fields d r (extension_bits x) 0) rest ≡ Ok (MovSx x d r))
 form_extension Low8 = (Low32, refl, λ d r rest. refl)
 form_extension Low16 = (Low32, refl, λ d r rest. refl)
 form_extension Full8 = (Full64, refl, λ d r rest. refl)
 form_extension Full16 = (Full64, refl, λ d r rest. refl)
 form_extension Full32 = (Full64, refl, λ d r rest. refl)
 
-means_end : (order : ByteOrder) (x : SwapWidth) (d : Reg) (rest : List ℕ) → meaning (form.ByteSwap order) (fields d R0 0 (span_bits x)) rest ≡ Ok (ByteSwap order x d)
-means_end order B16 d rest = refl
-means_end order x d rest = refl
+meaning-end : (order : ByteOrder) (x : SwapWidth) (d : Reg) (rest : List ℕ)
+    → meaning (form.ByteSwap order) (fields d R0 0 (span_bits x)) rest ≡ Ok (ByteSwap order x d)
+meaning-end order B16 d rest = refl
+meaning-end order x d rest = refl
 
-means_atomic : (w : Width) (op : AtomicOp) (fetch : Bool) (d r : Reg) (o : ℕ) (rest : List ℕ) → meaning (form.Atomic w) (fields d r o (atomic_code op + fetch_bit fetch)) rest ≡ Ok (Atomic w op fetch (record { base = d; offset = cast_signed w16 o }) r)
-means_atomic w atomics.Add true d r o rest = refl
-means_atomic w atomics.Or true d r o rest = refl
-means_atomic w atomics.And true d r o rest = refl
-means_atomic w atomics.Xor true d r o rest = refl
-means_atomic w op fetch d r o rest = refl
+meaning-atomic : (w : Width) (op : AtomicOp) (fetch : Bool) (d r : Reg) (o : ℕ) (rest : List ℕ)
+    → meaning (form.Atomic w) (fields d r o (atomic_code op + fetch_bit fetch)) rest
+    ≡ Ok (Atomic w op fetch (record { base = d; offset = cast_signed w16 o }) r)
+meaning-atomic w atomics.Add true d r o rest = refl
+meaning-atomic w atomics.Or true d r o rest = refl
+meaning-atomic w atomics.And true d r o rest = refl
+meaning-atomic w atomics.Xor true d r o rest = refl
+meaning-atomic w op fetch d r o rest = refl
 
 -- ---- wide loads
 
@@ -191,22 +210,31 @@ long_enough : (n : ℕ) (rest : List ℕ) → nat_lt (length (zeros_then n rest)
 long_enough n rest = le-ltb _ _ (omega arith)
 
 -- the second slot is read
-second_slot-second_bytes : (n : ℕ) (rest : List ℕ) → n < 2 ^ 32 → second_slot (zeros_then n rest) ≡ Ok n
+second_slot-second_bytes : (n : ℕ) (rest : List ℕ) → n < 2 ^ 32
+    → second_slot (zeros_then n rest) ≡ Ok n
 second_slot-second_bytes n rest h =
-    ap (λ (b : Bool). cond b second_missing (next_is (little_number 4 (little_bytes 4 n ++ rest)))) (long_enough n rest)
+    ap (λ (b : Bool). cond b second_missing (next_is (little_number 4 (little_bytes 4 n ++ rest))))
+    (long_enough n rest)
     ∙ ap next_is (little_number-reads_back 4 n rest h)
 
-means_number : (d : Reg) (n : ℕ) (rest : List ℕ) → n < 2 ^ 64 → meaning form.WideLoad (fields d R0 0 (n % 2 ^ 32)) (zeros_then (n / 2 ^ 32) rest) ≡ Ok (LoadNumber d n)
-means_number d n rest h =
+meaning-number : (d : Reg) (n : ℕ) (rest : List ℕ) → n < 2 ^ 64
+    → meaning form.WideLoad (fields d R0 0 (n % 2 ^ 32)) (zeros_then (n / 2 ^ 32) rest)
+    ≡ Ok (LoadNumber d n)
+meaning-number d n rest h =
     let whole : n % 2 ^ 32 + n / 2 ^ 32 * 2 ^ 32 ≡ n = omega arith in
-    ap (wide_by R0 (fields d R0 0 (n % 2 ^ 32))) (second_slot-second_bytes (n / 2 ^ 32) rest (omega arith))
+    ap (wide_by R0 (fields d R0 0 (n % 2 ^ 32)))
+    (second_slot-second_bytes (n / 2 ^ 32) rest (omega arith))
     ∙ ap (λ (m : ℕ). ok_insn (LoadNumber d m)) whole
 
-means_map : (d : Reg) (m : ℕ) (rest : List ℕ) → meaning form.WideLoad (fields d R5 0 m) (zeros_then 0 rest) ≡ Ok (LoadMap d m)
-means_map d m rest = ap (wide_by R5 (fields d R5 0 m)) (second_slot-second_bytes 0 rest (omega arith))
+meaning-map : (d : Reg) (m : ℕ) (rest : List ℕ)
+    → meaning form.WideLoad (fields d R5 0 m) (zeros_then 0 rest) ≡ Ok (LoadMap d m)
+meaning-map d m rest =
+    ap (wide_by R5 (fields d R5 0 m)) (second_slot-second_bytes 0 rest (omega arith))
 
-means_map_value : (d : Reg) (m o : ℕ) (rest : List ℕ) → o < 2 ^ 32 → meaning form.WideLoad (fields d R6 0 m) (zeros_then o rest) ≡ Ok (LoadMapValue d m o)
-means_map_value d m o rest h = ap (wide_by R6 (fields d R6 0 m)) (second_slot-second_bytes o rest h)
+meaning-map_value : (d : Reg) (m o : ℕ) (rest : List ℕ) → o < 2 ^ 32
+    → meaning form.WideLoad (fields d R6 0 m) (zeros_then o rest) ≡ Ok (LoadMapValue d m o)
+meaning-map_value d m o rest h =
+    ap (wide_by R6 (fields d R6 0 m)) (second_slot-second_bytes o rest h)
 
 -- ---- all forms
 
@@ -217,36 +245,91 @@ abbrev test : Width → Comparison → Reg → Operand → Cond
 test w c d x = record { width = w; comparison = c; register = d; operand = x }
 
 -- the same of a conditional jump, by its operand
-means_if : (x : Operand) (w : Width) (c : Comparison) (d : Reg) (by : ℤ) (rest : List ℕ) → OperandFits x → FitsSigned w16 by
+meaning-if : (x : Operand) (w : Width) (c : Comparison) (d : Reg) (by : ℤ) (rest : List ℕ)
+    → OperandFits x → FitsSigned w16 by
     → slot_meaning (first_slot (JumpIf (test w c d x) by)) rest ≡ Ok (JumpIf (test w c d x) by)
-means_if (Constant k) w c d by rest h0 h1 =
-    through _ (form.JumpIfConstant w c) d R0 rest _ (form_if_constant w c) (reg_numbered-reg_number d) refl refl
-    (ap (λ (z : ℤ). ok_insn (JumpIf (test w c d (Constant z)) (cast_signed w16 (cast_unsigned w16 by)))) (back32 k h0)
+meaning-if (Constant k) w c d by rest h0 h1 =
+    through _ (form.JumpIfConstant w c) d R0 rest _ (form_if_constant w c)
+    (reg_numbered-reg_number d) refl refl
+    (ap (λ (z : ℤ). ok_insn
+    (JumpIf (test w c d (Constant z)) (cast_signed w16 (cast_unsigned w16 by)))) (back32 k h0)
     ∙ ap (λ (z : ℤ). ok_insn (JumpIf (test w c d (Constant k)) z)) (back16 by h1))
-means_if (Register r) w c d by rest h0 h1 =
-    through _ (form.JumpIfRegister w c) d r rest _ (form_if_register w c) (reg_numbered-reg_number d) (reg_numbered-reg_number r) refl
+meaning-if (Register r) w c d by rest h0 h1 =
+    through _ (form.JumpIfRegister w c) d r rest _ (form_if_register w c)
+    (reg_numbered-reg_number d) (reg_numbered-reg_number r) refl
     (ap (λ (z : ℤ). ok_insn (JumpIf (test w c d (Register r)) z)) (back16 by h1))
 
--- an instruction's slot, with what follows it, means that instruction
-pub slot_meaning-first_slot : (i : Insn) (rest : List ℕ) → InsnFits i → slot_meaning (first_slot i) (second_bytes (next_imm i) ++ rest) ≡ Ok i
-slot_meaning-first_slot (Alu w op d (Constant k)) rest h = through _ (form.AluConstant w (code_for op)) d R0 rest _ (form_alu_constant w op) (reg_numbered-reg_number d) refl (zero_alu_constant w op d (cast_unsigned w32 k)) (means_alu_constant w op d (cast_unsigned w32 k) rest ∙ ap (λ (z : ℤ). ok_insn (Alu w op d (Constant z))) (back32 k h))
-slot_meaning-first_slot (Alu w op d (Register r)) rest h = through _ (register_form w op) d r rest _ (form_alu_register w op) (reg_numbered-reg_number d) (reg_numbered-reg_number r) (zero_alu_register w op d r) (means_alu_register w op d r rest)
-slot_meaning-first_slot (Neg w d) rest h = through _ (form.Negate w) d R0 rest _ (form_negate w) (reg_numbered-reg_number d) refl refl refl
-slot_meaning-first_slot (MovSx x d r) rest h = let f = form_extension x in through _ (form.MovRegister f.0) d r rest _ f.1 (reg_numbered-reg_number d) (reg_numbered-reg_number r) refl (f.2 d r rest)
-slot_meaning-first_slot (ByteSwap order x d) rest h = through _ (form.ByteSwap order) d R0 rest _ (form_end order) (reg_numbered-reg_number d) refl refl (means_end order x d rest)
-slot_meaning-first_slot (LoadNumber d n) rest h = through _ form.WideLoad d R0 _ _ refl (reg_numbered-reg_number d) refl refl (means_number d n rest h)
-slot_meaning-first_slot (LoadMap d m) rest h = through _ form.WideLoad d R5 _ _ refl (reg_numbered-reg_number d) refl refl (means_map d m rest)
-slot_meaning-first_slot (LoadMapValue d m o) rest h = through _ form.WideLoad d R6 _ _ refl (reg_numbered-reg_number d) refl refl (means_map_value d m o rest h.1)
-slot_meaning-first_slot (Load size d p) rest h = through _ (form.Load size) d p.base rest _ (form_load size) (reg_numbered-reg_number d) (reg_numbered-reg_number p.base) refl (ap (λ (z : ℤ). ok_insn (Load size d (at_place p.base z))) (back16 p.offset h))
-slot_meaning-first_slot (LoadSx size d p) rest h = through _ (form.LoadSx size) d p.base rest _ (form_load_signed size) (reg_numbered-reg_number d) (reg_numbered-reg_number p.base) refl (ap (λ (z : ℤ). ok_insn (LoadSx size d (at_place p.base z))) (back16 p.offset h))
-slot_meaning-first_slot (StoreConstant size p k) rest h = through _ (form.StoreConstant size) p.base R0 rest _ (form_store_number size) (reg_numbered-reg_number p.base) refl refl (ap (λ (z : ℤ). ok_insn (StoreConstant size (at_place p.base z) (cast_signed w32 (cast_unsigned w32 k)))) (back16 p.offset h.0) ∙ ap (λ (z : ℤ). ok_insn (StoreConstant size p z)) (back32 k h.1))
-slot_meaning-first_slot (Store size p s) rest h = through _ (form.Store size) p.base s rest _ (form_store_register size) (reg_numbered-reg_number p.base) (reg_numbered-reg_number s) refl (ap (λ (z : ℤ). ok_insn (Store size (at_place p.base z) s)) (back16 p.offset h))
-slot_meaning-first_slot (Atomic w op fetch p s) rest h = through _ (form.Atomic w) p.base s rest _ (form_atomic w) (reg_numbered-reg_number p.base) (reg_numbered-reg_number s) refl (means_atomic w op fetch p.base s _ rest ∙ ap (λ (z : ℤ). ok_insn (Atomic w op fetch (at_place p.base z) s)) (back16 p.offset h))
-slot_meaning-first_slot (Exchange w p s) rest h = through _ (form.Atomic w) p.base s rest _ (form_atomic w) (reg_numbered-reg_number p.base) (reg_numbered-reg_number s) refl (ap (λ (z : ℤ). ok_insn (Exchange w (at_place p.base z) s)) (back16 p.offset h))
-slot_meaning-first_slot (CompareExchange w p s) rest h = through _ (form.Atomic w) p.base s rest _ (form_atomic w) (reg_numbered-reg_number p.base) (reg_numbered-reg_number s) refl (ap (λ (z : ℤ). ok_insn (CompareExchange w (at_place p.base z) s)) (back16 p.offset h))
-slot_meaning-first_slot (Jump by) rest h = through _ form.Jump R0 R0 rest _ refl refl refl refl (ap (λ (z : ℤ). ok_insn (Jump z)) (back16 by h))
-slot_meaning-first_slot (JumpLong by) rest h = through _ form.JumpLong R0 R0 rest _ refl refl refl refl (ap (λ (z : ℤ). ok_insn (JumpLong z)) (back32 by h))
-slot_meaning-first_slot (JumpIf c by) rest h = means_if c.operand c.width c.comparison c.register by rest h.0 h.1
-slot_meaning-first_slot (CallHelper n) rest h = through _ form.Call R0 R0 rest _ refl refl refl refl (ap (λ (z : ℤ). ok_insn (CallHelper z)) (back32 n h))
-slot_meaning-first_slot (CallLocal by) rest h = through _ form.Call R0 R1 rest _ refl refl refl refl (ap (λ (z : ℤ). ok_insn (CallLocal z)) (back32 by h))
+-- an instruction's slot, with what follows it, is decoded to that instruction
+pub slot_meaning-first_slot : (i : Insn) (rest : List ℕ) → InsnFits i
+    → slot_meaning (first_slot i) (second_bytes (next_imm i) ++ rest) ≡ Ok i
+slot_meaning-first_slot (Alu w op d (Constant k)) rest h =
+    through _ (form.AluConstant w (code_for op)) d R0 rest _ (form_alu_constant w op)
+    (reg_numbered-reg_number d) refl (zero_alu_constant w op d (cast_unsigned w32 k))
+    (meaning-alu_constant w op d (cast_unsigned w32 k) rest
+    ∙ ap (λ (z : ℤ). ok_insn (Alu w op d (Constant z))) (back32 k h))
+slot_meaning-first_slot (Alu w op d (Register r)) rest h =
+    through _ (register_form w op) d r rest _ (form_alu_register w op) (reg_numbered-reg_number d)
+    (reg_numbered-reg_number r) (zero_alu_register w op d r) (meaning-alu_register w op d r rest)
+slot_meaning-first_slot (Neg w d) rest h =
+    through _ (form.Negate w) d R0 rest _ (form_negate w) (reg_numbered-reg_number d) refl refl refl
+slot_meaning-first_slot (MovSx x d r) rest h =
+    let f = form_extension x in
+    through _ (form.MovRegister f.0) d r rest _ f.1 (reg_numbered-reg_number d)
+    (reg_numbered-reg_number r) refl (f.2 d r rest)
+slot_meaning-first_slot (ByteSwap order x d) rest h =
+    through _ (form.ByteSwap order) d R0 rest _ (form_end order)
+    (reg_numbered-reg_number d) refl refl (meaning-end order x d rest)
+slot_meaning-first_slot (LoadNumber d n) rest h =
+    through _ form.WideLoad d R0 _ _ refl (reg_numbered-reg_number d) refl refl
+    (meaning-number d n rest h)
+slot_meaning-first_slot (LoadMap d m) rest h =
+    through _ form.WideLoad d R5 _ _ refl (reg_numbered-reg_number d) refl refl
+    (meaning-map d m rest)
+slot_meaning-first_slot (LoadMapValue d m o) rest h =
+    through _ form.WideLoad d R6 _ _ refl (reg_numbered-reg_number d) refl refl
+    (meaning-map_value d m o rest h.1)
+slot_meaning-first_slot (Load size d p) rest h =
+    through _ (form.Load size) d p.base rest _ (form_load size) (reg_numbered-reg_number d)
+    (reg_numbered-reg_number p.base) refl
+    (ap (λ (z : ℤ). ok_insn (Load size d (at_place p.base z))) (back16 p.offset h))
+slot_meaning-first_slot (LoadSx size d p) rest h =
+    through _ (form.LoadSx size) d p.base rest _ (form_load_signed size) (reg_numbered-reg_number d)
+    (reg_numbered-reg_number p.base) refl
+    (ap (λ (z : ℤ). ok_insn (LoadSx size d (at_place p.base z))) (back16 p.offset h))
+slot_meaning-first_slot (StoreConstant size p k) rest h =
+    through _ (form.StoreConstant size) p.base R0 rest _ (form_store_number size)
+    (reg_numbered-reg_number p.base) refl refl
+    (ap (λ (z : ℤ). ok_insn
+    (StoreConstant size (at_place p.base z) (cast_signed w32 (cast_unsigned w32 k))))
+    (back16 p.offset h.0) ∙ ap (λ (z : ℤ). ok_insn (StoreConstant size p z)) (back32 k h.1))
+slot_meaning-first_slot (Store size p s) rest h =
+    through _ (form.Store size) p.base s rest _ (form_store_register size)
+    (reg_numbered-reg_number p.base) (reg_numbered-reg_number s) refl
+    (ap (λ (z : ℤ). ok_insn (Store size (at_place p.base z) s)) (back16 p.offset h))
+slot_meaning-first_slot (Atomic w op fetch p s) rest h =
+    through _ (form.Atomic w) p.base s rest _ (form_atomic w) (reg_numbered-reg_number p.base)
+    (reg_numbered-reg_number s) refl
+    (meaning-atomic w op fetch p.base s _ rest
+    ∙ ap (λ (z : ℤ). ok_insn (Atomic w op fetch (at_place p.base z) s)) (back16 p.offset h))
+slot_meaning-first_slot (Exchange w p s) rest h =
+    through _ (form.Atomic w) p.base s rest _ (form_atomic w) (reg_numbered-reg_number p.base)
+    (reg_numbered-reg_number s) refl
+    (ap (λ (z : ℤ). ok_insn (Exchange w (at_place p.base z) s)) (back16 p.offset h))
+slot_meaning-first_slot (CompareExchange w p s) rest h =
+    through _ (form.Atomic w) p.base s rest _ (form_atomic w) (reg_numbered-reg_number p.base)
+    (reg_numbered-reg_number s) refl
+    (ap (λ (z : ℤ). ok_insn (CompareExchange w (at_place p.base z) s)) (back16 p.offset h))
+slot_meaning-first_slot (Jump by) rest h = through _ form.Jump R0 R0 rest _ refl refl refl refl
+    (ap (λ (z : ℤ). ok_insn (Jump z)) (back16 by h))
+slot_meaning-first_slot (JumpLong by) rest h =
+    through _ form.JumpLong R0 R0 rest _ refl refl refl refl
+    (ap (λ (z : ℤ). ok_insn (JumpLong z)) (back32 by h))
+slot_meaning-first_slot (JumpIf c by) rest h =
+    meaning-if c.operand c.width c.comparison c.register by rest h.0 h.1
+slot_meaning-first_slot (CallHelper n) rest h =
+    through _ form.Call R0 R0 rest _ refl refl refl refl
+    (ap (λ (z : ℤ). ok_insn (CallHelper z)) (back32 n h))
+slot_meaning-first_slot (CallLocal by) rest h =
+    through _ form.Call R0 R1 rest _ refl refl refl refl
+    (ap (λ (z : ℤ). ok_insn (CallLocal z)) (back32 by h))
 slot_meaning-first_slot Exit rest h = through _ form.Exit R0 R0 rest _ refl refl refl refl refl

@@ -1,4 +1,4 @@
--- Which opcode each form has, and that an opcode of a form is that form's: by trying all 256.
+-- The opcode of each form, and that no other opcode names the form: all 256 are tried.
 use Rattle.std.proofs.Common.{◌≡◌, ℕ, ◌+◌, ◌<◌, Bool, true, Option, Some, refl, subst}
 use Rattle.std.specs.Prelude.{◌==◌}
 use Rattle.std.specs.Option.{option_map_or}
@@ -51,7 +51,8 @@ names_test o = option_map_or (λ f. opcode_of f == o) (form_of o) true
 pub opcode-form_of : (o : ℕ) (f : Form) → o < 256 → form_of o ≡ Some f → opcode_of f ≡ o
 opcode-form_of o f lt e =
     let t : names_test o ≡ true = agree_below_at names_test (λ _. true) 256 o refl lt in
-    eqb-true _ _ (subst (λ (x : Option Form). option_map_or (λ g. opcode_of g == o) x true ≡ true) e t)
+    eqb-true _ _ (subst
+    (λ (x : Option Form). option_map_or (λ g. opcode_of g == o) x true ≡ true) e t)
 
 abbrev reg_test : ℕ → Bool
 reg_test n = option_map_or (λ r. reg_number r == n) (reg_numbered n) true
@@ -59,4 +60,5 @@ reg_test n = option_map_or (λ r. reg_number r == n) (reg_numbered n) true
 pub number-reg_numbered : (n : ℕ) (r : Reg) → n < 16 → reg_numbered n ≡ Some r → reg_number r ≡ n
 number-reg_numbered n r lt e =
     let t : reg_test n ≡ true = agree_below_at reg_test (λ _. true) 16 n refl lt in
-    eqb-true _ _ (subst (λ (x : Option Reg). option_map_or (λ q. reg_number q == n) x true ≡ true) e t)
+    eqb-true _ _ (subst
+    (λ (x : Option Reg). option_map_or (λ q. reg_number q == n) x true ≡ true) e t)

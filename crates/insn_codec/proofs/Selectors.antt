@@ -28,8 +28,9 @@ use Rattle.insn_codec.proofs.Opcodes.{code_of}
 
 -- ---- tools
 
--- which way a test went
-pub chosen : {A : Type 0} (b : Bool) (x y z : A) → cond b x y ≡ z → ((b ≡ true) × (x ≡ z)) ⊎ ((b ≡ false) × (y ≡ z))
+-- the two cases of a test
+pub chosen : {A : Type 0} (b : Bool) (x y z : A) → cond b x y ≡ z
+    → ((b ≡ true) × (x ≡ z)) ⊎ ((b ≡ false) × (y ≡ z))
 chosen true x y z e = inl (refl, e)
 chosen false x y z e = inr (refl, e)
 
@@ -42,7 +43,8 @@ ok_is i j e = cc
 some_is : {A : Type 0} (x y : A) → Some x ≡ Some y → x ≡ y
 some_is x y e = cc
 
-pub selected_ok : {A : Type 0} (g : A → Insn) (o : Option A) (i : Insn) → selected (option_map g o) ≡ Ok i → (x : A) × (o ≡ Some x) × (g x ≡ i)
+pub selected_ok : {A : Type 0} (g : A → Insn) (o : Option A) (i : Insn)
+    → selected (option_map g o) ≡ Ok i → (x : A) × (o ≡ Some x) × (g x ≡ i)
 selected_ok g (Some x) i e = (x, refl, ok_is _ _ e)
 selected_ok g None i e = absurd cc
 
@@ -60,7 +62,8 @@ pub record Zeroes (u : Uses) (d r : Reg) (o k : ℕ) : Type 0 where
   pub offset : (u.offset || o == 0) ≡ true
   pub imm : (u.imm || k == 0) ≡ true
 
-pub zeroes : (u : Uses) (d r : Reg) (o k : ℕ) → zero_unused u (fields d r o k) ≡ true → Zeroes u d r o k
+pub zeroes : (u : Uses) (d r : Reg) (o k : ℕ) → zero_unused u (fields d r o k) ≡ true
+    → Zeroes u d r o k
 zeroes u d r o k e =
     let p = and_parts _ _ e in
     let q = and_parts _ _ p.0 in
@@ -72,7 +75,8 @@ zeroes u d r o k e =
 abbrev OpIs : AluCode → ℕ → AluOp → Type 0
 OpIs c o op = (alu_code op ≡ code_of c) × (alu_offset op ≡ o)
 
-pub op_is : (c : AluCode) (o : ℕ) (op : AluOp) → op_selected c o ≡ Some op → (has_selector c || o == 0) ≡ true → OpIs c o op
+pub op_is : (c : AluCode) (o : ℕ) (op : AluOp) → op_selected c o ≡ Some op
+    → (has_selector c || o == 0) ≡ true → OpIs c o op
 op_is codes.Div o op e z =
     elim (chosen (o == 0) (Some ops.Div) _ _ e) [
       | inl p ↦ subst (OpIs codes.Div o) (some_is _ _ p.1) (refl, sym (eqb-true o 0 p.0))
@@ -103,7 +107,8 @@ op_is codes.Arsh o op e z = subst (OpIs codes.Arsh o) (some_is _ _ e) (refl, sym
 abbrev ExtensionIs : Width → ℕ → Extension → Type 0
 ExtensionIs w o x = (extension_class x ≡ alu_class w) × (extension_bits x ≡ o)
 
-pub extension_is : (w : Width) (o : ℕ) (x : Extension) → extension_selected w o ≡ Some x → ExtensionIs w o x
+pub extension_is : (w : Width) (o : ℕ) (x : Extension) → extension_selected w o ≡ Some x
+    → ExtensionIs w o x
 extension_is Low32 o x e =
     elim (chosen (o == 8) (Some Low8) _ _ e) [
       | inl p ↦ subst (ExtensionIs Low32 o) (some_is _ _ p.1) (refl, sym (eqb-true o 8 p.0))
@@ -133,7 +138,8 @@ span_is k x e =
         | inl q ↦
             subst (λ (s : SwapWidth). span_bits s ≡ k) (some_is _ _ q.1) (sym (eqb-true k 32 q.0))
         | inr q ↦ elim (chosen (k == 64) (Some B64) _ _ q.1) [
-          | inl s ↦ subst (λ (y : SwapWidth). span_bits y ≡ k) (some_is _ _ s.1) (sym (eqb-true k 64 s.0))
+          | inl s ↦
+              subst (λ (y : SwapWidth). span_bits y ≡ k) (some_is _ _ s.1) (sym (eqb-true k 64 s.0))
           | inr s ↦ absurd cc
         ]
       ]

@@ -71,29 +71,37 @@ pub slot_is : (c c' a a' b b' o o' k k' : ℕ) → c ≡ c' → a ≡ a' → b �
 slot_is c c' a a' b b' o o' k k' h0 h1 h2 h3 h4 = rw (h0, h1, h2, h3, h4) refl
 
 -- an instruction of one slot is spelled by the fields that it was read from
-one : (c : ℕ) (d r : Reg) (o k : ℕ) (rest : List ℕ) (x i : Insn) → first_slot x ≡ slot c (reg_number d) (reg_number r) o k
+one : (c : ℕ) (d r : Reg) (o k : ℕ) (rest : List ℕ) (x i : Insn)
+    → first_slot x ≡ slot c (reg_number d) (reg_number r) o k
     → Continues (next_imm x) rest → InsnFits x → x ≡ i → By c d r o k rest i
 one c d r o k rest x i first second fits e =
     subst (By c d r o k rest) e (record { first = first; second = second; fits = fits })
 
-alu_constant : (w : Width) (c : AluCode) (d r : Reg) (o k : ℕ) (rest : List ℕ) (i : Insn) → Within o k rest
-    → Zeroes (uses (form.AluConstant w c)) d r o k → meaning (form.AluConstant w c) (fields d r o k) rest ≡ Ok i
+alu_constant : (w : Width) (c : AluCode) (d r : Reg) (o k : ℕ) (rest : List ℕ) (i : Insn)
+    → Within o k rest
+    → Zeroes (uses (form.AluConstant w c)) d r o k
+    → meaning (form.AluConstant w c) (fields d r o k) rest ≡ Ok i
     → By (opcode_of (form.AluConstant w c)) d r o k rest i
 alu_constant w c d r o k rest i h z e =
-    let s = selected_ok (λ op. Alu w op d (Constant (constant_in (fields d r o k)))) (op_selected c o) i e in
+    let s = selected_ok (λ op. Alu w op d (Constant (constant_in (fields d r o k))))
+    (op_selected c o) i e in
     let q = op_is c o s.0 s.1 z.offset in
     one _ d r o k rest _ i
-    (slot_is _ _ _ _ _ _ _ _ _ _ (ap (λ n. n + 0x00 + alu_class w) q.0) refl (sym (r0_is r z.src)) q.1 h.imm)
+    (slot_is _ _ _ _ _ _ _ _ _ _ (ap (λ n. n + 0x00 + alu_class w) q.0) refl
+    (sym (r0_is r z.src)) q.1 h.imm)
     tt h.constant s.2
 
-alu_register : (w : Width) (c : AluCode) (d r : Reg) (o k : ℕ) (rest : List ℕ) (i : Insn) → Within o k rest
-    → Zeroes (uses (form.AluRegister w c)) d r o k → meaning (form.AluRegister w c) (fields d r o k) rest ≡ Ok i
+alu_register : (w : Width) (c : AluCode) (d r : Reg) (o k : ℕ) (rest : List ℕ) (i : Insn)
+    → Within o k rest
+    → Zeroes (uses (form.AluRegister w c)) d r o k
+    → meaning (form.AluRegister w c) (fields d r o k) rest ≡ Ok i
     → By (opcode_of (form.AluRegister w c)) d r o k rest i
 alu_register w c d r o k rest i h z e =
     let s = selected_ok (λ op. Alu w op d (Register r)) (op_selected c o) i e in
     let q = op_is c o s.0 s.1 z.offset in
     one _ d r o k rest _ i
-    (slot_is _ _ _ _ _ _ _ _ _ _ (ap (λ n. n + 0x08 + alu_class w) q.0) refl refl q.1 (sym (eqb-true k 0 z.imm)))
+    (slot_is _ _ _ _ _ _ _ _ _ _ (ap (λ n. n + 0x08 + alu_class w) q.0) refl refl q.1
+    (sym (eqb-true k 0 z.imm)))
     tt tt s.2
 
 mov_register : (w : Width) (d r : Reg) (o k : ℕ) (rest : List ℕ) (i : Insn)
@@ -103,13 +111,15 @@ mov_register w d r o k rest i z e =
     elim (chosen (o == 0) (done (Alu w ops.Mov d (Register r))) _ _ e) [
       | inl p ↦
           one _ d r o k rest _ i
-          (slot_is _ _ _ _ _ _ _ _ _ _ refl refl refl (sym (eqb-true o 0 p.0)) (sym (eqb-true k 0 z.imm)))
+          (slot_is _ _ _ _ _ _ _ _ _ _ refl refl refl (sym (eqb-true o 0 p.0))
+          (sym (eqb-true k 0 z.imm)))
           tt tt (ok_is _ _ p.1)
       | inr p ↦
           let s = selected_ok (λ x. MovSx x d r) (extension_selected w o) i p.1 in
           let q = extension_is w o s.0 s.1 in
           one _ d r o k rest _ i
-          (slot_is _ _ _ _ _ _ _ _ _ _ (ap (λ n. 0xb8 + n) q.0) refl refl q.1 (sym (eqb-true k 0 z.imm)))
+          (slot_is _ _ _ _ _ _ _ _ _ _ (ap (λ n. 0xb8 + n) q.0) refl refl q.1
+          (sym (eqb-true k 0 z.imm)))
           tt tt s.2
     ]
 
@@ -119,18 +129,22 @@ byte_swap : (order : ByteOrder) (d r : Reg) (o k : ℕ) (rest : List ℕ) (i : I
 byte_swap order d r o k rest i z e =
     let s = selected_ok (λ span. ByteSwap order span d) (span_selected k) i e in
     one _ d r o k rest _ i
-    (slot_is _ _ _ _ _ _ _ _ _ _ refl refl (sym (r0_is r z.src)) (sym (eqb-true o 0 z.offset)) (span_is k s.0 s.1))
+    (slot_is _ _ _ _ _ _ _ _ _ _ refl refl (sym (r0_is r z.src)) (sym (eqb-true o 0 z.offset))
+    (span_is k s.0 s.1))
     tt tt s.2
 
-call : (d r : Reg) (o k : ℕ) (rest : List ℕ) (i : Insn) → Within o k rest → Zeroes (uses form.Call) d r o k
+call : (d r : Reg) (o k : ℕ) (rest : List ℕ) (i : Insn) → Within o k rest
+    → Zeroes (uses form.Call) d r o k
     → called_by r (fields d r o k) ≡ Ok i → By 0x85 d r o k rest i
 call d R0 o k rest i h z e =
     one _ d R0 o k rest _ i
-    (slot_is _ _ _ _ _ _ _ _ _ _ refl (sym (r0_is d z.dst)) refl (sym (eqb-true o 0 z.offset)) h.imm)
+    (slot_is _ _ _ _ _ _ _ _ _ _ refl (sym (r0_is d z.dst)) refl
+    (sym (eqb-true o 0 z.offset)) h.imm)
     tt h.constant (ok_is _ _ e)
 call d R1 o k rest i h z e =
     one _ d R1 o k rest _ i
-    (slot_is _ _ _ _ _ _ _ _ _ _ refl (sym (r0_is d z.dst)) refl (sym (eqb-true o 0 z.offset)) h.imm)
+    (slot_is _ _ _ _ _ _ _ _ _ _ refl (sym (r0_is d z.dst)) refl
+    (sym (eqb-true o 0 z.offset)) h.imm)
     tt h.constant (ok_is _ _ e)
 call d r o k rest i h z e = absurd cc
 
@@ -152,7 +166,8 @@ atomic_at w d r o k rest i h e =
     absurd cc))))))))))
   where
     same : (n : ℕ)
-        → slot (atomic_opcode w) (reg_number d) (reg_number r) (cast_unsigned w16 (cast_signed w16 o)) n
+        → slot (atomic_opcode w) (reg_number d) (reg_number r)
+        (cast_unsigned w16 (cast_signed w16 o)) n
         ≡ slot (atomic_opcode w) (reg_number d) (reg_number r) o n
     same n = rw h.offset refl
 
@@ -173,12 +188,17 @@ atomic_at w d r o k rest i h e =
         ]
 
 -- the eight bytes of a second slot whose reserved bits are zero
-second : (rest : List ℕ) → EachByte rest → 8 ≤ length rest → little_number 4 rest ≡ 0 → take 8 rest ≡ second_bytes (Some (little_number 4 (drop 4 rest)))
+second : (rest : List ℕ) → EachByte rest → 8 ≤ length rest → little_number 4 rest ≡ 0
+    → take 8 rest ≡ second_bytes (Some (little_number 4 (drop 4 rest)))
 second rest small long zeros =
-    let front : little_bytes 4 (little_number 4 rest) ≡ take 4 rest = little_bytes-little_from 4 0 rest small (omega arith) in
-    let back : little_bytes 4 (little_number 4 (drop 4 rest)) ≡ take 4 (drop 4 rest) = little_bytes-little_from 4 0 (drop 4 rest) (EachByte-drop 4 rest small) (omega (arith, length-drop 4 rest)) in
+    let front : little_bytes 4 (little_number 4 rest) ≡ take 4 rest =
+    little_bytes-little_from 4 0 rest small (omega arith) in
+    let back : little_bytes 4 (little_number 4 (drop 4 rest)) ≡ take 4 (drop 4 rest) =
+    little_bytes-little_from 4 0 (drop 4 rest) (EachByte-drop 4 rest small)
+    (omega (arith, length-drop 4 rest)) in
     let zero : take 4 rest ≡ 0 ∷ 0 ∷ 0 ∷ 0 ∷ [] = sym front ∙ ap (little_bytes 4) zeros in
-    take-add 4 4 rest ∙ ap (λ l. l ++ take 4 (drop 4 rest)) zero ∙ ap (λ l. 0 ∷ 0 ∷ 0 ∷ 0 ∷ l) (sym back)
+    take-add 4 4 rest ∙ ap (λ l. l ++ take 4 (drop 4 rest)) zero
+    ∙ ap (λ l. 0 ∷ 0 ∷ 0 ∷ 0 ∷ l) (sym back)
 
 -- a second slot that was read: next_imm, its bytes and its range
 record Second (rest : List ℕ) (next : ℕ) : Type 0 where
@@ -191,7 +211,8 @@ next_is n = Ok n
 same_next : (m n : ℕ) → next_is m ≡ next_is n → m ≡ n
 same_next m n e = cc
 
-second_read : (rest : List ℕ) (next : ℕ) → EachByte rest → second_slot rest ≡ Ok next → Second rest next
+second_read : (rest : List ℕ) (next : ℕ) → EachByte rest → second_slot rest ≡ Ok next
+    → Second rest next
 second_read rest next small e =
     elim (chosen (nat_lt (length rest) 8) _ _ _ e) [
       | inl p ↦ absurd cc
@@ -204,7 +225,8 @@ second_read rest next small e =
       ]
     ]
 
-next_ok : (r : Result ℕ CodecError) (f : ℕ → Result Insn CodecError) (i : Insn) → with_next r f ≡ Ok i → (n : ℕ) × (r ≡ Ok n) × (f n ≡ Ok i)
+next_ok : (r : Result ℕ CodecError) (f : ℕ → Result Insn CodecError) (i : Insn)
+    → with_next r f ≡ Ok i → (n : ℕ) × (r ≡ Ok n) × (f n ≡ Ok i)
 next_ok (Ok n) f i e = (n, refl, e)
 next_ok (Err d) f i e = absurd cc
 
@@ -226,7 +248,8 @@ wide_is d R5 o k rest i h ho e =
       | inl p ↦
           one _ d R5 o k rest (LoadMap d k) i
           (slot_is _ _ _ _ _ _ _ _ _ _ refl refl refl (sym ho) refl)
-          (s.bytes ∙ ap (λ (n : ℕ). second_bytes (Some n)) (eqb-true a.0 0 p.0)) h.small (ok_is _ _ p.1)
+          (s.bytes ∙ ap (λ (n : ℕ). second_bytes (Some n)) (eqb-true a.0 0 p.0)) h.small
+          (ok_is _ _ p.1)
       | inr p ↦ absurd cc
     ]
 wide_is d R6 o k rest i h ho e =
@@ -238,18 +261,21 @@ wide_is d R6 o k rest i h ho e =
 wide_is d r o k rest i h ho e = absurd cc
 
 -- the instruction that a form makes of its fields is spelled by them
-meaning-spelled : (f : Form) (d r : Reg) (o k : ℕ) (rest : List ℕ) (i : Insn) → Within o k rest → Zeroes (uses f) d r o k
+meaning-spelled : (f : Form) (d r : Reg) (o k : ℕ) (rest : List ℕ) (i : Insn) → Within o k rest
+    → Zeroes (uses f) d r o k
     → meaning f (fields d r o k) rest ≡ Ok i → By (opcode_of f) d r o k rest i
 meaning-spelled (form.AluConstant w c) d r o k rest i h z e = alu_constant w c d r o k rest i h z e
 meaning-spelled (form.AluRegister w c) d r o k rest i h z e = alu_register w c d r o k rest i h z e
 meaning-spelled (form.MovRegister w) d r o k rest i h z e = mov_register w d r o k rest i z e
 meaning-spelled (form.ByteSwap order) d r o k rest i h z e = byte_swap order d r o k rest i z e
 meaning-spelled (form.Atomic w) d r o k rest i h z e = atomic_at w d r o k rest i h e
-meaning-spelled form.WideLoad d r o k rest i h z e = wide_is d r o k rest i h (eqb-true o 0 z.offset) e
+meaning-spelled form.WideLoad d r o k rest i h z e =
+    wide_is d r o k rest i h (eqb-true o 0 z.offset) e
 meaning-spelled form.Call d r o k rest i h z e = call d r o k rest i h z e
 meaning-spelled (form.Negate w) d r o k rest i h z e =
     one _ d r o k rest _ i
-    (slot_is _ _ _ _ _ _ _ _ _ _ refl refl (sym (r0_is r z.src)) (sym (eqb-true o 0 z.offset)) (sym (eqb-true k 0 z.imm)))
+    (slot_is _ _ _ _ _ _ _ _ _ _ refl refl (sym (r0_is r z.src)) (sym (eqb-true o 0 z.offset))
+    (sym (eqb-true k 0 z.imm)))
     tt tt (ok_is _ _ e)
 meaning-spelled (form.Load size) d r o k rest i h z e =
     one _ d r o k rest _ i
@@ -269,11 +295,13 @@ meaning-spelled (form.Store size) d r o k rest i h z e =
     tt h.distance (ok_is _ _ e)
 meaning-spelled form.Jump d r o k rest i h z e =
     one _ d r o k rest _ i
-    (slot_is _ _ _ _ _ _ _ _ _ _ refl (sym (r0_is d z.dst)) (sym (r0_is r z.src)) h.offset (sym (eqb-true k 0 z.imm)))
+    (slot_is _ _ _ _ _ _ _ _ _ _ refl (sym (r0_is d z.dst)) (sym (r0_is r z.src)) h.offset
+    (sym (eqb-true k 0 z.imm)))
     tt h.distance (ok_is _ _ e)
 meaning-spelled form.JumpLong d r o k rest i h z e =
     one _ d r o k rest _ i
-    (slot_is _ _ _ _ _ _ _ _ _ _ refl (sym (r0_is d z.dst)) (sym (r0_is r z.src)) (sym (eqb-true o 0 z.offset)) h.imm)
+    (slot_is _ _ _ _ _ _ _ _ _ _ refl (sym (r0_is d z.dst)) (sym (r0_is r z.src))
+    (sym (eqb-true o 0 z.offset)) h.imm)
     tt h.constant (ok_is _ _ e)
 meaning-spelled (form.JumpIfConstant w c) d r o k rest i h z e =
     one _ d r o k rest _ i
@@ -285,7 +313,8 @@ meaning-spelled (form.JumpIfRegister w c) d r o k rest i h z e =
     tt (tt, h.distance) (ok_is _ _ e)
 meaning-spelled form.Exit d r o k rest i h z e =
     one _ d r o k rest _ i
-    (slot_is _ _ _ _ _ _ _ _ _ _ refl (sym (r0_is d z.dst)) (sym (r0_is r z.src)) (sym (eqb-true o 0 z.offset)) (sym (eqb-true k 0 z.imm)))
+    (slot_is _ _ _ _ _ _ _ _ _ _ refl (sym (r0_is d z.dst)) (sym (r0_is r z.src))
+    (sym (eqb-true o 0 z.offset)) (sym (eqb-true k 0 z.imm)))
     tt tt (ok_is _ _ e)
 
 -- a slot whose fields fit
@@ -296,19 +325,25 @@ pub record HasFittingFields (s : Slot) : Type 0 where
   pub offset : s.offset < 2 ^ 16
   pub imm : s.imm < 2 ^ 32
 
-form_some : (f : Option Form) (s : Slot) (rest : List ℕ) (i : Insn) → with_form f s rest ≡ Ok i → (x : Form) × (f ≡ Some x) × (with_dst x s (reg_numbered s.dst) rest ≡ Ok i)
+form_some : (f : Option Form) (s : Slot) (rest : List ℕ) (i : Insn) → with_form f s rest ≡ Ok i
+    → (x : Form) × (f ≡ Some x) × (with_dst x s (reg_numbered s.dst) rest ≡ Ok i)
 form_some None s rest i e = absurd cc
 form_some (Some x) s rest i e = (x, refl, e)
 
-dst_some : (f : Form) (s : Slot) (d : Option Reg) (rest : List ℕ) (i : Insn) → with_dst f s d rest ≡ Ok i → (x : Reg) × (d ≡ Some x) × (with_src f s x (reg_numbered s.src) rest ≡ Ok i)
+dst_some : (f : Form) (s : Slot) (d : Option Reg) (rest : List ℕ) (i : Insn)
+    → with_dst f s d rest ≡ Ok i
+    → (x : Reg) × (d ≡ Some x) × (with_src f s x (reg_numbered s.src) rest ≡ Ok i)
 dst_some f s None rest i e = absurd cc
 dst_some f s (Some x) rest i e = (x, refl, e)
 
-src_some : (f : Form) (s : Slot) (d : Reg) (r : Option Reg) (rest : List ℕ) (i : Insn) → with_src f s d r rest ≡ Ok i → (x : Reg) × (r ≡ Some x) × (with_fields f (fields d x s.offset s.imm) rest ≡ Ok i)
+src_some : (f : Form) (s : Slot) (d : Reg) (r : Option Reg) (rest : List ℕ) (i : Insn)
+    → with_src f s d r rest ≡ Ok i
+    → (x : Reg) × (r ≡ Some x) × (with_fields f (fields d x s.offset s.imm) rest ≡ Ok i)
 src_some f s d None rest i e = absurd cc
 src_some f s d (Some x) rest i e = (x, refl, e)
 
-pub slot_meaning-spelled : (s : Slot) (rest : List ℕ) (i : Insn) → HasFittingFields s → EachByte rest → slot_meaning s rest ≡ Ok i → SpelledBy s rest i
+pub slot_meaning-spelled : (s : Slot) (rest : List ℕ) (i : Insn) → HasFittingFields s
+    → EachByte rest → slot_meaning s rest ≡ Ok i → SpelledBy s rest i
 unfolding slot_meaning
 slot_meaning-spelled s rest i fits small e =
     let a = form_some (form_of s.opcode) s rest i e in
@@ -317,9 +352,14 @@ slot_meaning-spelled s rest i fits small e =
     elim (chosen (zero_unused (uses a.0) (fields b.0 c.0 s.offset s.imm)) _ _ _ c.2) [
       | inr p ↦ absurd cc
       | inl p ↦
-          let m = meaning-spelled a.0 b.0 c.0 s.offset s.imm rest i (within _ _ _ fits.offset fits.imm small) (zeroes (uses a.0) b.0 c.0 s.offset s.imm p.0) p.1 in
+          let m = meaning-spelled a.0 b.0 c.0 s.offset s.imm rest i
+          (within _ _ _ fits.offset fits.imm small)
+          (zeroes (uses a.0) b.0 c.0 s.offset s.imm p.0) p.1 in
           record {
-            first = m.first ∙ slot_is _ _ _ _ _ _ _ _ _ _ (opcode-form_of s.opcode a.0 fits.opcode a.1) (number-reg_numbered s.dst b.0 fits.dst b.1) (number-reg_numbered s.src c.0 fits.src c.1) refl refl;
+            first = m.first ∙ slot_is _ _ _ _ _ _ _ _ _ _
+                (opcode-form_of s.opcode a.0 fits.opcode a.1)
+                (number-reg_numbered s.dst b.0 fits.dst b.1)
+                (number-reg_numbered s.src c.0 fits.src c.1) refl refl;
             second = m.second;
             fits = m.fits;
           }

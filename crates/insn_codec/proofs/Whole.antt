@@ -43,13 +43,22 @@ two_heads (x ∷ y ∷ xs) h = refl
 -- the fields of 8 bytes spell them
 bytes-slot_at : (xs : List ℕ) → EachByte xs → 8 ≤ length xs → slot_bytes (slot_at xs) ≡ take 8 xs
 bytes-slot_at xs small long =
-    let byte : slice_index xs 1 % 16 + 16 * (slice_index xs 1 / 16) ≡ slice_index xs 1 = omega arith in
-    let two : little_bytes 2 (little_number 2 (drop 2 xs)) ≡ take 2 (drop 2 xs) = little_bytes-little_from 2 0 (drop 2 xs) (EachByte-drop 2 xs small) (omega (arith, length-drop 2 xs)) in
-    let four : little_bytes 4 (little_number 4 (drop 4 xs)) ≡ take 4 (drop 4 xs) = little_bytes-little_from 4 0 (drop 4 xs) (EachByte-drop 4 xs small) (omega (arith, length-drop 4 xs)) in
-    let six : take 6 (drop 2 xs) ≡ take 2 (drop 2 xs) ++ take 4 (drop 4 xs) = take-add 2 4 (drop 2 xs) ∙ ap (λ l. take 2 (drop 2 xs) ++ take 4 l) (drop-drop 2 2 xs) in
+    let byte : slice_index xs 1 % 16 + 16 * (slice_index xs 1 / 16) ≡ slice_index xs 1 =
+    omega arith in
+    let two : little_bytes 2 (little_number 2 (drop 2 xs)) ≡ take 2 (drop 2 xs) =
+    little_bytes-little_from 2 0 (drop 2 xs) (EachByte-drop 2 xs small)
+    (omega (arith, length-drop 2 xs)) in
+    let four : little_bytes 4 (little_number 4 (drop 4 xs)) ≡ take 4 (drop 4 xs) =
+    little_bytes-little_from 4 0 (drop 4 xs) (EachByte-drop 4 xs small)
+    (omega (arith, length-drop 4 xs)) in
+    let six : take 6 (drop 2 xs) ≡ take 2 (drop 2 xs) ++ take 4 (drop 4 xs) =
+    take-add 2 4 (drop 2 xs) ∙ ap (λ l. take 2 (drop 2 xs) ++ take 4 l) (drop-drop 2 2 xs) in
     let heads : take 2 xs ≡ slice_index xs 0 ∷ slice_index xs 1 ∷ [] = two_heads xs (omega arith) in
-    ap (λ n. slice_index xs 0 ∷ n ∷ (little_bytes 2 (little_number 2 (drop 2 xs)) ++ little_bytes 4 (little_number 4 (drop 4 xs)))) byte
-    ∙ ap (λ l. slice_index xs 0 ∷ slice_index xs 1 ∷ (l ++ little_bytes 4 (little_number 4 (drop 4 xs)))) two
+    ap (λ n. slice_index xs 0 ∷ n
+    ∷ (little_bytes 2 (little_number 2 (drop 2 xs))
+    ++ little_bytes 4 (little_number 4 (drop 4 xs)))) byte
+    ∙ ap (λ l. slice_index xs 0 ∷ slice_index xs 1
+    ∷ (l ++ little_bytes 4 (little_number 4 (drop 4 xs)))) two
     ∙ ap (λ l. slice_index xs 0 ∷ slice_index xs 1 ∷ (take 2 (drop 2 xs) ++ l)) four
     ∙ ap (λ l. slice_index xs 0 ∷ slice_index xs 1 ∷ l) (sym six)
     ∙ sym (take-add 2 6 xs ∙ ap (λ l. l ++ take 6 (drop 2 xs)) heads)
@@ -63,19 +72,26 @@ slot_at-fits xs small = record {
   imm = little_from-lt 0 4 (drop 4 xs) (EachByte-drop 4 xs small);
 }
 
-ends : (i : Insn) (bytes : List ℕ) → Continues (next_imm i) (drop 8 bytes) → take (8 * slots_filled i) bytes ≡ take 8 bytes ++ second_bytes (next_imm i)
+ends : (i : Insn) (bytes : List ℕ) → Continues (next_imm i) (drop 8 bytes)
+    → take (8 * slots_filled i) bytes ≡ take 8 bytes ++ second_bytes (next_imm i)
 ends (LoadNumber d n) bytes h = take-add 8 8 bytes ∙ ap (λ l. take 8 bytes ++ l) h
 ends (LoadMap d m) bytes h = take-add 8 8 bytes ∙ ap (λ l. take 8 bytes ++ l) h
 ends (LoadMapValue d m o) bytes h = take-add 8 8 bytes ∙ ap (λ l. take 8 bytes ++ l) h
 ends i bytes h = sym (append-nil (take 8 bytes))
 
 -- what is decoded is spelled by a slot and what follows it
-decoded_by : (bytes : List ℕ) (i : Insn) → EachByte bytes → decoded bytes ≡ Ok i → (8 ≤ length bytes) × SpelledBy (slot_at (take 8 bytes)) (drop 8 bytes) i
+decoded_by : (bytes : List ℕ) (i : Insn) → EachByte bytes → decoded bytes ≡ Ok i
+    → (8 ≤ length bytes) × SpelledBy (slot_at (take 8 bytes)) (drop 8 bytes) i
 unfolding decoded
 decoded_by bytes i small e =
     elim (chosen (nat_lt (length bytes) 8) _ _ _ e) [
       | inl p ↦ absurd cc
-      | inr p ↦ (ltb-false _ _ p.0, slot_meaning-spelled (slot_at (take 8 bytes)) (drop 8 bytes) i (slot_at-fits (take 8 bytes) (EachByte-take 8 bytes small)) (EachByte-drop 8 bytes small) p.1)
+      | inr p ↦ (
+        ltb-false _ _ p.0,
+        slot_meaning-spelled (slot_at (take 8 bytes)) (drop 8 bytes) i
+            (slot_at-fits (take 8 bytes) (EachByte-take 8 bytes small))
+            (EachByte-drop 8 bytes small) p.1,
+      )
     ]
 
 -- what is decoded has numbers of their types
@@ -83,13 +99,16 @@ pub decoded-fits : (bytes : List ℕ) (i : Insn) → EachByte bytes → decoded 
 decoded-fits bytes i small e = (decoded_by bytes i small e).1.fits
 
 -- what is decoded is spelled by a front of the bytes
-pub decoded-spelled : (bytes : List ℕ) (i : Insn) → EachByte bytes → decoded bytes ≡ Ok i → take (8 * slots_filled i) bytes ≡ spelling_of i
+pub decoded-spelled : (bytes : List ℕ) (i : Insn) → EachByte bytes → decoded bytes ≡ Ok i
+    → take (8 * slots_filled i) bytes ≡ spelling_of i
 decoded-spelled bytes i small e =
     let m = decoded_by bytes i small e in
     let front = take 8 bytes in
     let front_long : length front ≡ 8 = omega (arith, m.0, length-take 8 bytes) in
     ends i bytes m.1.second
-    ∙ ap (λ l. l ++ second_bytes (next_imm i)) (sym (ap slot_bytes m.1.first ∙ bytes-slot_at front (EachByte-take 8 bytes small) (omega arith) ∙ take_all 8 front (omega arith)))
+    ∙ ap (λ l. l ++ second_bytes (next_imm i))
+    (sym (ap slot_bytes m.1.first ∙ bytes-slot_at front (EachByte-take 8 bytes small) (omega arith)
+    ∙ take_all 8 front (omega arith)))
 
 -- ---- and back
 
@@ -146,14 +165,18 @@ first_slot-fits (LoadMap d m) h = fit _ (below16 d) (omega arith) h
 first_slot-fits (LoadMapValue d m o) h = fit _ (below16 d) (omega arith) h.0
 first_slot-fits (Load size d p) h = fit _ (below16 d) (unsigned16 p.offset h) (omega arith)
 first_slot-fits (LoadSx size d p) h = fit _ (below16 d) (unsigned16 p.offset h) (omega arith)
-first_slot-fits (StoreConstant size p k) h = fit _ (below16 p.base) (unsigned16 p.offset h.0) (unsigned32 k h.1)
+first_slot-fits (StoreConstant size p k) h =
+    fit _ (below16 p.base) (unsigned16 p.offset h.0) (unsigned32 k h.1)
 first_slot-fits (Store size p s) h = fit _ (below16 p.base) (unsigned16 p.offset h) (omega arith)
-first_slot-fits (Atomic w op fetch p s) h = fit _ (below16 p.base) (unsigned16 p.offset h) (atomic-lt op fetch)
+first_slot-fits (Atomic w op fetch p s) h =
+    fit _ (below16 p.base) (unsigned16 p.offset h) (atomic-lt op fetch)
 first_slot-fits (Exchange w p s) h = fit _ (below16 p.base) (unsigned16 p.offset h) (omega arith)
-first_slot-fits (CompareExchange w p s) h = fit _ (below16 p.base) (unsigned16 p.offset h) (omega arith)
+first_slot-fits (CompareExchange w p s) h =
+    fit _ (below16 p.base) (unsigned16 p.offset h) (omega arith)
 first_slot-fits (Jump by) h = fit _ (omega arith) (unsigned16 by h) (omega arith)
 first_slot-fits (JumpLong by) h = fit _ (omega arith) (omega arith) (unsigned32 by h)
-first_slot-fits (JumpIf c by) h = fit _ (below16 c.register) (unsigned16 by h.1) (operand_imm-lt c.operand h.0)
+first_slot-fits (JumpIf c by) h =
+    fit _ (below16 c.register) (unsigned16 by h.1) (operand_imm-lt c.operand h.0)
 first_slot-fits (CallHelper n) h = fit _ (omega arith) (omega arith) (unsigned32 n h)
 first_slot-fits (CallLocal by) h = fit _ (omega arith) (omega arith) (unsigned32 by h)
 first_slot-fits Exit h = fit _ (omega arith) (omega arith) (omega arith)
@@ -162,25 +185,33 @@ slot_at-slot_bytes : (s : Slot) → FieldsFit s → slot_at (slot_bytes s) ≡ s
 slot_at-slot_bytes s h =
     let d : (s.dst + 16 * s.src) % 16 ≡ s.dst = omega (arith, h.dst) in
     let r : (s.dst + 16 * s.src) / 16 ≡ s.src = omega (arith, h.dst) in
-    slot_is s.opcode s.opcode _ s.dst _ s.src _ s.offset _ s.imm refl d r (little_number-reads_back 2 s.offset (little_bytes 4 s.imm) h.offset) (little_number-reads_back 4 s.imm [] h.imm)
+    slot_is s.opcode s.opcode _ s.dst _ s.src _ s.offset _ s.imm refl d r
+    (little_number-reads_back 2 s.offset (little_bytes 4 s.imm) h.offset)
+    (little_number-reads_back 4 s.imm [] h.imm)
 
 abbrev bad : Result Insn CodecError
 bad = Err Short
 
 -- a spelling is decoded to its instruction, whatever follows
-pub decoded-spelling_of : (i : Insn) (rest : List ℕ) → InsnFits i → decoded (spelling_of i ++ rest) ≡ Ok i
+pub decoded-spelling_of : (i : Insn) (rest : List ℕ) → InsnFits i
+    → decoded (spelling_of i ++ rest) ≡ Ok i
 unfolding decoded
 decoded-spelling_of i rest h =
     let long : nat_lt (length (spelling_of i ++ rest)) 8 ≡ false = le-ltb _ _ (omega arith) in
-    let front : slot_at (slot_bytes (first_slot i)) ≡ first_slot i = slot_at-slot_bytes (first_slot i) (first_slot-fits i h) in
-    ap (λ (b : Bool). cond b bad (slot_meaning (slot_at (slot_bytes (first_slot i))) (second_bytes (next_imm i) ++ rest))) long
+    let front : slot_at (slot_bytes (first_slot i)) ≡ first_slot i =
+    slot_at-slot_bytes (first_slot i) (first_slot-fits i h) in
+    ap (λ (b : Bool). cond b bad
+    (slot_meaning (slot_at (slot_bytes (first_slot i))) (second_bytes (next_imm i) ++ rest)))
+    long
     ∙ ap (λ (s : Slot). slot_meaning s (second_bytes (next_imm i) ++ rest)) front
     ∙ slot_meaning-first_slot i rest h
 
-pub sized-found : (bytes : List ℕ) (r : Result Insn CodecError) → EachByte bytes → decoded bytes ≡ r → IfOk (sized r) (λ f. take f.1 bytes ≡ spelling_of f.0)
+pub sized-found : (bytes : List ℕ) (r : Result Insn CodecError) → EachByte bytes → decoded bytes ≡ r
+    → IfOk (sized r) (λ f. take f.1 bytes ≡ spelling_of f.0)
 sized-found bytes (Ok i) small e = decoded-spelled bytes i small e
 sized-found bytes (Err d) small e = tt
 
-pub sized-fits : (bytes : List ℕ) (r : Result Insn CodecError) → EachByte bytes → decoded bytes ≡ r → IfOk (sized r) (λ f. InsnFits f.0)
+pub sized-fits : (bytes : List ℕ) (r : Result Insn CodecError) → EachByte bytes → decoded bytes ≡ r
+    → IfOk (sized r) (λ f. InsnFits f.0)
 sized-fits bytes (Ok i) small e = decoded-fits bytes i small e
 sized-fits bytes (Err d) small e = tt

@@ -1,4 +1,4 @@
--- The code of each refusal, the sentence that says what is wrong, and what helps.
+-- The code of each refusal, the sentence that says what is wrong, and the cure.
 use Rattle.std.specs.Prelude.{ℕ, List, codes}
 use Rattle.insn_codec.specs.declared.errors.CodecError.{CodecError}
 use Rattle.insn_codec.specs.declared.errors.CodecError.TheVariants.{Short, UnknownOpcode, UnknownRegister, UnusedField, UnknownSelector, SecondSlot}

@@ -1,4 +1,4 @@
-//! The instruction of a form and its fields.
+//! Decodes a form and its fields to an instruction.
 
 ghost use Rattle.std.specs.Prelude.{◌≡◌};
 ghost use Rattle.insn_codec.specs.Decoding.{op_selected, extension_selected, span_selected, arithmetic, moved, swapped, atomic, wide, called, second_slot, meaning, slot_meaning, jump_if};
@@ -40,7 +40,7 @@ fn op_selected(code: AluCode, offset: u16) -> Option<AluOp>
     }
 }
 
-/// The extension from the number of bits that `offset` says.
+/// The extension from the number of bits in `offset`.
 fn extension_selected(width: Width, offset: u16) -> Option<Extension>
     ensures { result ≡ extension_selected width offset }
 {

@@ -54,7 +54,7 @@ impl CodecError {
         }
     }
 
-    /// What helps, in a line without its end.
+    /// The cure, in a line without its line feed.
     pub fn cure(self) -> &'static str
         ensures { result.now ≡ cure_of self }
     {

@@ -37,6 +37,7 @@ impl Fields {
         self.imm.cast_signed()
     }
 
+    /// `imm` as the right operand.
     pub fn constant_operand(self) -> Operand
         ensures { result ≡ Operand.Constant (constant_in self) }
     {

@@ -22,7 +22,7 @@ pub enum AluCode {
     Arsh,
 }
 
-/// What an opcode says.
+/// A form, with the parts of it that the opcode has.
 #[derive(Clone, Copy, PartialEq, Eq, Debug)]
 pub enum Form {
     AluConstant(Width, AluCode),
@@ -76,7 +76,7 @@ impl AluCode {
         }
     }
 
-    /// Whether `offset` selects between a division and its signed kind.
+    /// Whether `offset` selects between an unsigned and a signed division or modulo.
     fn has_selector(self) -> bool
         ensures { result ≡ has_selector self }
     {
@@ -103,7 +103,7 @@ fn comparison_numbered(code: u8) -> Option<Comparison>
     }
 }
 
-/// By the high five bits of an opcode, as all memory forms.
+/// The size of a load or a store, by the high five bits of its opcode.
 fn size_numbered(code: u8) -> Option<Size>
     ensures { result ≡ size_numbered code }
 {
@@ -151,7 +151,7 @@ fn arithmetic_form(width: Width, register: bool, code: u8) -> Option<Form>
     }
 }
 
-/// A form of class JMP only, with a clear source bit.
+/// The form, in class JMP and with a clear source bit only.
 fn full_only(width: Width, register: bool, form: Form) -> Option<Form>
     ensures { result ≡ full_only width register form }
 {

@@ -46,7 +46,7 @@ pub fn decode(bytes: &[u8]) -> Result<(Insn, usize), CodecError>
     decode_front(bytes)
 }
 
-/// Writes the instruction's spelling to the front of the bytes, and says how long it is.
+/// Writes the instruction's spelling to the front of the bytes, and returns its length.
 pub fn encode(insn: &Insn, out: &mut [u8; 16]) -> usize
     ensures length { result ≡ 8 * slots_filled insn.now }
     ensures bytes { out.new ≡ spelling_of insn.now ++ drop result out.old }

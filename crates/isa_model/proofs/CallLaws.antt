@@ -1,4 +1,4 @@
--- What keeps a state a state where a call frame is pushed or popped.
+-- Laws of local calls and exits: a state with a call frame pushed or popped is still a state.
 use Rattle.std.specs.Prelude.{◌≡◌, ◌≢◌, ℕ, ◌+◌, ◌-◌, ◌<◌, ◌≤◌, List, [], ◌∷◌, ◌++◌, map, take, length, slice_index_or, All, AllPairs, refl}
 use Rattle.std.specs.List.{flat_map}
 use Rattle.std.proofs.Common.{sym, ap, ◌∙◌, subst, arith, length-append, append_assoc}
@@ -12,7 +12,7 @@ use Rattle.isa_model.specs.declared.values.Value.{Value}
 use Rattle.isa_model.specs.declared.values.Cell.TheVariants.{Unwritten}
 use Rattle.isa_model.specs.declared.values.CallFrame.{CallFrame}
 use Rattle.isa_model.specs.Code.Instructions.{Program}
-use Rattle.isa_model.specs.Machine.States.{State, value_at, reg, new_frame, frame_at}
+use Rattle.isa_model.specs.Machine.States.{State, value_at, reg, frame_pointer, new_frame, frame_at}
 use Rattle.isa_model.specs.Code.Limits.{max_call_frames, frame_size}
 use Rattle.isa_model.specs.Machine.Calls.{saved_registers, regs_within, regs_after, enter, callers, innermost, leave}
 use Rattle.isa_model.specs.Machine.MachineStates.{IsValue, IsCell, IsCallFrame, IsSlot, value_serials, live_serials, IsState}
@@ -22,16 +22,20 @@ use Rattle.isa_model.proofs.StateLaws.{serial_of, value_at_fits}
 -- ---- a call frame pushed
 
 -- a call frame's facts with more serials given
-pub IsCallFrame-more : (p : Program) (next more : ℕ) (f : CallFrame) → next ≤ more → IsCallFrame p next f → IsCallFrame p more f
+pub IsCallFrame-more : (p : Program) (next more : ℕ) (f : CallFrame) → next ≤ more
+    → IsCallFrame p next f → IsCallFrame p more f
 IsCallFrame-more p next more f le h = record {
   whole = h.whole;
-  cells = All-weaker (IsCell (length p.maps) next) (IsCell (length p.maps) more) (λ c k. IsCell-more (length p.maps) next more c le k) f.cells h.cells;
+  cells = All-weaker (IsCell (length p.maps) next) (IsCell (length p.maps) more)
+      (λ c k. IsCell-more (length p.maps) next more c le k) f.cells h.cells;
   returns = h.returns;
   four = h.four;
-  saved = All-weaker (IsValue (length p.maps) next) (IsValue (length p.maps) more) (λ v k. IsValue-more (length p.maps) next more v le k) f.saved h.saved;
+  saved = All-weaker (IsValue (length p.maps) next) (IsValue (length p.maps) more)
+      (λ v k. IsValue-more (length p.maps) next more v le k) f.saved h.saved;
 }
 
-new_frame_fits : (p : Program) (next serial slot : ℕ) (saved : List Value) → slot ≤ length p.insns → length saved ≡ 4 → All (IsValue (length p.maps) next) saved
+new_frame_fits : (p : Program) (next serial slot : ℕ) (saved : List Value) → slot ≤ length p.insns
+    → length saved ≡ 4 → All (IsValue (length p.maps) next) saved
     → IsCallFrame p next (new_frame serial slot saved)
 unfolding new_frame
 new_frame_fits p next serial slot saved returns four fit = record {
@@ -43,7 +47,8 @@ new_frame_fits p next serial slot saved returns four fit = record {
 }
 
 -- of all live serials, those of the call frames come last
-frame_serials_given : (p : Program) (s : State) → IsState p s → All (λ n. n < s.next_serial) (map serial_of s.frames)
+frame_serials_given : (p : Program) (s : State) → IsState p s
+    → All (λ n. n < s.next_serial) (map serial_of s.frames)
 frame_serials_given p s k =
     let values = flat_map value_serials s.maps in
     let all = k.given in
@@ -51,27 +56,34 @@ frame_serials_given p s k =
     (All-drop (λ n. n < s.next_serial) (length values) (live_serials s) all)
 
 -- a live call frame's serial was given
-pub frame_serial_given : (p : Program) (s : State) (j : ℕ) → IsState p s → j < length s.frames → (frame_at s.frames j).serial < s.next_serial
+pub frame_serial_given : (p : Program) (s : State) (j : ℕ) → IsState p s → j < length s.frames
+    → (frame_at s.frames j).serial < s.next_serial
 frame_serial_given p s j k here =
     let d : CallFrame = new_frame 0 0 [] in
     let long = length-map s.frames serial_of in
-    let found : slice_index_or (map serial_of s.frames) j (serial_of d) ≡ (frame_at s.frames j).serial = get_or-map_default serial_of s.frames j d in
+    let found : slice_index_or (map serial_of s.frames) j (serial_of d)
+    ≡ (frame_at s.frames j).serial = get_or-map_default serial_of s.frames j d in
     subst (λ n. n < s.next_serial) found
-    (All-get_or (λ n. n < s.next_serial) (map serial_of s.frames) j (serial_of d) (omega arith) (frame_serials_given p s k))
+    (All-get_or (λ n. n < s.next_serial) (map serial_of s.frames) j (serial_of d) (omega arith)
+    (frame_serials_given p s k))
 
--- the serial that a call gives is not the serial of a live call frame
+-- the serial of a new call frame is not that of a live one
 serials_push : (xs : List ℕ) (next : ℕ) → All (λ n. n < next) xs → AllPairs (λ m n. m ≢ n) xs
     → All (λ n. n < next + 1) (xs ++ next ∷ []) × AllPairs (λ m n. m ≢ n) (xs ++ next ∷ [])
 serials_push xs next given once = (
-  All-push (λ n. n < next + 1) xs next (All-weaker (λ n. n < next) (λ n. n < next + 1) (λ n h. omega arith) xs given) (omega arith),
-  all_pairs_push (λ m n. m ≢ n) xs next once (λ k d here same. let below = given k d here in absurd (omega arith)),
+  All-push (λ n. n < next + 1) xs next
+      (All-weaker (λ n. n < next) (λ n. n < next + 1) (λ n h. omega arith) xs given) (omega arith),
+  all_pairs_push (λ m n. m ≢ n) xs next once
+      (λ k d here same. let below = given k d here in absurd (omega arith)),
 )
 
-new_frame-serial : (serial slot : ℕ) (saved : List Value) → (new_frame serial slot saved).serial ≡ serial
+new_frame-serial : (serial slot : ℕ) (saved : List Value)
+    → (new_frame serial slot saved).serial ≡ serial
 unfolding new_frame
 new_frame-serial serial slot saved = refl
 
-pub IsState-enter : (p : Program) (s : State) (target : ℕ) → IsSlot p target → s.slot + 1 ≤ length p.insns → length s.frames ≢ max_call_frames
+pub IsState-enter : (p : Program) (s : State) (target : ℕ) → IsSlot p target
+    → s.slot + 1 ≤ length p.insns → length s.frames ≢ max_call_frames
     → IsState p s → IsState p (enter s target)
 IsState-enter p s target go back room k =
     let rows : ℕ = length p.maps in
@@ -79,25 +91,33 @@ IsState-enter p s target go back room k =
     let more : ℕ = s.next_serial + 1 in
     let V : Value → Type 0 = IsValue rows more in
     let old : (n : ℕ) → IsValue rows more (value_at s.regs n) =
-    (λ n. IsValue-more rows next more (value_at s.regs n) (omega arith) (value_at_fits rows next s.regs n k.values)) in
-    let kept_fit : All V (saved_registers s.regs) = All-from_recursion V (saved_registers s.regs) (old 6, (old 7, (old 8, (old 9, tt)))) in
+    (λ n. IsValue-more rows next more (value_at s.regs n) (omega arith)
+    (value_at_fits rows next s.regs n k.values)) in
+    let kept_fit : All V (saved_registers s.regs) =
+    All-from_recursion V (saved_registers s.regs) (old 6, (old 7, (old 8, (old 9, tt)))) in
     let f : CallFrame = new_frame next (s.slot + 1) (saved_registers s.regs) in
     let frames : All (IsCallFrame p more) s.frames =
-    All-weaker (IsCallFrame p next) (IsCallFrame p more) (λ f h. IsCallFrame-more p next more f (omega arith) h) s.frames k.frames in
+    All-weaker (IsCallFrame p next) (IsCallFrame p more)
+    (λ f h. IsCallFrame-more p next more f (omega arith) h) s.frames k.frames in
     let long = length-append s.frames (f ∷ []) in
     let values = flat_map value_serials s.maps in
     let serials : values ++ map serial_of (s.frames ++ f ∷ []) ≡ live_serials s ++ next ∷ [] =
-    ap (λ l. values ++ l) (map-append serial_of s.frames (f ∷ []) ∙ ap (λ n. map serial_of s.frames ++ n ∷ []) (new_frame-serial next (s.slot + 1) (saved_registers s.regs)))
+    ap (λ l. values ++ l)
+    (map-append serial_of s.frames (f ∷ [])
+    ∙ ap (λ n. map serial_of s.frames ++ n ∷ [])
+    (new_frame-serial next (s.slot + 1) (saved_registers s.regs)))
     ∙ sym (append_assoc values (map serial_of s.frames) (next ∷ [])) in
     let pushed = serials_push (live_serials s) next k.given k.once in
+    let r10 : V (frame_pointer next) = (omega arith, omega arith) in
     record {
       slot = go;
       registers = refl;
       values = All-from_recursion V (regs_within s.regs next)
-          (tt, (old 1, (old 2, (old 3, (old 4, (old 5, (tt, (tt, (tt, (tt, ((omega arith, omega arith), tt)))))))))));
+          (tt, (old 1, (old 2, (old 3, (old 4, (old 5, (tt, (tt, (tt, (tt, (r10, tt)))))))))));
       called = omega arith;
       depth = let most = k.depth in omega arith;
-      frames = All-push (IsCallFrame p more) s.frames f frames (new_frame_fits p more next (s.slot + 1) (saved_registers s.regs) back refl kept_fit);
+      frames = All-push (IsCallFrame p more) s.frames f frames
+          (new_frame_fits p more next (s.slot + 1) (saved_registers s.regs) back refl kept_fit);
       short = k.short;
       packet = k.packet;
       interface = k.interface;
@@ -109,14 +129,16 @@ IsState-enter p s target go back room k =
 
 -- ---- a call frame popped
 
-AllPairs-take : {X : Type 0} (R : X → X → Type 0) (n : ℕ) (xs : List X) → n ≤ length xs → AllPairs R xs → AllPairs R (take n xs)
+AllPairs-take : {X : Type 0} (R : X → X → Type 0) (n : ℕ) (xs : List X) → n ≤ length xs
+    → AllPairs R xs → AllPairs R (take n xs)
 AllPairs-take R n xs le h i j d before within =
     let long = length-take-le n xs le in
     let at_i = get_or-take n xs i d (omega arith) in
     let at_j = get_or-take n xs j d (omega arith) in
     rw (at_i, at_j) (h i j d before (omega arith))
 
-pub IsState-leave : (p : Program) (s : State) → length s.frames ≢ 1 → IsState p s → IsState p (leave s)
+pub IsState-leave : (p : Program) (s : State) → length s.frames ≢ 1 → IsState p s
+    → IsState p (leave s)
 IsState-leave p s more k =
     let rows : ℕ = length p.maps in
     let next : ℕ = s.next_serial in
@@ -125,22 +147,30 @@ IsState-leave p s more k =
     let depth = k.depth in
     let n : ℕ = length s.frames - 1 in
     let long : length (callers s.frames) ≡ n = length-take-le n s.frames (omega arith) in
-    let last : IsCallFrame p next (innermost s.frames) = All-get_or (IsCallFrame p next) s.frames n (new_frame 0 0 []) (omega arith) k.frames in
+    let last : IsCallFrame p next (innermost s.frames) =
+    All-get_or (IsCallFrame p next) s.frames n (new_frame 0 0 []) (omega arith) k.frames in
     let saved : (j : ℕ) → IsValue rows next (value_at (innermost s.frames).saved j) =
     (λ j. value_at_fits rows next (innermost s.frames).saved j last.saved) in
     let caller : innermost (callers s.frames) ≡ frame_at s.frames (n - 1) =
-    ap (λ m. frame_at (callers s.frames) (m - 1)) long ∙ get_or-take n s.frames (n - 1) (new_frame 0 0 []) (omega arith) in
-    let serial : (innermost (callers s.frames)).serial < next = rw caller (frame_serial_given p s (n - 1) k (omega arith)) in
+    ap (λ m. frame_at (callers s.frames) (m - 1)) long
+    ∙ get_or-take n s.frames (n - 1) (new_frame 0 0 []) (omega arith) in
+    let serial : (innermost (callers s.frames)).serial < next =
+    rw caller (frame_serial_given p s (n - 1) k (omega arith)) in
     let values = flat_map value_serials s.maps in
     let all = length-append values (map serial_of s.frames) in
     let framed = length-map s.frames serial_of in
-    let serials : values ++ map serial_of (callers s.frames) ≡ take (length values + n) (live_serials s) =
-    ap (λ l. values ++ l) (sym (take-map serial_of n s.frames)) ∙ sym (take-append-add values (map serial_of s.frames) n) in
+    let serials : values ++ map serial_of (callers s.frames)
+    ≡ take (length values + n) (live_serials s) =
+    ap (λ l. values ++ l) (sym (take-map serial_of n s.frames))
+    ∙ sym (take-append-add values (map serial_of s.frames) n) in
+    let r0 = value_at_fits rows next s.regs 0 k.values in
+    let r10 : V (frame_pointer (innermost (callers s.frames)).serial) = (serial, omega arith) in
     record {
       slot = let back = last.returns in omega arith;
       registers = refl;
-      values = All-from_recursion V (regs_after (reg s R0) (innermost s.frames).saved (innermost (callers s.frames)).serial)
-          (value_at_fits rows next s.regs 0 k.values, (tt, (tt, (tt, (tt, (tt, (saved 0, (saved 1, (saved 2, (saved 3, ((serial, omega arith), tt)))))))))));
+      values = All-from_recursion V
+          (regs_after (reg s R0) (innermost s.frames).saved (innermost (callers s.frames)).serial)
+          (r0, (tt, (tt, (tt, (tt, (tt, (saved 0, (saved 1, (saved 2, (saved 3, (r10, tt)))))))))));
       called = omega arith;
       depth = omega arith;
       frames = All-take (IsCallFrame p next) n s.frames k.frames;
@@ -150,5 +180,6 @@ IsState-leave p s more k =
       queue = k.queue;
       maps = k.maps;
       given = rw serials (All-take (λ n. n < next) (length values + n) (live_serials s) k.given);
-      once = rw serials (AllPairs-take (λ m n. m ≢ n) (length values + n) (live_serials s) (omega arith) k.once);
+      once = rw serials
+          (AllPairs-take (λ m n. m ≢ n) (length values + n) (live_serials s) (omega arith) k.once);
     }

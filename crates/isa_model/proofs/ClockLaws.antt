@@ -55,20 +55,26 @@ put_calls s region.Context i new = refl
 put_calls s region.PacketEnd i new = refl
 put_calls s (region.Map m) i new = refl
 
-write_calls : (s : State) (r : Region) (o : Option ℕ) (new : List Cell) → IfOk (write s r o new) (SameCalls s)
+write_calls : (s : State) (r : Region) (o : Option ℕ) (new : List Cell)
+    → IfOk (write s r o new) (SameCalls s)
 write_calls s r o new = found (place_of s r o (length new))
   where
-    found : (place : Result ℕ TrapReason) → IfOk (and_then place (λ i. Ok (put s r i new))) (SameCalls s)
+    found : (place : Result ℕ TrapReason)
+        → IfOk (and_then place (λ i. Ok (put s r i new))) (SameCalls s)
     found (Ok i) = put_calls s r i new
     found (Err e) = tt
 
-store_number_calls : (s : State) (size : Size) (v : Value) (by : ℤ) (n : ℕ) → IfOk (store_number s size v by n) (SameCalls s)
-store_number_calls s size (Ptr r z) by n = write_calls s r (index_at r (z +ℤ by)) (map Byte (bytes_of size n))
+store_number_calls : (s : State) (size : Size) (v : Value) (by : ℤ) (n : ℕ)
+    → IfOk (store_number s size v by n) (SameCalls s)
+store_number_calls s size (Ptr r z) by n =
+    write_calls s r (index_at r (z +ℤ by)) (map Byte (bytes_of size n))
 store_number_calls s size (Num m) by n = tt
 store_number_calls s size Unset by n = tt
 
-store_pointer_calls : (s : State) (size : Size) (v : Value) (by : ℤ) (q : Region) (y : ℤ) → IfOk (store_pointer s size v by q y) (SameCalls s)
-store_pointer_calls s U64 (Ptr (region.CallFrame n) z) by q y = write_calls s (region.CallFrame n) (index_at (region.CallFrame n) (z +ℤ by)) (pieces q y)
+store_pointer_calls : (s : State) (size : Size) (v : Value) (by : ℤ) (q : Region) (y : ℤ)
+    → IfOk (store_pointer s size v by q y) (SameCalls s)
+store_pointer_calls s U64 (Ptr (region.CallFrame n) z) by q y =
+    write_calls s (region.CallFrame n) (index_at (region.CallFrame n) (z +ℤ by)) (pieces q y)
 store_pointer_calls s U64 (Ptr region.Context z) by q y = tt
 store_pointer_calls s U64 (Ptr region.Packet z) by q y = tt
 store_pointer_calls s U64 (Ptr region.PacketEnd z) by q y = tt
@@ -80,31 +86,40 @@ store_pointer_calls s U8 v by q y = tt
 store_pointer_calls s U16 v by q y = tt
 store_pointer_calls s U32 v by q y = tt
 
-store_calls : (s : State) (size : Size) (base : Value) (by : ℤ) (v : Value) → IfOk (store s size base by v) (SameCalls s)
+store_calls : (s : State) (size : Size) (base : Value) (by : ℤ) (v : Value)
+    → IfOk (store s size base by v) (SameCalls s)
 store_calls s size base by (Num n) = store_number_calls s size base by n
 store_calls s size base by (Ptr q y) = store_pointer_calls s size base by q y
 store_calls s size base by Unset = tt
 
-fetched_into_calls : (fetch : Bool) (r : Reg) (old : ℕ) (s : State) → SameCalls s (fetched_into fetch r old s)
+fetched_into_calls : (fetch : Bool) (r : Reg) (old : ℕ) (s : State)
+    → SameCalls s (fetched_into fetch r old s)
 fetched_into_calls true r old s = refl
 fetched_into_calls false r old s = refl
 
 swaps_in_calls : (s : State) (w : Width) (place : Place) (new : ℕ → ℕ) (fetch : Bool) (r : Reg)
     → IfOk (swaps_in s w place new (fetched_into fetch r)) (SameCalls s)
-swaps_in_calls s w place new fetch r = found (load_number s (width_size w) (base_of s place) place.offset)
+swaps_in_calls s w place new fetch r =
+    found (load_number s (width_size w) (base_of s place) place.offset)
   where
     found : (old : Result ℕ TrapReason)
-        → IfOk (and_then old (λ n. and_then (store_number s (width_size w) (base_of s place) place.offset (new n)) (λ t. Ok (fetched_into fetch r n t)))) (SameCalls s)
+        → IfOk (and_then old
+        (λ n. and_then (store_number s (width_size w) (base_of s place) place.offset (new n))
+        (λ t. Ok (fetched_into fetch r n t)))) (SameCalls s)
     found (Ok n) =
-        IfOk-and_then (SameCalls s) (SameCalls s) (store_number s (width_size w) (base_of s place) place.offset (new n)) (λ t. Ok (fetched_into fetch r n t))
-        (store_number_calls s (width_size w) (base_of s place) place.offset (new n)) (λ t h. fetched_into_calls fetch r n t ∙ h)
+        IfOk-and_then (SameCalls s) (SameCalls s)
+        (store_number s (width_size w) (base_of s place) place.offset (new n))
+        (λ t. Ok (fetched_into fetch r n t))
+        (store_number_calls s (width_size w) (base_of s place) place.offset (new n))
+        (λ t h. fetched_into_calls fetch r n t ∙ h)
     found (Err e) = tt
 
 -- at most one call a step
 abbrev pub OneCall : State → State → Type 0
 OneCall s t = t.clock_calls ≤ s.clock_calls + 1
 
-goes_on_calls : (s : State) (i : Insn) (r : Result State TrapReason) → IfOk r (SameCalls s) → IfNext (goes_on s i r) (OneCall s)
+goes_on_calls : (s : State) (i : Insn) (r : Result State TrapReason) → IfOk r (SameCalls s)
+    → IfNext (goes_on s i r) (OneCall s)
 goes_on_calls s i (Ok t) h = omega arith
 goes_on_calls s i (Err e) h = tt
 
@@ -113,17 +128,18 @@ goes_on_one_call : (s : State) (i : Insn) (r : Result State TrapReason) → IfOk
 goes_on_one_call s i (Ok t) h = h
 goes_on_one_call s i (Err e) h = tt
 
-branches_calls : (p : Program) (s : State) (by : ℤ) (r : Result Bool TrapReason) → IfNext (branches s p by r) (OneCall s)
+branches_calls : (p : Program) (s : State) (by : ℤ) (r : Result Bool TrapReason)
+    → IfNext (branches s p by r) (OneCall s)
 branches_calls p s by (Ok true) = omega arith
 branches_calls p s by (Ok false) = omega arith
 branches_calls p s by (Err e) = tt
 
-sets_calls : (s : State) (i : Insn) (d : Reg) (r : Result Value TrapReason) → IfNext (sets s i d r) (OneCall s)
+sets_calls : (s : State) (i : Insn) (d : Reg) (r : Result Value TrapReason)
+    → IfNext (sets s i d r) (OneCall s)
 sets_calls s i d (Ok v) = omega arith
 sets_calls s i d (Err e) = tt
 
--- a helper asks the clock at most once
-
+-- an update does not ask the clock, nor does a delete
 updated_calls : (row : MapDef) (s : State) (m : ℕ) (key bytes : List ℕ) (flags : ℕ)
     → SameCalls s (map_update_elem row s m key bytes flags).state
 updated_calls row s m key bytes flags = by (update_answer row (content_of s m) key flags == 0)
@@ -132,7 +148,8 @@ updated_calls row s m key bytes flags = by (update_answer row (content_of s m) k
     by true = refl
     by false = refl
 
-deleted_calls : (row : MapDef) (s : State) (m : ℕ) (key : List ℕ) → SameCalls s (map_delete_elem row s m key).state
+deleted_calls : (row : MapDef) (s : State) (m : ℕ) (key : List ℕ)
+    → SameCalls s (map_delete_elem row s m key).state
 deleted_calls row s m key = by (delete_answer row (content_of s m) key == 0)
   where
     by : (b : Bool) → SameCalls s (if b then remove_key s m key else s)
@@ -173,22 +190,29 @@ after_call_calls s (Err e) h = tt
 
 helper_call_calls : (p : Program) (clock : ℕ → ℕ) (s : State) (o : Option Helper)
     → IfOk (after_call (helper_call p clock s o)) (OneCall s)
-helper_call_calls p clock s (Some MapLookupElem) = after_call_calls s (lookup_call p s) (lookup_call_calls p s)
-helper_call_calls p clock s (Some MapUpdateElem) = after_call_calls s (update_call p s) (update_call_calls p s)
-helper_call_calls p clock s (Some MapDeleteElem) = after_call_calls s (delete_call p s) (delete_call_calls p s)
+helper_call_calls p clock s (Some MapLookupElem) =
+    after_call_calls s (lookup_call p s) (lookup_call_calls p s)
+helper_call_calls p clock s (Some MapUpdateElem) =
+    after_call_calls s (update_call p s) (update_call_calls p s)
+helper_call_calls p clock s (Some MapDeleteElem) =
+    after_call_calls s (delete_call p s) (delete_call_calls p s)
 helper_call_calls p clock s (Some KtimeGetNs) = omega arith
 helper_call_calls p clock s None = tt
 
-if_next : (P : State → Type 0) (b : Bool) (q r : StepResult) → IfNext q P → IfNext r P → IfNext (if b then q else r) P
+if_next : (P : State → Type 0) (b : Bool) (q r : StepResult) → IfNext q P → IfNext r P
+    → IfNext (if b then q else r) P
 if_next P true q r h k = h
 if_next P false q r h k = k
 
-finishes_calls : (s : State) (version : Version) (v : Value) → IfNext (finishes version v) (OneCall s)
-finishes_calls s version (Num n) = if_next (OneCall s) (is_answer version n) (Finished n) (Trapped BadAction) tt tt
+finishes_calls : (s : State) (version : Version) (v : Value)
+    → IfNext (finishes version v) (OneCall s)
+finishes_calls s version (Num n) =
+    if_next (OneCall s) (is_answer version n) (Finished n) (Trapped BadAction) tt tt
 finishes_calls s version (Ptr r z) = tt
 finishes_calls s version Unset = tt
 
-act_calls : (p : Program) (clock : ℕ → ℕ) (s : State) (i : Insn) → IfNext (act p clock s i) (OneCall s)
+act_calls : (p : Program) (clock : ℕ → ℕ) (s : State) (i : Insn)
+    → IfNext (act p clock s i) (OneCall s)
 unfolding act
 act_calls p clock s (Alu w op d x) = sets_calls s (Alu w op d x) d _
 act_calls p clock s (Neg w d) = sets_calls s (Neg w d) d _
@@ -201,13 +225,17 @@ act_calls p clock s (LoadMapValue d m offset) = sets_calls s (LoadMapValue d m o
 act_calls p clock s (Load size d place) = sets_calls s (Load size d place) d _
 act_calls p clock s (LoadSx size d place) = sets_calls s (LoadSx size d place) d _
 act_calls p clock s (StoreConstant size place n) =
-    goes_on_calls s (StoreConstant size place n) _ (store_calls s size (base_of s place) place.offset (Num (unsigned Full64 n)))
-act_calls p clock s (Store size place r) = goes_on_calls s (Store size place r) _ (store_calls s size (base_of s place) place.offset (reg s r))
+    goes_on_calls s (StoreConstant size place n) _
+    (store_calls s size (base_of s place) place.offset (Num (unsigned Full64 n)))
+act_calls p clock s (Store size place r) = goes_on_calls s (Store size place r) _
+    (store_calls s size (base_of s place) place.offset (reg s r))
 act_calls p clock s (Atomic w op fetch place r) =
     goes_on_calls s (Atomic w op fetch place r) _
-    (with_number (SameCalls s) (reg s r) _ (λ b. swaps_in_calls s w place (λ a. alu (atomic_alu op) w a b) fetch r))
+    (with_number (SameCalls s) (reg s r) _
+    (λ b. swaps_in_calls s w place (λ a. alu (atomic_alu op) w a b) fetch r))
 act_calls p clock s (Exchange w place r) =
-    goes_on_calls s (Exchange w place r) _ (with_number (SameCalls s) (reg s r) _ (λ b. swaps_in_calls s w place (λ a. b) true r))
+    goes_on_calls s (Exchange w place r) _
+    (with_number (SameCalls s) (reg s r) _ (λ b. swaps_in_calls s w place (λ a. b) true r))
 act_calls p clock s (CompareExchange w place r) =
     goes_on_calls s (CompareExchange w place r) _
     (with_number (SameCalls s) (reg s r) _ (λ b. with_number (SameCalls s) (reg s R0) _
@@ -218,18 +246,23 @@ act_calls p clock s (JumpIf cond by) = branches_calls p s by (test_of s cond)
 act_calls p clock s (CallHelper number) =
     goes_on_one_call s (CallHelper number) _ (helper_call_calls p clock s (helper_numbered number))
 act_calls p clock s (CallLocal by) =
-    if_next (OneCall s) (length s.frames == max_call_frames) (Trapped TooManyFrames) (Next (enter s (destination p s.slot by))) tt (omega arith)
+    if_next (OneCall s) (length s.frames == max_call_frames) (Trapped TooManyFrames)
+    (Next (enter s (destination p s.slot by))) tt (omega arith)
 act_calls p clock s Exit =
-    if_next (OneCall s) (length s.frames == 1) (finishes p.version (reg s R0)) (Next (leave s)) (finishes_calls s p.version (reg s R0)) (omega arith)
+    if_next (OneCall s) (length s.frames == 1) (finishes p.version (reg s R0)) (Next (leave s))
+    (finishes_calls s p.version (reg s R0)) (omega arith)
 
-performed_at_calls : (p : Program) (clock : ℕ → ℕ) (s : State) (o : Option Insn) → IfNext (performed_at p clock s o) (OneCall s)
+performed_at_calls : (p : Program) (clock : ℕ → ℕ) (s : State) (o : Option Insn)
+    → IfNext (performed_at p clock s o) (OneCall s)
 performed_at_calls p clock s None = tt
 performed_at_calls p clock s (Some i) =
     if_next (OneCall s) (list_any (λ r. is_unset (reg s r)) (reads i)) (Trapped UnsetRead) _ tt
-    (if_next (OneCall s) (is_frame_pointer (writes i)) (Trapped ReadOnly) (act p clock s i) tt (act_calls p clock s i))
+    (if_next (OneCall s) (is_frame_pointer (writes i)) (Trapped ReadOnly) (act p clock s i) tt
+    (act_calls p clock s i))
 
 -- a step asks the clock at most once
-pub step-clock_calls : (p : Program) (clock : ℕ → ℕ) (s : State) → IfNext (step p clock s) (OneCall s)
+pub step-clock_calls : (p : Program) (clock : ℕ → ℕ) (s : State)
+    → IfNext (step p clock s) (OneCall s)
 unfolding step
 step-clock_calls p clock s = performed_at_calls p clock s (fetch p s.slot)
 
@@ -245,10 +278,14 @@ helper_call-clock p clock other s (Some KtimeGetNs) h = ap (λ n. Ok (clock_answ
   where
     -- an answer of the clock
     clock_answer : State → ℕ → Helped
-    clock_answer s n = record { answer = Num n; state = record s { clock_calls = s.clock_calls + 1 } }
+    clock_answer s n = record {
+      answer = Num n;
+      state = record s { clock_calls = s.clock_calls + 1 };
+    }
 helper_call-clock p clock other s None h = refl
 
-act-clock : (p : Program) (clock other : ℕ → ℕ) (s : State) (i : Insn) → clock s.clock_calls ≡ other s.clock_calls → act p clock s i ≡ act p other s i
+act-clock : (p : Program) (clock other : ℕ → ℕ) (s : State) (i : Insn)
+    → clock s.clock_calls ≡ other s.clock_calls → act p clock s i ≡ act p other s i
 unfolding act
 act-clock p clock other s (Alu w op d x) h = refl
 act-clock p clock other s (Neg w d) h = refl
@@ -273,15 +310,18 @@ act-clock p clock other s (CallHelper number) h =
 act-clock p clock other s (CallLocal by) h = refl
 act-clock p clock other s Exit h = refl
 
-performed_at-clock : (p : Program) (clock other : ℕ → ℕ) (s : State) (o : Option Insn) → clock s.clock_calls ≡ other s.clock_calls
+performed_at-clock : (p : Program) (clock other : ℕ → ℕ) (s : State) (o : Option Insn)
+    → clock s.clock_calls ≡ other s.clock_calls
     → performed_at p clock s o ≡ performed_at p other s o
 performed_at-clock p clock other s None h = refl
 performed_at-clock p clock other s (Some i) h =
-    ap (λ r. if list_any (λ r. is_unset (reg s r)) (reads i) then Trapped UnsetRead else if is_frame_pointer (writes i) then Trapped ReadOnly else r)
+    ap (λ r. if list_any (λ r. is_unset (reg s r)) (reads i) then Trapped UnsetRead
+    else if is_frame_pointer (writes i) then Trapped ReadOnly else r)
     (act-clock p clock other s i h)
 
 -- a step depends on the one answer that it may ask for
-pub step-clock : (p : Program) (clock other : ℕ → ℕ) (s : State) → clock s.clock_calls ≡ other s.clock_calls → step p clock s ≡ step p other s
+pub step-clock : (p : Program) (clock other : ℕ → ℕ) (s : State)
+    → clock s.clock_calls ≡ other s.clock_calls → step p clock s ≡ step p other s
 unfolding step
 step-clock p clock other s h = performed_at-clock p clock other s (fetch p s.slot) h
 
@@ -292,7 +332,8 @@ abbrev pub CallsBelow : ℕ → ℕ → Progress → Type 0
 CallsBelow c n (GoesOn t) = t.clock_calls ≤ c + n
 CallsBelow c n (Ended e t) = Unit {0}
 
-advanced_calls : (p : Program) (clock : ℕ → ℕ) (c n : ℕ) (q : Progress) → CallsBelow c n q → CallsBelow c (suc n) (advanced p clock n q)
+advanced_calls : (p : Program) (clock : ℕ → ℕ) (c n : ℕ) (q : Progress) → CallsBelow c n q
+    → CallsBelow c (suc n) (advanced p clock n q)
 advanced_calls p clock c n (Ended e t) h = tt
 advanced_calls p clock c n (GoesOn t) h = stepped (step p clock t) (step-clock_calls p clock t)
   where
@@ -301,31 +342,39 @@ advanced_calls p clock c n (GoesOn t) h = stepped (step p clock t) (step-clock_c
     stepped (Finished a) k = tt
     stepped (Trapped e) k = tt
 
-pub progress-clock_calls : (p : Program) (clock : ℕ → ℕ) (n : ℕ) (s : State) → CallsBelow s.clock_calls n (progress p clock n s)
+pub progress-clock_calls : (p : Program) (clock : ℕ → ℕ) (n : ℕ) (s : State)
+    → CallsBelow s.clock_calls n (progress p clock n s)
 unfolding progress
 progress-clock_calls p clock zero s = omega arith
-progress-clock_calls p clock (suc n) s = advanced_calls p clock s.clock_calls n (progress p clock n s) (progress-clock_calls p clock n s)
+progress-clock_calls p clock (suc n) s =
+    advanced_calls p clock s.clock_calls n (progress p clock n s) (progress-clock_calls p clock n s)
 
-advanced-clock : (p : Program) (clock other : ℕ → ℕ) (c n m : ℕ) (q : Progress) → ((k : ℕ) → k < m → clock k ≡ other k) → c + n < m → CallsBelow c n q
+advanced-clock : (p : Program) (clock other : ℕ → ℕ) (c n m : ℕ) (q : Progress)
+    → ((k : ℕ) → k < m → clock k ≡ other k) → c + n < m → CallsBelow c n q
     → advanced p clock n q ≡ advanced p other n q
 advanced-clock p clock other c n m (Ended e t) same within h = refl
-advanced-clock p clock other c n m (GoesOn t) same within h = ap (after_step n t) (step-clock p clock other t (same t.clock_calls (omega arith)))
+advanced-clock p clock other c n m (GoesOn t) same within h =
+    ap (after_step n t) (step-clock p clock other t (same t.clock_calls (omega arith)))
 
--- a run of at most m steps does not tell two clocks with the same first m answers apart
-pub progress-clock : (p : Program) (clock other : ℕ → ℕ) (n m : ℕ) (s : State) → ((k : ℕ) → k < m → clock k ≡ other k) → s.clock_calls + n ≤ m
+-- a run of at most m steps is the same with two clocks whose first m answers are the same
+pub progress-clock : (p : Program) (clock other : ℕ → ℕ) (n m : ℕ) (s : State)
+    → ((k : ℕ) → k < m → clock k ≡ other k) → s.clock_calls + n ≤ m
     → progress p clock n s ≡ progress p other n s
 unfolding progress
 progress-clock p clock other zero m s same within = refl
 progress-clock p clock other (suc n) m s same within =
-    advanced-clock p clock other s.clock_calls n m (progress p clock n s) same (omega arith) (progress-clock_calls p clock n s)
+    advanced-clock p clock other s.clock_calls n m (progress p clock n s) same (omega arith)
+    (progress-clock_calls p clock n s)
     ∙ ap (advanced p other n) (progress-clock p clock other n m s same (omega arith))
 
--- nor does a turn within a limit of m steps
-pub turn-clock : (p : Program) (limit : ℕ) (clock other : ℕ → ℕ) (head : FrameHead) (packet : List ℕ) (contents : List KeyValues)
-    → ((k : ℕ) → k < limit → clock k ≡ other k) → turn p limit clock head packet contents ≡ turn p limit other head packet contents
+-- and so is a turn within a limit of m steps
+pub turn-clock : (p : Program) (limit : ℕ) (clock other : ℕ → ℕ) (head : FrameHead)
+    (packet : List ℕ) (contents : List KeyValues) → ((k : ℕ) → k < limit → clock k ≡ other k)
+    → turn p limit clock head packet contents ≡ turn p limit other head packet contents
 unfolding turn start_state
 turn-clock p limit clock other head packet contents same =
-    ap turn_of (progress-clock p clock other limit limit (start_state head packet contents) same (omega arith))
+    ap turn_of (progress-clock p clock other limit limit (start_state head packet contents) same
+    (omega arith))
 
 -- ---- a clock as a list of answers
 
@@ -337,11 +386,15 @@ clock_of answers k = slice_index answers k
 abbrev pub answers_of : (ℕ → ℕ) → ℕ → List ℕ
 answers_of clock n = map clock (range_with_len 0 n)
 
-pub clock_of-answers_of : (clock : ℕ → ℕ) (n k : ℕ) → k < n → clock_of (answers_of clock n) k ≡ clock k
+pub clock_of-answers_of : (clock : ℕ → ℕ) (n k : ℕ) → k < n
+    → clock_of (answers_of clock n) k ≡ clock k
 clock_of-answers_of clock n k h = get_or-map-range_with_len clock 0 n k k 0 h (omega arith)
 
 -- a turn of at most n steps ends alike with a clock and with the list of its first n answers
-pub turn-answers_of : (p : Program) (limit n : ℕ) (clock : ℕ → ℕ) (head : FrameHead) (packet : List ℕ) (contents : List KeyValues) → limit ≤ n
-    → turn p limit (clock_of (answers_of clock n)) head packet contents ≡ turn p limit clock head packet contents
+pub turn-answers_of : (p : Program) (limit n : ℕ) (clock : ℕ → ℕ) (head : FrameHead)
+    (packet : List ℕ) (contents : List KeyValues) → limit ≤ n
+    → turn p limit (clock_of (answers_of clock n)) head packet contents
+    ≡ turn p limit clock head packet contents
 turn-answers_of p limit n clock head packet contents le =
-    turn-clock p limit (clock_of (answers_of clock n)) clock head packet contents (λ k h. clock_of-answers_of clock n k (omega arith))
+    turn-clock p limit (clock_of (answers_of clock n)) clock head packet contents
+    (λ k h. clock_of-answers_of clock n k (omega arith))

@@ -14,7 +14,7 @@ use Rattle.isa_model.specs.Code.Sizes.{width_bits, extension_bits, extension_wid
 use Rattle.isa_model.specs.Code.Numbers.{low, sign_extended}
 use Rattle.isa_model.proofs.NumberLaws.{width_fits}
 
--- below the half it is itself, above it has ones before it
+-- a number below the half is extended to itself, one from the half up has ones put before it
 abbrev extended : ℕ → ℕ → ℕ → ℕ → ℕ
 extended N K H y = cond (nat_lt y H) y (y + (N - K))
 
@@ -31,22 +31,27 @@ extended_small N K H y lt = rw (lt-ltb y H lt)
 extended_large : (N K H y : ℕ) → H ≤ y → extended N K H y ≡ y + (N - K)
 extended_large N K H y ge = rw (le-ltb y H ge)
 
-extended_64 : (y K H : ℕ) → K ≡ H + H → 0 < H → K ≤ 2 ^ 64 → y < K → ((y + H) % K + (2 ^ 64 - H)) % 2 ^ 64 ≡ extended (2 ^ 64) K H y
+extended_64 : (y K H : ℕ) → K ≡ H + H → 0 < H → K ≤ 2 ^ 64 → y < K
+    → ((y + H) % K + (2 ^ 64 - H)) % 2 ^ 64 ≡ extended (2 ^ 64) K H y
 extended_64 y K H e h fits y_in =
     elim (cases_lt y H) [
       | inl lt ↦ rw (lt-ltb y H lt, mod-eq_of_lt {n = y + H} {m = K} (omega arith)) (omega arith)
       | inr ge ↦
-          let w : (y + H) % K ≡ y - H = ap (λ n. n % K) (let s : y + H ≡ (y - H) + 1 * K = omega arith in s) ∙ once (y - H) K (omega arith) in
+          let w : (y + H) % K ≡ y - H =
+          ap (λ n. n % K) (let s : y + H ≡ (y - H) + 1 * K = omega arith in s)
+          ∙ once (y - H) K (omega arith) in
           rw (le-ltb y H ge, w) (omega arith)
     ]
   where
     once : (a K : ℕ) → a < K → (a + 1 * K) % K ≡ a
     once a K h = add-mul-mod_self_right a 1 K ∙ mod-eq_of_lt h
 
-extended_32 : (y K H : ℕ) → K ≤ 2 ^ 32 → y < K → extended (2 ^ 64) K H y % 2 ^ 32 ≡ extended (2 ^ 32) K H y
+extended_32 : (y K H : ℕ) → K ≤ 2 ^ 32 → y < K
+    → extended (2 ^ 64) K H y % 2 ^ 32 ≡ extended (2 ^ 32) K H y
 extended_32 y K H fits y_in = cut (nat_lt y H) y K fits y_in
   where
-    cut : (b : Bool) (y K : ℕ) → K ≤ 2 ^ 32 → y < K → cond b y (y + (2 ^ 64 - K)) % 2 ^ 32 ≡ cond b y (y + (2 ^ 32 - K))
+    cut : (b : Bool) (y K : ℕ) → K ≤ 2 ^ 32 → y < K
+        → cond b y (y + (2 ^ 64 - K)) % 2 ^ 32 ≡ cond b y (y + (2 ^ 32 - K))
     cut true y K h k = omega arith
     cut false y K h k = omega arith
 
@@ -60,13 +65,25 @@ read_extended n k y y_in fits =
     ]
 
 extension_is : (e : Extension) (x H : ℕ) → H + H ≡ 2 ^ extension_bits e
-    → sign_extended e x ≡ extended (2 ^ width_bits (extension_width e)) (2 ^ extension_bits e) H (x % 2 ^ extension_bits e)
+    → sign_extended e x
+    ≡ extended (2 ^ width_bits (extension_width e)) (2 ^ extension_bits e) H
+    (x % 2 ^ extension_bits e)
 unfolding sign_extended
-extension_is Low8 x H e = let f : H ≡ 2 ^ 7 = omega arith in rw f (read_extended w32 w8 (x % 2 ^ 8) (omega arith) (omega arith))
-extension_is Low16 x H e = let f : H ≡ 2 ^ 15 = omega arith in rw f (read_extended w32 w16 (x % 2 ^ 16) (omega arith) (omega arith))
-extension_is Full8 x H e = let f : H ≡ 2 ^ 7 = omega arith in rw f (read_extended w64 w8 (x % 2 ^ 8) (omega arith) (omega arith))
-extension_is Full16 x H e = let f : H ≡ 2 ^ 15 = omega arith in rw f (read_extended w64 w16 (x % 2 ^ 16) (omega arith) (omega arith))
-extension_is Full32 x H e = let f : H ≡ 2 ^ 31 = omega arith in rw f (read_extended w64 w32 (x % 2 ^ 32) (omega arith) (omega arith))
+extension_is Low8 x H e =
+    let f : H ≡ 2 ^ 7 = omega arith in
+    rw f (read_extended w32 w8 (x % 2 ^ 8) (omega arith) (omega arith))
+extension_is Low16 x H e =
+    let f : H ≡ 2 ^ 15 = omega arith in
+    rw f (read_extended w32 w16 (x % 2 ^ 16) (omega arith) (omega arith))
+extension_is Full8 x H e =
+    let f : H ≡ 2 ^ 7 = omega arith in
+    rw f (read_extended w64 w8 (x % 2 ^ 8) (omega arith) (omega arith))
+extension_is Full16 x H e =
+    let f : H ≡ 2 ^ 15 = omega arith in
+    rw f (read_extended w64 w16 (x % 2 ^ 16) (omega arith) (omega arith))
+extension_is Full32 x H e =
+    let f : H ≡ 2 ^ 31 = omega arith in
+    rw f (read_extended w64 w32 (x % 2 ^ 32) (omega arith) (omega arith))
 
 -- at most 32 bits are read
 pub extension_fits : (e : Extension) → 2 ^ extension_bits e ≤ 2 ^ 32
@@ -91,26 +108,33 @@ extension_half Full16 = (2 ^ 15, refl, omega arith)
 extension_half Full32 = (2 ^ 31, refl, omega arith)
 
 -- a sign extension is a number of its width
-pub sign_extended_below : (e : Extension) (x : ℕ) → sign_extended e x < 2 ^ width_bits (extension_width e)
+pub sign_extended_below : (e : Extension) (x : ℕ)
+    → sign_extended e x < 2 ^ width_bits (extension_width e)
 sign_extended_below e x =
     let h = extension_half e in
     rw (extension_is e x h.0 h.1)
-    (extended_below _ _ h.0 _ (mod_below x (2 ^ extension_bits e) (omega (arith, h.1, h.2))) (extension_wider e))
+    (extended_below _ _ h.0 _ (mod_below x (2 ^ extension_bits e) (omega (arith, h.1, h.2)))
+    (extension_wider e))
 
 -- so it fits a register
 pub sign_extended_fits : (e : Extension) (x : ℕ) → sign_extended e x < 2 ^ 64
-sign_extended_fits e x = let b = sign_extended_below e x in let f = width_fits (extension_width e) in omega arith
+sign_extended_fits e x =
+    let b = sign_extended_below e x in let f = width_fits (extension_width e) in omega arith
 
 -- a number without the sign bit is extended by zeros
-pub sign_extended-small : (e : Extension) (x h : ℕ) → h + h ≡ 2 ^ extension_bits e → x < h → sign_extended e x ≡ x
+pub sign_extended-small : (e : Extension) (x h : ℕ) → h + h ≡ 2 ^ extension_bits e → x < h
+    → sign_extended e x ≡ x
 sign_extended-small e x h twice x_in =
-    let same : x % 2 ^ extension_bits e ≡ x = mod-eq_of_lt {n = x} {m = 2 ^ extension_bits e} (omega arith) in
+    let same : x % 2 ^ extension_bits e ≡ x =
+    mod-eq_of_lt {n = x} {m = 2 ^ extension_bits e} (omega arith) in
     extension_is e x h twice ∙ rw same (extended_small _ _ h x x_in)
 
 -- below the half it is the low bits, above it the low bits with ones before them
 pub sign_extended_cases : (e : Extension) (x h : ℕ) → h + h ≡ 2 ^ extension_bits e
     → ((x % 2 ^ extension_bits e < h) × (sign_extended e x ≡ x % 2 ^ extension_bits e))
-    ⊎ ((h ≤ x % 2 ^ extension_bits e) × (sign_extended e x ≡ x % 2 ^ extension_bits e + (2 ^ width_bits (extension_width e) - 2 ^ extension_bits e)))
+    ⊎ ((h ≤ x % 2 ^ extension_bits e)
+    × (sign_extended e x
+    ≡ x % 2 ^ extension_bits e + (2 ^ width_bits (extension_width e) - 2 ^ extension_bits e)))
 sign_extended_cases e x h twice =
     let y = x % 2 ^ extension_bits e in
     elim (cases_lt y h) [
@@ -120,7 +144,9 @@ sign_extended_cases e x h twice =
 
 -- half the size is added and taken away again, and the borrow fills the upper bits
 pub sign_extended-sum : (e : Extension) (x h : ℕ) → h + h ≡ 2 ^ extension_bits e
-    → sign_extended e x ≡ low (extension_width e) (((x % 2 ^ extension_bits e + h) % 2 ^ extension_bits e + (2 ^ 64 - h)) % 2 ^ 64)
+    → sign_extended e x
+    ≡ low (extension_width e)
+    (((x % 2 ^ extension_bits e + h) % 2 ^ extension_bits e + (2 ^ 64 - h)) % 2 ^ 64)
 sign_extended-sum e x h twice =
     let K = 2 ^ extension_bits e in
     let p = extension_half e in
@@ -128,9 +154,12 @@ sign_extended-sum e x h twice =
     let y_in = mod_below x K (omega arith) in
     let fits = extension_fits e in
     extension_is e x h twice
-    ∙ at_width (extension_width e) (x % K) K h fits y_in (extended_below (2 ^ 64) K h (x % K) y_in (omega arith))
-    ∙ ap (low (extension_width e)) (sym (extended_64 (x % K) K h (sym twice) positive (omega arith) y_in))
+    ∙ at_width (extension_width e) (x % K) K h fits y_in
+    (extended_below (2 ^ 64) K h (x % K) y_in (omega arith))
+    ∙ ap (low (extension_width e))
+    (sym (extended_64 (x % K) K h (sym twice) positive (omega arith) y_in))
   where
-    at_width : (w : Width) (y K h : ℕ) → K ≤ 2 ^ 32 → y < K → extended (2 ^ 64) K h y < 2 ^ 64 → extended (2 ^ width_bits w) K h y ≡ low w (extended (2 ^ 64) K h y)
+    at_width : (w : Width) (y K h : ℕ) → K ≤ 2 ^ 32 → y < K → extended (2 ^ 64) K h y < 2 ^ 64
+        → extended (2 ^ width_bits w) K h y ≡ low w (extended (2 ^ 64) K h y)
     at_width Low32 y K h fits y_in below = sym (extended_32 y K h fits y_in)
     at_width Full64 y K h fits y_in below = sym (mod-eq_of_lt below)

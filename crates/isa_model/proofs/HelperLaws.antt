@@ -1,4 +1,4 @@
--- One map of a state, and what wide loads of maps give.
+-- Laws of one map of a state, and of the results of wide loads of maps.
 use Rattle.std.specs.Prelude.{◌≡◌, ℕ, zero, suc, ◌<◌, List, [], ◌∷◌, ◌++◌, map, length, slice_get, slice_index_or, All, Option, Some, None, IsSomeAnd, refl}
 use Rattle.std.specs.List.{flat_map}
 use Rattle.std.proofs.Common.{sym, subst, arith}
@@ -26,7 +26,8 @@ All-part : {X Y : Type 0} (P : Y → Type 0) (f : X → List Y) (xs : List X) (i
     → All P (f (slice_index_or xs i d))
 All-part P f [] i d e h = subst (All P) (sym e) (All-nil P)
 All-part P f (x ∷ xs) zero d e h =
-    subst (All P) (take-append_seam (f x) (flat_map f xs)) (All-take P (length (f x)) (f x ++ flat_map f xs) h)
+    subst (All P) (take-append_seam (f x) (flat_map f xs))
+    (All-take P (length (f x)) (f x ++ flat_map f xs) h)
 All-part P f (x ∷ xs) (suc i) d e h =
     All-part P f xs i d e (subst (All P) (drop-append_seam (f x) (flat_map f xs))
     (All-drop P (length (f x)) (f x ++ flat_map f xs) h))
@@ -42,16 +43,20 @@ value_serials_given p s m k =
     (All-take P (length values) (live_serials s) k.given))
 
 -- a map's content fits its row
-pub content_fits : (p : Program) (s : State) (m : ℕ) (row : MapDef) → slice_get p.maps m ≡ Some row → IsState p s
+pub content_fits : (p : Program) (s : State) (m : ℕ) (row : MapDef) → slice_get p.maps m ≡ Some row
+    → IsState p s
     → FitsRow row (key_values_of (content_of s m))
 content_fits p s m row e k =
-    subst (FitsRow row) (get_or-map_default key_values_of s.maps m []) (at p.maps (map key_values_of s.maps) m e k.maps)
+    subst (FitsRow row) (get_or-map_default key_values_of s.maps m [])
+    (at p.maps (map key_values_of s.maps) m e k.maps)
   where
-    at : (rows : List MapDef) (contents : List KeyValues) (m : ℕ) → slice_get rows m ≡ Some row → FitRows rows contents
+    at : (rows : List MapDef) (contents : List KeyValues) (m : ℕ) → slice_get rows m ≡ Some row
+        → FitRows rows contents
         → FitsRow row (slice_index_or contents m [])
     at [] contents m e h = absurd cc
     at (r ∷ rows) [] m e h = absurd h
-    at (r ∷ rows) (c ∷ contents) zero e h = let same : r ≡ row = cc in subst (λ x. FitsRow x c) same h.0
+    at (r ∷ rows) (c ∷ contents) zero e h =
+        let same : r ≡ row = cc in subst (λ x. FitsRow x c) same h.0
     at (r ∷ rows) (c ∷ contents) (suc m) e h = at rows contents m e h.1
 
 -- ---- wide loads of maps
@@ -67,21 +72,24 @@ has_value kind entries keys array one h =
     let at = at_from_Contains keys (little_bytes 4 0) there in
     omega (arith, at.1)
 
-one_serial_given : (p : Program) (s : State) (m : ℕ) (row : MapDef) (offset : ℕ) → slice_get p.maps m ≡ Some row
+one_serial_given : (p : Program) (s : State) (m : ℕ) (row : MapDef) (offset : ℕ)
+    → slice_get p.maps m ≡ Some row
     → HoldsOffset offset row → IsState p s
     → one_serial (content_of s m) < s.next_serial
 one_serial_given p s m row offset e h k =
     let content = content_of s m in
     let none : List ℕ × Stored = ([], record { serial = 0; bytes = [] }) in
     let fits = content_fits p s m row e k in
-    let some = has_value row.kind row.entries (keys_of (key_values_of content)) h.array h.one fits.keys in
+    let some =
+    has_value row.kind row.entries (keys_of (key_values_of content)) h.array h.one fits.keys in
     let long = length-map {B = List ℕ × List ℕ} content (λ e. (e.0, e.1.bytes)) in
     let keyed = length-map (key_values_of content) (λ e. e.0) in
     let serials = length-map content (λ e. e.1.serial) in
     let found : slice_index_or (value_serials content) 0 0 ≡ one_serial content =
     get_or-map_default (λ e. e.1.serial) content 0 none in
     subst (λ n. n < s.next_serial) found
-    (All-get_or (λ n. n < s.next_serial) (value_serials content) 0 0 (omega arith) (value_serials_given p s m k))
+    (All-get_or (λ n. n < s.next_serial) (value_serials content) 0 0 (omega arith)
+    (value_serials_given p s m k))
 
 -- a row that is there is one of the rows
 pub row_within : (rows : List MapDef) (m : ℕ) (row : MapDef) → slice_get rows m ≡ Some row

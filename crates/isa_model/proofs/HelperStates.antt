@@ -1,4 +1,4 @@
--- What a helper's call leaves is a state.
+-- The call of a helper leads from a state to a state.
 use Rattle.std.specs.Prelude.{◌≡◌, ℕ, zero, suc, ◌+◌, ◌<◌, ◌≤◌, ◌==◌, ◌++◌, Bool, true, false, if◌then◌else◌, List, [], ◌∷◌, map, drop, replicate, length, slice_get, slice_set, All, Option, Some, None, Result, Ok, Err, IfOk, refl}
 use Rattle.std.specs.List.{list_any, list_all, flat_map}
 use Rattle.std.proofs.Common.{sym, ap, ◌∙◌, subst, arith, length-drop}
@@ -51,7 +51,7 @@ map_argument_fits p (Ptr (region.MapValue m n) z) = tt
 map_argument_fits p (Num n) = tt
 map_argument_fits p Unset = tt
 
--- as many cells are read as are asked for
+-- n cells are read where n are asked for
 read_length : (s : State) (at : BytesArgument) (n : ℕ)
     → IfOk (read s at.region (index_at at.region at.offset) n) (λ cs. length cs ≡ n)
 read_length s at n =
@@ -61,7 +61,8 @@ read_length s at n =
     (λ i. Ok (cells_at cells i n))
     (place_in_room cells o n) (λ i room. whole cells i room)
   where
-    whole : (cells : Option (List Cell)) (i : ℕ) → HasCells cells i n → length (cells_at cells i n) ≡ n
+    whole : (cells : Option (List Cell)) (i : ℕ) → HasCells cells i n
+        → length (cells_at cells i n) ≡ n
     whole (Some cells) i room =
         let left = length-drop i cells in
         length-take-le n (drop i cells) (omega arith)
@@ -75,7 +76,8 @@ bytes_in_fits : (rows next : ℕ) (cs : List Cell) → All (IsCell rows next) cs
     → IfOk (bytes_in cs) (AreBytesOf (length cs))
 bytes_in_fits rows next cs h =
     IfOk-if (AreBytesOf (length cs)) (list_any is_unwritten cs) (Err UnsetRead) _ (λ unset. tt)
-    (λ set. IfOk-if (AreBytesOf (length cs)) (list_all is_byte cs) (Ok (map byte_in cs)) (Err BadAccess)
+    (λ set. IfOk-if (AreBytesOf (length cs)) (list_all is_byte cs) (Ok (map byte_in cs))
+    (Err BadAccess)
     (λ all. (length-map cs byte_in, bytes_in_fit rows next cs h)) (λ some. tt))
 
 -- what is read at an argument is n bytes
@@ -86,15 +88,18 @@ bytes_at_fits p s at n k =
     found (read s at.region o n) (read_length s at n) (read_fits p s at.region o n k)
   where
     found : (r : Result (List Cell) TrapReason) → IfOk r (λ cs. length cs ≡ n)
-        → IfOk r (All (IsCell (length p.maps) s.next_serial)) → IfOk (and_then r bytes_in) (AreBytesOf n)
+        → IfOk r (All (IsCell (length p.maps) s.next_serial))
+        → IfOk (and_then r bytes_in) (AreBytesOf n)
     found (Ok cs) long h =
-        subst (λ m. IfOk (bytes_in cs) (AreBytesOf m)) long (bytes_in_fits (length p.maps) s.next_serial cs h)
+        subst (λ m. IfOk (bytes_in cs) (AreBytesOf m)) long
+        (bytes_in_fits (length p.maps) s.next_serial cs h)
     found (Err e) long h = tt
 
 -- ---- a map's content replaced
 
 -- a map with a row has a content
-content_there : (rows : List MapDef) (contents : List KeyValues) (m : ℕ) (row : MapDef) → slice_get rows m ≡ Some row
+content_there : (rows : List MapDef) (contents : List KeyValues) (m : ℕ) (row : MapDef)
+    → slice_get rows m ≡ Some row
     → FitRows rows contents → m < length contents
 content_there [] contents m row e h = absurd cc
 content_there (r ∷ rows) [] m row e h = absurd h
@@ -103,22 +108,27 @@ content_there (r ∷ rows) (c ∷ contents) (suc m) row e h =
     let there = content_there rows contents m row e h.1 in
     omega arith
 
-FitRows-put : (rows : List MapDef) (contents : List KeyValues) (m : ℕ) (row : MapDef) (es : KeyValues)
-    → slice_get rows m ≡ Some row → FitsRow row es → FitRows rows contents → FitRows rows (slice_set contents m es)
+FitRows-put : (rows : List MapDef) (contents : List KeyValues) (m : ℕ) (row : MapDef)
+    (es : KeyValues)
+    → slice_get rows m ≡ Some row → FitsRow row es → FitRows rows contents
+    → FitRows rows (slice_set contents m es)
 FitRows-put [] contents m row es e fits h = absurd cc
 FitRows-put (r ∷ rows) [] m row es e fits h = absurd h
 FitRows-put (r ∷ rows) (c ∷ contents) zero row es e fits h =
     let same : row ≡ r = cc in
     (subst (λ x. FitsRow x es) same fits, h.1)
-FitRows-put (r ∷ rows) (c ∷ contents) (suc m) row es e fits h = (h.0, FitRows-put rows contents m row es e fits h.1)
+FitRows-put (r ∷ rows) (c ∷ contents) (suc m) row es e fits h =
+    (h.0, FitRows-put rows contents m row es e fits h.1)
 
 -- the serials of the live values and call frames, with another content of a map
 abbrev serials_with : State → ℕ → Content → List ℕ
-serials_with s m content = flat_map value_serials (slice_set s.maps m content) ++ map serial_of s.frames
+serials_with s m content =
+    flat_map value_serials (slice_set s.maps m content) ++ map serial_of s.frames
 
--- a content that fits its row takes a map's place, where the live serials stay apart and below the
--- next one
-IsState-with_content : (p : Program) (s : State) (m : ℕ) (row : MapDef) (content : Content) (next : ℕ)
+-- a map's content is replaced by one that fits its row, where the live serials are still different
+-- and below the next one
+IsState-with_content : (p : Program) (s : State) (m : ℕ) (row : MapDef) (content : Content)
+    (next : ℕ)
     → slice_get p.maps m ≡ Some row → s.next_serial ≤ next → FitsRow row (key_values_of content)
     → AreSerials next (serials_with s m content) → IsState p s
     → IsState p (record s { maps = slice_set s.maps m content; next_serial = next })
@@ -139,12 +149,13 @@ IsState-with_content p s m row content next e le fits serials k =
       interface = k.interface;
       queue = k.queue;
       maps = subst (FitRows p.maps) (sym (map-set key_values_of s.maps m content))
-          (FitRows-put p.maps (map key_values_of s.maps) m row (key_values_of content) e fits k.maps);
+          (FitRows-put p.maps (map key_values_of s.maps) m row
+          (key_values_of content) e fits k.maps);
       given = serials.0;
       once = serials.1;
     }
 
--- the live serials differ as those of one content do
+-- a relation of one content's serials, before and after, is one of all live serials
 live_related : (R : List ℕ → List ℕ → Type 0)
     → ((front xs ys : List ℕ) → R xs ys → R (front ++ xs) (front ++ ys))
     → ((xs ys rest : List ℕ) → R xs ys → R (xs ++ rest) (ys ++ rest))
@@ -195,7 +206,8 @@ put_bytes_keeps p s m row key bytes e entry room k = by (at_key key (content_of 
     fits : FitsRow row (key_values_of (content_of s m))
     fits = content_fits p s m row e k
 
-    changed : (new : Stored) → new.bytes ≡ bytes → FitsRow row (key_values_of (with_key key new (content_of s m)))
+    changed : (new : Stored) → new.bytes ≡ bytes
+        → FitsRow row (key_values_of (with_key key new (content_of s m)))
     changed new same =
         subst (FitsRow row) (sym (key_values_of-with_key key new (content_of s m)
         ∙ ap (λ b. with_key key b (key_values_of (content_of s m))) same))
@@ -215,17 +227,22 @@ put_bytes_keeps p s m row key bytes e entry room k = by (at_key key (content_of 
         (is_sorted-key_values_of row (content_of s m) fits) in
         let live : serials_with s m content ≡ live_serials s = ap (λ l. l ++ map serial_of s.frames)
         (flat_map-set_same value_serials s.maps m content [] serials) in
-        IsState-with_content p s m row content s.next_serial e (omega arith) (changed (stored (Some old)) refl)
+        IsState-with_content p s m row content s.next_serial e (omega arith)
+        (changed (stored (Some old)) refl)
         (subst (AreSerials s.next_serial) (sym live) (k.given, k.once)) k
     by None found =
         let content : Content = with_key key (stored None) (content_of s m) in
         let one = one_more_live p s m row content s.next_serial e
         (HasOneMore-with_key key (stored None) (content_of s m) found) k in
-        IsState-with_content p s m row content (suc s.next_serial) e (omega arith) (changed (stored None) refl)
-        (AreSerials-more s.next_serial (live_serials s) (serials_with s m content) one (k.given, k.once)) k
+        IsState-with_content p s m row content (suc s.next_serial) e (omega arith)
+        (changed (stored None) refl)
+        (AreSerials-more s.next_serial (live_serials s) (serials_with s m content) one
+        (k.given, k.once)) k
 
-remove_key_keeps : (p : Program) (s : State) (m : ℕ) (row : MapDef) (key : List ℕ) → slice_get p.maps m ≡ Some row
-    → row.kind ≡ Hash → has_key key (content_of s m) ≡ true → IsState p s → IsState p (remove_key s m key)
+remove_key_keeps : (p : Program) (s : State) (m : ℕ) (row : MapDef) (key : List ℕ)
+    → slice_get p.maps m ≡ Some row
+    → row.kind ≡ Hash → has_key key (content_of s m) ≡ true → IsState p s
+    → IsState p (remove_key s m key)
 remove_key_keeps p s m row key e hash there k =
     let old : Content = content_of s m in
     let content : Content = without_key key old in
@@ -235,15 +252,18 @@ remove_key_keeps p s m row key e hash there k =
     let (n, one) = HasOneMore-without_key key old there (is_sorted-key_values_of row old fits) in
     let live = one_fewer_live p s m row content n e one k in
     IsState-with_content p s m row content s.next_serial e (omega arith) fewer
-    (AreSerials-fewer s.next_serial n (serials_with s m content) (live_serials s) live (k.given, k.once)) k
+    (AreSerials-fewer s.next_serial n (serials_with s m content) (live_serials s) live
+    (k.given, k.once)) k
 
 -- ---- the helpers
 
 -- an answer that is a value, and a state
 abbrev pub IsHelped : Program → Helped → Type 0
-IsHelped p helped = IsState p helped.state × IsValue (length p.maps) helped.state.next_serial helped.answer
+IsHelped p helped =
+    IsState p helped.state × IsValue (length p.maps) helped.state.next_serial helped.answer
 
-lookup_keeps : (p : Program) (s : State) (m : ℕ) (row : MapDef) (key : List ℕ) → slice_get p.maps m ≡ Some row
+lookup_keeps : (p : Program) (s : State) (m : ℕ) (row : MapDef) (key : List ℕ)
+    → slice_get p.maps m ≡ Some row
     → IsState p s → IsHelped p (map_lookup_elem s m key)
 lookup_keeps p s m row key e k = (k, by (at_key key (content_of s m)) refl)
   where
@@ -255,11 +275,15 @@ lookup_keeps p s m row key e k = (k, by (at_key key (content_of s m)) refl)
         ((slice_get_within p.maps m row e, given), omega arith)
     by None found = omega arith
 
-update_keeps : (p : Program) (s : State) (m : MapArgument) (key bytes : List ℕ) (flags : ℕ) → IsArgument p m
-    → IsKeyValue m.row (key, bytes) → IsState p s → IsHelped p (map_update_elem m.row s m.index key bytes flags)
+update_keeps : (p : Program) (s : State) (m : MapArgument) (key bytes : List ℕ) (flags : ℕ)
+    → IsArgument p m
+    → IsKeyValue m.row (key, bytes) → IsState p s
+    → IsHelped p (map_update_elem m.row s m.index key bytes flags)
 update_keeps p s m key bytes flags e entry k =
-    let content = content_of s m.index in
-    (by (update_answer m.row content key flags == 0) refl, update_answer_fits m.row content key flags)
+    let content = content_of s m.index in (
+      by (update_answer m.row content key flags == 0) refl,
+      update_answer_fits m.row content key flags,
+    )
   where
     by : (b : Bool) → (update_answer m.row (content_of s m.index) key flags == 0) ≡ b
         → IsState p (if b then put_bytes s m.index key bytes else s)
@@ -268,7 +292,8 @@ update_keeps p s m key bytes flags e entry k =
         (update_has_room m.row key flags (content_of s m.index) passed) k
     by false refused = k
 
-delete_keeps : (p : Program) (s : State) (m : MapArgument) (key : List ℕ) → IsArgument p m → IsState p s
+delete_keeps : (p : Program) (s : State) (m : MapArgument) (key : List ℕ) → IsArgument p m
+    → IsState p s
     → IsHelped p (map_delete_elem m.row s m.index key)
 delete_keeps p s m key e k =
     let content = content_of s m.index in
@@ -292,7 +317,8 @@ clock_asked p s calls k = IsState-moved p s s.slot s.regs calls k.slot k.registe
 lookup_call_keeps : (p : Program) (s : State) → IsState p s → IfOk (lookup_call p s) (IsHelped p)
 lookup_call_keeps p s k =
     let H : Helped → Type 0 = IsHelped p in
-    IfOk-and_then (IsArgument p) H (map_argument p (reg s R1)) _ (map_argument_fits p (reg s R1)) (λ m e.
+    IfOk-and_then (IsArgument p) H (map_argument p (reg s R1)) _ (map_argument_fits p (reg s R1))
+    (λ m e.
     IfOk-then H (bytes_argument (reg s R2)) _ (λ key_at.
     IfOk-then H (bytes_at s key_at m.row.key_size) _ (λ key.
     lookup_keeps p s m.index m.row key e k)))
@@ -300,7 +326,8 @@ lookup_call_keeps p s k =
 update_call_keeps : (p : Program) (s : State) → IsState p s → IfOk (update_call p s) (IsHelped p)
 update_call_keeps p s k =
     let H : Helped → Type 0 = IsHelped p in
-    IfOk-and_then (IsArgument p) H (map_argument p (reg s R1)) _ (map_argument_fits p (reg s R1)) (λ m e.
+    IfOk-and_then (IsArgument p) H (map_argument p (reg s R1)) _ (map_argument_fits p (reg s R1))
+    (λ m e.
     IfOk-then H (bytes_argument (reg s R2)) _ (λ key_at.
     IfOk-then H (bytes_argument (reg s R3)) _ (λ value_at.
     IfOk-then H (number_argument (reg s R4)) _ (λ flags.
@@ -309,18 +336,21 @@ update_call_keeps p s k =
     IfOk-and_then (AreBytesOf m.row.value_size) H (bytes_at s value_at m.row.value_size) _
     (bytes_at_fits p s value_at m.row.value_size k) (λ bytes value_is.
     update_keeps p s m key bytes flags e
-    (record { key_size = key_is.0; key = key_is.1; value_size = value_is.0; value = value_is.1 }) k))))))
+    (record { key_size = key_is.0; key = key_is.1; value_size = value_is.0; value = value_is.1 })
+    k))))))
 
 delete_call_keeps : (p : Program) (s : State) → IsState p s → IfOk (delete_call p s) (IsHelped p)
 delete_call_keeps p s k =
     let H : Helped → Type 0 = IsHelped p in
-    IfOk-and_then (IsArgument p) H (map_argument p (reg s R1)) _ (map_argument_fits p (reg s R1)) (λ m e.
+    IfOk-and_then (IsArgument p) H (map_argument p (reg s R1)) _ (map_argument_fits p (reg s R1))
+    (λ m e.
     IfOk-then H (bytes_argument (reg s R2)) _ (λ key_at.
     IfOk-then H (bytes_at s key_at m.row.key_size) _ (λ key.
     delete_keeps p s m key e k)))
 
 -- a helper's answer is a value, and what it leaves is a state
-pub helper_call_fits : (p : Program) (clock : ℕ → ℕ) (s : State) (o : Option Helper) → IsClock clock → IsState p s
+pub helper_call_fits : (p : Program) (clock : ℕ → ℕ) (s : State) (o : Option Helper) → IsClock clock
+    → IsState p s
     → IfOk (helper_call p clock s o) (IsHelped p)
 helper_call_fits p clock s (Some MapLookupElem) answers k = lookup_call_keeps p s k
 helper_call_fits p clock s (Some MapUpdateElem) answers k = update_call_keeps p s k
@@ -331,8 +361,9 @@ helper_call_fits p clock s None answers k = tt
 
 -- ---- what is in the registers after it
 
--- r0 holds the answer, and r1 to r5 nothing
-pub IsState-answered : (p : Program) (helped : Helped) → IsHelped p helped → IsState p (answered helped)
+-- r0 holds the answer, and r1 to r5 are unset
+pub IsState-answered : (p : Program) (helped : Helped) → IsHelped p helped
+    → IsState p (answered helped)
 IsState-answered p helped h =
     let s : State = helped.state in
     let k = h.0 in
@@ -344,7 +375,8 @@ IsState-answered p helped h =
       slot = k.slot;
       registers = omega arith;
       values = All-cons V helped.answer (replicate 5 Unset ++ rest) h.1
-          (All-append V (replicate 5 Unset) rest (All-replicate V 5 Unset tt) (All-drop V 6 s.regs k.values));
+          (All-append V (replicate 5 Unset) rest (All-replicate V 5 Unset tt)
+          (All-drop V 6 s.regs k.values));
       called = k.called;
       depth = k.depth;
       frames = k.frames;
@@ -358,8 +390,10 @@ IsState-answered p helped h =
     }
 
 -- the call of a helper leaves a state
-pub helper_call_keeps : (p : Program) (clock : ℕ → ℕ) (s : State) (o : Option Helper) → IsClock clock → IsState p s
+pub helper_call_keeps : (p : Program) (clock : ℕ → ℕ) (s : State) (o : Option Helper)
+    → IsClock clock → IsState p s
     → IfOk (after_call (helper_call p clock s o)) (IsState p)
 helper_call_keeps p clock s o answers k =
-    IfOk-and_then (IsHelped p) (IsState p) (helper_call p clock s o) (λ helped. Ok (answered helped))
+    IfOk-and_then (IsHelped p) (IsState p) (helper_call p clock s o)
+    (λ helped. Ok (answered helped))
     (helper_call_fits p clock s o answers k) (λ helped h. IsState-answered p helped h)

@@ -20,7 +20,8 @@ EachByte-take n xs h j =
 -- the next byte of a number is a byte of the rest
 byte_at-suc : (i n : ℕ) → byte_at (suc i) n ≡ byte_at i (n / 256)
 byte_at-suc zero n = refl
-byte_at-suc (suc i) n = ap (λ x. x % 256) (ap (λ x. n / x) (pow-succ' 256 (suc i)) ∙ sym (div-div-eq-div-mul n 256 (256 ^ suc i)))
+byte_at-suc (suc i) n = ap (λ x. x % 256)
+    (ap (λ x. n / x) (pow-succ' 256 (suc i)) ∙ sym (div-div-eq-div-mul n 256 (256 ^ suc i)))
 
 -- the bytes of a number from the next one on are those of the rest
 bytes_low_first-suc : (i k n : ℕ) → bytes_low_first (suc i) k n ≡ bytes_low_first i k (n / 256)
@@ -28,7 +29,8 @@ bytes_low_first-suc i zero n = refl
 bytes_low_first-suc i (suc k) n = rw (byte_at-suc i n, bytes_low_first-suc (suc i) k n) refl
 
 -- a number that was read from n bytes of a list has those bytes
-pub little_bytes-little_from : (n i : ℕ) (xs : List ℕ) → EachByte xs → i + n ≤ length xs → little_bytes n (little_from i n xs) ≡ take n (drop i xs)
+pub little_bytes-little_from : (n i : ℕ) (xs : List ℕ) → EachByte xs → i + n ≤ length xs
+    → little_bytes n (little_from i n xs) ≡ take n (drop i xs)
 little_bytes-little_from zero i xs small fits = refl
 little_bytes-little_from (suc n) i xs small fits =
     let b = slice_index xs i in
@@ -40,7 +42,8 @@ little_bytes-little_from (suc n) i xs small fits =
     rw (low, bytes_low_first-suc 0 n (b + 256 * rest), high, more, split) refl
 
 -- where the number after the first j bytes is
-pub little_from-drop : (n i j : ℕ) (xs : List ℕ) → little_from i n (drop j xs) ≡ little_from (j + i) n xs
+pub little_from-drop : (n i j : ℕ) (xs : List ℕ)
+    → little_from i n (drop j xs) ≡ little_from (j + i) n xs
 little_from-drop zero i j xs = refl
 little_from-drop (suc n) i j xs =
     let byte = get_or-drop j xs i 0 in

@@ -1,4 +1,4 @@
--- Laws of numbers of 32 and 64 bits: what operations give fits its width, and low bits.
+-- Laws of numbers of 32 and 64 bits: results of operations fit their width; low bits.
 use Rattle.std.proofs.Common.{inl, inr, ◌≡◌, ℕ, ℤ, pos, negsuc, neg_ℤ, zero, suc, ◌+◌, ◌-◌, ◌*◌, ◌/◌, ◌%◌, ◌^◌, ◌<◌, ◌≤◌, refl, arith, Bool, true, false, cond, w32, w64}
 use Rattle.std.specs.Prelude.{int_div, int_rem, nat_eq, unsigned_abs}
 use Rattle.std.specs.Int.{Width as IntWidth, cast_signed, cast_unsigned}
@@ -42,7 +42,7 @@ width_positive Full64 = omega arith
 pub low_below : (w : Width) (n : ℕ) → low w n < 2 ^ width_bits w
 low_below w n = mod_below n (2 ^ width_bits w) (pow_pos (width_bits w))
 
--- a shift goes less far than the width
+-- a shift's distance is below the width
 pub shift_below : (w : Width) (b : ℕ) → shift w b < width_bits w
 shift_below w b = mod_below b (width_bits w) (width_positive w)
 
@@ -54,33 +54,40 @@ negated_in : (w : IntWidth) (q : ℕ) → cast_unsigned w (neg_ℤ (pos q)) < 2 
 negated_in w zero = pow_pos (bits w)
 negated_in w (suc n) = let p = pow_pos (bits w) in omega arith
 
-magnitude_in : (w : IntWidth) (x : ℕ) → 2 ^ bits w ≡ 2 * 2 ^ hbits w → x < 2 ^ bits w → mag (cast_signed w x) < 2 ^ hbits w
+magnitude_in : (w : IntWidth) (x : ℕ) → 2 ^ bits w ≡ 2 * 2 ^ hbits w → x < 2 ^ bits w
+    → mag (cast_signed w x) < 2 ^ hbits w
 magnitude_in w x e h =
     elim (cases_lt x (2 ^ hbits w)) [
       | inl lt ↦ rw (lt-ltb x (2 ^ hbits w) lt) lt
       | inr ge ↦ rw (le-ltb x (2 ^ hbits w) ge) (omega arith)
     ]
 
-quotient_in : (w : IntWidth) (a b : ℤ) → 2 ^ bits w ≡ 2 * 2 ^ hbits w → mag a < 2 ^ hbits w → cast_unsigned w (int_div a b) < 2 ^ bits w
+quotient_in : (w : IntWidth) (a b : ℤ) → 2 ^ bits w ≡ 2 * 2 ^ hbits w → mag a < 2 ^ hbits w
+    → cast_unsigned w (int_div a b) < 2 ^ bits w
 quotient_in w (pos a) (pos b) e h = let l = div-le_self a b in omega arith
 quotient_in w (pos a) (negsuc b) e h = negated_in w (a / suc b)
 quotient_in w (negsuc a) (pos b) e h = negated_in w (suc a / b)
 quotient_in w (negsuc a) (negsuc b) e h = let l = div-le_self (suc a) (suc b) in omega arith
 
-remainder_in : (w : IntWidth) (a b : ℤ) → 2 ^ bits w ≡ 2 * 2 ^ hbits w → mag a < 2 ^ hbits w → cast_unsigned w (int_rem a b) < 2 ^ bits w
+remainder_in : (w : IntWidth) (a b : ℤ) → 2 ^ bits w ≡ 2 * 2 ^ hbits w → mag a < 2 ^ hbits w
+    → cast_unsigned w (int_rem a b) < 2 ^ bits w
 remainder_in w (pos a) b e h = let l = mod-le a (unsigned_abs b) in omega arith
 remainder_in w (negsuc a) b e h = negated_in w (suc a % unsigned_abs b)
 
-shifted_in : (w : IntWidth) (a : ℤ) (k : ℕ) → 2 ^ bits w ≡ 2 * 2 ^ hbits w → mag a < 2 ^ hbits w → cast_unsigned w (shr_z a k) < 2 ^ bits w
+shifted_in : (w : IntWidth) (a : ℤ) (k : ℕ) → 2 ^ bits w ≡ 2 * 2 ^ hbits w → mag a < 2 ^ hbits w
+    → cast_unsigned w (shr_z a k) < 2 ^ bits w
 shifted_in w (pos a) k e h = let l = div-le_self a k in omega arith
 shifted_in w (negsuc a) k e h = let p = pow_pos (bits w) in omega arith
 
 -- a shift that keeps the sign keeps the width
-pub arithmetic_shift_below : (w : Width) (x b : ℕ) → x < 2 ^ width_bits w → result_of Arsh w x b < 2 ^ width_bits w
-arithmetic_shift_below Low32 x b h = shifted_in w32 _ (2 ^ shift Low32 b) refl (magnitude_in w32 x refl h)
-arithmetic_shift_below Full64 x b h = shifted_in w64 _ (2 ^ shift Full64 b) refl (magnitude_in w64 x refl h)
+pub arithmetic_shift_below : (w : Width) (x b : ℕ) → x < 2 ^ width_bits w
+    → result_of Arsh w x b < 2 ^ width_bits w
+arithmetic_shift_below Low32 x b h =
+    shifted_in w32 _ (2 ^ shift Low32 b) refl (magnitude_in w32 x refl h)
+arithmetic_shift_below Full64 x b h =
+    shifted_in w64 _ (2 ^ shift Full64 b) refl (magnitude_in w64 x refl h)
 
--- what an operation gives is a number of the width
+-- the result of an operation is a number of the width
 pub alu_below : (op : AluOp) (w : Width) (x y : ℕ) → alu op w x y < 2 ^ width_bits w
 unfolding alu
 alu_below Add w x y = low_below w _
@@ -92,10 +99,12 @@ alu_below Div w x y =
     cond_below (nat_eq (low w y) 0) _ _ _ (pow_pos (width_bits w)) (omega arith)
 alu_below SignedDiv Low32 x y =
     let m = magnitude_in w32 (low Low32 x) refl (low_below Low32 x) in
-    cond_below (nat_eq (low Low32 y) 0) _ _ _ (pow_pos 32) (quotient_in w32 _ (cast_signed w32 (low Low32 y)) refl m)
+    cond_below (nat_eq (low Low32 y) 0) _ _ _ (pow_pos 32)
+    (quotient_in w32 _ (cast_signed w32 (low Low32 y)) refl m)
 alu_below SignedDiv Full64 x y =
     let m = magnitude_in w64 (low Full64 x) refl (low_below Full64 x) in
-    cond_below (nat_eq (low Full64 y) 0) _ _ _ (pow_pos 64) (quotient_in w64 _ (cast_signed w64 (low Full64 y)) refl m)
+    cond_below (nat_eq (low Full64 y) 0) _ _ _ (pow_pos 64)
+    (quotient_in w64 _ (cast_signed w64 (low Full64 y)) refl m)
 alu_below Or w x y = or_lt (width_bits w) _ _ (low_below w x) (low_below w y)
 alu_below And w x y =
     let a = low_below w x in
@@ -112,10 +121,12 @@ alu_below Mod w x y =
     cond_below (nat_eq (low w y) 0) _ _ _ a (omega arith)
 alu_below SignedMod Low32 x y =
     let m = magnitude_in w32 (low Low32 x) refl (low_below Low32 x) in
-    cond_below (nat_eq (low Low32 y) 0) _ _ _ (low_below Low32 x) (remainder_in w32 _ (cast_signed w32 (low Low32 y)) refl m)
+    cond_below (nat_eq (low Low32 y) 0) _ _ _ (low_below Low32 x)
+    (remainder_in w32 _ (cast_signed w32 (low Low32 y)) refl m)
 alu_below SignedMod Full64 x y =
     let m = magnitude_in w64 (low Full64 x) refl (low_below Full64 x) in
-    cond_below (nat_eq (low Full64 y) 0) _ _ _ (low_below Full64 x) (remainder_in w64 _ (cast_signed w64 (low Full64 y)) refl m)
+    cond_below (nat_eq (low Full64 y) 0) _ _ _ (low_below Full64 x)
+    (remainder_in w64 _ (cast_signed w64 (low Full64 y)) refl m)
 alu_below Xor w x y = xor_lt (width_bits w) _ _ (low_below w x) (low_below w y)
 alu_below Mov w x y = low_below w y
 alu_below Arsh w x y = arithmetic_shift_below w (low w x) (low w y) (low_below w x)
@@ -125,7 +136,8 @@ pub alu_fits : (op : AluOp) (w : Width) (x y : ℕ) → alu op w x y < 2 ^ 64
 alu_fits op w x y = let b = alu_below op w x y in let f = width_fits w in omega arith
 
 -- the low bytes in an order are a number of that many bits
-pub reordered_below : (order : ByteOrder) (span : SwapWidth) (x : ℕ) → reordered order span x < 2 ^ span_bits span
+pub reordered_below : (order : ByteOrder) (span : SwapWidth) (x : ℕ)
+    → reordered order span x < 2 ^ span_bits span
 unfolding reordered
 reordered_below Little span x = mod_below x (2 ^ span_bits span) (pow_pos (span_bits span))
 reordered_below Big B16 x = omega arith
@@ -137,7 +149,8 @@ reordered_below Swap B64 x = omega arith
 
 pub reordered_fits : (order : ByteOrder) (span : SwapWidth) (x : ℕ)
     → reordered order span x < 2 ^ 64
-reordered_fits order span x = let b = reordered_below order span x in let f = span_fits span in omega arith
+reordered_fits order span x =
+    let b = reordered_below order span x in let f = span_fits span in omega arith
 
 -- bits that are cut off later may be cut off twice
 pub low_wrapped : (w : Width) (n : ℕ) → low w (n % 2 ^ 64) ≡ low w n

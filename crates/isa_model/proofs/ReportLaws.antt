@@ -28,10 +28,12 @@ reason_fits One bytes h = refl
 reason_fits Two bytes h = little_from-lt 20 4 bytes (slice_index_fits bytes h)
 
 -- the record at the front of bytes is a packet frame, if its body is no longer than it may be
-IsPacketFrame-packet_frame_of : (v : Version) (bytes : List ℕ) → AreBytes bytes → length_field bytes ≤ max_body v → IsPacketFrame v (packet_frame_of v bytes)
+IsPacketFrame-packet_frame_of : (v : Version) (bytes : List ℕ) → AreBytes bytes
+    → length_field bytes ≤ max_body v → IsPacketFrame v (packet_frame_of v bytes)
 IsPacketFrame-packet_frame_of v bytes h short = record {
   short = let cut = length-take (length_field bytes) (drop (head_size v) bytes) in omega arith;
-  bytes = All-take (λ b. b < 256) (length_field bytes) (drop (head_size v) bytes) (All-drop (λ b. b < 256) (head_size v) bytes h);
+  bytes = All-take (λ b. b < 256) (length_field bytes) (drop (head_size v) bytes)
+      (All-drop (λ b. b < 256) (head_size v) bytes h);
   time = little_from-lt 0 8 bytes (slice_index_fits bytes h);
   interface = little_from-lt 8 4 bytes (slice_index_fits bytes h);
   queue = little_from-lt 12 4 bytes (slice_index_fits bytes h);
@@ -39,44 +41,53 @@ IsPacketFrame-packet_frame_of v bytes h short = record {
 }
 
 -- where a record follows, its body is no longer than it may be
-length_field-stop_at : (v : Version) (number offset : ℕ) (bytes : List ℕ) (e : InputEnding) → stop_at v number offset bytes e ≡ None → length_field bytes ≤ max_body v
+length_field-stop_at : (v : Version) (number offset : ℕ) (bytes : List ℕ) (e : InputEnding)
+    → stop_at v number offset bytes e ≡ None → length_field bytes ≤ max_body v
 unfolding stop_at
 length_field-stop_at v number offset [] ByEnd h = absurd (cc)
 length_field-stop_at v number offset [] ByError h = absurd (cc)
 length_field-stop_at v number offset (b ∷ bytes) e h = grind (arith, nat_tests)
 
-frames_fit : (fuel : ℕ) (v : Version) (number offset : ℕ) (bytes : List ℕ) (e : InputEnding) → AreBytes bytes → All (IsPacketFrame v) (frames_from fuel v number offset bytes e).0
+frames_fit : (fuel : ℕ) (v : Version) (number offset : ℕ) (bytes : List ℕ) (e : InputEnding)
+    → AreBytes bytes → All (IsPacketFrame v) (frames_from fuel v number offset bytes e).0
 unfolding frames_from
 frames_fit zero v number offset bytes e h = All-nil (IsPacketFrame v)
-frames_fit (suc fuel) v number offset bytes e h = go (stop_at v number offset bytes e) refl (λ n o rest k. frames_fit fuel v n o rest e k)
+frames_fit (suc fuel) v number offset bytes e h =
+    go (stop_at v number offset bytes e) refl (λ n o rest k. frames_fit fuel v n o rest e k)
   where
     go : (o : Option Finish) → stop_at v number offset bytes e ≡ o
-        → ((n o : ℕ) (rest : List ℕ) → AreBytes rest → All (IsPacketFrame v) (frames_from fuel v n o rest e).0)
+        → ((n o : ℕ) (rest : List ℕ) → AreBytes rest
+        → All (IsPacketFrame v) (frames_from fuel v n o rest e).0)
         → All (IsPacketFrame v) (frames_from (suc fuel) v number offset bytes e).0
     go (Some stop) s again =
-        subst (λ (t : List PacketFrame × Finish). All (IsPacketFrame v) t.0) (sym (frames_from-stops fuel v number offset bytes e stop s)) (All-nil (IsPacketFrame v))
+        subst (λ (t : List PacketFrame × Finish). All (IsPacketFrame v) t.0)
+        (sym (frames_from-stops fuel v number offset bytes e stop s))
+        (All-nil (IsPacketFrame v))
     go None s again =
         let f = packet_frame_of v bytes in
         let size = record_size v f in
         let here = IsPacketFrame-packet_frame_of v bytes h
         (length_field-stop_at v number offset bytes e s) in
-        let more = again (number + 1) (offset + size) (drop size bytes) (All-drop (λ b. b < 256) size bytes h) in
-        subst (λ (t : List PacketFrame × Finish). All (IsPacketFrame v) t.0) (sym (frames_from-goes_on fuel v number offset bytes e s))
+        let more = again (number + 1) (offset + size) (drop size bytes)
+        (All-drop (λ b. b < 256) size bytes h) in
+        subst (λ (t : List PacketFrame × Finish). All (IsPacketFrame v) t.0)
+        (sym (frames_from-goes_on fuel v number offset bytes e s))
         (All-cons (IsPacketFrame v) f (frames_behind fuel v number offset bytes e).0 here more)
 
 -- the frames of a stream can be spelled
 abbrev pub AreFrames : Stream → Type 0
 AreFrames found = All (IsPacketFrame found.version) found.frames
 
--- so it is with the stream of an input
+-- and so can those of the stream of an input
 pub stream_of-AreFrames : (input : Input) → AreBytes input.bytes → AreFrames (stream_of input)
 stream_of-AreFrames input h = go (opened input.bytes input.ending)
   where
     go : (r : Result Version Fault) → AreFrames (stream_opened input r)
-    go (Ok v) = frames_fit (suc (length input.bytes)) v 0 4 (drop 4 input.bytes) input.ending (All-drop (λ b. b < 256) 4 input.bytes h)
+    go (Ok v) = frames_fit (suc (length input.bytes)) v 0 4 (drop 4 input.bytes) input.ending
+        (All-drop (λ b. b < 256) 4 input.bytes h)
     go (Err fault) = All-nil (IsPacketFrame One)
 
--- the limit shows in the line of a run that it stopped only
+-- the limit is only in the line of a run that it has stopped
 abbrev with_limit : ℕ → ReportForm → ReportForm
 with_limit n form = record form { limit = n }
 
@@ -85,7 +96,8 @@ frame_pieces-turn_by : (m : ℕ) (form : ReportForm) (number : ℕ) (f : PacketF
 unfolding frame_pieces frame_line
 frame_pieces-turn_by m form number f o = refl
 
-skip_pieces-limit : (m : ℕ) (form : ReportForm) (number : ℕ) (f : PacketFrame) → skip_pieces (with_limit m form) number f ≡ skip_pieces form number f
+skip_pieces-limit : (m : ℕ) (form : ReportForm) (number : ℕ) (f : PacketFrame)
+    → skip_pieces (with_limit m form) number f ≡ skip_pieces form number f
 unfolding skip_pieces
 skip_pieces-limit m form number f = refl
 
@@ -95,60 +107,99 @@ packet_short : (v : Version) (f : PacketFrame) → length f.body ≤ max_body v
 packet_short One f h = omega arith
 packet_short Two f h = h
 
--- on a frame that can be spelled, a program all of whose runs exit has an outcome
-outcome_on : (p : Program) (n : ℕ) (contents : List KeyValues) (v : Version) (f : PacketFrame) → StartsEnd p n → FitRows p.maps contents → IsPacketFrame v f
+-- a program all of whose runs exit has an outcome on each frame that can be spelled
+outcome_on : (p : Program) (n : ℕ) (contents : List KeyValues) (v : Version) (f : PacketFrame)
+    → StartsEnd p n → FitRows p.maps contents → IsPacketFrame v f
     → ExitsWithin p n f.head f.body contents (λ k. f.head.time) × IsGiven p f.head f.body contents
 outcome_on p n contents v f h fits here =
-    let given : IsGiven p f.head f.body contents = record { short = packet_short v f here.short; bytes = here.bytes; interface = here.interface; queue = here.queue; maps = fits } in
-    (ExitsWithin-StartsEnd p n f.head f.body contents (λ k. f.head.time) h (λ k. here.time) given, given)
+    let given : IsGiven p f.head f.body
+    contents = record {
+      short = packet_short v f here.short;
+      bytes = here.bytes;
+      interface = here.interface;
+      queue = here.queue;
+      maps = fits;
+    } in (
+      ExitsWithin-StartsEnd p n f.head f.body contents (λ k. f.head.time) h (λ k. here.time) given,
+      given,
+    )
 
--- one frame: what its run, if it has one, is, and what it leaves
+-- one frame: its run exits if it is run, its pieces are those of the report, and the contents that
+-- are left fit the rows
 abbrev RunsOne : Program → ℕ → ReportForm → ℕ → List KeyValues → PacketFrame → Bool → Option Turn
     → Type 0
 RunsOne p n form number contents f runs t =
     ExitsOn p n contents f runs (contents_left contents t)
-    × ReportsFrame form p number contents f runs (turn_pieces (with_limit n form) number f t) (contents_left contents t)
+    × ReportsFrame form p number contents f runs (turn_pieces (with_limit n form) number f t)
+    (contents_left contents t)
     × FitRows p.maps (contents_left contents t)
 
 abbrev turn_if : Program → ℕ → List KeyValues → PacketFrame → Bool → Option Turn
 turn_if p n contents f runs = if runs then Some (checked_rule p n f.head f.body contents) else None
 
-runs_one : (p : Program) (n : ℕ) (form : ReportForm) (number : ℕ) (contents : List KeyValues) (v : Version) (f : PacketFrame) (runs : Bool) → IsProgram p → StartsEnd p n
-    → FitRows p.maps contents → IsPacketFrame v f → RunsOne p n form number contents f runs (turn_if p n contents f runs)
-runs_one p n form number contents v f false program h fits here = (refl, (skip_pieces-limit n form number f, refl), fits)
+runs_one : (p : Program) (n : ℕ) (form : ReportForm) (number : ℕ) (contents : List KeyValues)
+    (v : Version) (f : PacketFrame) (runs : Bool) → IsProgram p → StartsEnd p n
+    → FitRows p.maps contents → IsPacketFrame v f
+    → RunsOne p n form number contents f runs (turn_if p n contents f runs)
+runs_one p n form number contents v f false program h fits here =
+    (refl, (skip_pieces-limit n form number f, refl), fits)
 runs_one p n form number contents v f true program h fits here =
     let (exit, given) = outcome_on p n contents v f h fits here in
     let o = exit.outcome in
     let clock : ℕ → ℕ = λ k. f.head.time in
     let answers : IsClock clock = λ k. here.time in
-    let same : checked_rule p n f.head f.body contents ≡ turn_by o = turn-outcome p f.head f.body contents clock o n exit.found exit.few in
-    let left = FitRows-HasOutcome p f.head f.body contents clock o program answers given exit.found in
-    subst (λ (t : Turn). RunsOne p n form number contents f true (Some t)) (sym same)
-    ((o, exit.found, exit.few, refl), (o, exit.found, frame_pieces-turn_by n form number f o, refl), left)
+    let same : checked_rule p n f.head f.body contents ≡ turn_by o =
+    turn-outcome p f.head f.body contents clock o n exit.found exit.few in
+    let left =
+    FitRows-HasOutcome p f.head f.body contents clock o program answers given exit.found in
+    subst (λ (t : Turn). RunsOne p n form number contents f true (Some t)) (sym same) (
+      (o, exit.found, exit.few, refl),
+      (o, exit.found, frame_pieces-turn_by n form number f o, refl),
+      left,
+    )
 
 abbrev RunsOn : Program → ℕ → ReportForm → ℕ → List KeyValues → List PacketFrame → Type 0
 RunsOn p n form number contents frames =
     AllExit p n contents frames
-    × ReportsFrames form p number contents frames (turns_pieces (with_limit n form) (checked_rule p n) number contents frames) (contents_after (checked_rule p n) contents frames)
+    × ReportsFrames form p number contents frames
+    (turns_pieces (with_limit n form) (checked_rule p n) number contents frames)
+    (contents_after (checked_rule p n) contents frames)
 
-runs_on : (p : Program) (n : ℕ) (form : ReportForm) (number : ℕ) (contents : List KeyValues) (v : Version) (frames : List PacketFrame) → IsProgram p → StartsEnd p n → FitRows p.maps contents
+runs_on : (p : Program) (n : ℕ) (form : ReportForm) (number : ℕ) (contents : List KeyValues)
+    (v : Version) (frames : List PacketFrame) → IsProgram p → StartsEnd p n
+    → FitRows p.maps contents
     → All (IsPacketFrame v) frames → RunsOn p n form number contents frames
 runs_on p n form number contents v [] program h fits each = (tt, (refl, refl))
 runs_on p n form number contents v (f ∷ frames) program h fits each =
     let t = turn_if p n contents f (f.reason == 0) in
     let next = contents_left contents t in
-    let (exits, reports, left) = runs_one p n form number contents v f (f.reason == 0) program h fits (All-head (IsPacketFrame v) f frames each) in
-    let (all, rest) = runs_on p n form (number + 1) next v frames program h left (All-tail (IsPacketFrame v) f frames each) in
-    ((next, exits, all), (turn_pieces (with_limit n form) number f t, turns_pieces (with_limit n form) (checked_rule p n) (number + 1) next frames, next, reports, refl, rest))
+    let (exits, reports, left) = runs_one p n form number contents v f
+    (f.reason == 0) program h fits (All-head (IsPacketFrame v) f frames each) in
+    let (all, rest) = runs_on p n form (number + 1) next v frames program h left
+    (All-tail (IsPacketFrame v) f frames each) in (
+      (next, exits, all),
+      (
+        turn_pieces (with_limit n form) number f t,
+        turns_pieces (with_limit n form) (checked_rule p n)
+            (number + 1) next frames,
+        next,
+        reports,
+        refl,
+        rest,
+      ),
+    )
 
--- Where every run of the program exits within n steps, the checked report with that limit is the
--- report, and every frame's run exits within n steps.
-pub IsReport-checked : (p : Program) (n : ℕ) (found : Stream) → IsProgram p → StartsEnd p n → FitRows p.maps (starting_contents p.maps)
+-- where every run of the program exits within n steps, the checked report with that limit is the
+-- report, and every frame's run exits within n steps
+pub IsReport-checked : (p : Program) (n : ℕ) (found : Stream) → IsProgram p → StartsEnd p n
+    → FitRows p.maps (starting_contents p.maps)
     → AreFrames found
-    → IsReport p found (checked_report p n found) × AllExit p n (starting_contents p.maps) found.frames
+    → IsReport p found (checked_report p n found)
+    × AllExit p n (starting_contents p.maps) found.frames
 IsReport-checked p n found program h fits each =
     let form = report_form_of p found in
-    let (exits, reports) = runs_on p n form 0 (starting_contents p.maps) found.version found.frames program h fits each in
+    let (exits, reports) =
+    runs_on p n form 0 (starting_contents p.maps) found.version found.frames program h fits each in
     let rule = checked_rule p n in (
       record {
         turns = turns_pieces (with_limit n form) rule 0 (starting_contents p.maps) found.frames;
@@ -159,32 +210,52 @@ IsReport-checked p n found program h fits each =
       exits,
     )
 
-ReportsFrame-same : (form : ReportForm) (p : Program) (number : ℕ) (contents : List KeyValues) (f : PacketFrame) (runs : Bool) (pieces others : List OutputPart) (next after : List KeyValues)
-    → ReportsFrame form p number contents f runs pieces next → ReportsFrame form p number contents f runs others after → (pieces ≡ others) × (next ≡ after)
-ReportsFrame-same form p number contents f false pieces others next after h k = (h.0 ∙ sym k.0, h.1 ∙ sym k.1)
+ReportsFrame-same : (form : ReportForm) (p : Program) (number : ℕ) (contents : List KeyValues)
+    (f : PacketFrame) (runs : Bool) (pieces others : List OutputPart) (next after : List KeyValues)
+    → ReportsFrame form p number contents f runs pieces next
+    → ReportsFrame form p number contents f runs others after → (pieces ≡ others) × (next ≡ after)
+ReportsFrame-same form p number contents f false pieces others next after h k =
+    (h.0 ∙ sym k.0, h.1 ∙ sym k.1)
 ReportsFrame-same form p number contents f true pieces others next after h k =
     let (o, found, is, leaves) = h in
     let (q, also, was, left) = k in
-    let one : o ≡ q = HasOutcome-same p f.head f.body contents (λ k. f.head.time) o q found also in
-    (is ∙ ap (λ (x : Outcome). frame_pieces form number f (turn_by x)) one ∙ sym was, leaves ∙ ap (λ (x : Outcome). x.contents) one ∙ sym left)
+    let one : o ≡ q =
+    HasOutcome-same p f.head f.body contents (λ k. f.head.time) o q found also in (
+      is ∙ ap (λ (x : Outcome). frame_pieces form number f (turn_by x)) one ∙ sym was,
+      leaves ∙ ap (λ (x : Outcome). x.contents) one ∙ sym left,
+    )
 
-ReportsFrames-same : (form : ReportForm) (p : Program) (number : ℕ) (contents : List KeyValues) (frames : List PacketFrame) (pieces others : List OutputPart) (last end : List KeyValues)
-    → ReportsFrames form p number contents frames pieces last → ReportsFrames form p number contents frames others end → (pieces ≡ others) × (last ≡ end)
-ReportsFrames-same form p number contents [] pieces others last end h k = (h.0 ∙ sym k.0, h.1 ∙ sym k.1)
+ReportsFrames-same : (form : ReportForm) (p : Program) (number : ℕ) (contents : List KeyValues)
+    (frames : List PacketFrame) (pieces others : List OutputPart) (last end : List KeyValues)
+    → ReportsFrames form p number contents frames pieces last
+    → ReportsFrames form p number contents frames others end → (pieces ≡ others) × (last ≡ end)
+ReportsFrames-same form p number contents [] pieces others last end h k =
+    (h.0 ∙ sym k.0, h.1 ∙ sym k.1)
 ReportsFrames-same form p number contents (f ∷ frames) pieces others last end h k =
     let (front, rest, next, one, split, more) = h in
     let (begin, left, after, also, cut, others_more) = k in
-    let same = ReportsFrame-same form p number contents f (f.reason == 0) front begin next after one also in
-    let behind = subst (λ (c : List KeyValues). ReportsFrames form p (number + 1) c frames rest last) same.1 more in
-    let (equal, ends) = ReportsFrames-same form p (number + 1) after frames rest left last end behind others_more in
-    (split ∙ ap (λ (l : List OutputPart). l ++ rest) same.0 ∙ ap (λ (l : List OutputPart). begin ++ l) equal ∙ sym cut, ends)
+    let same =
+    ReportsFrame-same form p number contents f (f.reason == 0) front begin next after one also in
+    let behind = subst
+    (λ (c : List KeyValues). ReportsFrames form p (number + 1) c frames rest last) same.1
+    more in
+    let (equal, ends) =
+    ReportsFrames-same form p (number + 1) after frames rest left last end behind others_more in (
+      split ∙ ap (λ (l : List OutputPart). l ++ rest) same.0 ∙ ap
+          (λ (l : List OutputPart). begin ++ l) equal ∙ sym cut,
+      ends,
+    )
 
 -- a program has at most one report of the same stream
-pub IsReport-same : (p : Program) (found : Stream) (pieces others : List OutputPart) → IsReport p found pieces → IsReport p found others → pieces ≡ others
+pub IsReport-same : (p : Program) (found : Stream) (pieces others : List OutputPart)
+    → IsReport p found pieces → IsReport p found others → pieces ≡ others
 IsReport-same p found pieces others h k =
-    let (turns, last) = ReportsFrames-same (report_form_of p found) p 0 (starting_contents p.maps) found.frames h.turns k.turns h.last k.last h.frames k.frames in
+    let (turns, last) = ReportsFrames-same (report_form_of p found) p 0
+    (starting_contents p.maps) found.frames h.turns k.turns h.last k.last h.frames k.frames in
     let ends = ToReport (last_line (length found.frames) found.finish) ∷ [] in
     h.whole
-    ∙ ap (λ (l : List OutputPart). (ToFrames (stream_magic found.version) ∷ l) ++ (maps_pieces 0 p.maps h.last ++ ends)) turns
-    ∙ ap (λ (c : List KeyValues). (ToFrames (stream_magic found.version) ∷ k.turns) ++ (maps_pieces 0 p.maps c ++ ends)) last
+    ∙ ap (λ (l : List OutputPart). (ToFrames (stream_magic found.version) ∷ l)
+    ++ (maps_pieces 0 p.maps h.last ++ ends)) turns
+    ∙ ap (λ (c : List KeyValues). (ToFrames (stream_magic found.version) ∷ k.turns)
+    ++ (maps_pieces 0 p.maps c ++ ends)) last
     ∙ sym k.whole

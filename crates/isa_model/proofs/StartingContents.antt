@@ -1,5 +1,5 @@
--- The contents that maps start with fit their rows: a hash map is empty, and an array has each of its indexes once, in
--- the order of the keys.
+-- The contents that maps start with fit their rows: a hash map is empty, and an array has each of
+-- its indexes once, in the order of the keys.
 use Rattle.std.specs.Prelude.{◌≡◌, ℕ, zero, suc, ◌+◌, ◌<◌, ◌≤◌, true, T, List, [], ◌∷◌, length, fold, replicate, All, refl}
 use Rattle.std.specs.List.{range_with_len}
 use Rattle.std.specs.Cmp.Lexicographic.{nat_list_cmp_total}
@@ -41,7 +41,7 @@ little_number-little_bytes i h = little_number-reads_back 4 i [] (omega arith)
 
 -- the first n indexes of an array, all values zero
 record IsFilled (row : MapDef) (n : ℕ) (es : KeyValues) : Type 0 where
-  entries : All (IsKeyValue row) es
+  key_values : All (IsKeyValue row) es
   sorted : T (is_sorted key_order es)
   room : length es ≤ n
   has : (i : ℕ) → i < n → has_key (little_bytes 4 i) es ≡ true
@@ -72,13 +72,22 @@ module _ (row : MapDef) (four : row.key_size ≡ 4) (few : row.entries ≤ max_m
   }
 
   IsKeyValue-zeros : (j w : List ℕ) → IsKeyValue row (j, w) → IsKeyValue row (j, zeros)
-  IsKeyValue-zeros j w h = record { key_size = h.key_size; key = h.key; value_size = zeros_long; value = zeros_bytes }
+  IsKeyValue-zeros j w
+      h = record {
+        key_size = h.key_size;
+        key = h.key;
+        value_size = zeros_long;
+        value = zeros_bytes;
+      }
 
-  IsFilled-filled : (n : ℕ) (es : KeyValues) → n < row.entries → IsFilled row n es → IsFilled row (n + 1) (filled es n)
+  IsFilled-filled : (n : ℕ) (es : KeyValues) → n < row.entries → IsFilled row n es
+      → IsFilled row (n + 1) (filled es n)
   IsFilled-filled n es l h = record {
-    entries = All-with_key (IsKeyValue row) (little_bytes 4 n) zeros es (IsKeyValue-index n) IsKeyValue-zeros h.entries;
+    key_values = All-with_key (IsKeyValue row) (little_bytes 4 n) zeros es
+        (IsKeyValue-index n) IsKeyValue-zeros h.key_values;
     sorted = is_sorted-put key_order nat_list_cmp_total (little_bytes 4 n) zeros es h.sorted;
-    room = let more = length-with_key (little_bytes 4 n) zeros es h.sorted in let room = h.room in omega arith;
+    room = let more = length-with_key
+        (little_bytes 4 n) zeros es h.sorted in let room = h.room in omega arith;
     has = λ i below. elim (cases_lt i n) [
       | inl lt ↦ has_key-after_with_key (little_bytes 4 i) (little_bytes 4 n) zeros es (h.has i lt)
       | inr ge ↦
@@ -93,7 +102,8 @@ module _ (row : MapDef) (four : row.key_size ≡ 4) (few : row.entries ≤ max_m
 
   IsFilled-fold : (n k : ℕ) (es : KeyValues) → n + k ≤ row.entries → IsFilled row n es
       → IsFilled row (n + k) (fold filled es (range_with_len n k))
-  IsFilled-fold n zero es l h = let same : n ≡ n + 0 = omega arith in subst (λ m. IsFilled row m es) same h
+  IsFilled-fold n zero es l h =
+      let same : n ≡ n + 0 = omega arith in subst (λ m. IsFilled row m es) same h
   IsFilled-fold n (suc k) es l h =
       let same : n + 1 + k ≡ n + suc k = omega arith in
       subst (λ m. IsFilled row m (fold filled (filled es n) (range_with_len (n + 1) k))) same
@@ -101,7 +111,7 @@ module _ (row : MapDef) (four : row.key_size ≡ 4) (few : row.entries ≤ max_m
 
   IsFilled-none : IsFilled row 0 []
   IsFilled-none = record {
-    entries = All-nil (IsKeyValue row);
+    key_values = All-nil (IsKeyValue row);
     sorted = tt;
     room = omega arith;
     has = λ i l. absurd (omega arith);
@@ -119,7 +129,7 @@ module _ (row : MapDef) (four : row.key_size ≡ 4) (few : row.entries ≤ max_m
 FitsRow-starting_by : (kind : MapType) (row : MapDef) → row.kind ≡ kind → KeyFits kind row.key_size
     → row.entries ≤ max_map_entries → FitsRow row (starting_key_values kind row)
 FitsRow-starting_by Hash row e key few = record {
-  entries = All-nil (IsKeyValue row);
+  key_values = All-nil (IsKeyValue row);
   ordered = IsStrictlySortedBy-is_sorted {X = List ℕ} [] tt;
   room = omega arith;
   keys = subst (λ k. KeysFit k row.entries []) (sym e) tt;
@@ -128,7 +138,7 @@ FitsRow-starting_by Array row e key few =
     let h = IsFilled-whole row key few in
     let es = starting_key_values Array row in
     record {
-      entries = h.entries;
+      key_values = h.key_values;
       ordered = IsStrictlySortedBy-is_sorted es h.sorted;
       room = h.room;
       keys = subst (λ k. KeysFit k row.entries (keys_of es)) (sym e) (
@@ -137,11 +147,13 @@ FitsRow-starting_by Array row e key few =
       );
     }
 
-pub FitsRow-starting_key_values : (row : MapDef) → IsRow row → FitsRow row (starting_key_values row.kind row)
+pub FitsRow-starting_key_values : (row : MapDef) → IsRow row
+    → FitsRow row (starting_key_values row.kind row)
 FitsRow-starting_key_values row h = FitsRow-starting_by row.kind row refl h.key h.few_entries
 
 -- the contents that maps start with fit their rows
-pub FitRows-starting_contents : (rows : List MapDef) → All IsRow rows → FitRows rows (starting_contents rows)
+pub FitRows-starting_contents : (rows : List MapDef) → All IsRow rows
+    → FitRows rows (starting_contents rows)
 FitRows-starting_contents [] h = tt
 FitRows-starting_contents (row ∷ rows) h = (
   FitsRow-starting_key_values row (All-head IsRow row rows h),

@@ -1,4 +1,4 @@
--- Instructions as slots, and back; text in parts.
+-- Laws of instructions as slots, and back, and of text in parts.
 use Rattle.std.proofs.Common.{◌≡◌, List, [], ◌∷◌, ◌++◌, Option, Some, None, refl, ap, ◌∙◌}
 use Rattle.std.proofs.lemmas.Grind.{flat_map-append}
 use Rattle.isa_model.specs.declared.instructions.Insn.{Insn}
@@ -11,14 +11,19 @@ pub instructions-slots : (is : List Insn) → instructions (slots is) ≡ is
 instructions-slots [] = refl
 instructions-slots (LoadNumber d n ∷ is) = ap (λ l. LoadNumber d n ∷ l) (instructions-slots is)
 instructions-slots (LoadMap d m ∷ is) = ap (λ l. LoadMap d m ∷ l) (instructions-slots is)
-instructions-slots (LoadMapValue d m offset ∷ is) = ap (λ l. LoadMapValue d m offset ∷ l) (instructions-slots is)
+instructions-slots (LoadMapValue d m offset ∷ is) =
+    ap (λ l. LoadMapValue d m offset ∷ l) (instructions-slots is)
 instructions-slots (i ∷ is) = ap (λ l. i ∷ l) (instructions-slots is)
 
-pub instructions-append : (xs ys : List (Option Insn)) → instructions (xs ++ ys) ≡ instructions xs ++ instructions ys
+pub instructions-append : (xs ys : List (Option Insn))
+    → instructions (xs ++ ys) ≡ instructions xs ++ instructions ys
 instructions-append [] ys = refl
 instructions-append (None ∷ xs) ys = instructions-append xs ys
 instructions-append (Some i ∷ xs) ys = ap (λ l. i ∷ l) (instructions-append xs ys)
 
 -- the text of slots in a row is their texts in a row
-pub code_text-append : (xs ys : List (Option Insn)) → code_text (instructions (xs ++ ys)) ≡ code_text (instructions xs) ++ code_text (instructions ys)
-code_text-append xs ys = ap (λ l. code_text l) (instructions-append xs ys) ∙ flat_map-append line_of (instructions xs) (instructions ys)
+pub code_text-append : (xs ys : List (Option Insn))
+    → code_text (instructions (xs ++ ys))
+    ≡ code_text (instructions xs) ++ code_text (instructions ys)
+code_text-append xs ys = ap (λ l. code_text l) (instructions-append xs ys)
+    ∙ flat_map-append line_of (instructions xs) (instructions ys)

@@ -1,4 +1,4 @@
--- Laws of values: arithmetic, loads and stores give values and cells that fit.
+-- Laws of values: the results of arithmetic, loads and stores are values and cells that fit.
 use Rattle.std.specs.Prelude.{◌≡◌, ℕ, zero, suc, ◌+◌, ◌^◌, ◌<◌, ◌≤◌, ◌+ℤ◌, ◌-ℤ◌, Bool, true, false, nat_le, if◌then◌else◌, ℤ, unsigned_abs, List, [], ◌∷◌, ◌++◌, map, take, drop, length, All, Result, Ok, Err, IfOk, refl}
 use Rattle.std.specs.Int.{w32, w64, to_le_bytes}
 use Rattle.std.specs.Int.RustNames.{FitsSigned}
@@ -32,14 +32,16 @@ use Rattle.isa_model.specs.Machine.MachineStates.{AreBytes, IsOffset, IsRegion, 
 
 -- ---- results
 
--- if P holds of an answer, and Q of what comes after such an answer, Q holds of both in a row
-pub IfOk-and_then : {A B : Type 0} (P : A → Type 0) (Q : B → Type 0) (r : Result A TrapReason) (go : A → Result B TrapReason)
+-- if P holds of an answer, and Q of the result after any such answer, Q holds of both in a row
+pub IfOk-and_then : {A B : Type 0} (P : A → Type 0) (Q : B → Type 0) (r : Result A TrapReason)
+    (go : A → Result B TrapReason)
     → IfOk r P → ((a : A) → P a → IfOk (go a) Q) → IfOk (and_then r go) Q
 IfOk-and_then P Q (Ok a) go h k = k a h
 IfOk-and_then P Q (Err e) go h k = tt
 
 -- Q holds of two results in a row if it holds of the second one after any answer
-pub IfOk-then : {A B : Type 0} (Q : B → Type 0) (r : Result A TrapReason) (go : A → Result B TrapReason)
+pub IfOk-then : {A B : Type 0} (Q : B → Type 0) (r : Result A TrapReason)
+    (go : A → Result B TrapReason)
     → ((a : A) → IfOk (go a) Q) → IfOk (and_then r go) Q
 IfOk-then Q (Ok a) go h = h a
 IfOk-then Q (Err e) go h = tt
@@ -52,7 +54,8 @@ IfOk-if P false x y h k = k refl
 
 -- ---- more serials
 
-pub IsRegion-more : (rows next more : ℕ) (r : Region) → next ≤ more → IsRegion rows next r → IsRegion rows more r
+pub IsRegion-more : (rows next more : ℕ) (r : Region) → next ≤ more → IsRegion rows next r
+    → IsRegion rows more r
 IsRegion-more rows next more region.Context le h = tt
 IsRegion-more rows next more region.Packet le h = tt
 IsRegion-more rows next more region.PacketEnd le h = tt
@@ -60,12 +63,14 @@ IsRegion-more rows next more (region.Map m) le h = h
 IsRegion-more rows next more (region.CallFrame n) le h = omega arith
 IsRegion-more rows next more (region.MapValue m n) le h = (h.0, omega arith)
 
-pub IsValue-more : (rows next more : ℕ) (v : Value) → next ≤ more → IsValue rows next v → IsValue rows more v
+pub IsValue-more : (rows next more : ℕ) (v : Value) → next ≤ more → IsValue rows next v
+    → IsValue rows more v
 IsValue-more rows next more Unset le h = tt
 IsValue-more rows next more (Num n) le h = h
 IsValue-more rows next more (Ptr r z) le h = (IsRegion-more rows next more r le h.0, h.1)
 
-pub IsCell-more : (rows next more : ℕ) (c : Cell) → next ≤ more → IsCell rows next c → IsCell rows more c
+pub IsCell-more : (rows next more : ℕ) (c : Cell) → next ≤ more → IsCell rows next c
+    → IsCell rows more c
 IsCell-more rows next more Unwritten le h = tt
 IsCell-more rows next more (Byte b) le h = h
 IsCell-more rows next more (Piece r z k) le h = (IsRegion-more rows next more r le h.0, h.1, h.2)
@@ -92,53 +97,67 @@ number_from_fits bytes h =
 
 -- ---- arithmetic
 
-pub pointer_at_fits : (rows next : ℕ) (r : Region) (z : ℤ) → IsRegion rows next r → IfOk (pointer_at r z) (IsValue rows next)
+pub pointer_at_fits : (rows next : ℕ) (r : Region) (z : ℤ) → IsRegion rows next r
+    → IfOk (pointer_at r z) (IsValue rows next)
 pointer_at_fits rows next r z h =
-    IfOk-if (IsValue rows next) (nat_le (unsigned_abs z) offset_limit) (Ok (Ptr r z)) (Err OutOfRange)
+    IfOk-if (IsValue rows next) (nat_le (unsigned_abs z) offset_limit) (Ok (Ptr r z))
+    (Err OutOfRange)
     (λ within. (h, grind (arith, nat_tests))) (λ out. tt)
 
-pub moved_to_fits : (rows next : ℕ) (r : Region) (z : ℤ) → IsRegion rows next r → IfOk (moved_to r z) (IsValue rows next)
+pub moved_to_fits : (rows next : ℕ) (r : Region) (z : ℤ) → IsRegion rows next r
+    → IfOk (moved_to r z) (IsValue rows next)
 moved_to_fits rows next r z h =
     IfOk-if (IsValue rows next) (can_move r) (pointer_at r z) (Err BadPointer)
     (λ can. pointer_at_fits rows next r z h) (λ stays. tt)
 
-pub pointer_and_number_fits : (rows next : ℕ) (op : AluOp) (w : Width) (r : Region) (z : ℤ) (n : ℕ) → IsRegion rows next r
+pub pointer_and_number_fits : (rows next : ℕ) (op : AluOp) (w : Width) (r : Region) (z : ℤ) (n : ℕ)
+    → IsRegion rows next r
     → IfOk (pointer_and_number op w r z n) (IsValue rows next)
-pointer_and_number_fits rows next Add Full64 r z n h = moved_to_fits rows next r (z +ℤ signed Full64 n) h
-pointer_and_number_fits rows next Sub Full64 r z n h = moved_to_fits rows next r (z -ℤ signed Full64 n) h
+pointer_and_number_fits rows next Add Full64 r z n h =
+    moved_to_fits rows next r (z +ℤ signed Full64 n) h
+pointer_and_number_fits rows next Sub Full64 r z n h =
+    moved_to_fits rows next r (z -ℤ signed Full64 n) h
 pointer_and_number_fits rows next Add Low32 r z n h = tt
 pointer_and_number_fits rows next Sub Low32 r z n h = tt
 pointer_and_number_fits rows next op w r z n h = tt
 
-pub number_and_pointer_fits : (rows next : ℕ) (op : AluOp) (w : Width) (n : ℕ) (r : Region) (z : ℤ) → IsRegion rows next r
+pub number_and_pointer_fits : (rows next : ℕ) (op : AluOp) (w : Width) (n : ℕ) (r : Region) (z : ℤ)
+    → IsRegion rows next r
     → IfOk (number_and_pointer op w n r z) (IsValue rows next)
-number_and_pointer_fits rows next Add Full64 n r z h = moved_to_fits rows next r (z +ℤ signed Full64 n) h
+number_and_pointer_fits rows next Add Full64 n r z h =
+    moved_to_fits rows next r (z +ℤ signed Full64 n) h
 number_and_pointer_fits rows next Add Low32 n r z h = tt
 number_and_pointer_fits rows next op w n r z h = tt
 
-pub moved_fits : (rows next : ℕ) (w : Width) (v : Value) → IsValue rows next v → IfOk (moved w v) (IsValue rows next)
+pub moved_fits : (rows next : ℕ) (w : Width) (v : Value) → IsValue rows next v
+    → IfOk (moved w v) (IsValue rows next)
 moved_fits rows next w (Num n) h = let l = low_below w n in let m = width_fits w in omega arith
 moved_fits rows next Full64 (Ptr r z) h = h
 moved_fits rows next Low32 (Ptr r z) h = tt
 moved_fits rows next Low32 Unset h = tt
 moved_fits rows next Full64 Unset h = tt
 
-pub combined_fits : (rows next : ℕ) (op : AluOp) (w : Width) (a b : Value) → IsValue rows next a → IsValue rows next b
+pub combined_fits : (rows next : ℕ) (op : AluOp) (w : Width) (a b : Value) → IsValue rows next a
+    → IsValue rows next b
     → IfOk (combined op w a b) (IsValue rows next)
 combined_fits rows next op w (Num a) (Num b) h k = alu_fits op w a b
-combined_fits rows next op w (Ptr r z) (Num n) h k = pointer_and_number_fits rows next op w r z n h.0
-combined_fits rows next op w (Num n) (Ptr r z) h k = number_and_pointer_fits rows next op w n r z k.0
+combined_fits rows next op w (Ptr r z) (Num n) h k =
+    pointer_and_number_fits rows next op w r z n h.0
+combined_fits rows next op w (Num n) (Ptr r z) h k =
+    number_and_pointer_fits rows next op w n r z k.0
 combined_fits rows next op w (Ptr r z) (Ptr q y) h k = tt
 combined_fits rows next op w Unset b h k = tt
 combined_fits rows next op w (Num a) Unset h k = tt
 combined_fits rows next op w (Ptr r z) Unset h k = tt
 
-pub arithmetic_fits : (rows next : ℕ) (op : AluOp) (w : Width) (a b : Value) → IsValue rows next a → IsValue rows next b
+pub arithmetic_fits : (rows next : ℕ) (op : AluOp) (w : Width) (a b : Value) → IsValue rows next a
+    → IsValue rows next b
     → IfOk (arithmetic op w a b) (IsValue rows next)
 arithmetic_fits rows next Mov w a b h k = moved_fits rows next w b k
 arithmetic_fits rows next op w a b h k = combined_fits rows next op w a b h k
 
-pub on_number_fits : (rows next : ℕ) (f : ℕ → ℕ) (v : Value) → ((n : ℕ) → f n < 2 ^ 64) → IfOk (on_number f v) (IsValue rows next)
+pub on_number_fits : (rows next : ℕ) (f : ℕ → ℕ) (v : Value) → ((n : ℕ) → f n < 2 ^ 64)
+    → IfOk (on_number f v) (IsValue rows next)
 on_number_fits rows next f (Num n) h = h n
 on_number_fits rows next f (Ptr r z) h = tt
 on_number_fits rows next f Unset h = tt
@@ -151,30 +170,38 @@ byte_in_fits rows next Unwritten h = omega arith
 byte_in_fits rows next (Byte b) h = h
 byte_in_fits rows next (Piece r z k) h = omega arith
 
-pub bytes_in_fit : (rows next : ℕ) (cs : List Cell) → All (IsCell rows next) cs → AreBytes (map byte_in cs)
+pub bytes_in_fit : (rows next : ℕ) (cs : List Cell) → All (IsCell rows next) cs
+    → AreBytes (map byte_in cs)
 bytes_in_fit rows next cs h =
-    All-map (λ b. b < 256) byte_in cs (All-weaker (IsCell rows next) (λ c. byte_in c < 256) (byte_in_fits rows next) cs h)
+    All-map (λ b. b < 256) byte_in cs
+    (All-weaker (IsCell rows next) (λ c. byte_in c < 256) (byte_in_fits rows next) cs h)
 
 -- bytes as cells
-pub Byte_cells_fit : (rows next : ℕ) (bytes : List ℕ) → AreBytes bytes → All (IsCell rows next) (map Byte bytes)
+pub Byte_cells_fit : (rows next : ℕ) (bytes : List ℕ) → AreBytes bytes
+    → All (IsCell rows next) (map Byte bytes)
 Byte_cells_fit rows next bytes h = All-map (IsCell rows next) Byte bytes h
 
 -- bytes by their index
 pub slice_index_fits : (bytes : List ℕ) → AreBytes bytes → EachByte bytes
 slice_index_fits [] h i = omega arith
 slice_index_fits (b ∷ bytes) h zero = All-head (λ b. b < 256) b bytes h
-slice_index_fits (b ∷ bytes) h (suc i) = slice_index_fits bytes (All-tail (λ b. b < 256) b bytes h) i
+slice_index_fits (b ∷ bytes) h (suc i) =
+    slice_index_fits bytes (All-tail (λ b. b < 256) b bytes h) i
 
-pub number_of_fits : (rows next : ℕ) (cs : List Cell) → All (IsCell rows next) cs → number_of cs < 2 ^ 64
-number_of_fits rows next cs h = number_from_fits (map byte_in cs) (slice_index_fits (map byte_in cs) (bytes_in_fit rows next cs h))
+pub number_of_fits : (rows next : ℕ) (cs : List Cell) → All (IsCell rows next) cs
+    → number_of cs < 2 ^ 64
+number_of_fits rows next cs h = number_from_fits (map byte_in cs)
+    (slice_index_fits (map byte_in cs) (bytes_in_fit rows next cs h))
 
-pub number_in_fits : (rows next : ℕ) (cs : List Cell) → All (IsCell rows next) cs → IfOk (number_in cs) (λ n. n < 2 ^ 64)
+pub number_in_fits : (rows next : ℕ) (cs : List Cell) → All (IsCell rows next) cs
+    → IfOk (number_in cs) (λ n. n < 2 ^ 64)
 number_in_fits rows next cs h =
     IfOk-if (λ n. n < 2 ^ 64) (list_any is_unwritten cs) (Err UnsetRead) _ (λ unset. tt)
     (λ set. IfOk-if (λ n. n < 2 ^ 64) (list_all is_byte cs) (Ok (number_of cs)) (Err BadAccess)
     (λ all. number_of_fits rows next cs h) (λ some. tt))
 
-pub pointer_in_fits : (rows next : ℕ) (cs : List Cell) → All (IsCell rows next) cs → IfOk (pointer_in cs) (IsValue rows next)
+pub pointer_in_fits : (rows next : ℕ) (cs : List Cell) → All (IsCell rows next) cs
+    → IfOk (pointer_in cs) (IsValue rows next)
 pointer_in_fits rows next [] h = tt
 pointer_in_fits rows next (Unwritten ∷ cs) h = tt
 pointer_in_fits rows next (Byte b ∷ cs) h = tt
@@ -183,14 +210,17 @@ pointer_in_fits rows next (Piece r z k ∷ cs) h =
     IfOk-if (IsValue rows next) (are_pieces r z (Piece r z k ∷ cs)) (Ok (Ptr r z)) (Err BadAccess)
     (λ whole. (piece.0, piece.1)) (λ other. tt)
 
-pub value_in_fits : (rows next : ℕ) (cs : List Cell) → All (IsCell rows next) cs → IfOk (value_in cs) (IsValue rows next)
+pub value_in_fits : (rows next : ℕ) (cs : List Cell) → All (IsCell rows next) cs
+    → IfOk (value_in cs) (IsValue rows next)
 value_in_fits rows next cs h =
     IfOk-if (IsValue rows next) (list_any is_unwritten cs) (Err UnsetRead) _ (λ unset. tt)
-    (λ set. IfOk-if (IsValue rows next) (list_all is_byte cs) (Ok (Num (number_of cs))) (pointer_in cs)
+    (λ set. IfOk-if (IsValue rows next) (list_all is_byte cs) (Ok (Num (number_of cs)))
+    (pointer_in cs)
     (λ all. number_of_fits rows next cs h) (λ some. pointer_in_fits rows next cs h))
 
 -- the eight pieces of a pointer
-pub pieces_fit : (rows next : ℕ) (r : Region) (z : ℤ) → IsRegion rows next r → IsOffset z → All (IsCell rows next) (pieces r z)
+pub pieces_fit : (rows next : ℕ) (r : Region) (z : ℤ) → IsRegion rows next r → IsOffset z
+    → All (IsCell rows next) (pieces r z)
 pieces_fit rows next r z h k =
     let P : Cell → Type 0 = IsCell rows next in
     All-from_recursion P (pieces r z) (
@@ -201,7 +231,10 @@ pieces_fit rows next r z h k =
           (h, k, omega arith),
           (
             (h, k, omega arith),
-            ((h, k, omega arith), ((h, k, omega arith), ((h, k, omega arith), ((h, k, omega arith), tt)))),
+            (
+              (h, k, omega arith),
+              ((h, k, omega arith), ((h, k, omega arith), ((h, k, omega arith), tt))),
+            ),
           ),
         ),
       ),
@@ -211,13 +244,22 @@ pieces_fit rows next r z h k =
 pub bytes_of_fit : (size : Size) (n : ℕ) → AreBytes (bytes_of size n)
 bytes_of_fit size n =
     All-take (λ b. b < 256) (size_bytes size) (to_le_bytes w64 n)
-    (All-from_recursion (λ b. b < 256) (to_le_bytes w64 n)
-    (omega arith, (omega arith, (omega arith, (omega arith, (omega arith, (omega arith, (omega arith, (omega arith, tt)))))))))
+    (All-from_recursion (λ b. b < 256) (to_le_bytes w64 n) (
+      omega arith,
+      (
+        omega arith,
+        (
+          omega arith,
+          (omega arith, (omega arith, (omega arith, (omega arith, (omega arith, tt))))),
+        ),
+      ),
+    ))
 
 -- ---- bytes and cells in a row
 
--- as many elements as a splice takes out, it puts in
-pub length-splice : {A : Type 0} (xs new : List A) (i : ℕ) → i + length new ≤ length xs → length (splice xs i (i + length new) new) ≡ length xs
+-- a splice that puts in as many elements as it takes out keeps the length
+pub length-splice : {A : Type 0} (xs new : List A) (i : ℕ) → i + length new ≤ length xs
+    → length (splice xs i (i + length new) new) ≡ length xs
 length-splice xs new i h =
     let front = length-take-le i xs (omega arith) in
     let back = length-drop (i + length new) xs in
@@ -225,6 +267,8 @@ length-splice xs new i h =
     let inner = length-append new (drop (i + length new) xs) in
     omega arith
 
-pub All-splice : {A : Type 0} (P : A → Type 0) (xs new : List A) (i j : ℕ) → All P xs → All P new → All P (splice xs i j new)
+pub All-splice : {A : Type 0} (P : A → Type 0) (xs new : List A) (i j : ℕ) → All P xs → All P new
+    → All P (splice xs i j new)
 All-splice P xs new i j h k =
-    All-append P (take i xs) (new ++ drop j xs) (All-take P i xs h) (All-append P new (drop j xs) k (All-drop P j xs h))
+    All-append P (take i xs) (new ++ drop j xs) (All-take P i xs h)
+    (All-append P new (drop j xs) k (All-drop P j xs h))

@@ -2,8 +2,8 @@
 
 ghost use Rattle.std.specs.Prelude.{◌≡◌, ℕ, ◌+◌, ◌<◌, ◌^◌};
 
-/// A source of times in nanoseconds. Contracts see its coming answers by index: `at c k` is the
-/// answer of the call after the next `k` calls.
+/// A source of times in nanoseconds. Contracts see the answers that are still to come, by index:
+/// `at c k` is the answer to the call that follows the next `k` calls.
 pub trait Clock {
     ghost at: { Self → ℕ → ℕ };
 

@@ -12,7 +12,7 @@ pub enum TrapReason {
     UnsetRead,
     /// r10 is written.
     ReadOnly,
-    /// Arithmetic or an atomic operand that is an undefined use of a pointer.
+    /// A pointer in arithmetic that is not defined on it, or as an atomic operand.
     BadPointer,
     /// A pointer's offset outside its limit.
     OutOfRange,
@@ -20,7 +20,7 @@ pub enum TrapReason {
     BadAccess,
     /// An undefined comparison.
     BadCompare,
-    /// An unknown helper, or an argument of the wrong kind.
+    /// An unknown helper, or an argument of the wrong type.
     BadHelper,
     /// A ninth call frame.
     TooManyFrames,

@@ -1,6 +1,5 @@
 //! What a BPF program of the XDP kind means: the types, the plain functions that compute on
-//! numbers, and in
-//! `specs/` the definitions that every other crate's contracts cite.
+//! numbers, and in `specs/` the definitions that every other crate's contracts cite.
 //!
 //! `docs/MEANING.md` says the same in prose, with the sections of RFC 9669.
 #![tactic(auto)]

@@ -9,7 +9,7 @@ use crate::instructions::{AluOp, Comparison};
 use crate::sizes::{ByteOrder, Extension, SwapWidth, Width};
 
 /// The low 32 bits.
-pub fn low_word(a: u64) -> u32
+pub fn low_32_bits(a: u64) -> u32
     ensures { result ≡ a % 2 ^ 32 }
 {
     (a % 0x1_0000_0000) as u32
@@ -25,13 +25,13 @@ pub fn unsigned(width: Width, k: i32) -> u64
     }
 }
 
-/// What the operation gives on two registers' numbers. A 32-bit result has an upper half of zeros.
+/// The result of the operation on two registers' numbers. At 32 bits its upper half is zero.
 #[tactic(auto, unfolding(crate::specs::Code::Numbers::alu))]
 pub fn compute(op: AluOp, width: Width, a: u64, b: u64) -> u64
     ensures { result ≡ alu op width a b }
 {
     match width {
-        Width::Low32 => u64::from(compute32(op, low_word(a), low_word(b))),
+        Width::Low32 => u64::from(compute32(op, low_32_bits(a), low_32_bits(b))),
         Width::Full64 => compute64(op, a, b),
     }
 }
@@ -101,10 +101,10 @@ pub fn sign_extend(extension: Extension, a: u64) -> u64
 {
     match extension {
         Extension::Low8 => u64::from(i32::from(low_byte(a).cast_signed()).cast_unsigned()),
-        Extension::Low16 => u64::from(i32::from(low_half(a).cast_signed()).cast_unsigned()),
+        Extension::Low16 => u64::from(i32::from(low16(a).cast_signed()).cast_unsigned()),
         Extension::Full8 => i64::from(low_byte(a).cast_signed()).cast_unsigned(),
-        Extension::Full16 => i64::from(low_half(a).cast_signed()).cast_unsigned(),
-        Extension::Full32 => i64::from(low_word(a).cast_signed()).cast_unsigned(),
+        Extension::Full16 => i64::from(low16(a).cast_signed()).cast_unsigned(),
+        Extension::Full32 => i64::from(low_32_bits(a).cast_signed()).cast_unsigned(),
     }
 }
 
@@ -114,7 +114,7 @@ fn low_byte(a: u64) -> u8
     (a % 0x100) as u8
 }
 
-fn low_half(a: u64) -> u16
+fn low16(a: u64) -> u16
     ensures { result ≡ a % 2 ^ 16 }
 {
     (a % 0x1_0000) as u16
@@ -126,11 +126,11 @@ pub fn reorder(order: ByteOrder, span: SwapWidth, a: u64) -> u64
     ensures { result ≡ reordered order span a }
 {
     match (order, span) {
-        (ByteOrder::Little, SwapWidth::B16) => u64::from(low_half(a)),
-        (ByteOrder::Little, SwapWidth::B32) => u64::from(low_word(a)),
+        (ByteOrder::Little, SwapWidth::B16) => u64::from(low16(a)),
+        (ByteOrder::Little, SwapWidth::B32) => u64::from(low_32_bits(a)),
         (ByteOrder::Little, SwapWidth::B64) => a,
-        (_, SwapWidth::B16) => u64::from(low_half(a).swap_bytes()),
-        (_, SwapWidth::B32) => u64::from(low_word(a).swap_bytes()),
+        (_, SwapWidth::B16) => u64::from(low16(a).swap_bytes()),
+        (_, SwapWidth::B32) => u64::from(low_32_bits(a).swap_bytes()),
         (_, SwapWidth::B64) => a.swap_bytes(),
     }
 }
@@ -140,7 +140,7 @@ pub fn truncate(width: Width, a: u64) -> u64
     ensures { result ≡ low width a }
 {
     match width {
-        Width::Low32 => u64::from(low_word(a)),
+        Width::Low32 => u64::from(low_32_bits(a)),
         Width::Full64 => a,
     }
 }
@@ -150,7 +150,7 @@ pub fn as_signed(width: Width, a: u64) -> i64
     ensures { result ≡ signed width (low width a) }
 {
     match width {
-        Width::Low32 => i64::from(low_word(a).cast_signed()),
+        Width::Low32 => i64::from(low_32_bits(a).cast_signed()),
         Width::Full64 => a.cast_signed(),
     }
 }

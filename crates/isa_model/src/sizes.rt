@@ -11,6 +11,7 @@ pub enum Width {
 }
 
 impl Width {
+    /// 32 or 64.
     pub fn bits(self) -> u32
         ensures { result ≡ width_bits self }
     {
@@ -41,6 +42,7 @@ pub enum Size {
 }
 
 impl Size {
+    /// 1, 2, 4 or 8.
     pub fn bytes(self) -> usize
         ensures value { result ≡ size_bytes self }
         ensures most { result ≤ 8 }

@@ -10,7 +10,7 @@ pub enum Region {
     Context,
     /// The packet's bytes.
     Packet,
-    /// What `data_end` points to; the packet's length gives its place.
+    /// The end of the packet, to which `data_end` points: offset 0 is after its last byte.
     PacketEnd,
     /// A map itself, by index.
     Map(u32),

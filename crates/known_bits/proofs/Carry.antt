@@ -1,4 +1,5 @@
--- A sum, bit by bit: the carry into each bit lies between the carries of the least and of the greatest members.
+-- A sum, bit by bit: the carry into each bit lies between the carries of the least and of the
+-- greatest members.
 use Rattle.std.proofs.Common.{◌≡◌, ℕ, ◌+◌, ◌-◌, ◌*◌, ◌/◌, ◌%◌, ◌^◌, ◌<◌, ◌≤◌, min, max, w64, sym, ap, ◌∙◌, inl, inr, arith, bit_and, bit_or, bit_xor}
 use Rattle.std.specs.Int.{bit_at, bit_not}
 use Rattle.std.proofs.Math.Nat.{div-mul-le_self, mod-lt}
@@ -18,7 +19,8 @@ carry_small p q i =
     let e = pow_pos i in
     div_below _ (2 ^ i) 2 e (let a = mod-lt p e in let b = mod-lt q e in omega arith)
 
-pub carry_mono : (p q r s i : ℕ) → p % 2 ^ i ≤ r % 2 ^ i → q % 2 ^ i ≤ s % 2 ^ i → carry p q i ≤ carry r s i
+pub carry_mono : (p q r s i : ℕ) → p % 2 ^ i ≤ r % 2 ^ i → q % 2 ^ i ≤ s % 2 ^ i
+    → carry p q i ≤ carry r s i
 carry_mono p q r s i h k =
     let n = p % 2 ^ i + q % 2 ^ i in
     le-div _ _ (2 ^ i) (pow_pos i) (let l = div-mul-le_self n (2 ^ i) in omega arith)
@@ -31,7 +33,9 @@ sum_bit p q i =
     let eq = shr_split q i in
     let er = shr_split r i in
     let e : p + q ≡ (p / b + q / b + r / b) * b + r % b = omega arith in
-    ap (λ n. n / b % 2) e ∙ ap (λ n. n % 2) (div-mul-add (p / b + q / b + r / b) b (r % b) (mod-lt r (pow_pos i))) ∙ omega arith
+    ap (λ n. n / b % 2) e
+    ∙ ap (λ n. n % 2) (div-mul-add (p / b + q / b + r / b) b (r % b) (mod-lt r (pow_pos i)))
+    ∙ omega arith
 
 -- a mask of the low bits leaves them
 pub low_bit : (n w i : ℕ) → i < w → bit_at (n % 2 ^ w) i ≡ bit_at n i
@@ -43,13 +47,15 @@ low_bit n w i h =
 -- the low bits of a member lie between those of the least and of the greatest
 pub low_least : {v m x : ℕ} → IsMember v m x → (i : ℕ) → v % 2 ^ i ≤ x % 2 ^ i
 low_least {v} {m} {x} h i =
-    let e : v % 2 ^ i ≡ bit_and (x % 2 ^ i) (bit_not w64 m % 2 ^ i) = ap (λ n. n % 2 ^ i) (sym h.known) ∙ and_mod x (bit_not w64 m) i in
+    let e : v % 2 ^ i ≡ bit_and (x % 2 ^ i) (bit_not w64 m % 2 ^ i) =
+    ap (λ n. n % 2 ^ i) (sym h.known) ∙ and_mod x (bit_not w64 m) i in
     let le = and_le_l (x % 2 ^ i) (bit_not w64 m % 2 ^ i) in
     omega arith
 
 pub low_most : {v m x : ℕ} → Apart v m → IsMember v m x → (i : ℕ) → x % 2 ^ i ≤ bit_or v m % 2 ^ i
 low_most {v} {m} {x} k h i =
-    let e : x % 2 ^ i ≡ bit_and (x % 2 ^ i) (bit_or v m % 2 ^ i) = ap (λ n. n % 2 ^ i) (sym (member_and_most k h)) ∙ and_mod x (bit_or v m) i in
+    let e : x % 2 ^ i ≡ bit_and (x % 2 ^ i) (bit_or v m % 2 ^ i) =
+    ap (λ n. n % 2 ^ i) (sym (member_and_most k h)) ∙ and_mod x (bit_or v m) i in
     let le = and_le_r (x % 2 ^ i) (bit_or v m % 2 ^ i) in
     omega arith
 
@@ -61,7 +67,8 @@ sum_step : {a am b bm x y : ℕ} (p c q : ℕ) → Between a am x → Between b 
     → (s ga gb g t m3 m2 mu v : ℕ) → s ≡ (a + b + p) % 2
     → ga ≡ max a am → gb ≡ max b bm → g ≡ (ga + gb + q) % 2 → t ≡ (x + y + c) % 2
     → m3 ≡ (g + s) % 2 → m2 ≡ max m3 am → mu ≡ max m2 bm → v ≡ min s (1 - mu) → Between v mu t
-sum_step {a} {am} {b} {bm} {x} {y} p c q ha hb pc cq q_in s ga gb g t m3 m2 mu v es ea eb eg et e3 e2 em ev =
+sum_step {a} {am} {b} {bm} {x} {y} p c q ha hb pc cq q_in s ga gb g t m3 m2 mu v es ea eb eg et e3
+    e2 em ev =
     let two : mu < 2 = omega arith in
     elim (cases_lt 0 mu) [
       | inl h ↦ record { apart = omega arith; least = omega arith; most = omega arith }
@@ -79,7 +86,8 @@ abbrev pub sum_least : ℕ → ℕ → ℕ
 sum_least av bv = (av + bv) % 2 ^ 64
 
 abbrev pub sum_mask : ℕ → ℕ → ℕ → ℕ → ℕ
-sum_mask av am bv bm = bit_or (bit_or (bit_xor ((bit_or av am + bit_or bv bm) % 2 ^ 64) (sum_least av bv)) am) bm
+sum_mask av am bv bm =
+    bit_or (bit_or (bit_xor ((bit_or av am + bit_or bv bm) % 2 ^ 64) (sum_least av bv)) am) bm
 
 module _ {av am bv bm : ℕ} (ka : Apart av am) (kb : Apart bv bm) where
   mask_in : sum_mask av am bv bm < 2 ^ 64
@@ -91,7 +99,9 @@ module _ {av am bv bm : ℕ} (ka : Apart av am) (kb : Apart bv bm) where
   pub sum_known : Apart (without (sum_least av bv) (sum_mask av am bv bm)) (sum_mask av am bv bm)
   sum_known = known_without (omega arith) mask_in
 
-  pub sum_contains : (x y : ℕ) → IsMember av am x → IsMember bv bm y → IsMember (without (sum_least av bv) (sum_mask av am bv bm)) (sum_mask av am bv bm) ((x + y) % 2 ^ 64)
+  pub sum_contains : (x y : ℕ) → IsMember av am x → IsMember bv bm y
+      → IsMember (without (sum_least av bv) (sum_mask av am bv bm)) (sum_mask av am bv bm)
+      ((x + y) % 2 ^ 64)
   sum_contains x y hx hy =
       let k = sum_known in
       member_from_bits k.value_in k.mask_in (omega arith)
@@ -110,6 +120,9 @@ module _ {av am bv bm : ℕ} (ka : Apart av am) (kb : Apart bv bm) where
       let oa = bit_at_or av am i in
       let ob = bit_at_or bv bm i in
       let c1 = carry_mono av bv x y i (low_least hx i) (low_least hy i) in
-      let c2 = carry_mono x y (bit_or av am) (bit_or bv bm) i (low_most ka hx i) (low_most kb hy i) in
+      let c2 = carry_mono x y (bit_or av am) (bit_or bv bm) i (low_most ka hx i)
+      (low_most kb hy i) in
       let c3 = carry_small (bit_or av am) (bit_or bv bm) i in
-      sum_step _ _ _ (bits_between ka hx i i_in) (bits_between kb hy i i_in) c1 c2 c3 _ _ _ _ _ _ _ _ _ (l2 ∙ s2) oa ob (l1 ∙ s1) (l3 ∙ s3) m3 m2 m1 e)
+      sum_step _ _ _ (bits_between ka hx i i_in)
+      (bits_between kb hy i i_in) c1 c2 c3 _ _ _ _ _ _ _ _ _ (l2 ∙ s2) oa ob (l1 ∙ s1)
+      (l3 ∙ s3) m3 m2 m1 e)

@@ -21,14 +21,14 @@ use Rattle.known_bits.proofs.Order.{low_fits}
 use Rattle.known_bits.proofs.Sharp.{both_values, least_member, most_member}
 use Rattle.known_bits.proofs.Shift.{right_bit}
 
--- f gives n bits, each a copy of its argument's bit at a position
-pub record Copies (n : ℕ) (place : ℕ → ℕ) (f : ℕ → ℕ) : Type 0 where
+-- f returns n bits, each a copy of its argument's bit at a position
+pub record Copies (n : ℕ) (position : ℕ → ℕ) (f : ℕ → ℕ) : Type 0 where
   pub fits : 2 ^ n ≤ 2 ^ 64
   pub below : (x : ℕ) → f x < 2 ^ n
-  pub inside : (i : ℕ) → i < n → place i < 64
-  pub bit : (x i : ℕ) → i < n → bit_at (f x) i ≡ bit_at x (place i)
+  pub inside : (i : ℕ) → i < n → position i < 64
+  pub bit : (x i : ℕ) → i < n → bit_at (f x) i ≡ bit_at x (position i)
 
-module _ {n : ℕ} {place : ℕ → ℕ} {f : ℕ → ℕ} (c : Copies n place f) where
+module _ {n : ℕ} {position : ℕ → ℕ} {f : ℕ → ℕ} (c : Copies n position f) where
   copy_fits : (x : ℕ) → f x < 2 ^ 64
   copy_fits x = let b = c.below x in let s = c.fits in omega arith
 
@@ -36,17 +36,22 @@ module _ {n : ℕ} {place : ℕ → ℕ} {f : ℕ → ℕ} (c : Copies n place f
   copied_known {v} {m} k =
       known_from_bits (copy_fits v) (copy_fits m)
       (λ i i_in. elim (cases_lt i n) [
-        | inl lt ↦ let ev = c.bit v i lt in let em = c.bit m i lt in let a = bits_apart k (place i) in omega arith
-        | inr ge ↦ let zv = bit_at_above (f v) n i (c.below v) ge in let zm = bit_at_above (f m) n i (c.below m) ge in omega arith
+        | inl lt ↦
+            let ev = c.bit v i lt in
+            let em = c.bit m i lt in let a = bits_apart k (position i) in omega arith
+        | inr ge ↦
+            let zv = bit_at_above (f v) n i (c.below v) ge in
+            let zm = bit_at_above (f m) n i (c.below m) ge in omega arith
       ])
 
-  pub copied_contains : {v m : ℕ} → Apart v m → (x : ℕ) → IsMember v m x → IsMember (f v) (f m) (f x)
+  pub copied_contains : {v m : ℕ} → Apart v m → (x : ℕ) → IsMember v m x
+      → IsMember (f v) (f m) (f x)
   copied_contains {v} {m} k x h =
       member_from_bits (copy_fits v) (copy_fits m) (copy_fits x)
       (λ i i_in. elim (cases_lt i n) [
         | inl lt ↦
             let ev = c.bit v i lt in let em = c.bit m i lt in let ex = c.bit x i lt in
-            let b = bits_between k h (place i) (c.inside i lt) in
+            let b = bits_between k h (position i) (c.inside i lt) in
             record { apart = omega arith; least = omega arith; most = omega arith }
         | inr ge ↦
             let zv = bit_at_above (f v) n i (c.below v) ge in
@@ -70,15 +75,18 @@ module _ {n : ℕ} {place : ℕ → ℕ} {f : ℕ → ℕ} (c : Copies n place f
             let em = c.bit am i lt in
             let ev = c.bit av i lt in
             let eo = c.bit (bit_or av am) i lt in
-            let o = bit_at_or av am (place i) in
-            let a = bits_apart ka (place i) in
-            both_values (λ x y. f x) i av bv (bit_or av am) bv (least_member ka) (least_member kb) (most_member ka) (least_member kb)
+            let o = bit_at_or av am (position i) in
+            let a = bits_apart ka (position i) in
+            both_values (λ x y. f x) i av bv (bit_or av am) bv (least_member ka) (least_member kb)
+            (most_member ka) (least_member kb)
             (λ same. omega arith)
         | inr ge ↦ absurd (let z = bit_at_above (f am) n i (c.below am) ge in omega arith)
       ]
 
--- what occurs by one function occurs by another that gives the same on the members of the second set
-pub occurs_same : {av am bv bm : ℕ} {f g : ℕ → ℕ → ℕ} {i b : ℕ} → ((x y : ℕ) → IsMember bv bm y → f x y ≡ g x y)
+-- what occurs by one function occurs by another that returns the same on the members of the second
+-- set
+pub occurs_same : {av am bv bm : ℕ} {f g : ℕ → ℕ → ℕ} {i b : ℕ}
+    → ((x y : ℕ) → IsMember bv bm y → f x y ≡ g x y)
     → Occurs av am bv bm f i b → Occurs av am bv bm g i b
 occurs_same {i = i} same o = record {
   x = o.x;
@@ -111,9 +119,9 @@ signed_bit n flipped a k i from to inside =
     let back : 2 ^ suc n - suc m ≡ a = omega arith in
     let bit : (j : ℕ) → j < suc n → bit_at a j ≡ 1 - bit_at m j =
     λ j below. ap (λ t. bit_at t j) (sym back) ∙ flipped m j (omega arith) below in
-    let place = min (k + i) n in
+    let position = min (k + i) n in
     flipped (m / 2 ^ k) i (omega arith) inside ∙ ap (λ b. 1 - b) (plain_bit n m k i m_in)
-    ∙ sym (bit place (omega arith))
+    ∙ sym (bit position (omega arith))
 
 -- the bits of what is shifted are those from further up, from the sign at most
 shifted_bit : (w : Width) (a k i : ℕ) → a < 2 ^ width_bits w → i < width_bits w
@@ -140,7 +148,9 @@ shifted_bit Full64 a k i a_in i_in =
         ∙ bit_at_not w64 x i x_in i_in
 
 -- the bit at a position comes from further up, from the sign at most
-pub shift_copies : (w : Width) (y : ℕ) → Copies (width_bits w) (λ i. min (shift w (low w y) + i) (width_bits w - 1)) (λ x. alu Arsh w x y)
+pub shift_copies : (w : Width) (y : ℕ)
+    → Copies (width_bits w) (λ i. min (shift w (low w y) + i) (width_bits w - 1))
+    (λ x. alu Arsh w x y)
 unfolding alu
 shift_copies w y = record {
   fits = width_fits w;
@@ -149,19 +159,24 @@ shift_copies w y = record {
   bit = bits w;
 }
   where
-    bits : (w : Width) (x i : ℕ) → i < width_bits w → bit_at (alu Arsh w x y) i ≡ bit_at x (min (shift w (low w y) + i) (width_bits w - 1))
+    bits : (w : Width) (x i : ℕ) → i < width_bits w
+        → bit_at (alu Arsh w x y) i ≡ bit_at x (min (shift w (low w y) + i) (width_bits w - 1))
     bits Low32 x i i_in =
         let k = shift Low32 (low Low32 y) in
-        shifted_bit Low32 (x % 2 ^ 32) k i (low_below Low32 x) i_in ∙ low_bit x 32 (min (k + i) 31) (omega arith)
+        shifted_bit Low32 (x % 2 ^ 32) k i (low_below Low32 x) i_in
+        ∙ low_bit x 32 (min (k + i) 31) (omega arith)
     bits Full64 x i i_in =
         let k = shift Full64 (low Full64 y) in
-        shifted_bit Full64 (x % 2 ^ 64) k i (low_below Full64 x) i_in ∙ low_bit x 64 (min (k + i) 63) (omega arith)
+        shifted_bit Full64 (x % 2 ^ 64) k i (low_below Full64 x) i_in
+        ∙ low_bit x 64 (min (k + i) 63) (omega arith)
 
 -- ---- sign extensions
 
 -- a number of j + 1 bits with ones before it where its highest bit is set
-extended_bit : (j n x i r : ℕ) → j < n → i < n → (2 ^ j ≤ x % 2 ^ suc j → bit_at (x % 2 ^ suc j) j ≡ 1)
-    → ((x % 2 ^ suc j < 2 ^ j) × (r ≡ x % 2 ^ suc j)) ⊎ ((2 ^ j ≤ x % 2 ^ suc j) × (r ≡ x % 2 ^ suc j + (2 ^ n - 2 ^ suc j)))
+extended_bit : (j n x i r : ℕ) → j < n → i < n
+    → (2 ^ j ≤ x % 2 ^ suc j → bit_at (x % 2 ^ suc j) j ≡ 1)
+    → ((x % 2 ^ suc j < 2 ^ j) × (r ≡ x % 2 ^ suc j))
+    ⊎ ((2 ^ j ≤ x % 2 ^ suc j) × (r ≡ x % 2 ^ suc j + (2 ^ n - 2 ^ suc j)))
     → bit_at r i ≡ bit_at x (min i j)
 extended_bit j n x i r j_in i_in top cases =
     let y = x % 2 ^ suc j in
@@ -171,17 +186,25 @@ extended_bit j n x i r j_in i_in top cases =
       | inl p ↦
           ap (λ t. bit_at t i) p.1 ∙ elim (cases_lt i j) [
             | inl lt ↦ ap (bit_at y) (let e : i ≡ min i j = omega arith in e) ∙ whole
-            | inr ge ↦ bit_at_above y j i p.0 ge ∙ sym (bit_at_above y j (min i j) p.0 (omega arith)) ∙ whole
+            | inr ge ↦
+                bit_at_above y j i p.0 ge ∙ sym (bit_at_above y j (min i j) p.0 (omega arith))
+                ∙ whole
           ]
       | inr p ↦
           let a = 2 ^ (n - suc j) - 1 in
           let some = pow_pos (n - suc j) in
-          let parts : 2 ^ n ≡ 2 ^ (n - suc j) * 2 ^ suc j = ap (λ e. 2 ^ e) (let s : n ≡ n - suc j + suc j = omega arith in s) ∙ pow-add 2 (n - suc j) (suc j) in
-          let e : y + (2 ^ n - 2 ^ suc j) ≡ a * 2 ^ suc j + y = joined (2 ^ (n - suc j)) (2 ^ suc j) y (2 ^ n) some parts in
+          let parts : 2 ^ n ≡ 2 ^ (n - suc j) * 2 ^ suc j =
+          ap (λ e. 2 ^ e) (let s : n ≡ n - suc j + suc j = omega arith in s)
+          ∙ pow-add 2 (n - suc j) (suc j) in
+          let e : y + (2 ^ n - 2 ^ suc j) ≡ a * 2 ^ suc j + y =
+          joined (2 ^ (n - suc j)) (2 ^ suc j) y (2 ^ n) some parts in
           ap (λ t. bit_at t i) (p.1 ∙ e) ∙ elim (cases_lt i (suc j)) [
-            | inl lt ↦ bit_at_cat_low a (suc j) y i lt ∙ ap (bit_at y) (let e : i ≡ min i j = omega arith in e) ∙ whole
+            | inl lt ↦
+                bit_at_cat_low a (suc j) y i lt
+                ∙ ap (bit_at y) (let e : i ≡ min i j = omega arith in e) ∙ whole
             | inr ge ↦
-                bit_at_cat_high a (suc j) y i y_in ge ∙ bit_at_ones (n - suc j) (i - suc j) (omega arith)
+                bit_at_cat_high a (suc j) y i y_in ge
+                ∙ bit_at_ones (n - suc j) (i - suc j) (omega arith)
                 ∙ sym (top p.0) ∙ ap (bit_at y) (let e : j ≡ min i j = omega arith in e) ∙ whole
           ]
     ]
@@ -190,16 +213,27 @@ extended_bit j n x i r j_in i_in top cases =
     joined zero K y N some e = elim some [ ]
     joined (suc d) K y N some e =
         let s : suc d * K ≡ d * K + K = omega arith in
-        let t : (suc d - 1) * K ≡ d * K = ap (λ p. p * K) (let u : suc d - 1 ≡ d = omega arith in u) in
+        let t : (suc d - 1) * K ≡ d * K =
+        ap (λ p. p * K) (let u : suc d - 1 ≡ d = omega arith in u) in
         omega arith
 
 extended_bits : (e : Extension) (x i : ℕ) → i < width_bits (extension_width e)
     → bit_at (sign_extended e x) i ≡ bit_at x (min i (extension_bits e - 1))
-extended_bits Low8 x i i_in = extended_bit 7 32 x i (sign_extended Low8 x) (omega arith) i_in (λ g. omega arith) (sign_extended_cases Low8 x (2 ^ 7) refl)
-extended_bits Low16 x i i_in = extended_bit 15 32 x i (sign_extended Low16 x) (omega arith) i_in (λ g. omega arith) (sign_extended_cases Low16 x (2 ^ 15) refl)
-extended_bits Full8 x i i_in = extended_bit 7 64 x i (sign_extended Full8 x) (omega arith) i_in (λ g. omega arith) (sign_extended_cases Full8 x (2 ^ 7) refl)
-extended_bits Full16 x i i_in = extended_bit 15 64 x i (sign_extended Full16 x) (omega arith) i_in (λ g. omega arith) (sign_extended_cases Full16 x (2 ^ 15) refl)
-extended_bits Full32 x i i_in = extended_bit 31 64 x i (sign_extended Full32 x) (omega arith) i_in (λ g. omega arith) (sign_extended_cases Full32 x (2 ^ 31) refl)
+extended_bits Low8 x i i_in =
+    extended_bit 7 32 x i (sign_extended Low8 x) (omega arith) i_in (λ g. omega arith)
+    (sign_extended_cases Low8 x (2 ^ 7) refl)
+extended_bits Low16 x i i_in =
+    extended_bit 15 32 x i (sign_extended Low16 x) (omega arith) i_in (λ g. omega arith)
+    (sign_extended_cases Low16 x (2 ^ 15) refl)
+extended_bits Full8 x i i_in =
+    extended_bit 7 64 x i (sign_extended Full8 x) (omega arith) i_in (λ g. omega arith)
+    (sign_extended_cases Full8 x (2 ^ 7) refl)
+extended_bits Full16 x i i_in =
+    extended_bit 15 64 x i (sign_extended Full16 x) (omega arith) i_in (λ g. omega arith)
+    (sign_extended_cases Full16 x (2 ^ 15) refl)
+extended_bits Full32 x i i_in =
+    extended_bit 31 64 x i (sign_extended Full32 x) (omega arith) i_in (λ g. omega arith)
+    (sign_extended_cases Full32 x (2 ^ 31) refl)
 
 extension_most : (e : Extension) → extension_bits e ≤ 64
 extension_most Low8 = omega arith
@@ -209,7 +243,8 @@ extension_most Full16 = omega arith
 extension_most Full32 = omega arith
 
 -- the bits above those read are all the sign
-pub extension_copies : (e : Extension) → Copies (width_bits (extension_width e)) (λ i. min i (extension_bits e - 1)) (sign_extended e)
+pub extension_copies : (e : Extension)
+    → Copies (width_bits (extension_width e)) (λ i. min i (extension_bits e - 1)) (sign_extended e)
 extension_copies e = record {
   fits = width_fits (extension_width e);
   below = sign_extended_below e;

@@ -8,23 +8,28 @@ use Rattle.known_bits.specs.Member.{IsMember}
 use Rattle.known_bits.specs.declared.bits.Bits.{Bits}
 use Rattle.known_bits.specs.Bits.{Has, greatest_of}
 
-kept_bit : (m x i : ℕ) → m < 2 ^ 64 → i < 64 → bit_at (bit_and x (bit_not w64 m)) i ≡ min (bit_at x i) (1 - bit_at m i)
-kept_bit m x i fits inside = bit_at_and x (bit_not w64 m) i ∙ ap (min (bit_at x i)) (bit_at_not w64 m i fits inside)
+kept_bit : (m x i : ℕ) → m < 2 ^ 64 → i < 64
+    → bit_at (bit_and x (bit_not w64 m)) i ≡ min (bit_at x i) (1 - bit_at m i)
+kept_bit m x i fits inside =
+    bit_at_and x (bit_not w64 m) i ∙ ap (min (bit_at x i)) (bit_at_not w64 m i fits inside)
 
 -- two members differ only in bits of the mask
 pub bit_at-differing : (v m x y i : ℕ) → m < 2 ^ 64 → IsMember v m x → IsMember v m y → i < 64
     → bit_at x i ≡ 0 → bit_at y i ≡ 1 → bit_at m i ≡ 1
 bit_at-differing v m x y i fits hx hy inside zero one =
-    let same : bit_at (bit_and x (bit_not w64 m)) i ≡ bit_at (bit_and y (bit_not w64 m)) i = ap (λ n. bit_at n i) (hx.known ∙ sym hy.known) in
+    let same : bit_at (bit_and x (bit_not w64 m)) i ≡ bit_at (bit_and y (bit_not w64 m)) i =
+    ap (λ n. bit_at n i) (hx.known ∙ sym hy.known) in
     let left = kept_bit m x i fits inside in
     let right = kept_bit m y i fits inside in
     let small = bit_at-lt m i in
     omega arith
 
 -- where a member has a bit, the value or the mask has one
-bit_at-allowed : (v m x i : ℕ) → m < 2 ^ 64 → IsMember v m x → i < 64 → bit_at x i ≤ bit_at (bit_or v m) i
+bit_at-allowed : (v m x i : ℕ) → m < 2 ^ 64 → IsMember v m x → i < 64
+    → bit_at x i ≤ bit_at (bit_or v m) i
 bit_at-allowed v m x i fits h inside =
-    let known : min (bit_at x i) (1 - bit_at m i) ≡ bit_at v i = sym (kept_bit m x i fits inside) ∙ ap (λ n. bit_at n i) h.known in
+    let known : min (bit_at x i) (1 - bit_at m i) ≡ bit_at v i = sym (kept_bit m x i fits inside)
+    ∙ ap (λ n. bit_at n i) h.known in
     let greatest = bit_at_or v m i in
     let small = bit_at-lt m i in
     omega arith
@@ -42,7 +47,9 @@ low-greatest b x w within h =
     let g = greatest_of b % 2 ^ w in
     let positive = pow_pos w in
     let common : bit_and (x % 2 ^ w) g ≡ x % 2 ^ w =
-    same_from_bits_below w _ _ (let le = and_le_l (x % 2 ^ w) g in let below = mod_below x (2 ^ w) positive in omega arith) (mod_below x (2 ^ w) positive)
+    same_from_bits_below w _ _
+    (let le = and_le_l (x % 2 ^ w) g in let below = mod_below x (2 ^ w) positive in omega arith)
+    (mod_below x (2 ^ w) positive)
     (λ i below. bit_at_and (x % 2 ^ w) g i
     ∙ (let left = bit_at-low x w i below in
     let right = bit_at-low (greatest_of b) w i below in

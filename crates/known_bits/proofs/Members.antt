@@ -1,4 +1,5 @@
--- Members by their bits: each bit of a member lies between that of the value and that plus the mask's.
+-- Members by their bits: each bit of a member lies between that of the value and that plus the
+-- mask's.
 use Rattle.std.proofs.Common.{◌≡◌, ℕ, ◌+◌, ◌-◌, ◌^◌, ◌<◌, ◌≤◌, min, w64, sym, ap, ◌∙◌, arith, bit_and, bit_or}
 use Rattle.std.specs.Int.{bit_at, bit_not}
 use Rattle.std.proofs.lemmas.Nat.{and_le_l}
@@ -23,19 +24,24 @@ pub record Between (v m x : ℕ) : Type 0 where
 
 pub bits_apart : {v m : ℕ} → Apart v m → (i : ℕ) → bit_at v i + bit_at m i ≤ 1
 bits_apart {v} {m} h i =
-    let e : min (bit_at v i) (bit_at m i) ≡ 0 = sym (bit_at_and v m i) ∙ ap (λ n. bit_at n i) h.apart ∙ bit_at-zero i in
+    let e : min (bit_at v i) (bit_at m i) ≡ 0 = sym (bit_at_and v m i)
+    ∙ ap (λ n. bit_at n i) h.apart ∙ bit_at-zero i in
     let low : bit_at v i < 2 = bit_at-lt v i in
     let mask : bit_at m i < 2 = bit_at-lt m i in
     omega arith
 
-pub bits_between : {v m x : ℕ} → Apart v m → IsMember v m x → (i : ℕ) → i < 64 → Between (bit_at v i) (bit_at m i) (bit_at x i)
+pub bits_between : {v m x : ℕ} → Apart v m → IsMember v m x → (i : ℕ) → i < 64
+    → Between (bit_at v i) (bit_at m i) (bit_at x i)
 bits_between {v} {m} {x} k h i i_in =
-    let e : bit_at v i ≡ min (bit_at x i) (1 - bit_at m i) = ap (λ n. bit_at n i) (sym h.known) ∙ bit_at_and x (bit_not w64 m) i ∙ ap (min (bit_at x i)) (bit_at_not w64 m i k.mask_in i_in) in
+    let e : bit_at v i ≡ min (bit_at x i) (1 - bit_at m i) = ap (λ n. bit_at n i) (sym h.known)
+    ∙ bit_at_and x (bit_not w64 m) i
+    ∙ ap (min (bit_at x i)) (bit_at_not w64 m i k.mask_in i_in) in
     let low : bit_at x i < 2 = bit_at-lt x i in
     let mask : bit_at m i < 2 = bit_at-lt m i in
     record { apart = bits_apart k i; least = omega arith; most = omega arith }
 
-pub known_from_bits : {v m : ℕ} → v < 2 ^ 64 → m < 2 ^ 64 → ((i : ℕ) → i < 64 → bit_at v i + bit_at m i ≤ 1) → Apart v m
+pub known_from_bits : {v m : ℕ} → v < 2 ^ 64 → m < 2 ^ 64
+    → ((i : ℕ) → i < 64 → bit_at v i + bit_at m i ≤ 1) → Apart v m
 known_from_bits {v} {m} v_in m_in h = record {
   value_in = v_in;
   mask_in = m_in;
@@ -43,12 +49,16 @@ known_from_bits {v} {m} v_in m_in h = record {
       (λ i i_in. bit_at_and v m i ∙ (let k = h i i_in in let z = bit_at-zero i in omega arith));
 }
 
-pub member_from_bits : {v m x : ℕ} → v < 2 ^ 64 → m < 2 ^ 64 → x < 2 ^ 64 → ((i : ℕ) → i < 64 → Between (bit_at v i) (bit_at m i) (bit_at x i)) → IsMember v m x
+pub member_from_bits : {v m x : ℕ} → v < 2 ^ 64 → m < 2 ^ 64 → x < 2 ^ 64
+    → ((i : ℕ) → i < 64 → Between (bit_at v i) (bit_at m i) (bit_at x i)) → IsMember v m x
 member_from_bits {v} {m} {x} v_in m_in x_in h = record {
   below = x_in;
   known = same_from_bits_below 64 _ _ (let le = and_le_l x (bit_not w64 m) in omega arith) v_in
-      (λ i i_in. bit_at_and x (bit_not w64 m) i ∙ ap (min (bit_at x i)) (bit_at_not w64 m i m_in i_in)
-      ∙ (let k = h i i_in in let b : bit_at x i < 2 = bit_at-lt x i in let bm : bit_at m i < 2 = bit_at-lt m i in omega arith));
+      (λ i i_in. bit_at_and x (bit_not w64 m) i
+      ∙ ap (min (bit_at x i)) (bit_at_not w64 m i m_in i_in)
+      ∙ (let k = h i i_in in
+      let b : bit_at x i < 2 = bit_at-lt x i in
+      let bm : bit_at m i < 2 = bit_at-lt m i in omega arith));
 }
 
 -- a member has no bit outside the value and the mask

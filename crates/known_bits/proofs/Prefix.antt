@@ -10,12 +10,17 @@ use Rattle.known_bits.specs.Member.{IsMember}
 use Rattle.known_bits.proofs.Logic.{known_without}
 
 same_from_xor : (a b : ℕ) → bit_xor a b ≡ 0 → a ≡ b
-same_from_xor a b e = same_from_bits a b (λ i. let f = sym (bit_at_xor a b i) ∙ ap (λ n. bit_at n i) e ∙ bit_at-zero i in let x = bit_at-lt a i in let y = bit_at-lt b i in omega arith)
+same_from_xor a b e =
+    same_from_bits a b
+    (λ i. let f = sym (bit_at_xor a b i) ∙ ap (λ n. bit_at n i) e ∙ bit_at-zero i in
+    let x = bit_at-lt a i in let y = bit_at-lt b i in omega arith)
 
 div_mono : (a b k : ℕ) → a ≤ b → a / 2 ^ k ≤ b / 2 ^ k
-div_mono a b k h = le-div (a / 2 ^ k) b (2 ^ k) (pow_pos k) (let l = div-mul-le_self a (2 ^ k) in omega arith)
+div_mono a b k h =
+    le-div (a / 2 ^ k) b (2 ^ k) (pow_pos k) (let l = div-mul-le_self a (2 ^ k) in omega arith)
 
-pub between_member : (l g x mask : ℕ) → l < 2 ^ 64 → g < 2 ^ 64 → l ≤ x → x ≤ g → mask + 1 ≡ 2 ^ (64 - leading_zeros w64 (bit_xor l g))
+pub between_member : (l g x mask : ℕ) → l < 2 ^ 64 → g < 2 ^ 64 → l ≤ x → x ≤ g
+    → mask + 1 ≡ 2 ^ (64 - leading_zeros w64 (bit_xor l g))
     → IsMember (bit_and l (bit_not w64 mask)) mask x
 between_member l g x mask l_in g_in h1 h2 e =
     let k = 64 - leading_zeros w64 (bit_xor l g) in
@@ -30,10 +35,15 @@ between_member l g x mask l_in g_in h1 h2 e =
     let flip : bit_not w64 mask ≡ 2 ^ 64 - 2 ^ k = omega arith in
     let ex = and_high_mask 64 k (omega arith) x (omega arith) in
     let el = and_high_mask 64 k (omega arith) l l_in in
-    record { below = omega arith; known = ap (bit_and x) flip ∙ ex ∙ ap (λ t. t * 2 ^ k) top ∙ sym (ap (bit_and l) flip ∙ el) }
+    record {
+      below = omega arith;
+      known = ap (bit_and x) flip ∙ ex ∙ ap (λ t. t * 2 ^ k) top
+          ∙ sym (ap (bit_and l) flip ∙ el);
+    }
 
 -- a bit is unknown only where the two differ there or above
-pub between_sharp : (l g mask i : ℕ) → l < 2 ^ 64 → g < 2 ^ 64 → mask + 1 ≡ 2 ^ (64 - leading_zeros w64 (bit_xor l g))
+pub between_sharp : (l g mask i : ℕ) → l < 2 ^ 64 → g < 2 ^ 64
+    → mask + 1 ≡ 2 ^ (64 - leading_zeros w64 (bit_xor l g))
     → bit_at mask i ≡ 1 → l / 2 ^ i ≡ g / 2 ^ i → ⊥
 between_sharp l g mask i l_in g_in e unknown same =
     let k = 64 - leading_zeros w64 (bit_xor l g) in
@@ -42,7 +52,8 @@ between_sharp l g mask i l_in g_in e unknown same =
     let large : 2 ^ k ≤ 2 * bit_xor l g + 1 = rw length at n.3 in
     elim (cases_lt i k) [
       | inl lt ↦
-          let shifted : bit_xor l g / 2 ^ i ≡ 0 = xor_shr l g i ∙ ap (λ t. bit_xor t (g / 2 ^ i)) same ∙ xor_same (g / 2 ^ i) in
+          let shifted : bit_xor l g / 2 ^ i ≡ 0 = xor_shr l g i
+          ∙ ap (λ t. bit_xor t (g / 2 ^ i)) same ∙ xor_same (g / 2 ^ i) in
           let small = below_of_no_quotient (bit_xor l g) (2 ^ i) (pow_pos i) shifted in
           let twice = double_pow i k lt in
           omega arith
@@ -50,14 +61,20 @@ between_sharp l g mask i l_in g_in e unknown same =
     ]
   where
     xor_same : (a : ℕ) → bit_xor a a ≡ 0
-    xor_same a = same_from_bits (bit_xor a a) 0 (λ j. let f = bit_at_xor a a j in let x = bit_at-lt a j in let z = bit_at-zero j in omega arith)
+    xor_same a =
+        same_from_bits (bit_xor a a) 0
+        (λ j. let f = bit_at_xor a a j in
+        let x = bit_at-lt a j in let z = bit_at-zero j in omega arith)
 
     below_of_no_quotient : (a d : ℕ) → 0 < d → a / d ≡ 0 → a < d
-    below_of_no_quotient a d h z = let f = (div-lt_iff_lt-mul {k = d} {x = a} {y = 1} h).0 (omega arith) in omega arith
+    below_of_no_quotient a d h z =
+        let f = (div-lt_iff_lt-mul {k = d} {x = a} {y = 1} h).0 (omega arith) in omega arith
 
     double_pow : (i k : ℕ) → i < k → 2 * 2 ^ i ≤ 2 ^ k
-    double_pow i k h = let p = pow-add 2 1 i in let m : 2 ^ (1 + i) ≤ 2 ^ k = pow_mono (omega arith) in omega arith
+    double_pow i k h =
+        let p = pow-add 2 1 i in let m : 2 ^ (1 + i) ≤ 2 ^ k = pow_mono (omega arith) in omega arith
 
 -- the common part has no bit of the mask
-pub between_apart : (l mask : ℕ) → l < 2 ^ 64 → mask < 2 ^ 64 → bit_and (bit_and l (bit_not w64 mask)) mask ≡ 0
+pub between_apart : (l mask : ℕ) → l < 2 ^ 64 → mask < 2 ^ 64
+    → bit_and (bit_and l (bit_not w64 mask)) mask ≡ 0
 between_apart l mask l_in m_in = (known_without l_in m_in).apart

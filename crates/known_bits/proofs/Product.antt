@@ -9,10 +9,15 @@ use Rattle.known_bits.proofs.Members.{Apart, bits_between, member_from_bits}
 pub or_zero_contains : {v m : ℕ} → Apart v m → (x : ℕ) → IsMember v m x → IsMember 0 (bit_or v m) x
 or_zero_contains {v} {m} k x h =
     member_from_bits (omega arith) (or_lt 64 v m k.value_in k.mask_in) h.below
-    (λ i i_in. let b = bits_between k h i i_in in let e = bit_at_or v m i in let z = bit_at-zero i in record { apart = omega arith; least = omega arith; most = omega arith })
+    (λ i i_in. let b = bits_between k h i i_in in
+    let e = bit_at_or v m i in
+    let z = bit_at-zero i in
+    record { apart = omega arith; least = omega arith; most = omega arith })
 
 pub term_one : (b y p : ℕ) → b ≡ 1 → (b * y * p) % 2 ^ 64 ≡ (y * p) % 2 ^ 64
-term_one b y p e = ap (λ n. (n * y * p) % 2 ^ 64) e ∙ ap (λ n. (n * p) % 2 ^ 64) (let s : 1 * y ≡ y = omega arith in s)
+term_one b y p e =
+    ap (λ n. (n * y * p) % 2 ^ 64) e
+    ∙ ap (λ n. (n * p) % 2 ^ 64) (let s : 1 * y ≡ y = omega arith in s)
 
 pub term_zero : (b y p : ℕ) → b ≡ 0 → (b * y * p) % 2 ^ 64 ≡ 0
 term_zero b y p e = ap (λ n. (n * y * p) % 2 ^ 64) e ∙ omega arith

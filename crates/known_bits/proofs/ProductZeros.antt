@@ -37,8 +37,11 @@ mod-mod_pow n j w h =
       | inr ge ↦
           let e = mod-pow-add n (w - j) j in
           let s : w - j + j ≡ w = omega arith in
-          let low : n % 2 ^ w ≡ (n / 2 ^ j % 2 ^ (w - j)) * 2 ^ j + n % 2 ^ j = ap (λ t. n % 2 ^ t) (sym s) ∙ e in
-          ap (λ t. t % 2 ^ j) low ∙ mod-mul-add (n / 2 ^ j % 2 ^ (w - j)) (2 ^ j) (n % 2 ^ j) (mod_below n (2 ^ j) (pow_pos j)) ∙ h
+          let low : n % 2 ^ w ≡ (n / 2 ^ j % 2 ^ (w - j)) * 2 ^ j + n % 2 ^ j =
+          ap (λ t. n % 2 ^ t) (sym s) ∙ e in
+          ap (λ t. t % 2 ^ j) low
+          ∙ mod-mul-add (n / 2 ^ j % 2 ^ (w - j)) (2 ^ j) (n % 2 ^ j)
+          (mod_below n (2 ^ j) (pow_pos j)) ∙ h
     ]
 
 -- a product of multiples of two powers is a multiple of the powers' product
@@ -48,7 +51,8 @@ mod-pow-mul x y j k hx hy =
     let q = pow_pos (j + k) in
     let ex : x ≡ x / 2 ^ j * 2 ^ j = quotient x (2 ^ j) (pow_pos j) hx in
     let ey : y ≡ y / 2 ^ k * 2 ^ k = quotient y (2 ^ k) (pow_pos k) hy in
-    let e : x * y ≡ x / 2 ^ j * (y / 2 ^ k) * 2 ^ (j + k) + 0 = regroup x y (x / 2 ^ j) (y / 2 ^ k) (2 ^ j) (2 ^ k) (2 ^ (j + k)) ex ey p in
+    let e : x * y ≡ x / 2 ^ j * (y / 2 ^ k) * 2 ^ (j + k) + 0 =
+    regroup x y (x / 2 ^ j) (y / 2 ^ k) (2 ^ j) (2 ^ k) (2 ^ (j + k)) ex ey p in
     ap (λ t. t % 2 ^ (j + k)) e ∙ mod-mul-add (x / 2 ^ j * (y / 2 ^ k)) (2 ^ (j + k)) 0 q
   where
     quotient : (n d : ℕ) → 0 < d → n % d ≡ 0 → n ≡ n / d * d
@@ -71,8 +75,9 @@ mod-trailing_zeros n n_in =
       | inr none ↦ let l = mod_le n (trailing_zeros w64 n) in omega arith
     ]
 
--- the trailing zeros of a number show each power of 2 of which it is a multiple
-pub trailing_zeros-multiple : (n j : ℕ) → n < 2 ^ 64 → j ≤ 64 → n % 2 ^ j ≡ 0 → j ≤ trailing_zeros w64 n
+-- a number has at least j trailing zeros if 2 to the power j divides it
+pub trailing_zeros-multiple : (n j : ℕ) → n < 2 ^ 64 → j ≤ 64 → n % 2 ^ j ≡ 0
+    → j ≤ trailing_zeros w64 n
 trailing_zeros-multiple n j n_in j_in h =
     elim (cases_lt 0 n) [
       | inl some ↦
@@ -80,35 +85,42 @@ trailing_zeros-multiple n j n_in j_in h =
           elim (cases_lt (trailing_zeros w64 n) j) [
             | inl lt ↦ absurd
                 (let low : bit_at n (trailing_zeros w64 n) ≡ 0 =
-                sym (low_bit n j (trailing_zeros w64 n) lt) ∙ ap (λ m. bit_at m (trailing_zeros w64 n)) h ∙ bit_at-zero (trailing_zeros w64 n) in
+                sym (low_bit n j (trailing_zeros w64 n) lt)
+                ∙ ap (λ m. bit_at m (trailing_zeros w64 n)) h
+                ∙ bit_at-zero (trailing_zeros w64 n) in
                 omega (arith, t.1))
             | inr ge ↦ ge
           ]
       | inr none ↦
           let z : n ≡ 0 = omega arith in
-          let e : trailing_zeros w64 n ≡ 64 = ap (trailing_zeros w64) z ∙ trailing_of_zero 64 in omega arith
+          let e : trailing_zeros w64 n ≡ 64 = ap (trailing_zeros w64) z ∙ trailing_of_zero 64 in
+          omega arith
     ]
 
 -- ---- members
 
 -- a member is a multiple of each power of 2 that divides the greatest member
-pub member-multiple : {v m x : ℕ} → Apart v m → IsMember v m x → (j : ℕ) → bit_or v m % 2 ^ j ≡ 0 → x % 2 ^ j ≡ 0
+pub member-multiple : {v m x : ℕ} → Apart v m → IsMember v m x → (j : ℕ) → bit_or v m % 2 ^ j ≡ 0
+    → x % 2 ^ j ≡ 0
 member-multiple {v} {m} {x} k h j z =
-    let e : x % 2 ^ j ≡ bit_and (x % 2 ^ j) (bit_or v m % 2 ^ j) = ap (λ t. t % 2 ^ j) (sym (member_and_most k h)) ∙ and_mod x (bit_or v m) j in
+    let e : x % 2 ^ j ≡ bit_and (x % 2 ^ j) (bit_or v m % 2 ^ j) =
+    ap (λ t. t % 2 ^ j) (sym (member_and_most k h)) ∙ and_mod x (bit_or v m) j in
     let le = and_le_r (x % 2 ^ j) (bit_or v m % 2 ^ j) in
     omega arith
 
--- a number that has no bits from position l on is below that power
+-- a number that has no bits from position l on is below 2 ^ l
 pub lt-pow_from_bits : (x l : ℕ) → ((i : ℕ) → l ≤ i → bit_at x i ≡ 0) → x < 2 ^ l
 lt-pow_from_bits x l h =
     let same : x ≡ x % 2 ^ l = same_from_bits x (x % 2 ^ l)
-    (λ i. elim (cases_lt i l) [ inl lt ↦ sym (low_bit x l i lt) | inr ge ↦ h i ge ∙ sym (high_bit x l i ge) ]) in
+    (λ i. elim (cases_lt i l)
+    [ inl lt ↦ sym (low_bit x l i lt) | inr ge ↦ h i ge ∙ sym (high_bit x l i ge) ]) in
     let below = mod_below x (2 ^ l) (pow_pos l) in
     omega arith
 
--- where 0 is a member, and bits are known to be the same from position l on, members are below that
--- power
-pub member-length : (v m g x l : ℕ) → m < 2 ^ 64 → IsMember v m 0 → ((i : ℕ) → bit_at m i ≡ 1 → 0 / 2 ^ i ≡ g / 2 ^ i → ⊥)
+-- if 0 is a member, and the bits from position l on are known to be the same in all members,
+-- members are below 2 ^ l
+pub member-length : (v m g x l : ℕ) → m < 2 ^ 64 → IsMember v m 0
+    → ((i : ℕ) → bit_at m i ≡ 1 → 0 / 2 ^ i ≡ g / 2 ^ i → ⊥)
     → g < 2 ^ l → IsMember v m x → x < 2 ^ l
 member-length v m g x l m_in zero sharp small h =
     lt-pow_from_bits x l
@@ -128,11 +140,14 @@ member-length v m g x l m_in zero sharp small h =
 
 -- members of the low part are multiples of each power of 2 that divides the greatest member, and
 -- below each power that it is below
-pub low-multiple : {v m x : ℕ} → Apart v m → (w j : ℕ) → bit_or v m % 2 ^ j ≡ 0 → IsMember (v % 2 ^ w) (m % 2 ^ w) x → x % 2 ^ j ≡ 0
+pub low-multiple : {v m x : ℕ} → Apart v m → (w j : ℕ) → bit_or v m % 2 ^ j ≡ 0
+    → IsMember (v % 2 ^ w) (m % 2 ^ w) x → x % 2 ^ j ≡ 0
 low-multiple {v} {m} k w j z h =
-    member-multiple (low_known k w) h j (ap (λ t. t % 2 ^ j) (sym (or_mod v m w)) ∙ mod-mod_pow (bit_or v m) j w z)
+    member-multiple (low_known k w) h j
+    (ap (λ t. t % 2 ^ j) (sym (or_mod v m w)) ∙ mod-mod_pow (bit_or v m) j w z)
 
-pub low-limit : {v m x : ℕ} → Apart v m → (w l : ℕ) → bit_or v m < 2 ^ l → IsMember (v % 2 ^ w) (m % 2 ^ w) x → x < 2 ^ l
+pub low-limit : {v m x : ℕ} → Apart v m → (w l : ℕ) → bit_or v m < 2 ^ l
+    → IsMember (v % 2 ^ w) (m % 2 ^ w) x → x < 2 ^ l
 low-limit {v} {m} k w l small h =
     let most = member_most (low_known k w) h in
     let e = or_mod v m w in

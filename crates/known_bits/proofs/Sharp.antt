@@ -12,51 +12,89 @@ use Rattle.known_bits.proofs.Parts.{high_bit}
 
 pub least_member : {v m : ℕ} → Apart v m → IsMember v m v
 least_member {v} {m} k = member_from_bits k.value_in k.mask_in k.value_in
-    (λ i i_in. let a = bits_apart k i in record { apart = a; least = omega arith; most = omega arith })
+    (λ i i_in. let a = bits_apart k i in
+    record { apart = a; least = omega arith; most = omega arith })
 
 pub most_member : {v m : ℕ} → Apart v m → IsMember v m (bit_or v m)
 most_member {v} {m} k = member_from_bits k.value_in k.mask_in (or_lt 64 v m k.value_in k.mask_in)
-    (λ i i_in. let a = bits_apart k i in let e = bit_at_or v m i in record { apart = a; least = omega arith; most = omega arith })
+    (λ i i_in. let a = bits_apart k i in
+    let e = bit_at_or v m i in record { apart = a; least = omega arith; most = omega arith })
 
 -- a bit that is set is at a position below 64
 pub set_below : (n i : ℕ) → n < 2 ^ 64 → bit_at n i ≡ 1 → i < 64
-set_below n i h e = elim (cases_lt i 64) [ inl lt ↦ lt | inr ge ↦ absurd (let z = bit_at_above n 64 i h ge in omega arith) ]
+set_below n i h e =
+    elim (cases_lt i 64)
+    [ inl lt ↦ lt | inr ge ↦ absurd (let z = bit_at_above n 64 i h ge in omega arith) ]
 
 -- two results that differ in a bit show both its values
-pub both_values : {av am bv bm : ℕ} (f : ℕ → ℕ → ℕ) (i x y x' y' : ℕ) → IsMember av am x → IsMember bv bm y → IsMember av am x' → IsMember bv bm y'
+pub both_values : {av am bv bm : ℕ} (f : ℕ → ℕ → ℕ) (i x y x' y' : ℕ) → IsMember av am x
+    → IsMember bv bm y → IsMember av am x' → IsMember bv bm y'
     → bit_at (f x y) i ≢ bit_at (f x' y') i → Occurs av am bv bm f i 0 × Occurs av am bv bm f i 1
 both_values f i x y x' y' hx hy hx' hy' differ =
     let l = bit_at-lt (f x y) i in
     let l' = bit_at-lt (f x' y') i in
     elim (cases_lt 0 (bit_at (f x y) i)) [
-      | inl one ↦
-          (record { x = x'; y = y'; first = hx'; second = hy'; is = omega arith }, record { x = x; y = y; first = hx; second = hy; is = omega arith })
-      | inr none ↦
-          (record { x = x; y = y; first = hx; second = hy; is = omega arith }, record { x = x'; y = y'; first = hx'; second = hy'; is = omega arith })
+      | inl one ↦ (
+        record { x = x'; y = y'; first = hx'; second = hy'; is = omega arith },
+        record { x = x; y = y; first = hx; second = hy; is = omega arith },
+      )
+      | inr none ↦ (
+        record { x = x; y = y; first = hx; second = hy; is = omega arith },
+        record { x = x'; y = y'; first = hx'; second = hy'; is = omega arith },
+      )
     ]
 
 module _ {av am bv bm : ℕ} (ka : Apart av am) (kb : Apart bv bm) where
-  pub and_sharp : (i : ℕ) → bit_at (and_mask_of av am bv bm) i ≡ 1 → Occurs av am bv bm bit_and i 0 × Occurs av am bv bm bit_and i 1
+  pub and_sharp : (i : ℕ) → bit_at (and_mask_of av am bv bm) i ≡ 1
+      → Occurs av am bv bm bit_and i 0 × Occurs av am bv bm bit_and i 1
   and_sharp i h =
       let e = and_bit ka kb i (set_below _ i (and_known ka kb).mask_in h) in
       let l1 = bit_at-lt av i in let l2 = bit_at-lt bv i in
       let ea = bit_at_or av am i in let eb = bit_at_or bv bm i in (
-        record { x = av; y = bv; first = least_member ka; second = least_member kb; is = bit_at_and av bv i ∙ omega arith },
-        record { x = bit_or av am; y = bit_or bv bm; first = most_member ka; second = most_member kb; is = bit_at_and (bit_or av am) (bit_or bv bm) i ∙ (let m1 = bit_at-lt am i in let m2 = bit_at-lt bm i in omega arith) },
+        record {
+          x = av;
+          y = bv;
+          first = least_member ka;
+          second = least_member kb;
+          is = bit_at_and av bv i ∙ omega arith;
+        },
+        record {
+          x = bit_or av am;
+          y = bit_or bv bm;
+          first = most_member ka;
+          second = most_member kb;
+          is = bit_at_and (bit_or av am) (bit_or bv bm) i
+              ∙ (let m1 = bit_at-lt am i in let m2 = bit_at-lt bm i in omega arith);
+        },
       )
 
-  pub or_sharp : (i : ℕ) → bit_at (or_mask_of av am bv bm) i ≡ 1 → Occurs av am bv bm bit_or i 0 × Occurs av am bv bm bit_or i 1
+  pub or_sharp : (i : ℕ) → bit_at (or_mask_of av am bv bm) i ≡ 1
+      → Occurs av am bv bm bit_or i 0 × Occurs av am bv bm bit_or i 1
   or_sharp i h =
-      let e = without_bit (bit_or am bm) (bit_or av bv) (or_known ka kb).value_in i (set_below _ i (or_known ka kb).mask_in h) in
+      let e = without_bit (bit_or am bm) (bit_or av bv) (or_known ka kb).value_in i
+      (set_below _ i (or_known ka kb).mask_in h) in
       let em = bit_at_or am bm i in let ev = bit_at_or av bv i in
       let l1 = bit_at-lt av i in let l2 = bit_at-lt bv i in
       let m1 = bit_at-lt am i in let m2 = bit_at-lt bm i in
       let ea = bit_at_or av am i in let eb = bit_at_or bv bm i in (
-        record { x = av; y = bv; first = least_member ka; second = least_member kb; is = ev ∙ omega arith },
-        record { x = bit_or av am; y = bit_or bv bm; first = most_member ka; second = most_member kb; is = bit_at_or (bit_or av am) (bit_or bv bm) i ∙ omega arith },
+        record {
+          x = av;
+          y = bv;
+          first = least_member ka;
+          second = least_member kb;
+          is = ev ∙ omega arith;
+        },
+        record {
+          x = bit_or av am;
+          y = bit_or bv bm;
+          first = most_member ka;
+          second = most_member kb;
+          is = bit_at_or (bit_or av am) (bit_or bv bm) i ∙ omega arith;
+        },
       )
 
-  pub xor_sharp : (i : ℕ) → bit_at (bit_or am bm) i ≡ 1 → Occurs av am bv bm bit_xor i 0 × Occurs av am bv bm bit_xor i 1
+  pub xor_sharp : (i : ℕ) → bit_at (bit_or am bm) i ≡ 1
+      → Occurs av am bv bm bit_xor i 0 × Occurs av am bv bm bit_xor i 1
   xor_sharp i h =
       let em = bit_at_or am bm i in
       let aa = bits_apart ka i in let ab = bits_apart kb i in
@@ -65,16 +103,21 @@ module _ {av am bv bm : ℕ} (ka : Apart av am) (kb : Apart bv bm) where
       elim (cases_lt 0 (bit_at am i)) [
         | inl in_a ↦
             let other = bit_at_xor (bit_or av am) bv i in
-            both_values bit_xor i av bv (bit_or av am) bv (least_member ka) (least_member kb) (most_member ka) (least_member kb) (λ same. omega arith)
+            both_values bit_xor i av bv (bit_or av am) bv (least_member ka) (least_member kb)
+            (most_member ka) (least_member kb) (λ same. omega arith)
         | inr not_a ↦
             let other = bit_at_xor av (bit_or bv bm) i in
-            both_values bit_xor i av bv av (bit_or bv bm) (least_member ka) (least_member kb) (least_member ka) (most_member kb) (λ same. omega arith)
+            both_values bit_xor i av bv av (bit_or bv bm) (least_member ka) (least_member kb)
+            (least_member ka) (most_member kb) (λ same. omega arith)
       ]
 
 -- a truncated mask's bits are those of the whole
 pub low_set : (m n i : ℕ) → bit_at (m % 2 ^ n) i ≡ 1 → (i < n) × (bit_at m i ≡ 1)
 low_set m n i h =
-    elim (cases_lt i n) [ inl lt ↦ (lt, sym (low_bit m n i lt) ∙ h) | inr ge ↦ absurd (let z = high_bit m n i ge in omega arith) ]
+    elim (cases_lt i n) [
+      | inl lt ↦ (lt, sym (low_bit m n i lt) ∙ h)
+      | inr ge ↦ absurd (let z = high_bit m n i ge in omega arith)
+    ]
 
 pub occurs_low : {av am bv bm : ℕ} (f g : ℕ → ℕ → ℕ) (n i b : ℕ) → i < n
     → ((x y : ℕ) → IsMember av am x → IsMember bv bm y → f x y % 2 ^ n ≡ g x y)
@@ -84,5 +127,6 @@ occurs_low f g n i b i_in e o = record {
   y = o.y;
   first = o.first;
   second = o.second;
-  is = ap (λ r. bit_at r i) (sym (e o.x o.y o.first o.second)) ∙ low_bit (f o.x o.y) n i i_in ∙ o.is;
+  is = ap (λ r. bit_at r i) (sym (e o.x o.y o.first o.second)) ∙ low_bit (f o.x o.y) n i i_in
+      ∙ o.is;
 }

@@ -1,4 +1,4 @@
--- The numbers that a value and a mask mean. Linux, `struct tnum`.
+-- The members that a value and a mask have, as in Linux's `struct tnum`.
 use Rattle.std.specs.Prelude.{ℕ, ◌≡◌, ◌^◌, ◌<◌, bit_and}
 use Rattle.std.specs.Int.{w64, bit_not, bit_at}
 
@@ -7,7 +7,7 @@ pub record IsMember (value mask x : ℕ) : Type 0 where
   pub below : x < 2 ^ 64
   pub known : bit_and x (bit_not w64 mask) ≡ value
 
--- bit i of what f gives has this value for some members of both
+-- the result of f on some members of both has this value at bit i
 pub record Occurs (av am bv bm : ℕ) (f : ℕ → ℕ → ℕ) (i bit : ℕ) : Type 0 where
   pub x : ℕ
   pub y : ℕ

@@ -1,4 +1,4 @@
-//! What the arithmetic instructions give.
+//! The results of arithmetic instructions on known bits.
 
 ghost use Rattle.std.specs.Prelude.{◌≡◌, ℕ, ◌%◌, ◌^◌, ◌<◌};
 ghost use Rattle.isa_model.specs.Code.Sizes.{width_bits, span_bits, extension_width};
@@ -12,7 +12,7 @@ impl Bits {
     ghost use Rattle.known_bits.specs.Bits.{Has, IsConstant, IsSharp, IsPrecise, greatest_of};
     ghost use Rattle.known_bits.specs.Bits.{KnowsProduct};
 
-    /// What the operation gives on the numbers of both.
+    /// The results of the operation on members of both.
     pub fn alu(op: AluOp, width: Width, a: Self, b: Self) -> Self
         ensures contains { (x y : ℕ) → Has a x → Has b y → Has result (alu op width x y) }
         ensures sharp { IsPrecise op b → IsSharp a b (alu op width) result.mask }
@@ -39,12 +39,12 @@ impl Bits {
             AluOp::Rsh => x.shift_right_at(width, y),
             AluOp::Arsh => a.shift_signed_at(width, b),
             AluOp::Mov => y,
-            // Quotients and remainders are left open.
+            // Nothing is known of quotients and remainders.
             AluOp::Div | AluOp::SignedDiv | AluOp::Mod | AluOp::SignedMod => Bits::any(width),
         }
     }
 
-    /// The numbers with their signs changed.
+    /// The members with their signs changed.
     pub fn negate(width: Width, a: Self) -> Self
         ensures contains { (x : ℕ) → Has a x → Has result (negated width x) }
         ensures sharp { IsSharp a a (λ x y. negated width x) result.mask }
@@ -54,7 +54,7 @@ impl Bits {
         Bits::alu(AluOp::Sub, width, Bits::constant(0), a)
     }
 
-    /// The low bits of the numbers, sign-extended. The bits above them are known where the sign is.
+    /// The low bits of the members, sign-extended. The bits above them are known if the sign is.
     pub fn sign_extend(extension: Extension, a: Self) -> Self
         ensures contains { (x : ℕ) → Has a x → Has result (sign_extended extension x) }
         ensures sharp { IsSharp a a (λ x y. sign_extended extension x) result.mask }
@@ -67,7 +67,7 @@ impl Bits {
         }
     }
 
-    /// The low bytes of the numbers, in an order.
+    /// The low bytes of the members, in a byte order.
     pub fn reorder(order: ByteOrder, span: SwapWidth, a: Self) -> Self
         ensures contains { (x : ℕ) → Has a x → Has result (reordered order span x) }
         ensures sharp { IsSharp a a (λ x y. reordered order span x) result.mask }

@@ -1,4 +1,4 @@
-//! Known bits: the type, common numbers and inclusion.
+//! Known bits: the type, common members and inclusion.
 
 ghost use Rattle.std.specs.Prelude.{◌≡◌, ◌≢◌, ℕ, ◌+◌, ◌/◌, ◌^◌, ◌<◌, ◌≤◌, ◌↔◌, IsSomeAnd, IfSome, IsTrue, bit_and};
 ghost use Rattle.std.specs.Int.{bit_at};
@@ -12,7 +12,7 @@ pub struct Bits {
     pub value: u64,
     pub mask: u64,
     pub ghost apart: { bit_and value mask ≡ 0 },
-    // A law does not see that the mask is a number of 64 bits.
+    // A law reads the mask as a natural number, and so needs its size.
     pub ghost fits: { mask < 2 ^ 64 },
 }
 
@@ -29,7 +29,7 @@ impl Bits {
         }
     }
 
-    /// The one number.
+    /// The set of one number.
     pub fn constant(number: u64) -> Self
         ensures contains { Has result number }
         ensures only { (x : ℕ) → Has result x → x ≡ number }
@@ -41,7 +41,7 @@ impl Bits {
         }
     }
 
-    /// The bits that all numbers from one to another share.
+    /// The bits that all numbers from `least` to `greatest` share.
     pub fn between(least: u64, greatest: u64) -> Self
         requires { least ≤ greatest }
         ensures contains { (x : ℕ) → least ≤ x → x ≤ greatest → Has result x }

@@ -1,4 +1,4 @@
-//! Sets of numbers that share known bits, and what the instructions make of them.
+//! Sets of numbers that share known bits, and the results of instructions on them.
 #![tactic(auto)]
 
 mod arithmetic;

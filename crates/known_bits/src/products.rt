@@ -47,7 +47,7 @@ impl Bits {
         sum
     }
 
-    // The numbers that are no longer than the product of the greatest factors, where that fits.
+    // The numbers with no more bits than the product of the greatest members, if that fits 64 bits.
     fn product_limit(self, other: Self) -> Self
         ensures contains { (x y : ℕ) → Has self x → Has other y → Has result ((x * y) % 2 ^ 64) }
         ensures limit { (l z : ℕ) → greatest_of self * greatest_of other < 2 ^ l → Has result z
@@ -59,7 +59,7 @@ impl Bits {
         }
     }
 
-    // The numbers with as many trailing zeros as both factors have.
+    // The numbers with the trailing zeros of both factors.
     fn product_zeros(self, other: Self) -> Self
         ensures contains { (x y : ℕ) → Has self x → Has other y → Has result ((x * y) % 2 ^ 64) }
         ensures zeros { (j k z : ℕ) → j + k ≤ 64 → greatest_of self % 2 ^ j ≡ 0
@@ -77,7 +77,7 @@ impl Bits {
         limited.with(self.product_zeros(other))
     }
 
-    // The common members; if there are none, any answer will do.
+    // The common members; if there are none, any set will do.
     fn with(self, other: Self) -> Self
         ensures common { (x : ℕ) → Has self x → Has other x → Has result x }
         ensures within { (x y : ℕ) → Has self x → Has other x → Has result y

@@ -1,4 +1,5 @@
-//! Pairs of numbers between which a relation holds, one of each set: what is left of either.
+//! What a relation between a number of one set and a number of another leaves of both sets: at
+//! least the numbers that have it to some number of the other set.
 
 ghost use Rattle.std.specs.Prelude.{◌≡◌, ◌≢◌, ℕ, ◌<◌, ◌≤◌, ◌<ℤ◌, ◌≤ℤ◌, ◌^◌, IsSomeAnd, IfSome, bit_and, bit_or};
 ghost use Rattle.std.specs.Int.{w64, cast_signed, bit_at};
@@ -8,7 +9,8 @@ use crate::bits::Bits;
 impl Bits {
     ghost use Rattle.known_bits.specs.Bits.{Has, SomePair};
 
-    /// Those below some number of the other, and those above one. None: there is no such pair.
+    /// What is left of both where a number of this is below one of the other. `None`: there are no
+    /// such numbers.
     pub fn below(self, other: Self) -> Option<(Self, Self)>
         ensures common { (x y : ℕ) → Has self x → Has other y → x < y
             → IsSomeAnd result (λ p. Has p.0 x × Has p.1 y) }
@@ -26,7 +28,7 @@ impl Bits {
         Some((left, right))
     }
 
-    /// Those at most some number of the other, and those at least one.
+    /// What is left of both where a number of this is at most one of the other.
     pub fn at_most(self, other: Self) -> Option<(Self, Self)>
         ensures common { (x y : ℕ) → Has self x → Has other y → x ≤ y
             → IsSomeAnd result (λ p. Has p.0 x × Has p.1 y) }
@@ -44,7 +46,7 @@ impl Bits {
         Some((left, right))
     }
 
-    /// Those below some number of the other, and those above one, read as signed numbers.
+    /// The same as `below`, of signed numbers.
     pub fn signed_below(self, other: Self) -> Option<(Self, Self)>
         ensures common { (x y : ℕ) → Has self x → Has other y
             → cast_signed w64 x <ℤ cast_signed w64 y
@@ -61,7 +63,7 @@ impl Bits {
         }
     }
 
-    /// Those at most some number of the other, and those at least one, read as signed numbers.
+    /// The same as `at_most`, of signed numbers.
     pub fn signed_at_most(self, other: Self) -> Option<(Self, Self)>
         ensures common { (x y : ℕ) → Has self x → Has other y
             → cast_signed w64 x ≤ℤ cast_signed w64 y
@@ -78,7 +80,7 @@ impl Bits {
         }
     }
 
-    /// Those that differ from some number of the other, and the other way round.
+    /// What is left of both where a number of this differs from one of the other.
     pub fn apart(self, other: Self) -> Option<(Self, Self)>
         ensures common { (x y : ℕ) → Has self x → Has other y → x ≢ y
             → IsSomeAnd result (λ p. Has p.0 x × Has p.1 y) }
@@ -93,7 +95,7 @@ impl Bits {
         }
     }
 
-    /// Those that have no bit in common with some number of the other, and the other way round.
+    /// What is left of both where a number of this has no bit in common with one of the other.
     pub fn disjoint(self, other: Self) -> Option<(Self, Self)>
         ensures common { (x y : ℕ) → Has self x → Has other y → bit_and x y ≡ 0
             → IsSomeAnd result (λ p. Has p.0 x × Has p.1 y) }
@@ -108,7 +110,7 @@ impl Bits {
         Some((left, right))
     }
 
-    /// Those that have a bit in common with some number of the other, and the other way round.
+    /// What is left of both where a number of this has a bit in common with one of the other.
     pub fn overlapping(self, other: Self) -> Option<(Self, Self)>
         ensures common { (x y : ℕ) → Has self x → Has other y → bit_and x y ≢ 0
             → IsSomeAnd result (λ p. Has p.0 x × Has p.1 y) }
@@ -146,13 +148,13 @@ impl Bits {
         }
     }
 
-    // The numbers that have this bit.
-    fn having(place: u32) -> Self
-        requires { place < 64 }
-        ensures contains { (x : ℕ) → x < 2 ^ 64 → bit_at x place ≡ 1 → Has result x }
-        ensures only { (x : ℕ) → Has result x → bit_at x place ≡ 1 }
+    // The numbers whose bit at this position is 1.
+    fn having(position: u32) -> Self
+        requires { position < 64 }
+        ensures contains { (x : ℕ) → x < 2 ^ 64 → bit_at x position ≡ 1 → Has result x }
+        ensures only { (x : ℕ) → Has result x → bit_at x position ≡ 1 }
     {
-        let bit = 1u64 << place;
+        let bit = 1u64 << position;
         Bits {
             value: bit,
             mask: !bit,

@@ -27,7 +27,7 @@ impl Bits {
         }
     }
 
-    /// The numbers that some bits of these make, from one bit on.
+    /// The numbers that `count` bits of the members make, from bit `from` on.
     pub fn part(self, from: u64, count: u32) -> Self
         requires from { from < 64 }
         requires count { count ≤ 64 }
@@ -39,7 +39,8 @@ impl Bits {
         self.shift_right(from).low(count)
     }
 
-    /// The numbers with `count` bits from bit `from` on replaced by the low bits of others.
+    /// The members with `count` bits from bit `from` on replaced by the low bits of members of
+    /// `other`.
     pub fn spliced(self, from: u64, count: u32, other: Self) -> Self
         requires from { from < 64 }
         requires inside { from + count ≤ 64 }
@@ -114,7 +115,7 @@ impl Bits {
             .truncate(width)
     }
 
-    // The shift that keeps the sign moves the bits of the value and of the mask alike.
+    // The shift that keeps the sign moves the bits of the value and the mask alike.
     pub(crate) fn shift_signed_at(self, width: Width, other: Self) -> Self
         ensures contains { (x y : ℕ) → Has self x → Has other y
             → Has result (alu AluOp.Arsh width x y) }
@@ -141,7 +142,7 @@ pub fn spliced(from: u64, count: u32, number: u64, other: u64) -> u64
     (number & !written) | ((other << from) & written)
 }
 
-// How far a shift by a number goes.
+// By how many bits a shift by a number moves.
 fn distance(width: Width, by: u64) -> u64
     ensures value { result ≡ shift width by }
     ensures below { result < width_bits width }

@@ -11,9 +11,8 @@ use isa_model::{AluOp, Width};
 impl Bits {
     ghost use Rattle.known_bits.specs.Bits.{Has, IsSharp};
 
-    // A bit is unknown where an operand's is, or where the carries of the least and the greatest
-    // sum differ. Linux,
-    // `tnum_add`.
+    // A bit is unknown where it is in an operand, or where the carries of the least and the
+    // greatest sum differ. Linux: `tnum_add`.
     pub(crate) fn add(self, other: Self) -> Self
         ensures contains { (x y : ℕ) → Has self x → Has other y → Has result ((x + y) % 2 ^ 64) }
         ensures sharp { IsSharp self other (λ x y. (x + y) % 2 ^ 64) result.mask }

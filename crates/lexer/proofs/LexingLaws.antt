@@ -5,25 +5,32 @@ use Rattle.std.specs.List.{prefix_len}
 use Rattle.std.specs.Char.{is_digit}
 use Rattle.std.proofs.lemmas.List.{length-drop}
 use Rattle.std.proofs.lemmas.List.Sums.{prefix_len-le-length}
-use Rattle.lexer.specs.Lexing.{number_fault, number_fault_at, number_fault_from, fault_at}
+use Rattle.lexer.specs.Lexing.{number_end, number_end_at, number_end_from, unknown_at}
 
 either : (b : Bool) (m n all : ℕ) → m ≤ all → n ≤ all → (if b then m else n) ≤ all
 either true m n all h g = h
 either false m n all h g = g
 
-fault-within : (skip n all : ℕ) → 1 ≤ all → n ≤ all - skip → number_fault skip n ≤ all
-fault-within skip zero all some h = some
-fault-within skip (suc n) all some h = let t : (suc n == 0) ≡ false = ne_eqb (suc n) 0 (λ e. omega (arith, e)) in rw t (omega (arith, h))
+number_end-within : (skip n all : ℕ) → 1 ≤ all → n ≤ all - skip → number_end skip n ≤ all
+number_end-within skip zero all some h = some
+number_end-within skip (suc n) all some h =
+    let t : (suc n == 0) ≡ false = ne_eqb (suc n) 0 (λ e. omega (arith, e)) in
+    rw t (omega (arith, h))
 
-fault_at-digits : (base skip : ℕ) (bs : List ℕ) → 1 ≤ length bs → number_fault_at base skip bs ≤ length bs
-fault_at-digits base skip bs some =
-    let count : prefix_len (λ c. is_digit c base) (drop skip bs) ≤ length (drop skip bs) = prefix_len-le-length (λ c. is_digit c base) (drop skip bs) in
+unknown_at-digits : (base skip : ℕ) (bs : List ℕ) → 1 ≤ length bs
+    → number_end_at base skip bs ≤ length bs
+unknown_at-digits base skip bs some =
+    let count : prefix_len (λ c. is_digit c base) (drop skip bs) ≤ length (drop skip bs) =
+    prefix_len-le-length (λ c. is_digit c base) (drop skip bs) in
     let long : length (drop skip bs) ≡ length bs - skip = length-drop skip bs in
-    fault-within skip (prefix_len (λ c. is_digit c base) (drop skip bs)) (length bs) some (omega (arith, count, long))
+    number_end-within skip (prefix_len (λ c. is_digit c base) (drop skip bs)) (length bs) some
+    (omega (arith, count, long))
 
--- a byte that begins no token is one of the text
-pub fault_at-within : (bs : List ℕ) → 1 ≤ length bs → fault_at bs ≤ length bs
-fault_at-within bs some =
-    either (is_digit (slice_index bs 0) 10) (number_fault_from bs) 0 (length bs)
-    (either ((slice_index bs 0 == 48) && (slice_index bs 1 == 120)) (number_fault_at 16 2 bs) (number_fault_at 10 0 bs) (length bs) (fault_at-digits 16 2 bs some) (fault_at-digits 10 0 bs some))
+-- the first byte that begins no token is inside the text
+pub unknown_at-within : (bs : List ℕ) → 1 ≤ length bs → unknown_at bs ≤ length bs
+unknown_at-within bs some =
+    either (is_digit (slice_index bs 0) 10) (number_end_from bs) 0 (length bs)
+    (either ((slice_index bs 0 == 48) && (slice_index bs 1 == 120)) (number_end_at 16 2 bs)
+    (number_end_at 10 0 bs) (length bs) (unknown_at-digits 16 2 bs some)
+    (unknown_at-digits 10 0 bs some))
     (omega arith)

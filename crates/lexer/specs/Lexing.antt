@@ -38,17 +38,17 @@ abbrev pub number_from : List ℕ → Option (Lexeme × ℕ)
 number_from bs = if (slice_index bs 0 == 48) && (slice_index bs 1 == 120) then number_at 16 2 bs
     else number_at 10 0 bs
 
--- the offset at which a number with n digits after the skipped bytes is wrong; `0x` without a digit
--- is the number 0 with an x after it
-abbrev pub number_fault : ℕ → ℕ → ℕ
-number_fault skip n = if n == 0 then 1 else skip + n
+-- the offset at which a number with n digits after the skipped bytes ends; `0x` without a digit is
+-- the number 0 with an x after it
+abbrev pub number_end : ℕ → ℕ → ℕ
+number_end skip n = if n == 0 then 1 else skip + n
 
-abbrev pub number_fault_at : ℕ → ℕ → List ℕ → ℕ
-number_fault_at base skip bs = number_fault skip (prefix_len (λ c. is_digit c base) (drop skip bs))
+abbrev pub number_end_at : ℕ → ℕ → List ℕ → ℕ
+number_end_at base skip bs = number_end skip (prefix_len (λ c. is_digit c base) (drop skip bs))
 
-abbrev pub number_fault_from : List ℕ → ℕ
-number_fault_from bs = if (slice_index bs 0 == 48) && (slice_index bs 1 == 120)
-    then number_fault_at 16 2 bs else number_fault_at 10 0 bs
+abbrev pub number_end_from : List ℕ → ℕ
+number_end_from bs = if (slice_index bs 0 == 48) && (slice_index bs 1 == 120)
+    then number_end_at 16 2 bs else number_end_at 10 0 bs
 
 -- ---- words, blanks and signs
 
@@ -84,5 +84,5 @@ lexeme_at bs =
     let b = slice_index bs 0 in if is_digit b 10 then number_from bs else word_or_sign bs b
 
 -- where there is no lexeme: the offset of the first byte that begins no token
-abbrev pub fault_at : List ℕ → ℕ
-fault_at bs = if is_digit (slice_index bs 0) 10 then number_fault_from bs else 0
+abbrev pub unknown_at : List ℕ → ℕ
+unknown_at bs = if is_digit (slice_index bs 0) 10 then number_end_from bs else 0

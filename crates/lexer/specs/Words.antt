@@ -33,8 +33,8 @@ register_word w None = word.Other
 abbrev pub map_word : List ℕ → Word
 map_word cs =
     if bytes_eq cs (codes "map") then word.Map
-    else if bytes_eq cs (codes "hash") then word.Kind Hash
-    else if bytes_eq cs (codes "array") then word.Kind Array
+    else if bytes_eq cs (codes "hash") then word.MapType Hash
+    else if bytes_eq cs (codes "array") then word.MapType Array
     else if bytes_eq cs (codes "map_by_idx") then word.MapByIndex
     else if bytes_eq cs (codes "map_val") then word.MapValue
     else if bytes_eq cs (codes "version") then word.Version

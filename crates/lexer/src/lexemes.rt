@@ -2,7 +2,7 @@
 
 ghost use Rattle.std.specs.Prelude.{◌≡◌, IfErr};
 ghost use Rattle.std.specs.Result.{result_ok};
-ghost use Rattle.lexer.specs.Lexing.{word_at, blank_or_sign, word_or_sign, lexeme_at, fault_at};
+ghost use Rattle.lexer.specs.Lexing.{word_at, blank_or_sign, word_or_sign, lexeme_at, unknown_at};
 
 use super::numbers::{byte_at, is_digit, is_word_byte, line_len, number_from, word_len};
 use super::signs::{sign_of, signed_sign};
@@ -50,7 +50,7 @@ fn word_or_sign(text: &[u8], b: u8) -> Option<(Lexeme, usize)>
 /// with `s` rather than a word. Otherwise the offset of the first byte that begins no token.
 pub fn lexeme_at(text: &[u8]) -> Result<(Lexeme, usize), usize>
     ensures found { result_ok result ≡ lexeme_at text.now }
-    ensures fault { IfErr result (λ at. at ≡ fault_at text.now) }
+    ensures fault { IfErr result (λ at. at ≡ unknown_at text.now) }
 {
     let b = byte_at(text, 0);
     if is_digit(b, 10) {

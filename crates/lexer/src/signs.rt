@@ -25,7 +25,7 @@ fn with_equals(next: u8, length: usize, long: Sign, short: Sign) -> Option<(Lexe
     }
 }
 
-// A sign that wants the `=` after its first bytes.
+// A sign that needs the `=` after its first bytes.
 fn only_equals(next: u8, length: usize, long: Sign) -> Option<(Lexeme, usize)>
     requires { length < 4 }
     ensures { result ≡ only_equals next length long }
@@ -37,7 +37,8 @@ fn only_equals(next: u8, length: usize, long: Sign) -> Option<(Lexeme, usize)>
     }
 }
 
-/// The longest sign at three bytes, and its length; the signs that begin with `s` apart.
+/// The longest sign that these three bytes begin with, and its length, but for the signs that begin
+/// with `s`.
 pub fn sign_of(a: u8, b: u8, c: u8) -> Option<(Lexeme, usize)>
     ensures { result ≡ sign_of a b c }
 {
@@ -74,7 +75,7 @@ pub fn sign_of(a: u8, b: u8, c: u8) -> Option<(Lexeme, usize)>
     }
 }
 
-/// The longest sign that is an `s` and these bytes, and its length.
+/// The longest sign that begins with `s` and goes on with these bytes, and its length.
 pub fn signed_sign(b: u8, c: u8, d: u8) -> Option<(Lexeme, usize)>
     ensures { result ≡ signed_sign b c d }
 {

@@ -1,8 +1,8 @@
-//! The tokens of the text.
+//! The tokens of program text: words, numbers and signs.
 
 use isa_model::{AtomicOp, ByteOrder, MapType, Reg, SignedSize, Size, SwapWidth, Width};
 
-/// What a word means in an instruction. As a label, a word is only its letters.
+/// What a word means in an instruction. In a label only its bytes count.
 #[derive(Clone, Copy)]
 pub enum Word {
     /// `r0` to `r10`, `w0` to `w10`.
@@ -13,7 +13,7 @@ pub enum Word {
     SignExtended(SignedSize),
     /// `le16` to `bswap64`.
     Swapped(ByteOrder, SwapWidth),
-    /// `atomic_fetch_add_64` and its kin.
+    /// `atomic_fetch_add_64` and the like.
     Fetch(AtomicOp, Width),
     /// `xchg_64`, `xchg_32`.
     Exchange(Width),
@@ -23,7 +23,7 @@ pub enum Word {
     Goto,
     GotoLong,
     Call,
-    /// `pc`, the one word that is no name.
+    /// `pc`, the only word that cannot name a slot.
     Pc,
     Exit,
     Lock,
@@ -32,7 +32,7 @@ pub enum Word {
     /// `map`, which begins a map line.
     Map,
     /// `hash`, `array`.
-    Kind(MapType),
+    MapType(MapType),
     /// `map_by_idx`.
     MapByIndex,
     /// `map_val`.
@@ -42,7 +42,7 @@ pub enum Word {
     Other,
 }
 
-/// Signs: `Is` and its kin compare, `Assign` and its kin end with `=` and assign.
+/// Signs: those from `Equal` on compare, and those from `Assign` to `ArshAssign` assign.
 #[derive(Clone, Copy)]
 pub enum Sign {
     Open,
@@ -79,15 +79,16 @@ pub enum Sign {
     SignedLessEqual,
 }
 
+/// A token: a word, a number or a sign.
 #[derive(Clone, Copy)]
 pub enum Token {
     Named(Word),
-    /// A number; all numbers from 2^64 up are one.
+    /// A number; once it is 2^64 or more, further digits do not change it.
     Number(u128),
     Signed(Sign),
 }
 
-/// What a text begins with.
+/// What a text begins with: a token, or what is between two of them.
 #[derive(Clone, Copy)]
 pub enum Lexeme {
     /// A blank or a comment.

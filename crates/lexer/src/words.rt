@@ -46,9 +46,9 @@ fn map_word(word: &[u8]) -> Word
     if is_text(word, "map") {
         Word::Map
     } else if is_text(word, "hash") {
-        Word::Kind(MapType::Hash)
+        Word::MapType(MapType::Hash)
     } else if is_text(word, "array") {
-        Word::Kind(MapType::Array)
+        Word::MapType(MapType::Array)
     } else if is_text(word, "map_by_idx") {
         Word::MapByIndex
     } else if is_text(word, "map_val") {

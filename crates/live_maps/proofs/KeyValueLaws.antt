@@ -47,10 +47,13 @@ position-cons t x xs = by (t x)
     m : ℕ
     m = position_or_len t xs
 
-    by : (b : Bool) → cond (nat_lt (cond (not b) (1 + m) 0) (suc (length xs))) (Some (cond (not b) (1 + m) 0)) None
+    by : (b : Bool) → cond (nat_lt (cond (not b) (1 + m) 0) (suc (length xs)))
+        (Some (cond (not b) (1 + m) 0)) None
         ≡ cond b (Some 0) (option_map suc (cond (nat_lt m (length xs)) (Some m) None))
     by true = ap (λ (c : Bool). cond c (Some 0) None) (zero_less (length xs))
-    by false = ap (λ (c : Bool). cond c (Some (1 + m)) None) (suc_less m (length xs)) ∙ option_if (nat_lt m (length xs)) m
+    by false =
+        ap (λ (c : Bool). cond c (Some (1 + m)) None) (suc_less m (length xs))
+        ∙ option_if (nat_lt m (length xs)) m
 
 -- ---- keys, no two of which have one place
 
@@ -66,8 +69,10 @@ abbrev pub AreApart : Keyed → Type 0
 AreApart [] = Unit {0}
 AreApart (e ∷ es) = All (λ x. x.1 ≢ e.1) es × AreApart es
 
-module _ (P : Places) (apart : (j k : List ℕ) (p : ℕ) → get P j ≡ Some p → get P k ≡ Some p → j ≡ k) where
-  apart_in : (es : Keyed) → T (is_sorted key_order es) → ((k : ℕ) (e : List ℕ × ℕ) → slice_get es k ≡ Some e → get P e.0 ≡ Some e.1) → AreApart es
+module _ (P : Places)
+    (apart : (j k : List ℕ) (p : ℕ) → get P j ≡ Some p → get P k ≡ Some p → j ≡ k) where
+  apart_in : (es : Keyed) → T (is_sorted key_order es)
+      → ((k : ℕ) (e : List ℕ × ℕ) → slice_get es k ≡ Some e → get P e.0 ≡ Some e.1) → AreApart es
   apart_in [] sorted has = tt
   apart_in (e ∷ es) sorted has =
       let both = split (below_all key_order e.0 es) (is_sorted key_order es) sorted in (
@@ -75,8 +80,10 @@ module _ (P : Places) (apart : (j k : List ℕ) (p : ℕ) → get P j ≡ Some p
             let x = slice_index_or es k d in
             let there : slice_get es k ≡ Some x = slice_get-get_or es k d l in
             let less = above e.0 es k x both.0 there in
-            let key : x.0 ≡ e.0 = apart x.0 e.0 e.1 (has (suc k) x there ∙ ap Some same) (has 0 e refl) in
-            let not_less : T (is_lt (key_order e.0 e.0)) = subst (λ (q : List ℕ). T (is_lt (key_order e.0 q))) key less in
+            let key : x.0 ≡ e.0 =
+            apart x.0 e.0 e.1 (has (suc k) x there ∙ ap Some same) (has 0 e refl) in
+            let not_less : T (is_lt (key_order e.0 e.0)) =
+            subst (λ (q : List ℕ). T (is_lt (key_order e.0 q))) key less in
             let itself = is_key-itself e.0 in
             equal_not_less (key_order e.0 e.0) itself not_less,
         apart_in es both.1 (λ k x g. has (suc k) x g),
@@ -94,12 +101,15 @@ module _ (P : Places) (apart : (j k : List ℕ) (p : ℕ) → get P j ≡ Some p
 
 module _ (f : ℕ → Stored) (n : ℕ) where
   -- a value whose serial is not among them is not found
-  pub index_of_serial-none : (es : Keyed) → All (λ e. ((f e.1).serial == n) ≡ false) es → index_of_serial (changed f es) n ≡ None
+  pub index_of_serial-none : (es : Keyed) → All (λ e. ((f e.1).serial == n) ≡ false) es
+      → index_of_serial (changed f es) n ≡ None
   index_of_serial-none [] all = refl
   index_of_serial-none (e ∷ es) all =
       position-cons (λ x. x.1.serial == n) (e.0, f e.1) (changed f es)
-      ∙ ap (λ (b : Bool). cond b (Some 0) (option_map suc (index_of_serial (changed f es) n))) (All-head (λ e. ((f e.1).serial == n) ≡ false) e es all)
-      ∙ ap (option_map suc) (index_of_serial-none es (All-tail (λ e. ((f e.1).serial == n) ≡ false) e es all))
+      ∙ ap (λ (b : Bool). cond b (Some 0) (option_map suc (index_of_serial (changed f es) n)))
+      (All-head (λ e. ((f e.1).serial == n) ≡ false) e es all)
+      ∙ ap (option_map suc)
+      (index_of_serial-none es (All-tail (λ e. ((f e.1).serial == n) ≡ false) e es all))
 
   module _ (p : ℕ) (hit : ((f p).serial == n) ≡ true) where
     abbrev Only : Keyed → Type 0
@@ -112,10 +122,12 @@ module _ (f : ℕ → Stored) (n : ℕ) where
     rest_of e es only = All-tail (λ e. ((f e.1).serial == n) ≡ true → e.1 ≡ p) e es only
 
     elsewhere : (e : List ℕ × ℕ) → ((f e.1).serial == n) ≡ false → e.1 ≢ p
-    elsewhere e miss same = let h = ap (λ (q : ℕ). (f q).serial == n) same in let g = sym miss ∙ h ∙ hit in absurd cc
+    elsewhere e miss same =
+        let h = ap (λ (q : ℕ). (f q).serial == n) same in let g = sym miss ∙ h ∙ hit in absurd cc
 
     after_first : (x : List ℕ × Stored) (xs : List (List ℕ × Stored)) (o : Option ℕ)
-        → option_map (λ j. (key_value_at (x ∷ xs) j).1.bytes) (option_map suc o) ≡ option_map (λ j. (key_value_at xs j).1.bytes) o
+        → option_map (λ j. (key_value_at (x ∷ xs) j).1.bytes) (option_map suc o)
+        ≡ option_map (λ j. (key_value_at xs j).1.bytes) o
     after_first x xs None = refl
     after_first x xs (Some j) = refl
 
@@ -124,16 +136,20 @@ module _ (f : ℕ → Stored) (n : ℕ) where
         → value_bytes (changed f es) n ≡ Some (f p).bytes
     value_bytes-found key [] only there = absurd cc
     value_bytes-found key (e ∷ es) only there =
-        ap (option_map (λ j. (key_value_at (changed f (e ∷ es)) j).1.bytes)) (position-cons (λ x. x.1.serial == n) (e.0, f e.1) (changed f es))
+        ap (option_map (λ j. (key_value_at (changed f (e ∷ es)) j).1.bytes))
+        (position-cons (λ x. x.1.serial == n) (e.0, f e.1) (changed f es))
         ∙ by ((f e.1).serial == n) refl (value_bytes-found key es (rest_of e es only))
       where
-        by : (b : Bool) → ((f e.1).serial == n) ≡ b → (find key_order key es ≡ Some p → value_bytes (changed f es) n ≡ Some (f p).bytes)
-            → option_map (λ j. (key_value_at (changed f (e ∷ es)) j).1.bytes) (cond b (Some 0) (option_map suc (index_of_serial (changed f es) n))) ≡ Some (f p).bytes
+        by : (b : Bool) → ((f e.1).serial == n) ≡ b
+            → (find key_order key es ≡ Some p → value_bytes (changed f es) n ≡ Some (f p).bytes)
+            → option_map (λ j. (key_value_at (changed f (e ∷ es)) j).1.bytes)
+            (cond b (Some 0) (option_map suc (index_of_serial (changed f es) n))) ≡ Some (f p).bytes
         by true h rest = ap (λ (q : ℕ). Some (f q).bytes) (one_of e es only h)
         by false h rest =
             after_first (e.0, f e.1) (changed f es) (index_of_serial (changed f es) n)
             ∙ rest
-            (elim (is_key key e.0) as (λ b. cond b (Some e.1) (find key_order key es) ≡ Some p → find key_order key es ≡ Some p) [
+            (elim (is_key key e.0) as (λ b. cond b (Some e.1) (find key_order key es) ≡ Some p
+            → find key_order key es ≡ Some p) [
               | true ↦ λ g. absurd (elsewhere e h cc)
               | false ↦ λ g. g
             ] there)
@@ -158,16 +174,21 @@ module _ (f : ℕ → Stored) (n : ℕ) where
           → put_value (changed f es) (index_of_serial (changed f es) n) i bytes ≡ changed f' es
       put_value-changed [] only apart = refl
       put_value-changed (e ∷ es) only apart =
-          ap (λ (o : Option ℕ). put_value (changed f (e ∷ es)) o i bytes) (position-cons (λ x. x.1.serial == n) (e.0, f e.1) (changed f es))
+          ap (λ (o : Option ℕ). put_value (changed f (e ∷ es)) o i bytes)
+          (position-cons (λ x. x.1.serial == n) (e.0, f e.1) (changed f es))
           ∙ by ((f e.1).serial == n) refl (put_value-changed es (rest_of e es only) apart.1)
         where
           by : (b : Bool) → ((f e.1).serial == n) ≡ b
               → put_value (changed f es) (index_of_serial (changed f es) n) i bytes ≡ changed f' es
-              → put_value (changed f (e ∷ es)) (cond b (Some 0) (option_map suc (index_of_serial (changed f es) n))) i bytes ≡ changed f' (e ∷ es)
+              → put_value (changed f (e ∷ es))
+              (cond b (Some 0) (option_map suc (index_of_serial (changed f es) n))) i bytes
+              ≡ changed f' (e ∷ es)
           by true h tail =
               let at : e.1 ≡ p = one_of e es only h in
-              let value : record (f e.1) { bytes = splice (f e.1).bytes i (i + length bytes) bytes } ≡ f' e.1 =
-              ap (λ (q : ℕ). record (f q) { bytes = splice (f q).bytes i (i + length bytes) bytes }) at ∙ sym here ∙ ap f' (sym at) in
+              let value : record (f e.1) { bytes = splice (f e.1).bytes i (i + length bytes) bytes }
+              ≡ f' e.1 =
+              ap (λ (q : ℕ). record (f q) { bytes = splice (f q).bytes i (i + length bytes) bytes })
+              at ∙ sym here ∙ ap f' (sym at) in
               let rest = same_at es (subst (λ (q : ℕ). All (λ x. x.1 ≢ q) es) at apart.0) in
               λ i. (e.0, value i) ∷ rest i
           by false h tail =
@@ -177,8 +198,10 @@ module _ (f : ℕ → Stored) (n : ℕ) where
 
 -- ---- keys put and removed
 
-module _ (f f' : ℕ → Stored) (P : Places) (key : List ℕ) (same : (q : List ℕ) (j : ℕ) → is_key q key ≡ false → get P q ≡ Some j → f' j ≡ f j) where
-  found_in : (g : ℕ → Stored) (Q : Places) (q : List ℕ) → find key_order q (changed g (entries Q)) ≡ option_map g (get Q q)
+module _ (f f' : ℕ → Stored) (P : Places) (key : List ℕ)
+    (same : (q : List ℕ) (j : ℕ) → is_key q key ≡ false → get P q ≡ Some j → f' j ≡ f j) where
+  found_in : (g : ℕ → Stored) (Q : Places) (q : List ℕ)
+      → find key_order q (changed g (entries Q)) ≡ option_map g (get Q q)
   found_in g Q q = find-changed g q (entries Q) ∙ ap (option_map g) (sym (get-entries Q q))
 
   sorted_in : (g : ℕ → Stored) (Q : Places) → T (is_sorted key_order (changed g (entries Q)))
@@ -192,13 +215,17 @@ module _ (f f' : ℕ → Stored) (P : Places) (key : List ℕ) (same : (q : List
       by (Some j) e = ap Some (same q j other e)
 
   -- a key has the value at its place
-  pub changed-put : (P' : Places) (p : ℕ) → get P' key ≡ Some p → ((q : List ℕ) → is_key q key ≡ false → get P' q ≡ get P q)
+  pub changed-put : (P' : Places) (p : ℕ) → get P' key ≡ Some p
+      → ((q : List ℕ) → is_key q key ≡ false → get P' q ≡ get P q)
       → changed f' (entries P') ≡ with_key key (f' p) (changed f (entries P))
   changed-put P' p here others =
-      same_contents (changed f' (entries P')) (with_key key (f' p) (changed f (entries P))) (sorted_in f' P')
-      (is_sorted-put key_order nat_list_cmp_total key (f' p) (changed f (entries P)) (sorted_in f P))
+      same_contents (changed f' (entries P')) (with_key key (f' p) (changed f (entries P)))
+      (sorted_in f' P')
+      (is_sorted-put key_order nat_list_cmp_total key (f' p) (changed f (entries P))
+      (sorted_in f P))
       (λ q. found_in f' P' q
-      ∙ elim (is_key q key) as (λ b. is_key q key ≡ b → option_map f' (get P' q) ≡ cond b (Some (f' p)) (at_key q (changed f (entries P)))) [
+      ∙ elim (is_key q key) as (λ b. is_key q key ≡ b
+      → option_map f' (get P' q) ≡ cond b (Some (f' p)) (at_key q (changed f (entries P)))) [
         | true ↦ λ t. ap (option_map f') (ap (get P') (is_key-equal q key t) ∙ here)
         | false ↦ λ t. ap (option_map f') (others q t) ∙ mapped q t ∙ sym (found_in f P q)
       ] refl
@@ -209,18 +236,24 @@ module _ (f f' : ℕ → Stored) (P : Places) (key : List ℕ) (same : (q : List
   negated false x y = refl
 
   -- a key has no value
-  pub changed-removed : changed f' (entries (remove P key)) ≡ without_key key (changed f (entries P))
+  pub changed-removed : changed f' (entries (remove P key))
+      ≡ without_key key (changed f (entries P))
   changed-removed =
-      same_contents (changed f' (entries (remove P key))) (without_key key (changed f (entries P))) (sorted_in f' (remove P key))
-      (is_sorted-where_key key_order (λ q. not (is_key key q)) (changed f (entries P)) (sorted_in f P))
+      same_contents (changed f' (entries (remove P key))) (without_key key (changed f (entries P)))
+      (sorted_in f' (remove P key))
+      (is_sorted-where_key key_order (λ q. not (is_key key q)) (changed f (entries P))
+      (sorted_in f P))
       (λ q. found_in f' (remove P key) q
       ∙ ap (option_map f') (get-remove nat_list_cmp_total P key q)
-      ∙ elim (is_key q key) as (λ b. is_key q key ≡ b → option_map f' (cond b None (get P q)) ≡ cond b None (option_map f (get P q))) [
+      ∙ elim (is_key q key) as (λ b. is_key q key ≡ b
+      → option_map f' (cond b None (get P q)) ≡ cond b None (option_map f (get P q))) [
         | true ↦ λ t. refl
         | false ↦ λ t. mapped q t
       ] refl
       ∙ ap (cond (is_key q key) None) (sym (found_in f P q))
-      ∙ ap (λ (b : Bool). cond b None (at_key q (changed f (entries P)))) ((eq_by_cmp_equiv nat_list_cmp_total).symm q key)
+      ∙ ap (λ (b : Bool). cond b None (at_key q (changed f (entries P))))
+      ((eq_by_cmp_equiv nat_list_cmp_total).symm q key)
       ∙ sym (negated (is_key key q) (at_key q (changed f (entries P))) None)
       ∙ sym (find-where_key key_order (λ x. not (is_key key x)) q
-      (λ x e. ap (λ (y : List ℕ). not (is_key key y)) (sym (slice_cmp-IsAntisymmetric nat_cmp-IsAntisymmetric q x e))) (changed f (entries P))))
+      (λ x e. ap (λ (y : List ℕ). not (is_key key y))
+      (sym (slice_cmp-IsAntisymmetric nat_cmp-IsAntisymmetric q x e))) (changed f (entries P))))

@@ -1,11 +1,11 @@
--- Laws of the definitions in specs/Live.
+-- Laws of lists of serials.
 use Rattle.std.specs.Prelude.{◌≡◌, ℕ, ◌<◌, List, [], None, length, map, replicate, slice_index_or}
 use Rattle.std.proofs.Common.{◌∙◌, zero, suc, refl, arith}
 use Rattle.std.proofs.Math.ListN.{get_or-map}
 use Rattle.std.proofs.lemmas.List.{get_or_default, length-map}
 use Rattle.live_maps.specs.Live.{Serials, serial_in, serials_at}
 
--- of serials that other things name
+-- the serials of map m, in a list that is made from another list
 pub serials_at-map : {V : Type 0} (f : V → Serials) (vs : List V) (m : ℕ) (d : V) → m < length vs
     → serials_at (map f vs) m ≡ f (slice_index_or vs m d)
 serials_at-map f vs m d h =

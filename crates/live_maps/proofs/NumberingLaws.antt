@@ -1,4 +1,4 @@
--- Laws of the definitions in specs/Numbering.
+-- Laws of the numbering at the start of a run.
 use Rattle.std.proofs.Common.{◌≡◌, ℕ, zero, suc, ◌+◌, ◌-◌, ◌<◌, ◌≤◌, List, [], ◌∷◌, map, length, Option, Some, None, true, false, cond, refl, sym, ap, subst, ◌∙◌, arith, inl, inr}
 use Rattle.std.specs.Prelude.{◌≢◌, All, slice_set, slice_index_or, unwrap_or}
 use Rattle.std.specs.FinMap.{get, entries, values, get-entries, len-entries}
@@ -21,18 +21,24 @@ use Rattle.live_maps.proofs.KeyValueLaws.{AreApart, keys-apart}
 use Rattle.live_maps.specs.Numbering.{AreDistinct, AreNumbered, NumbersAll, NumbersFirst, OnlyThere, count_before, place_in}
 
 -- one more place of a list has its serial
-pub NumbersFirst-more : (n : ℕ) (places : List ℕ) (i : ℕ) (serials : Serials) → AreDistinct places → i < length places → place_in places i < length serials
-    → NumbersFirst n places i serials → NumbersFirst n places (i + 1) (slice_set serials (place_in places i) (Some (n + i)))
+pub NumbersFirst-more : (n : ℕ) (places : List ℕ) (i : ℕ) (serials : Serials) → AreDistinct places
+    → i < length places → place_in places i < length serials
+    → NumbersFirst n places i serials
+    → NumbersFirst n places (i + 1) (slice_set serials (place_in places i) (Some (n + i)))
 NumbersFirst-more n places i serials apart inside within h = record {
-  there = λ j l. elim (eqb j i) as (λ b. eqb j i ≡ b → serial_in after (place_in places j) ≡ Some (n + j)) [
-    | true ↦ λ t.
-        let same = eqb-true j i t in
-        ap (λ (k : ℕ). serial_in after (place_in places k)) same ∙ here ∙ ap (λ (k : ℕ). Some (n + k)) (sym same)
-    | false ↦ λ t.
-        let d = eqb-false j i t in
-        let less : j < i = less_than j i l d in
-        else_where (place_in places j) (λ same. d (apart j i (omega arith) inside same)) ∙ h.there j less
-  ] refl;
+  there =
+      λ j l. elim (eqb j i) as (λ b. eqb j i ≡ b
+      → serial_in after (place_in places j) ≡ Some (n + j)) [
+        | true ↦ λ t.
+            let same = eqb-true j i t in
+            ap (λ (k : ℕ). serial_in after (place_in places k)) same ∙ here
+            ∙ ap (λ (k : ℕ). Some (n + k)) (sym same)
+        | false ↦ λ t.
+            let d = eqb-false j i t in
+            let less : j < i = less_than j i l d in
+            else_where (place_in places j) (λ same. d (apart j i (omega arith) inside same))
+            ∙ h.there j less
+      ] refl;
   only = λ p k e. elim (eqb p q) as (λ b. eqb p q ≡ b
       → (j : ℕ) × (j < length places) × (place_in places j ≡ p)) [
         | true ↦ λ t. (i, inside, sym (eqb-true p q t))
@@ -55,7 +61,7 @@ NumbersFirst-more n places i serials apart inside within h = record {
     less_than : (j i : ℕ) → j < i + 1 → j ≢ i → j < i
     less_than j i l d = elim (below_or_above j i d) [ inl h ↦ h | inr h ↦ absurd (omega arith) ]
 
--- where no place has a serial, none has one beside those of a list
+-- where no place has a serial, none outside a list has one
 pub OnlyThere-none : (places : List ℕ) (serials : Serials)
     → ((p : ℕ) → serial_in serials p ≡ None) → OnlyThere places serials
 OnlyThere-none places serials none p k e = let f = sym (none p) ∙ e in absurd cc
@@ -83,40 +89,47 @@ module _ (P : Places) where
   length-values : length (values P) ≡ length es
   length-values = length-map {B = ℕ} es (λ e. e.1)
 
-  key_at : (i : ℕ) → i < length (values P) → get P (slice_index_or es i no_key).0 ≡ Some (place_in (values P) i)
+  key_at : (i : ℕ) → i < length (values P)
+      → get P (slice_index_or es i no_key).0 ≡ Some (place_in (values P) i)
   key_at i l =
       let long = length-values in
-      get_at P i (slice_index_or es i no_key) (slice_get-get_or es i no_key (omega arith)) ∙ ap Some (sym (values-at i))
+      get_at P i (slice_index_or es i no_key) (slice_get-get_or es i no_key (omega arith))
+      ∙ ap Some (sym (values-at i))
 
   index_in : (key : List ℕ) (p : ℕ) (es : List (List ℕ × ℕ)) → find key_order key es ≡ Some p
       → (i : ℕ) × (i < length es) × ((slice_index_or es i no_key).1 ≡ p)
   index_in key p [] e = absurd cc
   index_in key p (x ∷ es) e =
-      elim (is_key key x.0) as (λ b. cond b (Some x.1) (find key_order key es) ≡ Some p → (i : ℕ) × (i < suc (length es)) × ((slice_index_or (x ∷ es) i no_key).1 ≡ p)) [
+      elim (is_key key x.0) as (λ b. cond b (Some x.1) (find key_order key es) ≡ Some p
+      → (i : ℕ) × (i < suc (length es)) × ((slice_index_or (x ∷ es) i no_key).1 ≡ p)) [
         | true ↦ λ f. (0, omega arith, cc)
         | false ↦ λ f. let r = index_in key p es f in let l = r.1 in (suc r.0, omega arith, r.2)
       ] e
 
   -- each key's place is listed
-  pub value_index : (key : List ℕ) (p : ℕ) → get P key ≡ Some p → (i : ℕ) × (i < length (values P)) × (place_in (values P) i ≡ p)
+  pub value_index : (key : List ℕ) (p : ℕ) → get P key ≡ Some p
+      → (i : ℕ) × (i < length (values P)) × (place_in (values P) i ≡ p)
   value_index key p e =
       let r = index_in key p es (sym (get-entries P key) ∙ e) in
       let l = r.1 in
       let long = length-values in
       (r.0, omega arith, values-at r.0 ∙ r.2)
 
-  apart_at : (es : List (List ℕ × ℕ)) → AreApart es → (i j : ℕ) → i < j → j < length es → (slice_index_or es j no_key).1 ≢ (slice_index_or es i no_key).1
+  apart_at : (es : List (List ℕ × ℕ)) → AreApart es → (i j : ℕ) → i < j → j < length es
+      → (slice_index_or es j no_key).1 ≢ (slice_index_or es i no_key).1
   apart_at [] h i j l m = absurd (omega arith)
   apart_at (e ∷ es) h i zero l m = absurd (omega arith)
   apart_at (e ∷ es) h zero (suc j) l m = h.0 j no_key (omega arith)
   apart_at (e ∷ es) h (suc i) (suc j) l m = apart_at es h.1 i j (omega arith) (omega arith)
 
   -- no place is listed twice
-  pub values-distinct : ((j k : List ℕ) (p : ℕ) → get P j ≡ Some p → get P k ≡ Some p → j ≡ k) → AreDistinct (values P)
+  pub values-distinct : ((j k : List ℕ) (p : ℕ) → get P j ≡ Some p → get P k ≡ Some p → j ≡ k)
+      → AreDistinct (values P)
   values-distinct apart i j l m same =
       let long = length-values in
       let h = keys-apart P apart in
-      let equal : (slice_index_or es i no_key).1 ≡ (slice_index_or es j no_key).1 = sym (values-at i) ∙ same ∙ values-at j in
+      let equal : (slice_index_or es i no_key).1 ≡ (slice_index_or es j no_key).1 =
+      sym (values-at i) ∙ same ∙ values-at j in
       elim (eqb i j) as (λ b. eqb i j ≡ b → i ≡ j) [
         | true ↦ λ t. eqb-true i j t
         | false ↦ λ t. elim (below_or_above i j (eqb-false i j t)) [
@@ -126,7 +139,8 @@ module _ (P : Places) where
       ] refl
 
 -- a map whose keys' values are numbered
-pub HasSerials-numbered : (n next : ℕ) (m : MapState) (serials : Serials) → IsMap m → length serials ≡ m.row.entries → n + length (values m.places) ≤ next
+pub HasSerials-numbered : (n next : ℕ) (m : MapState) (serials : Serials) → IsMap m
+    → length serials ≡ m.row.entries → n + length (values m.places) ≤ next
     → NumbersAll n (values m.places) serials → HasSerials next m serials
 HasSerials-numbered n next m serials is long room h = record {
   is_map = is;
@@ -137,8 +151,12 @@ HasSerials-numbered n next m serials is long room h = record {
   owned = λ p k e.
       let r = numbered_only n (values m.places) serials h p k e in
       let less = r.1 in
-      let equal = r.3 in
-      (omega arith, (slice_index_or (entries m.places) r.0 no_key).0, key_at m.places r.0 less ∙ ap Some r.2);
+      let equal = r.3 in (
+        omega arith,
+        (slice_index_or (entries m.places) r.0 no_key).0,
+        key_at m.places r.0 less
+            ∙ ap Some r.2,
+      );
   once = λ p q k e f.
       let r = numbered_only n (values m.places) serials h p k e in
       let t = numbered_only n (values m.places) serials h q k f in
@@ -148,7 +166,7 @@ HasSerials-numbered n next m serials is long room h = record {
       sym r.2 ∙ ap (place_in (values m.places)) same ∙ t.2;
 }
 
--- the places of a map's keys are all that have serials
+-- only the places of a map's keys have serials
 pub OnlyThere-live : (next : ℕ) (m : MapState) (serials : Serials) → HasSerials next m serials
     → OnlyThere (values m.places) serials
 OnlyThere-live next m serials h p k e =
@@ -158,16 +176,20 @@ OnlyThere-live next m serials h p k e =
 -- the values are numbered by their keys
 content-numbered : (m : MapState) (serials : Serials) (n : ℕ) (es : List (List ℕ × ℕ))
     → ((i : ℕ) → i < length es → serial_in serials (slice_index_or es i no_key).1 ≡ Some (n + i))
-    → changed (stored m serials) es ≡ numbered n (map (λ e. (e.0, row_at m.row.value_size m.block e.1)) es)
+    → changed (stored m serials) es
+    ≡ numbered n (map (λ e. (e.0, row_at m.row.value_size m.block e.1)) es)
 content-numbered m serials n [] each = refl
 content-numbered m serials n (e ∷ es) each =
     let z : n + 0 ≡ n = omega arith in
-    let first : unwrap_or (serial_in serials e.1) 0 ≡ n = ap (λ (o : Option ℕ). unwrap_or o 0) (each 0 (omega arith)) ∙ z in
+    let first : unwrap_or (serial_in serials e.1) 0 ≡ n =
+    ap (λ (o : Option ℕ). unwrap_or o 0) (each 0 (omega arith)) ∙ z in
     let rest = content-numbered m serials (suc n) es
-    (λ i l. let s : n + suc i ≡ suc n + i = omega arith in each (suc i) (omega arith) ∙ ap Some s) in
+    (λ i l. let s : n + suc i
+    ≡ suc n + i = omega arith in each (suc i) (omega arith) ∙ ap Some s) in
     λ j. (e.0, record { serial = first j; bytes = row_at m.row.value_size m.block e.1 }) ∷ rest j
 
-pub live_content-numbered : (m : MapState) (serials : Serials) (n : ℕ) → NumbersAll n (values m.places) serials
+pub live_content-numbered : (m : MapState) (serials : Serials) (n : ℕ)
+    → NumbersAll n (values m.places) serials
     → live_content m serials ≡ numbered n (content_in m)
 live_content-numbered m serials n h =
     let long = length-values m.places in
@@ -176,7 +198,8 @@ live_content-numbered m serials n h =
 
 length-content_in : (m : MapState) → length (content_in m) ≡ length (values m.places)
 length-content_in m =
-    length-map {B = List ℕ × List ℕ} (entries m.places) (λ e. (e.0, row_at m.row.value_size m.block e.1)) ∙ sym (length-values m.places)
+    length-map {B = List ℕ × List ℕ} (entries m.places)
+    (λ e. (e.0, row_at m.row.value_size m.block e.1)) ∙ sym (length-values m.places)
 
 -- one map more
 pub count_before-suc : (maps : List MapState) (m : ℕ) → m < length maps
@@ -189,26 +212,38 @@ count_before-suc (x ∷ maps) (suc m) l =
     ap (count_before (x ∷ maps)) s ∙ (omega arith)
 
 -- the maps are numbered one after another
-pub live_contents-numbered : (n : ℕ) (maps : List MapState) (all : List Serials) → length all ≡ length maps
-    → ((m : ℕ) → m < length maps → NumbersAll (n + count_before maps m) (values (map_at maps m).places) (serials_at all m))
+pub live_contents-numbered : (n : ℕ) (maps : List MapState) (all : List Serials)
+    → length all ≡ length maps
+    → ((m : ℕ) → m < length maps
+    → NumbersAll (n + count_before maps m) (values (map_at maps m).places) (serials_at all m))
     → live_contents maps all ≡ numbered_maps n (contents_of maps)
 unfolding live_contents
 live_contents-numbered n [] all long each = refl
 live_contents-numbered n (x ∷ maps) [] long each = absurd (omega arith)
 live_contents-numbered n (x ∷ maps) (s ∷ all) long each =
     let z : n + 0 ≡ n = omega arith in
-    let first = live_content-numbered x s n (subst (λ (k : ℕ). NumbersAll k (values x.places) s) z (each 0 (omega arith))) in
+    let first =
+    live_content-numbered x s n
+    (subst (λ (k : ℕ). NumbersAll k (values x.places) s) z (each 0 (omega arith))) in
     let rest = live_contents-numbered (n + length (content_in x)) maps all (omega arith)
     (λ m l.
-    let a : n + count_before (x ∷ maps) (suc m) ≡ n + length (content_in x) + count_before maps m = omega arith in
-    subst (λ (k : ℕ). NumbersAll k (values (map_at maps m).places) (serials_at all m)) a (each (suc m) (omega arith))) in
+    let a : n + count_before (x ∷ maps) (suc m) ≡ n + length (content_in x) + count_before maps m =
+    omega arith in
+    subst (λ (k : ℕ). NumbersAll k (values (map_at maps m).places) (serials_at all m)) a
+    (each (suc m) (omega arith))) in
     λ i. first i ∷ rest i
 
-pub count_before-all : (maps : List MapState) → count_before maps (length maps) ≡ count_values (contents_of maps)
-count_before-all maps = ap (λ (l : List MapState). count_values (contents_of l)) (take_all (length maps) maps (omega arith))
+pub count_before-all : (maps : List MapState)
+    → count_before maps (length maps) ≡ count_values (contents_of maps)
+count_before-all maps =
+    ap (λ (l : List MapState). count_values (contents_of l))
+    (take_all (length maps) maps (omega arith))
 
-count_before-within : (maps : List MapState) (m n : ℕ) → m + n ≤ length maps → count_before maps m ≤ count_before maps (m + n)
-count_before-within maps m zero l = let e : m ≡ m + 0 = omega arith in subst (λ (k : ℕ). count_before maps m ≤ count_before maps k) e (omega arith)
+count_before-within : (maps : List MapState) (m n : ℕ) → m + n ≤ length maps
+    → count_before maps m ≤ count_before maps (m + n)
+count_before-within maps m zero l =
+    let e : m ≡ m + 0 = omega arith in
+    subst (λ (k : ℕ). count_before maps m ≤ count_before maps k) e (omega arith)
 count_before-within maps m (suc n) l =
     let e : m + n + 1 ≡ m + suc n = omega arith in
     let before = count_before-within maps m n (omega arith) in
@@ -216,7 +251,8 @@ count_before-within maps m (suc n) l =
     subst (λ (k : ℕ). count_before maps m ≤ count_before maps k) e (omega arith)
 
 -- and their serials are below how many values there are
-pub AreLive-numbered : (maps : List MapState) (all : List Serials) → All IsMap maps → AreNumbered maps all
+pub AreLive-numbered : (maps : List MapState) (all : List Serials) → All IsMap maps
+    → AreNumbered maps all
     → AreLive (count_values (contents_of maps)) maps all
 AreLive-numbered maps all are h = record {
   long = h.long;
@@ -226,25 +262,30 @@ AreLive-numbered maps all are h = record {
       let within = count_before-within maps (m + 1) d (omega arith) in
       let last = ap (count_before maps) e ∙ count_before-all maps in
       let more = count_before-suc maps m l in
-      HasSerials-numbered (count_before maps m) (count_values (contents_of maps)) (map_at maps m) (serials_at all m) (are m _ l) (h.rooms m l) (omega arith)
+      HasSerials-numbered (count_before maps m) (count_values (contents_of maps)) (map_at maps m)
+      (serials_at all m) (are m _ l) (h.rooms m l) (omega arith)
       (h.numbers m l);
 }
 
-pub numbered-all : (maps : List MapState) (all : List Serials) → AreNumbered maps all → live_contents maps all ≡ numbered_maps 0 (contents_of maps)
+pub numbered-all : (maps : List MapState) (all : List Serials) → AreNumbered maps all
+    → live_contents maps all ≡ numbered_maps 0 (contents_of maps)
 numbered-all maps all h =
     live_contents-numbered 0 maps all h.long
     (λ m l. let z : count_before maps m ≡ 0 + count_before maps m = omega arith in
-    subst (λ (k : ℕ). NumbersAll k (values (map_at maps m).places) (serials_at all m)) z (h.numbers m l))
+    subst (λ (k : ℕ). NumbersAll k (values (map_at maps m).places) (serials_at all m)) z
+    (h.numbers m l))
 
 module _ (m : MapState) (is : IsMap m) where
   -- the places of a map's keys are places of the map
   pub values-within : All (λ p. p < m.row.entries) (values m.places)
   values-within k d l =
       let there = key_at m.places k l in
-      let within = is.in_range (slice_index_or (entries m.places) k no_key).0 (place_in (values m.places) k) there in
+      let within =
+      is.in_range (slice_index_or (entries m.places) k no_key).0
+      (place_in (values m.places) k) there in
       subst (λ (p : ℕ). p < m.row.entries) (get_or_default (values m.places) k 0 d l) within
 
-  -- and no more than that
+  -- and there are no more of them than the map has places
   pub values-few : length (values m.places) ≤ m.row.entries
   values-few =
       let a = length-values m.places in
@@ -253,33 +294,47 @@ module _ (m : MapState) (is : IsMap m) where
       omega arith
 
 -- one map more is numbered
-pub numbers-next : (maps : List MapState) (all more : List Serials) (m : ℕ) (s : Serials) → m < length all → more ≡ slice_set all m s
-    → ((k : ℕ) → k < m → NumbersAll (count_before maps k) (values (map_at maps k).places) (serials_at all k))
+pub numbers-next : (maps : List MapState) (all more : List Serials) (m : ℕ) (s : Serials)
+    → m < length all → more ≡ slice_set all m s
+    → ((k : ℕ) → k < m
+    → NumbersAll (count_before maps k) (values (map_at maps k).places) (serials_at all k))
     → NumbersAll (count_before maps m) (values (map_at maps m).places) s
-    → (k : ℕ) → k < m + 1 → NumbersAll (count_before maps k) (values (map_at maps k).places) (serials_at more k)
+    → (k : ℕ) → k < m + 1
+    → NumbersAll (count_before maps k) (values (map_at maps k).places) (serials_at more k)
 numbers-next maps all more m s inside is before now k l =
-    subst (λ (a : List Serials). NumbersAll (count_before maps k) (values (map_at maps k).places) (serials_at a k)) (sym is)
-    (elim (eqb k m) as (λ b. eqb k m ≡ b → NumbersAll (count_before maps k) (values (map_at maps k).places) (serials_at (slice_set all m s) k)) [
+    subst (λ (a : List Serials). NumbersAll (count_before maps k) (values (map_at maps k).places)
+    (serials_at a k)) (sym is)
+    (elim (eqb k m) as (λ b. eqb k m ≡ b
+    → NumbersAll (count_before maps k) (values (map_at maps k).places)
+    (serials_at (slice_set all m s) k)) [
       | true ↦ λ t.
-          subst (λ (j : ℕ). NumbersAll (count_before maps j) (values (map_at maps j).places) (serials_at (slice_set all m s) j)) (sym (eqb-true k m t))
-          (subst (λ (r : Serials). NumbersAll (count_before maps m) (values (map_at maps m).places) r) (sym (get_or-set_same all m s [] inside)) now)
+          subst (λ (j : ℕ). NumbersAll (count_before maps j) (values (map_at maps j).places)
+          (serials_at (slice_set all m s) j)) (sym (eqb-true k m t))
+          (subst (λ (r : Serials). NumbersAll (count_before maps m)
+          (values (map_at maps m).places) r) (sym (get_or-set_same all m s [] inside)) now)
       | false ↦ λ t.
           let d = eqb-false k m t in
-          let less : k < m = elim (below_or_above k m d) [ inl h ↦ h | inr h ↦ absurd (omega arith) ] in
-          subst (λ (r : Serials). NumbersAll (count_before maps k) (values (map_at maps k).places) r) (sym (get_or-set_other all m k s [] d)) (before k less)
+          let less : k < m =
+          elim (below_or_above k m d) [ inl h ↦ h | inr h ↦ absurd (omega arith) ] in
+          subst (λ (r : Serials). NumbersAll (count_before maps k)
+          (values (map_at maps k).places) r) (sym (get_or-set_other all m k s [] d))
+          (before k less)
     ] refl)
 
 -- its serials have a place for each of its values as before
-pub rooms-next : (maps : List MapState) (all more : List Serials) (m : ℕ) (s : Serials) → m < length all → more ≡ slice_set all m s
+pub rooms-next : (maps : List MapState) (all more : List Serials) (m : ℕ) (s : Serials)
+    → m < length all → more ≡ slice_set all m s
     → length s ≡ length (serials_at all m)
     → ((k : ℕ) → k < length maps → length (serials_at all k) ≡ (map_at maps k).row.entries)
     → (k : ℕ) → k < length maps → length (serials_at more k) ≡ (map_at maps k).row.entries
 rooms-next maps all more m s inside is same rooms k l =
     ap (λ (a : List Serials). length (serials_at a k)) is
-    ∙ elim (eqb k m) as (λ b. eqb k m ≡ b → length (serials_at (slice_set all m s) k) ≡ (map_at maps k).row.entries) [
+    ∙ elim (eqb k m) as (λ b. eqb k m ≡ b
+    → length (serials_at (slice_set all m s) k) ≡ (map_at maps k).row.entries) [
       | true ↦ λ t.
           let e = eqb-true k m t in
-          ap (λ (j : ℕ). length (serials_at (slice_set all m s) j)) e ∙ ap length (get_or-set_same all m s [] inside) ∙ same
+          ap (λ (j : ℕ). length (serials_at (slice_set all m s) j)) e
+          ∙ ap length (get_or-set_same all m s [] inside) ∙ same
           ∙ ap (λ (j : ℕ). length (serials_at all j)) (sym e) ∙ rooms k l
       | false ↦ λ t. ap length (get_or-set_other all m k s [] (eqb-false k m t)) ∙ rooms k l
     ] refl

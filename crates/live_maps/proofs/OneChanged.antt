@@ -9,26 +9,33 @@ use Rattle.live_maps.specs.Orders.{AreOrders, AreLiveMaps, KeyOrder}
 use Rattle.live_maps.proofs.ContentLaws.{live_of, rows_of-known, rows_of-some, length-changed_maps}
 use Rattle.live_maps.proofs.SearchLaws.{searched-inside, searched-some}
 
--- one of the maps, of whose row P holds, and what it is now
+-- one map, whose row has the property P, before and after a change
 pub record OneChanged (P : MapDef → Type 0) (maps new : List MapState) (m : ℕ) : Type 0 where
   pub inside : m < length maps
   pub row : P (map_at maps m).row
   pub count : length new ≡ length maps
   pub is : IsMap (map_at new m)
 
-pub one_changed : (P : MapDef → Type 0) (next : ℕ) (maps : List MapState) (all : List Serials) (now : Live) → live_of maps all next ≡ now
-    → (m : ℕ) → IsSomeAnd (slice_get now.rows m) P → (new : List MapState) → new ≡ slice_set maps m (map_at new m) → All IsMap new → OneChanged P maps new m
+pub one_changed : (P : MapDef → Type 0) (next : ℕ) (maps : List MapState) (all : List Serials)
+    (now : Live) → live_of maps all next ≡ now
+    → (m : ℕ) → IsSomeAnd (slice_get now.rows m) P → (new : List MapState)
+    → new ≡ slice_set maps m (map_at new m) → All IsMap new → OneChanged P maps new m
 one_changed P next maps all now view m sizes new others are =
-    let known = rows_of-known P maps m (subst (λ (l : Live). IsSomeAnd (slice_get l.rows m) P) (sym view) sizes) in
+    let known =
+    rows_of-known P maps m
+    (subst (λ (l : Live). IsSomeAnd (slice_get l.rows m) P) (sym view) sizes) in
     let count = length-changed_maps maps new m (map_at new m) others in
     let inside = known.0 in
     record { inside = known.0; row = known.1; count = count; is = are m _ (omega arith) }
 
--- what holds of the given row and of the maps before the change holds as contracts see them
-pub row_told : (Q : Live → MapDef → Type 0) (next : ℕ) (maps : List MapState) (all : List Serials) (now : Live) → live_of maps all next ≡ now → (m : ℕ)
-    → m < length maps → Q (live_of maps all next) (map_at maps m).row → IsSomeAnd (slice_get now.rows m) (Q now)
-row_told Q next maps all now view m inside h =
-    subst (λ (l : Live). IsSomeAnd (slice_get l.rows m) (Q l)) view (rows_of-some (Q (live_of maps all next)) maps m inside h)
+-- what holds of the maps and of one map's row holds of them as contracts see them
+pub row_seen : (Q : Live → MapDef → Type 0) (next : ℕ) (maps : List MapState) (all : List Serials)
+    (now : Live) → live_of maps all next ≡ now → (m : ℕ)
+    → m < length maps → Q (live_of maps all next) (map_at maps m).row
+    → IsSomeAnd (slice_get now.rows m) (Q now)
+row_seen Q next maps all now view m inside h =
+    subst (λ (l : Live). IsSomeAnd (slice_get l.rows m) (Q l)) view
+    (rows_of-some (Q (live_of maps all next)) maps m inside h)
 
 -- the place of a serial whose value has at least `size` bytes
 pub record Found (maps : List MapState) (m p size : ℕ) : Type 0 where
@@ -36,16 +43,21 @@ pub record Found (maps : List MapState) (m p size : ℕ) : Type 0 where
   pub place : p < (map_at maps m).row.entries
   pub fits : size ≤ (map_at maps m).row.value_size
 
-pub found_at : (next : ℕ) (maps : List MapState) (all : List Serials) (now : Live) → live_of maps all next ≡ now → (m n p size : ℕ) → AreLive next maps all
-    → position (has_serial n) (serials_at all m) ≡ Some p → IsSomeAnd (value_bytes (content_at now m) n) (λ value. size ≤ length value) → Found maps m p size
+pub found_at : (next : ℕ) (maps : List MapState) (all : List Serials) (now : Live)
+    → live_of maps all next ≡ now → (m n p size : ℕ) → AreLive next maps all
+    → position (has_serial n) (serials_at all m) ≡ Some p
+    → IsSomeAnd (value_bytes (content_at now m) n) (λ value. size ≤ length value)
+    → Found maps m p size
 found_at next maps all now view m n p size h found fits =
     let Q : List ℕ → Type 0 = λ value. size ≤ length value in
     let r = searched-some next maps all m n h p found in
     let long = r.2 in
-    let room = subst (λ (o : Option (List ℕ)). IsSomeAnd o Q) (sym (ap (λ (l : Live). value_bytes (content_at l m) n) view) ∙ r.1) fits in
+    let room =
+    subst (λ (o : Option (List ℕ)). IsSomeAnd o Q)
+    (sym (ap (λ (l : Live). value_bytes (content_at l m) n) view) ∙ r.1) fits in
     record { inside = searched-inside next maps all m n h p found; place = r.0; fits = omega arith }
 
--- maps of which one has changed are kept as before, with their serials and their orders
+-- where one map has changed, the maps are kept as before, with their serials and their orders
 pub still_kept : (serials_room orders_room next after : ℕ) (maps new : List MapState)
     (all given : List Serials) (orders told : List KeyOrder) (m : ℕ)
     → AreLiveMaps serials_room orders_room next maps all orders

@@ -1,5 +1,4 @@
--- Laws of the definitions in specs/Orders: what a key that comes or goes and a numbering make of
--- the orders of keys.
+-- Laws of the orders of keys: as a key is added or removed, and as values are numbered.
 use Rattle.std.specs.Prelude.{◌≢◌, ◌==◌, All, Bool, IfSome, not, slice_get, slice_set, slice_index_or}
 use Rattle.std.proofs.Common.{◌≡◌, ℕ, suc, ◌<◌, ◌≤◌, List, [], ◌∷◌, map, length, Option, Some, None, true, false, cond, refl, sym, ap, subst, ◌∙◌, arith}
 use Rattle.std.specs.List.{filter}
@@ -185,9 +184,9 @@ negated false x y = refl
 alike : (q x : List ℕ) → key_order q x ≡ Equal → q ≡ x
 alike q x e = slice_cmp-IsAntisymmetric nat_cmp-IsAntisymmetric q x e
 
-entries-removed : (P : Places) (key : List ℕ)
+pairs-removed : (P : Places) (key : List ℕ)
     → entries (remove P key) ≡ where_key key_order (λ q. not (is_key key q)) (entries P)
-entries-removed P key =
+pairs-removed P key =
     same_entries key_order nat_list_cmp_total alike (entries (remove P key))
     (where_key key_order (λ q. not (is_key key q)) (entries P)) (entries_sorted (remove P key))
     (is_sorted-where_key key_order (λ q. not (is_key key q)) (entries P) (entries_sorted P))
@@ -210,7 +209,7 @@ pub values-removed : (P : Places) (key : List ℕ) (p : ℕ)
     → ((j k : List ℕ) (q : ℕ) → get P j ≡ Some q → get P k ≡ Some q → j ≡ k)
     → get P key ≡ Some p → values (remove P key) ≡ places_without p (values P)
 values-removed P key p apart there =
-    ap (λ (xs : List (List ℕ × ℕ)). map (λ e. e.1) xs) (entries-removed P key)
+    ap (λ (xs : List (List ℕ × ℕ)). map (λ e. e.1) xs) (pairs-removed P key)
     ∙ parts (entries P) (λ i e g. get_at P i e g)
   where
     test : (e : List ℕ × ℕ) → get P e.0 ≡ Some e.1 → not (is_key key e.0) ≡ not (e.1 == p)

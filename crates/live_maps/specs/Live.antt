@@ -25,11 +25,13 @@ with_content l m content = record l { contents = slice_set l.contents m content 
 
 -- the bytes of the value of a serial, if it is live
 abbrev pub value_bytes : Content → ℕ → Option (List ℕ)
-value_bytes content n = option_map (λ j. (key_value_at content j).1.bytes) (index_of_serial content n)
+value_bytes content n =
+    option_map (λ j. (key_value_at content j).1.bytes) (index_of_serial content n)
 
 -- bytes written into the value of a serial
 abbrev pub with_value : Live → ℕ → ℕ → ℕ → List ℕ → Live
-with_value l m n i bytes = with_content l m (put_value (content_at l m) (index_of_serial (content_at l m) n) i bytes)
+with_value l m n i bytes =
+    with_content l m (put_value (content_at l m) (index_of_serial (content_at l m) n) i bytes)
 
 -- the key has these bytes: its value keeps its serial, and that of a new key is given the next one
 abbrev pub with_bytes : Live → ℕ → List ℕ → List ℕ → Live
@@ -69,7 +71,10 @@ has_serial n (Some k) = k == n
 -- the value at a place
 abbrev pub stored : MapState → Serials → ℕ → Stored
 stored m serials place =
-    record { serial = unwrap_or (serial_in serials place) 0; bytes = row_at m.row.value_size m.block place }
+    record {
+      serial = unwrap_or (serial_in serials place) 0;
+      bytes = row_at m.row.value_size m.block place;
+    }
 
 -- a map's content
 abbrev pub live_content : MapState → Serials → Content
@@ -85,8 +90,10 @@ live_contents (m ∷ maps) (serials ∷ all) = live_content m serials ∷ live_c
 pub record HasSerials (next : ℕ) (m : MapState) (serials : Serials) : Type 0 where
   pub is_map : IsMap m
   pub long : length serials ≡ m.row.entries
-  pub given : (key : List ℕ) (p : ℕ) → get m.places key ≡ Some p → (n : ℕ) × (serial_in serials p ≡ Some n)
-  pub owned : (p n : ℕ) → serial_in serials p ≡ Some n → (n < next) × (key : List ℕ) × (get m.places key ≡ Some p)
+  pub given : (key : List ℕ) (p : ℕ) → get m.places key ≡ Some p
+      → (n : ℕ) × (serial_in serials p ≡ Some n)
+  pub owned : (p n : ℕ) → serial_in serials p ≡ Some n
+      → (n < next) × (key : List ℕ) × (get m.places key ≡ Some p)
   pub once : (p q n : ℕ) → serial_in serials p ≡ Some n → serial_in serials q ≡ Some n → p ≡ q
 
 pub record AreLive (next : ℕ) (maps : List MapState) (all : List Serials) : Type 0 where

@@ -11,24 +11,26 @@ use Rattle.live_maps.specs.Live.{Serials, serial_in, serials_at}
 abbrev pub place_in : List ℕ → ℕ → ℕ
 place_in places i = slice_index_or places i 0
 
--- no place beside those of a list has a serial
+-- no place outside a list has a serial
 abbrev pub OnlyThere : List ℕ → Serials → Type 0
 OnlyThere places serials = (p k : ℕ) → serial_in serials p ≡ Some k
     → (i : ℕ) × (i < length places) × (place_in places i ≡ p)
 
--- the first places of a list have the serials n, n + 1, .., and no place beside those of the list
+-- the first places of a list have the serials n, n + 1, .., and no place outside the list
 -- has one
 pub record NumbersFirst (n : ℕ) (places : List ℕ) (count : ℕ) (serials : Serials) : Type 0 where
   pub there : (i : ℕ) → i < count → serial_in serials (place_in places i) ≡ Some (n + i)
   pub only : OnlyThere places serials
 
--- all of them do
+-- all places of a list have these serials, and no place outside the list has one
 abbrev pub NumbersAll : ℕ → List ℕ → Serials → Type 0
 NumbersAll n places serials = NumbersFirst n places (length places) serials
 
 -- no place is twice in a list
 abbrev pub AreDistinct : List ℕ → Type 0
-AreDistinct places = (i j : ℕ) → i < length places → j < length places → place_in places i ≡ place_in places j → i ≡ j
+AreDistinct places =
+    (i j : ℕ) → i < length places → j < length places → place_in places i ≡ place_in places j
+    → i ≡ j
 
 -- ---- serials by what they are above a base, modulo 2^64
 
@@ -52,7 +54,8 @@ count_before maps m = count_values (contents_of (take m maps))
 pub record AreNumbered (maps : List MapState) (all : List Serials) : Type 0 where
   pub long : length all ≡ length maps
   pub rooms : (m : ℕ) → m < length maps → length (serials_at all m) ≡ (map_at maps m).row.entries
-  pub numbers : (m : ℕ) → m < length maps → NumbersAll (count_before maps m) (values (map_at maps m).places) (serials_at all m)
+  pub numbers : (m : ℕ) → m < length maps
+      → NumbersAll (count_before maps m) (values (map_at maps m).places) (serials_at all m)
 
 -- all maps are numbered from 0 on, and this is the count of their values
 pub record IsNumbered (count : ℕ) (maps : List MapState) (all : List Serials) : Type 0 where

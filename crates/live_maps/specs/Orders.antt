@@ -46,7 +46,7 @@ HaveOrders count maps orders = (m : ℕ) → m < count
     × ((order_at orders m).first ≡ None)
 
 -- there are few maps, and both lists by map have room for the maps and for no more; the serials are
--- those of living values, and each map has its order
+-- those of live values, and each map has its order
 abbrev pub AreLiveMaps : ℕ → ℕ → ℕ → List MapState → List Serials → List KeyOrder → Type 0
 AreLiveMaps serials_room orders_room next maps all orders =
     (length maps ≤ 2 ^ 16)

@@ -6,7 +6,7 @@ mod asked;
 pub mod live;
 mod numbering;
 mod orders;
-mod table;
-mod tables;
+mod place_serials;
+mod serials;
 
 pub use live::LiveMaps;

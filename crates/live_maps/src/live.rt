@@ -16,8 +16,8 @@ ghost use Rattle.live_maps.specs.Live.{serials_at, place_if_new, content_at, val
 use crate::asked;
 use crate::numbering::number_all;
 use crate::orders::{Order, orders_for};
-use crate::table::SerialTable;
-use crate::tables::{find_serial, give_serial, serial_at, tables_for, take_away};
+use crate::place_serials::PlaceSerials;
+use crate::serials::{find_serial, give_serial, serial_at, serials_for, take_away};
 use isa_model::MapDef;
 use maps::Maps;
 use std::alloc::{AllocError, Global};
@@ -30,7 +30,7 @@ use std::marker::Model;
 #[derive(Drop)]
 pub struct LiveMaps {
     maps: Maps,
-    serials: Vec<SerialTable>,
+    serials: Vec<PlaceSerials>,
     next: u64,
     // By map: the places of its keys, in the order of the keys.
     orders: Vec<Order>,
@@ -50,8 +50,8 @@ impl Model for LiveMaps {
       next_serial = l.next;
     } };
 
-    ghost invariant = { λ l. AreLiveMaps (vec_capacity l.serials) (vec_capacity l.orders) l.next l.maps
-        l.serials.items l.orders.items };
+    ghost invariant = { λ l. AreLiveMaps (vec_capacity l.serials) (vec_capacity l.orders) l.next
+        l.maps l.serials.items l.orders.items };
 }
 
 // The place of a key that had none before.
@@ -73,7 +73,7 @@ impl LiveMaps {
         ensures rows { IfOk result (λ l. l.rows ≡ rows_of maps) }
         ensures contents { IfOk result (λ l. map key_values_of l.contents ≡ contents_of maps) }
     {
-        let mut serials = tables_for(alloc, &maps)?;
+        let mut serials = serials_for(alloc, &maps)?;
         let mut orders = orders_for(alloc, &maps)?;
         let next = number_all(&maps, &mut serials, &mut orders);
         Ok(LiveMaps {
@@ -220,7 +220,7 @@ impl LiveMaps {
         self.next = count;
     }
 
-    /// Gives the maps back.
+    /// Returns the maps.
     pub fn into_maps(self) -> Maps
         ensures rows { rows_of result ≡ self.rows }
         ensures contents { contents_of result ≡ map key_values_of self.contents }

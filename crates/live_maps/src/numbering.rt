@@ -8,12 +8,12 @@ ghost use Rattle.live_maps.specs.Numbering.{IsNumbered, OnlyThere};
 ghost use Rattle.live_maps.specs.Orders.{AreOrders};
 
 use crate::orders::Order;
-use crate::table::SerialTable;
+use crate::place_serials::PlaceSerials;
 use maps::Maps;
 
-/// Numbers the values of all maps from 0 on, and answers how many there are. A map whose keys are
+/// Numbers the values of all maps from 0 on, and returns how many there are. A map whose keys are
 /// those of the last numbering costs one addition.
-pub fn number_all(maps: &Maps, all: &mut Vec<SerialTable>, orders: &mut Vec<Order>) -> u64
+pub fn number_all(maps: &Maps, all: &mut Vec<PlaceSerials>, orders: &mut Vec<Order>) -> u64
     requires few { length maps.now ≤ 2 ^ 16 }
     requires len { vec_len all.old ≡ length maps.now }
     requires rooms { (m : ℕ) → m < length maps.now

@@ -6,26 +6,26 @@ ghost use Rattle.maps.specs.Maps.{map_at};
 ghost use Rattle.live_maps.specs.Numbering.{AreDistinct, NumbersAll, OnlyThere};
 ghost use Rattle.live_maps.specs.Orders.{HaveOrders, NumbersFrom, places_without};
 
-use crate::table::SerialTable;
+use crate::place_serials::PlaceSerials;
 use maps::Maps;
 use std::alloc::{AllocError, Global};
 use std::marker::Model;
 
 // Numbers the values at some places from `to` on. Where they are numbered already, from another
 // serial on, their serials are moved.
-fn number_places(places: &[usize], table: &mut SerialTable, from: Option<u64>, to: u64)
-    requires within { All (λ p. p < length table.old) places.now }
+fn number_places(places: &[usize], serials: &mut PlaceSerials, from: Option<u64>, to: u64)
+    requires within { All (λ p. p < length serials.old) places.now }
     requires distinct { AreDistinct places.now }
-    requires only { OnlyThere places.now table.old }
+    requires only { OnlyThere places.now serials.old }
     requires few { to ≤ 2 ^ 32 }
     requires many { length places.now ≤ 2 ^ 32 }
-    requires numbered { IfSome from (NumbersFrom places.now table.old) }
-    ensures numbers { NumbersAll to places.now table.new }
-    ensures len { length table.new ≡ length table.old }
+    requires numbered { IfSome from (NumbersFrom places.now serials.old) }
+    ensures numbers { NumbersAll to places.now serials.new }
+    ensures len { length serials.new ≡ length serials.old }
 {
     match from {
-        Some(from) => table.shift(from, to),
-        None => table.number(places, to),
+        Some(from) => serials.shift(from, to),
+        None => serials.number(places, to),
     }
 }
 
@@ -66,7 +66,7 @@ impl Order {
         })
     }
 
-    /// Takes in the place of a key that has come.
+    /// Puts in the place of a key that was added.
     pub fn insert(&mut self, maps: &Maps, map: usize, key: &[u8], place: usize)
         requires map { map < length maps.now }
         requires place { get (map_at maps.now map).places key.now ≡ Some place }
@@ -80,7 +80,7 @@ impl Order {
         self.first = None;
     }
 
-    /// Leaves out the place of a key that has gone.
+    /// Takes out the place of a key that was removed.
     pub fn remove(&mut self, place: usize)
         ensures places { self.new.places ≡ places_without place self.old.places }
         ensures room { self.new.room ≡ self.old.room }
@@ -90,21 +90,21 @@ impl Order {
         self.first = None;
     }
 
-    /// Numbers the values at these places from `first` on, and answers how many they are. Where
+    /// Numbers the values at these places from `first` on, and returns how many they are. Where
     /// they are numbered already, that costs one addition.
-    pub fn number(&mut self, table: &mut SerialTable, first: u64) -> u64
-        requires within { All (λ p. p < length table.old) self.old.places }
+    pub fn number(&mut self, serials: &mut PlaceSerials, first: u64) -> u64
+        requires within { All (λ p. p < length serials.old) self.old.places }
         requires distinct { AreDistinct self.old.places }
-        requires only { OnlyThere self.old.places table.old }
+        requires only { OnlyThere self.old.places serials.old }
         requires few { first ≤ 2 ^ 32 }
         requires many { length self.old.places ≤ 2 ^ 32 }
-        requires numbered { IfSome self.old.first (NumbersFrom self.old.places table.old) }
+        requires numbered { IfSome self.old.first (NumbersFrom self.old.places serials.old) }
         ensures count { result ≡ length self.old.places }
-        ensures numbers { NumbersAll first self.old.places table.new }
-        ensures len { length table.new ≡ length table.old }
+        ensures numbers { NumbersAll first self.old.places serials.new }
+        ensures len { length serials.new ≡ length serials.old }
         ensures known { self.new ≡ record self.old { first = Some first } }
     {
-        number_places(self.places.as_slice(), table, self.first, first);
+        number_places(self.places.as_slice(), serials, self.first, first);
         self.first = Some(first);
         self.places.len() as u64
     }

@@ -12,17 +12,19 @@ use Rattle.isa_model.specs.Code.Numbers.{alu, signed, unsigned}
 use Rattle.isa_model.specs.Machine.MachineStates.{IsOffset, IsRegion}
 use Rattle.machine.specs.Related.{Layout, IsLayout, region_start, moved, word}
 
--- what an address is, where it cannot go below 0
+-- an address as an integer, where it cannot be below 0
 pub moved_is : (s : ℕ) (z : ℤ) → 4294967296 ≤ s → IsOffset z → pos (moved s z) ≡ pos s +ℤ z
 moved_is s (pos n) h l = refl
 moved_is s (negsuc n) h l = omega (arith, ints)
 
-pub moved_far : (s : ℕ) (z : ℤ) → 4294967296 ≤ s → s < 1099511627776 → IsOffset z → (2147483648 ≤ moved s z) × (moved s z < 2199023255552)
+pub moved_far : (s : ℕ) (z : ℤ) → 4294967296 ≤ s → s < 1099511627776 → IsOffset z
+    → (2147483648 ≤ moved s z) × (moved s z < 2199023255552)
 moved_far s (pos n) h g l = (omega (arith, ints), omega (arith, ints))
 moved_far s (negsuc n) h g l = (omega (arith, ints), omega (arith, ints))
 
--- a number added as the processor does is added as a signed one
-pub add_moved : (s n : ℕ) (z : ℤ) → 4294967296 ≤ s → s < 1099511627776 → n < 2 ^ 64 → IsOffset z → IsOffset (z +ℤ signed Full64 n)
+-- adding a number as the processor does is adding it as a signed number
+pub add_moved : (s n : ℕ) (z : ℤ) → 4294967296 ≤ s → s < 1099511627776 → n < 2 ^ 64 → IsOffset z
+    → IsOffset (z +ℤ signed Full64 n)
     → alu Add Full64 (moved s z) n ≡ moved s (z +ℤ signed Full64 n)
 unfolding alu
 add_moved s n z h g fits l m =
@@ -31,11 +33,15 @@ add_moved s n z h g fits l m =
     let (lo, hi) = moved_far s z h g l in
     let (lo2, hi2) = moved_far s (z +ℤ signed Full64 n) h g m in
     elim (cases_lt n (2 ^ 63)) [
-      | inl lt ↦ let t : cast_signed w64 n ≡ pos n = rw (lt-ltb n (2 ^ 63) lt) refl in omega (arith, ints)
-      | inr ge ↦ let t : pos (2 ^ 64) +ℤ cast_signed w64 n ≡ pos n = rw (le-ltb n (2 ^ 63) ge) (omega (arith, ints)) in omega (arith, ints)
+      | inl lt ↦
+          let t : cast_signed w64 n ≡ pos n = rw (lt-ltb n (2 ^ 63) lt) refl in omega (arith, ints)
+      | inr ge ↦
+          let t : pos (2 ^ 64) +ℤ cast_signed w64 n ≡ pos n =
+          rw (le-ltb n (2 ^ 63) ge) (omega (arith, ints)) in omega (arith, ints)
     ]
 
-pub sub_moved : (s n : ℕ) (z : ℤ) → 4294967296 ≤ s → s < 1099511627776 → n < 2 ^ 64 → IsOffset z → IsOffset (z -ℤ signed Full64 n)
+pub sub_moved : (s n : ℕ) (z : ℤ) → 4294967296 ≤ s → s < 1099511627776 → n < 2 ^ 64 → IsOffset z
+    → IsOffset (z -ℤ signed Full64 n)
     → alu Sub Full64 (moved s z) n ≡ moved s (z -ℤ signed Full64 n)
 unfolding alu
 sub_moved s n z h g fits l m =
@@ -44,8 +50,11 @@ sub_moved s n z h g fits l m =
     let (lo, hi) = moved_far s z h g l in
     let (lo2, hi2) = moved_far s (z -ℤ signed Full64 n) h g m in
     elim (cases_lt n (2 ^ 63)) [
-      | inl lt ↦ let t : cast_signed w64 n ≡ pos n = rw (lt-ltb n (2 ^ 63) lt) refl in omega (arith, ints)
-      | inr ge ↦ let t : pos (2 ^ 64) +ℤ cast_signed w64 n ≡ pos n = rw (le-ltb n (2 ^ 63) ge) (omega (arith, ints)) in omega (arith, ints)
+      | inl lt ↦
+          let t : cast_signed w64 n ≡ pos n = rw (lt-ltb n (2 ^ 63) lt) refl in omega (arith, ints)
+      | inr ge ↦
+          let t : pos (2 ^ 64) +ℤ cast_signed w64 n ≡ pos n =
+          rw (le-ltb n (2 ^ 63) ge) (omega (arith, ints)) in omega (arith, ints)
     ]
 
 pub alu_add_swap : (a b : ℕ) → alu Add Full64 a b ≡ alu Add Full64 b a
@@ -68,7 +77,8 @@ start_far a rows next (region.CallFrame n) good h =
     let l = good.shallow n in (omega arith, omega arith)
 
 -- the word of a pointer in any region but the packet end
-pub word_plain : (a : Layout) (r : Region) (z : ℤ) → (r ≡ region.PacketEnd → ⊥) → word a r z ≡ moved (region_start a r) z
+pub word_plain : (a : Layout) (r : Region) (z : ℤ) → (r ≡ region.PacketEnd → ⊥)
+    → word a r z ≡ moved (region_start a r) z
 word_plain a region.Context z h = refl
 word_plain a region.Packet z h = refl
 word_plain a region.PacketEnd z h = absurd (h refl)
@@ -76,7 +86,8 @@ word_plain a (region.Map m) z h = refl
 word_plain a (region.MapValue m n) z h = refl
 word_plain a (region.CallFrame n) z h = refl
 
-pub word_far : (a : Layout) (r : Region) (z : ℤ) → 4294967296 ≤ region_start a r → region_start a r < 1099511627776 → IsOffset z
+pub word_far : (a : Layout) (r : Region) (z : ℤ) → 4294967296 ≤ region_start a r
+    → region_start a r < 1099511627776 → IsOffset z
     → (2147483648 ≤ word a r z) × (word a r z < 2199023255552)
 word_far a region.Context z h g l = moved_far (region_start a region.Context) z h g l
 word_far a region.Packet z h g l = moved_far (region_start a region.Packet) z h g l
@@ -86,8 +97,11 @@ word_far a (region.MapValue m n) z h g l = moved_far (region_start a (region.Map
 word_far a (region.CallFrame n) z h g l = moved_far (region_start a (region.CallFrame n)) z h g l
 
 -- an offset that is a little over its limit
-pub add_near : (s : ℕ) (z by : ℤ) → 4294967296 ≤ s → s < 1099511627776 → IsOffset z → FitsSigned w16 by
+pub add_near : (s : ℕ) (z by : ℤ) → 4294967296 ≤ s → s < 1099511627776 → IsOffset z
+    → FitsSigned w16 by
     → pos (alu Add Full64 (moved s z) (unsigned Full64 by)) ≡ pos s +ℤ (z +ℤ by)
 unfolding alu
-add_near s z (pos n) h g l f = let e = moved_is s z h l in let (lo, hi) = moved_far s z h g l in omega (arith, ints)
-add_near s z (negsuc n) h g l f = let e = moved_is s z h l in let (lo, hi) = moved_far s z h g l in omega (arith, ints)
+add_near s z (pos n) h g l f =
+    let e = moved_is s z h l in let (lo, hi) = moved_far s z h g l in omega (arith, ints)
+add_near s z (negsuc n) h g l f =
+    let e = moved_is s z h l in let (lo, hi) = moved_far s z h g l in omega (arith, ints)

@@ -22,37 +22,44 @@ use Rattle.machine.proofs.StartingLaws.{start_layout, start_related}
 use Rattle.machine.proofs.LiveValues.{contents_are}
 use Rattle.machine.specs.Answering.{AnswersAsModel, IsStart}
 
-changed-twice : {X Y Z : Type 0} (g : Y → Z) (f : X → Y) (es : List (List ℕ × X)) → changed g (changed f es) ≡ changed (λ x. g (f x)) es
+changed-twice : {X Y Z : Type 0} (g : Y → Z) (f : X → Y) (es : List (List ℕ × X))
+    → changed g (changed f es) ≡ changed (λ x. g (f x)) es
 changed-twice g f [] = refl
 changed-twice g f (e ∷ es) = λ i. (e.0, g (f e.1)) ∷ changed-twice g f es i
 
 abbrev value_in : (ℕ × List ℕ) → List ℕ
 value_in x = x.1
 
--- what a map shows has its content
-pub content_same : (a : Layout) (m : ℕ) (content : Content) (state : MapState) → RepresentsMap a m content state → key_values_of content ≡ content_in state
+-- a map that represents a content has its keys and values
+pub content_same : (a : Layout) (m : ℕ) (content : Content) (state : MapState)
+    → RepresentsMap a m content state → key_values_of content ≡ content_in state
 content_same a m content state shown =
     sym (changed-twice value_in (by_serial a m) content) ∙ ap (changed value_in) shown.same
     ∙ changed-twice value_in (by_place state.row.value_size state.block) (entries state.places)
 
 same_each : (contents : List Content) (states : List MapState) → length contents ≡ length states
-    → ((m : ℕ) → m < length states → key_values_of (slice_index_or contents m []) ≡ content_in (map_at states m))
+    → ((m : ℕ) → m < length states
+    → key_values_of (slice_index_or contents m []) ≡ content_in (map_at states m))
     → map key_values_of contents ≡ contents_of states
 same_each [] [] e h = refl
 same_each [] (t ∷ states) e h = absurd (omega arith)
 same_each (c ∷ contents) [] e h = absurd (omega arith)
 same_each (c ∷ contents) (t ∷ states) e h =
-    λ i. h 0 (omega arith) i ∷ same_each contents states (omega arith) (λ m l. h (suc m) (omega arith)) i
+    λ i. h 0 (omega arith) i
+    ∷ same_each contents states (omega arith) (λ m l. h (suc m) (omega arith)) i
 
 -- related words have the contents of the state
-pub contents_same : (p : Program) (a : Layout) (s : State) (w : Words) → Related p a s w → IsState p s → map key_values_of s.maps ≡ contents_of w.maps
+pub contents_same : (p : Program) (a : Layout) (s : State) (w : Words) → Related p a s w
+    → IsState p s → map key_values_of s.maps ≡ contents_of w.maps
 contents_same p a s w R K =
     let rows = sym (length-rows_of w.maps) ∙ ap length R.maps.rows in
     let many = contents_are p s K in
     same_each s.maps w.maps (omega arith)
-    (λ m l. content_same a m (slice_index_or s.maps m []) (map_at w.maps m) (R.maps.maps m (omega arith)))
+    (λ m l. content_same a m (slice_index_or s.maps m []) (map_at w.maps m)
+    (R.maps.maps m (omega arith)))
 
-module _ (p : Program) (clock : ℕ → ℕ) (n : ℕ) (head : FrameHead) (packet frames : List ℕ) (maps : List MapState) (h : IsStart p clock n head packet frames maps) where
+module _ (p : Program) (clock : ℕ → ℕ) (n : ℕ) (head : FrameHead) (packet frames : List ℕ)
+    (maps : List MapState) (h : IsStart p clock n head packet frames maps) where
   abbrev first : State
   first = start_state head packet (contents_of maps)
 
@@ -68,13 +75,17 @@ module _ (p : Program) (clock : ℕ → ℕ) (n : ℕ) (head : FrameHead) (packe
 
   -- the run of words ends within n moves
   pub start_Ends : EndsSafely p clock (start_of head packet frames maps) n
-  start_Ends = related_Ends p clock h.program h.answers n (start_layout packet maps) first (start_of head packet frames maps) related is_state in_time
+  start_Ends =
+      related_Ends p clock h.program h.answers n (start_layout packet maps) first
+      (start_of head packet frames maps) related is_state in_time
 
-  -- and what it comes to is the outcome
-  pub start_Answers : (number steps : ℕ) (v : Words) → Exits p clock (start_of head packet frames maps) number steps v
+  -- and what it leaves is the outcome
+  pub start_Answers : (number steps : ℕ) (v : Words)
+      → Exits p clock (start_of head packet frames maps) number steps v
       → AnswersAsModel p clock n head packet maps number steps v
   start_Answers number steps v e =
-      let F = related_Exits p clock h.program h.answers n (start_layout packet maps) first (start_of head packet frames maps) v number steps related is_state in_time e in
+      let F = related_Exits p clock h.program h.answers n (start_layout packet maps) first
+      (start_of head packet frames maps) v number steps related is_state in_time e in
       let last : State = F.follows.state in
       record {
         outcome = record {

@@ -22,7 +22,8 @@ use Rattle.machine.specs.Related.{Layout, Represents, RepresentsCells, Represent
 use Rattle.machine.proofs.Extending.{ExtendsLayout, put_at-there, with_depth, ExtendsLayout-with_depth, IsLayout-with_depth, register_old, frame_old, saved_old, maps_old}
 
 -- an element of a list with one more at its end
-get_push : {X : Type 0} (xs : List X) (x d : X) (k : ℕ) → k < length xs → slice_index_or (xs ++ x ∷ []) k d ≡ slice_index_or xs k d
+get_push : {X : Type 0} (xs : List X) (x d : X) (k : ℕ) → k < length xs
+    → slice_index_or (xs ++ x ∷ []) k d ≡ slice_index_or xs k d
 get_push [] x d k h = absurd (omega arith)
 get_push (y ∷ xs) x d zero h = refl
 get_push (y ∷ xs) x d (suc k) h = get_push xs x d k (omega arith)
@@ -31,14 +32,16 @@ get_last : {X : Type 0} (xs : List X) (x d : X) → slice_index_or (xs ++ x ∷ 
 get_last [] x d = refl
 get_last (y ∷ xs) x d = get_last xs x d
 
-pub cells_unset : (a : Layout) (bs : List ℕ) (n : ℕ) → length bs ≡ n → RepresentsCells a (replicate n Unwritten) bs
+pub cells_unset : (a : Layout) (bs : List ℕ) (n : ℕ) → length bs ≡ n
+    → RepresentsCells a (replicate n Unwritten) bs
 cells_unset a [] zero e = tt
 cells_unset a [] (suc n) e = absurd (omega arith)
 cells_unset a (b ∷ bs) zero e = absurd (omega arith)
 cells_unset a (b ∷ bs) (suc n) e = (tt, cells_unset a bs n (omega arith))
 
--- a fact of each index, by the eleven registers and the rest
-pub by_register : (P : ℕ → Type 0) → P 0 → P 1 → P 2 → P 3 → P 4 → P 5 → P 6 → P 7 → P 8 → P 9 → P 10 → ((k : ℕ) → 11 ≤ k → P k) → (k : ℕ) → P k
+-- a fact about each index: of the eleven registers, and of all others
+pub by_register : (P : ℕ → Type 0) → P 0 → P 1 → P 2 → P 3 → P 4 → P 5 → P 6 → P 7 → P 8 → P 9
+    → P 10 → ((k : ℕ) → 11 ≤ k → P k) → (k : ℕ) → P k
 by_register P a b c d e f g h i j l more k = elim (cases_lt k 11) [
   | inl lt ↦ below k lt
   | inr ge ↦ more k ge
@@ -56,13 +59,17 @@ by_register P a b c d e f g h i j l more k = elim (cases_lt k 11) [
     below (suc (suc (suc (suc (suc (suc (suc (suc zero)))))))) lt = i
     below (suc (suc (suc (suc (suc (suc (suc (suc (suc zero))))))))) lt = j
     below (suc (suc (suc (suc (suc (suc (suc (suc (suc (suc zero)))))))))) lt = l
-    below (suc (suc (suc (suc (suc (suc (suc (suc (suc (suc (suc k))))))))))) lt = absurd (omega arith)
+    below (suc (suc (suc (suc (suc (suc (suc (suc (suc (suc (suc k))))))))))) lt =
+        absurd (omega arith)
 
--- what a caller's registers come back as
-back_low : (regs kept : List ℕ) (top k : ℕ) → k < 6 → slice_index (regs_back regs kept top) k ≡ slice_index regs k
+-- the registers after the exit of an inner call frame
+back_low : (regs kept : List ℕ) (top k : ℕ) → k < 6
+    → slice_index (regs_back regs kept top) k ≡ slice_index regs k
 back_low regs kept top k h =
-    get_or-set_other _ 10 k top 0 (λ e. omega arith) ∙ get_or-set_other _ 9 k _ 0 (λ e. omega arith) ∙ get_or-set_other _ 8 k _ 0 (λ e. omega arith)
-    ∙ get_or-set_other _ 7 k _ 0 (λ e. omega arith) ∙ get_or-set_other regs 6 k _ 0 (λ e. omega arith)
+    get_or-set_other _ 10 k top 0 (λ e. omega arith) ∙ get_or-set_other _ 9 k _ 0 (λ e. omega arith)
+    ∙ get_or-set_other _ 8 k _ 0 (λ e. omega arith)
+    ∙ get_or-set_other _ 7 k _ 0 (λ e. omega arith)
+    ∙ get_or-set_other regs 6 k _ 0 (λ e. omega arith)
 
 module _ (regs kept : List ℕ) (top : ℕ) (long : length regs ≡ 11) where
   abbrev R6 : List ℕ
@@ -93,23 +100,32 @@ module _ (regs kept : List ℕ) (top : ℕ) (long : length regs ≡ 11) where
   l10 = length-set R9 10 top ∙ l9
 
   back_6 : slice_index (regs_back regs kept top) 6 ≡ slice_index kept 0
-  back_6 = get_or-set_other R9 10 6 top 0 (λ e. omega arith) ∙ get_or-set_other R8 9 6 _ 0 (λ e. omega arith) ∙ get_or-set_other R7 8 6 _ 0 (λ e. omega arith)
-      ∙ get_or-set_other R6 7 6 _ 0 (λ e. omega arith) ∙ get_or-set_same regs 6 _ 0 (omega (arith, long))
+  back_6 = get_or-set_other R9 10 6 top 0 (λ e. omega arith)
+      ∙ get_or-set_other R8 9 6 _ 0 (λ e. omega arith)
+      ∙ get_or-set_other R7 8 6 _ 0 (λ e. omega arith)
+      ∙ get_or-set_other R6 7 6 _ 0 (λ e. omega arith)
+      ∙ get_or-set_same regs 6 _ 0 (omega (arith, long))
 
   back_7 : slice_index (regs_back regs kept top) 7 ≡ slice_index kept 1
-  back_7 = get_or-set_other R9 10 7 top 0 (λ e. omega arith) ∙ get_or-set_other R8 9 7 _ 0 (λ e. omega arith) ∙ get_or-set_other R7 8 7 _ 0 (λ e. omega arith)
+  back_7 = get_or-set_other R9 10 7 top 0 (λ e. omega arith)
+      ∙ get_or-set_other R8 9 7 _ 0 (λ e. omega arith)
+      ∙ get_or-set_other R7 8 7 _ 0 (λ e. omega arith)
       ∙ get_or-set_same R6 7 _ 0 (omega (arith, l6))
 
   back_8 : slice_index (regs_back regs kept top) 8 ≡ slice_index kept 2
-  back_8 = get_or-set_other R9 10 8 top 0 (λ e. omega arith) ∙ get_or-set_other R8 9 8 _ 0 (λ e. omega arith) ∙ get_or-set_same R7 8 _ 0 (omega (arith, l7))
+  back_8 = get_or-set_other R9 10 8 top 0 (λ e. omega arith)
+      ∙ get_or-set_other R8 9 8 _ 0 (λ e. omega arith)
+      ∙ get_or-set_same R7 8 _ 0 (omega (arith, l7))
 
   back_9 : slice_index (regs_back regs kept top) 9 ≡ slice_index kept 3
-  back_9 = get_or-set_other R9 10 9 top 0 (λ e. omega arith) ∙ get_or-set_same R8 9 _ 0 (omega (arith, l8))
+  back_9 = get_or-set_other R9 10 9 top 0 (λ e. omega arith)
+      ∙ get_or-set_same R8 9 _ 0 (omega (arith, l8))
 
   back_10 : slice_index (regs_back regs kept top) 10 ≡ top
   back_10 = get_or-set_same R9 10 top 0 (omega (arith, l9))
 
-module _ (p : Program) (a : Layout) (s : State) (w : Words) (R : Related p a s w) (K : IsState p s) where
+module _ (p : Program) (a : Layout) (s : State) (w : Words) (R : Related p a s w)
+    (K : IsState p s) where
   -- ---- a call frame pushed
 
   abbrev n : ℕ
@@ -143,23 +159,33 @@ module _ (p : Program) (a : Layout) (s : State) (w : Words) (R : Related p a s w
   registers_within : RepresentsRegisters b (regs_within s.regs next) (slice_set w.regs 10 top)
   registers_within =
       let count = R.registers.count in
-      let same : (k : ℕ) → k < 10 → Represents b (value_at s.regs k) (slice_index (slice_set w.regs 10 top) k) =
-      (λ k h. subst (Represents b (value_at s.regs k)) (sym (get_or-set_other w.regs 10 k top 0 (λ e. omega arith))) (old_register k)) in
-      let ten : slice_index (slice_set w.regs 10 top) 10 ≡ top = get_or-set_same w.regs 10 top 0 (omega arith) in
+      let same : (k : ℕ) → k < 10
+      → Represents b (value_at s.regs k) (slice_index (slice_set w.regs 10 top) k) =
+      (λ k h. subst (Represents b (value_at s.regs k))
+      (sym (get_or-set_other w.regs 10 k top 0 (λ e. omega arith))) (old_register k)) in
+      let ten : slice_index (slice_set w.regs 10 top) 10 ≡ top =
+      get_or-set_same w.regs 10 top 0 (omega arith) in
       let deep : n ≡ length w.saved + 1 = R.frames.depth in
-      let P : ℕ → Type 0 = (λ k. Represents b (value_at (regs_within s.regs next) k) (slice_index (slice_set w.regs 10 top) k)) in
+      let P : ℕ → Type 0 = (λ k. Represents b (value_at (regs_within s.regs next) k)
+      (slice_index (slice_set w.regs 10 top) k)) in
       record {
         count = length-set w.regs 10 top ∙ R.registers.count;
-        shown = by_register P tt (same 1 (omega arith)) (same 2 (omega arith)) (same 3 (omega arith)) (same 4 (omega arith)) (same 5 (omega arith)) tt tt tt tt
-            (ten ∙ ap frame_end (sym deep ∙ sym (put_at-there next n a.depth)) ∙ sym (add-zero (frame_end (b.depth next))))
-            (λ k h. subst (λ v. Represents b v (slice_index (slice_set w.regs 10 top) k)) (sym (get_or_past (regs_within s.regs next) k Unset h)) tt);
+        shown =
+            by_register P tt (same 1 (omega arith)) (same 2 (omega arith)) (same 3 (omega arith))
+            (same 4 (omega arith)) (same 5 (omega arith)) tt tt tt tt
+            (ten ∙ ap frame_end (sym deep ∙ sym (put_at-there next n a.depth))
+            ∙ sym (add-zero (frame_end (b.depth next))))
+            (λ k h. subst (λ v. Represents b v (slice_index (slice_set w.regs 10 top) k))
+            (sym (get_or_past (regs_within s.regs next) k Unset h)) tt);
       }
 
-  frame_new : n < max_call_frames → (k : ℕ) → k < length (s.frames ++ f ∷ []) → RepresentsFrame b (frame_at (s.frames ++ f ∷ []) k) k w.frames
+  frame_new : n < max_call_frames → (k : ℕ) → k < length (s.frames ++ f ∷ [])
+      → RepresentsFrame b (frame_at (s.frames ++ f ∷ []) k) k w.frames
   unfolding new_frame
   frame_new room k h = elim (cases_lt k n) [
     | inl lt ↦
-        subst (λ f. RepresentsFrame b f k w.frames) (sym (get_push s.frames f (new_frame 0 0 []) k lt))
+        subst (λ f. RepresentsFrame b f k w.frames)
+        (sym (get_push s.frames f (new_frame 0 0 []) k lt))
         (frame_old p s K a b E k w.frames lt (R.frames.frames k lt))
     | inr ge ↦
         let long = length-append s.frames (f ∷ []) in
@@ -169,7 +195,9 @@ module _ (p : Program) (a : Layout) (s : State) (w : Words) (R : Related p a s w
         (subst (λ f. RepresentsFrame b f n w.frames) (sym (get_last s.frames f (new_frame 0 0 [])))
         (record {
           depth = put_at-there next n a.depth;
-          cells = cells_unset b (bytes_at w.frames (n * frame_size) frame_size) frame_size (length-bytes_at w.frames (n * frame_size) frame_size (omega arith));
+          cells =
+              cells_unset b (bytes_at w.frames (n * frame_size) frame_size) frame_size
+              (length-bytes_at w.frames (n * frame_size) frame_size (omega arith));
         }))
   ]
 
@@ -181,32 +209,43 @@ module _ (p : Program) (a : Layout) (s : State) (w : Words) (R : Related p a s w
   kept_new (suc (suc (suc zero))) = old_register 9
   kept_new (suc (suc (suc (suc j)))) = tt
 
-  saved_new : (k : ℕ) → k < length (w.saved ++ c ∷ []) → RepresentsSaved b (frame_at (s.frames ++ f ∷ []) (k + 1)) (saved_at (w.saved ++ c ∷ []) k)
+  saved_new : (k : ℕ) → k < length (w.saved ++ c ∷ [])
+      → RepresentsSaved b (frame_at (s.frames ++ f ∷ []) (k + 1)) (saved_at (w.saved ++ c ∷ []) k)
   unfolding new_frame
   saved_new k h = elim (cases_lt k (length w.saved)) [
     | inl lt ↦
         let deep = R.frames.depth in
-        subst (λ f. RepresentsSaved b f (saved_at (w.saved ++ c ∷ []) k)) (sym (get_push s.frames f (new_frame 0 0 []) (k + 1) (omega arith)))
-        (subst (RepresentsSaved b (frame_at s.frames (k + 1))) (sym (get_push w.saved c (record { back = 0; kept = [] }) k lt))
+        subst (λ f. RepresentsSaved b f (saved_at (w.saved ++ c ∷ []) k))
+        (sym (get_push s.frames f (new_frame 0 0 []) (k + 1) (omega arith)))
+        (subst (RepresentsSaved b (frame_at s.frames (k + 1)))
+        (sym (get_push w.saved c (record { back = 0; kept = [] }) k lt))
         (saved_old p s K a b E (k + 1) (saved_at w.saved k) (omega arith) (R.frames.saved k lt)))
     | inr ge ↦
         let deep = R.frames.depth in
         let long = length-append w.saved (c ∷ []) in
         let e : length w.saved ≡ k = omega arith in
         let g : n ≡ k + 1 = omega arith in
-        subst (λ m. RepresentsSaved b (frame_at (s.frames ++ f ∷ []) m) (saved_at (w.saved ++ c ∷ []) k)) g
-        (subst (λ f. RepresentsSaved b f (saved_at (w.saved ++ c ∷ []) k)) (sym (get_last s.frames f (new_frame 0 0 [])))
+        subst (λ m. RepresentsSaved b (frame_at (s.frames ++ f ∷ []) m)
+        (saved_at (w.saved ++ c ∷ []) k)) g
+        (subst (λ f. RepresentsSaved b f (saved_at (w.saved ++ c ∷ []) k))
+        (sym (get_last s.frames f (new_frame 0 0 [])))
         (subst (λ m. RepresentsSaved b f (saved_at (w.saved ++ c ∷ []) m)) e
         (subst (RepresentsSaved b f) (sym (get_last w.saved c (record { back = 0; kept = [] })))
         (record { back = ap (λ n. n + 1) R.slot; kept = kept_new }))))
   ]
 
-  frames_within : n < max_call_frames → RepresentsFrames b (s.frames ++ f ∷ []) w.frames (w.saved ++ c ∷ [])
+  frames_within : n < max_call_frames
+      → RepresentsFrames b (s.frames ++ f ∷ []) w.frames (w.saved ++ c ∷ [])
   frames_within room =
       let deep = R.frames.depth in
       let long = length-append s.frames (f ∷ []) in
       let more = length-append w.saved (c ∷ []) in
-      record { whole = R.frames.whole; depth = omega arith; frames = frame_new room; saved = saved_new }
+      record {
+        whole = R.frames.whole;
+        depth = omega arith;
+        frames = frame_new room;
+        saved = saved_new;
+      }
 
   pub enter_related : (to : ℕ) → n < max_call_frames → Related p b (enter s to) (word_enter w to)
   enter_related to room = record {
@@ -234,13 +273,23 @@ module _ (p : Program) (a : Layout) (s : State) (w : Words) (R : Related p a s w
       let few = length-take-le m s.frames (omega arith) in
       let less = length-take-le n w.saved (omega arith) in
       let last : n + 1 ≡ m = omega arith in
-      let was : RepresentsSaved a (innermost s.frames) c = subst (λ k. RepresentsSaved a (frame_at s.frames k) c) last (R.frames.saved n (omega arith)) in
-      let frame : (k : ℕ) → k < m → frame_at (callers s.frames) k ≡ frame_at s.frames k = (λ k h. get_or-take m s.frames k (new_frame 0 0 []) h) in
+      let was : RepresentsSaved a (innermost s.frames) c =
+      subst (λ k. RepresentsSaved a (frame_at s.frames k) c) last
+      (R.frames.saved n (omega arith)) in
+      let frame : (k : ℕ) → k < m → frame_at (callers s.frames) k ≡ frame_at s.frames k =
+      (λ k h. get_or-take m s.frames k (new_frame 0 0 []) h) in
       let caller : innermost (callers s.frames) ≡ frame_at s.frames n =
-      ap (λ k. frame_at (callers s.frames) (k - 1)) few ∙ ap (frame_at (callers s.frames)) (let e : m - 1 ≡ n = omega arith in e) ∙ frame n (omega arith) in
-      let under : a.depth (innermost (callers s.frames)).serial ≡ n = ap (λ f. a.depth f.serial) caller ∙ (R.frames.frames n (omega arith)).depth in
-      let P : ℕ → Type 0 = (λ k. Represents a (value_at (regs_after (reg s R0) (innermost s.frames).saved (innermost (callers s.frames)).serial) k) (slice_index (regs_back w.regs c.kept top) k)) in
-      let show : (v : Value) (x y : ℕ) → x ≡ y → Represents a v y → Represents a v x = (λ v x y e h. subst (Represents a v) (sym e) h) in
+      ap (λ k. frame_at (callers s.frames) (k - 1)) few
+      ∙ ap (frame_at (callers s.frames)) (let e : m - 1 ≡ n = omega arith in e)
+      ∙ frame n (omega arith) in
+      let under : a.depth (innermost (callers s.frames)).serial ≡ n =
+      ap (λ f. a.depth f.serial) caller ∙ (R.frames.frames n (omega arith)).depth in
+      let P : ℕ → Type 0 = (λ k. Represents a
+      (value_at (regs_after (reg s R0) (innermost s.frames).saved
+      (innermost (callers s.frames)).serial) k)
+      (slice_index (regs_back w.regs c.kept top) k)) in
+      let show : (v : Value) (x y : ℕ) → x ≡ y → Represents a v y → Represents a v x =
+      (λ v x y e h. subst (Represents a v) (sym e) h) in
       let old = (innermost s.frames).saved in
       let count = R.registers.count in
       record {
@@ -248,21 +297,33 @@ module _ (p : Program) (a : Layout) (s : State) (w : Words) (R : Related p a s w
         layout = R.layout;
         registers = record {
           count = l10 w.regs c.kept top count;
-          shown = by_register P (show (reg s R0) _ _ (back_low w.regs c.kept top 0 (omega arith)) (R.registers.shown 0)) tt tt tt tt tt
+          shown =
+              by_register P
+              (show (reg s R0) _ _ (back_low w.regs c.kept top 0 (omega arith))
+              (R.registers.shown 0)) tt tt tt tt tt
               (show (value_at old 0) _ _ (back_6 w.regs c.kept top count) (was.kept 0))
               (show (value_at old 1) _ _ (back_7 w.regs c.kept top count) (was.kept 1))
               (show (value_at old 2) _ _ (back_8 w.regs c.kept top count) (was.kept 2))
               (show (value_at old 3) _ _ (back_9 w.regs c.kept top count) (was.kept 3))
-              (back_10 w.regs c.kept top count ∙ ap frame_end (sym under) ∙ sym (add-zero (frame_end (a.depth (innermost (callers s.frames)).serial))))
+              (back_10 w.regs c.kept top count ∙ ap frame_end (sym under)
+              ∙ sym (add-zero (frame_end (a.depth (innermost (callers s.frames)).serial))))
               (λ k h. subst (λ v. Represents a v (slice_index (regs_back w.regs c.kept top) k))
-              (sym (get_or_past (regs_after (reg s R0) (innermost s.frames).saved (innermost (callers s.frames)).serial) k Unset h)) tt);
+              (sym (get_or_past
+              (regs_after (reg s R0) (innermost s.frames).saved
+              (innermost (callers s.frames)).serial) k Unset h)) tt);
         };
         frames = record {
           whole = R.frames.whole;
           depth = omega arith;
-          frames = λ k h. subst (λ f. RepresentsFrame a f k w.frames) (sym (frame k (omega arith))) (R.frames.frames k (omega arith));
-          saved = λ k h. subst (λ f. RepresentsSaved a f (saved_at (take n w.saved) k)) (sym (frame (k + 1) (omega arith)))
-              (subst (RepresentsSaved a (frame_at s.frames (k + 1))) (sym (get_or-take n w.saved k (record { back = 0; kept = [] }) (omega arith))) (R.frames.saved k (omega arith)));
+          frames =
+              λ k h. subst (λ f. RepresentsFrame a f k w.frames) (sym (frame k (omega arith)))
+              (R.frames.frames k (omega arith));
+          saved =
+              λ k h. subst (λ f. RepresentsSaved a f (saved_at (take n w.saved) k))
+              (sym (frame (k + 1) (omega arith)))
+              (subst (RepresentsSaved a (frame_at s.frames (k + 1)))
+              (sym (get_or-take n w.saved k (record { back = 0; kept = [] }) (omega arith)))
+              (R.frames.saved k (omega arith)));
         };
         packet = R.packet;
         end = R.end;

@@ -40,27 +40,31 @@ int_same (negsuc m) (negsuc n) e = ap negsuc (grind (arith, nat_tests))
 int_same z y e = absurd (cc)
 
 module _ (a : Layout) where
-  pub shows-take : (n : ℕ) (cs : List Cell) (bs : List ℕ) → RepresentsCells a cs bs → RepresentsCells a (take n cs) (take n bs)
+  pub shows-take : (n : ℕ) (cs : List Cell) (bs : List ℕ) → RepresentsCells a cs bs
+      → RepresentsCells a (take n cs) (take n bs)
   shows-take zero cs bs s = tt
   shows-take (suc n) [] [] s = tt
   shows-take (suc n) [] (b ∷ bs) s = absurd s
   shows-take (suc n) (c ∷ cs) [] s = absurd s
   shows-take (suc n) (c ∷ cs) (b ∷ bs) s = (s.0, shows-take n cs bs s.1)
 
-  pub shows-drop : (n : ℕ) (cs : List Cell) (bs : List ℕ) → RepresentsCells a cs bs → RepresentsCells a (drop n cs) (drop n bs)
+  pub shows-drop : (n : ℕ) (cs : List Cell) (bs : List ℕ) → RepresentsCells a cs bs
+      → RepresentsCells a (drop n cs) (drop n bs)
   shows-drop zero cs bs s = s
   shows-drop (suc n) [] [] s = tt
   shows-drop (suc n) [] (b ∷ bs) s = absurd s
   shows-drop (suc n) (c ∷ cs) [] s = absurd s
   shows-drop (suc n) (c ∷ cs) (b ∷ bs) s = shows-drop n cs bs s.1
 
-  pub shows-append : (cs : List Cell) (bs : List ℕ) (ds : List Cell) (es : List ℕ) → RepresentsCells a cs bs → RepresentsCells a ds es → RepresentsCells a (cs ++ ds) (bs ++ es)
+  pub shows-append : (cs : List Cell) (bs : List ℕ) (ds : List Cell) (es : List ℕ)
+      → RepresentsCells a cs bs → RepresentsCells a ds es → RepresentsCells a (cs ++ ds) (bs ++ es)
   shows-append [] [] ds es s t = t
   shows-append [] (b ∷ bs) ds es s t = absurd s
   shows-append (c ∷ cs) [] ds es s t = absurd s
   shows-append (c ∷ cs) (b ∷ bs) ds es s t = (s.0, shows-append cs bs ds es s.1 t)
 
-  pub shows-length : (cs : List Cell) (bs : List ℕ) → RepresentsCells a cs bs → length cs ≡ length bs
+  pub shows-length : (cs : List Cell) (bs : List ℕ) → RepresentsCells a cs bs
+      → length cs ≡ length bs
   shows-length [] [] s = refl
   shows-length [] (b ∷ bs) s = absurd s
   shows-length (c ∷ cs) [] s = absurd s
@@ -72,34 +76,41 @@ module _ (a : Layout) where
   shows-bytes (b ∷ bs) = (refl, shows-bytes bs)
 
   -- byte cells have their bytes
-  pub bytes-shown : (cs : List Cell) (bs : List ℕ) → list_all is_byte cs ≡ true → RepresentsCells a cs bs → bs ≡ map byte_in cs
+  pub bytes-shown : (cs : List Cell) (bs : List ℕ) → list_all is_byte cs ≡ true
+      → RepresentsCells a cs bs → bs ≡ map byte_in cs
   bytes-shown [] [] e s = refl
   bytes-shown [] (b ∷ bs) e s = absurd s
   bytes-shown (c ∷ cs) [] e s = absurd s
-  bytes-shown (Byte n ∷ cs) (b ∷ bs) e s = ap (λ x. x ∷ bs) s.0 ∙ ap (λ l. n ∷ l) (bytes-shown cs bs e s.1)
+  bytes-shown (Byte n ∷ cs) (b ∷ bs) e s =
+      ap (λ x. x ∷ bs) s.0 ∙ ap (λ l. n ∷ l) (bytes-shown cs bs e s.1)
   bytes-shown (Unwritten ∷ cs) (b ∷ bs) e s = absurd (cc)
   bytes-shown (Piece r z k ∷ cs) (b ∷ bs) e s = absurd (cc)
 
   -- the pieces of a pointer are the bytes of its word
-  pub shows-pieces : (r : Region) (z : ℤ) → RepresentsCells a (pieces r z) (to_le_bytes w64 (word a r z))
+  pub shows-pieces : (r : Region) (z : ℤ)
+      → RepresentsCells a (pieces r z) (to_le_bytes w64 (word a r z))
   shows-pieces r z = (refl, (refl, (refl, (refl, (refl, (refl, (refl, (refl, tt))))))))
 
   abbrev pub OkNumber : Result ℕ TrapReason → ℕ → Type 0
   OkNumber (Ok n) w = w ≡ n
   OkNumber (Err e) w = Unit {0}
 
-  pub shows_number_in : (cs : List Cell) (bs : List ℕ) → RepresentsCells a cs bs → OkNumber (number_in cs) (number_from bs)
+  pub shows_number_in : (cs : List Cell) (bs : List ℕ) → RepresentsCells a cs bs
+      → OkNumber (number_in cs) (number_from bs)
   shows_number_in cs bs s = unwritten (list_any is_unwritten cs)
     where
-      written : (b : Bool) → list_all is_byte cs ≡ b → OkNumber (if b then Ok (number_of cs) else Err BadAccess) (number_from bs)
+      written : (b : Bool) → list_all is_byte cs ≡ b
+          → OkNumber (if b then Ok (number_of cs) else Err BadAccess) (number_from bs)
       written true e = ap number_from (bytes-shown cs bs e s)
       written false e = tt
 
-      unwritten : (b : Bool) → OkNumber (if b then Err UnsetRead else if list_all is_byte cs then Ok (number_of cs) else Err BadAccess) (number_from bs)
+      unwritten : (b : Bool)
+          → OkNumber (if b then Err UnsetRead else if list_all is_byte cs then Ok (number_of cs)
+          else Err BadAccess) (number_from bs)
       unwritten true = tt
       unwritten false = written (list_all is_byte cs) refl
 
-  -- what bytes say of the value that is read from them
+  -- how bytes represent the value that is read from them
   abbrev pub Spelled : Value → List ℕ → Type 0
   Spelled Unset bs = Unit {0}
   Spelled (Num n) bs = number_from bs ≡ n
@@ -110,7 +121,8 @@ module _ (a : Layout) where
   OkSpelled (Err e) bs = Unit {0}
 
   -- the kth byte of a pointer's word represents the kth piece of the pointer
-  piece_byte : (r : Region) (z : ℤ) (k : ℕ) (c : Cell) (b : ℕ) → is_piece r z k c ≡ true → RepresentsCell a c b → b ≡ byte_at k (word a r z)
+  piece_byte : (r : Region) (z : ℤ) (k : ℕ) (c : Cell) (b : ℕ) → is_piece r z k c ≡ true
+      → RepresentsCell a c b → b ≡ byte_at k (word a r z)
   piece_byte r z k Unwritten b e s = absurd (cc)
   piece_byte r z k (Byte n) b e s = absurd (cc)
   piece_byte r z k (Piece q y j) b e s =
@@ -121,36 +133,49 @@ module _ (a : Layout) where
       let h : k ≡ j = grind (arith, nat_tests) in
       rw (f, g, h) s
 
-  pieces_bytes : (r : Region) (z : ℤ) (k : ℕ) (cs : List Cell) (bs : List ℕ) → list_all (λ e. is_piece r z e.0 e.1) (enumerate_from k cs) ≡ true → RepresentsCells a cs bs
+  pieces_bytes : (r : Region) (z : ℤ) (k : ℕ) (cs : List Cell) (bs : List ℕ)
+      → list_all (λ e. is_piece r z e.0 e.1) (enumerate_from k cs) ≡ true → RepresentsCells a cs bs
       → bs ≡ bytes_low_first k (length cs) (word a r z)
   pieces_bytes r z k [] [] e s = refl
   pieces_bytes r z k [] (b ∷ bs) e s = absurd s
   pieces_bytes r z k (c ∷ cs) [] e s = absurd s
   pieces_bytes r z k (c ∷ cs) (b ∷ bs) e s =
-      let (here, rest) = both_true (is_piece r z k c) (list_all (λ e. is_piece r z e.0 e.1) (enumerate_from (k + 1) cs)) e in
-      ap (λ x. x ∷ bs) (piece_byte r z k c b here s.0) ∙ ap (λ l. byte_at k (word a r z) ∷ l) (subst (λ m. bs ≡ bytes_low_first m (length cs) (word a r z)) (add-one k) (pieces_bytes r z (k + 1) cs bs rest s.1))
+      let (here, rest) = both_true (is_piece r z k c)
+      (list_all (λ e. is_piece r z e.0 e.1) (enumerate_from (k + 1) cs)) e in
+      ap (λ x. x ∷ bs) (piece_byte r z k c b here s.0)
+      ∙ ap (λ l. byte_at k (word a r z) ∷ l)
+      (subst (λ m. bs ≡ bytes_low_first m (length cs) (word a r z)) (add-one k)
+      (pieces_bytes r z (k + 1) cs bs rest s.1))
 
-  -- eight pieces found are the word
-  shows_pointer_in : (cs : List Cell) (bs : List ℕ) → RepresentsCells a cs bs → OkSpelled (pointer_in cs) bs
+  -- bytes that represent the eight pieces of a pointer are its word
+  shows_pointer_in : (cs : List Cell) (bs : List ℕ) → RepresentsCells a cs bs
+      → OkSpelled (pointer_in cs) bs
   shows_pointer_in [] bs s = tt
   shows_pointer_in (Unwritten ∷ cs) bs s = tt
   shows_pointer_in (Byte n ∷ cs) bs s = tt
   shows_pointer_in (Piece r z k ∷ cs) bs s = by_test (are_pieces r z (Piece r z k ∷ cs)) refl
     where
-      by_test : (b : Bool) → are_pieces r z (Piece r z k ∷ cs) ≡ b → OkSpelled (if b then Ok (Ptr r z) else Err BadAccess) bs
+      by_test : (b : Bool) → are_pieces r z (Piece r z k ∷ cs) ≡ b
+          → OkSpelled (if b then Ok (Ptr r z) else Err BadAccess) bs
       by_test true e =
-          let (eight, all) = both_true (length (Piece r z k ∷ cs) == 8) (list_all (λ e. is_piece r z e.0 e.1) (enumerate_from 0 (Piece r z k ∷ cs))) e in
+          let (eight, all) = both_true (length (Piece r z k ∷ cs) == 8)
+          (list_all (λ e. is_piece r z e.0 e.1) (enumerate_from 0 (Piece r z k ∷ cs))) e in
           let long : length (Piece r z k ∷ cs) ≡ 8 = grind (arith, nat_tests) in
-          pieces_bytes r z 0 (Piece r z k ∷ cs) bs all s ∙ ap (λ n. bytes_low_first 0 n (word a r z)) long
+          pieces_bytes r z 0 (Piece r z k ∷ cs) bs all s
+          ∙ ap (λ n. bytes_low_first 0 n (word a r z)) long
       by_test false e = tt
 
-  pub shows_value_in : (cs : List Cell) (bs : List ℕ) → RepresentsCells a cs bs → OkSpelled (value_in cs) bs
+  pub shows_value_in : (cs : List Cell) (bs : List ℕ) → RepresentsCells a cs bs
+      → OkSpelled (value_in cs) bs
   shows_value_in cs bs s = unwritten (list_any is_unwritten cs)
     where
-      written : (b : Bool) → list_all is_byte cs ≡ b → OkSpelled (if b then Ok (Num (number_of cs)) else pointer_in cs) bs
+      written : (b : Bool) → list_all is_byte cs ≡ b
+          → OkSpelled (if b then Ok (Num (number_of cs)) else pointer_in cs) bs
       written true e = ap number_from (bytes-shown cs bs e s)
       written false e = shows_pointer_in cs bs s
 
-      unwritten : (b : Bool) → OkSpelled (if b then Err UnsetRead else if list_all is_byte cs then Ok (Num (number_of cs)) else pointer_in cs) bs
+      unwritten : (b : Bool)
+          → OkSpelled (if b then Err UnsetRead
+          else if list_all is_byte cs then Ok (Num (number_of cs)) else pointer_in cs) bs
       unwritten true = tt
       unwritten false = written (list_all is_byte cs) refl

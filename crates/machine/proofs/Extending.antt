@@ -1,4 +1,4 @@
--- Layouts with one serial more: what was shown is still shown.
+-- Layouts with one serial more: what was represented still is.
 use Rattle.std.proofs.Common.{◌≡◌, ℕ, ◌+◌, ◌*◌, ◌<◌, List, [], ◌∷◌, length, refl, sym, ap, ◌∙◌, arith, ℤ, Bool, true, false}
 use Rattle.std.proofs.lemmas.Bool.Decides.{nat_tests}
 use Rattle.std.proofs.lemmas.List.Elements.{All-get_or, All-head, All-tail}
@@ -25,7 +25,7 @@ use Rattle.word_machine.specs.declared.memory.Saved.{Saved}
 use Rattle.word_machine.specs.Words.{saved_at}
 use Rattle.machine.specs.Related.{Layout, IsLayout, moved, word, Represents, RepresentsCell, RepresentsCells, RepresentsRegisters, RepresentsFrame, RepresentsSaved, RepresentsFrames, by_serial, RepresentsMap, RepresentsMaps}
 
--- what was there before a serial is where it was
+-- what had a serial before `next` is where it was
 pub record ExtendsLayout (a b : Layout) (next : ℕ) : Type 0 where
   pub depth : (n : ℕ) → n < next → b.depth n ≡ a.depth n
   pub value : (m n : ℕ) → n < next → b.value m n ≡ a.value m n
@@ -50,8 +50,9 @@ put_at-below serial x f n h = by_test (n == serial) refl
     by_test true e = absurd (let g : n ≡ serial = grind (arith, nat_tests) in omega arith)
     by_test false e = refl
 
--- all that holds of the others and of the new one
-pub put_at-all : (P : ℕ → Type 0) (serial x : ℕ) (f : ℕ → ℕ) → P x → ((n : ℕ) → P (f n)) → (n : ℕ) → P (put_at serial x f n)
+-- what holds of the others and of the new one holds of all
+pub put_at-all : (P : ℕ → Type 0) (serial x : ℕ) (f : ℕ → ℕ) → P x → ((n : ℕ) → P (f n)) → (n : ℕ)
+    → P (put_at serial x f n)
 put_at-all P serial x f h rest n = by_test (n == serial)
   where
     by_test : (b : Bool) → P (if b then x else f n)
@@ -64,21 +65,24 @@ with_depth a serial j = record a { depth = put_at serial j a.depth }
 abbrev pub with_value : Layout → ℕ → ℕ → Layout
 with_value a serial x = record a { value = λ m. put_at serial x (a.value m) }
 
-pub ExtendsLayout-with_depth : (a : Layout) (serial j : ℕ) → ExtendsLayout a (with_depth a serial j) serial
+pub ExtendsLayout-with_depth : (a : Layout) (serial j : ℕ)
+    → ExtendsLayout a (with_depth a serial j) serial
 ExtendsLayout-with_depth a serial j = record {
   depth = λ n h. put_at-below serial j a.depth n h;
   value = λ m n h. refl;
   end = refl;
 }
 
-pub ExtendsLayout-with_value : (a : Layout) (serial x : ℕ) → ExtendsLayout a (with_value a serial x) serial
+pub ExtendsLayout-with_value : (a : Layout) (serial x : ℕ)
+    → ExtendsLayout a (with_value a serial x) serial
 ExtendsLayout-with_value a serial x = record {
   depth = λ n h. refl;
   value = λ m n h. put_at-below serial x (a.value m) n h;
   end = refl;
 }
 
-pub IsLayout-with_depth : (a : Layout) (rows serial j : ℕ) → j < max_call_frames → IsLayout a rows → IsLayout (with_depth a serial j) rows
+pub IsLayout-with_depth : (a : Layout) (rows serial j : ℕ) → j < max_call_frames → IsLayout a rows
+    → IsLayout (with_depth a serial j) rows
 IsLayout-with_depth a rows serial j h good = record {
   few = good.few;
   shallow = λ n. put_at-all (λ d. d < max_call_frames) serial j a.depth h good.shallow n;
@@ -86,7 +90,8 @@ IsLayout-with_depth a rows serial j h good = record {
   short = good.short;
 }
 
-pub IsLayout-with_value : (a : Layout) (rows serial x : ℕ) → x < offset_limit → IsLayout a rows → IsLayout (with_value a serial x) rows
+pub IsLayout-with_value : (a : Layout) (rows serial x : ℕ) → x < offset_limit → IsLayout a rows
+    → IsLayout (with_value a serial x) rows
 IsLayout-with_value a rows serial x h good = record {
   few = good.few;
   shallow = good.shallow;
@@ -115,12 +120,16 @@ module _ (a b : Layout) (rows next : ℕ) (E : ExtendsLayout a b next) where
   cell_old (Byte n) w h s = s
   cell_old (Piece r z k) w h s = s ∙ ap (byte_at k) (sym (word_old r z h.0))
 
-  cells_old : (cs : List Cell) (bs : List ℕ) → All (IsCell rows next) cs → RepresentsCells a cs bs → RepresentsCells b cs bs
+  cells_old : (cs : List Cell) (bs : List ℕ) → All (IsCell rows next) cs → RepresentsCells a cs bs
+      → RepresentsCells b cs bs
   cells_old [] [] h s = tt
   cells_old [] (x ∷ bs) h s = absurd s
   cells_old (c ∷ cs) [] h s = absurd s
-  cells_old (c ∷ cs) (x ∷ bs) h s =
-      (cell_old c x (All-head (IsCell rows next) c cs h) s.0, cells_old cs bs (All-tail (IsCell rows next) c cs h) s.1)
+  cells_old (c ∷ cs) (x ∷ bs) h s = (
+    cell_old c x (All-head (IsCell rows next) c cs h) s.0,
+    cells_old cs bs
+        (All-tail (IsCell rows next) c cs h) s.1,
+  )
 
   pub content_old : (m : ℕ) (content : Content) → All (λ n. n < next) (value_serials content)
       → changed (by_serial b m) content ≡ changed (by_serial a m) content
@@ -130,44 +139,63 @@ module _ (a b : Layout) (rows next : ℕ) (E : ExtendsLayout a b next) where
       λ i. (e.0, (E.value m e.1.serial here i, e.1.bytes))
       ∷ content_old m content (All-tail (λ n. n < next) e.1.serial (value_serials content) h) i
 
-  pub map_old : (m : ℕ) (content : Content) (state : MapState) → All (λ n. n < next) (value_serials content)
+  pub map_old : (m : ℕ) (content : Content) (state : MapState)
+      → All (λ n. n < next) (value_serials content)
       → RepresentsMap a m content state → RepresentsMap b m content state
   map_old m content state h R = record { is = R.is; same = content_old m content h ∙ R.same }
 
-module _ (p : Program) (s : State) (K : IsState p s) (a b : Layout) (E : ExtendsLayout a b s.next_serial) where
-  pub register_old : (k : ℕ) (w : ℕ) → Represents a (value_at s.regs k) w → Represents b (value_at s.regs k) w
+module _ (p : Program) (s : State) (K : IsState p s) (a b : Layout)
+    (E : ExtendsLayout a b s.next_serial) where
+  pub register_old : (k : ℕ) (w : ℕ) → Represents a (value_at s.regs k) w
+      → Represents b (value_at s.regs k) w
   register_old k w h = shows_old a b (length p.maps) s.next_serial E (value_at s.regs k) w
       (value_at_fits (length p.maps) s.next_serial s.regs k K.values) h
 
-  pub registers_old : (words : List ℕ) → RepresentsRegisters a s.regs words → RepresentsRegisters b s.regs words
-  registers_old words R = record { count = R.count; shown = λ k. register_old k (slice_index words k) (R.shown k) }
+  pub registers_old : (words : List ℕ) → RepresentsRegisters a s.regs words
+      → RepresentsRegisters b s.regs words
+  registers_old words R =
+      record { count = R.count; shown = λ k. register_old k (slice_index words k) (R.shown k) }
 
   old_frame : (j : ℕ) → j < length s.frames → IsCallFrame p s.next_serial (frame_at s.frames j)
   old_frame j h = All-get_or (IsCallFrame p s.next_serial) s.frames j (new_frame 0 0 []) h K.frames
 
-  pub frame_old : (j : ℕ) (block : List ℕ) → j < length s.frames → RepresentsFrame a (frame_at s.frames j) j block → RepresentsFrame b (frame_at s.frames j) j block
+  pub frame_old : (j : ℕ) (block : List ℕ) → j < length s.frames
+      → RepresentsFrame a (frame_at s.frames j) j block
+      → RepresentsFrame b (frame_at s.frames j) j block
   frame_old j block h old = record {
     depth = E.depth (frame_at s.frames j).serial (frame_serial_given p s j K h) ∙ old.depth;
-    cells = cells_old a b (length p.maps) s.next_serial E (frame_at s.frames j).cells (bytes_at block (j * frame_size) frame_size) (old_frame j h).cells old.cells;
+    cells =
+        cells_old a b (length p.maps) s.next_serial E (frame_at s.frames j).cells
+        (bytes_at block (j * frame_size) frame_size) (old_frame j h).cells old.cells;
   }
 
-  pub saved_old : (j : ℕ) (c : Saved) → j < length s.frames → RepresentsSaved a (frame_at s.frames j) c → RepresentsSaved b (frame_at s.frames j) c
+  pub saved_old : (j : ℕ) (c : Saved) → j < length s.frames
+      → RepresentsSaved a (frame_at s.frames j) c → RepresentsSaved b (frame_at s.frames j) c
   saved_old j c h old = record {
     back = old.back;
-    kept = λ k. shows_old a b (length p.maps) s.next_serial E (value_at (frame_at s.frames j).saved k) (slice_index c.kept k)
-        (value_at_fits (length p.maps) s.next_serial (frame_at s.frames j).saved k (old_frame j h).saved) (old.kept k);
+    kept =
+        λ k. shows_old a b (length p.maps) s.next_serial E (value_at (frame_at s.frames j).saved k)
+        (slice_index c.kept k)
+        (value_at_fits (length p.maps) s.next_serial (frame_at s.frames j).saved k
+        (old_frame j h).saved) (old.kept k);
   }
 
-  pub frames_old : (block : List ℕ) (callers : List Saved) → RepresentsFrames a s.frames block callers → RepresentsFrames b s.frames block callers
+  pub frames_old : (block : List ℕ) (callers : List Saved)
+      → RepresentsFrames a s.frames block callers → RepresentsFrames b s.frames block callers
   frames_old block callers R = record {
     whole = R.whole;
     depth = R.depth;
     frames = λ j h. frame_old j block h (R.frames j h);
-    saved = λ j h. saved_old (j + 1) (saved_at callers j) (let d = R.depth in omega arith) (R.saved j h);
+    saved =
+        λ j h. saved_old (j + 1) (saved_at callers j) (let d = R.depth in omega arith)
+        (R.saved j h);
   }
 
-  pub maps_old : (states : List MapState) → RepresentsMaps a p.maps s.maps states → RepresentsMaps b p.maps s.maps states
+  pub maps_old : (states : List MapState) → RepresentsMaps a p.maps s.maps states
+      → RepresentsMaps b p.maps s.maps states
   maps_old states R = record {
     rows = R.rows;
-    maps = λ m h. map_old a b (length p.maps) s.next_serial E m (content_of s m) (map_at states m) (value_serials_given p s m K) (R.maps m h);
+    maps =
+        λ m h. map_old a b (length p.maps) s.next_serial E m (content_of s m) (map_at states m)
+        (value_serials_given p s m K) (R.maps m h);
   }

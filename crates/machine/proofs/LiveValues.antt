@@ -1,5 +1,4 @@
--- The values of maps in their blocks: where a live value's bytes are, and what a write into one
--- leaves.
+-- Map values in their maps' blocks: where a live value's bytes are, and what a write to it leaves.
 use Rattle.std.proofs.Common.{◌≡◌, ℕ, zero, suc, ◌+◌, ◌*◌, ◌<◌, ◌≤◌, List, [], ◌∷◌, length, map, refl, sym, ap, subst, ◌∙◌, arith, Bool, true, false, Some, inl, inr, get_or-set_same, get_or-set_other, slice_set}
 use Rattle.std.specs.Prelude.{slice_index_or, T, ◌&&◌}
 use Rattle.std.specs.List.{splice}
@@ -29,7 +28,8 @@ use Rattle.maps.proofs.MapLaws.{length-rows_of, rows_of-set}
 use Rattle.maps.proofs.ReportOrderLaws.{above, get_at}
 use Rattle.machine.specs.Related.{Layout, by_serial, by_place, RepresentsMap, RepresentsMaps}
 
-FitRows-length : (rows : List MapDef) (contents : List KeyValues) → FitRows rows contents → length rows ≡ length contents
+FitRows-length : (rows : List MapDef) (contents : List KeyValues) → FitRows rows contents
+    → length rows ≡ length contents
 FitRows-length [] [] h = refl
 FitRows-length [] (c ∷ contents) h = absurd h
 FitRows-length (row ∷ rows) [] h = absurd h
@@ -37,15 +37,18 @@ FitRows-length (row ∷ rows) (c ∷ contents) h = ap suc (FitRows-length rows c
 
 -- a state has a content for each row
 pub contents_are : (p : Program) (s : State) → IsState p s → length s.maps ≡ length p.maps
-contents_are p s K = sym (FitRows-length p.maps (map key_values_of s.maps) K.maps ∙ length-map s.maps key_values_of)
+contents_are p s K =
+    sym (FitRows-length p.maps (map key_values_of s.maps) K.maps ∙ length-map s.maps key_values_of)
 
-no_content : (contents : List Content) (m : ℕ) → length contents ≤ m → length (slice_index_or contents m []) ≡ 0
+no_content : (contents : List Content) (m : ℕ) → length contents ≤ m
+    → length (slice_index_or contents m []) ≡ 0
 no_content [] m h = refl
 no_content (c ∷ contents) zero h = absurd (omega arith)
 no_content (c ∷ contents) (suc m) h = no_content contents m (omega arith)
 
 -- only a map of the program has keys
-pub live_map : (p : Program) (s : State) (m j : ℕ) → IsState p s → j < length (content_of s m) → m < length p.maps
+pub live_map : (p : Program) (s : State) (m j : ℕ) → IsState p s → j < length (content_of s m)
+    → m < length p.maps
 live_map p s m j K h = elim (cases_lt m (length p.maps)) [
   | inl l ↦ l
   | inr g ↦
@@ -67,37 +70,50 @@ not_less Less t e = absurd (cc)
 not_less Equal t e = t
 not_less Greater t e = t
 
-not_above : (x : List ℕ) (es : List (List ℕ × ℕ)) (j : ℕ) → T (below_all key_order x es) → j < length es
+not_above : (x : List ℕ) (es : List (List ℕ × ℕ)) (j : ℕ) → T (below_all key_order x es)
+    → j < length es
     → (slice_index_or es j ([], 0)).0 ≡ x → ⊥
 not_above x es j below h e =
     let less = above x es j (slice_index_or es j ([], 0)) below (slice_get-get_or es j ([], 0) h) in
     not_less (key_order x x) (subst (λ k. T (is_lt (key_order x k))) e less) (is_key-itself x)
 
-pub same_key : (es : List (List ℕ × ℕ)) (i j : ℕ) → T (is_sorted key_order es) → i < length es → j < length es
+pub same_key : (es : List (List ℕ × ℕ)) (i j : ℕ) → T (is_sorted key_order es) → i < length es
+    → j < length es
     → (slice_index_or es i ([], 0)).0 ≡ (slice_index_or es j ([], 0)).0 → i ≡ j
 same_key [] i j s h g e = absurd (omega arith)
 same_key (x ∷ es) zero zero s h g e = refl
 same_key (x ∷ es) zero (suc j) s h g e =
-    absurd (not_above x.0 es j (first_of (below_all key_order x.0 es) (is_sorted key_order es) s) (omega arith) (sym e))
+    absurd (not_above x.0 es j (first_of (below_all key_order x.0 es) (is_sorted key_order es) s)
+    (omega arith) (sym e))
 same_key (x ∷ es) (suc i) zero s h g e =
-    absurd (not_above x.0 es i (first_of (below_all key_order x.0 es) (is_sorted key_order es) s) (omega arith) e)
+    absurd (not_above x.0 es i (first_of (below_all key_order x.0 es) (is_sorted key_order es) s)
+    (omega arith) e)
 same_key (x ∷ es) (suc i) (suc j) s h g e =
-    ap suc (same_key es i j (second_of (below_all key_order x.0 es) (is_sorted key_order es) s) (omega arith) (omega arith) e)
+    ap suc (same_key es i j (second_of (below_all key_order x.0 es) (is_sorted key_order es) s)
+    (omega arith) (omega arith) e)
 
-slice_set-map : {X Y : Type 0} (f g : X → Y) (xs : List X) (j : ℕ) (y : Y) (d : X) → j < length xs → g (slice_index_or xs j d) ≡ y
-    → ((k : ℕ) → k < length xs → (k ≡ j → ⊥) → g (slice_index_or xs k d) ≡ f (slice_index_or xs k d))
+slice_set-map : {X Y : Type 0} (f g : X → Y) (xs : List X) (j : ℕ) (y : Y) (d : X) → j < length xs
+    → g (slice_index_or xs j d) ≡ y
+    → ((k : ℕ) → k < length xs → (k ≡ j → ⊥)
+    → g (slice_index_or xs k d) ≡ f (slice_index_or xs k d))
     → slice_set (map f xs) j y ≡ map g xs
 slice_set-map f g [] j y d h here other = absurd (omega arith)
-slice_set-map f g (x ∷ xs) zero y d h here other = λ i. sym here i ∷ rest xs (λ k l. other (suc k) (omega arith) (λ e. omega arith)) i
+slice_set-map f g (x ∷ xs) zero y d h here other =
+    λ i. sym here i ∷ rest xs (λ k l. other (suc k) (omega arith) (λ e. omega arith)) i
   where
-    rest : (xs : List _) → ((k : ℕ) → k < length xs → g (slice_index_or xs k d) ≡ f (slice_index_or xs k d)) → map f xs ≡ map g xs
+    rest : (xs : List _)
+        → ((k : ℕ) → k < length xs → g (slice_index_or xs k d) ≡ f (slice_index_or xs k d))
+        → map f xs ≡ map g xs
     rest [] same = refl
-    rest (x ∷ xs) same = λ i. sym (same 0 (omega arith)) i ∷ rest xs (λ k l. same (suc k) (omega arith)) i
+    rest (x ∷ xs) same =
+        λ i. sym (same 0 (omega arith)) i ∷ rest xs (λ k l. same (suc k) (omega arith)) i
 slice_set-map f g (x ∷ xs) (suc j) y d h here other =
     λ i. sym (other 0 (omega arith) (λ e. omega arith)) i
-    ∷ slice_set-map f g xs j y d (omega arith) here (λ k l n. other (suc k) (omega arith) (λ e. n (omega arith))) i
+    ∷ slice_set-map f g xs j y d (omega arith) here
+    (λ k l n. other (suc k) (omega arith) (λ e. n (omega arith))) i
 
-module _ (a : Layout) (m : ℕ) (content : Content) (state : MapState) (shown : RepresentsMap a m content state) where
+module _ (a : Layout) (m : ℕ) (content : Content) (state : MapState)
+    (shown : RepresentsMap a m content state) where
   abbrev size : ℕ
   size = state.row.value_size
 
@@ -109,55 +125,72 @@ module _ (a : Layout) (m : ℕ) (content : Content) (state : MapState) (shown : 
 
   pub as_many : length content ≡ length listed
   as_many =
-      sym (length-changed (by_serial a m) content) ∙ ap length shown.same ∙ length-changed (by_place size state.block) listed
+      sym (length-changed (by_serial a m) content) ∙ ap length shown.same
+      ∙ length-changed (by_place size state.block) listed
 
-  -- a key is that of a place
+  -- the j-th key of the content is that of the j-th place, and so is its value
   pub at_place : (j : ℕ) → j < length content
-      → ◌≡◌ {A = List ℕ × (ℕ × List ℕ)} ((key_value_at content j).0, by_serial a m (key_value_at content j).1)
+      → ◌≡◌ {A = List ℕ × (ℕ × List ℕ)}
+      ((key_value_at content j).0, by_serial a m (key_value_at content j).1)
       ((place_at j).0, by_place size state.block (place_at j).1)
   at_place j h =
       let many = as_many in
       let d : List ℕ × (ℕ × List ℕ) = ([], (0, [])) in
-      sym (get_or-map {Y = List ℕ × (ℕ × List ℕ)} (λ e. (e.0, by_serial a m e.1)) content j ([], record { serial = 0; bytes = [] }) d h)
+      sym (get_or-map {Y = List ℕ × (ℕ × List ℕ)} (λ e. (e.0, by_serial a m e.1)) content j
+      ([], record { serial = 0; bytes = [] }) d h)
       ∙ ap (λ l. slice_index_or l j d) shown.same
-      ∙ get_or-map {Y = List ℕ × (ℕ × List ℕ)} (λ e. (e.0, by_place size state.block e.1)) listed j ([], 0) d (omega arith)
+      ∙ get_or-map {Y = List ℕ × (ℕ × List ℕ)} (λ e. (e.0, by_place size state.block e.1)) listed j
+      ([], 0) d (omega arith)
 
-  pub value_starts : (j : ℕ) → j < length content → a.value m (key_value_at content j).1.serial ≡ (place_at j).1 * size
+  pub value_starts : (j : ℕ) → j < length content
+      → a.value m (key_value_at content j).1.serial ≡ (place_at j).1 * size
   value_starts j h = ap (λ x. x.1.0) (at_place j h)
 
-  pub value_bytes : (j : ℕ) → j < length content → (key_value_at content j).1.bytes ≡ row_at size state.block (place_at j).1
+  pub value_bytes : (j : ℕ) → j < length content
+      → (key_value_at content j).1.bytes ≡ row_at size state.block (place_at j).1
   value_bytes j h = ap (λ x. x.1.1) (at_place j h)
 
   pub there : (j : ℕ) → j < length content → get state.places (place_at j).0 ≡ Some (place_at j).1
-  there j h = let many = as_many in get_at state.places j (place_at j) (slice_get-get_or listed j ([], 0) (omega arith))
+  there j h =
+      let many = as_many in
+      get_at state.places j (place_at j) (slice_get-get_or listed j ([], 0) (omega arith))
 
   pub in_block : (j : ℕ) → j < length content → (place_at j).1 < state.row.entries
   in_block j h = shown.is.in_range (place_at j).0 (place_at j).1 (there j h)
 
   -- the bytes of a live value are in the block
   pub value_inside : (j : ℕ) → j < length content
-      → a.value m (key_value_at content j).1.serial + length (key_value_at content j).1.bytes ≤ length state.block
+      → a.value m (key_value_at content j).1.serial + length (key_value_at content j).1.bytes
+      ≤ length state.block
   value_inside j h =
       let e = value_starts j h in
       let inside = in_block j h in
-      let long = ap length (value_bytes j h) ∙ length-row_at size state.row.entries state.block (place_at j).1 shown.is.whole inside 0 [] (omega arith) in
+      let long = ap length (value_bytes j h)
+      ∙ length-row_at size state.row.entries state.block (place_at j).1 shown.is.whole inside 0
+      [] (omega arith) in
       let end = row_end (place_at j).1 state.row.entries size inside in
       let whole = shown.is.whole in
       omega arith
 
   pub value_at_block : (j : ℕ) → j < length content
-      → bytes_at state.block (a.value m (key_value_at content j).1.serial) (length (key_value_at content j).1.bytes) ≡ (key_value_at content j).1.bytes
+      → bytes_at state.block (a.value m (key_value_at content j).1.serial)
+      (length (key_value_at content j).1.bytes) ≡ (key_value_at content j).1.bytes
   value_at_block j h =
       let inside = in_block j h in
-      let long = ap length (value_bytes j h) ∙ length-row_at size state.row.entries state.block (place_at j).1 shown.is.whole inside 0 [] (omega arith) in
+      let long = ap length (value_bytes j h)
+      ∙ length-row_at size state.row.entries state.block (place_at j).1 shown.is.whole inside 0
+      [] (omega arith) in
       (λ i. bytes_at state.block (value_starts j h i) (long i)) ∙ sym (value_bytes j h)
 
   pub value_long : (j : ℕ) → j < length content → length (key_value_at content j).1.bytes ≡ size
-  value_long j h = ap length (value_bytes j h) ∙ length-row_at size state.row.entries state.block (place_at j).1 shown.is.whole (in_block j h) 0 [] (omega arith)
+  value_long j h = ap length (value_bytes j h)
+      ∙ length-row_at size state.row.entries state.block (place_at j).1 shown.is.whole
+      (in_block j h) 0 [] (omega arith)
 
   -- ---- bytes are written into a live value
 
-  module _ (j : ℕ) (here : j < length content) (i : ℕ) (bs : List ℕ) (room : i + length bs ≤ length (key_value_at content j).1.bytes) (bytes : AreBytes bs) where
+  module _ (j : ℕ) (here : j < length content) (i : ℕ) (bs : List ℕ)
+      (room : i + length bs ≤ length (key_value_at content j).1.bytes) (bytes : AreBytes bs) where
     abbrev old : List ℕ × Stored
     old = key_value_at content j
 
@@ -176,13 +209,18 @@ module _ (a : Layout) (m : ℕ) (content : Content) (state : MapState) (shown : 
     fits : i + length bs ≤ size
     fits = let l = value_long j here in omega arith
 
-    in_row : written.block ≡ with_row size state.block place (splice (row_at size state.block place) i (i + length bs) bs)
+    in_row : written.block
+        ≡ with_row size state.block place
+        (splice (row_at size state.block place) i (i + length bs) bs)
     in_row =
         ap (λ n. with_bytes state.block (n + i) bs) (value_starts j here)
-        ∙ splice_in_row size state.row.entries state.block place shown.is.whole (in_block j here) i bs fits
+        ∙ splice_in_row size state.row.entries state.block place shown.is.whole
+        (in_block j here) i bs fits
 
     row_long : length (splice (row_at size state.block place) i (i + length bs) bs) ≡ size
-    row_long = length-changed_row size state.row.entries state.block place shown.is.whole (in_block j here) i bs fits
+    row_long =
+        length-changed_row size state.row.entries state.block place shown.is.whole
+        (in_block j here) i bs fits
 
     is_map : IsMap written
     is_map = let l = value_inside j here in record {
@@ -201,7 +239,9 @@ module _ (a : Layout) (m : ℕ) (content : Content) (state : MapState) (shown : 
         λ k. (
           sym (value_starts j here) k,
           (ap (λ block. row_at size block place) in_row
-              ∙ row_at-with_row size state.block place (splice (row_at size state.block place) i (i + length bs) bs) state.row.entries row_long shown.is.whole (in_block j here)
+              ∙ row_at-with_row size state.block place
+              (splice (row_at size state.block place) i (i + length bs) bs) state.row.entries
+              row_long shown.is.whole (in_block j here)
               ∙ ap (λ row. splice row i (i + length bs) bs) (sym (value_bytes j here))) k,
         )
 
@@ -209,15 +249,19 @@ module _ (a : Layout) (m : ℕ) (content : Content) (state : MapState) (shown : 
     apart k l other e =
         let many = as_many in
         other (same_key listed k j (entries_sorted state.places) l (omega arith)
-        (shown.is.apart (place_at k).0 (place_at j).0 place (there k (omega arith) ∙ ap Some e) (there j here)))
+        (shown.is.apart (place_at k).0 (place_at j).0 place (there k (omega arith) ∙ ap Some e)
+        (there j here)))
 
     row_other : (k : ℕ) → k < length listed → (k ≡ j → ⊥)
-        → ◌≡◌ {A = ℕ × List ℕ} (by_place size written.block (place_at k).1) (by_place size state.block (place_at k).1)
+        → ◌≡◌ {A = ℕ × List ℕ} (by_place size written.block (place_at k).1)
+        (by_place size state.block (place_at k).1)
     row_other k l other =
         λ n. (
           (place_at k).1 * size,
           (ap (λ block. row_at size block (place_at k).1) in_row
-              ∙ row_at-other size state.block place (splice (row_at size state.block place) i (i + length bs) bs) state.row.entries row_long shown.is.whole (in_block j here)
+              ∙ row_at-other size state.block place
+              (splice (row_at size state.block place) i (i + length bs) bs) state.row.entries
+              row_long shown.is.whole (in_block j here)
               (place_at k).1 (apart k l other)) n,
         )
 
@@ -229,30 +273,40 @@ module _ (a : Layout) (m : ℕ) (content : Content) (state : MapState) (shown : 
           same =
               map-set {B = List ℕ × (ℕ × List ℕ)} (λ e. (e.0, by_serial a m e.1)) content j new
               ∙ ap (λ l. slice_set l j (new.0, by_serial a m new.1)) shown.same
-              ∙ slice_set-map (λ e. (e.0, by_place size state.block e.1)) (λ e. (e.0, by_place size written.block e.1)) listed j
+              ∙ slice_set-map (λ e. (e.0, by_place size state.block e.1))
+              (λ e. (e.0, by_place size written.block e.1)) listed j
               (new.0, by_serial a m new.1) ([], 0) (omega arith)
               (λ k. (ap (λ x. x.0) (sym (at_place j here)) k, row_here k))
               (λ k l other. ap (λ x. ((place_at k).0, x)) (row_other k l other));
         }
 
 -- one content and one map changed
-pub set_shown : (a : Layout) (defs : List MapDef) (contents : List Content) (states : List MapState) (m : ℕ) (content : Content) (state : MapState)
-    → length contents ≡ length defs → state.row ≡ (map_at states m).row → (m < length defs → RepresentsMap a m content state) → RepresentsMaps a defs contents states
+pub set_shown : (a : Layout) (defs : List MapDef) (contents : List Content) (states : List MapState)
+    (m : ℕ) (content : Content) (state : MapState)
+    → length contents ≡ length defs → state.row ≡ (map_at states m).row
+    → (m < length defs → RepresentsMap a m content state) → RepresentsMaps a defs contents states
     → RepresentsMaps a defs (slice_set contents m content) (slice_set states m state)
 set_shown a defs contents states m content state many row h R = record {
   rows = rows_of-set states m state row ∙ R.rows;
   maps = λ k l. by_map k l;
 }
   where
-    by_map : (k : ℕ) → k < length defs → RepresentsMap a k (slice_index_or (slice_set contents m content) k []) (map_at (slice_set states m state) k)
+    by_map : (k : ℕ) → k < length defs
+        → RepresentsMap a k (slice_index_or (slice_set contents m content) k [])
+        (map_at (slice_set states m state) k)
     by_map k l =
         let count = sym (length-rows_of states) ∙ ap length R.rows in
         elim (same_or_not k m) [
           | inl e ↦
-              subst (λ k. RepresentsMap a k (slice_index_or (slice_set contents m content) k []) (map_at (slice_set states m state) k)) (sym e)
-              (subst (λ c. RepresentsMap a m c (map_at (slice_set states m state) m)) (sym (get_or-set_same contents m content [] (omega arith)))
-              (subst (λ t. RepresentsMap a m content t) (sym (get_or-set_same states m state _ (omega arith))) (h (omega arith))))
+              subst (λ k. RepresentsMap a k (slice_index_or (slice_set contents m content) k [])
+              (map_at (slice_set states m state) k)) (sym e)
+              (subst (λ c. RepresentsMap a m c (map_at (slice_set states m state) m))
+              (sym (get_or-set_same contents m content [] (omega arith)))
+              (subst (λ t. RepresentsMap a m content t)
+              (sym (get_or-set_same states m state _ (omega arith))) (h (omega arith))))
           | inr other ↦
-              subst (λ c. RepresentsMap a k c (map_at (slice_set states m state) k)) (sym (get_or-set_other contents m k content [] other))
-              (subst (λ t. RepresentsMap a k (slice_index_or contents k []) t) (sym (get_or-set_other states m k state _ other)) (R.maps k l))
+              subst (λ c. RepresentsMap a k c (map_at (slice_set states m state) k))
+              (sym (get_or-set_other contents m k content [] other))
+              (subst (λ t. RepresentsMap a k (slice_index_or contents k []) t)
+              (sym (get_or-set_other states m k state _ other)) (R.maps k l))
         ]

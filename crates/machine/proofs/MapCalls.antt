@@ -1,4 +1,4 @@
--- Look-ups, updates and deletes: what they lead to is shown.
+-- Look-ups, updates and deletes: the words after them represent the states after them.
 use Rattle.std.proofs.Common.{◌≡◌, ℕ, zero, suc, ◌+◌, ◌*◌, ◌<◌, List, [], ◌∷◌, length, refl, sym, ap, subst, ◌∙◌, arith, add-zero, mul-le-mul, Bool, true, false, cond, Option, Some, None, slice_set}
 use Rattle.std.proofs.lemmas.Bool.Decides.{nat_tests}
 use Rattle.std.specs.Prelude.{if◌then◌else◌, ◌==◌, ◌≢◌, nat_le, is_some, slice_index_or}
@@ -26,43 +26,56 @@ use Rattle.machine.proofs.Extending.{ExtendsLayout, with_value, put_at-there, Ex
 use Rattle.machine.proofs.Contents.{changed-with_key, changed-without_key, find-placed, placed-remove, placed-put}
 use Rattle.machine.proofs.LiveValues.{contents_are, as_many, set_shown}
 
--- what a map shows, and another of the same row
-same_shown : (b : Layout) (m : ℕ) (content : Content) (old new : MapState) → IsMap new → new.row ≡ old.row
-    → changed (by_serial b m) content ≡ changed (by_place old.row.value_size new.block) (entries new.places) → RepresentsMap b m content new
+-- a content that a map represents is represented by another map of the same row
+same_shown : (b : Layout) (m : ℕ) (content : Content) (old new : MapState) → IsMap new
+    → new.row ≡ old.row
+    → changed (by_serial b m) content
+    ≡ changed (by_place old.row.value_size new.block) (entries new.places)
+    → RepresentsMap b m content new
 same_shown b m content old new is row e = record {
   is = is;
-  same = subst (λ r. changed (by_serial b m) content ≡ changed (by_place r.value_size new.block) (entries new.places)) (sym row) e;
+  same =
+      subst (λ r. changed (by_serial b m) content
+      ≡ changed (by_place r.value_size new.block) (entries new.places)) (sym row) e;
 }
 
 -- ---- look-ups and answers, on the content and on the places of one map
 
-module _ (a : Layout) (m : ℕ) (content : Content) (state : MapState) (shown : RepresentsMap a m content state) where
+module _ (a : Layout) (m : ℕ) (content : Content) (state : MapState)
+    (shown : RepresentsMap a m content state) where
   abbrev size : ℕ
   size = state.row.value_size
 
   -- the key's value, by serial and by place
-  pub found : (key : List ℕ) → option_map (by_serial a m) (at_key key content) ≡ option_map (by_place size state.block) (get state.places key)
+  pub found : (key : List ℕ)
+      → option_map (by_serial a m) (at_key key content)
+      ≡ option_map (by_place size state.block) (get state.places key)
   found key =
-      sym (find-changed (by_serial a m) key content) ∙ ap (at_key key) shown.same ∙ find-placed (by_place size state.block) state.places key
+      sym (find-changed (by_serial a m) key content) ∙ ap (at_key key) shown.same
+      ∙ find-placed (by_place size state.block) state.places key
 
   -- where the value at a place begins, or 0
   abbrev pub address : Option ℕ → ℕ
   address (Some place) = values_base m + place * size
   address None = 0
 
-  found_shown : (o : Option Stored) (q : Option ℕ) → option_map (by_serial a m) o ≡ option_map (by_place size state.block) q
+  found_shown : (o : Option Stored) (q : Option ℕ)
+      → option_map (by_serial a m) o ≡ option_map (by_place size state.block) q
       → Represents a (pointer_or_zero m o) (address q)
   found_shown None None e = refl
   found_shown None (Some place) e = absurd (cc)
   found_shown (Some v) None e = absurd (cc)
   found_shown (Some v) (Some place) e =
       let same : by_serial a m v ≡ by_place size state.block place = cc in
-      ap (λ n. values_base m + n) (ap (λ x. x.0) (sym same)) ∙ sym (add-zero (values_base m + a.value m v.serial))
+      ap (λ n. values_base m + n) (ap (λ x. x.0) (sym same))
+      ∙ sym (add-zero (values_base m + a.value m v.serial))
 
-  pub lookup_shown : (key : List ℕ) → Represents a (pointer_or_zero m (at_key key content)) (address (get state.places key))
+  pub lookup_shown : (key : List ℕ)
+      → Represents a (pointer_or_zero m (at_key key content)) (address (get state.places key))
   lookup_shown key = found_shown (at_key key content) (get state.places key) (found key)
 
-  is_some-option_map : {X Y : Type 0} (f : X → Y) (o : Option X) → is_some (option_map f o) ≡ is_some o
+  is_some-option_map : {X Y : Type 0} (f : X → Y) (o : Option X)
+      → is_some (option_map f o) ≡ is_some o
   is_some-option_map f None = refl
   is_some-option_map f (Some x) = refl
 
@@ -75,18 +88,24 @@ module _ (a : Layout) (m : ℕ) (content : Content) (state : MapState) (shown : 
   long_same = as_many a m content state shown ∙ sym (len-entries state.places)
 
   -- the answers are the same
-  pub update_same : (key : List ℕ) (flags : ℕ) → update_answer state.row (content_in state) key flags ≡ update_answer state.row content key flags
+  pub update_same : (key : List ℕ) (flags : ℕ)
+      → update_answer state.row (content_in state) key flags
+      ≡ update_answer state.row content key flags
   update_same key flags =
       update_answer-places state.row state.places state.block key flags
-      ∙ (λ i. update_answer_by state.row.kind (sym (has_same key) i) (nat_le state.row.entries (sym long_same i)) flags)
+      ∙ (λ i. update_answer_by state.row.kind (sym (has_same key) i)
+      (nat_le state.row.entries (sym long_same i)) flags)
 
-  pub delete_same : (key : List ℕ) → delete_answer state.row (content_in state) key ≡ delete_answer state.row content key
+  pub delete_same : (key : List ℕ)
+      → delete_answer state.row (content_in state) key ≡ delete_answer state.row content key
   delete_same key =
-      delete_answer-places state.row state.places state.block key ∙ ap (delete_answer_by state.row.kind) (sym (has_same key))
+      delete_answer-places state.row state.places state.block key
+      ∙ ap (delete_answer_by state.row.kind) (sym (has_same key))
 
   -- ---- a delete
 
-  pub deleted_shown : (new : MapState) (key : List ℕ) → IsMap new → new.row ≡ state.row → new.places ≡ remove state.places key
+  pub deleted_shown : (new : MapState) (key : List ℕ) → IsMap new → new.row ≡ state.row
+      → new.places ≡ remove state.places key
       → new.block ≡ state.block → RepresentsMap a m (without_key key content) new
   deleted_shown new key is row places block =
       same_shown a m (without_key key content) state new is row
@@ -95,7 +114,8 @@ module _ (a : Layout) (m : ℕ) (content : Content) (state : MapState) (shown : 
       ∙ sym (placed-remove (by_place size state.block) state.places key)
       ∙ (λ i. changed (by_place size (sym block i)) (entries (sym places i))))
 
-  pub stays_shown : (new : MapState) → IsMap new → new.row ≡ state.row → new.places ≡ state.places → new.block ≡ state.block
+  pub stays_shown : (new : MapState) → IsMap new → new.row ≡ state.row → new.places ≡ state.places
+      → new.block ≡ state.block
       → RepresentsMap a m content new
   stays_shown new is row places block =
       same_shown a m content state new is row
@@ -103,14 +123,16 @@ module _ (a : Layout) (m : ℕ) (content : Content) (state : MapState) (shown : 
 
   -- ---- an update
 
-  -- a value's end is low
-  place_low : (new : MapState) (place : ℕ) → IsMap new → new.row ≡ state.row → place < new.row.entries → place * size < offset_limit
+  -- no place is far from the block's beginning
+  place_low : (new : MapState) (place : ℕ) → IsMap new → new.row ≡ state.row
+      → place < new.row.entries → place * size < offset_limit
   place_low new place is row inside =
       let end = row_end place new.row.entries new.row.value_size inside in
       let all = mul-le-mul is.is_row.few_entries is.is_row.short_value in
       subst (λ r. place * r.value_size < offset_limit) row (omega arith)
 
-  module _ (new : MapState) (key value : List ℕ) (is : IsMap new) (row : new.row ≡ state.row) (long : length value ≡ size)
+  module _ (new : MapState) (key value : List ℕ) (is : IsMap new) (row : new.row ≡ state.row)
+      (long : length value ≡ size)
       (writes : WritesPair size key value state.places state.block new.places new.block) where
     abbrev place : ℕ
     place = writes.place
@@ -127,51 +149,63 @@ module _ (a : Layout) (m : ℕ) (content : Content) (state : MapState) (shown : 
         same_shown b m (with_key key v content) state new is row
         (changed-with_key (by_serial b m) key v content
         ∙ (λ i. with_key {X = ℕ × List ℕ} key (begins i, bytes i) ((old ∙ shown.same) i))
-        ∙ sym (placed-put size state.row.entries state.places new.places state.block key value place long shown.is.whole inside writes.there others apart)
+        ∙ sym (placed-put size state.row.entries state.places new.places state.block key value place
+        long shown.is.whole inside writes.there others apart)
         ∙ ap (λ block. changed (by_place size block) (entries new.places)) (sym writes.written))
 
-    -- the layout after it, by what the key had
+    -- the layout after it, by the value that the key had
     abbrev pub given : ℕ → Option Stored → Layout
     given next (Some old) = a
     given next None = with_value a next (place * size)
 
     pub given_extends : (next : ℕ) (o : Option Stored) → ExtendsLayout a (given next o) next
-    given_extends next (Some old) = record { depth = λ n h. refl; value = λ k n h. refl; end = refl }
+    given_extends next (Some old) =
+        record { depth = λ n h. refl; value = λ k n h. refl; end = refl }
     given_extends next None = ExtendsLayout-with_value a next (place * size)
 
-    pub given_good : (rows next : ℕ) (o : Option Stored) → IsLayout a rows → IsLayout (given next o) rows
+    pub given_good : (rows next : ℕ) (o : Option Stored) → IsLayout a rows
+        → IsLayout (given next o) rows
     given_good rows next (Some old) good = good
     given_good rows next None good =
-        IsLayout-with_value a rows next (place * size) (place_low new place is row (is.in_range key place writes.there)) good
+        IsLayout-with_value a rows next (place * size)
+        (place_low new place is row (is.in_range key place writes.there)) good
 
     pub given_end : (next : ℕ) (o : Option Stored) → (given next o).end ≡ a.end
     given_end next (Some old) = refl
     given_end next None = refl
 
     -- a present key keeps its serial and its place
-    present : (old : Stored) → at_key key content ≡ Some old → (q : Option ℕ) → get state.places key ≡ q
+    present : (old : Stored) → at_key key content ≡ Some old → (q : Option ℕ)
+        → get state.places key ≡ q
         → option_map (by_serial a m) (Some old) ≡ option_map (by_place size state.block) q
-        → RepresentsMap a m (with_key key (record { serial = old.serial; bytes = value }) content) new
+        → RepresentsMap a m
+        (with_key key (record { serial = old.serial; bytes = value }) content) new
     present old e None f g = absurd (cc)
     present old e (Some p) f g =
         let kept = writes.kept p f in
-        let there : get state.places key ≡ Some place = ap (λ (P : Places). get P key) (sym kept) ∙ writes.there in
+        let there : get state.places key ≡ Some place =
+        ap (λ (P : Places). get P key) (sym kept) ∙ writes.there in
         let one : Some p ≡ Some place = sym f ∙ there in
         let at : p ≡ place = cc in
         let same : by_serial a m old ≡ by_place size state.block p = cc in
-        put_shown a (record { serial = old.serial; bytes = value }) refl (ap (λ x. x.0) same ∙ ap (λ p. p * size) at) refl
+        put_shown a (record { serial = old.serial; bytes = value }) refl
+        (ap (λ x. x.0) same ∙ ap (λ p. p * size) at) refl
         (λ q t. ap (λ (P : Places). get P q) kept)
         (λ q t h. let u : q ≡ key = shown.is.apart q key place h there in
         let v : is_key q key ≡ true = ap (λ k. is_key k key) u ∙ is_key-itself key in absurd (cc))
 
     -- a new key gets the next serial, at the place that it takes
     absent : (next : ℕ) → get state.places key ≡ None
-        → changed (by_serial (with_value a next (place * size)) m) content ≡ changed (by_serial a m) content
-        → RepresentsMap (with_value a next (place * size)) m (with_key key (record { serial = next; bytes = value }) content) new
+        → changed (by_serial (with_value a next (place * size)) m) content
+        ≡ changed (by_serial a m) content
+        → RepresentsMap (with_value a next (place * size)) m
+        (with_key key (record { serial = next; bytes = value }) content) new
     absent next none old =
         let takes = writes.taken none in
-        put_shown (with_value a next (place * size)) (record { serial = next; bytes = value }) refl (put_at-there next (place * size) (a.value m)) old
-        (λ q t. ap (λ (P : Places). get P q) takes.added ∙ get-insert nat_list_cmp_total state.places key place q
+        put_shown (with_value a next (place * size)) (record { serial = next; bytes = value }) refl
+        (put_at-there next (place * size) (a.value m)) old
+        (λ q t. ap (λ (P : Places). get P q) takes.added
+        ∙ get-insert nat_list_cmp_total state.places key place q
         ∙ ap (λ (c : Bool). cond c (Some place) (get state.places q)) t)
         (λ q t h. takes.free q h)
 
@@ -181,15 +215,19 @@ module _ (a : Layout) (m : ℕ) (content : Content) (state : MapState) (shown : 
 
     pub updated_shown : (next : ℕ) (o : Option Stored) → at_key key content ≡ o
         → changed (by_serial (given next o) m) content ≡ changed (by_serial a m) content
-        → RepresentsMap (given next o) m (with_key key (record { serial = serial_given next o; bytes = value }) content) new
+        → RepresentsMap (given next o) m
+        (with_key key (record { serial = serial_given next o; bytes = value }) content) new
     updated_shown next (Some old) e same =
-        present old e (get state.places key) refl (ap (option_map (by_serial a m)) (sym e) ∙ found key)
+        present old e (get state.places key) refl
+        (ap (option_map (by_serial a m)) (sym e) ∙ found key)
     updated_shown next None e same =
-        absent next (no_place (get state.places key) (ap (option_map (by_serial a m)) (sym e) ∙ found key)) same
+        absent next (no_place (get state.places key)
+        (ap (option_map (by_serial a m)) (sym e) ∙ found key)) same
 
 -- ---- states and words
 
-module _ (p : Program) (a : Layout) (s : State) (w : Words) (R : Related p a s w) (K : IsState p s) (m : ℕ) (row : m < length p.maps) where
+module _ (p : Program) (a : Layout) (s : State) (w : Words) (R : Related p a s w) (K : IsState p s)
+    (m : ℕ) (row : m < length p.maps) where
   abbrev state : MapState
   state = map_at w.maps m
 
@@ -199,10 +237,12 @@ module _ (p : Program) (a : Layout) (s : State) (w : Words) (R : Related p a s w
   shown : RepresentsMap a m content state
   shown = R.maps.maps m row
 
-  -- one map changed, and perhaps a serial more
-  map_related : (b : Layout) (next : ℕ) (content : Content) (new : MapState) → ExtendsLayout a b s.next_serial → IsLayout b (length p.maps)
+  -- the words represent the state after one map changed, and perhaps one more serial was given
+  map_related : (b : Layout) (next : ℕ) (content : Content) (new : MapState)
+      → ExtendsLayout a b s.next_serial → IsLayout b (length p.maps)
       → new.row ≡ state.row → RepresentsMap b m content new
-      → Related p b (record s { maps = slice_set s.maps m content; next_serial = next }) (record w { maps = slice_set w.maps m new })
+      → Related p b (record s { maps = slice_set s.maps m content; next_serial = next })
+      (record w { maps = slice_set w.maps m new })
   map_related b next content new E good same h = record {
     slot = R.slot;
     layout = good;
@@ -212,7 +252,9 @@ module _ (p : Program) (a : Layout) (s : State) (w : Words) (R : Related p a s w
     end = E.end ∙ R.end;
     interface = R.interface;
     queue = R.queue;
-    maps = set_shown b p.maps s.maps w.maps m content new (contents_are p s K) same (λ _. h) (maps_old p s K a b E w.maps R.maps);
+    maps =
+        set_shown b p.maps s.maps w.maps m content new (contents_are p s K) same (λ _. h)
+        (maps_old p s K a b E w.maps R.maps);
     calls = R.calls;
   }
 
@@ -220,7 +262,8 @@ module _ (p : Program) (a : Layout) (s : State) (w : Words) (R : Related p a s w
   unchanged = record { depth = λ n h. refl; value = λ k n h. refl; end = refl }
 
   -- a map that did not change, put where it was
-  same_related : (new : MapState) → IsMap new → new.row ≡ state.row → new.places ≡ state.places → new.block ≡ state.block
+  same_related : (new : MapState) → IsMap new → new.row ≡ state.row → new.places ≡ state.places
+      → new.block ≡ state.block
       → Related p a s (record w { maps = slice_set w.maps m new })
   same_related new is same places block = record {
     slot = R.slot;
@@ -231,8 +274,11 @@ module _ (p : Program) (a : Layout) (s : State) (w : Words) (R : Related p a s w
     end = R.end;
     interface = R.interface;
     queue = R.queue;
-    maps = subst (λ contents. RepresentsMaps a p.maps contents (slice_set w.maps m new)) (slice_set-same s.maps m)
-        (set_shown a p.maps s.maps w.maps m content new (contents_are p s K) same (λ _. stays_shown a m content state shown new is same places block) R.maps);
+    maps =
+        subst (λ contents. RepresentsMaps a p.maps contents (slice_set w.maps m new))
+        (slice_set-same s.maps m)
+        (set_shown a p.maps s.maps w.maps m content new (contents_are p s K) same
+        (λ _. stays_shown a m content state shown new is same places block) R.maps);
     calls = R.calls;
   }
     where
@@ -248,51 +294,84 @@ module _ (p : Program) (a : Layout) (s : State) (w : Words) (R : Related p a s w
   not_zero n e = grind (arith, nat_tests)
 
   -- an update: a present key keeps its serial, a new one gets the next
-  pub update_related : (key value : List ℕ) (flags answer : ℕ) (new : MapState) → IsMap new → length value ≡ state.row.value_size
+  pub update_related : (key value : List ℕ) (flags answer : ℕ) (new : MapState) → IsMap new
+      → length value ≡ state.row.value_size
       → Updated key value flags answer state new
-      → (b : Layout) × Related p b (if update_answer state.row content key flags == 0 then put_bytes s m key value else s)
-      (record w { maps = slice_set w.maps m new }) × (answer ≡ update_answer state.row content key flags)
+      → (b : Layout)
+      × Related p b
+      (if update_answer state.row content key flags == 0 then put_bytes s m key value else s)
+      (record w { maps = slice_set w.maps m new })
+      × (answer ≡ update_answer state.row content key flags)
   update_related key value flags answer new is long u =
-      let same : answer ≡ update_answer state.row content key flags = u.answer ∙ update_same a m content state shown key flags in
+      let same : answer ≡ update_answer state.row content key flags =
+      u.answer ∙ update_same a m content state shown key flags in
       by_answer (update_answer state.row content key flags == 0) refl same
     where
       written : answer ≡ 0 → (o : Option Stored) → at_key key content ≡ o
-          → (b : Layout) × Related p b (record s { maps = slice_set s.maps m (with_key key (record { serial = serial_given s.next_serial o; bytes = value }) content); next_serial = serial_after s.next_serial o })
+          → (b : Layout)
+          × Related p b
+          (record s {
+            maps = slice_set s.maps m
+                (with_key key (record { serial = serial_given s.next_serial o; bytes = value })
+                content);
+            next_serial = serial_after s.next_serial o;
+          })
           (record w { maps = slice_set w.maps m new })
       written ok o e =
           let writes = u.updates.writes ok in
-          let b : Layout = given a m content state shown new key value is u.row long writes s.next_serial o in
-          let E = given_extends a m content state shown new key value is u.row long writes s.next_serial o in (
+          let b : Layout = given a m content state shown new key value is u.row long writes
+          s.next_serial o in
+          let E = given_extends a m content state shown new key value is u.row long writes
+          s.next_serial o in (
             b,
-            map_related b (serial_after s.next_serial o) (with_key key (record { serial = serial_given s.next_serial o; bytes = value }) content) new E
-                (given_good a m content state shown new key value is u.row long writes (length p.maps) s.next_serial o R.layout) u.row
-                (updated_shown a m content state shown new key value is u.row long writes s.next_serial o e
-                (content_old a b (length p.maps) s.next_serial E m content (value_serials_given p s m K))),
+            map_related b (serial_after s.next_serial o)
+                (with_key key
+                (record { serial = serial_given s.next_serial o; bytes = value }) content) new E
+                (given_good a m content state shown new key value is u.row long writes
+                (length p.maps) s.next_serial o R.layout) u.row
+                (updated_shown a m content state shown new key value is u.row long writes
+                s.next_serial o e
+                (content_old a b (length p.maps) s.next_serial E m content
+                (value_serials_given p s m K))),
           )
 
-      by_answer : (b : Bool) → (update_answer state.row content key flags == 0) ≡ b → answer ≡ update_answer state.row content key flags
-          → (l : Layout) × Related p l (if b then put_bytes s m key value else s) (record w { maps = slice_set w.maps m new })
+      by_answer : (b : Bool) → (update_answer state.row content key flags == 0) ≡ b
+          → answer ≡ update_answer state.row content key flags
+          → (l : Layout)
+          × Related p l (if b then put_bytes s m key value else s)
+          (record w { maps = slice_set w.maps m new })
           × (answer ≡ update_answer state.row content key flags)
       by_answer true e same =
-          let (b, related) = written (same ∙ is_zero (update_answer state.row content key flags) e) (at_key key content) refl in
+          let (b, related) = written (same ∙ is_zero (update_answer state.row content key flags) e)
+          (at_key key content) refl in
           (b, related, same)
       by_answer false e same =
-          let stays = u.updates.stays (λ z. not_zero (update_answer state.row content key flags) e (sym same ∙ z)) in
+          let stays = u.updates.stays
+          (λ z. not_zero (update_answer state.row content key flags) e (sym same ∙ z)) in
           (a, same_related new is u.row stays.0 stays.1, same)
 
   -- a delete: the dead value's place is still in the layout
-  pub delete_related : (key : List ℕ) (answer : ℕ) (new : MapState) → IsMap new → Deleted key answer state new
-      → Related p a (if delete_answer state.row content key == 0 then remove_key s m key else s) (record w { maps = slice_set w.maps m new })
+  pub delete_related : (key : List ℕ) (answer : ℕ) (new : MapState) → IsMap new
+      → Deleted key answer state new
+      → Related p a (if delete_answer state.row content key == 0 then remove_key s m key else s)
+      (record w { maps = slice_set w.maps m new })
       × (answer ≡ delete_answer state.row content key)
   delete_related key answer new is d =
-      let same : answer ≡ delete_answer state.row content key = d.answer ∙ delete_same a m content state shown key in
+      let same : answer ≡ delete_answer state.row content key =
+      d.answer ∙ delete_same a m content state shown key in
       (by_answer (delete_answer state.row content key == 0) refl same, same)
     where
-      by_answer : (b : Bool) → (delete_answer state.row content key == 0) ≡ b → answer ≡ delete_answer state.row content key
-          → Related p a (if b then remove_key s m key else s) (record w { maps = slice_set w.maps m new })
+      by_answer : (b : Bool) → (delete_answer state.row content key == 0) ≡ b
+          → answer ≡ delete_answer state.row content key
+          → Related p a (if b then remove_key s m key else s)
+          (record w { maps = slice_set w.maps m new })
       by_answer true e same =
           let ok : answer ≡ 0 = same ∙ is_zero (delete_answer state.row content key) e in
           map_related a s.next_serial (without_key key content) new unchanged R.layout d.row
-          (deleted_shown a m content state shown new key is d.row (d.deletes.removes ok) d.deletes.block)
+          (deleted_shown a m content state shown new key is d.row
+          (d.deletes.removes ok) d.deletes.block)
       by_answer false e same =
-          same_related new is d.row (d.deletes.stays (λ z. not_zero (delete_answer state.row content key) e (sym same ∙ z))) d.deletes.block
+          same_related new is d.row
+          (d.deletes.stays
+          (λ z. not_zero (delete_answer state.row content key) e (sym same ∙ z)))
+          d.deletes.block

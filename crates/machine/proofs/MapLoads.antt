@@ -25,23 +25,29 @@ use Rattle.machine.proofs.MapCalls.{found}
 
 module _ (a : Layout) (m : ℕ) (state : MapState) where
   -- an array of one key has its value
-  has_value : (content : Content) → RepresentsMap a m content state → state.row.kind ≡ Array → state.row.entries ≡ 1 → 0 < length content
+  has_value : (content : Content) → RepresentsMap a m content state → state.row.kind ≡ Array
+      → state.row.entries ≡ 1 → 0 < length content
   has_value [] shown array one =
       let here : get state.places (little_bytes 4 0) ≡ Some 0 =
-      ap (λ (P : Places). get P (little_bytes 4 0)) (shown.is.array_places array) ∙ get_index state.row.entries 0 (omega arith) (omega arith) in
+      ap (λ (P : Places). get P (little_bytes 4 0)) (shown.is.array_places array)
+      ∙ get_index state.row.entries 0 (omega arith) (omega arith) in
       let none : None ≡ Some (by_place state.row.value_size state.block 0) =
-      found a m [] state shown (little_bytes 4 0) ∙ ap (option_map (by_place state.row.value_size state.block)) here in
+      found a m [] state shown (little_bytes 4 0)
+      ∙ ap (option_map (by_place state.row.value_size state.block)) here in
       absurd (cc)
   has_value (e ∷ content) shown array one = omega arith
 
-  only_begins : (content : Content) → RepresentsMap a m content state → state.row.kind ≡ Array → state.row.entries ≡ 1 → a.value m (one_serial content) ≡ 0
+  only_begins : (content : Content) → RepresentsMap a m content state → state.row.kind ≡ Array
+      → state.row.entries ≡ 1 → a.value m (one_serial content) ≡ 0
   only_begins content shown array one =
       let some = has_value content shown array one in
       let inside = in_block a m content state shown 0 some in
       let first : (place_at a m content state shown 0).1 ≡ 0 = omega arith in
-      value_starts a m content state shown 0 some ∙ ap (λ n. n * state.row.value_size) first ∙ zero-mul state.row.value_size
+      value_starts a m content state shown 0 some ∙ ap (λ n. n * state.row.value_size) first
+      ∙ zero-mul state.row.value_size
 
-module _ (p : Program) (a : Layout) (s : State) (w : Words) (R : Related p a s w) (K : IsState p s) where
+module _ (p : Program) (a : Layout) (s : State) (w : Words) (R : Related p a s w)
+    (K : IsState p s) where
   -- the word of a pointer into the only value
   pub only_value : (m offset : ℕ) → IsSomeAnd (slice_get p.maps m) (HoldsOffset offset)
       → Represents a (value_pointer s m offset) (values_base m + offset) × (m < max_maps)
@@ -56,5 +62,6 @@ module _ (p : Program) (a : Layout) (s : State) (w : Words) (R : Related p a s w
           let both : Some row ≡ Some (map_at w.maps m).row = sym e ∙ row_of p a s w R K m inside in
           let same : row ≡ (map_at w.maps m).row = cc in
           let begins = only_begins a m (map_at w.maps m) (content_of s m) (R.maps.maps m inside)
-          (ap (λ (r : MapDef). r.kind) (sym same) ∙ h.array) (ap (λ (r : MapDef). r.entries) (sym same) ∙ h.one) in
+          (ap (λ (r : MapDef). r.kind) (sym same) ∙ h.array)
+          (ap (λ (r : MapDef). r.entries) (sym same) ∙ h.one) in
           (omega arith, omega arith)

@@ -1,4 +1,4 @@
--- What the runs of words come to, where every run exits within the bound.
+-- The results of runs of words, where every run exits within the bound.
 use Rattle.std.proofs.Common.{◌≡◌, ℕ, ◌+◌, ◌<◌, ◌≤◌, ◌^◌, List, length, sym, ap, subst, ◌∙◌}
 use Rattle.std.proofs.lemmas.List.{nil_from_length}
 use Rattle.std.specs.Prelude.{All, vec_capacity}
@@ -24,7 +24,8 @@ use Rattle.machine.specs.Running.{RunsWithinBound, AnswersRun}
 use Rattle.machine.specs.Ready.{IsReady}
 
 -- the machine of an accepted program, whose maps fit its rows
-pub starts_running : (a : Bounded) (contents : List KeyValues) → IsVerified a → FitRows a.program.maps contents
+pub starts_running : (a : Bounded) (contents : List KeyValues) → IsVerified a
+    → FitRows a.program.maps contents
     → RunsWithinBound (record { program = a.program; bound = a.bound; contents = contents })
 starts_running a contents h fits = record {
   is_program = IsProgram-IsImage a.program h.image;
@@ -38,11 +39,20 @@ starts_running a contents h fits = record {
 abbrev pub memory_at : Memory → FrameHead → Memory
 memory_at memory head = record memory { interface = head.interface; queue = head.queue }
 
-module _ (p : Program) (bound : ℕ) (memory : Memory) (ready : IsReady p bound memory) (head : FrameHead) (packet : List ℕ) (clock : ℕ → ℕ)
-    (fits : IsClock clock) (short : length packet ≤ max_packet) (bytes : AreBytes packet) (interface : head.interface < 2 ^ 32) (queue : head.queue < 2 ^ 32)
+module _ (p : Program) (bound : ℕ) (memory : Memory) (ready : IsReady p bound memory)
+    (head : FrameHead) (packet : List ℕ) (clock : ℕ → ℕ)
+    (fits : IsClock clock) (short : length packet ≤ max_packet) (bytes : AreBytes packet)
+    (interface : head.interface < 2 ^ 32) (queue : head.queue < 2 ^ 32)
     (are : All IsMap memory.maps) where
   given : IsGiven p head packet (contents_of memory.maps)
-  given = record { short = short; bytes = bytes; interface = interface; queue = queue; maps = ready.running.fits }
+  given =
+      record {
+        short = short;
+        bytes = bytes;
+        interface = interface;
+        queue = queue;
+        maps = ready.running.fits;
+      }
 
   is_start : IsStart p clock bound head packet memory.frames.items memory.maps
   is_start = record {
@@ -60,14 +70,19 @@ module _ (p : Program) (bound : ℕ) (memory : Memory) (ready : IsReady p bound 
   first = words_of 0 start_words (memory_at memory head) packet 0
 
   at_start : first ≡ start_of head packet memory.frames.items memory.maps
-  at_start = ap {A = List Saved} {B = Words} (λ saved. record (start_of head packet memory.frames.items memory.maps) { saved = saved }) ready.outer
+  at_start =
+      ap {A = List Saved} {B = Words}
+      (λ saved. record (start_of head packet memory.frames.items memory.maps) { saved = saved })
+      ready.outer
 
-  -- the run comes to its end
+  -- the run ends
   pub run_ends : EndsInTime p clock first
   run_ends = record {
     bound = bound;
     most = ready.running.most;
-    ends = subst (λ w. EndsSafely p clock w bound) (sym at_start) (start_Ends p clock bound head packet memory.frames.items memory.maps is_start);
+    ends =
+        subst (λ w. EndsSafely p clock w bound) (sym at_start)
+        (start_Ends p clock bound head packet memory.frames.items memory.maps is_start);
   }
 
   module _ (number steps slot asked : ℕ) (regs : List ℕ) (left : Memory) (after : List ℕ)
@@ -77,12 +92,15 @@ module _ (p : Program) (bound : ℕ) (memory : Memory) (ready : IsReady p bound 
 
     word_answers : WordAnswers p clock bound head packet memory.maps number steps last
     word_answers =
-        start_Answers p clock bound head packet memory.frames.items memory.maps is_start number steps last
+        start_Answers p clock bound head packet memory.frames.items memory.maps is_start number
+        steps last
         (subst (λ w. Exits p clock w number steps last) at_start exits)
 
     -- what it leaves is the outcome
     pub run_answers : (coming : ℕ → ℕ) → ((k : ℕ) → coming k ≡ clock (asked + k))
-        → AnswersRun (record { program = p; bound = bound; contents = contents_of memory.maps }) head packet clock
+        → AnswersRun
+        (record { program = p; bound = bound; contents = contents_of memory.maps }) head packet
+        clock
         (record { r0 = number; steps = steps }) after (contents_of left.maps) coming
     run_answers coming comes = record {
       outcome = word_answers.outcome;
@@ -104,7 +122,9 @@ module _ (p : Program) (bound : ℕ) (memory : Memory) (ready : IsReady p bound 
         some = ready.running.some;
         most = ready.running.most;
         fits = subst (FitRows p.maps) (sym word_answers.contents_are)
-            (FitRows-HasOutcome p head packet (contents_of memory.maps) clock word_answers.outcome ready.running.is_program fits given word_answers.found);
+            (FitRows-HasOutcome p head packet
+            (contents_of memory.maps) clock word_answers.outcome ready.running.is_program fits
+            given word_answers.found);
       };
       few = ready.few;
       rows = word_answers.rows;

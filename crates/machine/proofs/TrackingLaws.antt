@@ -23,26 +23,32 @@ use Rattle.machine.proofs.Moves.{OkMove, not_last, moves}
 use Rattle.machine.specs.Tracking.{Finishes, Tracks}
 
 -- a step that does not trap has an instruction
-fetched : (p : Program) (clock : ℕ → ℕ) (s : State) (P : State → Type 0) → After P (step p clock s) → (i : Insn) × (fetch p s.slot ≡ Some i)
+fetched : (p : Program) (clock : ℕ → ℕ) (s : State) (P : State → Type 0) → After P (step p clock s)
+    → (i : Insn) × (fetch p s.slot ≡ Some i)
 unfolding step
 fetched p clock s P h = by_fetch (fetch p s.slot) refl h
   where
-    by_fetch : (o : Option Insn) → fetch p s.slot ≡ o → After P (performed_at p clock s o) → (i : Insn) × (fetch p s.slot ≡ Some i)
+    by_fetch : (o : Option Insn) → fetch p s.slot ≡ o → After P (performed_at p clock s o)
+        → (i : Insn) × (fetch p s.slot ≡ Some i)
     by_fetch None e h = absurd h
     by_fetch (Some i) e h = (i, e)
 
 -- and its instruction does not write r10
-not_read_only : (p : Program) (clock : ℕ → ℕ) (s : State) (P : State → Type 0) (i : Insn) → fetch p s.slot ≡ Some i → After P (step p clock s)
+not_read_only : (p : Program) (clock : ℕ → ℕ) (s : State) (P : State → Type 0) (i : Insn)
+    → fetch p s.slot ≡ Some i → After P (step p clock s)
     → is_frame_pointer (writes i) ≡ false
 unfolding step
 not_read_only p clock s P i found h =
-    unset (list_any (λ r. is_unset (reg s r)) (reads i)) (subst (λ o. After P (performed_at p clock s o)) found h)
+    unset (list_any (λ r. is_unset (reg s r)) (reads i))
+    (subst (λ o. After P (performed_at p clock s o)) found h)
   where
     own : (b : Bool) (r : StepResult) → After P (if b then Trapped ReadOnly else r) → b ≡ false
     own true r h = absurd h
     own false r h = refl
 
-    unset : (b : Bool) → After P (if b then Trapped UnsetRead else if is_frame_pointer (writes i) then Trapped ReadOnly else act p clock s i)
+    unset : (b : Bool)
+        → After P (if b then Trapped UnsetRead
+        else if is_frame_pointer (writes i) then Trapped ReadOnly else act p clock s i)
         → is_frame_pointer (writes i) ≡ false
     unset true h = absurd h
     unset false h = own (is_frame_pointer (writes i)) (act p clock s i) h
@@ -50,11 +56,15 @@ not_read_only p clock s P i found h =
 module _ (p : Program) (clock : ℕ → ℕ) (program : IsProgram p) (answers : IsClock clock) where
   -- ---- runs that end
 
-  -- a step that does not trap says what the move needs, and what holds of the next words where it holds of the next states
-  stands : (P : Words → Type 0) (Q : State → Type 0) (a : Layout) (s : State) (w : Words) (R : Related p a s w) (K : IsState p s) (i : Insn) → fetch p s.slot ≡ Some i
-      → is_frame_pointer (writes i) ≡ false → (q : StepResult) → After Q q → OkMove p clock a s w R K i q → IfNext q (IsState p)
-      → ((b : Layout) (t : State) (v : Words) → Related p b t v → IsState p t → Q t → P v) → CanStepTo p clock w P
-  stands P Q a s w R K i found own q ends move keeps rest = by_step q ends move keeps
+  -- a step that does not trap meets what the move needs, and what holds of the next states carries
+  -- over to the next words
+  carried_over : (P : Words → Type 0) (Q : State → Type 0) (a : Layout) (s : State) (w : Words)
+      (R : Related p a s w) (K : IsState p s) (i : Insn) → fetch p s.slot ≡ Some i
+      → is_frame_pointer (writes i) ≡ false → (q : StepResult) → After Q q
+      → OkMove p clock a s w R K i q → IfNext q (IsState p)
+      → ((b : Layout) (t : State) (v : Words) → Related p b t v → IsState p t → Q t → P v)
+      → CanStepTo p clock w P
+  carried_over P Q a s w R K i found own q ends move keeps rest = by_step q ends move keeps
     where
       shallow : length w.saved < max_call_frames
       shallow = let d = R.frames.depth in let e = K.depth in omega arith
@@ -62,7 +72,8 @@ module _ (p : Program) (clock : ℕ → ℕ) (program : IsProgram p) (answers : 
       short : length w.packet ≤ max_packet
       short = let e = ap length R.packet in let f = K.short in omega arith
 
-      by_step : (q : StepResult) → After Q q → OkMove p clock a s w R K i q → IfNext q (IsState p) → CanStepTo p clock w P
+      by_step : (q : StepResult) → After Q q → OkMove p clock a s w R K i q → IfNext q (IsState p)
+          → CanStepTo p clock w P
       by_step (Next t) ends move keeps = record {
         insn = i;
         found = ap (fetch p) R.slot ∙ found;
@@ -83,35 +94,45 @@ module _ (p : Program) (clock : ℕ → ℕ) (program : IsProgram p) (answers : 
       }
       by_step (Trapped e) ends move keeps = absurd ends
 
-  -- what ends in the model ends in words
-  pub related_Ends : (n : ℕ) (a : Layout) (s : State) (w : Words) → Related p a s w → IsState p s → ModelEnds p clock s n → EndsSafely p clock w n
+  -- a run that ends in the model ends in words
+  pub related_Ends : (n : ℕ) (a : Layout) (s : State) (w : Words) → Related p a s w → IsState p s
+      → ModelEnds p clock s n → EndsSafely p clock w n
   unfolding ModelEnds EndsSafely
   related_Ends zero a s w R K h = absurd h
   related_Ends (suc n) a s w R K h =
       let (i, found) = fetched p clock s (λ t. ModelEnds p clock t n) h in
-      stands (λ v. EndsSafely p clock v n) (λ t. ModelEnds p clock t n) a s w R K i found
-      (not_read_only p clock s (λ t. ModelEnds p clock t n) i found h) (step p clock s) h (moves p clock a s w R K i found program)
-      (step_keeps p clock s program answers K) (λ b t v related keeps ends. related_Ends n b t v related keeps ends)
+      carried_over (λ v. EndsSafely p clock v n) (λ t. ModelEnds p clock t n) a s w R K i found
+      (not_read_only p clock s (λ t. ModelEnds p clock t n) i found h) (step p clock s) h
+      (moves p clock a s w R K i found program)
+      (step_keeps p clock s program answers K)
+      (λ b t v related keeps ends. related_Ends n b t v related keeps ends)
 
   -- ---- runs so far
 
   same_insn : (slot : ℕ) (i j : Insn) → fetch p slot ≡ Some i → fetch p slot ≡ Some j → i ≡ j
   same_insn slot i j e f = let g : Some i ≡ Some j = sym e ∙ f in cc
 
-  -- what ends has a step more
-  some_left : (s : State) (n : ℕ) → ModelEnds p clock s n → (m : ℕ) × (n ≡ suc m) × After (λ t. ModelEnds p clock t m) (step p clock s)
+  -- a run that ends has one more step
+  some_left : (s : State) (n : ℕ) → ModelEnds p clock s n
+      → (m : ℕ) × (n ≡ suc m) × After (λ t. ModelEnds p clock t m) (step p clock s)
   unfolding ModelEnds
   some_left s zero h = absurd h
   some_left s (suc m) h = (m, refl, h)
 
-  one_more : (s : State) (n k : ℕ) (u v : Words) → Tracks p clock s n k u → WordsStepTo p clock u v → Tracks p clock s n (suc k) v
+  one_more : (s : State) (n k : ℕ) (u v : Words) → Tracks p clock s n k u → WordsStepTo p clock u v
+      → Tracks p clock s n (suc k) v
   one_more s n k u v F S =
       let (m, left, ends) = some_left F.state F.left F.ends in
-      let found : fetch p F.state.slot ≡ Some S.insn = ap (fetch p) (sym F.related.slot) ∙ S.found in
-      goes m left (step p clock F.state) refl ends (moves p clock F.layout F.state u F.related F.is S.insn found program) (step_keeps p clock F.state program answers F.is)
+      let found : fetch p F.state.slot ≡ Some S.insn =
+      ap (fetch p) (sym F.related.slot) ∙ S.found in
+      goes m left (step p clock F.state) refl ends
+      (moves p clock F.layout F.state u F.related F.is S.insn found program)
+      (step_keeps p clock F.state program answers F.is)
     where
-      goes : (m : ℕ) → F.left ≡ suc m → (q : StepResult) → step p clock F.state ≡ q → After (λ t. ModelEnds p clock t m) q
-          → OkMove p clock F.layout F.state u F.related F.is S.insn q → IfNext q (IsState p) → Tracks p clock s n (suc k) v
+      goes : (m : ℕ) → F.left ≡ suc m → (q : StepResult) → step p clock F.state ≡ q
+          → After (λ t. ModelEnds p clock t m) q
+          → OkMove p clock F.layout F.state u F.related F.is S.insn q → IfNext q (IsState p)
+          → Tracks p clock s n (suc k) v
       goes m left (Next t) e ends move keeps =
           let (b, related) = move.2 v S.moves in
           record {
@@ -127,7 +148,8 @@ module _ (p : Program) (clock : ℕ → ℕ) (program : IsProgram p) (answers : 
       goes m left (Finished x) e ends move keeps = absurd (S.goes move.0)
       goes m left (Trapped x) e ends move keeps = absurd ends
 
-  pub related_Reaches : (k n : ℕ) (a : Layout) (s : State) (w v : Words) → Related p a s w → IsState p s → ModelEnds p clock s n
+  pub related_Reaches : (k n : ℕ) (a : Layout) (s : State) (w v : Words) → Related p a s w
+      → IsState p s → ModelEnds p clock s n
       → WordsReach p clock w k v → Tracks p clock s n k v
   unfolding WordsReach
   related_Reaches zero n a s w v R K h r = record {
@@ -146,7 +168,8 @@ module _ (p : Program) (clock : ℕ → ℕ) (program : IsProgram p) (answers : 
 
   -- ---- exits
 
-  pub related_Exits : (n : ℕ) (a : Layout) (s : State) (w v : Words) (number steps : ℕ) → Related p a s w → IsState p s → ModelEnds p clock s n
+  pub related_Exits : (n : ℕ) (a : Layout) (s : State) (w v : Words) (number steps : ℕ)
+      → Related p a s w → IsState p s → ModelEnds p clock s n
       → Exits p clock w number steps v → Finishes p clock s n number steps v
   related_Exits n a s w v number steps R K h e =
       let F = related_Reaches e.before n a s w v R K h e.reached in
@@ -155,13 +178,17 @@ module _ (p : Program) (clock : ℕ → ℕ) (program : IsProgram p) (answers : 
       record {
         before = e.before;
         follows = F;
-        exits = finished F m (step p clock F.state) refl ends (moves p clock F.layout F.state v F.related F.is Exit found program);
+        exits =
+            finished F m (step p clock F.state) refl ends
+            (moves p clock F.layout F.state v F.related F.is Exit found program);
         counted = e.counted ∙ add-one e.before;
         in_time = let c = e.counted in let t = F.in_time in omega arith;
       }
     where
-      finished : (F : Tracks p clock s n e.before v) (m : ℕ) (q : StepResult) → step p clock F.state ≡ q → After (λ t. ModelEnds p clock t m) q
-          → OkMove p clock F.layout F.state v F.related F.is Exit q → step p clock F.state ≡ Finished number
+      finished : (F : Tracks p clock s n e.before v) (m : ℕ) (q : StepResult)
+          → step p clock F.state ≡ q → After (λ t. ModelEnds p clock t m) q
+          → OkMove p clock F.layout F.state v F.related F.is Exit q
+          → step p clock F.state ≡ Finished number
       finished F m (Next t) f ends move = absurd (not_last v Exit move.1 (refl, e.first))
       finished F m (Finished x) f ends move = f ∙ ap Finished (sym (e.answer ∙ move.1))
       finished F m (Trapped x) f ends move = absurd ends

@@ -1,4 +1,4 @@
--- Whole runs from the start: words come to their end, and what they leave then is the outcome.
+-- Whole runs from the start: the run of the words ends, and what it leaves is the outcome.
 use Rattle.std.proofs.Common.{◌≡◌, ℕ, ◌≤◌, List, length}
 use Rattle.std.specs.Prelude.{All}
 use Rattle.word_machine.specs.Addresses.{frames_size}
@@ -15,7 +15,8 @@ use Rattle.word_machine.specs.Words.{Words}
 
 -- what a run is given: a program all of whose runs end within n steps, with no more maps than
 -- `max_maps`
-pub record IsStart (p : Program) (clock : ℕ → ℕ) (n : ℕ) (head : FrameHead) (packet frames : List ℕ) (maps : List MapState) : Type 0 where
+pub record IsStart (p : Program) (clock : ℕ → ℕ) (n : ℕ) (head : FrameHead) (packet frames : List ℕ)
+    (maps : List MapState) : Type 0 where
   pub program : IsProgram p
   pub ends : StartsEnd p n
   pub answers : IsClock clock
@@ -27,7 +28,8 @@ pub record IsStart (p : Program) (clock : ℕ → ℕ) (n : ℕ) (head : FrameHe
 
 -- the number, the steps and what is left are those of the run's outcome, which has at most n steps;
 -- the first call frame is the only one again, and the maps are still those of the rows
-pub record AnswersAsModel (p : Program) (clock : ℕ → ℕ) (n : ℕ) (head : FrameHead) (packet : List ℕ) (maps : List MapState) (number steps : ℕ) (v : Words) : Type 0 where
+pub record AnswersAsModel (p : Program) (clock : ℕ → ℕ) (n : ℕ) (head : FrameHead) (packet : List ℕ)
+    (maps : List MapState) (number steps : ℕ) (v : Words) : Type 0 where
   pub outcome : Outcome
   pub found : HasOutcome p head packet (contents_of maps) clock outcome
   pub few : outcome.steps ≤ n

@@ -7,10 +7,11 @@ use Rattle.maps.specs.Maps.{rows_of, contents_of}
 use Rattle.word_machine.specs.declared.memory.Memory.{Memory}
 use Rattle.machine.specs.Running.{RunsWithinBound}
 
--- its runs exit; there are no more maps than addresses; the block of call frames has its bytes, no
--- caller waits, and there is room for the callers of a run
+-- its runs exit; each map has addresses; the block of call frames has its full size; there is no
+-- caller, and room for the callers of a run
 pub record IsReady (p : Program) (bound : ℕ) (memory : Memory) : Type 0 where
-  pub running : RunsWithinBound (record { program = p; bound = bound; contents = contents_of memory.maps })
+  pub running : RunsWithinBound
+      (record { program = p; bound = bound; contents = contents_of memory.maps })
   pub few : length p.maps ≤ max_maps
   pub rows : rows_of memory.maps ≡ p.maps
   pub whole : length memory.frames.items ≡ frames_size

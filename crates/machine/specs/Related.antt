@@ -1,5 +1,6 @@
--- How words represent a state, under one layout: which depth each call frame's serial has, and
--- where in its map's block each value's serial begins. What is gone keeps its place.
+-- How words represent a state under a layout. The layout says at which depth the call frame of each
+-- serial is, and where in its map's block the map value of each serial begins; what has ended stays
+-- in it.
 use Rattle.std.specs.Prelude.{◌≡◌, ℕ, suc, ◌+◌, ◌-◌, ◌*◌, ◌<◌, ◌≤◌, ℤ, pos, negsuc, List, [], ◌∷◌, length, slice_index, slice_index_or}
 use Rattle.std.specs.FinMap.{entries}
 use Rattle.std.specs.Int.{byte_at}
@@ -22,8 +23,8 @@ use Rattle.word_machine.specs.Addresses.{context_base, packet_base, map_base, va
 use Rattle.word_machine.specs.declared.memory.Saved.{Saved}
 use Rattle.word_machine.specs.Words.{Words, saved_at}
 
--- one total assignment: `depth` of a call frame's serial, `value` of a map and a value's serial;
--- `end` is the packet's length
+-- `depth` is of a call frame's serial, `value` of a map and the serial of one of its values, both
+-- for all serials; `end` is the packet's length
 pub record Layout : Type 0 where
   pub depth : ℕ → ℕ
   pub value : ℕ → ℕ → ℕ
@@ -50,7 +51,7 @@ abbrev pub moved : ℕ → ℤ → ℕ
 moved at (pos n) = at + n
 moved at (negsuc n) = at - suc n
 
--- the word of a pointer; the packet end is a place by itself
+-- the word of a pointer; a pointer to the packet end has one word, whatever its offset
 abbrev pub word : Layout → Region → ℤ → ℕ
 word a region.PacketEnd z = region_start a region.PacketEnd
 word a r z = moved (region_start a r) z
@@ -85,35 +86,40 @@ pub record RepresentsFrame (a : Layout) (f : CallFrame) (j : ℕ) (frames : List
   pub depth : a.depth f.serial ≡ j
   pub cells : RepresentsCells a f.cells (bytes_at frames (j * frame_size) frame_size)
 
--- what is kept for the caller, whose exit leads back
+-- what is kept for the caller: the slot to return to, and r6 to r9
 pub record RepresentsSaved (a : Layout) (f : CallFrame) (s : Saved) : Type 0 where
   pub back : s.back ≡ f.return_slot
   pub kept : (k : ℕ) → Represents a (value_at f.saved k) (slice_index s.kept k)
 
 -- each call frame but the first has a caller
-pub record RepresentsFrames (a : Layout) (fs : List CallFrame) (block : List ℕ) (callers : List Saved) : Type 0 where
+pub record RepresentsFrames (a : Layout) (fs : List CallFrame) (block : List ℕ)
+    (callers : List Saved) : Type 0 where
   pub whole : length block ≡ frames_size
   pub depth : length fs ≡ length callers + 1
   pub frames : (j : ℕ) → j < length fs → RepresentsFrame a (frame_at fs j) j block
-  pub saved : (j : ℕ) → j < length callers → RepresentsSaved a (frame_at fs (j + 1)) (saved_at callers j)
+  pub saved : (j : ℕ) → j < length callers
+      → RepresentsSaved a (frame_at fs (j + 1)) (saved_at callers j)
 
 -- ---- maps
 
--- where a value begins, and its bytes: by its serial, and by its place
+-- where a map value begins, and its bytes: by its serial, and by its place
 abbrev pub by_serial : Layout → ℕ → Stored → (ℕ × List ℕ)
 by_serial a m v = (a.value m v.serial, v.bytes)
 
 abbrev pub by_place : ℕ → List ℕ → ℕ → (ℕ × List ℕ)
 by_place size block place = (place * size, row_at size block place)
 
--- the keys are the same, in their order, and so are each key's beginning and bytes
+-- the keys are the same, in their order, and so are where each value begins and its bytes
 pub record RepresentsMap (a : Layout) (m : ℕ) (content : Content) (map : MapState) : Type 0 where
   pub is : IsMap map
-  pub same : changed (by_serial a m) content ≡ changed (by_place map.row.value_size map.block) (entries map.places)
+  pub same : changed (by_serial a m) content
+      ≡ changed (by_place map.row.value_size map.block) (entries map.places)
 
-pub record RepresentsMaps (a : Layout) (defs : List MapDef) (contents : List Content) (states : List MapState) : Type 0 where
+pub record RepresentsMaps (a : Layout) (defs : List MapDef) (contents : List Content)
+    (states : List MapState) : Type 0 where
   pub rows : rows_of states ≡ defs
-  pub maps : (m : ℕ) → m < length defs → RepresentsMap a m (slice_index_or contents m []) (map_at states m)
+  pub maps : (m : ℕ) → m < length defs
+      → RepresentsMap a m (slice_index_or contents m []) (map_at states m)
 
 -- ---- states
 

@@ -1,4 +1,4 @@
--- What callers see of the machine, and what its runs answer.
+-- What callers see of the machine, and the results of its runs.
 use Rattle.std.specs.Prelude.{◌≡◌, ℕ, ◌+◌, ◌≤◌, List}
 use Rattle.isa_model.specs.declared.frames.FrameHead.{FrameHead}
 use Rattle.isa_model.specs.Code.Instructions.{Program}
@@ -23,8 +23,8 @@ pub record RunsWithinBound (r : Running) : Type 0 where
   pub most : r.bound ≤ max_steps
   pub fits : FitRows r.program.maps r.contents
 
--- A run answers its outcome, which has at most as many steps as the bound: the number and the steps, the packet and
--- the contents that it leaves, and the clock's coming answers.
+-- a run returns its outcome, which has no more steps than the bound: the number and the steps, the
+-- packet and the contents that it leaves, and the clock's next answers
 pub record AnswersRun (r : Running) (head : FrameHead) (packet : List ℕ) (clock : ℕ → ℕ)
     (exit : Exit) (after : List ℕ) (left : List KeyValues) (coming : ℕ → ℕ) : Type 0 where
   pub outcome : Outcome

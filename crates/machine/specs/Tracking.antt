@@ -9,8 +9,8 @@ use Rattle.isa_model.specs.Running.Ends.{Ends as ModelEnds}
 use Rattle.word_machine.specs.Words.{Words}
 use Rattle.machine.specs.Related.{Layout, Related}
 
--- the run in the model from s, which ends within n steps, is after k of them in a state that the
--- words represent
+-- the model's run from s, which ends within n steps, is after k steps in a state that the words
+-- represent
 pub record Tracks (p : Program) (clock : ℕ → ℕ) (s : State) (n k : ℕ) (v : Words) : Type 0 where
   pub state : State
   pub layout : Layout
@@ -21,8 +21,9 @@ pub record Tracks (p : Program) (clock : ℕ → ℕ) (s : State) (n k : ℕ) (v
   pub in_time : k + left ≡ n
   pub ends : ModelEnds p clock state left
 
--- and exits there with this number
-pub record Finishes (p : Program) (clock : ℕ → ℕ) (s : State) (n number steps : ℕ) (v : Words) : Type 0 where
+-- the same, and the next step is the exit, with this number
+pub record Finishes (p : Program) (clock : ℕ → ℕ) (s : State) (n number steps : ℕ)
+    (v : Words) : Type 0 where
   pub before : ℕ
   pub follows : Tracks p clock s n before v
   pub exits : step p clock follows.state ≡ Finished number

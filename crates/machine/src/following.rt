@@ -1,11 +1,11 @@
-//! How the machine of words runs the programs of the model: `specs/Related` says when words
-//! represent a state, `proofs/Moves` that a step of the state is a step of the words, and
-//! `specs/Tracking` the same of runs.
+//! The machine of words runs programs as the model does: `specs/Related` says when words represent
+//! a state, `proofs/Moves` proves that a step of the state is a move, a step of the words, and
+//! `specs/Tracking` says the same of runs.
 
 ghost use Rattle.machine.specs.Following.{EndsInWords, MovesAreSteps, ExitsAgree, StartsEndInWords, ExitsAreOutcomes};
 
-/// The relation's laws: runs of words that begin related to a state end as the model's do, and
-/// each of their moves is a step; and from a start what they come to is the outcome.
+/// A run from words that represent a state ends as the model's run from that state does, and each
+/// of its moves is a step. From a start, what it leaves is the outcome.
 pub fn words_follow_states()
     ensures ends { EndsInWords }
     ensures moves { MovesAreSteps }

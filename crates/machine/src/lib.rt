@@ -1,4 +1,4 @@
-//! The machine for programs that were accepted: it refuses no run.
+//! The machine for accepted programs: every run exits.
 #![tactic(auto)]
 
 pub mod following;

@@ -20,15 +20,14 @@ use word_machine::loaded::Loaded;
 use word_machine::memory::Memory;
 use word_machine::run::run;
 
-/// How a run ended: its result, and how many instructions it had.
+/// How a run ended: the number in r0, and how many steps it took.
 #[derive(Clone, Copy, PartialEq, Eq, Debug)]
 pub struct Exit {
     pub r0: u64,
     pub steps: u32,
 }
 
-/// A machine that runs an accepted program. Every run exits within the program's bound, and none is
-/// refused.
+/// A machine that runs an accepted program. Every run exits within the program's bound.
 ///
 /// Contracts see its program with the bound, and the maps' contents between runs.
 #[derive(Drop)]
@@ -54,7 +53,7 @@ impl Model for Machine {
     ghost invariant = { λ machine. IsReady machine.program machine.bound machine.memory };
 }
 
-// What their types say of a head and of a packet.
+// Makes known to proofs what the types of a head and a packet say.
 fn in_range(head: FrameHead, packet: &[u8])
     ensures interface { head.interface < 2 ^ 32 }
     ensures queue { head.queue < 2 ^ 32 }
@@ -66,7 +65,7 @@ fn in_range(head: FrameHead, packet: &[u8])
 }
 
 impl Machine {
-    /// Takes the program's maps, and makes all room that runs fill.
+    /// Takes the program's maps, and all memory that runs need.
     pub fn new(alloc: Global, verified: Verified, maps: Maps) -> Result<Self, VmError>
         requires rows { rows_of maps ≡ verified.program.maps }
         ensures made { IfOk result (λ machine. machine ≡ record {
@@ -90,7 +89,7 @@ impl Machine {
         })
     }
 
-    /// Gives the maps back.
+    /// Returns the maps.
     pub fn into_maps(self) -> Maps
         ensures rows { rows_of result ≡ self.program.maps }
         ensures contents { contents_of result ≡ self.contents }
@@ -166,7 +165,8 @@ impl Machine {
     }
 
     /// Copies the k-th key of a map with its value between runs, from 0, in the order of the
-    /// report, and answers whether there is one. It takes no memory, but goes through all keys.
+    /// report, and returns whether there is one. It takes no memory, but it takes time for all keys
+    /// of the map.
     pub fn copy_key_value(&mut self, map: usize, k: usize, key: &mut [u8], value: &mut [u8]) -> bool
         requires map { map < length self.old.program.maps }
         requires key_size { length key.old ≡ (row_at self.old map).key_size }
@@ -177,8 +177,8 @@ impl Machine {
     {
         self.memory.maps.say_fits();
         let mut front = [0; MAX_KEY_SIZE as usize];
-        let entries = self.memory.maps.order(map);
-        let Some(found) = entries.entry(k, &mut front) else {
+        let key_values = self.memory.maps.order(map);
+        let Some(found) = key_values.key_value(k, &mut front) else {
             return false;
         };
         key.copy_from_slice(&front[..key.len()]);

@@ -19,22 +19,26 @@ use Rattle.map_indexes.specs.ArrayLaws.{got_index}
 little_number-little_bytes : (n : ℕ) → n < 2 ^ 32 → little_number 4 (little_bytes 4 n) ≡ n
 little_number-little_bytes n h = little_number-reads_back 4 n [] (omega arith)
 
--- each index below n is found, of as many as 32 bits count
+-- each index below n is found, where n is at most 2^32
 pub get_index : (n i : ℕ) → n ≤ 2 ^ 32 → i < n → get (array_places n) (little_bytes 4 i) ≡ Some i
 get_index zero i small l = absurd (omega arith)
 get_index (suc n) i small l =
     get-insert nat_list_cmp_total (array_places n) (little_bytes 4 n) n (little_bytes 4 i)
-    ∙ elim (is_key (little_bytes 4 i) (little_bytes 4 n)) as (λ b. is_key (little_bytes 4 i) (little_bytes 4 n) ≡ b → cond b (Some n) (get (array_places n) (little_bytes 4 i)) ≡ Some i) [
+    ∙ elim (is_key (little_bytes 4 i) (little_bytes 4 n)) as (λ b. is_key (little_bytes 4 i)
+    (little_bytes 4 n) ≡ b → cond b (Some n) (get (array_places n) (little_bytes 4 i)) ≡ Some i) [
       | true ↦ λ t.
           let same : n ≡ i =
-          sym (little_number-little_bytes n (omega arith)) ∙ ap (little_number 4) (sym (is_key-equal (little_bytes 4 i) (little_bytes 4 n) t))
+          sym (little_number-little_bytes n (omega arith))
+          ∙ ap (little_number 4) (sym (is_key-equal (little_bytes 4 i) (little_bytes 4 n) t))
           ∙ little_number-little_bytes i (omega arith) in
           ap Some same
       | false ↦ λ t. elim (cases_lt i n) [
         | inl below ↦ get_index n i (omega arith) below
         | inr above ↦
             let same : i ≡ n = omega arith in
-            let u : is_key (little_bytes 4 i) (little_bytes 4 n) ≡ true = ap (λ (x : ℕ). is_key (little_bytes 4 i) (little_bytes 4 x)) (sym same) ∙ is_key-itself (little_bytes 4 i) in
+            let u : is_key (little_bytes 4 i) (little_bytes 4 n) ≡ true =
+            ap (λ (x : ℕ). is_key (little_bytes 4 i) (little_bytes 4 x)) (sym same)
+            ∙ is_key-itself (little_bytes 4 i) in
             absurd (cc)
       ]
     ] refl
@@ -45,23 +49,29 @@ len-array_places zero small = len-empty key_order ℕ
 len-array_places (suc n) small =
     let h = len-array_places n (omega arith) in
     let absent : get (array_places n) (little_bytes 4 n) ≡ None =
-    elim (get (array_places n) (little_bytes 4 n)) as (λ o. get (array_places n) (little_bytes 4 n) ≡ o → o ≡ None) [
+    elim (get (array_places n) (little_bytes 4 n)) as (λ o. get (array_places n) (little_bytes 4 n)
+    ≡ o → o ≡ None) [
       | None ↦ λ e. refl
       | Some p ↦ λ e.
           let g = got_index n (little_bytes 4 n) p e in
           let l = g.0 in
-          let same : n ≡ p = sym (little_number-little_bytes n (omega arith)) ∙ ap (little_number 4) g.1 ∙ little_number-little_bytes p (omega arith) in
+          let same : n ≡ p =
+          sym (little_number-little_bytes n (omega arith)) ∙ ap (little_number 4) g.1
+          ∙ little_number-little_bytes p (omega arith) in
           absurd (omega arith)
     ] refl in
     len-insert nat_list_cmp_total (array_places n) (little_bytes 4 n) n
-    ∙ ap (λ (o : Option ℕ). cond (is_some o) (len (array_places n)) (len (array_places n) + 1)) absent
+    ∙ ap (λ (o : Option ℕ). cond (is_some o) (len (array_places n)) (len (array_places n) + 1))
+    absent
     ∙ (omega arith)
 
 -- the place of a key of 4 bytes is the number that it is, if that is an index
 pub get-array_places : (n : ℕ) (k : List ℕ) → n ≤ 2 ^ 32 → length k ≡ 4 → EachByte k
-    → get (array_places n) k ≡ (if nat_lt (little_number 4 k) n then Some (little_number 4 k) else None)
+    → get (array_places n) k
+    ≡ (if nat_lt (little_number 4 k) n then Some (little_number 4 k) else None)
 get-array_places n k small long bytes =
-    let back : little_bytes 4 (little_number 4 k) ≡ k = little_bytes-little_from 4 0 k bytes (omega arith) ∙ take_all 4 k (omega arith) in
+    let back : little_bytes 4 (little_number 4 k) ≡ k =
+    little_bytes-little_from 4 0 k bytes (omega arith) ∙ take_all 4 k (omega arith) in
     elim (cases_lt (little_number 4 k) n) [
       | inl below ↦
           let test : nat_lt (little_number 4 k) n ≡ true = grind arith in
@@ -74,7 +84,8 @@ get-array_places n k small long bytes =
             | Some p ↦ λ e.
                 let g = got_index n k p e in
                 let l = g.0 in
-                let same : little_number 4 k ≡ p = ap (little_number 4) g.1 ∙ little_number-little_bytes p (omega arith) in
+                let same : little_number 4 k ≡ p =
+                ap (little_number 4) g.1 ∙ little_number-little_bytes p (omega arith) in
                 absurd (omega arith)
           ] refl ∙ sym (ap (λ (b : Bool). if b then Some (little_number 4 k) else None) test)
     ]

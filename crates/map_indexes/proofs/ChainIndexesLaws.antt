@@ -1,4 +1,4 @@
--- Laws of the definitions in specs/ChainIndexes.
+-- Laws of keys found by chains: a key more or less, the free places, and look-ups.
 use Rattle.std.proofs.Common.{◌≡◌, ℕ, zero, suc, ◌+◌, ◌-◌, ◌<◌, ◌≤◌, List, [], ◌∷◌, ◌++◌, length, Option, Some, None, true, refl, sym, ap, subst, ◌∙◌, arith, inl, inr}
 use Rattle.std.proofs.lemmas.Bool.{cases_lt}
 use Rattle.std.proofs.lemmas.List.{get_or_append_left, length-append, length-set, length-replicate}
@@ -13,56 +13,68 @@ use Rattle.map_indexes.proofs.LastBelowLaws.{last_is, none_below}
 use Rattle.map_indexes.specs.Chains.{in_chain, spot}
 use Rattle.map_indexes.proofs.ChainLaws.{link_of, in_chain-is}
 use Rattle.map_indexes.specs.Hashing.{chain_of}
-use Rattle.map_indexes.specs.PlaceKeys.{PlaceKeys, slot, places, IsScan}
+use Rattle.map_indexes.specs.PlaceKeys.{PlaceKeys, key_in, places, IsScan}
 use Rattle.map_indexes.proofs.PlaceKeysLaws.{same_or_not, set_here, set_else, get_here, get_none}
-use Rattle.map_indexes.specs.ScanLaws.{slot_inside}
+use Rattle.map_indexes.specs.ScanLaws.{key_inside}
 use Rattle.map_indexes.proofs.ScanLaws.{scan-added, scan-emptied, scan_some}
 use Rattle.map_indexes.proofs.ScanLaws.{scan-none}
 use Rattle.map_indexes.specs.ChainIndexes.{HasKey, IsChainIndex, free_at}
 
 -- equal pairs have equal parts
 first_is : (a b c d : ℕ) → ◌≡◌ {A = Option (ℕ × ℕ)} (Some (a, b)) (Some (c, d)) → a ≡ c
-first_is a b c d e = let x : ℕ × ℕ = (a, b) in let y : ℕ × ℕ = (c, d) in let f : x ≡ y = cc in ap (λ (z : ℕ × ℕ). z.0) f
+first_is a b c d e =
+    let x : ℕ × ℕ = (a, b) in
+    let y : ℕ × ℕ = (c, d) in let f : x ≡ y = cc in ap (λ (z : ℕ × ℕ). z.0) f
 
 second_is : (a b c d : ℕ) → ◌≡◌ {A = Option (ℕ × ℕ)} (Some (a, b)) (Some (c, d)) → b ≡ d
-second_is a b c d e = let x : ℕ × ℕ = (a, b) in let y : ℕ × ℕ = (c, d) in let f : x ≡ y = cc in ap (λ (z : ℕ × ℕ). z.1) f
+second_is a b c d e =
+    let x : ℕ × ℕ = (a, b) in
+    let y : ℕ × ℕ = (c, d) in let f : x ≡ y = cc in ap (λ (z : ℕ × ℕ). z.1) f
 
-key_of : (chains : ℕ) (o : Option (List ℕ)) (c : ℕ) → option_map (λ key. chain_of key chains) o ≡ Some c
+key_of : (chains : ℕ) (o : Option (List ℕ)) (c : ℕ)
+    → option_map (λ key. chain_of key chains) o ≡ Some c
     → (key : List ℕ) × (o ≡ Some key) × (c ≡ chain_of key chains)
 key_of chains None c e = absurd (cc)
 key_of chains (Some key) c e = (key, refl, cc)
 
-has_chain : (chains : ℕ) (o : Option (List ℕ)) (c : ℕ) (key : List ℕ) → o ≡ Some key → c ≡ chain_of key chains
+has_chain : (chains : ℕ) (o : Option (List ℕ)) (c : ℕ) (key : List ℕ) → o ≡ Some key
+    → c ≡ chain_of key chains
     → option_map (λ key. chain_of key chains) o ≡ Some c
 has_chain chains o c key e f = ap (option_map (λ key. chain_of key chains)) e ∙ ap Some (sym f)
 
-pub slot-none : (n i : ℕ) → slot (replicate n None) i ≡ None
-slot-none zero i = refl
-slot-none (suc n) zero = refl
-slot-none (suc n) (suc i) = slot-none n i
+pub key_in-none : (n i : ℕ) → key_in (replicate n None) i ≡ None
+key_in-none zero i = refl
+key_in-none (suc n) zero = refl
+key_in-none (suc n) (suc i) = key_in-none n i
 
 -- places without keys are free
 pub chain_index-none : (n chains : ℕ) (free : List ℕ) (spots : ℕ → Option (ℕ × ℕ)) → length free ≡ n
-    → ((i : ℕ) → i < n → free_at free i ≡ n - 1 - i) → ((k : ℕ) → spots k ≡ None) → IsChainIndex (replicate n None) free chains spots
+    → ((i : ℕ) → i < n → free_at free i ≡ n - 1 - i) → ((k : ℕ) → spots k ≡ None)
+    → IsChainIndex (replicate n None) free chains spots
 chain_index-none n chains free spots long down none =
     let whole : length (replicate {A = Option (List ℕ)} n None) ≡ n = length-replicate n None in
     record {
       few = omega arith;
-      scan = let z : 0 ≡ length (replicate {A = Option (List ℕ)} n None) - length free = omega arith in subst (IsScan (replicate n None)) z (scan-none n);
-      unused = λ i l. let d = down i (omega arith) in (omega arith, slot-none n (free_at free i));
-      once = λ i j l m e. let a = down i (omega arith) in let b = down j (omega arith) in omega arith;
+      scan =
+          let z : 0 ≡ length (replicate {A = Option (List ℕ)} n None) - length free = omega arith in
+          subst (IsScan (replicate n None)) z (scan-none n);
+      unused = λ i l. let d = down i (omega arith) in (omega arith, key_in-none n (free_at free i));
+      once =
+          λ i j l m e. let a = down i (omega arith) in let b = down j (omega arith) in omega arith;
       sound = λ k c p e. let f = none k in absurd (cc);
-      complete = λ p key e. let f = slot-none n p in absurd (cc);
+      complete = λ p key e. let f = key_in-none n p in absurd (cc);
       apart = λ j k b c p e f. let g = none j in absurd (cc);
     }
 
-module _ (slots : PlaceKeys) (free : List ℕ) (chains : ℕ) (spots : ℕ → Option (ℕ × ℕ)) (is : IsChainIndex slots free chains spots) where
+module _ (keys : PlaceKeys) (free : List ℕ) (chains : ℕ) (spots : ℕ → Option (ℕ × ℕ))
+    (is : IsChainIndex keys free chains spots) where
   abbrev pub keys_here : ℕ
-  keys_here = length slots - length free
+  keys_here = length keys - length free
 
   -- the key at the place of a link
-  key_there : (k chain p : ℕ) → spots k ≡ Some (chain, p) → (key : List ℕ) × (slot slots p ≡ Some key) × (chain ≡ chain_of key chains)
-  key_there k chain p e = key_of chains (slot slots p) chain (is.sound k chain p e)
+  key_there : (k chain p : ℕ) → spots k ≡ Some (chain, p)
+      → (key : List ℕ) × (key_in keys p ≡ Some key) × (chain ≡ chain_of key chains)
+  key_there k chain p e = key_of chains (key_in keys p) chain (is.sound k chain p e)
 
   -- the last free place
   module _ (rest : List ℕ) (p : ℕ) (parts : free ≡ rest ++ p ∷ []) where
@@ -75,67 +87,86 @@ module _ (slots : PlaceKeys) (free : List ℕ) (chains : ℕ) (spots : ℕ → O
     front : (i : ℕ) → i < length rest → free_at free i ≡ free_at rest i
     front i l = ap (λ (xs : List ℕ). free_at xs i) parts ∙ get_or_append_left rest (p ∷ []) 0 i l
 
-    last_unused : (p < length slots) × (slot slots p ≡ None)
+    last_unused : (p < length keys) × (key_in keys p ≡ None)
     last_unused =
         let u = is.unused (length rest) (let e = ends in omega arith) in
         let l = last in
         let a = u.0 in
-        (omega arith, ap (slot slots) (sym l) ∙ u.1)
+        (omega arith, ap (key_in keys) (sym l) ∙ u.1)
 
-    pub last_inside : p < length slots
+    pub last_inside : p < length keys
     last_inside = last_unused.0
 
-    pub last_free : slot slots p ≡ None
+    pub last_free : key_in keys p ≡ None
     last_free = last_unused.1
 
-    module _ (key : List ℕ) (absent : get (places slots) key ≡ None) (new : ℕ → Option (ℕ × ℕ)) (at : ℕ) (vacant : spots at ≡ None)
-        (here : new at ≡ Some (chain_of key chains, p)) (others : (j : ℕ) → (j ≡ at → ⊥) → new j ≡ spots j) where
+    module _ (key : List ℕ) (absent : get (places keys) key ≡ None) (new : ℕ → Option (ℕ × ℕ))
+        (at : ℕ) (vacant : spots at ≡ None)
+        (here : new at ≡ Some (chain_of key chains, p))
+        (others : (j : ℕ) → (j ≡ at → ⊥) → new j ≡ spots j) where
       abbrev S : PlaceKeys
-      S = slice_set slots p (Some key)
+      S = slice_set keys p (Some key)
 
       -- a place that has a key is not the free one
-      taken : (q : ℕ) (k : List ℕ) → slot slots q ≡ Some k → q ≡ p → ⊥
-      taken q k e f = let a : slot slots q ≡ None = ap (slot slots) f ∙ last_free in cc
+      taken : (q : ℕ) (k : List ℕ) → key_in keys q ≡ Some k → q ≡ p → ⊥
+      taken q k e f = let a : key_in keys q ≡ None = ap (key_in keys) f ∙ last_free in cc
 
-      kept : (q : ℕ) (k : List ℕ) → slot slots q ≡ Some k → slot S q ≡ Some k
-      kept q k e = set_else slots p q (Some key) (taken q k e) ∙ e
+      kept : (q : ℕ) (k : List ℕ) → key_in keys q ≡ Some k → key_in S q ≡ Some k
+      kept q k e = set_else keys p q (Some key) (taken q k e) ∙ e
 
       pub chain_index-added : IsChainIndex S rest chains new
       chain_index-added = record {
-        few = let a = is.few in let b = ends in let c = length-set slots p (Some key) in omega arith;
+        few = let a = is.few in let b = ends in let c = length-set keys p (Some key) in omega arith;
         scan =
             let a = is.few in
             let b = ends in
-            let c = length-set slots p (Some key) in
+            let c = length-set keys p (Some key) in
             let n : keys_here + 1 ≡ length S - length rest = omega arith in
-            subst (IsScan S) n (scan-added slots keys_here is.scan key p last_inside last_free absent);
+            subst (IsScan S) n
+            (scan-added keys keys_here is.scan key p last_inside last_free absent);
         unused = λ i l.
             let e = ends in
             let u = is.unused i (omega arith) in
             let f = front i l in
             let b = u.0 in
-            let c = length-set slots p (Some key) in
-            let other : free_at rest i ≡ p → ⊥ = λ g. let h : i ≡ length rest = is.once i (length rest) (omega arith) (omega arith) (f ∙ g ∙ sym last) in omega arith in (
+            let c = length-set keys p (Some key) in
+            let other : free_at rest i ≡ p
+            → ⊥ = λ g. let h : i
+            ≡ length rest = is.once i (length rest) (omega arith) (omega arith)
+            (f ∙ g ∙ sym last) in omega arith in (
               omega arith,
-              set_else slots p (free_at rest i) (Some key) other ∙ ap (slot slots) (sym f) ∙ u.1,
+              set_else keys p (free_at rest i) (Some key) other ∙ ap (key_in keys) (sym f) ∙ u.1,
             );
-        once = λ i j l m g. let e = ends in is.once i j (omega arith) (omega arith) (front i l ∙ g ∙ sym (front j m));
+        once =
+            λ i j l m g. let e =
+            ends in is.once i j (omega arith) (omega arith) (front i l ∙ g ∙ sym (front j m));
         sound = λ k chain q e. elim (same_or_not k at) [
           | inl s ↦
-              let f : Some (chain_of key chains, p) ≡ Some (chain, q) = sym here ∙ ap new (sym s) ∙ e in
+              let f : Some (chain_of key chains, p) ≡ Some (chain, q) =
+              sym here ∙ ap new (sym s) ∙ e in
               let a : chain_of key chains ≡ chain = first_is (chain_of key chains) p chain q f in
               let b : p ≡ q = second_is (chain_of key chains) p chain q f in
-              has_chain chains (slot S q) chain key (ap (slot S) (sym b) ∙ set_here slots p (Some key) last_inside) (sym a)
-          | inr d ↦ let r = key_there k chain q (sym (others k d) ∙ e) in has_chain chains (slot S q) chain r.0 (kept q r.0 r.1) r.2
+              has_chain chains (key_in S q) chain key
+              (ap (key_in S) (sym b) ∙ set_here keys p (Some key) last_inside) (sym a)
+          | inr d ↦
+              let r = key_there k chain q (sym (others k d) ∙ e) in
+              has_chain chains (key_in S q) chain r.0 (kept q r.0 r.1) r.2
         ];
         complete = λ q k e. elim (same_or_not q p) [
           | inl s ↦
-              let f : Some key ≡ Some k = sym (set_here slots p (Some key) last_inside) ∙ ap (slot S) (sym s) ∙ e in
+              let f : Some key ≡ Some k =
+              sym (set_here keys p (Some key) last_inside) ∙ ap (key_in S) (sym s) ∙ e in
               let a : key ≡ k = cc in
               ∣ (at, here ∙ (λ i. Some (chain_of (a i) chains, sym s i))) ∣₁
           | inr d ↦
-              ∥∥₁_map (is.complete q k (sym (set_else slots p q (Some key) d) ∙ e))
-              (λ r. (r.0, others r.0 (λ s. let f : None ≡ Some (chain_of k chains, q) = sym vacant ∙ ap spots (sym s) ∙ r.1 in cc) ∙ r.1))
+              ∥∥₁_map (is.complete q k (sym (set_else keys p q (Some key) d) ∙ e))
+              (λ r. (
+                r.0,
+                others r.0
+                    (λ s. let f : None ≡ Some (chain_of k chains, q) =
+                    sym vacant ∙ ap spots (sym s) ∙ r.1 in
+                    cc) ∙ r.1,
+              ))
         ];
         apart = λ j k b c q e f.
             let only : (i a : ℕ) → new i ≡ Some (a, q) → q ≡ p → i ≡ at =
@@ -147,18 +178,22 @@ module _ (slots : PlaceKeys) (free : List ℕ) (chains : ℕ) (spots : ℕ → O
               | inl s ↦ only j b e s ∙ sym (only k c f s)
               | inr d ↦
                   let old : (i a : ℕ) → new i ≡ Some (a, q) → i ≡ at → ⊥ =
-                  λ i a g t. d (sym (second_is (chain_of key chains) p a q (sym here ∙ ap new (sym t) ∙ g))) in
-                  is.apart j k b c q (sym (others j (old j b e)) ∙ e) (sym (others k (old k c f)) ∙ f)
+                  λ i a g t. d (sym
+                  (second_is (chain_of key chains) p a q (sym here ∙ ap new (sym t) ∙ g))) in
+                  is.apart j k b c q (sym (others j (old j b e)) ∙ e)
+                  (sym (others k (old k c f)) ∙ f)
             ];
       }
 
-  module _ (key : List ℕ) (p at chain : ℕ) (there : spots at ≡ Some (chain, p)) (present : slot slots p ≡ Some key)
-      (new : ℕ → Option (ℕ × ℕ)) (gone : new at ≡ None) (others : (j : ℕ) → (j ≡ at → ⊥) → new j ≡ spots j) where
+  module _ (key : List ℕ) (p at chain : ℕ) (there : spots at ≡ Some (chain, p))
+      (present : key_in keys p ≡ Some key)
+      (new : ℕ → Option (ℕ × ℕ)) (gone : new at ≡ None)
+      (others : (j : ℕ) → (j ≡ at → ⊥) → new j ≡ spots j) where
     abbrev R : PlaceKeys
-    R = slice_set slots p None
+    R = slice_set keys p None
 
-    inside : p < length slots
-    inside = slot_inside slots p key present
+    inside : p < length keys
+    inside = key_inside keys p key present
 
     abbrev longer : List ℕ
     longer = free ++ p ∷ []
@@ -168,12 +203,15 @@ module _ (slots : PlaceKeys) (free : List ℕ) (chains : ℕ) (spots : ℕ → O
 
     -- a free place is not the key's
     apart_from : (i : ℕ) → i < length free → free_at free i ≡ p → ⊥
-    apart_from i l e = let u = is.unused i l in let f : None ≡ Some key = sym u.1 ∙ ap (slot slots) e ∙ present in cc
+    apart_from i l e =
+        let u = is.unused i l in
+        let f : None ≡ Some key = sym u.1 ∙ ap (key_in keys) e ∙ present in cc
 
     old_free : (i : ℕ) → i < length free → free_at longer i ≡ free_at free i
     old_free i l = get_or_append_left free (p ∷ []) 0 i l
 
-    new_free : (i : ℕ) → i < length longer → (i < length free → ⊥) → (i ≡ length free) × (free_at longer i ≡ p)
+    new_free : (i : ℕ) → i < length longer → (i < length free → ⊥)
+        → (i ≡ length free) × (free_at longer i ≡ p)
     new_free i l d =
         let n = length-append free (p ∷ []) in
         let e : i ≡ length free = omega (d, arith) in
@@ -182,30 +220,37 @@ module _ (slots : PlaceKeys) (free : List ℕ) (chains : ℕ) (spots : ℕ → O
     pub chain_index-removed : IsChainIndex R longer chains new
     chain_index-removed =
         let n = length-append free (p ∷ []) in
-        let whole = length-set slots p None in
+        let whole = length-set keys p None in
         record {
-          few = let a = is.few in let b = scan_some slots keys_here is.scan key p present in omega arith;
+          few =
+              let a = is.few in
+              let b = scan_some keys keys_here is.scan key p present in omega arith;
           scan =
               let a = is.few in
-              let b = scan_some slots keys_here is.scan key p present in
+              let b = scan_some keys keys_here is.scan key p present in
               let m : keys_here - 1 ≡ length R - length longer = omega arith in
-              subst (IsScan R) m (scan-emptied slots keys_here is.scan key p present);
+              subst (IsScan R) m (scan-emptied keys keys_here is.scan key p present);
           unused = λ i l. elim (cases_lt i (length free)) [
             | inl b ↦
                 let u = is.unused i b in
                 let f = old_free i b in
-                let w = u.0 in
-                (omega arith, ap (slot R) f ∙ set_else slots p (free_at free i) None (apart_from i b) ∙ u.1)
+                let w = u.0 in (
+                  omega arith,
+                  ap (key_in R) f
+                      ∙ set_else keys p (free_at free i) None (apart_from i b) ∙ u.1,
+                )
             | inr g ↦
                 let f = new_free i l (λ b. omega arith) in
                 let e = f.1 in
                 let w = inside in
-                (omega arith, ap (slot R) e ∙ set_here slots p None inside)
+                (omega arith, ap (key_in R) e ∙ set_here keys p None inside)
           ];
           once = λ i j l m e. elim (cases_lt i (length free)) [
             | inl b ↦ elim (cases_lt j (length free)) [
               | inl c ↦ is.once i j b c (sym (old_free i b) ∙ e ∙ old_free j c)
-              | inr g ↦ let f = new_free j m (λ b. omega arith) in absurd (apart_from i b (sym (old_free i b) ∙ e ∙ f.1))
+              | inr g ↦
+                  let f = new_free j m (λ b. omega arith) in
+                  absurd (apart_from i b (sym (old_free i b) ∙ e ∙ f.1))
             ]
             | inr g ↦ let f = new_free i l (λ b. omega arith) in elim (cases_lt j (length free)) [
               | inl c ↦ absurd (apart_from j c (sym (old_free j c) ∙ sym e ∙ f.1))
@@ -216,29 +261,43 @@ module _ (slots : PlaceKeys) (free : List ℕ) (chains : ℕ) (spots : ℕ → O
               let d = not_at k (c, q) e in
               let f : spots k ≡ Some (c, q) = sym (others k d) ∙ e in
               let r = key_there k c q f in
-              let other : q ≡ p → ⊥ = λ s. d (is.apart k at c chain p (f ∙ (λ i. Some (c, s i))) there) in
-              has_chain chains (slot R q) c r.0 (set_else slots p q None other ∙ r.1) r.2;
+              let other : q ≡ p
+              → ⊥ = λ s. d (is.apart k at c chain p (f ∙ (λ i. Some (c, s i))) there) in
+              has_chain chains (key_in R q) c r.0 (set_else keys p q None other ∙ r.1) r.2;
           complete = λ q k e.
-              let other : q ≡ p → ⊥ = λ s. let f : None ≡ Some k = sym (set_here slots p None inside) ∙ ap (slot R) (sym s) ∙ e in cc in
-              ∥∥₁_map (is.complete q k (sym (set_else slots p q None other) ∙ e))
-              (λ r. (r.0, others r.0 (λ s. other (second_is (chain_of k chains) q chain p (sym r.1 ∙ ap spots s ∙ there))) ∙ r.1));
+              let other : q ≡ p
+              → ⊥ = λ s. let f : None
+              ≡ Some k = sym (set_here keys p None inside) ∙ ap (key_in R) (sym s) ∙ e in cc in
+              ∥∥₁_map (is.complete q k (sym (set_else keys p q None other) ∙ e))
+              (λ r. (
+                r.0,
+                others r.0
+                    (λ s. other (second_is (chain_of k chains) q chain p
+                    (sym r.1 ∙ ap spots s ∙ there))) ∙ r.1,
+              ));
           apart = λ j k b c q e f.
-              is.apart j k b c q (sym (others j (not_at j (b, q) e)) ∙ e) (sym (others k (not_at k (c, q) f)) ∙ f);
+              is.apart j k b c q (sym (others j (not_at j (b, q) e)) ∙ e)
+              (sym (others k (not_at k (c, q) f)) ∙ f);
         }
 
--- what is left of the key's chain lies below m, and no link from m on has the key
-pub record Left (slots : PlaceKeys) (chains : ℕ) (links : ℕ → Option Link) (key : List ℕ) (next : Option ℕ) : Type 0 where
+-- what is left of the key's chain is below m, and no link from m on has the key
+pub record Left (keys : PlaceKeys) (chains : ℕ) (links : ℕ → Option Link) (key : List ℕ)
+    (next : Option ℕ) : Type 0 where
   pub m : ℕ
   pub is_next : next ≡ last_below (in_chain links (chain_of key chains)) m
-  pub passed : (j : ℕ) → m ≤ j → HasKey slots links key j → ⊥
+  pub passed : (j : ℕ) → m ≤ j → HasKey keys links key j → ⊥
 
-module _ (slots : PlaceKeys) (free : List ℕ) (chains : ℕ) (links : ℕ → Option Link) (is : IsChainIndex slots free chains (λ k. spot (links k))) (key : List ℕ) where
-  link_sound : (k : ℕ) (l : Link) → links k ≡ Some l → (q : List ℕ) × (slot slots l.place ≡ Some q) × (l.chain ≡ chain_of q chains)
-  link_sound k l e = key_of chains (slot slots l.place) l.chain (is.sound k l.chain l.place (ap spot e))
+module _ (keys : PlaceKeys) (free : List ℕ) (chains : ℕ) (links : ℕ → Option Link)
+    (is : IsChainIndex keys free chains (λ k. spot (links k))) (key : List ℕ) where
+  link_sound : (k : ℕ) (l : Link) → links k ≡ Some l
+      → (q : List ℕ) × (key_in keys l.place ≡ Some q) × (l.chain ≡ chain_of q chains)
+  link_sound k l e =
+      key_of chains (key_in keys l.place) l.chain (is.sound k l.chain l.place (ap spot e))
 
   -- the next link is there, and its place has a key
-  pub next_there : (next : Option ℕ) → Left slots chains links key next → (k : ℕ) → next ≡ Some k
-      → (l : Link) × (links k ≡ Some l) × (l.chain ≡ chain_of key chains) × (q : List ℕ) × (slot slots l.place ≡ Some q)
+  pub next_there : (next : Option ℕ) → Left keys chains links key next → (k : ℕ) → next ≡ Some k
+      → (l : Link) × (links k ≡ Some l) × (l.chain ≡ chain_of key chains) × (q : List ℕ)
+      × (key_in keys l.place ≡ Some q)
   next_there next left k e =
       let r = last_is (in_chain links (chain_of key chains)) left.m k (sym left.is_next ∙ e) in
       let l = link_of links (chain_of key chains) k r.1 in
@@ -246,27 +305,31 @@ module _ (slots : PlaceKeys) (free : List ℕ) (chains : ℕ) (links : ℕ → O
       (l.0, l.1, l.2, q.0, q.1)
 
   -- a link with the key is in the key's chain
-  in_its_chain : (j : ℕ) → HasKey slots links key j → in_chain links (chain_of key chains) j ≡ true
+  in_its_chain : (j : ℕ) → HasKey keys links key j → in_chain links (chain_of key chains) j ≡ true
   in_its_chain j h =
       let r = link_sound j h.link h.there in
       let same : r.0 ≡ key = let f : Some r.0 ≡ Some key = sym r.1 ∙ h.has in cc in
-      in_chain-is links j h.link (chain_of key chains) h.there (r.2 ∙ ap (λ (q : List ℕ). chain_of q chains) same)
+      in_chain-is links j h.link (chain_of key chains) h.there
+      (r.2 ∙ ap (λ (q : List ℕ). chain_of q chains) same)
 
   -- one link further
-  pub left_next : (next : Option ℕ) → Left slots chains links key next → (k : ℕ) (l : Link) → next ≡ Some k → links k ≡ Some l → (slot slots l.place ≡ Some key → ⊥)
-      → l.next ≡ last_below (in_chain links l.chain) k → Left slots chains links key l.next
+  pub left_next : (next : Option ℕ) → Left keys chains links key next → (k : ℕ) (l : Link)
+      → next ≡ Some k → links k ≡ Some l → (key_in keys l.place ≡ Some key → ⊥)
+      → l.next ≡ last_below (in_chain links l.chain) k → Left keys chains links key l.next
   left_next next left k l e there other falls =
       let r = last_is (in_chain links (chain_of key chains)) left.m k (sym left.is_next ∙ e) in
       let n = next_there next left k e in
       let same : n.0 ≡ l = let f : Some n.0 ≡ Some l = sym n.1 ∙ there in cc in
       record {
         m = k;
-        is_next = falls ∙ ap (λ (h : ℕ). last_below (in_chain links h) k) (ap (λ (x : Link). x.chain) (sym same) ∙ n.2);
+        is_next =
+            falls ∙ ap (λ (h : ℕ). last_below (in_chain links h) k)
+            (ap (λ (x : Link). x.chain) (sym same) ∙ n.2);
         passed = λ j b h. elim (same_or_not j k) [
           | inl s ↦
               let f : Some h.link ≡ Some l = sym h.there ∙ ap links s ∙ there in
               let g : h.link ≡ l = cc in
-              other (ap (λ (x : Link). slot slots x.place) (sym g) ∙ h.has)
+              other (ap (λ (x : Link). key_in keys x.place) (sym g) ∙ h.has)
           | inr d ↦ elim (cases_lt j left.m) [
             | inl a ↦ let no = r.2 j (omega (d, arith)) a in let yes = in_its_chain j h in cc
             | inr a ↦ left.passed j a h
@@ -274,19 +337,25 @@ module _ (slots : PlaceKeys) (free : List ℕ) (chains : ℕ) (links : ℕ → O
         ];
       }
 
-  pub found : (at : ℕ) → (h : HasKey slots links key at) → get (places slots) key ≡ Some (h.link.place)
-  found at h = get_here slots h.link.place key is.scan.distinct h.has
+  pub found : (at : ℕ) → (h : HasKey keys links key at)
+      → get (places keys) key ≡ Some (h.link.place)
+  found at h = get_here keys h.link.place key is.scan.distinct h.has
 
   -- at the end of the chain, no place has the key
-  pub not_found : Left slots chains links key None → get (places slots) key ≡ None
-  not_found left = get_none slots key (λ p e. ∥∥₁_elim (is.complete p key e) (λ x y. absurd x) (λ r.
+  pub not_found : Left keys chains links key None → get (places keys) key ≡ None
+  not_found left = get_none keys key (λ p e. ∥∥₁_elim (is.complete p key e) (λ x y. absurd x) (λ r.
       elim (links r.0) as (λ o. links r.0 ≡ o → spot o ≡ Some (chain_of key chains, p) → ⊥) [
         | None ↦ λ f g. cc
         | Some l ↦ λ f g.
             let same : l.place ≡ p = second_is l.chain l.place (chain_of key chains) p g in
-            let h : HasKey slots links key r.0 = record { link = l; there = f; has = ap (slot slots) same ∙ e } in
+            let h : HasKey keys links key r.0 =
+            record { link = l; there = f; has = ap (key_in keys) same ∙ e } in
             elim (cases_lt r.0 left.m) [
-              | inl a ↦ let no = none_below (in_chain links (chain_of key chains)) left.m (sym left.is_next) r.0 a in let yes = in_its_chain r.0 h in cc
+              | inl a ↦
+                  let no =
+                  none_below (in_chain links (chain_of key chains)) left.m
+                  (sym left.is_next) r.0 a in
+                  let yes = in_its_chain r.0 h in cc
               | inr a ↦ left.passed r.0 a h
             ]
       ] refl r.1))

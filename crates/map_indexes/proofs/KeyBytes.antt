@@ -1,4 +1,5 @@
--- The keys of places are keys of the map: as one is put and one is cleared, and in an array.
+-- The keys of places are bytes and have the map's key size, also after one is put or cleared, and
+-- in an array.
 use Rattle.std.specs.Prelude.{◌≡◌, ℕ, zero, suc, ◌<◌, List, length, Some, None, slice_set, replicate}
 use Rattle.std.specs.FinMap.{get}
 use Rattle.std.specs.Int.{byte_at, bytes_low_first}
@@ -9,50 +10,58 @@ use Rattle.byteorder.specs.Numbers.{length-bytes_low_first}
 use Rattle.isa_model.specs.Machine.MachineStates.{AreBytes}
 use Rattle.map_indexes.specs.ArrayPlaces.{array_places}
 use Rattle.map_indexes.specs.ArrayLaws.{got_index}
-use Rattle.map_indexes.proofs.ChainIndexesLaws.{slot-none}
-use Rattle.map_indexes.specs.PlaceKeys.{PlaceKeys, slot, places, IsKey, AreKeys}
+use Rattle.map_indexes.proofs.ChainIndexesLaws.{key_in-none}
+use Rattle.map_indexes.specs.PlaceKeys.{PlaceKeys, key_in, places, IsKey, AreKeys}
 use Rattle.map_indexes.proofs.PlaceKeysLaws.{same_or_not, set_here, set_else}
 use Rattle.map_indexes.specs.PlaceKeyLaws.{got}
 
 pub AreKeys-none : (size n : ℕ) → AreKeys size (replicate n None)
-AreKeys-none size n p key e = let f = slot-none n p in absurd (cc)
+AreKeys-none size n p key e = let f = key_in-none n p in absurd (cc)
 
-module _ (size : ℕ) (slots : PlaceKeys) (keys : AreKeys size slots) (p : ℕ) (inside : p < length slots) where
-  pub AreKeys-put : (key : List ℕ) → IsKey size key → AreKeys size (slice_set slots p (Some key))
+module _ (size : ℕ) (keys : PlaceKeys) (are : AreKeys size keys) (p : ℕ)
+    (inside : p < length keys) where
+  pub AreKeys-put : (key : List ℕ) → IsKey size key → AreKeys size (slice_set keys p (Some key))
   AreKeys-put key is j k e =
       elim (same_or_not j p) [
         | inl here ↦
-            let f : Some key ≡ Some k = sym (set_here slots p (Some key) inside) ∙ ap (slot (slice_set slots p (Some key))) (sym here) ∙ e in
+            let f : Some key ≡ Some k =
+            sym (set_here keys p (Some key) inside)
+            ∙ ap (key_in (slice_set keys p (Some key))) (sym here) ∙ e in
             let same : key ≡ k = cc in
             subst (IsKey size) same is
-        | inr other ↦ keys j k (sym (set_else slots p j (Some key) other) ∙ e)
+        | inr other ↦ are j k (sym (set_else keys p j (Some key) other) ∙ e)
       ]
 
-  pub AreKeys-cleared : AreKeys size (slice_set slots p None)
+  pub AreKeys-cleared : AreKeys size (slice_set keys p None)
   AreKeys-cleared j k e =
       elim (same_or_not j p) [
         | inl here ↦
-            let f : None ≡ Some k = sym (set_here slots p None inside) ∙ ap (slot (slice_set slots p None)) (sym here) ∙ e in
+            let f : None ≡ Some k =
+            sym (set_here keys p None inside) ∙ ap (key_in (slice_set keys p None)) (sym here)
+            ∙ e in
             absurd (cc)
-        | inr other ↦ keys j k (sym (set_else slots p j None other) ∙ e)
+        | inr other ↦ are j k (sym (set_else keys p j None other) ∙ e)
       ]
 
--- a key that is found among places is one
-pub key_found : (size : ℕ) (slots : PlaceKeys) → AreKeys size slots → (k : List ℕ) (p : ℕ) → get (places slots) k ≡ Some p → IsKey size k
-key_found size slots keys k p e = keys p k (got slots k p e)
+-- a key that is found among places is bytes of that size
+pub key_found : (size : ℕ) (keys : PlaceKeys) → AreKeys size keys → (k : List ℕ) (p : ℕ)
+    → get (places keys) k ≡ Some p → IsKey size k
+key_found size keys are k p e = are p k (got keys k p e)
 
 AreBytes-bytes_low_first : (i k n : ℕ) → AreBytes (bytes_low_first i k n)
 AreBytes-bytes_low_first i zero n = All-nil (λ b. b < 256)
 AreBytes-bytes_low_first i (suc k) n =
-    All-cons (λ b. b < 256) (byte_at i n) (bytes_low_first (suc i) k n) (below i) (AreBytes-bytes_low_first (suc i) k n)
+    All-cons (λ b. b < 256) (byte_at i n) (bytes_low_first (suc i) k n) (below i)
+    (AreBytes-bytes_low_first (suc i) k n)
   where
     below : (j : ℕ) → byte_at j n < 256
     below zero = omega arith
     below (suc j) = omega arith
 
 IsKey-index : (i : ℕ) → IsKey 4 (little_bytes 4 i)
-IsKey-index i = record { long = length-bytes_low_first 0 4 i; bytes = AreBytes-bytes_low_first 0 4 i }
+IsKey-index i =
+    record { long = length-bytes_low_first 0 4 i; bytes = AreBytes-bytes_low_first 0 4 i }
 
--- and so is one of an array
+-- a key that an array has is four bytes
 pub index_found : (n : ℕ) (k : List ℕ) (p : ℕ) → get (array_places n) k ≡ Some p → IsKey 4 k
 index_found n k p e = subst (IsKey 4) (sym ((got_index n k p e).1)) (IsKey-index p)

@@ -3,6 +3,8 @@ pub mod ArrayLaws
 pub mod ArrayOrder
 pub mod ChainIndexesLaws
 pub mod ChainLaws
+pub mod ChainChanges
+pub mod ListedLinks
 pub mod KeyBytes
 pub mod KeyLaws
 pub mod KeyOrderLaws

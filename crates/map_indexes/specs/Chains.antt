@@ -14,15 +14,17 @@ in_chain links chain k = is_in chain (links k)
 -- each chain begins with its link of the highest number, and each link leads to the one of the next
 -- lower number; room is above all numbers
 pub record IsChained (heads : List (Option ℕ)) (room : ℕ) (links : ℕ → Option Link) : Type 0 where
-  pub first : (chain : ℕ) → chain < length heads → slice_index_or heads chain None ≡ last_below (in_chain links chain) room
-  pub falls : (k : ℕ) (link : Link) → links k ≡ Some link → link.next ≡ last_below (in_chain links link.chain) k
+  pub first : (chain : ℕ) → chain < length heads
+      → slice_index_or heads chain None ≡ last_below (in_chain links chain) room
+  pub falls : (k : ℕ) (link : Link) → links k ≡ Some link
+      → link.next ≡ last_below (in_chain links link.chain) k
   pub within : (k : ℕ) (link : Link) → links k ≡ Some link → k < room
   pub known : (k : ℕ) (link : Link) → links k ≡ Some link → link.chain < length heads
 
--- the link of a chain before the link with the number `at`; none if that is the first one
-abbrev pub StandsBehind : (ℕ → Bool) → ℕ → Option ℕ → Type 0
-StandsBehind test at None = (j : ℕ) → at < j → test j ≡ false
-StandsBehind test at (Some k) = (at < k) × (test k ≡ true) × ((j : ℕ) → at < j → j < k → test j ≡ false)
+-- the number `at` belongs right behind this link of a chain; None: at the front of the chain
+abbrev pub IsBehind : (ℕ → Bool) → ℕ → Option ℕ → Type 0
+IsBehind test at None = (j : ℕ) → at < j → test j ≡ false
+IsBehind test at (Some k) = (at < k) × (test k ≡ true) × ((j : ℕ) → at < j → j < k → test j ≡ false)
 
 -- a link's chain and place
 abbrev pub spot : Option Link → Option (ℕ × ℕ)
@@ -51,7 +53,7 @@ link_led from to j (Some link) = Some (record link { next = next_led from to j l
 -- ---- links by number, in two lists: of the chain of each number that has a link, and of the
 -- number of the next one
 
--- a link is named by its place
+-- the number of a link is its place
 abbrev pub link_with : ℕ → Option ℕ → Option ℕ → Option Link
 link_with k None next = None
 link_with k (Some chain) next = Some (record { chain = chain; place = k; next = next })

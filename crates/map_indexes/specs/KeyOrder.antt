@@ -1,11 +1,11 @@
--- The places of keys in the order of the keys: they are the values of the slots' finite map.
+-- The places of keys in the order of the keys: they are the values of the map `places`.
 use Rattle.std.proofs.Common.{ℕ, List, [], map, unwrap_or}
-use Rattle.map_indexes.specs.PlaceKeys.{PlaceKeys, slot, pairs_from}
+use Rattle.map_indexes.specs.PlaceKeys.{PlaceKeys, key_in, pairs_from}
 
 -- the key of a place, or no bytes where it has none
 abbrev pub key_or_none : PlaceKeys → ℕ → List ℕ
-key_or_none slots p = unwrap_or (slot slots p) []
+key_or_none keys p = unwrap_or (key_in keys p) []
 
 -- the places that have a key, from place 0 on
 abbrev pub used_places : ℕ → PlaceKeys → List ℕ
-used_places at slots = map (λ e. e.1) (pairs_from at slots)
+used_places at keys = map (λ e. e.1) (pairs_from at keys)

@@ -1,4 +1,4 @@
--- The greatest number below a limit that passes a test.
+-- The greatest number below another that passes a test.
 use Rattle.std.proofs.Common.{ℕ, zero, suc, Bool, cond, Option, Some, None}
 
 abbrev pub last_below : (ℕ → Bool) → ℕ → Option ℕ

@@ -13,39 +13,45 @@ Places = FinMap key_order ℕ
 abbrev pub PlaceKeys : Type 0
 PlaceKeys = List (Option (List ℕ))
 
-abbrev pub slot : PlaceKeys → ℕ → Option (List ℕ)
-slot slots place = slice_index_or slots place None
+-- the key of a place, if it has one
+abbrev pub key_in : PlaceKeys → ℕ → Option (List ℕ)
+key_in keys place = slice_index_or keys place None
 
+-- the keys with their places, where the first place is `at`
 abbrev pub pairs_from : ℕ → PlaceKeys → List (List ℕ × ℕ)
 pairs_from at [] = []
-pairs_from at (None ∷ slots) = pairs_from (at + 1) slots
-pairs_from at (Some key ∷ slots) = (key, at) ∷ pairs_from (at + 1) slots
+pairs_from at (None ∷ keys) = pairs_from (at + 1) keys
+pairs_from at (Some key ∷ keys) = (key, at) ∷ pairs_from (at + 1) keys
 
+-- which place each of these keys has
 abbrev pub places : PlaceKeys → Places
-places slots = from_entries (pairs_from 0 slots)
+places keys = from_entries (pairs_from 0 keys)
 
 -- no key has two places
 abbrev pub IsDistinct : PlaceKeys → Type 0
-IsDistinct slots = (i j : ℕ) (key : List ℕ) → slot slots i ≡ Some key → slot slots j ≡ Some key → i ≡ j
+IsDistinct keys =
+    (i j : ℕ) (key : List ℕ) → key_in keys i ≡ Some key → key_in keys j ≡ Some key → i ≡ j
 
--- a key has the map's key size
+-- a key is bytes, and has the map's key size
 pub record IsKey (size : ℕ) (key : List ℕ) : Type 0 where
   pub long : length key ≡ size
   pub bytes : AreBytes key
 
+-- the keys of all places are keys of this size
 abbrev pub AreKeys : ℕ → PlaceKeys → Type 0
-AreKeys size slots = (p : ℕ) (key : List ℕ) → slot slots p ≡ Some key → IsKey size key
+AreKeys size keys = (p : ℕ) (key : List ℕ) → key_in keys p ≡ Some key → IsKey size key
 
 -- the keys by place that a block of keys has, where these places are in use
 abbrev pub keys_by_place : ℕ → List ℕ → ℕ → List Bool → PlaceKeys
 keys_by_place size block at [] = []
-keys_by_place size block at (true ∷ used) = Some (row_at size block at) ∷ keys_by_place size block (at + 1) used
+keys_by_place size block at (true ∷ used) =
+    Some (row_at size block at) ∷ keys_by_place size block (at + 1) used
 keys_by_place size block at (false ∷ used) = None ∷ keys_by_place size block (at + 1) used
 
--- the keys of one size by place
-pub record KeyTable : Type 0 where
+-- keys of one size, by place
+pub record KeysByPlace : Type 0 where
   pub size : ℕ
-  pub slots : PlaceKeys
+  pub by_place : PlaceKeys
 
 -- the key takes a place that no key had, and every other key keeps its own
 pub record TakesPlace (old : Places) (key : List ℕ) (p : ℕ) (new : Places) : Type 0 where
@@ -55,11 +61,11 @@ pub record TakesPlace (old : Places) (key : List ℕ) (p : ℕ) (new : Places) :
 -- how many places have a key
 abbrev pub key_count : PlaceKeys → ℕ
 key_count [] = 0
-key_count (None ∷ slots) = key_count slots
-key_count (Some key ∷ slots) = key_count slots + 1
+key_count (None ∷ keys) = key_count keys
+key_count (Some key ∷ keys) = key_count keys + 1
 
 -- no key has two places, and this is how many places have one
-pub record IsScan (slots : PlaceKeys) (count : ℕ) : Type 0 where
-  pub distinct : IsDistinct slots
-  pub counted : count ≡ key_count slots
-  pub mapped : count ≡ len (places slots)
+pub record IsScan (keys : PlaceKeys) (count : ℕ) : Type 0 where
+  pub distinct : IsDistinct keys
+  pub counted : count ≡ key_count keys
+  pub mapped : count ≡ len (places keys)

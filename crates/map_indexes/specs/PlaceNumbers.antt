@@ -1,4 +1,4 @@
--- Numbers, or none, as codes.
+-- Optional numbers, each as one code.
 use Rattle.std.specs.Prelude.{ℕ, zero, suc, Option, Some, None}
 
 -- a code is one more than its number, or 0

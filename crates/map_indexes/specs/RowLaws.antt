@@ -1,4 +1,4 @@
--- What the rows of a block are after one is written.
+-- The rows of a block after one is written.
 use Rattle.std.proofs.Common.{◌≡◌, ℕ, zero, suc, ◌+◌, ◌-◌, ◌*◌, ◌≤◌, ◌<◌, List, ◌++◌, length, take, drop, sym, ap, ◌∙◌, append_assoc, arith, inl, inr, ◌⊎◌}
 use Rattle.std.proofs.Math.Seq.{take-add}
 use Rattle.std.proofs.lemmas.List.{take-append-drop, take_at, drop_at, drop-drop, drop-take, take-take, length-append, length-take, length-drop, take-append-le}
@@ -35,37 +35,49 @@ module _ (b : List ℕ) (i : ℕ) (v : List ℕ) (inside : i + length v ≤ leng
       omega arith
 
   drop_past : drop (i + length v) spliced ≡ rest
-  drop_past = ap (drop (i + length v)) joined ∙ drop_at (front ++ v) rest (i + length v) length-written
+  drop_past =
+      ap (drop (i + length v)) joined ∙ drop_at (front ++ v) rest (i + length v) length-written
 
   take_past : take (i + length v) spliced ≡ front ++ v
-  take_past = ap (take (i + length v)) joined ∙ take_at (front ++ v) rest (i + length v) length-written
+  take_past =
+      ap (take (i + length v)) joined ∙ take_at (front ++ v) rest (i + length v) length-written
 
   part_after : (j n : ℕ) → i + length v ≤ j → take n (drop j spliced) ≡ take n (drop j b)
   part_after j n h =
       let d : ℕ = j - (i + length v) in
       let e : i + length v + d ≡ j = omega arith in
-      ap (take n) (ap (λ (k : ℕ). drop k spliced) (sym e) ∙ sym (drop-drop d (i + length v) spliced) ∙ ap (drop d) drop_past
+      ap (take n) (ap (λ (k : ℕ). drop k spliced) (sym e) ∙ sym (drop-drop d (i + length v) spliced)
+      ∙ ap (drop d) drop_past
       ∙ drop-drop d (i + length v) b ∙ ap (λ (k : ℕ). drop k b) e)
 
   part_before : (j n : ℕ) → j + n ≤ i → take n (drop j spliced) ≡ take n (drop j b)
   part_before j n h =
       let l = length-front in
-      sym (drop-take j n spliced) ∙ ap (drop j) (take-append-le (j + n) front (v ++ rest) (omega arith) ∙ take-take (j + n) i b h) ∙ drop-take j n b
+      sym (drop-take j n spliced)
+      ∙ ap (drop j)
+      (take-append-le (j + n) front (v ++ rest) (omega arith) ∙ take-take (j + n) i b h)
+      ∙ drop-take j n b
 
   part_written : take (length v) (drop i spliced) ≡ v
-  part_written = sym (drop-take i (length v) spliced) ∙ ap (drop i) take_past ∙ drop_at front v i length-front
+  part_written =
+      sym (drop-take i (length v) spliced) ∙ ap (drop i) take_past ∙ drop_at front v i length-front
 
 -- a row ends where the next begins, or before
 pub row_end : (p n size : ℕ) → p < n → p * size + size ≤ n * size
-row_end p n size h = let e = suc-mul p size in let g : suc p * size ≤ n * size = mul-le-mul_right size (omega arith) in omega arith
+row_end p n size h =
+    let e = suc-mul p size in
+    let g : suc p * size ≤ n * size = mul-le-mul_right size (omega arith) in omega arith
 
 pub below_or_above : (j i : ℕ) → (j ≡ i → ⊥) → (j < i) ⊎ (i < j)
 below_or_above zero zero d = absurd (d (omega arith))
 below_or_above zero (suc i) d = inl (omega arith)
 below_or_above (suc j) zero d = inr (omega arith)
-below_or_above (suc j) (suc i) d = elim (below_or_above j i (λ e. d (ap suc e))) [ inl h ↦ inl (omega arith) | inr h ↦ inr (omega arith) ]
+below_or_above (suc j) (suc i) d =
+    elim (below_or_above j i (λ e. d (ap suc e)))
+    [ inl h ↦ inl (omega arith) | inr h ↦ inr (omega arith) ]
 
-module _ (size : ℕ) (block : List ℕ) (p : ℕ) (row : List ℕ) (n : ℕ) (long : length row ≡ size) (whole : length block ≡ n * size) (inside : p < n) where
+module _ (size : ℕ) (block : List ℕ) (p : ℕ) (row : List ℕ) (n : ℕ) (long : length row ≡ size)
+    (whole : length block ≡ n * size) (inside : p < n) where
   pub row_inside : p * size + length row ≤ length block
   row_inside = let g = row_end p n size inside in omega arith
 
@@ -80,13 +92,18 @@ module _ (size : ℕ) (block : List ℕ) (p : ℕ) (row : List ℕ) (n : ℕ) (l
       ∙ part_written block (p * size) row row_inside
 
   -- and every other row is as it was
-  pub row_at-other : (j : ℕ) → (j ≡ p → ⊥) → row_at size (with_row size block p row) j ≡ row_at size block j
+  pub row_at-other : (j : ℕ) → (j ≡ p → ⊥)
+      → row_at size (with_row size block p row) j ≡ row_at size block j
   row_at-other j d = elim (below_or_above j p d) [
-    | inl l ↦ let g = row_end j p size l in part_before block (p * size) row row_inside (j * size) size (omega arith)
-    | inr l ↦ let g = row_end p j size l in part_after block (p * size) row row_inside (j * size) size (omega arith)
+    | inl l ↦
+        let g = row_end j p size l in
+        part_before block (p * size) row row_inside (j * size) size (omega arith)
+    | inr l ↦
+        let g = row_end p j size l in
+        part_after block (p * size) row row_inside (j * size) size (omega arith)
   ]
 
--- ---- bounds by equal numbers
+-- ---- comparisons with equal numbers
 
 pub below-same : (p : ℕ) {a b : ℕ} → a ≡ b → p < a → p < b
 below-same p e h = omega arith
@@ -96,7 +113,8 @@ at_most-same p e h = omega arith
 
 -- ---- part of a row written
 
-module _ (size n : ℕ) (block : List ℕ) (p : ℕ) (whole : length block ≡ n * size) (inside : p < n) (i : ℕ) (v : List ℕ) (fits : i + length v ≤ size) where
+module _ (size n : ℕ) (block : List ℕ) (p : ℕ) (whole : length block ≡ n * size) (inside : p < n)
+    (i : ℕ) (v : List ℕ) (fits : i + length v ≤ size) where
   abbrev pub start : ℕ
   start = p * size
 
@@ -116,7 +134,8 @@ module _ (size n : ℕ) (block : List ℕ) (p : ℕ) (whole : length block ≡ n
   pub length-changed_row : length changed_row ≡ size
   length-changed_row = let e = length-row_at in length-splice row i v (omega arith) ∙ e
 
-  rest_of_row : drop (i + length v) row ++ drop (start + size) block ≡ drop (start + i + length v) block
+  rest_of_row : drop (i + length v) row ++ drop (start + size) block
+      ≡ drop (start + i + length v) block
   rest_of_row =
       let k : ℕ = i + length v in
       let m : ℕ = size - k in
@@ -124,24 +143,32 @@ module _ (size n : ℕ) (block : List ℕ) (p : ℕ) (whole : length block ≡ n
       let a : start + k + m ≡ start + size = omega arith in
       let b : start + k ≡ start + i + length v = omega arith in
       let d : List ℕ = drop start block in
-      let front : drop k (take size d) ≡ take m (drop k d) = ap (λ (j : ℕ). drop k (take j d)) (sym s) ∙ drop-take k m d in
+      let front : drop k (take size d) ≡ take m (drop k d) =
+      ap (λ (j : ℕ). drop k (take j d)) (sym s) ∙ drop-take k m d in
       let back : drop (start + size) block ≡ drop m (drop k d) =
-      ap (λ (j : ℕ). drop j block) (sym a) ∙ sym (drop-drop m (start + k) block) ∙ ap (drop m) (sym (drop-drop k start block)) in
-      (λ j. front j ++ back j) ∙ take-append-drop m (drop k d) ∙ drop-drop k start block ∙ ap (λ (j : ℕ). drop j block) b
+      ap (λ (j : ℕ). drop j block) (sym a) ∙ sym (drop-drop m (start + k) block)
+      ∙ ap (drop m) (sym (drop-drop k start block)) in
+      (λ j. front j ++ back j) ∙ take-append-drop m (drop k d) ∙ drop-drop k start block
+      ∙ ap (λ (j : ℕ). drop j block) b
 
   -- bytes written into a row of a block change that row
-  pub splice_in_row : splice block (start + i) (start + i + length v) v ≡ with_row size block p changed_row
+  pub splice_in_row : splice block (start + i) (start + i + length v) v
+      ≡ with_row size block p changed_row
   splice_in_row =
       let d : List ℕ = drop start block in
       let long = length-changed_row in
       let front : take (start + i) block ≡ take start block ++ take i row =
-      take-add start i block ∙ ap (λ (l : List ℕ). take start block ++ l) (sym (take-take i size d (omega arith))) in
+      take-add start i block
+      ∙ ap (λ (l : List ℕ). take start block ++ l) (sym (take-take i size d (omega arith))) in
       let tail : List ℕ = drop (start + i + length v) block in
       let ends : start + size ≡ start + length changed_row = omega arith in
       let back : tail ≡ drop (i + length v) row ++ drop (start + length changed_row) block =
       sym rest_of_row ∙ ap (λ (j : ℕ). drop (i + length v) row ++ drop j block) ends in
       (λ j. front j ++ (v ++ back j))
-      ∙ append_assoc (take start block) (take i row) (v ++ (drop (i + length v) row ++ drop (start + length changed_row) block))
+      ∙ append_assoc (take start block) (take i row)
+      (v ++ (drop (i + length v) row ++ drop (start + length changed_row) block))
       ∙ ap (λ (l : List ℕ). take start block ++ l)
-      (ap (λ (l : List ℕ). take i row ++ l) (sym (append_assoc v (drop (i + length v) row) (drop (start + length changed_row) block)))
-      ∙ sym (append_assoc (take i row) (v ++ drop (i + length v) row) (drop (start + length changed_row) block)))
+      (ap (λ (l : List ℕ). take i row ++ l)
+      (sym (append_assoc v (drop (i + length v) row) (drop (start + length changed_row) block)))
+      ∙ sym (append_assoc (take i row) (v ++ drop (i + length v) row)
+      (drop (start + length changed_row) block)))

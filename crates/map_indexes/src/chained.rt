@@ -3,7 +3,7 @@
 ghost use Rattle.std.specs.Prelude.{◌≡◌, ℕ, ◌+◌, ◌-◌, ◌<◌, ◌≤◌, length, None, IfOk, IfSome, slice_index_or, vec_capacity, is_some, true, Some};
 ghost use Rattle.std.specs.FinMap as map;
 ghost use Rattle.isa_model.specs.declared.map_defs.MapType.TheVariants.{Hash};
-ghost use Rattle.map_indexes.specs.PlaceKeys.{places, slot, AreKeys};
+ghost use Rattle.map_indexes.specs.PlaceKeys.{places, key_in, AreKeys};
 ghost use Rattle.map_indexes.specs.KeyOrder.{used_places};
 ghost use Rattle.map_indexes.specs.Chains.{spot, link_in};
 ghost use Rattle.map_indexes.specs.ChainIndexes.{IsChainIndex, HasKey};
@@ -28,27 +28,27 @@ fn all_places(alloc: Global, count: u32) -> Result<Vec<u32>, AllocError>
     Ok(places)
 }
 
-/// Which place each key of a hash map has: a link of the key's chain has it. A removed key's place
-/// is the next to be given.
+/// Which place each key of a hash map has: a link of the key's chain names it. The place of a
+/// removed key is the next to be given.
 #[derive(Drop)]
 pub struct ChainIndex {
     keys: Keys,
     chains: Chains,
     free: Vec<u32>,
-    ghost index: { IsChainIndex keys.slots free.items chains.count
+    ghost index: { IsChainIndex keys.by_place free.items chains.count
         (λ k. spot (link_in chains.chains chains.nexts k)) },
-    ghost sized: { AreKeys keys.size keys.slots },
+    ghost sized: { AreKeys keys.size keys.by_place },
     ghost chained: { 0 < chains.count },
-    ghost spread: { length keys.slots ≤ chains.count },
-    ghost links_room: { length chains.chains ≡ length keys.slots },
-    ghost free_room: { vec_capacity free ≡ length keys.slots },
+    ghost spread: { length keys.by_place ≤ chains.count },
+    ghost links_room: { length chains.chains ≡ length keys.by_place },
+    ghost free_room: { vec_capacity free ≡ length keys.by_place },
 }
 
 impl ChainIndex {
     pub fn new(alloc: Global, key_size: u16, entries: u32) -> Result<Self, AllocError>
         ensures key_size { IfOk result (λ s. s.keys.size ≡ key_size) }
-        ensures room { IfOk result (λ s. length s.keys.slots ≡ entries) }
-        ensures empty { IfOk result (λ s. places s.keys.slots ≡ map.empty) }
+        ensures room { IfOk result (λ s. length s.keys.by_place ≡ entries) }
+        ensures empty { IfOk result (λ s. places s.keys.by_place ≡ map.empty) }
     {
         let keys = Keys::new(alloc, key_size, entries)?;
         let chains = Chains::new(alloc, entries.max(1), entries)?;
@@ -58,8 +58,8 @@ impl ChainIndex {
 
     /// The key of a place that has one.
     pub fn key(&self, place: usize) -> &[u8]
-        requires { is_some (slot self.now.keys.slots place) ≡ true }
-        ensures key { slot self.now.keys.slots place ≡ Some result.now }
+        requires { is_some (key_in self.now.keys.by_place place) ≡ true }
+        ensures key { key_in self.now.keys.by_place place ≡ Some result.now }
         ensures size { length result.now ≡ self.now.keys.size }
     {
         self.keys.key(place)
@@ -67,8 +67,8 @@ impl ChainIndex {
 
     // Fills a list that has room with the places that have a key.
     fn list_used(&self, list: &mut Vec<usize>)
-        requires { length self.now.keys.slots ≤ vec_capacity list.old }
-        ensures places { list.new.items ≡ used_places 0 self.now.keys.slots }
+        requires { length self.now.keys.by_place ≤ vec_capacity list.old }
+        ensures places { list.new.items ≡ used_places 0 self.now.keys.by_place }
         ensures capacity { vec_capacity list.new ≡ vec_capacity list.old }
     {
         list.clear();
@@ -81,8 +81,8 @@ impl ChainIndex {
 
     /// Fills a list that has room with the places of all keys, in the order of the keys.
     pub fn list(&self, list: &mut Vec<usize>)
-        requires { length self.now.keys.slots ≤ vec_capacity list.old }
-        ensures places { list.new.items ≡ map.values (places self.now.keys.slots) }
+        requires { length self.now.keys.by_place ≤ vec_capacity list.old }
+        ensures places { list.new.items ≡ map.values (places self.now.keys.by_place) }
         ensures capacity { vec_capacity list.new ≡ vec_capacity list.old }
     {
         self.list_used(list);
@@ -92,9 +92,9 @@ impl ChainIndex {
     // The number of the link whose place has the key.
     fn find_link(&self, key: &[u8]) -> Option<usize>
         requires { length key.now ≡ self.now.keys.size }
-        ensures found { IfSome result (HasKey self.now.keys.slots
+        ensures found { IfSome result (HasKey self.now.keys.by_place
             (link_in self.now.chains.chains self.now.chains.nexts) key.now) }
-        ensures absent { result ≡ None → map.get (places self.now.keys.slots) key.now ≡ None }
+        ensures absent { result ≡ None → map.get (places self.now.keys.by_place) key.now ≡ None }
     {
         let mut next = self.chains.first(chain_of(key, self.chains.count()));
         while let Some(at) = next {
@@ -110,13 +110,13 @@ impl ChainIndex {
 impl Index for ChainIndex {
     ghost use Rattle.map_indexes.specs.ScanLaws.{scan_in_range, scan_apart, scan_few};
 
-    ghost places = { λ s. places s.keys.slots };
+    ghost places = { λ s. places s.keys.by_place };
 
     ghost kind = { λ s. Hash };
 
     ghost key_size = { λ s. s.keys.size };
 
-    ghost room = { λ s. length s.keys.slots };
+    ghost room = { λ s. length s.keys.by_place };
 
     fn find(&self, key: &[u8]) -> Option<usize> {
         self.find_link(key)
@@ -142,10 +142,10 @@ impl Index for ChainIndex {
         Some(place)
     }
 
-    ghost in_range = { λ s k p e. scan_in_range s.keys.slots k p e };
+    ghost in_range = { λ s k p e. scan_in_range s.keys.by_place k p e };
 
-    ghost apart = { λ s j k p e f. scan_apart s.keys.slots j k p e f };
+    ghost apart = { λ s j k p e f. scan_apart s.keys.by_place j k p e f };
 
-    ghost few = { λ s. scan_few s.keys.slots
-        (length s.keys.slots - length s.free.items) s.index.scan };
+    ghost few = { λ s. scan_few s.keys.by_place
+        (length s.keys.by_place - length s.free.items) s.index.scan };
 }

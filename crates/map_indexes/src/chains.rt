@@ -2,12 +2,12 @@
 
 ghost use Rattle.std.specs.Prelude.{◌≡◌, ◌≢◌, ◌+◌, ◌<◌, ◌^◌, ℕ, length, None, Some, IfOk, IfSome, IsSome, replicate, slice_index_or};
 ghost use Rattle.map_indexes.specs.LastBelow.{last_below};
-ghost use Rattle.map_indexes.specs.Chains.{in_chain, spot, IsChained, StandsBehind, heads_led, nexts_led, led_from, link_in};
+ghost use Rattle.map_indexes.specs.Chains.{in_chain, spot, IsChained, IsBehind, heads_led, nexts_led, led_from, link_in};
 
 use crate::numbers::PlaceNumbers;
 use std::alloc::{AllocError, Global};
 
-/// A place in a chain, and the number of the next link. The number of a link is its place.
+/// A link: its chain, its place, which is its number, and the number of the next link.
 #[derive(Clone, Copy)]
 pub struct Link {
     pub chain: u32,
@@ -92,10 +92,10 @@ impl Chains {
         self.nexts.at(at)
     }
 
-    // The link of a chain after which a number belongs.
+    // The link of a chain right behind which a number belongs. None: at the front of the chain.
     fn behind(&self, chain: u32, at: usize) -> Option<usize>
         requires { chain < self.now.count }
-        ensures { StandsBehind (in_chain (link_in self.now.chains self.now.nexts) chain) at result }
+        ensures { IsBehind (in_chain (link_in self.now.chains self.now.nexts) chain) at result }
     {
         let mut from = None;
         let mut next = self.first(chain);

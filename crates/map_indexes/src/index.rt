@@ -37,7 +37,7 @@ pub trait Index: Drop {
         ensures key_size { key_size self.new ≡ key_size self.old }
         ensures room { room self.new ≡ room self.old };
 
-    /// Takes a key's place away, and answers it. Nothing is removed from an array.
+    /// Takes a key's place away, and returns it. Nothing is removed from an array.
     fn remove(&mut self, key: &[u8]) -> Option<usize>
         requires { length key.now ≡ key_size self.old }
         ensures hash { kind self.old ≡ Hash → (result ≡ map.get (places self.old) key.now)

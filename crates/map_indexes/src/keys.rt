@@ -7,7 +7,7 @@ ghost use Rattle.std.specs.List.Sorted.{IsSortedByKey};
 ghost use Rattle.isa_model.specs.Code.LittleEndian.{EachByte};
 ghost use Rattle.isa_model.specs.Machine.MapContents.{key_order};
 ghost use Rattle.map_indexes.specs.KeyOrder.{key_or_none};
-ghost use Rattle.map_indexes.specs.PlaceKeys.{KeyTable, slot, keys_by_place};
+ghost use Rattle.map_indexes.specs.PlaceKeys.{KeysByPlace, key_in, keys_by_place};
 
 use crate::rooms::exact;
 use byteorder::{ByteOrder, LittleEndian};
@@ -22,7 +22,7 @@ pub fn put_bytes(block: &mut [u8], at: usize, new: &[u8])
     block[at..at + new.len()].copy_from_slice(new);
 }
 
-// What a slice of bytes has are bytes.
+// Recalls, for proofs, that each element of a slice of bytes is below 256. It does nothing.
 fn are_bytes(bytes: &[u8])
     ensures { EachByte bytes.now }
 {}
@@ -53,11 +53,11 @@ pub struct Keys {
 }
 
 impl Model for Keys {
-    ghost Value = { KeyTable };
+    ghost Value = { KeysByPlace };
 
     ghost view = { λ k. record {
       size = k.size;
-      slots = keys_by_place k.size k.block.items 0
+      by_place = keys_by_place k.size k.block.items 0
           k.used.items;
     } };
 
@@ -71,7 +71,7 @@ impl Keys {
     /// A number of places without keys.
     pub fn new(alloc: Global, size: u16, places: u32) -> Result<Self, AllocError>
         ensures size { IfOk result (λ keys. keys.size ≡ size) }
-        ensures empty { IfOk result (λ keys. keys.slots ≡ replicate places None) }
+        ensures empty { IfOk result (λ keys. keys.by_place ≡ replicate places None) }
     {
         let size = usize::from(size);
         let places = places as usize;
@@ -84,22 +84,22 @@ impl Keys {
 
     /// How many places there are.
     pub fn places(&self) -> usize
-        ensures { result ≡ length self.now.slots }
+        ensures { result ≡ length self.now.by_place }
     {
         self.used.len()
     }
 
     pub fn is_used(&self, place: usize) -> bool
-        requires { place < length self.now.slots }
-        ensures { result ≡ is_some (slot self.now.slots place) }
+        requires { place < length self.now.by_place }
+        ensures { result ≡ is_some (key_in self.now.by_place place) }
     {
         self.used[place]
     }
 
     /// The key of a place that has one.
     pub fn key(&self, place: usize) -> &[u8]
-        requires { is_some (slot self.now.slots place) ≡ true }
-        ensures key { slot self.now.slots place ≡ Some result.now }
+        requires { is_some (key_in self.now.by_place place) ≡ true }
+        ensures key { key_in self.now.by_place place ≡ Some result.now }
         ensures size { length result.now ≡ self.now.size }
     {
         let start = place * self.size;
@@ -108,7 +108,7 @@ impl Keys {
 
     /// The key of a place, or no bytes where it has none.
     pub fn key_or_none(&self, place: usize) -> &[u8]
-        ensures { result.now ≡ key_or_none self.now.slots place }
+        ensures { result.now ≡ key_or_none self.now.by_place place }
     {
         if place >= self.places() {
             return &[];
@@ -123,7 +123,7 @@ impl Keys {
     /// Puts places in the order of their keys.
     pub fn sort_places(&self, places: &mut [usize])
         ensures permutation { IsPermutation places.old places.new }
-        ensures sorted { IsSortedByKey (key_or_none self.now.slots) key_order places.new }
+        ensures sorted { IsSortedByKey (key_or_none self.now.by_place) key_order places.new }
     {
         places.sort_unstable_by(|a, b| self.key_or_none(*a).cmp(self.key_or_none(*b)));
     }
@@ -131,9 +131,9 @@ impl Keys {
     /// Gives a place a key.
     pub fn put(&mut self, place: usize, key: &[u8])
         requires size { length key.now ≡ self.old.size }
-        requires place { place < length self.old.slots }
+        requires place { place < length self.old.by_place }
         ensures size { self.new.size ≡ self.old.size }
-        ensures slots { self.new.slots ≡ slice_set self.old.slots place (Some key.now) }
+        ensures keys { self.new.by_place ≡ slice_set self.old.by_place place (Some key.now) }
     {
         let start = place * self.size;
         put_bytes(self.block.as_mut_slice(), start, key);
@@ -142,9 +142,9 @@ impl Keys {
 
     /// Takes a place's key away.
     pub fn clear(&mut self, place: usize)
-        requires place { place < length self.old.slots }
+        requires place { place < length self.old.by_place }
         ensures size { self.new.size ≡ self.old.size }
-        ensures slots { self.new.slots ≡ slice_set self.old.slots place None }
+        ensures keys { self.new.by_place ≡ slice_set self.old.by_place place None }
     {
         self.used[place] = false;
     }

@@ -2,7 +2,7 @@
 
 ghost use Rattle.std.specs.Prelude.{◌≡◌, ◌<◌, length, None, slice_index_or};
 ghost use Rattle.isa_model.specs.declared.map_defs.MapType.TheVariants.{Hash};
-ghost use Rattle.map_indexes.specs.PlaceKeys.{places, slot, IsScan};
+ghost use Rattle.map_indexes.specs.PlaceKeys.{places, key_in, IsScan};
 
 use crate::index::Index;
 use crate::keys::Keys;
@@ -13,7 +13,7 @@ use std::alloc::{AllocError, Global};
 pub struct ScanIndex {
     keys: Keys,
     len: usize,
-    ghost scan: { IsScan keys.slots len },
+    ghost scan: { IsScan keys.by_place len },
 }
 
 impl ScanIndex {
@@ -22,8 +22,8 @@ impl ScanIndex {
 
     pub fn new(alloc: Global, key_size: u16, entries: u32) -> Result<Self, AllocError>
         ensures key_size { IfOk result (λ s. s.keys.size ≡ key_size) }
-        ensures room { IfOk result (λ s. length s.keys.slots ≡ entries) }
-        ensures empty { IfOk result (λ s. places s.keys.slots ≡ map.empty) }
+        ensures room { IfOk result (λ s. length s.keys.by_place ≡ entries) }
+        ensures empty { IfOk result (λ s. places s.keys.by_place ≡ map.empty) }
     {
         let keys = Keys::new(alloc, key_size, entries)?;
         Ok(ScanIndex { keys, len: 0 })
@@ -31,9 +31,9 @@ impl ScanIndex {
 
     // A place that has no key.
     fn vacant(&self) -> usize
-        requires { self.now.len < length self.now.keys.slots }
-        ensures in_range { result < length self.now.keys.slots }
-        ensures free { slot self.now.keys.slots result ≡ None }
+        requires { self.now.len < length self.now.keys.by_place }
+        ensures in_range { result < length self.now.keys.by_place }
+        ensures free { key_in self.now.keys.by_place result ≡ None }
     {
         for i in 0..self.keys.places() {
             if !self.keys.is_used(i) {
@@ -47,13 +47,13 @@ impl ScanIndex {
 impl Index for ScanIndex {
     ghost use Rattle.map_indexes.specs.ScanLaws.{scan_in_range, scan_apart, scan_few};
 
-    ghost places = { λ s. places s.keys.slots };
+    ghost places = { λ s. places s.keys.by_place };
 
     ghost kind = { λ s. Hash };
 
     ghost key_size = { λ s. s.keys.size };
 
-    ghost room = { λ s. length s.keys.slots };
+    ghost room = { λ s. length s.keys.by_place };
 
     fn find(&self, key: &[u8]) -> Option<usize> {
         for i in 0..self.keys.places() {
@@ -85,9 +85,9 @@ impl Index for ScanIndex {
         Some(place)
     }
 
-    ghost in_range = { λ s k p e. scan_in_range s.keys.slots k p e };
+    ghost in_range = { λ s k p e. scan_in_range s.keys.by_place k p e };
 
-    ghost apart = { λ s j k p e f. scan_apart s.keys.slots j k p e f };
+    ghost apart = { λ s j k p e f. scan_apart s.keys.by_place j k p e f };
 
-    ghost few = { λ s. scan_few s.keys.slots s.len s.scan };
+    ghost few = { λ s. scan_few s.keys.by_place s.len s.scan };
 }

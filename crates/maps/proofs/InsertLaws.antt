@@ -15,7 +15,7 @@ use Rattle.map_indexes.specs.RowLaws.{below_or_above}
 use Rattle.std.proofs.lemmas.List.{length-map}
 use Rattle.std.proofs.lemmas.Option.{slice_get-get_or}
 use Rattle.isa_model.specs.Machine.MapContents.{key_order, is_key}
-use Rattle.map_indexes.specs.PlaceKeys.{Places, PlaceKeys, slot, places}
+use Rattle.map_indexes.specs.PlaceKeys.{Places, PlaceKeys, key_in, places}
 use Rattle.map_indexes.specs.PlaceKeyLaws.{got, is_key-equal}
 use Rattle.map_indexes.proofs.PlaceKeysLaws.{is_key-itself}
 use Rattle.maps.proofs.ReportOrderLaws.{above, get_at}
@@ -26,8 +26,8 @@ Keyed = List (List ℕ × ℕ)
 abbrev no_key : List ℕ × ℕ
 no_key = ([], 0)
 
-abbrev pub entry_in : Keyed → ℕ → List ℕ × ℕ
-entry_in es j = slice_index_or es j no_key
+abbrev pub pair_in : Keyed → ℕ → List ℕ × ℕ
+pair_in es j = slice_index_or es j no_key
 
 -- whether a key is below another
 abbrev pub IsBelow : List ℕ → List ℕ → Type 0
@@ -61,10 +61,10 @@ below_else_above j k e d =
     ∙ not_below (key_order j k) e
     (λ same. d (slice_cmp-IsAntisymmetric nat_cmp-IsAntisymmetric j k same)))
 
--- a new key stands after those with keys below its own
+-- a new key comes after the keys that are below it
 put_at : (key : List ℕ) (p : ℕ) (es : Keyed) (r : ℕ) → r ≤ length es
-    → ((j : ℕ) → j < r → IsBelow (entry_in es j).0 key)
-    → ((j : ℕ) → r ≤ j → j < length es → IsBelow key (entry_in es j).0)
+    → ((j : ℕ) → j < r → IsBelow (pair_in es j).0 key)
+    → ((j : ℕ) → r ≤ j → j < length es → IsBelow key (pair_in es j).0)
     → put key_order key p es ≡ take r es ++ (key, p) ∷ drop r es
 put_at key p [] zero l below after = refl
 put_at key p [] (suc r) l below after = absurd (omega arith)
@@ -91,11 +91,11 @@ second_of false b t = absurd t
 
 -- the keys of a sorted list rise
 rising : (es : Keyed) → T (is_sorted key_order es) → (i j : ℕ) → i < j → j < length es
-    → IsBelow (entry_in es i).0 (entry_in es j).0
+    → IsBelow (pair_in es i).0 (pair_in es j).0
 rising [] s i j l m = absurd (omega arith)
 rising (e ∷ es) s i zero l m = absurd (omega arith)
 rising (e ∷ es) s zero (suc j) l m =
-    above e.0 es j (entry_in es j)
+    above e.0 es j (pair_in es j)
     (first_of (below_all key_order e.0 es) (is_sorted key_order es) s)
     (slice_get-get_or es j no_key (omega arith))
 rising (e ∷ es) s (suc i) (suc j) l m =
@@ -105,45 +105,45 @@ rising (e ∷ es) s (suc i) (suc j) l m =
 pub length-values_of : (P : Places) → length (values P) ≡ length (entries P)
 length-values_of P = length-map {B = ℕ} (entries P) (λ e. e.1)
 
-module _ (slots : PlaceKeys) (key : List ℕ) where
+module _ (keys : PlaceKeys) (key : List ℕ) where
   abbrev Q : Places
-  Q = remove (places slots) key
+  Q = remove (places keys) key
 
   abbrev es : Keyed
   es = entries Q
 
   abbrev pub key_at : ℕ → List ℕ
-  key_at j = (entry_in es j).0
+  key_at j = (pair_in es j).0
 
   pub length-values : length (values Q) ≡ length es
   length-values = length-map {B = ℕ} es (λ e. e.1)
 
-  has_at : (j : ℕ) → j < length es → get Q (key_at j) ≡ Some (entry_in es j).1
-  has_at j l = get_at Q j (entry_in es j) (slice_get-get_or es j no_key l)
+  has_at : (j : ℕ) → j < length es → get Q (key_at j) ≡ Some (pair_in es j).1
+  has_at j l = get_at Q j (pair_in es j) (slice_get-get_or es j no_key l)
 
   other_at : (j : ℕ) → j < length es
-      → (is_key (key_at j) key ≡ false) × (get (places slots) (key_at j) ≡ Some (entry_in es j).1)
+      → (is_key (key_at j) key ≡ false) × (get (places keys) (key_at j) ≡ Some (pair_in es j).1)
   other_at j l =
       by (is_key (key_at j) key) refl
-      (sym (get-remove nat_list_cmp_total (places slots) key (key_at j)) ∙ has_at j l)
+      (sym (get-remove nat_list_cmp_total (places keys) key (key_at j)) ∙ has_at j l)
     where
       by : (b : Bool) → is_key (key_at j) key ≡ b
-          → cond b None (get (places slots) (key_at j)) ≡ Some (entry_in es j).1
+          → cond b None (get (places keys) (key_at j)) ≡ Some (pair_in es j).1
           → (is_key (key_at j) key ≡ false)
-          × (get (places slots) (key_at j) ≡ Some (entry_in es j).1)
+          × (get (places keys) (key_at j) ≡ Some (pair_in es j).1)
       by true t f = absurd cc
       by false t f = (t, f)
 
-  place_at : (j : ℕ) → slice_index_or (values Q) j 0 ≡ (entry_in es j).1
+  place_at : (j : ℕ) → slice_index_or (values Q) j 0 ≡ (pair_in es j).1
   place_at j = get_or-map (λ (e : List ℕ × ℕ). e.1) es j no_key
 
   -- each listed place has its key
-  pub slot_at : (j : ℕ) → j < length (values Q)
-      → slot slots (slice_index_or (values Q) j 0) ≡ Some (key_at j)
-  slot_at j l =
+  pub listed_key_at : (j : ℕ) → j < length (values Q)
+      → key_in keys (slice_index_or (values Q) j 0) ≡ Some (key_at j)
+  listed_key_at j l =
       let long = length-values in
-      ap (slot slots) (place_at j)
-      ∙ got slots (key_at j) (entry_in es j).1 (other_at j (omega arith)).1
+      ap (key_in keys) (place_at j)
+      ∙ got keys (key_at j) (pair_in es j).1 (other_at j (omega arith)).1
 
   pub keys_rise : (i j : ℕ) → i < j → j < length (values Q) → IsBelow (key_at i) (key_at j)
   keys_rise i j l m =
@@ -179,20 +179,20 @@ module _ (slots : PlaceKeys) (key : List ℕ) where
   ] refl
 
   pub listed_at : (list : List ℕ) → list ≡ values Q → (j : ℕ) → j < length list
-      → slot slots (slice_index_or list j 0) ≡ Some (key_at j)
+      → key_in keys (slice_index_or list j 0) ≡ Some (key_at j)
   listed_at list is j l =
       let n = ap length is in
-      ap (λ (xs : List ℕ). slot slots (slice_index_or xs j 0)) is ∙ slot_at j (omega arith)
+      ap (λ (xs : List ℕ). key_in keys (slice_index_or xs j 0)) is ∙ listed_key_at j (omega arith)
 
   -- with the key's place after those of the keys below it, all places are listed
   pub values-inserted : (r p : ℕ) → r ≤ length (values Q)
       → ((j : ℕ) → j < r → IsBelow (key_at j) key)
       → ((j : ℕ) → r ≤ j → j < length (values Q) → IsBelow key (key_at j))
-      → get (places slots) key ≡ Some p → insert (values Q) r p ≡ values (places slots)
+      → get (places keys) key ≡ Some p → insert (values Q) r p ≡ values (places keys)
   values-inserted r p l below after there =
       let long = length-values in
-      let same : places slots ≡ with_entry Q key p =
-      same_map nat_list_cmp_total (slice_cmp-IsAntisymmetric nat_cmp-IsAntisymmetric) (places slots)
+      let same : places keys ≡ with_entry Q key p =
+      same_map nat_list_cmp_total (slice_cmp-IsAntisymmetric nat_cmp-IsAntisymmetric) (places keys)
       (with_entry Q key p) each in
       let listed = put_at key p es r (omega arith) below (λ j m n. after j m (omega arith)) in
       sym (ap (λ (P : Places). values P) same
@@ -205,18 +205,18 @@ module _ (slots : PlaceKeys) (key : List ℕ) where
       parts (suc r) [] = refl
       parts (suc r) (x ∷ xs) = ap (λ (ys : List ℕ). x.1 ∷ ys) (parts r xs)
 
-      each : (q : List ℕ) → get (places slots) q ≡ get (with_entry Q key p) q
+      each : (q : List ℕ) → get (places keys) q ≡ get (with_entry Q key p) q
       each q = by (is_key q key) refl ∙ sym (get-insert nat_list_cmp_total Q key p q)
         where
           by : (b : Bool) → is_key q key ≡ b
-              → get (places slots) q ≡ cond (is_key q key) (Some p) (get Q q)
+              → get (places keys) q ≡ cond (is_key q key) (Some p) (get Q q)
           by true t =
-              ap (get (places slots)) (is_key-equal q key t) ∙ there
+              ap (get (places keys)) (is_key-equal q key t) ∙ there
               ∙ ap (λ (b : Bool). cond b (Some p) (get Q q)) (sym t)
           by false t =
               sym (ap (λ (b : Bool). cond b (Some p) (get Q q)) t
-              ∙ get-remove nat_list_cmp_total (places slots) key q
-              ∙ ap (λ (b : Bool). cond b None (get (places slots) q)) t)
+              ∙ get-remove nat_list_cmp_total (places keys) key q
+              ∙ ap (λ (b : Bool). cond b None (get (places keys) q)) t)
 
 -- a list with one more
 pub length-inserted : (xs : List ℕ) (r p : ℕ) → length (insert xs r p) ≡ length xs + 1

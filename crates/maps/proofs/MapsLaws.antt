@@ -1,4 +1,4 @@
--- Laws of the definitions in specs/Maps.
+-- How long the keys of maps are.
 use Rattle.std.specs.Prelude.{◌≡◌, ℕ, ◌≤◌}
 use Rattle.std.proofs.Common.{arith}
 use Rattle.isa_model.specs.Code.Limits.{max_key_size}

@@ -5,7 +5,8 @@ use Rattle.map_indexes.specs.Rows.{with_row}
 use Rattle.map_indexes.specs.PlaceKeys.{Places, TakesPlace}
 
 -- the value of a key is written: a present key keeps its place, and a new one takes a free one
-pub record WritesPair (size : ℕ) (key value : List ℕ) (P : Places) (B : List ℕ) (P' : Places) (B' : List ℕ) : Type 0 where
+pub record WritesPair (size : ℕ) (key value : List ℕ) (P : Places) (B : List ℕ) (P' : Places)
+    (B' : List ℕ) : Type 0 where
   pub place : ℕ
   pub there : get P' key ≡ Some place
   pub kept : (p : ℕ) → get P key ≡ Some p → P' ≡ P
@@ -13,12 +14,14 @@ pub record WritesPair (size : ℕ) (key value : List ℕ) (P : Places) (B : List
   pub written : B' ≡ with_row size B place value
 
 -- what an update with this answer does, of values of this size: an error changes nothing
-pub record Updates (size answer : ℕ) (key value : List ℕ) (P : Places) (B : List ℕ) (P' : Places) (B' : List ℕ) : Type 0 where
+pub record Updates (size answer : ℕ) (key value : List ℕ) (P : Places) (B : List ℕ) (P' : Places)
+    (B' : List ℕ) : Type 0 where
   pub writes : answer ≡ 0 → WritesPair size key value P B P' B'
   pub stays : answer ≢ 0 → (P' ≡ P) × (B' ≡ B)
 
 -- what a delete with this answer does: the values stay where they are
-pub record Deletes (answer : ℕ) (key : List ℕ) (P : Places) (B : List ℕ) (P' : Places) (B' : List ℕ) : Type 0 where
+pub record Deletes (answer : ℕ) (key : List ℕ) (P : Places) (B : List ℕ) (P' : Places)
+    (B' : List ℕ) : Type 0 where
   pub removes : answer ≡ 0 → P' ≡ remove P key
   pub stays : answer ≢ 0 → P' ≡ P
   pub block : B' ≡ B

@@ -9,7 +9,7 @@ use Rattle.maps.specs.declared.commands.Command.TheVariants.{Lookup, Update, Del
 use Rattle.maps.specs.declared.commands.Reply.{Reply}
 use Rattle.maps.specs.declared.commands.Reply.TheVariants as reply
 
--- a look-up is answered by the value, if the key has one, and every other command by a number
+-- the reply to a look-up is the value, if the key has one, and that to another command is a number
 pub data Said : Type 0 where
   Found : Option (List ℕ) → Said
   Number : ℕ → Said
@@ -26,12 +26,14 @@ reply_to row content (Delete key) = Number (delete_answer row content key.now)
 
 abbrev pub content_after : MapDef → KeyValues → Command → KeyValues
 content_after row content (Lookup key) = content
-content_after row content (Update key value flags) = after_update row content key.now value.now flags
+content_after row content (Update key value flags) =
+    after_update row content key.now value.now flags
 content_after row content (Delete key) = after_delete row content key.now
 
 abbrev pub replies_of : MapDef → KeyValues → List Command → List Said
 replies_of row content [] = []
-replies_of row content (command ∷ commands) = reply_to row content command ∷ replies_of row (content_after row content command) commands
+replies_of row content (command ∷ commands) =
+    reply_to row content command ∷ replies_of row (content_after row content command) commands
 
 abbrev pub content_left : MapDef → KeyValues → List Command → KeyValues
 content_left row content [] = content
@@ -41,5 +43,6 @@ content_left row content (command ∷ commands) =
 -- keys and values have the sizes of the row
 abbrev pub Fits : MapDef → Command → Type 0
 Fits row (Lookup key) = length key.now ≡ row.key_size
-Fits row (Update key value flags) = (length key.now ≡ row.key_size) × (length value.now ≡ row.value_size)
+Fits row (Update key value flags) =
+    (length key.now ≡ row.key_size) × (length value.now ≡ row.value_size)
 Fits row (Delete key) = length key.now ≡ row.key_size

@@ -12,19 +12,24 @@ module _ {X Y : Type 0} (f : X → Y) where
   abbrev pub changed : List (List ℕ × X) → List (List ℕ × Y)
   changed es = map (λ e. (e.0, f e.1)) es
 
-  pub find-changed : (q : List ℕ) (es : List (List ℕ × X)) → find key_order q (changed es) ≡ option_map f (find key_order q es)
+  pub find-changed : (q : List ℕ) (es : List (List ℕ × X))
+      → find key_order q (changed es) ≡ option_map f (find key_order q es)
   find-changed q [] = refl
   find-changed q (e ∷ es) =
-      elim (is_key q e.0) as (λ b. cond b (Some (f e.1)) (find key_order q (changed es)) ≡ option_map f (cond b (Some e.1) (find key_order q es))) [
+      elim (is_key q e.0) as (λ b. cond b (Some (f e.1)) (find key_order q (changed es))
+      ≡ option_map f (cond b (Some e.1) (find key_order q es))) [
         | true ↦ refl
         | false ↦ find-changed q es
       ]
 
-  below_all-changed : (k : List ℕ) (es : List (List ℕ × X)) → below_all key_order k (changed es) ≡ below_all key_order k es
+  below_all-changed : (k : List ℕ) (es : List (List ℕ × X))
+      → below_all key_order k (changed es) ≡ below_all key_order k es
   below_all-changed k [] = refl
-  below_all-changed k (e ∷ es) = ap (λ (b : Bool). is_lt (key_order k e.0) && b) (below_all-changed k es)
+  below_all-changed k (e ∷ es) =
+      ap (λ (b : Bool). is_lt (key_order k e.0) && b) (below_all-changed k es)
 
-  pub is_sorted-changed : (es : List (List ℕ × X)) → is_sorted key_order (changed es) ≡ is_sorted key_order es
+  pub is_sorted-changed : (es : List (List ℕ × X))
+      → is_sorted key_order (changed es) ≡ is_sorted key_order es
   is_sorted-changed [] = refl
   is_sorted-changed (e ∷ es) = λ i. below_all-changed e.0 es i && is_sorted-changed es i
 

@@ -1,4 +1,4 @@
--- What a map's places and block come to: the finite map from keys to values.
+-- The content of a map's places and block: the finite map from keys to values.
 use Rattle.std.specs.Prelude.{ℕ, List, map}
 use Rattle.std.specs.FinMap.{empty, entries}
 use Rattle.isa_model.specs.declared.map_defs.MapType.{MapType}

@@ -1,4 +1,4 @@
--- Indexes of either kind: an array's or a hash map's.
+-- Indexes of either map type: an array's or a hash map's.
 use Rattle.std.specs.Prelude.{◌≡◌, ℕ, ◌-◌, ◌<◌, ◌≤◌, List, length, Some}
 use Rattle.std.specs.FinMap.{get, len}
 use Rattle.isa_model.specs.declared.map_defs.MapType.{MapType}
@@ -12,7 +12,7 @@ use Rattle.map_indexes.specs.PlaceKeys.{Places, places}
 
 abbrev pub places_of : EitherIndex → Places
 places_of (either.Array s) = array_places s.entries
-places_of (either.Chain s) = places s.keys.slots
+places_of (either.Chain s) = places s.keys.by_place
 
 abbrev pub kind_of : EitherIndex → MapType
 kind_of (either.Array s) = Array
@@ -24,16 +24,19 @@ key_size_of (either.Chain s) = s.keys.size
 
 abbrev pub room_of : EitherIndex → ℕ
 room_of (either.Array s) = s.entries
-room_of (either.Chain s) = length s.keys.slots
+room_of (either.Chain s) = length s.keys.by_place
 
-pub either_in_range : (s : EitherIndex) (k : List ℕ) (p : ℕ) → get (places_of s) k ≡ Some p → p < room_of s
+pub either_in_range : (s : EitherIndex) (k : List ℕ) (p : ℕ) → get (places_of s) k ≡ Some p
+    → p < room_of s
 either_in_range (either.Array s) k p e = array_in_range s.entries k p e
-either_in_range (either.Chain s) k p e = scan_in_range s.keys.slots k p e
+either_in_range (either.Chain s) k p e = scan_in_range s.keys.by_place k p e
 
-pub either_apart : (s : EitherIndex) (j k : List ℕ) (p : ℕ) → get (places_of s) j ≡ Some p → get (places_of s) k ≡ Some p → j ≡ k
+pub either_apart : (s : EitherIndex) (j k : List ℕ) (p : ℕ) → get (places_of s) j ≡ Some p
+    → get (places_of s) k ≡ Some p → j ≡ k
 either_apart (either.Array s) j k p e f = array_apart s.entries j k p e f
-either_apart (either.Chain s) j k p e f = scan_apart s.keys.slots j k p e f
+either_apart (either.Chain s) j k p e f = scan_apart s.keys.by_place j k p e f
 
 pub either_few : (s : EitherIndex) → len (places_of s) ≤ room_of s
 either_few (either.Array s) = array_few s.entries
-either_few (either.Chain s) = scan_few s.keys.slots (length s.keys.slots - length s.free.items) s.index.scan
+either_few (either.Chain s) =
+    scan_few s.keys.by_place (length s.keys.by_place - length s.free.items) s.index.scan

@@ -20,7 +20,8 @@ kind_set = Coded-set the_kind.coded
 
 module _ {I : Type 0} {g : Ghosts I} (s : Store I g) where
   -- a block keeps its length, whatever is written
-  pub whole_with : (bytes : List ℕ) → length (with_items s.values bytes).items ≡ s.row.entries * s.row.value_size
+  pub whole_with : (bytes : List ℕ)
+      → length (with_items s.values bytes).items ≡ s.row.entries * s.row.value_size
   whole_with bytes = sym (with_items s.values bytes).ok.0 ∙ (s.values.ok.0 ∙ s.whole)
 
   -- the keys with other values
@@ -38,8 +39,10 @@ module _ {I : Type 0} {g : Ghosts I} (s : Store I g) where
       }
 
   -- whatever shows that they are the keys and values of a map
-  pub with_values-same : (bytes : List ℕ) (kind : g.kind s.index ≡ s.row.kind) (key_size : g.key_size s.index ≡ s.row.key_size)
-      (room : g.room s.index ≡ s.row.entries) (whole : length (with_items s.values bytes).items ≡ s.row.entries * s.row.value_size)
+  pub with_values-same : (bytes : List ℕ) (kind : g.kind s.index ≡ s.row.kind)
+      (key_size : g.key_size s.index ≡ s.row.key_size)
+      (room : g.room s.index ≡ s.row.entries)
+      (whole : length (with_items s.values bytes).items ≡ s.row.entries * s.row.value_size)
       (exact : vec_capacity (with_items s.values bytes) ≡ s.row.entries * s.row.value_size)
       → ◌≡◌ {A = Store I g} (record {
         row = s.row;
@@ -80,8 +83,10 @@ module _ {I : Type 0} {g : Ghosts I} (s : Store I g) where
       ap (λ (l : List ℕ). take start items ++ (v ++ l)) (drop-drop (length v) start items) in
       let long = length-with_row s.row.value_size items p v s.row.entries size s.whole inside in
       let fits : length row ≡ s.values.len = long ∙ sym s.whole ∙ sym s.values.ok.0 in
-      ap (λ (l : List ℕ). take s.values.len (l ++ drop (length l) items)) same ∙ take_at row (drop (length row) items) s.values.len fits
+      ap (λ (l : List ℕ). take s.values.len (l ++ drop (length l) items)) same
+      ∙ take_at row (drop (length row) items) s.values.len fits
 
 -- the block is lent
-abbrev pub LendsBlock : (I : RattleType) (g : Ghosts I.Denot) → MutBor (Store I.Denot g) → MutBor (List ℕ) → Fml
+abbrev pub LendsBlock : (I : RattleType) (g : Ghosts I.Denot) → MutBor (Store I.Denot g)
+    → MutBor (List ℕ) → Fml
 LendsBlock I g s r = LendsBytes (the_row I g) s r (with_values s.now)

@@ -15,4 +15,5 @@ Stay maps = follows_so the_row the_row maps.ghost_name none (λ _ _. ⊤) (λ af
 abbrev pub LendsBlock : MutBor (List MapState) → ℕ → MutBor (List ℕ) → Fml
 LendsBlock maps m r =
     LendsBytes the_row maps r
-    (λ bytes. with_block maps.now m (refill (length (map_at maps.now m).block) (map_at maps.now m).block bytes))
+    (λ bytes. with_block maps.now m
+    (refill (length (map_at maps.now m).block) (map_at maps.now m).block bytes))

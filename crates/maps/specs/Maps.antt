@@ -26,7 +26,9 @@ pub record MapState : Type 0 where
 -- how proofs tell maps apart
 abbrev pub map_code : Coded MapState
 map_code =
-    code_by (MapDef × (Places × List ℕ)) (coded× the_row.coded (coded× (code (coded_list coded_ℕ) coded_ℕ) (coded_list coded_ℕ))) (λ m. (m.row, (m.places, m.block)))
+    code_by (MapDef × (Places × List ℕ))
+    (coded× the_row.coded (coded× (code (coded_list coded_ℕ) coded_ℕ) (coded_list coded_ℕ)))
+    (λ m. (m.row, (m.places, m.block)))
     (λ p. record { row = p.0; places = p.1.0; block = p.1.1 }) (λ _. refl)
 
 -- its content: the value of each key, in the order of the keys
@@ -39,7 +41,11 @@ ordered_in m = in_report_order m.row.kind m.row.entries (content_in m)
 
 abbrev pub map_at : List MapState → ℕ → MapState
 map_at maps m = slice_index_or maps m
-    (record { row = record { kind = Hash; key_size = 0; value_size = 0; entries = 0 }; places = empty; block = [] })
+    (record {
+      row = record { kind = Hash; key_size = 0; value_size = 0; entries = 0 };
+      places = empty;
+      block = [];
+    })
 
 -- the maps with another block of values in one
 abbrev pub with_block : List MapState → ℕ → List ℕ → List MapState
@@ -71,15 +77,21 @@ pub record IsMap (m : MapState) : Type 0 where
 -- an array has all its indexes, a hash map no key, and all values are zero-filled
 abbrev pub starting_map : MapDef → MapState
 starting_map row =
-    record { row = row; places = starting_places row.kind row.entries; block = replicate (row.entries * row.value_size) 0 }
+    record {
+      row = row;
+      places = starting_places row.kind row.entries;
+      block = replicate
+          (row.entries * row.value_size) 0;
+    }
 
--- ---- updates and deletes: what was a map is one that has changed
+-- ---- updates and deletes: a map before and after
 
 pub record Updated (key value : List ℕ) (flags result : ℕ) (old new : MapState) : Type 0 where
   pub row : new.row ≡ old.row
   pub answer : result ≡ update_answer old.row (content_in old) key flags
   pub content : content_in new ≡ after_update old.row (content_in old) key value flags
-  pub updates : Updates old.row.value_size result key value old.places old.block new.places new.block
+  pub updates : Updates old.row.value_size result key value old.places old.block new.places
+      new.block
 
 pub record Deleted (key : List ℕ) (result : ℕ) (old new : MapState) : Type 0 where
   pub row : new.row ≡ old.row

@@ -13,7 +13,7 @@ use Rattle.map_indexes.specs.PlaceKeys.{places}
 -- an array's keys by their index, a hash map's by their bytes
 abbrev pub listed_of : EitherIndex → List (List ℕ × ℕ)
 listed_of (either.Array s) = map (λ i. (little_bytes 4 i, i)) (range_with_len 0 s.entries)
-listed_of (either.Chain s) = entries (places s.keys.slots)
+listed_of (either.Chain s) = entries (places s.keys.by_place)
 
 -- a list of the places of a hash map's keys, in the order of the keys
 abbrev pub IsList : EitherIndex → List ℕ → Type 0

@@ -8,4 +8,5 @@ use Rattle.maps.specs.declared.stores.Stores.{Stores}
 -- the stores are as they were before, and the list has the same room
 abbrev pub StoresStay : MutBor Stores → Fml
 StoresStay s =
-    follows_so the_row the_row s.ghost_name none (λ _ _. ⊤) (λ after. (after.all ≡ s.now.all) × (vec_capacity after.list ≡ vec_capacity s.now.list))
+    follows_so the_row the_row s.ghost_name none (λ _ _. ⊤)
+    (λ after. (after.all ≡ s.now.all) × (vec_capacity after.list ≡ vec_capacity s.now.list))

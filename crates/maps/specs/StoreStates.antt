@@ -22,7 +22,8 @@ abbrev pub IsLeastHashRoom : ℕ → List MapDef → Type 0
 IsLeastHashRoom room rows = (n : ℕ) → All (λ row. row.kind ≡ Hash → row.entries ≤ n) rows → room ≤ n
 
 -- the list of places and that of these stores have room for what they need, and for no more
-pub record HaveRoom {I : Type 0} {g : Ghosts I} (places all : ℕ) (stores : List (Store I g)) : Type 0 where
+pub record HaveRoom {I : Type 0} {g : Ghosts I} (places all : ℕ)
+    (stores : List (Store I g)) : Type 0 where
   pub listed : All (IsListed places) stores
   pub least : IsLeastHashRoom places (map (λ s. s.row) stores)
   pub exact : all ≡ length stores

@@ -1,4 +1,4 @@
-//! Lists of commands on a map.
+//! Commands on a map, and the replies to lists of them.
 
 ghost use Rattle.std.specs.Prelude.{◌≡◌, ℕ, ◌≤◌, length, map, vec_capacity, IfOk, OnOk, All};
 ghost use Rattle.maps.specs.Contents.{content};
@@ -23,8 +23,8 @@ pub enum Command<'a> {
     },
 }
 
-/// What a command is answered: a look-up by the value of the key, if it has one, and the others by
-/// 0 or an error.
+/// The reply to a command: for a look-up the value of the key, if it has one, and for the others 0
+/// or an error.
 #[derive(Drop)]
 pub enum Reply {
     Value(Vec<u8>),
@@ -32,7 +32,7 @@ pub enum Reply {
     Number(u64),
 }
 
-/// The reply to one command.
+/// Does what a command says, and returns the reply.
 pub fn apply<S: MapStore>(
     alloc: Global,
     store: &mut S,
@@ -61,8 +61,8 @@ pub fn apply<S: MapStore>(
     }
 }
 
-/// The replies to a list of commands: those of a finite map with at most as many keys as the map
-/// has keys. Memory is taken only for the replies.
+/// The replies to a list of commands: those of a finite map that has at most max_entries keys.
+/// Memory is taken only for the replies.
 pub fn replies<S: MapStore>(
     alloc: Global,
     store: &mut S,

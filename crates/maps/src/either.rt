@@ -79,9 +79,9 @@ impl EitherIndex {
         }
     }
 
-    /// Puts a key into the front of some bytes, and answers its place: that of an array by its
-    /// index, that of a hash map by its number in the list of all places.
-    pub fn entry(&self, list: &[usize], k: usize, key: &mut [u8]) -> Option<usize>
+    /// Puts the k-th key in the order of the report into the front of some bytes, and returns its
+    /// place. The list has the places of a hash map's keys in that order.
+    pub fn placed_key(&self, list: &[usize], k: usize, key: &mut [u8]) -> Option<usize>
         requires list { IsList self.now list.now }
         requires room { key_size_of self.now ≤ length key.old }
         ensures place { result ≡ option_map (λ e. e.1) (slice_get (listed_of self.now) k) }

@@ -9,10 +9,10 @@ use map_indexes::ChainIndex;
 
 // How many of the listed keys are below a key.
 fn count_below(index: &ChainIndex, list: &[usize], key: &[u8]) -> usize
-    requires { list.now ≡ values (remove (places index.now.keys.slots) key.now) }
+    requires { list.now ≡ values (remove (places index.now.keys.by_place) key.now) }
     ensures at_most { result ≤ length list.now }
-    ensures inserted { (place : ℕ) → get (places index.now.keys.slots) key.now ≡ Some place
-        → insert list.now result place ≡ values (places index.now.keys.slots) }
+    ensures inserted { (place : ℕ) → get (places index.now.keys.by_place) key.now ≡ Some place
+        → insert list.now result place ≡ values (places index.now.keys.by_place) }
 {
     let mut low = 0;
     let mut high = list.len();
@@ -30,10 +30,10 @@ fn count_below(index: &ChainIndex, list: &[usize], key: &[u8]) -> usize
 /// Puts the place of a key of a hash map into a list of the places of all other keys, in the order
 /// of the keys. The list has room for the places of all keys.
 pub fn insert_place(index: &ChainIndex, key: &[u8], place: usize, list: &mut Vec<usize>)
-    requires place { get (places index.now.keys.slots) key.now ≡ Some place }
-    requires others { list.old.items ≡ values (remove (places index.now.keys.slots) key.now) }
-    requires room { length index.now.keys.slots ≤ vec_capacity list.old }
-    ensures places { list.new.items ≡ values (places index.now.keys.slots) }
+    requires place { get (places index.now.keys.by_place) key.now ≡ Some place }
+    requires others { list.old.items ≡ values (remove (places index.now.keys.by_place) key.now) }
+    requires room { length index.now.keys.by_place ≤ vec_capacity list.old }
+    ensures places { list.new.items ≡ values (places index.now.keys.by_place) }
     ensures capacity { vec_capacity list.new ≡ vec_capacity list.old }
 {
     let at = count_below(index, list.as_slice(), key);

@@ -37,12 +37,12 @@ impl<'a> Ordered<'a> {
 
     /// The value of the k-th key, from 0, if there is one; its key is put into the front of
     /// `key`.
-    pub fn entry(&self, k: usize, key: &mut [u8; KEY_ROOM]) -> Option<&'a [u8]>
+    pub fn key_value(&self, k: usize, key: &mut [u8; KEY_ROOM]) -> Option<&'a [u8]>
         ensures value { option_copied result
             ≡ option_map (λ e. e.1) (slice_get (listed_key_values self.now) k) }
         ensures key { key.new ≡ with_key_of (slice_get (listed_key_values self.now) k) key.old }
     {
-        let place = self.store.index().entry(self.list, k, key)?;
+        let place = self.store.index().placed_key(self.list, k, key)?;
         Some(self.store.value(place))
     }
 }

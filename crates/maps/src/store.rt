@@ -40,7 +40,7 @@ pub trait MapStore {
     fn is_full(&self) -> bool
         ensures { result ≡ nat_le (row_of self.now).entries (map.len (places self.now)) };
 
-    /// Writes a key's value, and answers its place: a present key keeps its own, and a new one is
+    /// Writes a key's value, and returns its place: a present key keeps its own, and a new one is
     /// given a free one. None if the key is new and the map is full, as an array always is.
     fn put(&mut self, key: &[u8], value: &[u8]) -> Option<usize>
         requires key_size { length key.now ≡ (row_of self.old).key_size }
@@ -59,7 +59,7 @@ pub trait MapStore {
             ≡ with_row (row_of self.old).value_size (block self.old) p value.now) }
         ensures row { row_of self.new ≡ row_of self.old };
 
-    /// Removes a key, and answers the place that it had. Nothing is removed from an array.
+    /// Removes a key, and returns the place that it had. Nothing is removed from an array.
     fn remove(&mut self, key: &[u8]) -> Option<usize>
         requires { length key.now ≡ (row_of self.old).key_size }
         ensures hash { (row_of self.old).kind ≡ Hash

@@ -11,7 +11,7 @@ use crate::either::EitherIndex;
 use crate::ordered::Ordered;
 use crate::store::Store;
 
-// What a slice of bytes has are bytes.
+// Recalls, for proofs, that each element of a slice of bytes is below 256. It does nothing.
 fn are_bytes(bytes: &[u8])
     ensures { AreBytes bytes.now }
 {}

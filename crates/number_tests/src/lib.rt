@@ -1,8 +1,7 @@
-//! Tests of the numbers that the verifier knows of registers, and of the states that it keeps of
-//! them.
+//! Tests of the sets of numbers that the verifier knows in registers, and of abstract states.
 //!
-//! They are here, since a crate with tests is proved twice. Each module tests what one crate below
-//! makes public.
+//! They have a crate of their own, since a crate with tests is proved twice. Each module tests what
+//! one crate below makes public.
 #![tactic(auto)]
 
 #[cfg(test)]

@@ -1,4 +1,4 @@
-//! A module for each crate or subject that is tested.
+//! The modules of tests, one for each crate or subject.
 
 mod bits;
 mod branches;

@@ -1,6 +1,6 @@
 //! Tests of programs as bytes and as texts, and of the verifier, by calls.
 //!
-//! They are here, since a crate with tests is proved twice.
+//! They have a crate of their own, since a crate with tests is proved twice.
 #![tactic(auto)]
 
 #[cfg(test)]

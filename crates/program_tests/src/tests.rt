@@ -1,6 +1,6 @@
-//! What only calls show: tokens, facts of control flow, states after some steps, bytes that are cut
-//! within an instruction, and outputs that fail. What the commands show of texts, images and
-//! verdicts is in tests/programs.
+//! What only calls show: tokens, facts of control flow, abstract states after some steps,
+//! instructions that are cut off, and outputs that fail. Texts, images and verdicts that the
+//! commands show are tested by the cases in tests/programs.
 
 mod cuts;
 mod flows;

@@ -14,24 +14,31 @@ use Rattle.proof_table.specs.Fitting.{EntryFits}
 use Rattle.proof_table.proofs.ValueLaws.{byte-reads, sized-reads}
 use Rattle.proof_table.proofs.FrameLaws.{frame_in-reads, callers_in-reads}
 
-named_in-reads : (xs rest : List ℕ) → length xs ≤ 2 → All (λ i. i < 2 ^ 32) xs → named_in (named_bytes xs ++ rest) ≡ Ok (Some xs, rest)
+named_in-reads : (xs rest : List ℕ) → length xs ≤ 2 → All (λ i. i < 2 ^ 32) xs
+    → named_in (named_bytes xs ++ rest) ≡ Ok (Some xs, rest)
 unfolding named_in
 named_in-reads [] rest few small = refl
 named_in-reads (i ∷ []) rest few small =
     sized-reads 4 (λ b. Some (little_number 4 b ∷ [])) (little_bytes 4 i) rest (Some (i ∷ [])) refl
     (ap (λ (n : ℕ). Some (n ∷ [])) (little_number-reads_back 4 i rest (small 0 0 (omega arith))))
 named_in-reads (i ∷ (j ∷ [])) rest few small =
-    sized-reads 8 (λ b. Some (little_number 4 b ∷ (little_number 4 (drop 4 b) ∷ []))) (little_bytes 4 i ++ little_bytes 4 j) rest (Some (i ∷ (j ∷ []))) refl
-    (ap (λ (n : ℕ). Some (n ∷ (little_number 4 (little_bytes 4 j ++ rest) ∷ []))) (little_number-reads_back 4 i (little_bytes 4 j ++ rest) (small 0 0 (omega arith)))
-    ∙ ap (λ (n : ℕ). Some (i ∷ (n ∷ []))) (little_number-reads_back 4 j rest (small 1 0 (omega arith))))
+    sized-reads 8 (λ b. Some (little_number 4 b ∷ (little_number 4 (drop 4 b) ∷ [])))
+    (little_bytes 4 i ++ little_bytes 4 j) rest (Some (i ∷ (j ∷ []))) refl
+    (ap (λ (n : ℕ). Some (n ∷ (little_number 4 (little_bytes 4 j ++ rest) ∷ [])))
+    (little_number-reads_back 4 i (little_bytes 4 j ++ rest) (small 0 0 (omega arith)))
+    ∙ ap (λ (n : ℕ). Some (i ∷ (n ∷ [])))
+    (little_number-reads_back 4 j rest (small 1 0 (omega arith))))
 named_in-reads (i ∷ (j ∷ (k ∷ xs))) rest few small = absurd (omega arith)
 
 -- the bytes from the call frames on, after their count
 abbrev behind_count : Entry → List ℕ → List ℕ
-behind_count e rest = flat_map frame_bytes e.state.callers.items ++ (frame_bytes e.state.innermost ++ (named_bytes e.successors ++ rest))
+behind_count e rest =
+    flat_map frame_bytes e.state.callers.items
+    ++ (frame_bytes e.state.innermost ++ (named_bytes e.successors ++ rest))
 
 rest_in-reads : (p : Program) (e : Entry) (rest : List ℕ) → EntryFits p e
-    → rest_in p e.number e.state.slot (length e.state.callers.items) (behind_count e rest) ≡ Ok (Some e, rest)
+    → rest_in p e.number e.state.slot (length e.state.callers.items) (behind_count e rest)
+    ≡ Ok (Some e, rest)
 rest_in-reads p e rest h =
     let named = named_bytes e.successors ++ rest in
     let frames = frame_bytes e.state.innermost ++ named in
@@ -45,19 +52,27 @@ rest_in-reads p e rest h =
     ) refl
 
 entry_parts : (e : Entry) (rest : List ℕ)
-    → entry_bytes e ++ rest ≡ little_bytes 4 e.number ++ (little_bytes 2 e.state.slot ++ (suc (length e.state.callers.items) ∷ behind_count e rest))
+    → entry_bytes e ++ rest
+    ≡ little_bytes 4 e.number
+    ++ (little_bytes 2 e.state.slot ++ (suc (length e.state.callers.items) ∷ behind_count e rest))
 unfolding entry_bytes
 entry_parts e rest = simp append_assoc
 
--- a number from 1 to 8
+-- a count of call frames from 1 to 8 is allowed
 few_frames : (n : ℕ) → n < max_call_frames → (suc n == 0 || nat_lt max_call_frames (suc n)) ≡ false
-few_frames n few = let none : nat_lt max_call_frames (suc n) ≡ false = le-ltb max_call_frames (suc n) (omega arith) in rw (eqb-suc-zero n, none) refl
+few_frames n few =
+    let none : nat_lt max_call_frames (suc n) ≡ false =
+    le-ltb max_call_frames (suc n) (omega arith) in
+    rw (eqb-suc-zero n, none) refl
 
 number-lt : (p : Program) (number slot : ℕ) → head_allowed p number slot ≡ true → number < 2 ^ 32
 number-lt p number slot h = grind arith
 
 entry_read : (p : Program) (e : Entry) (rest : List ℕ) → EntryFits p e
-    → entry_in p (little_bytes 4 e.number ++ (little_bytes 2 e.state.slot ++ (suc (length e.state.callers.items) ∷ behind_count e rest))) ≡ Ok (Some e, rest)
+    → entry_in p
+    (little_bytes 4 e.number
+    ++ (little_bytes 2 e.state.slot ++ (suc (length e.state.callers.items) ∷ behind_count e rest)))
+    ≡ Ok (Some e, rest)
 unfolding entry_in
 entry_read p e rest h =
     let outer = length e.state.callers.items in
@@ -65,12 +80,21 @@ entry_read p e rest h =
     let slots = little_bytes 2 e.state.slot ++ (suc outer ∷ frames) in
     let bytes = little_bytes 4 e.number ++ slots in
     let long : nat_lt (length bytes) 7 ≡ false =
-    le-ltb (length bytes) 7 (omega (arith, length-append (little_bytes 4 e.number) slots, length-append (little_bytes 2 e.state.slot) (suc outer ∷ frames))) in
-    let number : little_number 4 bytes ≡ e.number = little_number-reads_back 4 e.number slots (number-lt p e.number e.state.slot h.allowed) in
-    let slot : little_number 2 (drop 4 bytes) ≡ e.state.slot = little_number-reads_back 2 e.state.slot (suc outer ∷ frames) h.slot in
+    le-ltb (length bytes) 7
+    (omega (
+      arith,
+      length-append (little_bytes 4 e.number) slots,
+      length-append
+          (little_bytes 2 e.state.slot) (suc outer ∷ frames),
+    )) in
+    let number : little_number 4 bytes ≡ e.number =
+    little_number-reads_back 4 e.number slots (number-lt p e.number e.state.slot h.allowed) in
+    let slot : little_number 2 (drop 4 bytes) ≡ e.state.slot =
+    little_number-reads_back 2 e.state.slot (suc outer ∷ frames) h.slot in
     let count : little_number 1 (drop 6 bytes) ≡ suc outer = byte-reads (suc outer) frames in
     let one_less : suc outer - 1 ≡ outer = omega arith in
     rw (long, count, few_frames outer h.few, number, slot, one_less) (rest_in-reads p e rest h)
 
-pub entry_in-reads : (p : Program) (e : Entry) (rest : List ℕ) → EntryFits p e → entry_in p (entry_bytes e ++ rest) ≡ Ok (Some e, rest)
+pub entry_in-reads : (p : Program) (e : Entry) (rest : List ℕ) → EntryFits p e
+    → entry_in p (entry_bytes e ++ rest) ≡ Ok (Some e, rest)
 entry_in-reads p e rest h = ap (entry_in p) (entry_parts e rest) ∙ entry_read p e rest h

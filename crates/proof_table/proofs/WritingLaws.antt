@@ -43,7 +43,9 @@ EntryFits-first p image =
       innermost = record {
         return_slot = omega arith;
         ten = refl;
-        registers = All-from_recursion (KindFits rows 0) first_registers (tt, (tt, (tt, (tt, (tt, (tt, (tt, (tt, (tt, (tt, tt))))))))));
+        registers =
+            All-from_recursion (KindFits rows 0) first_registers
+            (tt, (tt, (tt, (tt, (tt, (tt, (tt, (tt, (tt, (tt, tt))))))))));
         all_slots = length-replicate frame_slots (Written 0);
         slots = All-replicate (SlotFits rows 0) frame_slots (Written 0) (omega arith);
         allowed = refl;
@@ -59,14 +61,20 @@ entry_bytes-some e = omega arith
 -- ---- entries
 
 -- the bytes of an entry whose state was restored spell that entry
-pub SpellsEntry-said : (p : Program) (n : ℕ) (a b : State) (xs ys zs before after : List ℕ) → b ≡ a → ys ≡ xs → zs ≡ xs
-    → (let e : Entry = record { number = n; state = b; successors = ys } in EntryFits p (entry_said e)) → before ≡ []
-    → (let e : Entry = record { number = n; state = b; successors = zs } in after ≡ before ++ entry_bytes e)
-    → (let e : Entry = record { number = n; state = a; successors = xs } in SpellsEntry p (entry_said e) after)
+pub SpellsEntry-said : (p : Program) (n : ℕ) (a b : State) (xs ys zs before after : List ℕ) → b ≡ a
+    → ys ≡ xs → zs ≡ xs
+    → (let e : Entry = record { number = n; state = b; successors = ys } in EntryFits p
+    (entry_said e)) → before ≡ []
+    → (let e : Entry = record { number = n; state = b; successors = zs } in after
+    ≡ before ++ entry_bytes e)
+    → (let e : Entry = record { number = n; state = a; successors = xs } in SpellsEntry p
+    (entry_said e) after)
 SpellsEntry-said p n a b xs ys zs before after restored named listed fits empty spelled =
     let entry : State → List ℕ → Entry = λ s l. record { number = n; state = s; successors = l } in
     record {
-      fits = subst (λ (s : State). EntryFits p (entry_said (entry s xs))) restored (subst (λ (l : List ℕ). EntryFits p (entry_said (entry b l))) named fits);
+      fits =
+          subst (λ (s : State). EntryFits p (entry_said (entry s xs))) restored
+          (subst (λ (l : List ℕ). EntryFits p (entry_said (entry b l))) named fits);
       spelled =
           spelled
           ∙ ap (λ (l : List ℕ). l ++ entry_bytes (entry b zs)) empty
@@ -75,86 +83,126 @@ SpellsEntry-said p n a b xs ys zs before after restored named listed fits empty 
           ∙ sym (entry_bytes-said (entry a xs));
     }
 
-nothing_yet : (old : Option (List ℕ)) (bytes : List ℕ) → 0 < length bytes → AppendsBeginning old old bytes
+nothing_yet : (old : Option (List ℕ)) (bytes : List ℕ) → 0 < length bytes
+    → AppendsBeginning old old bytes
 nothing_yet old bytes some = (0, some, Appends-nil old)
 
 pub GainsEntries-none : (p : Program) (old : Option (List ℕ)) → GainsEntries p 0 old old
-GainsEntries-none p old = record { entries = []; count_is = refl; fit = All-nil (EntryFits p); gained = Appends-nil old }
+GainsEntries-none p old =
+    record { entries = []; count_is = refl; fit = All-nil (EntryFits p); gained = Appends-nil old }
 
-pub GainsEntries-more : (p : Program) (i : ℕ) (old mid new : Option (List ℕ)) (e : Entry) (bytes : List ℕ) → GainsEntries p i old mid → SpellsEntry p e bytes → Appends mid new bytes
+pub GainsEntries-more : (p : Program) (i : ℕ) (old mid new : Option (List ℕ)) (e : Entry)
+    (bytes : List ℕ) → GainsEntries p i old mid → SpellsEntry p e bytes → Appends mid new bytes
     → GainsEntries p (i + 1) old new
 GainsEntries-more p i old mid new e bytes g s written =
     let all : flat_map entry_bytes (g.entries ++ e ∷ []) ≡ flat_map entry_bytes g.entries ++ bytes =
-    flat_map-append entry_bytes g.entries (e ∷ []) ∙ ap (λ (l : List ℕ). flat_map entry_bytes g.entries ++ l) (append-nil (entry_bytes e) ∙ sym s.spelled) in
+    flat_map-append entry_bytes g.entries (e ∷ [])
+    ∙ ap (λ (l : List ℕ). flat_map entry_bytes g.entries ++ l)
+    (append-nil (entry_bytes e) ∙ sym s.spelled) in
     record {
       entries = g.entries ++ e ∷ [];
       count_is = omega (arith, length-append g.entries (e ∷ []), g.count_is);
       fit = All-push (EntryFits p) g.entries e g.fit s.fits;
-      gained = subst (Appends old new) (sym all) (Appends-trans old mid new (flat_map entry_bytes g.entries) bytes g.gained written);
+      gained =
+          subst (Appends old new) (sym all)
+          (Appends-trans old mid new (flat_map entry_bytes g.entries) bytes g.gained written);
     }
 
 -- after some entries a part of the next one was written
-BeginsEntries-at : (p : Program) (i count : ℕ) (old mid new : Option (List ℕ)) (e : Entry) → IsImage p → i < count → GainsEntries p i old mid → EntryFits p e
+BeginsEntries-at : (p : Program) (i count : ℕ) (old mid new : Option (List ℕ)) (e : Entry)
+    → IsImage p → i < count → GainsEntries p i old mid → EntryFits p e
     → AppendsBeginning mid new (entry_bytes e) → BeginsEntries p count old new
 BeginsEntries-at p i count old mid new e image less g fits part =
     let others = replicate (count - (i + 1)) first_entry in
     record {
       entries = g.entries ++ e ∷ others;
-      count_is = omega (arith, length-append g.entries (e ∷ others), length-replicate (count - (i + 1)) first_entry, g.count_is);
+      count_is =
+          omega (
+            arith,
+            length-append g.entries (e ∷ others),
+            length-replicate
+                (count - (i + 1)) first_entry,
+            g.count_is,
+          );
       fit = All-append (EntryFits p) g.entries (e ∷ others) g.fit
-          (All-cons (EntryFits p) e others fits (All-replicate (EntryFits p) (count - (i + 1)) first_entry (EntryFits-first p image)));
-      begun = subst (AppendsBeginning old new) (sym (flat_map-append entry_bytes g.entries (e ∷ others)))
-          (AppendsBeginning-second old mid new (flat_map entry_bytes g.entries) (entry_bytes e ++ flat_map entry_bytes others) g.gained
+          (All-cons (EntryFits p) e others fits
+          (All-replicate (EntryFits p) (count - (i + 1)) first_entry
+          (EntryFits-first p image)));
+      begun =
+          subst (AppendsBeginning old new)
+          (sym (flat_map-append entry_bytes g.entries (e ∷ others)))
+          (AppendsBeginning-second old mid new (flat_map entry_bytes g.entries)
+          (entry_bytes e ++ flat_map entry_bytes others) g.gained
           (AppendsBeginning-first mid new (entry_bytes e) (flat_map entry_bytes others) part));
     }
 
-pub BeginsEntries-part : (p : Program) (i count : ℕ) (old mid new : Option (List ℕ)) (e : Entry) (bytes : List ℕ) → IsImage p → i < count → GainsEntries p i old mid → SpellsEntry p e bytes
+pub BeginsEntries-part : (p : Program) (i count : ℕ) (old mid new : Option (List ℕ)) (e : Entry)
+    (bytes : List ℕ) → IsImage p → i < count → GainsEntries p i old mid → SpellsEntry p e bytes
     → AppendsBeginning mid new bytes → BeginsEntries p count old new
 BeginsEntries-part p i count old mid new e bytes image less g s part =
-    BeginsEntries-at p i count old mid new e image less g s.fits (subst (AppendsBeginning mid new) s.spelled part)
+    BeginsEntries-at p i count old mid new e image less g s.fits
+    (subst (AppendsBeginning mid new) s.spelled part)
 
 -- some entries were written, and not all
-pub BeginsEntries-some : (p : Program) (i count : ℕ) (old mid : Option (List ℕ)) → IsImage p → i < count → GainsEntries p i old mid → BeginsEntries p count old mid
+pub BeginsEntries-some : (p : Program) (i count : ℕ) (old mid : Option (List ℕ)) → IsImage p
+    → i < count → GainsEntries p i old mid → BeginsEntries p count old mid
 BeginsEntries-some p i count old mid image less g =
-    BeginsEntries-at p i count old mid mid first_entry image less g (EntryFits-first p image) (nothing_yet mid (entry_bytes first_entry) (entry_bytes-some first_entry))
+    BeginsEntries-at p i count old mid mid first_entry image less g (EntryFits-first p image)
+    (nothing_yet mid (entry_bytes first_entry) (entry_bytes-some first_entry))
 
 -- ---- tables
 
 -- the entries after their count
-counted : (n : ℕ) (es : List Entry) → length es ≡ n → table_bytes es ≡ head_bytes n ++ flat_map entry_bytes es
+counted : (n : ℕ) (es : List Entry) → length es ≡ n
+    → table_bytes es ≡ head_bytes n ++ flat_map entry_bytes es
 counted n es size = ap (λ m. head_bytes m ++ flat_map entry_bytes es) size
 
-is_read : (p : Program) (n : ℕ) (es : List Entry) → length es ≡ n → 1 ≤ n → n ≤ MAX_EXPLORED → All (EntryFits p) es → table_read p (table_bytes es) ≡ Ok es
+is_read : (p : Program) (n : ℕ) (es : List Entry) → length es ≡ n → 1 ≤ n → n ≤ MAX_EXPLORED
+    → All (EntryFits p) es → table_read p (table_bytes es) ≡ Ok es
 is_read p n es size some few fit = table_read-table_bytes p es (omega arith) (omega arith) fit
 
-pub GainsTable-entries : (p : Program) (n : ℕ) (old mid new : Option (List ℕ)) → 1 ≤ n → n ≤ MAX_EXPLORED → Appends old mid (head_bytes n) → GainsEntries p n mid new → GainsTable p old new
+pub GainsTable-entries : (p : Program) (n : ℕ) (old mid new : Option (List ℕ)) → 1 ≤ n
+    → n ≤ MAX_EXPLORED → Appends old mid (head_bytes n) → GainsEntries p n mid new
+    → GainsTable p old new
 GainsTable-entries p n old mid new some few head g =
     record {
       entries = g.entries;
       read = is_read p n g.entries g.count_is some few g.fit;
-      gained = subst (Appends old new) (sym (counted n g.entries g.count_is)) (Appends-trans old mid new (head_bytes n) (flat_map entry_bytes g.entries) head g.gained);
+      gained =
+          subst (Appends old new) (sym (counted n g.entries g.count_is))
+          (Appends-trans old mid new (head_bytes n)
+          (flat_map entry_bytes g.entries) head g.gained);
     }
 
-pub BeginsTable-entries : (p : Program) (n : ℕ) (old mid new : Option (List ℕ)) → 1 ≤ n → n ≤ MAX_EXPLORED → Appends old mid (head_bytes n) → BeginsEntries p n mid new
+pub BeginsTable-entries : (p : Program) (n : ℕ) (old mid new : Option (List ℕ)) → 1 ≤ n
+    → n ≤ MAX_EXPLORED → Appends old mid (head_bytes n) → BeginsEntries p n mid new
     → BeginsTable p old new
 BeginsTable-entries p n old mid new some few head b =
     record {
       entries = b.entries;
       read = is_read p n b.entries b.count_is some few b.fit;
       begun = subst (AppendsBeginning old new) (sym (counted n b.entries b.count_is))
-          (AppendsBeginning-second old mid new (head_bytes n) (flat_map entry_bytes b.entries) head b.begun);
+          (AppendsBeginning-second old mid new (head_bytes n)
+          (flat_map entry_bytes b.entries) head b.begun);
     }
 
-pub BeginsTable-head : (p : Program) (n : ℕ) (old new : Option (List ℕ)) → IsImage p → 1 ≤ n → n ≤ MAX_EXPLORED → AppendsBeginning old new (head_bytes n) → BeginsTable p old new
+pub BeginsTable-head : (p : Program) (n : ℕ) (old new : Option (List ℕ)) → IsImage p → 1 ≤ n
+    → n ≤ MAX_EXPLORED → AppendsBeginning old new (head_bytes n) → BeginsTable p old new
 BeginsTable-head p n old new image some few part =
     let es = replicate n first_entry in
     let size = length-replicate n first_entry in
     record {
       entries = es;
-      read = is_read p n es size some few (All-replicate (EntryFits p) n first_entry (EntryFits-first p image));
-      begun = subst (AppendsBeginning old new) (sym (counted n es size)) (AppendsBeginning-first old new (head_bytes n) (flat_map entry_bytes es) part);
+      read =
+          is_read p n es size some few
+          (All-replicate (EntryFits p) n first_entry (EntryFits-first p image));
+      begun =
+          subst (AppendsBeginning old new) (sym (counted n es size))
+          (AppendsBeginning-first old new (head_bytes n) (flat_map entry_bytes es) part);
     }
 
 -- nothing was written
 pub BeginsTable-nothing : (p : Program) (old : Option (List ℕ)) → IsImage p → BeginsTable p old old
-BeginsTable-nothing p old image = BeginsTable-head p 1 old old image (omega arith) (omega arith) (nothing_yet old (head_bytes 1) (omega arith))
+BeginsTable-nothing p old image =
+    BeginsTable-head p 1 old old image (omega arith) (omega arith)
+    (nothing_yet old (head_bytes 1) (omega arith))

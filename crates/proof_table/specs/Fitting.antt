@@ -1,4 +1,4 @@
--- What a table can say: each field is of its width, and is allowed.
+-- What a table can spell: each field is of its width, and is allowed.
 use Rattle.std.specs.Prelude.{◌≡◌, ℕ, ◌^◌, ◌<◌, ◌≤◌, ℤ, pos, ◌≤ℤ◌, FitsSigned, Bool, true, false, length, get_or, map, All}
 use Rattle.std.specs.Int.{w32, w64}
 use Rattle.isa_model.specs.Code.Instructions.{Program}
@@ -36,7 +36,7 @@ pub record ScalarFits (s : Scalar) : Type 0 where
   pub wide : WideFits s.range.wide
   pub low : LowFits s.range.low
 
--- ---- pointers; there are `rows` map rows, and `holder` is the call frame that holds the value
+-- ---- pointers; there are `rows` map rows, and `holder` is the call frame that holds them
 
 pub record StackFits (holder frame : ℕ) (offset : ℤ) : Type 0 where
   pub up_to_holder : frame ≤ holder
@@ -70,7 +70,7 @@ pub record NullFits (rows index identity : ℕ) : Type 0 where
   pub map_fits : MapFits rows index
   pub identity_width : identity < 2 ^ 32
 
--- ---- values and stack slots
+-- ---- kinds and stack slots
 
 abbrev pub KindFits : ℕ → ℕ → Kind → Type 0
 KindFits rows holder Unset = Unit {0}
@@ -109,7 +109,7 @@ pub record EntryFits (p : Program) (e : Entry) : Type 0 where
   pub named : length e.successors ≤ 2
   pub indexes : All (λ i. i < 2 ^ 32) e.successors
 
--- ---- what a table says of a state: of a stack slot whose value is unset, that no byte is written
+-- ---- a state as a table says it: where a stack slot holds an unset value, no byte is written
 
 abbrev pub slot_said : StackSlot → StackSlot
 slot_said (Spilled Unset) = Written 0

@@ -40,7 +40,7 @@ low_bytes l = little_bytes 4 l.least
 abbrev pub scalar_bytes : Scalar → List ℕ
 scalar_bytes s = bits_bytes s.bits ++ (wide_bytes s.range.wide ++ low_bytes s.range.low)
 
--- ---- values: a byte for the kind, and the fields
+-- ---- kinds: a byte for the number of the kind, and the fields
 
 unfoldable pub stack_bytes : ℕ → ℤ → List ℕ
 stack_bytes frame offset = 3 ∷ (frame ∷ signed_4 offset)
@@ -69,7 +69,7 @@ kind_bytes (Map index) = 6 ∷ (index ∷ [])
 kind_bytes (MapValue index least greatest) = value_bytes index least greatest
 kind_bytes (MapValueOrNull index identity) = null_bytes index identity
 
--- a stack slot: 0 and the marks of written bytes, or 1 and a value; a spilled value about which
+-- a stack slot: 0 and the marks of written bytes, or 1 and a kind; a spilled value about which
 -- nothing is known is spelled as a stack slot without marks
 unfoldable pub slot_bytes : StackSlot → List ℕ
 slot_bytes (Written marks) = 0 ∷ (marks ∷ [])
@@ -78,7 +78,7 @@ slot_bytes (Spilled kind) = 1 ∷ kind_bytes kind
 
 -- ---- call frames and entries
 
--- the slot of its caller, ten values, 64 stack slots
+-- the return slot, ten kinds, 64 stack slots
 unfoldable pub frame_bytes : AbstractFrame → List ℕ
 frame_bytes f = little_bytes 2 f.return_slot
     ++ (flat_map kind_bytes f.registers ++ flat_map slot_bytes f.stack.slots)

@@ -1,4 +1,4 @@
--- What a writer gained.
+-- What was written: a table, entries, or a part of them.
 use Rattle.std.specs.Prelude.{◌≡◌, ℕ, List, length, All, Option, Ok}
 use Rattle.std.specs.List.{flat_map}
 use Rattle.std.specs.Io.KnownBytes.{Appends}

@@ -5,7 +5,7 @@ ghost use Rattle.std.specs.List.{flat_map};
 ghost use Rattle.byteorder.specs.Endian.{little_bytes};
 ghost use Rattle.proof_table.specs.Spelling.{named_bytes, entry_bytes};
 
-use crate::frames::{spell_frame, spell_frames, spell_place};
+use crate::frames::{spell_code_slot, spell_frame, spell_frames};
 use stack_state::State;
 use std::alloc::AllocError;
 
@@ -43,7 +43,7 @@ pub fn spell_entry(
     })) }
 {
     buffer.extend_from_slice(&number.to_le_bytes())?;
-    spell_place(state.slot, buffer)?;
+    spell_code_slot(state.slot, buffer)?;
     buffer.extend_from_slice(&[state.callers.len() as u8 + 1])?;
     spell_frames(&state.callers, buffer)?;
     spell_frame(&state.innermost, buffer)?;

@@ -15,8 +15,8 @@ pub enum WriteTableError {
     /// The verifier refuses the program, or shows an entry that no table can spell. No program that
     /// it accepted before is refused.
     Explored,
-    /// The writer answered an error of this kind, or took no byte of those that it was given, which
-    /// is `ErrorKind::WriteZero`.
+    /// The writer returned an error of this kind, or it took none of the bytes that it was given:
+    /// `ErrorKind::WriteZero`.
     Writer(ErrorKind),
 }
 

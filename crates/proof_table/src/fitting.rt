@@ -1,4 +1,4 @@
-//! Whether a table can say what an entry has.
+//! Whether a table can spell an entry.
 
 ghost use Rattle.std.specs.Prelude.{◌≡◌, ◌↔◌, ℕ, ◌<◌, ◌≤◌, true, false, All, IsTrue, length, get_or};
 ghost use Rattle.stack_state.specs.declared.states.AbstractFrame.{AbstractFrame};
@@ -14,7 +14,7 @@ use stack_state::{AbstractFrame, FRAME_SLOTS, StackSlot, State};
 use table_entries::entries::head_allowed;
 use table_entries::frames::frame_allowed;
 
-// ---- values; `rows` is how many map rows there are, `holder` the call frame that holds the value
+// ---- kinds; `rows` is how many map rows there are, `holder` the call frame that has them
 
 // Recalls that the fields of a number are of their widths, for the proof. It does nothing.
 fn number_fits(numbers: Scalar)
@@ -153,7 +153,7 @@ fn frame_fits(rows: usize, holder: usize, outer: bool, frame: &AbstractFrame) ->
     slots_fit(rows, holder, &frame.stack.slots)
 }
 
-// Whether a table can say what outer frames have.
+// Whether a table can spell outer call frames.
 fn callers_fit(rows: usize, callers: &[AbstractFrame]) -> bool
     ensures { IsTrue result ↔ ((k : ℕ) (d : AbstractFrame) → k < length callers.now
         → FrameFits rows k true (frame_said (get_or callers.now k d))) }
@@ -166,7 +166,7 @@ fn callers_fit(rows: usize, callers: &[AbstractFrame]) -> bool
     true
 }
 
-/// Whether a table can say what the entry has.
+/// Whether a table can spell the entry.
 pub fn entry_fits(image: &Image, number: u32, state: &State, successors: &[u32]) -> bool
     ensures { IsTrue result ↔ EntryFits image.now (entry_said (record {
       number = number;

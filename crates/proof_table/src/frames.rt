@@ -11,7 +11,7 @@ use stack_state::{AbstractFrame, FRAME_SLOTS, StackSlot};
 use std::alloc::AllocError;
 
 /// Puts the lowest 16 bits of a slot's number after what the buffer has.
-pub fn spell_place(slot: usize, buffer: &mut Vec<u8>) -> Result<(), AllocError>
+pub fn spell_code_slot(slot: usize, buffer: &mut Vec<u8>) -> Result<(), AllocError>
     ensures { OnOk result (buffer.new.items ≡ buffer.old.items ++ little_bytes 2 slot) }
 {
     buffer.extend_from_slice(&slot.to_le_bytes()[..2])
@@ -36,12 +36,12 @@ fn spell_slots(slots: &[StackSlot; FRAME_SLOTS], buffer: &mut Vec<u8>) -> Result
     Ok(())
 }
 
-/// Puts a frame after what the buffer has.
+/// Puts a call frame after what the buffer has.
 #[tactic(auto, unfolding(crate::specs::Spelling::frame_bytes))]
 pub fn spell_frame(frame: &AbstractFrame, buffer: &mut Vec<u8>) -> Result<(), AllocError>
     ensures { OnOk result (buffer.new.items ≡ buffer.old.items ++ frame_bytes frame.now) }
 {
-    spell_place(frame.return_slot, buffer)?;
+    spell_code_slot(frame.return_slot, buffer)?;
     spell_registers(&frame.registers, buffer)?;
     spell_slots(&frame.stack.slots, buffer)
 }

@@ -91,7 +91,7 @@ fn write_entries<W: Write>(
     image.recall();
     let mut state = State::start();
     for index in 0..count {
-        let Some(entry) = explored.entry(index) else {
+        let Some(entry) = explored.insn(index) else {
             return Err(WriteTableError::Explored);
         };
         spell_explored(image, entry, &mut state, buffer)?;

@@ -1,4 +1,4 @@
-//! Values of registers and stack slots, spelled as a table has them.
+//! The kinds of registers and stack slots, spelled as a table has them.
 
 ghost use Rattle.std.specs.Prelude.{◌≡◌, ◌++◌, OnOk};
 ghost use Rattle.proof_table.specs.Spelling.{bits_bytes, wide_bytes, low_bytes, scalar_bytes, stack_bytes, packet_bytes, value_bytes, null_bytes, kind_bytes, slot_bytes};
@@ -97,9 +97,9 @@ fn null_bytes(index: u8, identity: u32) -> [u8; 6]
     bytes
 }
 
-// ---- values and stack slots
+// ---- kinds and stack slots
 
-/// Puts a value after what the buffer has.
+/// Puts a kind after what the buffer has.
 #[tactic(auto, unfolding(crate::specs::Spelling::kind_bytes))]
 pub fn spell_kind(kind: &Kind, buffer: &mut Vec<u8>) -> Result<(), AllocError>
     ensures { OnOk result (buffer.new.items ≡ buffer.old.items ++ kind_bytes kind.now) }
@@ -138,7 +138,7 @@ pub fn spell_kind(kind: &Kind, buffer: &mut Vec<u8>) -> Result<(), AllocError>
 /// Puts a stack slot after what the buffer has.
 ///
 /// An exit leaves an unset value where a pointer into its call frame was spilled. A table has no
-/// spelling for it: it says that no byte of the stack slot is written, which is as little.
+/// spelling for it: it says that no byte of the stack slot is written, which says as little.
 #[tactic(auto, unfolding(crate::specs::Spelling::slot_bytes))]
 pub fn spell_slot(slot: &StackSlot, buffer: &mut Vec<u8>) -> Result<(), AllocError>
     ensures { OnOk result (buffer.new.items ≡ buffer.old.items ++ slot_bytes slot.now) }

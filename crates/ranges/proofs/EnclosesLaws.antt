@@ -30,4 +30,5 @@ enclosed_low a b e h within = record {
 
 -- and so is what is within both
 pub enclosed_has : (a b : Range) (x : ℕ) → Encloses a b → Has b x → Has a x
-enclosed_has a b x h within = (enclosed_wide a.wide b.wide x h.0 within.0, enclosed_low a.low b.low (x % 2 ^ 32) h.1 within.1)
+enclosed_has a b x h within =
+    (enclosed_wide a.wide b.wide x h.0 within.0, enclosed_low a.low b.low (x % 2 ^ 32) h.1 within.1)

@@ -72,7 +72,8 @@ extended_half Low16 x l g fl fg from to = kept_16 x l g fl fg from to
 extended_half Full8 x l g fl fg from to = same_half_8 x ∙ kept_8 x l g fl fg from to
 extended_half Full16 x l g fl fg from to = same_half_16 x ∙ kept_16 x l g fl fg from to
 extended_half Full32 x l g fl fg from to =
-    elim (sign_extended_cases Full32 x (2 ^ 31) refl) [ inl p ↦ omega (arith, p.0, p.1) | inr p ↦ omega (arith, p.0, p.1) ]
+    elim (sign_extended_cases Full32 x (2 ^ 31) refl)
+    [ inl p ↦ omega (arith, p.0, p.1) | inr p ↦ omega (arith, p.0, p.1) ]
 
 -- ---- its signed reading
 
@@ -113,9 +114,12 @@ half_of_16 Full8 x is = absurd (omega arith)
 half_of_16 Full32 x is = absurd (omega arith)
 
 -- what is made has a signed number of what is read as its low half
-pub half_extended_signed : (e : Extension) (x : ℕ) → FitsSigned (extension_signed e) (cast_signed w32 (sign_extended e x % 2 ^ 32))
+pub half_extended_signed : (e : Extension) (x : ℕ)
+    → FitsSigned (extension_signed e) (cast_signed w32 (sign_extended e x % 2 ^ 32))
 half_extended_signed Low8 x = let l = half_of_8 Low8 x refl in fits_8 _ l.0 l.1
 half_extended_signed Low16 x = let l = half_of_16 Low16 x refl in fits_16 _ l.0 l.1
 half_extended_signed Full8 x = let l = half_of_8 Full8 x refl in fits_8 _ l.0 l.1
 half_extended_signed Full16 x = let l = half_of_16 Full16 x refl in fits_16 _ l.0 l.1
-half_extended_signed Full32 x = sfits_to_z (record { fits = let b : sign_extended Full32 x % 2 ^ 32 < 2 ^ 32 = omega arith in b })
+half_extended_signed Full32 x =
+    sfits_to_z
+    (record { fits = let b : sign_extended Full32 x % 2 ^ 32 < 2 ^ 32 = omega arith in b })

@@ -1,4 +1,5 @@
--- What limits an operation's result keeps, said otherwise.
+-- The limits that an operation's result keeps: a relation that they have may be replaced by a
+-- weaker one.
 use Rattle.std.specs.Prelude.{ℕ, zero, suc, ℤ, pos, negsuc, unsigned_abs}
 use Rattle.std.proofs.Common.{arith}
 use Rattle.std.proofs.lemmas.Int.{ints}
@@ -12,15 +13,18 @@ use Rattle.ranges.specs.Lows.{IsBetween, IsSignedBetween, Encloses, KeepsLimits,
 use Rattle.ranges.specs.Keeps.{KeepsUnsigned, KeepsSigned, KeepsSignedQuotient, KeepsSignedRemainder, signed_of}
 
 -- the unsigned limits
-pub keeps_map : (op : AluOp) (w : Width) (al ag bl bg : ℕ) (P Q : ℕ → ℕ → Type 0) → ((l g : ℕ) → P l g → Q l g)
+pub keeps_map : (op : AluOp) (w : Width) (al ag bl bg : ℕ) (P Q : ℕ → ℕ → Type 0)
+    → ((l g : ℕ) → P l g → Q l g)
     → KeepsUnsigned op w al ag bl bg P → KeepsUnsigned op w al ag bl bg Q
 keeps_map Add w al ag bl bg P Q f h = λ fits. f _ _ (h fits)
 keeps_map Sub w al ag bl bg P Q f h = λ le. f _ _ (h le)
 keeps_map Mul w al ag bl bg P Q f h = λ fits. f _ _ (h fits)
 keeps_map Div w al ag bl bg P Q f h = (f _ _ h.0, λ some. f _ _ (h.1 some))
 keeps_map Mod w al ag bl bg P Q f h = (f _ _ h.0, λ some. f _ _ (h.1 some))
-keeps_map SignedDiv w al ag bl bg P Q f h = λ plain. (f _ _ ((h plain).0), λ some. f _ _ ((h plain).1 some))
-keeps_map SignedMod w al ag bl bg P Q f h = λ plain. (f _ _ ((h plain).0), λ some. f _ _ ((h plain).1 some))
+keeps_map SignedDiv w al ag bl bg P Q f h =
+    λ plain. (f _ _ ((h plain).0), λ some. f _ _ ((h plain).1 some))
+keeps_map SignedMod w al ag bl bg P Q f h =
+    λ plain. (f _ _ ((h plain).0), λ some. f _ _ ((h plain).1 some))
 keeps_map And w al ag bl bg P Q f h = (f _ _ h.0, f _ _ h.1)
 keeps_map Lsh w al ag bl bg P Q f h = λ one fits. f _ _ (h one fits)
 keeps_map Rsh w al ag bl bg P Q f h = (f _ _ h.0, λ one. f _ _ (h.1 one))
@@ -30,7 +34,8 @@ keeps_map Xor w al ag bl bg P Q f h = tt
 keeps_map Arsh w al ag bl bg P Q f h = tt
 
 -- the signed ones of a division by a number that is known
-signed_quotient_map : (w : IntWidth) (al ag by : ℤ) (P Q : ℤ → ℤ → Type 0) → ((l g : ℤ) → P l g → Q l g)
+signed_quotient_map : (w : IntWidth) (al ag by : ℤ) (P Q : ℤ → ℤ → Type 0)
+    → ((l g : ℤ) → P l g → Q l g)
     → KeepsSignedQuotient w al ag by P → KeepsSignedQuotient w al ag by Q
 signed_quotient_map w al ag (pos by) P Q f h = f _ _ h
 signed_quotient_map w al ag (negsuc by) P Q f h = λ fits. f _ _ (h fits)
@@ -41,7 +46,8 @@ signed_remainder_map al ag zero P Q f h = f _ _ h
 signed_remainder_map al ag (suc most) P Q f h = (f _ _ h.0, f _ _ h.1)
 
 -- and all signed ones
-pub keeps_signed_map : (op : AluOp) (w : Width) (al ag bl bg : ℤ) (d e : ℕ) (P Q : ℤ → ℤ → Type 0) → ((l g : ℤ) → P l g → Q l g)
+pub keeps_signed_map : (op : AluOp) (w : Width) (al ag bl bg : ℤ) (d e : ℕ) (P Q : ℤ → ℤ → Type 0)
+    → ((l g : ℤ) → P l g → Q l g)
     → KeepsSigned op w al ag bl bg d e P → KeepsSigned op w al ag bl bg d e Q
 keeps_signed_map Add w al ag bl bg d e P Q f h = λ fl fg. f _ _ (h fl fg)
 keeps_signed_map Sub w al ag bl bg d e P Q f h = λ fl fg. f _ _ (h fl fg)

@@ -21,24 +21,61 @@ use Rattle.ranges.specs.Keeps.{extension_signed}
 
 -- ---- sums and differences that fit
 
-pub sum_from : (x y : ℕ) (a b c d : ℤ) → x < 2 ^ 64 → y < 2 ^ 64 → a ≤ℤ cast_signed w64 x → cast_signed w64 x ≤ℤ c → b ≤ℤ cast_signed w64 y → cast_signed w64 y ≤ℤ d
-    → FitsSigned w64 (a +ℤ b) → FitsSigned w64 (c +ℤ d) → (a +ℤ b) ≤ℤ cast_signed w64 ((x + y) % 2 ^ 64)
-sum_from x y a b c d x_in y_in h1 h2 h3 h4 f g = omega (arith, ints, signed_equation x x_in, signed_equation y y_in, signed_equation ((x + y) % 2 ^ 64) (omega arith))
+pub sum_from : (x y : ℕ) (a b c d : ℤ) → x < 2 ^ 64 → y < 2 ^ 64 → a ≤ℤ cast_signed w64 x
+    → cast_signed w64 x ≤ℤ c → b ≤ℤ cast_signed w64 y → cast_signed w64 y ≤ℤ d
+    → FitsSigned w64 (a +ℤ b) → FitsSigned w64 (c +ℤ d)
+    → (a +ℤ b) ≤ℤ cast_signed w64 ((x + y) % 2 ^ 64)
+sum_from x y a b c d x_in y_in h1 h2 h3 h4 f g =
+    omega (
+      arith,
+      ints,
+      signed_equation x x_in,
+      signed_equation y y_in,
+      signed_equation ((x + y) % 2 ^ 64) (omega arith),
+    )
 
-pub sum_to : (x y : ℕ) (a b c d : ℤ) → x < 2 ^ 64 → y < 2 ^ 64 → a ≤ℤ cast_signed w64 x → cast_signed w64 x ≤ℤ c → b ≤ℤ cast_signed w64 y → cast_signed w64 y ≤ℤ d
-    → FitsSigned w64 (a +ℤ b) → FitsSigned w64 (c +ℤ d) → cast_signed w64 ((x + y) % 2 ^ 64) ≤ℤ (c +ℤ d)
-sum_to x y a b c d x_in y_in h1 h2 h3 h4 f g = omega (arith, ints, signed_equation x x_in, signed_equation y y_in, signed_equation ((x + y) % 2 ^ 64) (omega arith))
+pub sum_to : (x y : ℕ) (a b c d : ℤ) → x < 2 ^ 64 → y < 2 ^ 64 → a ≤ℤ cast_signed w64 x
+    → cast_signed w64 x ≤ℤ c → b ≤ℤ cast_signed w64 y → cast_signed w64 y ≤ℤ d
+    → FitsSigned w64 (a +ℤ b) → FitsSigned w64 (c +ℤ d)
+    → cast_signed w64 ((x + y) % 2 ^ 64) ≤ℤ (c +ℤ d)
+sum_to x y a b c d x_in y_in h1 h2 h3 h4 f g =
+    omega (
+      arith,
+      ints,
+      signed_equation x x_in,
+      signed_equation y y_in,
+      signed_equation ((x + y) % 2 ^ 64) (omega arith),
+    )
 
-pub difference_from : (x y : ℕ) (a b c d : ℤ) → x < 2 ^ 64 → y < 2 ^ 64 → a ≤ℤ cast_signed w64 x → cast_signed w64 x ≤ℤ c → b ≤ℤ cast_signed w64 y → cast_signed w64 y ≤ℤ d
-    → FitsSigned w64 (a -ℤ d) → FitsSigned w64 (c -ℤ b) → (a -ℤ d) ≤ℤ cast_signed w64 ((x + (2 ^ 64 - y)) % 2 ^ 64)
-difference_from x y a b c d x_in y_in h1 h2 h3 h4 f g = omega (arith, ints, signed_equation x x_in, signed_equation y y_in, signed_equation ((x + (2 ^ 64 - y)) % 2 ^ 64) (omega arith))
+pub difference_from : (x y : ℕ) (a b c d : ℤ) → x < 2 ^ 64 → y < 2 ^ 64 → a ≤ℤ cast_signed w64 x
+    → cast_signed w64 x ≤ℤ c → b ≤ℤ cast_signed w64 y → cast_signed w64 y ≤ℤ d
+    → FitsSigned w64 (a -ℤ d) → FitsSigned w64 (c -ℤ b)
+    → (a -ℤ d) ≤ℤ cast_signed w64 ((x + (2 ^ 64 - y)) % 2 ^ 64)
+difference_from x y a b c d x_in y_in h1 h2 h3 h4 f g =
+    omega (
+      arith,
+      ints,
+      signed_equation x x_in,
+      signed_equation y y_in,
+      signed_equation ((x + (2 ^ 64 - y)) % 2 ^ 64) (omega arith),
+    )
 
-pub difference_to : (x y : ℕ) (a b c d : ℤ) → x < 2 ^ 64 → y < 2 ^ 64 → a ≤ℤ cast_signed w64 x → cast_signed w64 x ≤ℤ c → b ≤ℤ cast_signed w64 y → cast_signed w64 y ≤ℤ d
-    → FitsSigned w64 (a -ℤ d) → FitsSigned w64 (c -ℤ b) → cast_signed w64 ((x + (2 ^ 64 - y)) % 2 ^ 64) ≤ℤ (c -ℤ b)
-difference_to x y a b c d x_in y_in h1 h2 h3 h4 f g = omega (arith, ints, signed_equation x x_in, signed_equation y y_in, signed_equation ((x + (2 ^ 64 - y)) % 2 ^ 64) (omega arith))
+pub difference_to : (x y : ℕ) (a b c d : ℤ) → x < 2 ^ 64 → y < 2 ^ 64 → a ≤ℤ cast_signed w64 x
+    → cast_signed w64 x ≤ℤ c → b ≤ℤ cast_signed w64 y → cast_signed w64 y ≤ℤ d
+    → FitsSigned w64 (a -ℤ d) → FitsSigned w64 (c -ℤ b)
+    → cast_signed w64 ((x + (2 ^ 64 - y)) % 2 ^ 64) ≤ℤ (c -ℤ b)
+difference_to x y a b c d x_in y_in h1 h2 h3 h4 f g =
+    omega (
+      arith,
+      ints,
+      signed_equation x x_in,
+      signed_equation y y_in,
+      signed_equation ((x + (2 ^ 64 - y)) % 2 ^ 64) (omega arith),
+    )
 
 pub div_mono : (a b k : ℕ) → a ≤ b → a / 2 ^ k ≤ b / 2 ^ k
-div_mono a b k h = le-div (a / 2 ^ k) b (2 ^ k) (pow_pos k) (let l = div-mul-le_self a (2 ^ k) in omega arith)
+div_mono a b k h =
+    le-div (a / 2 ^ k) b (2 ^ k) (pow_pos k) (let l = div-mul-le_self a (2 ^ k) in omega arith)
 
 -- a shift that loses no bit
 pub shl_whole_at : (x g k : ℕ) → x ≤ g → g ≤ (2 ^ 64 - 1) / 2 ^ k → (x * 2 ^ k) % 2 ^ 64 ≡ x * 2 ^ k
@@ -60,14 +97,20 @@ zero_or_div x y = cond_le (nat_eq y 0) 0 (x / y) x (omega arith) (div-le_self x 
 pub self_or_mod : (x y : ℕ) → cond (nat_eq y 0) x (x % y) ≤ x
 self_or_mod x y = cond_le (nat_eq y 0) x (x % y) x (omega arith) (mod-le x y)
 
-pub mod_apart : (x y : ℕ) → 0 < y → (cond (nat_eq y 0) x (x % y) ≤ x) × (cond (nat_eq y 0) x (x % y) < y)
+pub mod_apart : (x y : ℕ) → 0 < y
+    → (cond (nat_eq y 0) x (x % y) ≤ x) × (cond (nat_eq y 0) x (x % y) < y)
 mod_apart x y h = rw (ne_eqb y 0 (λ e. omega arith)) (mod-le x y, mod_below x y h)
 
-pub div_apart : (x y a b c d : ℕ) → 0 < c → a ≤ x → x ≤ b → c ≤ y → y ≤ d → (a / d ≤ cond (nat_eq y 0) 0 (x / y)) × (cond (nat_eq y 0) 0 (x / y) ≤ b / c)
+pub div_apart : (x y a b c d : ℕ) → 0 < c → a ≤ x → x ≤ b → c ≤ y → y ≤ d
+    → (a / d ≤ cond (nat_eq y 0) 0 (x / y)) × (cond (nat_eq y 0) 0 (x / y) ≤ b / c)
 div_apart x y a b c d p h1 h2 h3 h4 =
     rw (ne_eqb y 0 (λ e. omega arith)) (
-      le-div (a / d) x y (omega arith) (let l = div-mul-le_self a d in let m = mul-le (a / d) y (a / d) d (omega arith) h4 in omega arith),
-      le-div (x / y) b c p (let l = div-mul-le_self x y in let m = mul-le (x / y) c (x / y) y (omega arith) h3 in omega arith),
+      le-div (a / d) x y (omega arith)
+          (let l = div-mul-le_self a d in
+          let m = mul-le (a / d) y (a / d) d (omega arith) h4 in omega arith),
+      le-div (x / y) b c p
+          (let l = div-mul-le_self x y in
+          let m = mul-le (x / y) c (x / y) y (omega arith) h3 in omega arith),
     )
 
 pub div_le : (a b m : ℕ) → a ≤ b → a / m ≤ b / m
@@ -79,10 +122,12 @@ div_le a b m h = elim (cases_lt 0 m) [
 -- ---- the shift that keeps the sign
 
 pub shr_mono : (a b : ℤ) (m : ℕ) → a ≤ℤ b → shr_z a m ≤ℤ shr_z b m
-shr_mono (pos a) (pos b) m h = let l : a ≤ b = omega (arith, ints) in let d = div_le a b m l in omega (arith, ints)
+shr_mono (pos a) (pos b) m h =
+    let l : a ≤ b = omega (arith, ints) in let d = div_le a b m l in omega (arith, ints)
 shr_mono (pos a) (negsuc b) m h = absurd (omega (arith, ints))
 shr_mono (negsuc a) (pos b) m h = omega (arith, ints)
-shr_mono (negsuc a) (negsuc b) m h = let l : b ≤ a = omega (arith, ints) in let d = div_le b a m l in omega (arith, ints)
+shr_mono (negsuc a) (negsuc b) m h =
+    let l : b ≤ a = omega (arith, ints) in let d = div_le b a m l in omega (arith, ints)
 
 pub shr_fits : (a : ℤ) (k : ℕ) → FitsSigned w64 a → FitsSigned w64 (int_shr a k)
 shr_fits a k f = record { sfits = let l = mag_shr a (2 ^ k) in let s = f.sfits in omega arith }
@@ -95,8 +140,9 @@ signed_below_64 (pos n) f = let s = f.sfits in omega arith
 signed_below_64 (negsuc n) f = omega arith
 
 -- at 32 bits a number below the half has no sign to keep
-pub shift_word_small : (x k : ℕ) → x < 2 ^ 31 → k < 32 → result_of Arsh Low32 x k ≡ x / 2 ^ k
-shift_word_small x k h k_in = rw (lt-ltb x (2 ^ 31) h) (ap (λ n. x / 2 ^ n) (mod-eq_of_lt {n = k} {m = 32} k_in))
+pub shift_low_small : (x k : ℕ) → x < 2 ^ 31 → k < 32 → result_of Arsh Low32 x k ≡ x / 2 ^ k
+shift_low_small x k h k_in =
+    rw (lt-ltb x (2 ^ 31) h) (ap (λ n. x / 2 ^ n) (mod-eq_of_lt {n = k} {m = 32} k_in))
 
 -- ---- sign extensions to 64 bits
 
@@ -172,7 +218,8 @@ extended_same Full32 x l g full x_in fl fg from to =
     ]
 
 -- half of what is read fits the width that is made
-pub half_narrow : (e : Extension) (h : ℕ) → h + h ≡ 2 ^ extension_bits e → h ≤ 2 ^ width_bits (extension_width e)
+pub half_narrow : (e : Extension) (h : ℕ) → h + h ≡ 2 ^ extension_bits e
+    → h ≤ 2 ^ width_bits (extension_width e)
 half_narrow Low8 h twice = omega arith
 half_narrow Low16 h twice = omega arith
 half_narrow Full8 h twice = omega arith
@@ -201,11 +248,13 @@ extended_signed Full16 x full = let l = extended_16 x in fits_16 _ l.0 l.1
 extended_signed Full32 x full = let l = extended_32 x in fits_32 _ l.0 l.1
 
 -- a greater number's negative fits where that of a smaller one does
-pub negative_fits : (w : IntWidth) (l g : ℤ) → l ≤ℤ g → FitsSigned w g → FitsSigned w (pos 0 -ℤ l) → FitsSigned w (pos 0 -ℤ g)
+pub negative_fits : (w : IntWidth) (l g : ℤ) → l ≤ℤ g → FitsSigned w g → FitsSigned w (pos 0 -ℤ l)
+    → FitsSigned w (pos 0 -ℤ g)
 negative_fits w l (pos zero) h f fl = record { sfits = let p = pow_pos (hbits w) in omega arith }
 negative_fits w l (pos (suc n)) h f fl =
     let e : (pos 0 -ℤ pos (suc n)) ≡ negsuc n = omega (arith, ints) in
     let s = f.sfits in
     rw e (record { sfits = omega arith })
 negative_fits w (pos m) (negsuc n) h f fl = absurd (omega (arith, ints))
-negative_fits w (negsuc m) (negsuc n) h f fl = record { sfits = let s = fl.sfits in let le : n ≤ m = omega (arith, ints) in omega arith }
+negative_fits w (negsuc m) (negsuc n) h f fl =
+    record { sfits = let s = fl.sfits in let le : n ≤ m = omega (arith, ints) in omega arith }

@@ -1,4 +1,5 @@
--- Low halves: their signed readings, wider limits, limits that are reached, and halves of numbers between two limits.
+-- Low halves: their signed readings, wider limits, limits that are reached, and halves of numbers
+-- between two limits.
 use Rattle.std.proofs.Common.{◌≡◌, ℕ, ℤ, ◌+◌, ◌*◌, ◌/◌, ◌%◌, ◌^◌, ◌<◌, ◌≤◌, inl, inr, sym, subst, arith, w64}
 use Rattle.std.specs.Prelude.{◌⊎◌, ◌≤ℤ◌, FitsSigned}
 use Rattle.std.specs.Int.{w32, cast_signed, cast_unsigned}
@@ -12,7 +13,8 @@ use Rattle.ranges.specs.declared.low.Low.{Low}
 use Rattle.ranges.proofs.Limits.{fits_32}
 
 -- one linear equation between a low half and its signed reading: the quotient by the half is 0 or 1
-pub low_signed_equation : (e : ℕ) → e < 2 ^ 32 → up (cast_signed w32 e) + 2 ^ 32 * (e / 2 ^ 31) ≡ e + down (cast_signed w32 e)
+pub low_signed_equation : (e : ℕ) → e < 2 ^ 32
+    → up (cast_signed w32 e) + 2 ^ 32 * (e / 2 ^ 31) ≡ e + down (cast_signed w32 e)
 low_signed_equation e h =
     elim (cases_lt e (2 ^ 31)) [
       | inl lt ↦ rw (lt-ltb e (2 ^ 31) lt) (omega arith)
@@ -21,51 +23,81 @@ low_signed_equation e h =
 
 -- ---- limits that are reached
 
-pub reached_map : (l : Low) (P Q : ℕ → Type 0) → ((e : ℕ) → P e → Q e) → AreReached l P → AreReached l Q
+pub reached_map : (l : Low) (P Q : ℕ → Type 0) → ((e : ℕ) → P e → Q e) → AreReached l P
+    → AreReached l Q
 reached_map l P Q f h = (f _ h.0, f _ h.1, f _ h.2, f _ h.3)
 
 one_of : {A : Type 0} (P : A → Type 0) (x a b : A) → (x ≡ a) ⊎ (x ≡ b) → P a → P b → P x
-one_of P x a b is left right = elim is [ inl e ↦ subst P (sym e) left | inr e ↦ subst P (sym e) right ]
+one_of P x a b is left right =
+    elim is [ inl e ↦ subst P (sym e) left | inr e ↦ subst P (sym e) right ]
 
 -- each limit of the one is that of one of the two
-pub either_reached : (l a b : Low) (P : ℕ → Type 0) → IsOfEither l a b → AreReached a P → AreReached b P → AreReached l P
+pub either_reached : (l a b : Low) (P : ℕ → Type 0) → IsOfEither l a b → AreReached a P
+    → AreReached b P → AreReached l P
 either_reached l a b P is left right = (
   one_of P l.least a.least b.least is.0 left.0 right.0,
   one_of P l.greatest a.greatest b.greatest is.1 left.1 right.1,
-  one_of (λ z. P (cast_unsigned w32 z)) l.signed_least a.signed_least b.signed_least is.2 left.2 right.2,
-  one_of (λ z. P (cast_unsigned w32 z)) l.signed_greatest a.signed_greatest b.signed_greatest is.3 left.3 right.3,
+  one_of (λ z. P (cast_unsigned w32 z)) l.signed_least a.signed_least b.signed_least is.2 left.2
+      right.2,
+  one_of (λ z. P (cast_unsigned w32 z)) l.signed_greatest a.signed_greatest b.signed_greatest is.3
+      left.3 right.3,
 )
 
 -- ---- low halves of the numbers between two limits
 
--- both limits have one upper half
-pub among_same : (least greatest e : ℕ) → least / 2 ^ 32 ≡ greatest / 2 ^ 32 → least % 2 ^ 32 ≤ e → e ≤ greatest % 2 ^ 32
-    → IsHalfBetween least greatest e
+-- both limits have the same upper half
+pub among_same : (least greatest e : ℕ) → least / 2 ^ 32 ≡ greatest / 2 ^ 32 → least % 2 ^ 32 ≤ e
+    → e ≤ greatest % 2 ^ 32 → IsHalfBetween least greatest e
 among_same least greatest e same from to =
-    record { number = least / 2 ^ 32 * 2 ^ 32 + e; from = omega arith; to = omega arith; low = omega arith }
+    record {
+      number = least / 2 ^ 32 * 2 ^ 32 + e;
+      from = omega arith;
+      to = omega arith;
+      low = omega arith;
+    }
 
 -- the numbers with the first upper half
-pub among_start : (least greatest e : ℕ) → least / 2 ^ 32 < greatest / 2 ^ 32 → least % 2 ^ 32 ≤ e → e < 2 ^ 32
-    → IsHalfBetween least greatest e
+pub among_start : (least greatest e : ℕ) → least / 2 ^ 32 < greatest / 2 ^ 32 → least % 2 ^ 32 ≤ e
+    → e < 2 ^ 32 → IsHalfBetween least greatest e
 among_start least greatest e apart from below =
-    record { number = least / 2 ^ 32 * 2 ^ 32 + e; from = omega arith; to = omega arith; low = omega arith }
+    record {
+      number = least / 2 ^ 32 * 2 ^ 32 + e;
+      from = omega arith;
+      to = omega arith;
+      low = omega arith;
+    }
 
 -- those with the last one
-pub among_end : (least greatest e : ℕ) → least / 2 ^ 32 < greatest / 2 ^ 32 → e ≤ greatest % 2 ^ 32 → IsHalfBetween least greatest e
+pub among_end : (least greatest e : ℕ) → least / 2 ^ 32 < greatest / 2 ^ 32 → e ≤ greatest % 2 ^ 32
+    → IsHalfBetween least greatest e
 among_end least greatest e apart to =
-    record { number = greatest / 2 ^ 32 * 2 ^ 32 + e; from = omega arith; to = omega arith; low = omega arith }
+    record {
+      number = greatest / 2 ^ 32 * 2 ^ 32 + e;
+      from = omega arith;
+      to = omega arith;
+      low = omega arith;
+    }
 
 -- those with one in between
-pub among_middle : (least greatest e : ℕ) → least / 2 ^ 32 + 1 < greatest / 2 ^ 32 → e < 2 ^ 32 → IsHalfBetween least greatest e
+pub among_middle : (least greatest e : ℕ) → least / 2 ^ 32 + 1 < greatest / 2 ^ 32 → e < 2 ^ 32
+    → IsHalfBetween least greatest e
 among_middle least greatest e apart below =
-    record { number = (least / 2 ^ 32 + 1) * 2 ^ 32 + e; from = omega arith; to = omega arith; low = omega arith }
+    record {
+      number = (least / 2 ^ 32 + 1) * 2 ^ 32 + e;
+      from = omega arith;
+      to = omega arith;
+      low = omega arith;
+    }
 
 -- ---- numbers that 32 bits with a sign hold
 
-pub fits_between : (l g z : ℤ) → FitsSigned w32 l → FitsSigned w32 g → l ≤ℤ z → z ≤ℤ g → FitsSigned w32 z
-fits_between l g z fl fg from to = fits_32 z (omega (arith, ints, fl.sfits)) (omega (arith, ints, fg.sfits))
+pub fits_between : (l g z : ℤ) → FitsSigned w32 l → FitsSigned w32 g → l ≤ℤ z → z ≤ℤ g
+    → FitsSigned w32 z
+fits_between l g z fl fg from to =
+    fits_32 z (omega (arith, ints, fl.sfits)) (omega (arith, ints, fg.sfits))
 
-pub half_signed : (x : ℕ) → x < 2 ^ 64 → FitsSigned w32 (cast_signed w64 x) → cast_signed w32 (x % 2 ^ 32) ≡ cast_signed w64 x
+pub half_signed : (x : ℕ) → x < 2 ^ 64 → FitsSigned w32 (cast_signed w64 x)
+    → cast_signed w32 (x % 2 ^ 32) ≡ cast_signed w64 x
 half_signed x h f =
     let e = signed_equation x h in
     let g = low_signed_equation (x % 2 ^ 32) (omega arith) in

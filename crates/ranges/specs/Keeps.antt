@@ -28,8 +28,8 @@ extension_signed Full32 = w32
 abbrev pub HaveNoSign : Width → ℕ → ℕ → Type 0
 HaveNoSign w a b = (a + a < 2 ^ width_bits w) × (b + b < 2 ^ width_bits w)
 
--- the limits of unsigned quotients and remainders. By zero the quotient is zero, and the remainder
--- the dividend
+-- the limits of unsigned quotients and remainders. Of a division by zero the quotient is zero, and
+-- the remainder the dividend
 abbrev pub KeepsQuotient : ℕ → ℕ → ℕ → ℕ → (ℕ → ℕ → Type 0) → Type 0
 KeepsQuotient al ag bl bg keeps = keeps 0 ag × (0 < bl → keeps (al / bg) (ag / bl))
 
@@ -44,16 +44,17 @@ KeepsSignedQuotient w al ag (negsuc by) keeps =
     FitsSigned w (int_div al (negsuc by)) → keeps (int_div ag (negsuc by)) (int_div al (negsuc by))
 
 -- the limits of signed remainders of such a division: nearer to 0 than the divisor, and between the
--- dividend and 0; by zero the dividend's
+-- dividend and 0; by zero, those of the dividend
 abbrev pub KeepsSignedRemainder : ℤ → ℤ → ℕ → (ℤ → ℤ → Type 0) → Type 0
 KeepsSignedRemainder al ag zero keeps = keeps al ag
 KeepsSignedRemainder al ag (suc most) keeps =
     keeps (neg_ℤ (pos most)) (pos most) × keeps (int_min al (pos 0)) (int_max ag (pos 0))
 
 -- the unsigned limits, from those of numbers of the width: a's and then b's. Nothing is asked of a
--- sum, difference, product or shift to the left that may leave the width, nor of a shift by a
--- distance that is not known but that it makes nothing greater. Signed quotients and remainders of
--- numbers without a sign bit are those of unsigned ones
+-- sum, difference, product or shift to the left that may leave the width, nor of a shift to the
+-- left by an unknown distance. Of a shift to the right by an unknown distance only the greatest
+-- operand is a limit. Signed quotients and remainders of numbers without a sign bit are those of
+-- unsigned ones
 abbrev pub KeepsUnsigned : AluOp → Width → ℕ → ℕ → ℕ → ℕ → (ℕ → ℕ → Type 0) → Type 0
 KeepsUnsigned Add w al ag bl bg keeps = ag + bg < 2 ^ width_bits w → keeps (al + bl) (ag + bg)
 KeepsUnsigned Sub w al ag bl bg keeps = bg ≤ al → keeps (al - bg) (ag - bl)

@@ -1,4 +1,4 @@
--- The low halves of a `Low`, and what its contracts say of them.
+-- The low halves of a `Low`, and the relations that its contracts use.
 use Rattle.std.specs.Prelude.{ℕ, ℤ, ◌≡◌, ◌≤◌, ◌≤ℤ◌, ◌⊎◌, FitsSigned}
 use Rattle.std.specs.Int.{Width as IntWidth, w32, cast_signed, cast_unsigned}
 use Rattle.isa_model.specs.declared.sizes.Width.TheVariants.{Low32}

@@ -1,4 +1,4 @@
--- The numbers of a `Range`, and what its contracts say of them.
+-- The numbers of a `Range`, and the relations that its contracts use.
 use Rattle.std.specs.Prelude.{ℕ, ◌≡◌, ◌%◌, ◌^◌, ◌<◌, ◌⊎◌, ⊤}
 use Rattle.std.specs.Int.{w64, cast_signed, cast_unsigned}
 use Rattle.isa_model.specs.declared.sizes.Width.{Width}
@@ -47,9 +47,8 @@ IsTight r =
 abbrev pub Encloses : Range → Range → Type 0
 Encloses a b = W.Encloses a.wide b.wide × L.Encloses a.low b.low
 
--- the low half of the operation's result is what it gives on low halves at 32 bits: at 32 bits
--- always, at 64 of sums, differences, products, common and different bits, moves, and shifts to the
--- left by a known distance below 32
+-- the low half of the result is the 32-bit result on low halves: so it is at 32 bits, and at 64
+-- bits for Add, Sub, Mul, And, Or, Xor and Mov, and for Lsh by a known distance below 32
 abbrev pub ReadsLow : AluOp → Width → Wide → Type 0
 ReadsLow op Low32 b = ⊤
 ReadsLow Add Full64 b = ⊤

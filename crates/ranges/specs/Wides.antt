@@ -1,4 +1,4 @@
--- The numbers of a `Wide`, and what its contracts say of them.
+-- The numbers of a `Wide`, and the relations that its contracts use.
 use Rattle.std.specs.Prelude.{ℕ, ℤ, ◌≡◌, ◌%◌, ◌^◌, ◌≤◌, ◌≤ℤ◌, FitsSigned}
 use Rattle.std.specs.Int.{Width as IntWidth, w64, cast_signed, cast_unsigned}
 use Rattle.isa_model.specs.declared.sizes.Width.{Width}

@@ -1,4 +1,4 @@
-//! What the arithmetic instructions give.
+//! The results of arithmetic instructions on ranges.
 
 ghost use Rattle.std.specs.Prelude.{◌≡◌, ℕ, ◌+◌, ◌*◌, ◌*ℤ◌, ◌/◌, ◌%◌, ◌^◌, ◌<◌, ◌≤◌, ◌-ℤ◌, pos, FitsSigned, IsTrue, ◌↔◌};
 ghost use Rattle.std.specs.Int.{w32, w64};
@@ -17,7 +17,7 @@ use isa_model::{AluOp, ByteOrder, SwapWidth, Width, numbers};
 impl Range {
     ghost use Rattle.ranges.specs.Ranges.{Has, IsConstant, IsTight};
 
-    /// What the operation gives on the numbers of both.
+    /// The results of the operation on numbers of both.
     pub fn alu(op: AluOp, width: Width, a: Self, b: Self) -> Self
         ensures contains { (x y : ℕ) → Has a x → Has b y → Has result (alu op width x y) }
         ensures exact { (u v : ℕ) → IsConstant a u → IsConstant b v
@@ -52,7 +52,7 @@ impl Range {
         Range { wide, low }.settled()
     }
 
-    // The limits at 64 bits.
+    // The limits of the results at 64 bits.
     fn wide_alu(op: AluOp, width: Width, a: Self, b: Self) -> Wide
         ensures contains { (x y : ℕ) → Has a x → Has b y → W.Has result (alu op width x y) }
         ensures fits { result.greatest < 2 ^ width_bits width }
@@ -109,7 +109,7 @@ impl Range {
         }
     }
 
-    // The low halves, where they are those of an operation on low halves.
+    // The low halves of the results, if the operation on low halves determines them; else all.
     fn low_alu(op: AluOp, width: Width, a: Self, b: Self) -> Low
         ensures contains { (x y : ℕ) → Has a x → Has b y
             → L.Has result (alu op width x y % 2 ^ 32) }
@@ -125,7 +125,7 @@ impl Range {
         }
     }
 
-    /// The numbers that some bits of these make, from one bit on.
+    /// The numbers that `count` bits of these make, from bit `from` on.
     pub fn part(self, from: u64, count: u32) -> Self
         requires from { from < 64 }
         requires some { 0 < count }
@@ -166,7 +166,7 @@ impl Range {
         Range::alu(AluOp::Sub, width, Range::constant(0), a)
     }
 
-    /// The low bytes of the numbers, in an order. What they are reversed is left open.
+    /// The low bytes of the numbers, in a byte order. Of reversed bytes only their size is known.
     pub fn reorder(order: ByteOrder, span: SwapWidth, a: Self) -> Self
         ensures contains { (x : ℕ) → Has a x → Has result (reordered order span x) }
         ensures exact { (u : ℕ) → IsConstant a u → IsConstant result (reordered order span u) }
@@ -192,7 +192,7 @@ impl Range {
     }
 }
 
-// Whether the low half of the result is what the operation gives on low halves.
+// Whether the low half of the result is that of the operation on low halves.
 fn reads_low(op: AluOp, width: Width, b: Wide) -> bool
     ensures { IsTrue result ↔ ReadsLow op width b }
 {

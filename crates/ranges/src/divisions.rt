@@ -154,7 +154,7 @@ impl Wide {
         Wide::signed_between(self.signed_least / by, self.signed_greatest / by)
     }
 
-    // Only the quotient of the least number by -1 is no signed number.
+    // Only the quotient of the least number by -1 is not a signed number.
     fn quotient_by_negative(self, by: i64) -> Self
         requires { by <ℤ pos 0 }
         ensures contains { (x : ℕ) → Has self x

@@ -44,7 +44,7 @@ impl Range {
         .settled()
     }
 
-    // The low halves of what the extension gives.
+    // The low halves of the extended numbers.
     fn low_extended(self, extension: Extension) -> Low
         ensures contains { (x : ℕ) → R.Has self x
             → L.Has result (sign_extended extension x % 2 ^ 32) }
@@ -113,7 +113,7 @@ impl Wide {
     }
 }
 
-// All that the extension may give.
+// All numbers that the extension may result in.
 fn all_extended(extension: Extension) -> Wide
     ensures contains { (x : ℕ) → Has result (sign_extended extension x) }
     ensures fits { result.greatest < 2 ^ width_bits (extension_width extension) }

@@ -1,5 +1,5 @@
-//! What the arithmetic instructions make of low halves: by way of numbers of 64 bits that have
-//! them, extended without and with a sign.
+//! The results of arithmetic instructions on low halves, by way of numbers of 64 bits: the halves
+//! extended with zeros and with their sign.
 
 ghost use Rattle.std.specs.Prelude.{◌≡◌, ℕ, ℤ, pos, ◌*◌, ◌*ℤ◌, ◌%◌, ◌^◌, ◌<◌, ◌≤◌, ◌≤ℤ◌, ◌↔◌, FitsSigned};
 ghost use Rattle.std.specs.Int.{w32, w64, cast_signed, cast_unsigned};
@@ -39,7 +39,7 @@ impl Low {
         )
     }
 
-    // What the operation gives on two low halves at 32 bits.
+    // The results of the operation at 32 bits on two low halves.
     pub(crate) fn alu(op: AluOp, a: Self, b: Self) -> Self
         ensures contains { (e f : ℕ) → Has a e → Has b f → Has result (alu op Width.Low32 e f) }
         ensures limits { (e f : ℕ) → Has a e → Has b f → KeepsLimits op a b (IsBetween result) }
@@ -129,8 +129,7 @@ impl Low {
         self.sign_extended().signed_remainder(by).low_limits()
     }
 
-    // The low halves moved into upper ones and further up: all of a number that a shift to the left
-    // by so much leaves.
+    // The low halves shifted to the left by 32 bits or more: only they matter to such a shift.
     pub(crate) fn raised(self, by: u64) -> Wide
         requires from { 32 ≤ by }
         requires to { by < 64 }
@@ -172,7 +171,7 @@ impl Low {
         }
     }
 
-    // The low halves of what the sign extension makes.
+    // The low halves of the sign extensions.
     pub(crate) fn extended(self, extension: Extension) -> Self
         ensures contains { (x : ℕ) → Has self (x % 2 ^ 32)
             → Has result (sign_extended extension x % 2 ^ 32) }
@@ -188,7 +187,7 @@ impl Low {
     }
 }
 
-// All low halves that the extension gives.
+// All low halves that the extension may result in.
 fn all_halves(extension: Extension) -> Low
     ensures contains { (x : ℕ) → L.Has result (sign_extended extension x % 2 ^ 32) }
     ensures signed { (z : ℤ) → ((result.signed_least ≤ℤ z) × (z ≤ℤ result.signed_greatest)

@@ -1,5 +1,4 @@
-//! Numbers by their low halves: what limits at 64 bits and limits of low halves show of one
-//! another.
+//! What limits at 64 bits and limits of low halves show of each other.
 
 ghost use Rattle.std.specs.Prelude.{◌≡◌, ℕ, ◌%◌, ◌^◌, ◌<◌, ◌≤◌, ◌⊎◌, IsSomeAnd, IfSome};
 ghost use Rattle.std.specs.Int.{w32};
@@ -13,7 +12,7 @@ use isa_model::numbers;
 impl Low {
     ghost use Rattle.ranges.specs.Lows.{Has, Encloses, IsTight, AreReached};
 
-    // The first number from one on that has such a low half.
+    // The least number from `from` up whose low half is one of these.
     pub(crate) fn first_number(self, from: u64) -> Option<u64>
         requires { IsTight self }
         ensures some { IfSome result (λ f. (from ≤ f) × Has self (f % 2 ^ 32)) }
@@ -21,7 +20,7 @@ impl Low {
             → IsSomeAnd result (λ f. f ≤ x) }
     {
         let upper = from / HALVES;
-        if let Some(half) = self.first_from(numbers::low_word(from)) {
+        if let Some(half) = self.first_from(numbers::low_32_bits(from)) {
             return Some(upper * HALVES + u64::from(half));
         }
         if upper == HALVES - 1 {
@@ -30,14 +29,14 @@ impl Low {
         Some((upper + 1) * HALVES + u64::from(self.least))
     }
 
-    // The last number up to one that has such a low half.
+    // The greatest number up to `to` whose low half is one of these.
     pub(crate) fn last_number(self, to: u64) -> Option<u64>
         requires { IsTight self }
         ensures some { IfSome result (λ l. (l ≤ to) × Has self (l % 2 ^ 32)) }
         ensures last { (x : ℕ) → x ≤ to → Has self (x % 2 ^ 32) → IsSomeAnd result (λ l. x ≤ l) }
     {
         let upper = to / HALVES;
-        if let Some(half) = self.last_to(numbers::low_word(to)) {
+        if let Some(half) = self.last_to(numbers::low_32_bits(to)) {
             return Some(upper * HALVES + u64::from(half));
         }
         if upper == 0 {
@@ -46,7 +45,7 @@ impl Low {
         Some((upper - 1) * HALVES + u64::from(self.greatest))
     }
 
-    // Those that the numbers between two limits have, which have such ones themselves.
+    // Those that numbers between two limits have, where the limits have such low halves themselves.
     pub(crate) fn among(self, least: u64, greatest: u64) -> Low
         requires tight { IsTight self }
         requires ordered { least ≤ greatest }
@@ -60,8 +59,8 @@ impl Low {
     {
         let first = least / HALVES;
         let last = greatest / HALVES;
-        let from = numbers::low_word(least);
-        let to = numbers::low_word(greatest);
+        let from = numbers::low_32_bits(least);
+        let to = numbers::low_32_bits(greatest);
         if first == last {
             self.with(Low::between(from, to))
         } else if first + 1 == last {
@@ -88,18 +87,18 @@ impl Wide {
     {
         let Some(signed) = self.upper_half() else {
             return match self.lower_half() {
-                Some(plain) => plain.run(),
+                Some(plain) => plain.unsigned_halves(),
                 None => Low::any(),
             };
         };
         match self.lower_half() {
-            Some(plain) => plain.run().hull(signed.run()),
-            None => signed.run(),
+            Some(plain) => plain.unsigned_halves().hull(signed.unsigned_halves()),
+            None => signed.unsigned_halves(),
         }
     }
 
     // The low halves of all numbers between the unsigned limits.
-    fn run(self) -> Low
+    fn unsigned_halves(self) -> Low
         ensures contains { (x : ℕ) → W.Has self x → L.Has result (x % 2 ^ 32) }
         ensures small { self.greatest < 2 ^ 32 → L.IsBetween result self.least self.greatest }
         ensures signed { W.ReadsAlike self → W.IsSignedOf w32 self

@@ -1,5 +1,5 @@
-//! Limits of numbers and of their low halves, read without and with a sign, and what the
-//! instructions make of them.
+//! Limits of numbers and of their low halves, read without and with a sign, and the results of
+//! instructions on them.
 #![tactic(auto)]
 
 mod arithmetic;

@@ -34,7 +34,7 @@ impl Low {
         }
     }
 
-    /// The one low half.
+    /// The set of one low half.
     pub fn constant(half: u32) -> Self
         ensures { IsConstant result half }
     {
@@ -168,7 +168,7 @@ impl Low {
         Some(Low::between(least, greatest))
     }
 
-    // The narrower of each two limits.
+    // Of each two limits the narrower one.
     pub(crate) fn within(self, other: Self) -> Option<Self>
         ensures common { (e : ℕ) → Has self e → Has other e → IsSomeAnd result (λ m. Has m e) }
         ensures enclosed { IfSome result (λ m. Encloses self m × Encloses other m) }
@@ -188,7 +188,7 @@ impl Low {
         })
     }
 
-    // The common low halves; if there are none, any answer will do.
+    // The common low halves; if there are none, any limits will do.
     pub(crate) fn with(self, other: Self) -> Self
         ensures common { (e : ℕ) → Has self e → Has other e → Has result e }
         ensures enclosed { Encloses self result }
@@ -201,7 +201,7 @@ impl Low {
         }
     }
 
-    // The narrowest limits that are as wide as both.
+    // The narrowest limits that enclose both.
     pub(crate) fn hull(self, other: Self) -> Self
         ensures left { Encloses result self }
         ensures right { Encloses result other }

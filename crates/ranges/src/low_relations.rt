@@ -1,5 +1,5 @@
-//! Pairs of numbers between whose low halves a relation holds, one of each range: what is left of
-//! either. Nothing is shown of the upper halves.
+//! What a relation between the low halves of a number of one range and of another leaves of both
+//! ranges. Nothing is shown of the upper halves.
 
 ghost use Rattle.std.specs.Prelude.{◌≡◌, ◌≢◌, ◌⊎◌, ℕ, ◌%◌, ◌^◌, ◌<◌, ◌≤◌, ◌<ℤ◌, ◌≤ℤ◌, None, IsSomeAnd, IfSome, bit_and};
 ghost use Rattle.std.specs.Int.{w32, cast_signed};
@@ -11,7 +11,7 @@ use crate::range::Range;
 impl Range {
     ghost use Rattle.ranges.specs.Ranges.{Has, IsTight, Encloses};
 
-    /// Those whose low half is that of some number of the other, and the other way round.
+    /// What is left of both where a low half of this is one of the other.
     pub fn low_equal(self, other: Self) -> Option<(Self, Self)>
         ensures common { (x y : ℕ) → Has self x → Has other y → x % 2 ^ 32 ≡ y % 2 ^ 32
             → IsSomeAnd result (λ p. Has p.0 x × Has p.1 y) }
@@ -26,7 +26,7 @@ impl Range {
         self.both_low_limited(other, other.low, self.low)
     }
 
-    /// Those whose low half is below that of some number of the other, and those above one.
+    /// What is left of both where a low half of this is below one of the other.
     pub fn low_below(self, other: Self) -> Option<(Self, Self)>
         ensures common { (x y : ℕ) → Has self x → Has other y → x % 2 ^ 32 < y % 2 ^ 32
             → IsSomeAnd result (λ p. Has p.0 x × Has p.1 y) }
@@ -46,7 +46,7 @@ impl Range {
         self.both_low_limited(other, left, right)
     }
 
-    /// Those whose low half is at most that of some number of the other, and those at least one.
+    /// What is left of both where a low half of this is at most one of the other.
     pub fn low_at_most(self, other: Self) -> Option<(Self, Self)>
         ensures common { (x y : ℕ) → Has self x → Has other y → x % 2 ^ 32 ≤ y % 2 ^ 32
             → IsSomeAnd result (λ p. Has p.0 x × Has p.1 y) }
@@ -63,8 +63,7 @@ impl Range {
         self.both_low_limited(other, left, right)
     }
 
-    /// Those whose low half is below that of some number of the other, and those above one, read as
-    /// signed numbers.
+    /// The same as `low_below`, of low halves read as signed numbers.
     pub fn low_signed_below(self, other: Self) -> Option<(Self, Self)>
         ensures common { (x y : ℕ) → Has self x → Has other y
             → cast_signed w32 (x % 2 ^ 32) <ℤ cast_signed w32 (y % 2 ^ 32)
@@ -85,8 +84,7 @@ impl Range {
         self.both_low_limited(other, left, right)
     }
 
-    /// Those whose low half is at most that of some number of the other, and those at least one,
-    /// read as signed numbers.
+    /// The same as `low_at_most`, of low halves read as signed numbers.
     pub fn low_signed_at_most(self, other: Self) -> Option<(Self, Self)>
         ensures common { (x y : ℕ) → Has self x → Has other y
             → cast_signed w32 (x % 2 ^ 32) ≤ℤ cast_signed w32 (y % 2 ^ 32)
@@ -104,7 +102,7 @@ impl Range {
         self.both_low_limited(other, left, right)
     }
 
-    /// Those whose low half differs from that of some number of the other, and the other way round.
+    /// What is left of both where a low half of this differs from one of the other.
     pub fn low_apart(self, other: Self) -> Option<(Self, Self)>
         ensures common { (x y : ℕ) → Has self x → Has other y → x % 2 ^ 32 ≢ y % 2 ^ 32
             → IsSomeAnd result (λ p. Has p.0 x × Has p.1 y) }
@@ -122,8 +120,8 @@ impl Range {
         Some((left, right))
     }
 
-    /// Those whose low half has no bit in common with that of some number of the other, and the
-    /// other way round. Limits show that of two low halves only.
+    /// What is left of both where a low half of this has no bit in common with one of the other.
+    /// Limits show something only where each range has one low half.
     pub fn low_disjoint(self, other: Self) -> Option<(Self, Self)>
         ensures common { (x y : ℕ) → Has self x → Has other y
             → bit_and (x % 2 ^ 32) (y % 2 ^ 32) ≡ 0
@@ -140,8 +138,8 @@ impl Range {
         }
     }
 
-    /// Those whose low half has a bit in common with that of some number of the other, and the
-    /// other way round: not 0.
+    /// What is left of both where a low half of this has a bit in common with one of the other:
+    /// neither is 0.
     pub fn low_overlapping(self, other: Self) -> Option<(Self, Self)>
         ensures common { (x y : ℕ) → Has self x → Has other y
             → bit_and (x % 2 ^ 32) (y % 2 ^ 32) ≢ 0
@@ -156,8 +154,8 @@ impl Range {
         self.both_low_limited(other, not_zero, not_zero)
     }
 
-    // Those whose low halves are within limits, and those of the other within its own. None: either
-    // has none.
+    // The numbers of this with low halves within `left`, and those of the other with low halves
+    // within `right`. `None`: there are none of one or the other.
     fn both_low_limited(self, other: Self, left: Low, right: Low) -> Option<(Self, Self)>
         ensures common { (x y : ℕ) → Has self x → Has other y → L.Has left (x % 2 ^ 32)
             → L.Has right (y % 2 ^ 32)

@@ -1,4 +1,4 @@
-//! What the arithmetic instructions give, by limits at 64 bits.
+//! The results of arithmetic instructions, by limits at 64 bits.
 
 ghost use Rattle.std.specs.Prelude.{◌≡◌, ℕ, ◌^◌, ◌<◌};
 ghost use Rattle.isa_model.specs.Code.Sizes.{width_bits};
@@ -11,7 +11,7 @@ impl Wide {
     ghost use Rattle.ranges.specs.Wides.{Has, IsBetween, IsSignedBetween, KeepsLimits};
     ghost use Rattle.ranges.specs.Wides.{KeepsSignedLimits};
 
-    // What the operation gives on the numbers of both.
+    // The results of the operation on numbers of both.
     pub(crate) fn alu(op: AluOp, width: Width, a: Self, b: Self) -> Self
         ensures contains { (x y : ℕ) → Has a x → Has b y → Has result (alu op width x y) }
         ensures fits { result.greatest < 2 ^ width_bits width }

@@ -32,7 +32,7 @@ impl Range {
         }
     }
 
-    /// The one number.
+    /// The set of one number.
     pub fn constant(number: u64) -> Self
         ensures contains { Has result number }
         ensures only { (x : ℕ) → Has result x → x ≡ number }
@@ -40,7 +40,7 @@ impl Range {
     {
         Range {
             wide: Wide::constant(number),
-            low: Low::constant(numbers::low_word(number)),
+            low: Low::constant(numbers::low_32_bits(number)),
         }
     }
 
@@ -235,7 +235,7 @@ impl Range {
         }
     }
 
-    // The common members by the narrowest limits; if there are none, any answer will do.
+    // The common members by the narrowest limits; if there are none, any range will do.
     pub(crate) fn settled(self) -> Self
         ensures contains { (x : ℕ) → Has self x → Has result x }
         ensures enclosed { Encloses self result }

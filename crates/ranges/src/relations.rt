@@ -1,4 +1,5 @@
-//! Pairs of numbers between which a relation holds, one of each range: what is left of either.
+//! What a relation between a number of one range and a number of another leaves of both: at least
+//! the numbers that have it to some number of the other range.
 
 ghost use Rattle.std.specs.Prelude.{◌≡◌, ◌≢◌, ◌⊎◌, ℕ, ◌<◌, ◌≤◌, ◌<ℤ◌, ◌≤ℤ◌, None, IsSomeAnd, IfSome, bit_and};
 ghost use Rattle.std.specs.Int.{w64, cast_signed};
@@ -10,7 +11,8 @@ use crate::wide::Wide;
 impl Range {
     ghost use Rattle.ranges.specs.Ranges.{Has, IsConstant, IsLimit, IsTight, LeavesOnly, Encloses};
 
-    /// Those below some number of the other, and those above one. None: there is no such pair.
+    /// What is left of both where a number of this is below one of the other. `None`: there are no
+    /// such numbers.
     pub fn below(self, other: Self) -> Option<(Self, Self)>
         ensures common { (x y : ℕ) → Has self x → Has other y → x < y
             → IsSomeAnd result (λ p. Has p.0 x × Has p.1 y) }
@@ -28,7 +30,7 @@ impl Range {
         self.both_limited(other, left, right)
     }
 
-    /// Those at most some number of the other, and those at least one.
+    /// What is left of both where a number of this is at most one of the other.
     pub fn at_most(self, other: Self) -> Option<(Self, Self)>
         ensures common { (x y : ℕ) → Has self x → Has other y → x ≤ y
             → IsSomeAnd result (λ p. Has p.0 x × Has p.1 y) }
@@ -43,7 +45,7 @@ impl Range {
         self.both_limited(other, left, right)
     }
 
-    /// Those below some number of the other, and those above one, read as signed numbers.
+    /// The same as `below`, of signed numbers.
     pub fn signed_below(self, other: Self) -> Option<(Self, Self)>
         ensures common { (x y : ℕ) → Has self x → Has other y
             → cast_signed w64 x <ℤ cast_signed w64 y
@@ -64,7 +66,7 @@ impl Range {
         self.both_limited(other, left, right)
     }
 
-    /// Those at most some number of the other, and those at least one, read as signed numbers.
+    /// The same as `at_most`, of signed numbers.
     pub fn signed_at_most(self, other: Self) -> Option<(Self, Self)>
         ensures common { (x y : ℕ) → Has self x → Has other y
             → cast_signed w64 x ≤ℤ cast_signed w64 y
@@ -82,7 +84,7 @@ impl Range {
         self.both_limited(other, left, right)
     }
 
-    /// Those that differ from some number of the other, and the other way round.
+    /// What is left of both where a number of this differs from one of the other.
     pub fn apart(self, other: Self) -> Option<(Self, Self)>
         ensures common { (x y : ℕ) → Has self x → Has other y → x ≢ y
             → IsSomeAnd result (λ p. Has p.0 x × Has p.1 y) }
@@ -100,8 +102,8 @@ impl Range {
         Some((left, right))
     }
 
-    /// Those that have no bit in common with some number of the other, and the other way round.
-    /// Limits show that of two constants only.
+    /// What is left of both where a number of this has no bit in common with one of the other.
+    /// Limits show something only of two constants.
     pub fn disjoint(self, other: Self) -> Option<(Self, Self)>
         ensures common { (x y : ℕ) → Has self x → Has other y → bit_and x y ≡ 0
             → IsSomeAnd result (λ p. Has p.0 x × Has p.1 y) }
@@ -116,8 +118,8 @@ impl Range {
         }
     }
 
-    /// Those that have a bit in common with some number of the other, and the other way round: not
-    /// 0.
+    /// What is left of both where a number of this has a bit in common with one of the other:
+    /// neither is 0.
     pub fn overlapping(self, other: Self) -> Option<(Self, Self)>
         ensures common { (x y : ℕ) → Has self x → Has other y → bit_and x y ≢ 0
             → IsSomeAnd result (λ p. Has p.0 x × Has p.1 y) }
@@ -131,7 +133,8 @@ impl Range {
         self.both_limited(other, not_zero, not_zero)
     }
 
-    // Those within limits, and those of the other within its own. None: either has none.
+    // The numbers of this within `left`, and those of the other within `right`. `None`: there are
+    // none of one or the other.
     fn both_limited(self, other: Self, left: Wide, right: Wide) -> Option<(Self, Self)>
         ensures common { (x y : ℕ) → Has self x → Has other y → W.Has left x → W.Has right y
             → IsSomeAnd result (λ p. Has p.0 x × Has p.1 y) }

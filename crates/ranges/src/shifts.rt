@@ -18,13 +18,13 @@ impl Wide {
         ensures same { self.greatest < 2 ^ width_bits width → result ≡ self }
     {
         match width {
-            Width::Low32 => self.low_word(),
+            Width::Low32 => self.low_32_bits(),
             Width::Full64 => self,
         }
     }
 
     // Numbers with the same upper half keep their distances.
-    fn low_word(self) -> Self
+    fn low_32_bits(self) -> Self
         ensures contains { (x : ℕ) → Has self x → Has result (x % 2 ^ 32) }
         ensures fits { result.greatest < 2 ^ 32 }
         ensures same { self.greatest < 2 ^ 32 → result ≡ self }
@@ -38,7 +38,7 @@ impl Wide {
         }
     }
 
-    fn low_half(self) -> Self
+    fn low_16_bits(self) -> Self
         ensures contains { (x : ℕ) → Has self x → Has result (x % 2 ^ 16) }
         ensures fits { result.greatest < 2 ^ 16 }
         ensures same { self.greatest < 2 ^ 16 → result ≡ self }
@@ -57,8 +57,8 @@ impl Wide {
         ensures same { self.greatest < 2 ^ span_bits span → result ≡ self }
     {
         match span {
-            SwapWidth::B16 => self.low_half(),
-            SwapWidth::B32 => self.low_word(),
+            SwapWidth::B16 => self.low_16_bits(),
+            SwapWidth::B32 => self.low_32_bits(),
             SwapWidth::B64 => self,
         }
     }
@@ -97,7 +97,7 @@ impl Wide {
     }
 
     // At 32 bits numbers below the half are shifted as unsigned ones.
-    fn shift_signed_word(self, by: u64) -> Self
+    fn shift_signed_low(self, by: u64) -> Self
         requires { by < 32 }
         ensures contains { (x : ℕ) → x < 2 ^ 32 → Has self x
             → Has result (result_of AluOp.Arsh Width.Low32 x by) }
@@ -147,13 +147,13 @@ impl Wide {
         }
         let by = distance(width, other.least);
         match width {
-            Width::Low32 => self.shift_signed_word(by),
+            Width::Low32 => self.shift_signed_low(by),
             Width::Full64 => self.shift_signed(by),
         }
     }
 }
 
-// How far a shift by a number goes.
+// By how many bits a shift by a number moves.
 pub(crate) fn distance(width: Width, by: u64) -> u64
     ensures value { result ≡ shift width by }
     ensures below { result < width_bits width }

@@ -30,7 +30,7 @@ impl Wide {
         Wide::between(0, greatest_of(width))
     }
 
-    /// The one number.
+    /// The set of one number.
     pub fn constant(number: u64) -> Self
         ensures contains { Has result number }
         ensures only { (x : ℕ) → Has result x → x ≡ number }
@@ -138,7 +138,7 @@ impl Wide {
         Some(Wide::between(least, greatest))
     }
 
-    // The narrower of each two limits.
+    // Of each two limits the narrower one.
     pub(crate) fn within(self, other: Self) -> Option<Self>
         ensures common { (x : ℕ) → Has self x → Has other x → IsSomeAnd result (λ m. Has m x) }
         ensures left { IfSome result (λ m. (x : ℕ) → Has m x → Has self x) }
@@ -160,7 +160,7 @@ impl Wide {
         })
     }
 
-    // The common members; if there are none, any answer will do.
+    // The common members; if there are none, any limits will do.
     pub(crate) fn with(self, other: Self) -> Self
         ensures common { (x : ℕ) → Has self x → Has other x → Has result x }
         ensures enclosed { Encloses self result }

@@ -1,4 +1,4 @@
--- What the tests of an entry and of the start come to.
+-- What follows from the tests of an entry and of the start.
 use Rattle.std.specs.Prelude.{◌≡◌, ℕ, ◌+◌, ◌≤◌, ◌<◌, List, [], ◌∷◌, Contains, Bool, true, false, IsTrue, Option, Some, None, IsSome, Ok, Err, refl}
 use Rattle.std.proofs.Common.{inl, inr, arith, subst, rules}
 use Rattle.std.proofs.lemmas.Bool.{cases_lt}
@@ -27,7 +27,8 @@ use Rattle.rechecking.specs.declared.errors.TableError.TheVariants.{Step, Succes
 use Rattle.rechecking.specs.KnownEntries.{HasEntry}
 use Rattle.rechecking.specs.Checking.{Covering, CoversClearly, Enters, EntersClearly, FollowsBy, StartsClearly, HasStart, IsRefusedAt, AllFineBefore}
 
-goes_into : (p : Program) (t : EntryAt) (e : Entry) (index : ℕ) (a : State) (s : Machine.State) → Contains e.successors index → Enters t e.number index a
+goes_into : (p : Program) (t : EntryAt) (e : Entry) (index : ℕ) (a : State) (s : Machine.State)
+    → Contains e.successors index → Enters t e.number index a
     → Means p a s → EntersSmaller p t e s
 unfolding Covers
 goes_into p t e index a s there h m = record {
@@ -39,20 +40,26 @@ goes_into p t e index a s there h m = record {
   member = h.covers p s m;
 }
 
-into : (p : Program) (t : EntryAt) (number : ℕ) (from : State) (named : List ℕ) (w : Ways) (a b : State) (s : Machine.State) → FollowsBy (Enters t number) named w a b → InSome p w a b s
+into : (p : Program) (t : EntryAt) (number : ℕ) (from : State) (named : List ℕ) (w : Ways)
+    (a b : State) (s : Machine.State) → FollowsBy (Enters t number) named w a b → InSome p w a b s
     → EntersSmaller p t (record { number = number; state = from; successors = named }) s
 into p t n from [] ways.None a b s f m = absurd m
 into p t n from (i ∷ []) ways.One a b s f m =
-    goes_into p t (record { number = n; state = from; successors = i ∷ [] }) i a s (0, omega arith, refl) f m
+    goes_into p t (record { number = n; state = from; successors = i ∷ [] }) i a s
+    (0, omega arith, refl) f m
 into p t n from (i ∷ (j ∷ [])) ways.Two a b s f (inl m) =
-    goes_into p t (record { number = n; state = from; successors = i ∷ (j ∷ []) }) i a s (0, omega arith, refl) f.0 m
+    goes_into p t (record { number = n; state = from; successors = i ∷ (j ∷ []) }) i a s
+    (0, omega arith, refl) f.0 m
 into p t n from (i ∷ (j ∷ [])) ways.Two a b s f (inr m) =
-    goes_into p t (record { number = n; state = from; successors = i ∷ (j ∷ []) }) j b s (1, omega arith, refl) f.1 m
+    goes_into p t (record { number = n; state = from; successors = i ∷ (j ∷ []) }) j b s
+    (1, omega arith, refl) f.1 m
 into p t n from named w a b s f m = absurd f
 
--- an entry that passes the tests is fine
-pub IsClosedEntry-follows : (p : Program) (t : EntryAt) (e : Entry) (w : Ways) (a b : State) → 1 ≤ e.number → e.number ≤ MAX_STEPS
-    → LeadsTo p e.state w a b → FollowsBy (Enters t e.number) e.successors w a b → IsClosedEntry p t e
+-- an entry that passes the tests is closed
+pub IsClosedEntry-follows : (p : Program) (t : EntryAt) (e : Entry) (w : Ways) (a b : State)
+    → 1 ≤ e.number → e.number ≤ MAX_STEPS
+    → LeadsTo p e.state w a b → FollowsBy (Enters t e.number) e.successors w a b
+    → IsClosedEntry p t e
 unfolding LeadsTo
 IsClosedEntry-follows p t e w a b some most leads follows = record {
   some = some;
@@ -62,13 +69,15 @@ IsClosedEntry-follows p t e w a b some most leads follows = record {
 }
 
 -- what covers the start state means every start
-pub MeansStarts-covers : (p : Program) (a : State) → IsProgram p → Covers p a start → MeansStarts p a
+pub MeansStarts-covers : (p : Program) (a : State) → IsProgram p → Covers p a start
+    → MeansStarts p a
 unfolding Covers
-MeansStarts-covers p a program covers head packet contents given = covers (start_state head packet contents) (Means-start p head packet contents program given)
+MeansStarts-covers p a program covers head packet contents given =
+    covers (start_state head packet contents) (Means-start p head packet contents program given)
 
 -- ---- what is surely found
 
--- a name for what is there
+-- the element of an option that has one
 there_is : {X : Type 0} (o : Option X) → IsSome o → (x : X) × (o ≡ Some x)
 there_is (Some x) h = (x, refl)
 there_is None h = absurd (cc)
@@ -79,7 +88,8 @@ same_entry o d e h k = cc
 -- ---- an entry that covers a state, or not
 
 -- a state covers itself
-pub Enters-same : (p : Program) (t : EntryAt) (number index : ℕ) (a : State) (head : EntryHead) → HasEntry p t index head a
+pub Enters-same : (p : Program) (t : EntryAt) (number index : ℕ) (a : State) (head : EntryHead)
+    → HasEntry p t index head a
     → ((e : Entry) → t index ≡ Some e → e.number < number) → Enters t number index a
 unfolding Covers
 Enters-same p t number index a head stands smaller = record {
@@ -89,48 +99,81 @@ Enters-same p t number index a head stands smaller = record {
   covers = λ q s m. m;
 }
 
-pub Enters-covering : (t : EntryAt) (number index : ℕ) (a : State) → Covering t index a → ((e : Entry) → t index ≡ Some e → e.number < number) → Enters t number index a
+pub Enters-covering : (t : EntryAt) (number index : ℕ) (a : State) → Covering t index a
+    → ((e : Entry) → t index ≡ Some e → e.number < number) → Enters t number index a
 Enters-covering t number index a h smaller =
-    record { entry = h.entry; there = h.there; smaller = smaller h.entry h.there; covers = h.covers }
+    record {
+      entry = h.entry;
+      there = h.there;
+      smaller = smaller h.entry h.there;
+      covers = h.covers;
+    }
 
 -- an entry that does not clearly cover the state is not clearly entered
-pub unclear_covers : (t : EntryAt) (number index : ℕ) (a : State) → (CoversClearly t index a → ⊥) → EntersClearly t number index a → ⊥
+pub unclear_covers : (t : EntryAt) (number index : ℕ) (a : State) → (CoversClearly t index a → ⊥)
+    → EntersClearly t number index a → ⊥
 unclear_covers t number index a refuted h =
-    refuted (record { entry = h.entry; there = h.there; packet = h.packet; null = h.null; covers = h.covers })
+    refuted (record {
+      entry = h.entry;
+      there = h.there;
+      packet = h.packet;
+      null = h.null;
+      covers = h.covers;
+    })
 
 -- nor is one whose number is not smaller
-pub unclear_number : (t : EntryAt) (number index : ℕ) (a : State) (answer : Bool) → ((e : Entry) → t index ≡ Some e → e.number < number → IsTrue answer) → answer ≡ false
+pub unclear_number : (t : EntryAt) (number index : ℕ) (a : State) (answer : Bool)
+    → ((e : Entry) → t index ≡ Some e → e.number < number → IsTrue answer) → answer ≡ false
     → EntersClearly t number index a → ⊥
-unclear_number t number index a answer finds refuted h = let yes : answer ≡ true = finds h.entry h.there h.smaller in cc
+unclear_number t number index a answer finds refuted h =
+    let yes : answer ≡ true = finds h.entry h.there h.smaller in cc
 
--- a test that finds what is clear, and says no of this entry
-pub unclear_entry : (t : EntryAt) (index : ℕ) (a : State) (e : Entry) (answer : Bool) → t index ≡ Some e → ((packet null : ℕ → ℕ) → StateEncloses packet null e.state a → IsTrue answer)
+-- a test that finds clear cases, and failed for this entry
+pub unclear_entry : (t : EntryAt) (index : ℕ) (a : State) (e : Entry) (answer : Bool)
+    → t index ≡ Some e
+    → ((packet null : ℕ → ℕ) → StateEncloses packet null e.state a → IsTrue answer)
     → answer ≡ false → CoversClearly t index a → ⊥
 unclear_entry t index a e answer there finds refuted h =
     let is : h.entry ≡ e = same_entry (t index) h.entry e h.there there in
-    let yes : answer ≡ true = finds h.packet h.null (subst (λ (x : Entry). StateEncloses h.packet h.null x.state a) is h.covers) in
+    let yes : answer ≡ true =
+    finds h.packet h.null
+    (subst (λ (x : Entry). StateEncloses h.packet h.null x.state a) is h.covers) in
     cc
 
 pub no_entry : (t : EntryAt) (index : ℕ) (a : State) → t index ≡ None → CoversClearly t index a → ⊥
 no_entry t index a none h = let there = h.there in absurd (cc)
 
-pub unclear_start : (t : EntryAt) (e : Entry) (answer : Bool) → t 0 ≡ Some e → ((packet null : ℕ → ℕ) → StateEncloses packet null e.state start → IsTrue answer)
+pub unclear_start : (t : EntryAt) (e : Entry) (answer : Bool) → t 0 ≡ Some e
+    → ((packet null : ℕ → ℕ) → StateEncloses packet null e.state start → IsTrue answer)
     → answer ≡ false → StartsClearly t → ⊥
 unclear_start t e answer there finds refuted h =
     let is : h.first ≡ e = same_entry (t 0) h.first e h.there there in
-    let yes : answer ≡ true = finds h.packet h.null (subst (λ (x : Entry). StateEncloses h.packet h.null x.state start) is h.covers) in
+    let yes : answer ≡ true =
+    finds h.packet h.null
+    (subst (λ (x : Entry). StateEncloses h.packet h.null x.state start) is h.covers) in
     cc
 
 pub no_start : (t : EntryAt) → t 0 ≡ None → StartsClearly t → ⊥
 no_start t none h = let there = h.there in absurd (cc)
 
-pub refused_step : (p : Program) (t : EntryAt) (k : ℕ) (e : Entry) (r : Refusal) (b c : State) → t k ≡ Some e → IsSome (fetch p e.state.slot)
-    → ((i : Insn) → fetch p e.state.slot ≡ Some i → Steps p e.state i (Err r) b c) → IsRefusedAt p t k (Step k r)
+pub refused_step : (p : Program) (t : EntryAt) (k : ℕ) (e : Entry) (r : Refusal) (b c : State)
+    → t k ≡ Some e → IsSome (fetch p e.state.slot)
+    → ((i : Insn) → fetch p e.state.slot ≡ Some i → Steps p e.state i (Err r) b c)
+    → IsRefusedAt p t k (Step k r)
 refused_step p t k e r b c there begins steps =
-    let (insn, fetched) = there_is (fetch p e.state.slot) begins in
-    (refl, record { entry = e; insn = insn; there = there; fetched = fetched; refused = (b, c, steps insn fetched) })
+    let (insn, fetched) = there_is (fetch p e.state.slot) begins in (
+      refl,
+      record {
+        entry = e;
+        insn = insn;
+        there = there;
+        fetched = fetched;
+        refused = (b, c, steps insn fetched);
+      },
+    )
 
-pub unnamed_step : (p : Program) (t : EntryAt) (k : ℕ) (e : Entry) (w : Ways) (a b : State) → t k ≡ Some e → IsSome (fetch p e.state.slot)
+pub unnamed_step : (p : Program) (t : EntryAt) (k : ℕ) (e : Entry) (w : Ways) (a b : State)
+    → t k ≡ Some e → IsSome (fetch p e.state.slot)
     → ((i : Insn) → fetch p e.state.slot ≡ Some i → Steps p e.state i (Ok w) a b)
     → (FollowsBy (EntersClearly t e.number) e.successors w a b → ⊥)
     → IsRefusedAt p t k (Successor k)
@@ -150,12 +193,14 @@ unnamed_step p t k e w a b there begins steps unnamed =
       },
     )
 
--- an entry of that index is this one
-pub fine_of : (p : Program) (t : EntryAt) (k : ℕ) (d : Entry) → t k ≡ Some d → IsClosedEntry p t d → (e : Entry) → t k ≡ Some e → IsClosedEntry p t e
+-- what holds of the entry with that index, by any name
+pub fine_of : (p : Program) (t : EntryAt) (k : ℕ) (d : Entry) → t k ≡ Some d → IsClosedEntry p t d
+    → (e : Entry) → t k ≡ Some e → IsClosedEntry p t e
 fine_of p t k d there fine e at = subst (IsClosedEntry p t) (same_entry (t k) d e there at) fine
 
 -- an entry 0 that covers the start state, and its number
-pub HasStart-covers : (p : Program) (t : EntryAt) (e : Entry) (n : ℕ) → IsProgram p → t 0 ≡ Some e → Covers p e.state start → Some e.number ≡ Some n → HasStart p t n
+pub HasStart-covers : (p : Program) (t : EntryAt) (e : Entry) (n : ℕ) → IsProgram p → t 0 ≡ Some e
+    → Covers p e.state start → Some e.number ≡ Some n → HasStart p t n
 HasStart-covers p t e n program there covers same = record {
   first = e;
   there = there;
@@ -163,8 +208,9 @@ HasStart-covers p t e n program there covers same = record {
   number_is = grind rules;
 }
 
--- one more entry that is fine
-pub fine_next : (p : Program) (t : EntryAt) (k : ℕ) → AllFineBefore p t k → ((e : Entry) → t k ≡ Some e → IsClosedEntry p t e) → AllFineBefore p t (k + 1)
+-- one more entry that is closed
+pub fine_next : (p : Program) (t : EntryAt) (k : ℕ) → AllFineBefore p t k
+    → ((e : Entry) → t k ≡ Some e → IsClosedEntry p t e) → AllFineBefore p t (k + 1)
 fine_next p t k before here j e less at = elim (cases_lt j k) [
   | inl inside ↦ before j e inside at
   | inr past ↦ let same : j ≡ k = omega arith in here e (subst (λ (i : ℕ). t i ≡ Some e) same at)

@@ -11,17 +11,21 @@ use Rattle.stack_state.specs.Meaning.{Within}
 use Rattle.table_entries.specs.Entries.{Entry}
 use Rattle.rechecking.specs.Tables.{EntryAt, EntersSmaller, IsClosedEntry, IsClosed}
 
--- each entry's states exit within its number
-pub Within-entry : (p : Program) (t : EntryAt) → ((k : ℕ) (e : Entry) → t k ≡ Some e → IsClosedEntry p t e) → (n k : ℕ) (e : Entry) → t k ≡ Some e → e.number ≤ n
+-- each member of an entry's state exits within the entry's number
+pub Within-entry : (p : Program) (t : EntryAt)
+    → ((k : ℕ) (e : Entry) → t k ≡ Some e → IsClosedEntry p t e) → (n k : ℕ) (e : Entry)
+    → t k ≡ Some e → e.number ≤ n
     → Within p e.state n
 unfolding Within Ends
 Within-entry p t each zero k e at le = absurd (let some = (each k e at).some in omega arith)
 Within-entry p t each (suc n) k e at le = λ clock fits s m.
     After-weaker (EntersSmaller p t e) (λ u. Ends p clock u n) (step p clock s)
-    (λ u g. let smaller = g.smaller in Within-entry p t each n g.index g.entry g.there (omega arith) clock fits u g.member)
+    (λ u g. let smaller = g.smaller in Within-entry p t each n g.index g.entry g.there
+    (omega arith) clock fits u g.member)
     ((each k e at).steps clock fits s m)
 
 pub StartsEnd-closed : (p : Program) (t : EntryAt) (c : IsClosed p t) → StartsEnd p c.first.number
 unfolding StartsEnd Within
 StartsEnd-closed p t c = λ clock head packet contents fits given.
-    Within-entry p t c.each c.first.number 0 c.first c.at_first (omega arith) clock fits (start_state head packet contents) (c.starts head packet contents given)
+    Within-entry p t c.each c.first.number 0 c.first c.at_first (omega arith) clock fits
+    (start_state head packet contents) (c.starts head packet contents given)

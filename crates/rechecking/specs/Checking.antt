@@ -24,7 +24,7 @@ pub record Enters (t : EntryAt) (number index : ℕ) (a : State) : Type 0 where
   pub smaller : entry.number < number
   pub covers : (p : Program) → Covers p entry.state a
 
--- the same, if registers and slots show it, under any names of identities
+-- the same, if registers and stack slots show it, under any names of identities
 pub record EntersClearly (t : EntryAt) (number index : ℕ) (a : State) : Type 0 where
   pub entry : Entry
   pub there : t index ≡ Some entry
@@ -39,7 +39,7 @@ pub record Covering (t : EntryAt) (index : ℕ) (a : State) : Type 0 where
   pub there : t index ≡ Some entry
   pub covers : (p : Program) → Covers p entry.state a
 
--- the same, where registers and slots show it
+-- the same, where registers and stack slots show it
 pub record CoversClearly (t : EntryAt) (index : ℕ) (a : State) : Type 0 where
   pub entry : Entry
   pub there : t index ≡ Some entry
@@ -56,14 +56,14 @@ FollowsBy R named w a b = ⊥
 
 -- ---- the start
 
--- the first entry means every start, and this is its number
+-- the state of the first entry means every start, and this is its number
 pub record HasStart (p : Program) (t : EntryAt) (number : ℕ) : Type 0 where
   pub first : Entry
   pub there : t 0 ≡ Some first
   pub starts : MeansStarts p first.state
   pub number_is : first.number ≡ number
 
--- the first entry covers the start state, where registers and slots show it
+-- the first entry covers the start state, where registers and stack slots show it
 pub record StartsClearly (t : EntryAt) : Type 0 where
   pub first : Entry
   pub there : t 0 ≡ Some first
@@ -101,6 +101,6 @@ IsRefusedAt p t k (Step index refusal) = (index ≡ k) × IsRefusedStep p t k re
 IsRefusedAt p t k (Successor index) = (index ≡ k) × IsUnnamed p t k
 IsRefusedAt p t k error = ⊥
 
--- all entries before it are fine
+-- it is refused, and all entries before it are closed
 abbrev pub IsFirstRefused : Program → EntryAt → TableError → Type 0
 IsFirstRefused p t error = (k : ℕ) × AllFineBefore p t k × IsRefusedAt p t k error

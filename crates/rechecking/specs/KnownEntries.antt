@@ -1,4 +1,4 @@
--- Entries that are known again, since their states are still in one of two rooms.
+-- Entries that need not be read again, since their states are still in one of two rooms.
 use Rattle.std.specs.Prelude.{◌≡◌, ℕ, Some}
 use Rattle.isa_model.specs.Code.Instructions.{Program}
 use Rattle.stack_state.specs.declared.states.State.{State}
@@ -8,7 +8,7 @@ use Rattle.rechecking.specs.declared.entries.Known.{Known}
 use Rattle.rechecking.specs.declared.entries.Known.TheVariants as known
 use Rattle.rechecking.specs.Tables.{EntryAt}
 
--- the entry with this index has this state, and this head beside it
+-- the entry with this index has this state and this head
 pub record HasEntry (p : Program) (t : EntryAt) (index : ℕ) (head : EntryHead)
     (a : State) : Type 0 where
   pub allowed : IsAllowed p head.number a.slot

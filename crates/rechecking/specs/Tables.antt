@@ -14,11 +14,11 @@ use Rattle.stack_state.specs.Meaning.{Means}
 use Rattle.isa_model.specs.declared.limits.TheConstants.{MAX_STEPS}
 use Rattle.table_entries.specs.Entries.{Entry}
 
--- the entries by their indexes; past the end of a table there are none
+-- the entries by their indexes; None past the end of a table
 abbrev pub EntryAt : Type 0
 EntryAt = ℕ → Option Entry
 
--- the machine state is one of an entry that is named, and whose number is smaller
+-- the machine state is a member of a named entry's state, and that entry has a smaller number
 pub record EntersSmaller (p : Program) (t : EntryAt) (e : Entry) (s : Machine.State) : Type 0 where
   pub index : ℕ
   pub named : Contains e.successors index
@@ -34,7 +34,7 @@ pub record IsClosedEntry (p : Program) (t : EntryAt) (e : Entry) : Type 0 where
   pub steps : (clock : ℕ → ℕ) → IsClock clock → (s : Machine.State) → Means p e.state s
       → After (EntersSmaller p t e) (step p clock s)
 
--- every state in which a run begins is one of the abstract state
+-- every state in which a run begins is a member of the abstract state
 abbrev pub MeansStarts : Program → State → Type 0
 MeansStarts p a = (head : FrameHead) (packet : List ℕ) (contents : List KeyValues)
     → IsGiven p head packet contents → Means p a (start_state head packet contents)

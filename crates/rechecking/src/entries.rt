@@ -25,8 +25,8 @@ pub enum Known {
     Second(usize, EntryHead),
 }
 
-/// The same, where the rooms have changed places.
-fn turned(known: Known) -> Known
+/// The same entry, after the two rooms were swapped.
+fn swapped(known: Known) -> Known
     ensures { (p : Program) (t : EntryAt) (a b : State) → IsKnownEntry p t a b known
         → IsKnownEntry p t b a result }
 {
@@ -37,7 +37,7 @@ fn turned(known: Known) -> Known
     }
 }
 
-/// Whether the number of the entry of that index is smaller. Its state is not read.
+/// Whether the number of the entry of that index is below this one. Its state is not read.
 fn is_smaller(table: &Table, index: usize, number: u32) -> bool
     ensures yes { IsTrue result → (p : Program) (e : Entry) → entry_at p table.now index ≡ Some e
         → e.number < number }
@@ -134,7 +134,7 @@ fn follows(
 }
 
 /// The entry that an entry names, if it is the next one to be placed, its bytes spell the only
-/// successor, and its number is smaller. None says nothing.
+/// successor, and its number is smaller. None: nothing is known of it.
 fn next_follows(
     image: &Image,
     growing: &mut Growing,
@@ -183,7 +183,7 @@ fn place_named(image: &Image, growing: &mut Growing, named: NamedEntries)
 }
 
 /// Tests an entry whose state is in its room: P7 and P8.
-fn test_standing(
+fn test_read_entry(
     image: &Image,
     growing: &mut Growing,
     index: usize,
@@ -201,7 +201,7 @@ fn test_standing(
         → IsClosedEntry image.now (entry_at image.now growing.new.table) e) }
     ensures known { IfOk result
         (IsKnownEntry image.now (entry_at image.now growing.new.table) state.new room.new) }
-    ensures faulty { IfErr result
+    ensures refused { IfErr result
         (IsRefusedAt image.now (entry_at image.now growing.new.table) index) }
 {
     let ways = match step_in_place(image, state, other) {
@@ -239,16 +239,16 @@ fn test_entry(
         → IsClosedEntry image.now (entry_at image.now growing.new.table) e) }
     ensures known { IfOk result
         (IsKnownEntry image.now (entry_at image.now growing.new.table) state.new room.new) }
-    ensures faulty { IfErr result
+    ensures refused { IfErr result
         (IsRefusedAt image.now (entry_at image.now growing.new.table) index) }
 {
     match known {
         Known::First(there, head) if there == index => {
-            test_standing(image, growing, index, head, state, other, room)
+            test_read_entry(image, growing, index, head, state, other, room)
         }
         Known::Second(there, head) if there == index => {
-            match test_standing(image, growing, index, head, room, other, state) {
-                Ok(known) => Ok(turned(known)),
+            match test_read_entry(image, growing, index, head, room, other, state) {
+                Ok(known) => Ok(swapped(known)),
                 Err(error) => Err(error),
             }
         }
@@ -256,12 +256,12 @@ fn test_entry(
             let Some(head) = growing.placed().read(image, index, state) else {
                 unreachable!()
             };
-            test_standing(image, growing, index, head, state, other, room)
+            test_read_entry(image, growing, index, head, state, other, room)
         }
     }
 }
 
-/// Tests each entry, from the first on. False: one of them is not placed, and cannot be.
+/// Tests each entry, from the first on. False: one of them cannot be placed.
 pub fn test_all(image: &Image, growing: &mut Growing) -> Result<bool, TableError>
     requires may { MayGrow image.now growing.old }
     requires there { AllThere image.now growing.old }
@@ -269,7 +269,7 @@ pub fn test_all(image: &Image, growing: &mut Growing) -> Result<bool, TableError
     ensures fine { result ≡ Ok true → AllFineBefore image.now
         (entry_at image.now growing.new.table) growing.new.count }
     ensures short { result ≡ Ok false → count_of growing.old.table < growing.old.count }
-    ensures faulty { IfErr result
+    ensures refused { IfErr result
         (IsFirstRefused image.now (entry_at image.now growing.new.table)) }
 {
     let mut state = State::start();

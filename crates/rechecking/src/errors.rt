@@ -14,8 +14,8 @@ use transfer::Refusal;
 pub enum TableError {
     /// The program's control flow is not good, with the slot: G1 to G6.
     Flow(FlowError, usize),
-    /// The bytes are not of the form, or memory ran out: P1 to P5 and P9.
-    Fault(TableRefusal),
+    /// The bytes are no table, or memory ran out: P1 to P5 and P9.
+    Bytes(TableRefusal),
     /// P6: entry 0 does not cover the start state.
     Start,
     /// P7: the step of an entry is refused.
@@ -24,10 +24,10 @@ pub enum TableError {
     Successor(usize),
 }
 
-fn bytes_code(fault: TableRefusal) -> &'static str
-    ensures { result.now ≡ bytes_code fault }
+fn bytes_code(refusal: TableRefusal) -> &'static str
+    ensures { result.now ≡ bytes_code refusal }
 {
-    match fault {
+    match refusal {
         TableRefusal::Magic => "P1",
         TableRefusal::Short => "P2",
         TableRefusal::Long => "P3",
@@ -37,10 +37,10 @@ fn bytes_code(fault: TableRefusal) -> &'static str
     }
 }
 
-fn bytes_sentence(fault: TableRefusal) -> &'static str
-    ensures { result.now ≡ bytes_sentence fault }
+fn bytes_sentence(refusal: TableRefusal) -> &'static str
+    ensures { result.now ≡ bytes_sentence refusal }
 {
-    match fault {
+    match refusal {
         TableRefusal::Magic => "the bytes do not begin with XPT1",
         TableRefusal::Short => "the table is shorter than its head, or than its entries",
         TableRefusal::Long => "the table is longer than its entries",
@@ -57,7 +57,7 @@ impl TableError {
     {
         match self {
             TableError::Flow(error, _) => error.code(),
-            TableError::Fault(fault) => bytes_code(fault),
+            TableError::Bytes(refusal) => bytes_code(refusal),
             TableError::Start => "P6",
             TableError::Step(_, _) => "P7",
             TableError::Successor(_) => "P8",
@@ -70,7 +70,7 @@ impl TableError {
     {
         match self {
             TableError::Flow(error, _) => error.sentence(),
-            TableError::Fault(fault) => bytes_sentence(fault),
+            TableError::Bytes(refusal) => bytes_sentence(refusal),
             TableError::Start => "the first entry does not cover the start of a run",
             TableError::Step(_, _) => "the step of the entry is refused",
             TableError::Successor(_) =>

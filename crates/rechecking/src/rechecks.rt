@@ -36,7 +36,7 @@ fn first_number(image: &Image, table: &Table) -> Option<u32>
     }
 }
 
-/// The bound that a table shows, with entries placed as they are tested. None says nothing of it.
+/// The bound that a table shows, with entries placed as they are tested. Nothing follows from None.
 ///
 /// The next entry is read once, where it spells a successor of the one that is tested.
 fn quick_bound(alloc: Global, image: &Image, bytes: &[u8]) -> Option<u32>
@@ -69,7 +69,7 @@ fn slow_bound(alloc: Global, image: &Image, bytes: &[u8]) -> Result<u32, TableEr
 {
     let table = match Table::of(alloc, image, bytes) {
         Ok(table) => table,
-        Err(fault) => return Err(TableError::Fault(fault)),
+        Err(refusal) => return Err(TableError::Bytes(refusal)),
     };
     let Some(number) = first_number(image, &table) else {
         return Err(TableError::Start);

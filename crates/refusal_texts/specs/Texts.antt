@@ -1,4 +1,4 @@
--- The texts of a refusal: the line that the command prints, a sentence, the place, and what is
+-- The texts of refusals: the line that the command prints, a sentence, the position, and what is
 -- known there.
 use Rattle.std.specs.Prelude.{◌≡◌, ℕ, List, [], ◌++◌, Option, Some, None, codes, decimal, ◌⊎◌}
 use Rattle.isa_model.specs.declared.instructions.Insn.{Insn}
@@ -15,16 +15,19 @@ use Rattle.explanations.specs.Reasons.{IsReason}
 use Rattle.assembler.specs.declared.errors.AsmError.{AsmError}
 use Rattle.assembler.specs.Messages as assembler
 use Rattle.transfer.specs.Messages as transfer
-use Rattle.table_entries.specs.declared.faults.TableRefusal.TheVariants as fault
+use Rattle.table_entries.specs.declared.refusals.TableRefusal.TheVariants as table_refusal
 use Rattle.rechecking.specs.declared.errors.TableError.{TableError}
 use Rattle.rechecking.specs.declared.errors.TableError.TheVariants as table
 use Rattle.rechecking.specs.Messages as rechecking
 use Rattle.explanations.specs.Entries.{IsEntryReason}
 
--- a code with its place, and then the sentence and the place again, a line each
-abbrev pub told_at : List ℕ → List ℕ → List ℕ → List ℕ → List ℕ
-told_at code place more sentence =
-    codes "refused " ++ (code ++ (codes " " ++ (place ++ (more ++ (codes "\n" ++ (sentence ++ (codes "\n" ++ (place ++ codes "\n"))))))))
+-- a code with its position, then the sentence and the position again, a line each
+abbrev pub refused_at : List ℕ → List ℕ → List ℕ → List ℕ → List ℕ
+refused_at code position more sentence =
+    codes "refused "
+    ++ (code ++ (codes " "
+    ++ (position ++ (more
+    ++ (codes "\n" ++ (sentence ++ (codes "\n" ++ (position ++ codes "\n"))))))))
 
 abbrev pub slot_position : ℕ → List ℕ
 slot_position slot = codes "slot " ++ decimal slot
@@ -32,29 +35,39 @@ slot_position slot = codes "slot " ++ decimal slot
 abbrev pub map_position : ℕ → List ℕ
 map_position index = codes "map " ++ decimal index
 
--- bytes are no image, without what helps
+-- the text for bytes that are no image, without the cure
 abbrev pub image_front : ImageError → List ℕ
 image_front (Code slot error) =
-    told_at (image.code_of (Code slot error)) (slot_position slot) (codes " " ++ codec.code_of error) (image.sentence_of (Code slot error))
-image_front (MapRow index) = told_at (image.code_of (MapRow index)) (map_position index) [] (image.sentence_of (MapRow index))
-image_front (UnknownMap slot) = told_at (image.code_of (UnknownMap slot)) (slot_position slot) [] (image.sentence_of (UnknownMap slot))
-image_front (ValuePointer slot) = told_at (image.code_of (ValuePointer slot)) (slot_position slot) [] (image.sentence_of (ValuePointer slot))
-image_front error = codes "refused " ++ (image.code_of error ++ (codes "\n" ++ (image.sentence_of error ++ codes "\n")))
+    refused_at (image.code_of (Code slot error)) (slot_position slot)
+    (codes " " ++ codec.code_of error) (image.sentence_of (Code slot error))
+image_front (MapRow index) =
+    refused_at (image.code_of (MapRow index)) (map_position index) []
+    (image.sentence_of (MapRow index))
+image_front (UnknownMap slot) =
+    refused_at (image.code_of (UnknownMap slot)) (slot_position slot) []
+    (image.sentence_of (UnknownMap slot))
+image_front (ValuePointer slot) =
+    refused_at (image.code_of (ValuePointer slot)) (slot_position slot) []
+    (image.sentence_of (ValuePointer slot))
+image_front error = codes "refused "
+    ++ (image.code_of error ++ (codes "\n" ++ (image.sentence_of error ++ codes "\n")))
 
--- and with it, but for another magic and for memory
+-- and with the cure; another magic and memory have none
 abbrev pub image_text : ImageError → List ℕ
 image_text Magic = image_front Magic
 image_text Memory = image_front Memory
 image_text error = image_front error ++ (image.cure_of error ++ codes "\n")
 
--- the place in a text
+-- the position in a text
 abbrev pub text_position : ℕ → ℕ → List ℕ
-text_position line column = codes "line " ++ (decimal line ++ (codes " column " ++ (decimal column ++ codes "\n")))
+text_position line column =
+    codes "line " ++ (decimal line ++ (codes " column " ++ (decimal column ++ codes "\n")))
 
--- a text is no program
+-- the text for a source that is no program
 abbrev pub source_text : AsmError → List ℕ
 source_text error =
-    codes "refused " ++ (assembler.code_of error.kind ++ (codes " " ++ (text_position error.line error.column
+    codes "refused "
+    ++ (assembler.code_of error.kind ++ (codes " " ++ (text_position error.line error.column
     ++ (assembler.sentence_of error.kind ++ (codes "\n"
     ++ text_position error.line error.column)))))
 
@@ -69,7 +82,7 @@ insn_end None = codes "\n"
 insn_end (Some insn) = codes ": " ++ line_of insn
 
 -- the same with that instruction, and with what is known there, if that was looked for
-pub record TellsProgram (p : Program) (refusal : Refusal) (slot : ℕ) (text : List ℕ) : Type 0 where
+pub record IsProgramText (p : Program) (refusal : Refusal) (slot : ℕ) (text : List ℕ) : Type 0 where
   pub known : List ℕ
   pub is_known : (known ≡ []) ⊎ IsReason p refusal slot known
   pub text_is : text ≡ program_front refusal slot ++ (insn_end (fetch p slot) ++ known)
@@ -79,17 +92,23 @@ entry_position index = codes "entry " ++ decimal index
 
 -- a table is refused at an entry, or as a whole
 abbrev pub refusal_front : TableError → List ℕ
-refusal_front (table.Fault (fault.Entry index)) =
-    told_at (rechecking.code_of (table.Fault (fault.Entry index))) (entry_position index) [] (rechecking.sentence_of (table.Fault (fault.Entry index)))
+refusal_front (table.Bytes (table_refusal.Entry index)) =
+    refused_at (rechecking.code_of (table.Bytes (table_refusal.Entry index)))
+    (entry_position index) []
+    (rechecking.sentence_of (table.Bytes (table_refusal.Entry index)))
 refusal_front (table.Step index refusal) =
-    told_at (rechecking.code_of (table.Step index refusal)) (entry_position index) (codes " " ++ transfer.code_of refusal) (rechecking.sentence_of (table.Step index refusal))
+    refused_at (rechecking.code_of (table.Step index refusal)) (entry_position index)
+    (codes " " ++ transfer.code_of refusal) (rechecking.sentence_of (table.Step index refusal))
 refusal_front (table.Successor index) =
-    told_at (rechecking.code_of (table.Successor index)) (entry_position index) [] (rechecking.sentence_of (table.Successor index))
-refusal_front error = codes "refused " ++ (rechecking.code_of error ++ (codes "\n" ++ (rechecking.sentence_of error ++ codes "\n")))
+    refused_at (rechecking.code_of (table.Successor index)) (entry_position index) []
+    (rechecking.sentence_of (table.Successor index))
+refusal_front error = codes "refused "
+    ++ (rechecking.code_of error ++ (codes "\n" ++ (rechecking.sentence_of error ++ codes "\n")))
 
--- or the control flow of its program is, at a slot
+-- a table is refused, or the control flow of its program at a slot
 abbrev pub table_front : Program → TableError → List ℕ
-table_front p (table.Flow error slot) = program_front (program.Flow error) slot ++ insn_end (fetch p slot)
+table_front p (table.Flow error slot) =
+    program_front (program.Flow error) slot ++ insn_end (fetch p slot)
 table_front p error = refusal_front error
 
 -- why the step of an entry is refused
@@ -97,17 +116,18 @@ abbrev pub step_sentence : TableError → List ℕ
 step_sentence (table.Step index refusal) = transfer.sentence_of refusal ++ codes "\n"
 step_sentence error = []
 
--- what is known of the entry, if that was looked for: the slot of its step with the instruction, and what the step or its
--- successors differ in
-abbrev pub TellsEntry : Program → List ℕ → TableError → List ℕ → Type 0
-TellsEntry p bytes error text =
+-- what is known of the entry, if that was looked for: its slot with the instruction there, why its
+-- step is refused, and what concerns the instruction or how the successors differ
+abbrev pub IsEntryText : Program → List ℕ → TableError → List ℕ → Type 0
+IsEntryText p bytes error text =
     (text ≡ step_sentence error)
     ⊎ ((slot : ℕ) × (insn : Insn) × (known : List ℕ) × IsEntryReason p bytes error slot insn known
     × (text ≡ slot_position slot ++
     (codes ": " ++ (line_of insn ++ (step_sentence error ++ known)))))
 
 -- the same after the front
-pub record TellsTableRefusal (p : Program) (bytes : List ℕ) (error : TableError) (text : List ℕ) : Type 0 where
+pub record IsTableText (p : Program) (bytes : List ℕ) (error : TableError)
+    (text : List ℕ) : Type 0 where
   pub entry : List ℕ
-  pub is_entry : TellsEntry p bytes error entry
+  pub is_entry : IsEntryText p bytes error entry
   pub text_is : text ≡ table_front p error ++ entry

@@ -4,9 +4,9 @@ ghost use Rattle.std.specs.Prelude.{◌≡◌, ◌++◌, codes, IfOk, IfSome, On
 ghost use Rattle.std.specs.String.{string_bytes};
 ghost use Rattle.isa_model.specs.Text.CanonicalText.{line_of};
 ghost use Rattle.explanations.specs.Entries.{IsEntryReason};
-ghost use Rattle.refusal_texts.specs.Texts.{entry_position, refusal_front, table_front, slot_position, step_sentence, TellsTableRefusal};
+ghost use Rattle.refusal_texts.specs.Texts.{entry_position, refusal_front, table_front, slot_position, step_sentence, IsTableText};
 
-use crate::texts::{end_line, program_front, slot_position, told, told_at, told_within};
+use crate::texts::{end_line, program_front, refused, refused_at, refused_within, slot_position};
 use exact_io::write_bytes;
 use explanations::{EntryReason, entry_reason};
 use image::Image;
@@ -30,14 +30,14 @@ fn refusal_front(alloc: Global, error: TableError) -> Result<String, AllocError>
     let code = error.code();
     let why = error.sentence();
     match error {
-        TableError::Fault(TableRefusal::Entry(index)) | TableError::Successor(index) => {
-            told_at(alloc, code, "entry ", index, why)
+        TableError::Bytes(TableRefusal::Entry(index)) | TableError::Successor(index) => {
+            refused_at(alloc, code, "entry ", index, why)
         }
         TableError::Step(index, refusal) => {
-            let place = entry_position(alloc, index)?;
-            told_within(alloc, code, place.as_str(), refusal.code(), why)
+            let position = entry_position(alloc, index)?;
+            refused_within(alloc, code, position.as_str(), refusal.code(), why)
         }
-        _ => told(alloc, code, why),
+        _ => refused(alloc, code, why),
     }
 }
 
@@ -85,8 +85,8 @@ fn write_found(
         ++ (slot_position found.now.slot ++ (codes ": " ++ (line_of found.now.insn
         ++ (step_sentence error ++ string_bytes found.now.text))))) }
 {
-    let place = slot_position(alloc, found.slot)?;
-    write_bytes(text, place.as_bytes())?;
+    let position = slot_position(alloc, found.slot)?;
+    write_bytes(text, position.as_bytes())?;
     end_line(text, Some(&found.insn))?;
     write_sentence(text, error)?;
     write_bytes(text, found.text.as_bytes())
@@ -119,7 +119,7 @@ pub fn table_text(
     error: TableError,
     asked: bool,
 ) -> Option<Vec<u8>>
-    ensures { IfSome result (λ text. TellsTableRefusal image.now table.now error text.items) }
+    ensures { IfSome result (λ text. IsTableText image.now table.now error text.items) }
 {
     let mut text = table_front(alloc, image, error)?;
     let Some(found) = found_of(alloc, image, table, error, asked) else {

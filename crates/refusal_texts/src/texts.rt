@@ -1,10 +1,10 @@
-//! The texts of a refusal.
+//! The texts of refused images, texts and programs.
 
 ghost use Rattle.std.specs.Prelude.{◌≡◌, ◌++◌, codes, decimal, IfOk, IfSome, OnOk};
 ghost use Rattle.std.specs.Option.{option_copied};
 ghost use Rattle.std.specs.String.{string_bytes};
 ghost use Rattle.explanations.specs.Reasons.{IsReason};
-ghost use Rattle.refusal_texts.specs.Texts.{told_at, slot_position, image_front, image_text, text_position, source_text, program_front, insn_end, TellsProgram};
+ghost use Rattle.refusal_texts.specs.Texts.{refused_at, slot_position, image_front, image_text, text_position, source_text, program_front, insn_end, IsProgramText};
 
 use assembler::AsmError;
 use disassembler::write_insn;
@@ -17,15 +17,15 @@ use std::io;
 use walks::Refusal;
 
 /// A code and the sentence, a line each.
-pub fn told(alloc: Global, code: &str, why: &str) -> Result<String, AllocError>
+pub fn refused(alloc: Global, code: &str, why: &str) -> Result<String, AllocError>
     ensures { IfOk result (λ text. string_bytes text
         ≡ codes "refused " ++ (code.now ++ (codes "\n" ++ (why.now ++ codes "\n")))) }
 {
     format!(in alloc; "refused {code}\n{why}\n")
 }
 
-/// The same with a place: what is counted, such as `slot` with a space, and its number.
-pub fn told_at(
+/// The same with a position: what is counted, such as `slot` with a space, and its number.
+pub fn refused_at(
     alloc: Global,
     code: &str,
     word: &str,
@@ -40,18 +40,18 @@ pub fn told_at(
     format!(in alloc; "refused {code} {word}{number}\n{why}\n{word}{number}\n")
 }
 
-/// The same with a place that is put together, and a second code.
-pub fn told_within(
+/// The same with a position as one text, and a second code.
+pub fn refused_within(
     alloc: Global,
     code: &str,
-    place: &str,
+    position: &str,
     inner: &str,
     why: &str,
 ) -> Result<String, AllocError>
     ensures { IfOk result (λ text. string_bytes text
-        ≡ told_at code.now place.now (codes " " ++ inner.now) why.now) }
+        ≡ refused_at code.now position.now (codes " " ++ inner.now) why.now) }
 {
-    format!(in alloc; "refused {code} {place} {inner}\n{why}\n{place}\n")
+    format!(in alloc; "refused {code} {position} {inner}\n{why}\n{position}\n")
 }
 
 /// A slot by its number.
@@ -69,18 +69,18 @@ fn image_front(alloc: Global, error: ImageError) -> Result<String, AllocError>
     let why = error.sentence();
     match error {
         ImageError::Code(slot, error) => {
-            let place = slot_position(alloc, slot)?;
-            told_within(alloc, code, place.as_str(), error.code(), why)
+            let position = slot_position(alloc, slot)?;
+            refused_within(alloc, code, position.as_str(), error.code(), why)
         }
-        ImageError::MapRow(index) => told_at(alloc, code, "map ", index, why),
+        ImageError::MapRow(index) => refused_at(alloc, code, "map ", index, why),
         ImageError::UnknownMap(slot) | ImageError::ValuePointer(slot) => {
-            told_at(alloc, code, "slot ", slot, why)
+            refused_at(alloc, code, "slot ", slot, why)
         }
-        _ => told(alloc, code, why),
+        _ => refused(alloc, code, why),
     }
 }
 
-/// A text, and a line behind it.
+/// A text, and a line after it.
 fn with_line(alloc: Global, text: &str, line: &str) -> Result<String, AllocError>
     ensures { IfOk result (λ whole. string_bytes whole
         ≡ text.now ++ (line.now ++ codes "\n")) }
@@ -88,7 +88,7 @@ fn with_line(alloc: Global, text: &str, line: &str) -> Result<String, AllocError
     format!(in alloc; "{text}{line}\n")
 }
 
-/// Why bytes are no image, where, and what helps: nothing for another magic and for memory.
+/// Why bytes are no image, where, and the cure; another magic and memory have none.
 pub fn image_text(alloc: Global, error: ImageError) -> Result<String, AllocError>
     ensures { IfOk result (λ text. string_bytes text ≡ image_text error) }
 {
@@ -111,8 +111,8 @@ pub fn source_text(alloc: Global, error: AsmError) -> Result<String, AllocError>
 {
     let code = error.kind.code();
     let why = error.kind.sentence();
-    let place = text_position(alloc, error.line, error.column)?;
-    format!(in alloc; "refused {code} {place}{why}\n{place}")
+    let position = text_position(alloc, error.line, error.column)?;
+    format!(in alloc; "refused {code} {position}{why}\n{position}")
 }
 
 /// Why a program is refused, and at which slot.
@@ -163,7 +163,7 @@ pub fn program_text(
     slot: usize,
     asked: bool,
 ) -> Option<Vec<u8>>
-    ensures { IfSome result (λ text. TellsProgram image.now refusal slot text.items) }
+    ensures { IfSome result (λ text. IsProgramText image.now refusal slot text.items) }
 {
     let known = known_of(alloc, image, refusal, slot, asked);
     let Ok(front) = program_front(alloc, refusal, slot) else {

@@ -18,31 +18,52 @@ range_constant_enclosed r d n c h =
     let to = h.0.to in
     let low_from = h.1.from in
     let low_to = h.1.to in (
-      (omega (arith, c.0.0), omega (arith, c.0.1), rw c.0.2 h.0.signed_from, rw c.0.3 h.0.signed_to),
-      (omega (arith, c.1.0), omega (arith, c.1.1), rw c.1.2 h.1.signed_from, rw c.1.3 h.1.signed_to),
+      (
+        omega (arith, c.0.0),
+        omega (arith, c.0.1),
+        rw c.0.2 h.0.signed_from,
+        rw c.0.3 h.0.signed_to,
+      ),
+      (
+        omega (arith, c.1.0),
+        omega (arith, c.1.1),
+        rw c.1.2 h.1.signed_from,
+        rw c.1.3 h.1.signed_to,
+      ),
     )
 
 -- a Scalar that leaves one number has no other
 pub IsNumber-only : (s : Scalar) (n x : ℕ) → IsNumber s n → Has s x → x ≡ n
 IsNumber-only s n x (inl bits) h = bits_constant_only s.bits n x bits h.0
-IsNumber-only s n x (inr alone) h = let from = h.1.0.from in let to = h.1.0.to in let limits = alone.1 in omega arith
+IsNumber-only s n x (inr alone) h =
+    let from = h.1.0.from in let to = h.1.0.to in let limits = alone.1 in omega arith
 
 -- no number is the only member between such limits
 pub no_limits-IsAlone : (n : ℕ) → IsAlone no_limits n → ⊥
 no_limits-IsAlone n alone = let least = alone.0 in omega (arith, ints)
 
 -- a range's limits are its own
-pub range_limits-IsLimit : (r : Range) (n : ℕ) → IsLimit Full64 (range_limits Full64 r) n → R.IsLimit r n
+pub range_limits-IsLimit : (r : Range) (n : ℕ) → IsLimit Full64 (range_limits Full64 r) n
+    → R.IsLimit r n
 range_limits-IsLimit r n is =
     elim is [
-      | inl plain ↦ elim plain [ inl least ↦ inl (inl (omega (arith, ints))) | inr greatest ↦ inl (inr (omega (arith, ints))) ]
+      | inl plain ↦
+          elim plain [
+            | inl least ↦ inl (inl (omega (arith, ints)))
+            | inr greatest ↦ inl (inr (omega (arith, ints)))
+          ]
       | inr signed ↦ inr signed
     ]
 
 -- and so are those of its low halves
-pub low_limits-IsLimit : (r : Range) (n : ℕ) → IsLimit Low32 (range_limits Low32 r) n → L.IsLimit r.low n
+pub low_limits-IsLimit : (r : Range) (n : ℕ) → IsLimit Low32 (range_limits Low32 r) n
+    → L.IsLimit r.low n
 low_limits-IsLimit r n is =
     elim is [
-      | inl plain ↦ elim plain [ inl least ↦ inl (inl (omega (arith, ints))) | inr greatest ↦ inl (inr (omega (arith, ints))) ]
+      | inl plain ↦
+          elim plain [
+            | inl least ↦ inl (inl (omega (arith, ints)))
+            | inr greatest ↦ inl (inr (omega (arith, ints)))
+          ]
       | inr signed ↦ inr signed
     ]

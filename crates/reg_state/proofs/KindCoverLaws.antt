@@ -10,11 +10,13 @@ use Rattle.reg_state.specs.KindCover.{KindCovers}
 
 -- the assignment in which each identity is read as the one that the maps call it
 abbrev pub renamed : (ℕ → ℕ) → (ℕ → ℕ) → Assigned → Assigned
-renamed packet null e = record e { offset = λ i. e.offset (packet i); value = λ i. e.value (null i) }
+renamed packet null e =
+    record e { offset = λ i. e.offset (packet i); value = λ i. e.value (null i) }
 
-packet_allows : (packet null : ℕ → ℕ) (e : Assigned) (f f' l l' g g' : ℤ) (i i' p p' : ℕ) (v : Value)
-    → KindCovers packet null (Packet f i l g p) (Packet f' i' l' g' p') → AllowsPacket e f' i' l' g' p' v
-    → AllowsPacket (renamed packet null e) f i l g p v
+packet_allows : (packet null : ℕ → ℕ) (e : Assigned) (f f' l l' g g' : ℤ) (i i' p p' : ℕ)
+    (v : Value)
+    → KindCovers packet null (Packet f i l g p) (Packet f' i' l' g' p')
+    → AllowsPacket e f' i' l' g' p' v → AllowsPacket (renamed packet null e) f i l g p v
 packet_allows packet null e f f' l l' g g' i i' p p' v c h =
     let least = c.2 in
     let greatest = c.3 in

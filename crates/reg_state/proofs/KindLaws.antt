@@ -19,13 +19,14 @@ abbrev pub frame_of : Kind → Option ℕ
 frame_of (Stack frame offset) = Some frame
 frame_of k = None
 
--- the map of whose values a kind speaks
+-- the map to whose values a kind refers
 abbrev pub map_of : Kind → Option ℕ
 map_of (MapValue m least greatest) = Some m
 map_of (MapValueOrNull m identity) = Some m
 map_of k = None
 
--- f keeps what a kind speaks of in e: its identity and its frame are the same, and live values of its map are live
+-- f keeps what a kind refers to in e: its identity and its frame are the same, and live values of
+-- its map are live
 pub record KeepsAssigned (k : Kind) (e f : Assigned) : Type 0 where
   pub offsets : IfSome (packet_identity_of k) (λ i. e.offset i ≡ f.offset i)
   pub values : IfSome (null_identity_of k) (λ i. e.value i ≡ f.value i)
@@ -33,13 +34,15 @@ pub record KeepsAssigned (k : Kind) (e f : Assigned) : Type 0 where
   pub serials : IfSome (frame_of k) (λ j. slice_get e.frames j ≡ slice_get f.frames j)
   pub live : IfSome (map_of k) (λ m. (n : ℕ) → HasLiveValue e.maps m n → HasLiveValue f.maps m n)
 
-null_kept : (e f : Assigned) (m : ℕ) (o : Option ℕ) (v : Value) → ((n : ℕ) → HasLiveValue e.maps m n → HasLiveValue f.maps m n)
+null_kept : (e f : Assigned) (m : ℕ) (o : Option ℕ) (v : Value)
+    → ((n : ℕ) → HasLiveValue e.maps m n → HasLiveValue f.maps m n)
     → AllowsOrNull e m o v → AllowsOrNull f m o v
 null_kept e f m None v live h = h
 null_kept e f m (Some n) v live h = (h.0, live n h.1)
 
--- what the kind allows it then goes on to allow
-pub Allows-kept : (k : Kind) (e f : Assigned) (v : Value) → KeepsAssigned k e f → Allows e k v → Allows f k v
+-- the kind then still allows what it allowed
+pub Allows-kept : (k : Kind) (e f : Assigned) (v : Value) → KeepsAssigned k e f → Allows e k v
+    → Allows f k v
 Allows-kept Unset e f v a h = tt
 Allows-kept (Number s) e f v a h = h
 Allows-kept Context e f v a h = h
@@ -54,8 +57,16 @@ Allows-kept (Packet x i l g p) e f v a h =
 Allows-kept PacketEnd e f v a h = h
 Allows-kept (Map m) e f v a h = h
 Allows-kept (MapValue m l g) e f v a h =
-    record { serial = h.serial; offset = h.offset; points = h.points; from = h.from; to = h.to; live = a.live h.serial h.live }
-Allows-kept (MapValueOrNull m i) e f v a h = rw (← a.values) (null_kept e f m (e.value i) v a.live h)
+    record {
+      serial = h.serial;
+      offset = h.offset;
+      points = h.points;
+      from = h.from;
+      to = h.to;
+      live = a.live h.serial h.live;
+    }
+Allows-kept (MapValueOrNull m i) e f v a h =
+    rw (← a.values) (null_kept e f m (e.value i) v a.live h)
 
 -- the assignment with another number for a packet identity
 abbrev pub with_offset : Assigned → ℕ → ℤ → Assigned
@@ -65,10 +76,12 @@ with_offset e i z = record e { offset = λ j. if nat_eq i j then z else e.offset
 abbrev pub with_value : Assigned → ℕ → Option ℕ → Assigned
 with_value e i n = record e { value = λ j. if nat_eq i j then n else e.value j }
 
-other_offset : (e : Assigned) (i : ℕ) (z : ℤ) (j : ℕ) → j ≢ i → e.offset j ≡ (with_offset e i z).offset j
+other_offset : (e : Assigned) (i : ℕ) (z : ℤ) (j : ℕ) → j ≢ i
+    → e.offset j ≡ (with_offset e i z).offset j
 other_offset e i z j other = grind (arith, nat_tests)
 
-other_value : (e : Assigned) (i : ℕ) (n : Option ℕ) (j : ℕ) → j ≢ i → e.value j ≡ (with_value e i n).value j
+other_value : (e : Assigned) (i : ℕ) (n : Option ℕ) (j : ℕ) → j ≢ i
+    → e.value j ≡ (with_value e i n).value j
 other_value e i n j other = grind (arith, nat_tests)
 
 -- a packet identity that the kind does not name may be assigned anew
@@ -81,8 +94,11 @@ Allows-fresh_offset k e i z v fresh h =
           (λ j is. other_offset e i z j (λ same. fresh (cc)));
       values = if_some (null_identity_of k) (λ j. e.value j ≡ e.value j) (λ j is. refl);
       packet_lengths = refl;
-      serials = if_some (frame_of k) (λ j. slice_get e.frames j ≡ slice_get e.frames j) (λ j is. refl);
-      live = if_some (map_of k) (λ m. (n : ℕ) → HasLiveValue e.maps m n → HasLiveValue e.maps m n) (λ m is n l. l);
+      serials =
+          if_some (frame_of k) (λ j. slice_get e.frames j ≡ slice_get e.frames j) (λ j is. refl);
+      live =
+          if_some (map_of k) (λ m. (n : ℕ) → HasLiveValue e.maps m n → HasLiveValue e.maps m n)
+          (λ m is n l. l);
     }
     h
 
@@ -96,8 +112,11 @@ Allows-fresh_value k e i n v fresh h =
       values = if_some (null_identity_of k) (λ j. e.value j ≡ (with_value e i n).value j)
           (λ j is. other_value e i n j (λ same. fresh (cc)));
       packet_lengths = refl;
-      serials = if_some (frame_of k) (λ j. slice_get e.frames j ≡ slice_get e.frames j) (λ j is. refl);
-      live = if_some (map_of k) (λ m. (n : ℕ) → HasLiveValue e.maps m n → HasLiveValue e.maps m n) (λ m is n l. l);
+      serials =
+          if_some (frame_of k) (λ j. slice_get e.frames j ≡ slice_get e.frames j) (λ j is. refl);
+      live =
+          if_some (map_of k) (λ m. (n : ℕ) → HasLiveValue e.maps m n → HasLiveValue e.maps m n)
+          (λ m is n l. l);
     }
     h
 
@@ -105,15 +124,18 @@ Allows-fresh_value k e i n v fresh h =
 pub Allows-number : (e : Assigned) (s : Scalar) (x : ℕ) → Allows e (Number s) (Num x) → Has s x
 Allows-number e s x h = let same : h.0 ≡ x = cc (h.1) in rw same at h.2
 
-pub Allows-number_pointer : (e : Assigned) (s : Scalar) (r : Region) (z : ℤ) → Allows e (Number s) (Ptr r z) → ⊥
+pub Allows-number_pointer : (e : Assigned) (s : Scalar) (r : Region) (z : ℤ)
+    → Allows e (Number s) (Ptr r z) → ⊥
 Allows-number_pointer e s r z h = cc (h.1)
 
 pub Allows-number_unset : (e : Assigned) (s : Scalar) → Allows e (Number s) value.Unset → ⊥
 Allows-number_unset e s h = cc (h.1)
 
 -- what a Packet allows is a pointer into the packet
-pub Allows-packet_number : (e : Assigned) (x : ℤ) (i : ℕ) (l g : ℤ) (p n : ℕ) → Allows e (Packet x i l g p) (Num n) → ⊥
+pub Allows-packet_number : (e : Assigned) (x : ℤ) (i : ℕ) (l g : ℤ) (p n : ℕ)
+    → Allows e (Packet x i l g p) (Num n) → ⊥
 Allows-packet_number e x i l g p n h = cc (h.points)
 
-pub Allows-packet_unset : (e : Assigned) (x : ℤ) (i : ℕ) (l g : ℤ) (p : ℕ) → Allows e (Packet x i l g p) value.Unset → ⊥
+pub Allows-packet_unset : (e : Assigned) (x : ℤ) (i : ℕ) (l g : ℤ) (p : ℕ)
+    → Allows e (Packet x i l g p) value.Unset → ⊥
 Allows-packet_unset e x i l g p h = cc (h.points)

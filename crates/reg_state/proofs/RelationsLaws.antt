@@ -29,7 +29,8 @@ le-false : (a b : ℤ) → int_le a b ≡ false → b <ℤ a
 le-false a b e = grind (arith, ints)
 
 -- of two registers' numbers
-pub goes : (c : Comparison) (w : Width) (t : Bool) (x y : ℕ) → holds c w x y ≡ t → ComparesTo w c t x y
+pub goes : (c : Comparison) (w : Width) (t : Bool) (x y : ℕ) → holds c w x y ≡ t
+    → ComparesTo w c t x y
 unfolding holds
 goes Equal w true x y e = eqb-true (low w x) (low w y) e
 goes Equal w false x y e = eqb-false (low w x) (low w y) e
@@ -60,16 +61,21 @@ both f p q = cc
 zeros : (x : ℕ) → low Low32 x ≡ low Full64 (low Low32 x)
 zeros x = sym (low_same Full64 (low Low32 x) (let b = low_below Low32 x in omega arith))
 
-wide : (n : ℕ) → n < 2 ^ 32 → cast_signed w64 (cast_unsigned w64 (cast_signed w32 n)) ≡ cast_signed w32 n
+wide : (n : ℕ) → n < 2 ^ 32
+    → cast_signed w64 (cast_unsigned w64 (cast_signed w32 n)) ≡ cast_signed w32 n
 wide n h = omega (arith, ints)
 
-signs : (x : ℕ) → cast_signed w32 (low Low32 x) ≡ cast_signed w64 (low Full64 (sign_extended Full32 x))
+signs : (x : ℕ)
+    → cast_signed w32 (low Low32 x) ≡ cast_signed w64 (low Full64 (sign_extended Full32 x))
 unfolding sign_extended
 signs x =
-    sym (ap (cast_signed w64) (low_same Full64 (sign_extended Full32 x) (sign_extended_fits Full32 x)) ∙ wide (low Low32 x) (low_below Low32 x))
+    sym (ap (cast_signed w64)
+    (low_same Full64 (sign_extended Full32 x) (sign_extended_fits Full32 x))
+    ∙ wide (low Low32 x) (low_below Low32 x))
 
 -- a comparison at 32 bits is that of the low halves at 64
-pub holds_low : (c : Comparison) (x y : ℕ) → holds c Low32 x y ≡ holds c Full64 (low_half c x) (low_half c y)
+pub holds_low : (c : Comparison) (x y : ℕ)
+    → holds c Low32 x y ≡ holds c Full64 (low_half c x) (low_half c y)
 unfolding holds
 holds_low Equal x y = both (compares Equal Full64) (zeros x) (zeros y)
 holds_low NotEqual x y = both (compares NotEqual Full64) (zeros x) (zeros y)
@@ -93,8 +99,8 @@ pub low_half-small : (c : Comparison) (x : ℕ) → x < low_half_limit c → low
 low_half-small c x h = low_half_below (reads_signed c) x h
 
 -- a comparison at 32 bits says of numbers that are their own low halves what it says at 64 bits
-pub goes_whole : (c : Comparison) (t : Bool) (x y : ℕ) → low_half c x ≡ x → low_half c y ≡ y → holds c Low32 x y ≡ t
-    → ComparesTo Full64 c t x y
+pub goes_whole : (c : Comparison) (t : Bool) (x y : ℕ) → low_half c x ≡ x → low_half c y ≡ y
+    → holds c Low32 x y ≡ t → ComparesTo Full64 c t x y
 goes_whole c t x y left right e =
     goes c Full64 t x y (both (holds c Full64) (sym left) (sym right) ∙ sym (holds_low c x y) ∙ e)
 

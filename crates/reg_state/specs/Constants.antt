@@ -45,17 +45,29 @@ range_constant_has d u h c = (
 )
 
 pub range_constant_only : (d : Range) (u x : ℕ) → R.IsConstant d u → R.Has d x → x ≡ u
-range_constant_only d u x c h = let from = h.0.from in let to = h.0.to in omega (arith, c.0.0, c.0.1)
+range_constant_only d u x c h =
+    let from = h.0.from in let to = h.0.to in omega (arith, c.0.0, c.0.1)
 
--- every number of the width is
+-- every number of the width is within no limits
 pub any_inside : (w : Width) (x : ℕ) → IsWithinLimits w no_limits (low w x)
 any_inside Full64 x =
     let e = signed_equation (x % 2 ^ 64) (omega arith) in
-    record { from = omega (arith, ints); to = omega (arith, ints); signed_from = omega (arith, ints); signed_to = omega (arith, ints) }
+    record {
+      from = omega (arith, ints);
+      to = omega (arith, ints);
+      signed_from = omega (arith, ints);
+      signed_to = omega (arith, ints);
+    }
 any_inside Low32 x =
-    record { from = omega (arith, ints); to = omega (arith, ints); signed_from = omega (arith, ints); signed_to = omega (arith, ints) }
+    record {
+      from = omega (arith, ints);
+      to = omega (arith, ints);
+      signed_from = omega (arith, ints);
+      signed_to = omega (arith, ints);
+    }
 
-pub range_inside : (d : Range) (w : Width) (x : ℕ) → R.Has d x → IsWithinLimits w (range_limits w d) (low w x)
+pub range_inside : (d : Range) (w : Width) (x : ℕ) → R.Has d x
+    → IsWithinLimits w (range_limits w d) (low w x)
 range_inside d Full64 x h =
     rw (low_same Full64 x h.0.below) record {
       from = let from = h.0.from in omega (arith, ints);

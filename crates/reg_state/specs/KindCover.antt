@@ -1,4 +1,4 @@
--- When a kind covers another, with its identities read as the other's; and that it then allows what the other does.
+-- When a kind covers another, by maps from its identities to the other's.
 use Rattle.std.specs.Prelude.{◌≡◌, ℕ, ◌≤◌, ◌≤ℤ◌, Option, Some, None, IfSome}
 use Rattle.reg_state.specs.declared.kinds.Kind.{Kind}
 use Rattle.reg_state.specs.declared.kinds.Kind.TheVariants.{Unset, Number, Context, Stack, Packet, PacketEnd, Map, MapValue, MapValueOrNull}
@@ -14,13 +14,13 @@ abbrev pub null_identity_of : Kind → Option ℕ
 null_identity_of (MapValueOrNull m identity) = Some identity
 null_identity_of k = None
 
--- the maps of identities call the one that the kind names so
+-- the maps of identities take the one that the kind names to this one
 pub record IsCalled (packet null : ℕ → ℕ) (k : Kind) (name : ℕ) : Type 0 where
   pub packet_name : IfSome (packet_identity_of k) (λ i. packet i ≡ name)
   pub null_name : IfSome (null_identity_of k) (λ i. null i ≡ name)
 
--- each number of b is one of a; pointers agree but for limits, which are no narrower in a, and for the proved length,
--- which is no longer
+-- each number of b is one of a; pointers agree but for limits, which are no narrower in a, and for
+-- proved bytes, which are no more
 abbrev pub KindCovers : (ℕ → ℕ) → (ℕ → ℕ) → Kind → Kind → Type 0
 KindCovers packet null Unset b = Unit {0}
 KindCovers packet null (Number a) (Number b) = (x : ℕ) → Has b x → Has a x
@@ -34,7 +34,7 @@ KindCovers packet null (MapValue m l g) (MapValue m' l' g') = (m ≡ m') × (l �
 KindCovers packet null (MapValueOrNull m i) (MapValueOrNull m' i') = (m ≡ m') × (null i ≡ i')
 KindCovers packet null a b = ⊥
 
--- a covers b, and of numbers what is written of them shows it: their bits and their limits
+-- a covers b, and where they are numbers their bits and limits show it
 abbrev pub KindEncloses : (ℕ → ℕ) → (ℕ → ℕ) → Kind → Kind → Type 0
 KindEncloses packet null (Number a) (Number b) = Encloses a b
 KindEncloses packet null a b = KindCovers packet null a b

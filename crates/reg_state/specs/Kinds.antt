@@ -30,7 +30,8 @@ abbrev pub IsProved : Assigned → ℕ → ℕ → Type 0
 IsProved e identity proved = 0 < proved → (e.offset identity +ℤ pos proved) ≤ℤ pos e.packet_length
 
 -- a packet pointer: the fixed part and the variable one, which is within the limits
-pub record AllowsPacket (e : Assigned) (fixed : ℤ) (identity : ℕ) (least greatest : ℤ) (proved : ℕ) (v : Value) : Type 0 where
+pub record AllowsPacket (e : Assigned) (fixed : ℤ) (identity : ℕ) (least greatest : ℤ) (proved : ℕ)
+    (v : Value) : Type 0 where
   pub points : v ≡ Ptr region.Packet (fixed +ℤ e.offset identity)
   pub from : least ≤ℤ e.offset identity
   pub to : e.offset identity ≤ℤ greatest
@@ -55,8 +56,10 @@ abbrev pub Allows : Assigned → Kind → Value → Type 0
 Allows e Unset v = Unit {0}
 Allows e (Number numbers) v = (x : ℕ) × (v ≡ Num x) × Has numbers x
 Allows e Context v = v ≡ Ptr region.Context (pos 0)
-Allows e (Stack frame offset) v = (n : ℕ) × (slice_get e.frames frame ≡ Some n) × (v ≡ Ptr (region.CallFrame n) offset)
-Allows e (Packet fixed identity least greatest proved) v = AllowsPacket e fixed identity least greatest proved v
+Allows e (Stack frame offset) v =
+    (n : ℕ) × (slice_get e.frames frame ≡ Some n) × (v ≡ Ptr (region.CallFrame n) offset)
+Allows e (Packet fixed identity least greatest proved) v =
+    AllowsPacket e fixed identity least greatest proved v
 Allows e PacketEnd v = v ≡ Ptr region.PacketEnd (pos 0)
 Allows e (Map m) v = v ≡ Ptr (region.Map m) (pos 0)
 Allows e (MapValue m least greatest) v = AllowsMapValue e m least greatest v

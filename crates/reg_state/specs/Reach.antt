@@ -1,4 +1,5 @@
--- What is known of two sets shows of a comparison: which numbers of one may go its way with some number of the other.
+-- Which numbers of a set may have an outcome in a comparison with some number of another set, by
+-- what is known of both.
 use Rattle.std.specs.Prelude.{ℕ, ◌≡◌, ◌≢◌, ◌⊎◌, ◌<◌, ◌^◌, pos, ◌<ℤ◌, ◌≤ℤ◌, Bool, true, false, ⊤, bit_and}
 use Rattle.std.specs.Int.{bit_at}
 use Rattle.isa_model.specs.declared.sizes.Width.{Width}
@@ -26,10 +27,11 @@ IsLimit w l n =
 abbrev pub IsAlone : Limits → ℕ → Type 0
 IsAlone l n = (l.least ≡ pos n) × (l.greatest ≡ pos n)
 
--- what it says of x, a number of the width, that a comparison with some number of another set comes out so. Equal: x is in
--- that set, as `has` tells. They differ: where the limits of the set, `l`, leave one number, and that is a limit of `own`,
--- between which x is known to be, x is another. An order: the limit of `l` that is best for it does not rule x out. Bit
--- tests: see `MayShare`
+-- what the outcome of a comparison of x, a number of the width, with some number of another set
+-- says of x. They are equal: x is in that set, as `has` says. They differ: where the limits of the
+-- set, `l`, leave one number, and that is a limit of `own`, between which x is known to be, x is
+-- another. An order: the limit of `l` that is best for it does not rule x out. Bit tests: see
+-- `MayShare`
 abbrev pub MayGo : Width → Comparison → Bool → (ℕ → Type 0) → Limits → Limits → ℕ → Type 0
 MayGo w Equal true has l own x = has x
 MayGo w NotEqual false has l own x = has x
@@ -53,14 +55,15 @@ MayGo w SignedGreaterEqual true has l own x = l.signed_least ≤ℤ signed w x
 MayGo w SignedLess false has l own x = l.signed_least ≤ℤ signed w x
 MayGo w c t has l own x = ⊤
 
--- the test of x's bits against a number that has the bits `ones` may have this outcome, where `shared` are the bits that
--- both may have: on the one side x has none of those, on the other it has the shared bit, if there is only one
+-- the test of x's bits against a number that has the bits `ones` may have this outcome, where
+-- `shared` are the bits that both may have: if no bit is common, x has none of `ones`; if one is, x
+-- has the shared bit, where there is only one
 abbrev pub MayShare : Comparison → Bool → ℕ → ℕ → ℕ → Type 0
 MayShare AnyBit false ones shared x = bit_and x ones ≡ 0
 MayShare AnyBit true ones shared x = (i : ℕ) → shared ≡ 2 ^ i → bit_at x i ≡ 1
 MayShare c t ones shared x = ⊤
 
--- the comparison that goes the same way when its operands are exchanged
+-- the comparison that has the same outcome once its operands are exchanged
 abbrev pub exchanged : Comparison → Comparison
 exchanged Greater = Less
 exchanged GreaterEqual = LessEqual
@@ -72,8 +75,9 @@ exchanged SignedLess = SignedGreater
 exchanged SignedLessEqual = SignedGreaterEqual
 exchanged c = c
 
--- the comparison reads numbers whole: at 64 bits all, at 32 bits those that the limits, or the bits that they may have,
--- show to be their own low halves
+-- the comparison reads numbers whole: at 64 bits all, at 32 bits those that the limits, or the bits
+-- that they may have, show to be their own low halves
 abbrev pub ReadsWhole : Comparison → Width → Limits → ℕ → Type 0
 ReadsWhole c Full64 l possible = ⊤
-ReadsWhole c Low32 l possible = (l.greatest <ℤ pos (low_half_limit c)) ⊎ (possible < low_half_limit c)
+ReadsWhole c Low32 l possible =
+    (l.greatest <ℤ pos (low_half_limit c)) ⊎ (possible < low_half_limit c)

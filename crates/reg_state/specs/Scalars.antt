@@ -1,4 +1,4 @@
--- The numbers of a `Scalar`, and what its contracts say of them.
+-- The members of a `Scalar`, and the relations that its contracts use.
 use Rattle.std.specs.Prelude.{ℕ, ◌≢◌, ◌⊎◌}
 use Rattle.isa_model.specs.declared.sizes.Width.{Width}
 use Rattle.isa_model.specs.declared.sizes.Width.TheVariants.{Low32, Full64}
@@ -7,11 +7,11 @@ use Rattle.ranges.specs.Ranges as R
 use Rattle.ranges.specs.Lows as L
 use Rattle.reg_state.specs.declared.scalars.Scalar.{Scalar}
 
--- x is one of the numbers of both parts
+-- x is a member of both parts
 abbrev pub Has : Scalar → ℕ → Type 0
 Has s x = B.Has s.bits x × R.Has s.range x
 
--- each number that b's bits allow a's do too, and no limit of b is outside those of a
+-- a's bits allow each number that b's allow, and no limit of b is outside those of a
 abbrev pub Encloses : Scalar → Scalar → Type 0
 Encloses a b = ((x : ℕ) → B.Has b.bits x → B.Has a.bits x) × R.Encloses a.range b.range
 
@@ -23,7 +23,8 @@ IsConstant s x = B.IsConstant s.bits x × R.IsConstant s.range x
 abbrev pub IsNumber : Scalar → ℕ → Type 0
 IsNumber s x = B.IsConstant s.bits x ⊎ ((s.bits.mask ≢ 0) × R.LeavesOnly s.range x)
 
--- the number of the width is one that its members may be read as: at 32 bits between the limits of their low halves
+-- the number of the width is one that its members may be read as: at 32 bits between the limits of
+-- their low halves
 abbrev pub allows : Width → Scalar → ℕ → Type 0
 allows Full64 s x = Has s x
 allows Low32 s x = L.Has s.range.low x

@@ -10,8 +10,8 @@ ghost use Rattle.reg_state.specs.Shown.{DomainShows, ShowsAt, ShowsWhole, AreRea
 use crate::domains::Domain;
 use isa_model::{Comparison, Width, numbers};
 
-/// What is left of two sets where the comparison of a member of each goes this way. None: it never
-/// does.
+/// What is left of two sets where the comparison of a member of each has this outcome. `None`: it
+/// never has.
 pub fn refine<D: Domain>(
     comparison: Comparison,
     width: Width,
@@ -37,7 +37,7 @@ pub fn refine<D: Domain>(
     Some((kept(a, left), kept(b, right)))
 }
 
-// Whether both sets have one number and the comparison of the two goes the other way.
+// Whether each set has only one number, and the comparison of the two has the other outcome.
 fn never_goes<D: Domain>(comparison: Comparison, width: Width, taken: bool, a: D, b: D) -> bool
     ensures sound { IsTrue result → (x y : ℕ) → D.has a x → D.has b y
         → holds comparison width x y ≢ taken }
@@ -54,7 +54,7 @@ fn never_goes<D: Domain>(comparison: Comparison, width: Width, taken: bool, a: D
     numbers::compare(comparison, width, x, y) != taken
 }
 
-// The new set, but a constant as it was.
+// The new set, or the old one if that is a constant.
 fn kept<D: Domain>(old: D, new: D) -> D
     ensures contains { (x : ℕ) → D.has old x → D.has new x → D.has result x }
     ensures narrower { ((x : ℕ) → D.has new x → D.has old x) → (x : ℕ) → D.has result x
@@ -103,8 +103,8 @@ fn related_whole<D: Domain>(comparison: Comparison, taken: bool, a: D, b: D) -> 
     related(comparison, Width::Full64, taken, a, b)
 }
 
-// What a comparison of low halves shows: of members that are their own, what one of whole numbers
-// does too.
+// What a comparison of low halves shows. Of members that are their own low halves it shows what one
+// of whole numbers does, too.
 fn related_low<D: Domain>(comparison: Comparison, taken: bool, a: D, b: D) -> Option<(D, D)>
     ensures common { (x y : ℕ) → D.has a x → D.has b y → holds comparison Low32 x y ≡ taken
         → IsSomeAnd result (λ p. D.has p.0 x × D.has p.1 y) }

@@ -38,7 +38,7 @@ pub trait Domain: Copy {
     fn constant(number: u64) -> Self
         ensures { is_constant result number };
 
-    /// At least the numbers from one to another.
+    /// At least the numbers from `least` to `greatest`.
     fn between(least: u64, greatest: u64) -> Self
         requires { least ≤ greatest }
         ensures contains { (x : ℕ) → least ≤ x → x ≤ greatest → has result x };
@@ -48,14 +48,14 @@ pub trait Domain: Copy {
         ensures constant { (u : ℕ) → is_constant self u → result ≡ Some u }
         ensures only { IfSome result (λ n. (x : ℕ) → has self x → x ≡ n) };
 
-    /// A number that no member is greater than.
+    /// A number that no member exceeds.
     fn greatest(self) -> u64
         ensures members { (x : ℕ) → has self x → x ≤ result }
         ensures exact { (u : ℕ) → is_constant self u → result ≡ u }
         ensures limit { pos result ≤ℤ (limits Full64 self).greatest }
         ensures possible { result ≤ possible self };
 
-    /// What the operation gives on the members of both.
+    /// The results of the operation on members of both.
     fn alu(op: AluOp, width: Width, a: Self, b: Self) -> Self
         ensures contains { (x y : ℕ) → has a x → has b y → has result (alu op width x y) }
         ensures exact { (u v : ℕ) → is_constant a u → is_constant b v
@@ -74,13 +74,13 @@ pub trait Domain: Copy {
         ensures exact { (u : ℕ) → is_constant a u → is_constant result (sign_extended extension u) }
         ensures fits { (x : ℕ) → has result x → x < 2 ^ width_bits (extension_width extension) };
 
-    /// The low bytes of the members, in an order.
+    /// The low bytes of the members, in a byte order.
     fn reorder(order: ByteOrder, span: SwapWidth, a: Self) -> Self
         ensures contains { (x : ℕ) → has a x → has result (reordered order span x) }
         ensures exact { (u : ℕ) → is_constant a u → is_constant result (reordered order span u) }
         ensures fits { (x : ℕ) → has result x → x < 2 ^ span_bits span };
 
-    /// The common members. None: there are none.
+    /// The common members. `None`: there are none.
     fn meet(self, other: Self) -> Option<Self>
         ensures common { (x : ℕ) → has self x → has other x → IsSomeAnd result (λ m. has m x) }
         ensures left { IfSome result (λ m. (x : ℕ) → has m x → has self x) }
@@ -92,8 +92,8 @@ pub trait Domain: Copy {
         ensures yes { IsTrue result → (x : ℕ) → has other x → has self x }
         ensures equal { self ≡ other → IsTrue result };
 
-    /// Those that the width reads as some member of the other, and the other way round. None: there
-    /// is no such pair.
+    /// What is left of both where a member of this is one of the other, as the width reads them.
+    /// `None`: there are no such members.
     fn equal(self, width: Width, other: Self) -> Option<(Self, Self)>
         ensures common { (x y : ℕ) → has self x → has other y → low width x ≡ low width y
             → IsSomeAnd result (λ p. has p.0 x × has p.1 y) }
@@ -104,7 +104,8 @@ pub trait Domain: Copy {
         ensures right_allowed { IfSome result (λ p. (y : ℕ) → has p.1 y
             → allows width self (low width y)) };
 
-    /// Those below some member of the other, and those above one, as the width reads them.
+    /// What is left of both where a member of this is below one of the other, as the width reads
+    /// them.
     fn below(self, width: Width, other: Self) -> Option<(Self, Self)>
         ensures common { (x y : ℕ) → has self x → has other y → low width x < low width y
             → IsSomeAnd result (λ p. has p.0 x × has p.1 y) }
@@ -115,7 +116,7 @@ pub trait Domain: Copy {
         ensures right_limit { IfSome result (λ p. (y : ℕ) → has p.1 y
             → (limits width self).least <ℤ pos (low width y)) };
 
-    /// Those at most some member of the other, and those at least one.
+    /// What is left of both where a member of this is at most one of the other.
     fn at_most(self, width: Width, other: Self) -> Option<(Self, Self)>
         ensures common { (x y : ℕ) → has self x → has other y → low width x ≤ low width y
             → IsSomeAnd result (λ p. has p.0 x × has p.1 y) }
@@ -126,7 +127,7 @@ pub trait Domain: Copy {
         ensures right_limit { IfSome result (λ p. (y : ℕ) → has p.1 y
             → (limits width self).least ≤ℤ pos (low width y)) };
 
-    /// Those below some member of the other, and those above one, read as signed numbers.
+    /// The same as `below`, of signed numbers.
     fn signed_below(self, width: Width, other: Self) -> Option<(Self, Self)>
         ensures common { (x y : ℕ) → has self x → has other y
             → signed width (low width x) <ℤ signed width (low width y)
@@ -138,7 +139,7 @@ pub trait Domain: Copy {
         ensures right_limit { IfSome result (λ p. (y : ℕ) → has p.1 y
             → (limits width self).signed_least <ℤ signed width (low width y)) };
 
-    /// Those at most some member of the other, and those at least one, read as signed numbers.
+    /// The same as `at_most`, of signed numbers.
     fn signed_at_most(self, width: Width, other: Self) -> Option<(Self, Self)>
         ensures common { (x y : ℕ) → has self x → has other y
             → signed width (low width x) ≤ℤ signed width (low width y)
@@ -150,7 +151,7 @@ pub trait Domain: Copy {
         ensures right_limit { IfSome result (λ p. (y : ℕ) → has p.1 y
             → (limits width self).signed_least ≤ℤ signed width (low width y)) };
 
-    /// Those that differ from some member of the other, and the other way round.
+    /// What is left of both where a member of this differs from one of the other.
     fn apart(self, width: Width, other: Self) -> Option<(Self, Self)>
         ensures common { (x y : ℕ) → has self x → has other y → low width x ≢ low width y
             → IsSomeAnd result (λ p. has p.0 x × has p.1 y) }
@@ -163,7 +164,7 @@ pub trait Domain: Copy {
             → IsAlone (limits width self) n → IsLimit width (limits width other) n
             → low width y ≢ n) };
 
-    /// Those that have no bit in common with some member of the other, and the other way round.
+    /// What is left of both where a member of this has no bit in common with one of the other.
     fn disjoint(self, width: Width, other: Self) -> Option<(Self, Self)>
         ensures common { (x y : ℕ) → has self x → has other y
             → bit_and (low width x) (low width y) ≡ 0
@@ -175,7 +176,7 @@ pub trait Domain: Copy {
         ensures right_only { width ≡ Full64 → IfSome result (λ p. (y : ℕ) → has p.1 y
             → bit_and y (ones self) ≡ 0) };
 
-    /// Those that have a bit in common with some member of the other, and the other way round.
+    /// What is left of both where a member of this has a bit in common with one of the other.
     fn overlapping(self, width: Width, other: Self) -> Option<(Self, Self)>
         ensures common { (x y : ℕ) → has self x → has other y
             → bit_and (low width x) (low width y) ≢ 0
@@ -193,7 +194,8 @@ pub trait Domain: Copy {
     ghost bounded: { (d : Self) (x : ℕ) → has d x → x < 2 ^ 64 };
 
     // and is between the limits, as each width reads it
-    ghost inside: { (d : Self) (w : Width) (x : ℕ) → has d x → IsWithinLimits w (limits w d) (low w x) };
+    ghost inside: { (d : Self) (w : Width) (x : ℕ) → has d x
+        → IsWithinLimits w (limits w d) (low w x) };
 
     // what it allows of whole numbers are its members
     ghost whole: { (d : Self) (x : ℕ) → allows Full64 d x → has d x };

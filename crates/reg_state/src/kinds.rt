@@ -43,8 +43,8 @@ pub enum Kind {
         least: i32,
         greatest: i32,
     },
-    /// What a lookup answered: a pointer to a live value of the map, or 0, as all values of the
-    /// identity are.
+    /// What a look-up answered: a pointer to a live value of the map, or 0. All values of the
+    /// identity are the same of the two.
     MapValueOrNull {
         index: u8,
         identity: u32,

@@ -6,6 +6,7 @@ pub mod comparisons;
 pub mod domains;
 pub mod kinds;
 mod low_bits;
+mod parts;
 mod range_domain;
 pub mod scalars;
 pub mod splices;

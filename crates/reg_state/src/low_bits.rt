@@ -1,4 +1,4 @@
-//! What is known of low halves, taken up by known bits.
+//! What known bits of low halves show of whole numbers.
 
 ghost use Rattle.std.specs.Prelude.{◌≡◌, ℕ, IsSomeAnd, IfSome};
 ghost use Rattle.isa_model.specs.Code.Numbers.{low, sign_extended};
@@ -16,14 +16,14 @@ pub(crate) fn plain_halves(a: Bits) -> Bits
     Bits::alu(AluOp::Mov, Width::Low32, a, a)
 }
 
-// The same, extended by their signs.
+// The low halves of the numbers, extended by their signs.
 pub(crate) fn signed_halves(a: Bits) -> Bits
     ensures { (x : ℕ) → Has a x → Has result (sign_extended Full32 x) }
 {
     Bits::sign_extend(Extension::Full32, a)
 }
 
-// The common numbers, for both sides.
+// The common members, once for each side.
 pub(crate) fn same(a: Bits, b: Bits) -> Option<(Bits, Bits)>
     ensures common { (x : ℕ) → Has a x → Has b x → IsSomeAnd result (λ p. Has p.0 x × Has p.1 x) }
     ensures left { IfSome result (λ p. (x : ℕ) → Has p.0 x → Has a x × Has b x) }
@@ -33,7 +33,7 @@ pub(crate) fn same(a: Bits, b: Bits) -> Option<(Bits, Bits)>
     Some((both, both))
 }
 
-// What is left of two sets, where so much is of their low halves.
+// The two sets, narrowed by what is left of their low halves, `halves`.
 pub(crate) fn plain_pair(a: Bits, b: Bits, halves: Option<(Bits, Bits)>) -> Option<(Bits, Bits)>
     ensures common { (x y : ℕ) → Has a x → Has b y
         → IsSomeAnd halves (λ p. Has p.0 (low Low32 x) × Has p.1 (low Low32 y))
@@ -47,7 +47,7 @@ pub(crate) fn plain_pair(a: Bits, b: Bits, halves: Option<(Bits, Bits)>) -> Opti
     Some((first, second))
 }
 
-// The same, where they are extended by their signs.
+// The same, with low halves extended by their signs.
 pub(crate) fn signed_pair(a: Bits, b: Bits, halves: Option<(Bits, Bits)>) -> Option<(Bits, Bits)>
     ensures common { (x y : ℕ) → Has a x → Has b y
         → IsSomeAnd halves
@@ -62,7 +62,8 @@ pub(crate) fn signed_pair(a: Bits, b: Bits, halves: Option<(Bits, Bits)>) -> Opt
     Some((first, second))
 }
 
-// Bits of low halves are taken up only by numbers that are their own.
+// The members whose low halves are in `halves`. It narrows only sets of numbers that are their own
+// low halves.
 fn with_plain(a: Bits, halves: Bits) -> Option<Bits>
     ensures common { (x : ℕ) → Has a x → Has halves (low Low32 x)
         → IsSomeAnd result (λ m. Has m x) }
@@ -75,7 +76,7 @@ fn with_plain(a: Bits, halves: Bits) -> Option<Bits>
     }
 }
 
-// The same, where they are extended by their signs.
+// The same, with low halves extended by their signs.
 fn with_signed(a: Bits, halves: Bits) -> Option<Bits>
     ensures common { (x : ℕ) → Has a x → Has halves (sign_extended Full32 x)
         → IsSomeAnd result (λ m. Has m x) }

@@ -142,7 +142,7 @@ impl Domain for Range {
     ghost only_constant = { λ d u x c h. range_constant_only d u x c h };
 }
 
-// The common numbers, for both sides.
+// The common members, once for each side.
 fn same(a: Range, b: Range) -> Option<(Range, Range)>
     ensures common { (x : ℕ) → R.Has a x → R.Has b x
         → IsSomeAnd result (λ p. R.Has p.0 x × R.Has p.1 x) }

@@ -1,4 +1,4 @@
-//! Known bits and limits at once.
+//! Known bits and limits together.
 
 ghost use Rattle.std.specs.Prelude.{◌≡◌, ℕ, ◌+◌, ◌*◌, ◌%◌, ◌^◌, ◌<◌, ◌≤◌, pos, ◌-ℤ◌, ◌*ℤ◌, FitsSigned, ◌↔◌, Some, IsSomeAnd, IfSome, IsTrue};
 ghost use Rattle.std.specs.Int.{w32, w64, cast_signed, bit_at};
@@ -10,7 +10,7 @@ use isa_model::{AluOp, ByteOrder, Extension, SwapWidth, Width};
 use known_bits::Bits;
 use ranges::{Low, Range, Wide};
 
-/// The numbers that both parts have.
+/// The numbers that are members of both parts.
 #[derive(Clone, Copy, PartialEq, Eq, Debug)]
 pub struct Scalar {
     pub bits: Bits,
@@ -20,63 +20,6 @@ pub struct Scalar {
 impl Scalar {
     ghost use Rattle.known_bits.specs.Bits as B;
     ghost use Rattle.reg_state.specs.Scalars.{Has, IsConstant};
-    ghost use Rattle.reg_state.specs.Arithmetic.{IsPart};
-
-    /// The numbers that some bits of these make, from one bit on.
-    pub fn part(self, from: u64, count: u32) -> Scalar
-        requires from { from < 64 }
-        requires some { 0 < count }
-        requires count { count ≤ 64 }
-        ensures { IsPart from count self result }
-    {
-        let limits = self.range.part(from, count).wide;
-        Scalar::limited(self.bits.part(from, count), limits.least, limits.greatest)
-    }
-
-    // The numbers with known bits between two limits: each part is narrowed by the other.
-    fn limited(bits: Bits, least: u64, greatest: u64) -> Scalar
-        requires { least ≤ greatest }
-        ensures contains { (x : ℕ) → B.Has bits x → least ≤ x → x ≤ greatest → Has result x }
-        ensures narrower { (x : ℕ) → Has result x → B.Has bits x × (least ≤ x) × (x ≤ greatest) }
-    {
-        let (bits, least, greatest) = Scalar::shown(bits, least, greatest);
-        let range = between(least, greatest);
-        let both = Scalar { bits, range };
-        both.single()
-    }
-
-    // What known bits and two limits show of each other.
-    pub(crate) fn shown(bits: Bits, least: u64, greatest: u64) -> (Bits, u64, u64)
-        requires { least ≤ greatest }
-        ensures contains { (x : ℕ) → B.Has bits x → least ≤ x → x ≤ greatest
-            → B.Has result.0 x × (result.1 ≤ x) × (x ≤ result.2) }
-        ensures bits { (x : ℕ) → B.Has result.0 x → B.Has bits x }
-        ensures limits { (least ≤ result.1) × (result.1 ≤ result.2) × (result.2 ≤ greatest) }
-    {
-        let Some(known) = bits.meet(Bits::between(least, greatest)) else {
-            return (bits, least, greatest);
-        };
-        let from = least.max(known.least());
-        let to = greatest.min(known.greatest());
-        if from > to {
-            return (bits, least, greatest);
-        }
-        (known, from, to)
-    }
-
-    // The same numbers. If the limits leave only one number, it is written as a constant.
-    pub(crate) fn single(self) -> Scalar
-        ensures contains { (x : ℕ) → Has self x → Has result x }
-        ensures narrower { (x : ℕ) → Has result x → Has self x }
-    {
-        let Some(number) = self.range.number() else {
-            return self;
-        };
-        match self.alone(number) {
-            Some(constant) => constant,
-            None => self,
-        }
-    }
 
     // Each part is narrowed by the other; if one number is left, it is represented as a constant.
     fn tightened(self) -> Option<Scalar>
@@ -110,7 +53,7 @@ impl Scalar {
         }
     }
 
-    // The same, where an answer is needed of a set with no members too.
+    // The same; a set without members is returned as it is.
     fn settled(self) -> Scalar
         ensures contains { (x : ℕ) → Has self x → Has result x }
         ensures narrower { (x : ℕ) → Has result x → Has self x }
@@ -123,7 +66,7 @@ impl Scalar {
     }
 
     // The set of this one member.
-    fn alone(self, number: u64) -> Option<Scalar>
+    pub(crate) fn alone(self, number: u64) -> Option<Scalar>
         ensures found { (x : ℕ) → Has self x → x ≡ number → IsSomeAnd result (λ s. Has s x) }
         ensures constant { Has self number → IsSomeAnd result (λ s. IsConstant s number) }
         ensures narrower { IfSome result (λ s. (x : ℕ) → Has s x → Has self x) }

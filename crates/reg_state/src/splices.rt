@@ -13,7 +13,8 @@ impl Scalar {
     ghost use Rattle.reg_state.specs.Scalars.{Has};
     ghost use Rattle.reg_state.specs.Splices.{IsSpliced};
 
-    /// The numbers with `count` bits from bit `from` on replaced by the low bits of others.
+    /// The numbers with `count` bits from bit `from` on replaced by the low bits of numbers of
+    /// `other`.
     pub fn spliced(self, from: u64, count: u32, other: Scalar) -> Scalar
         requires from { from < 64 }
         requires some { 0 < count }
@@ -51,7 +52,8 @@ fn low_limits(count: u32, range: Range) -> (u64, u64)
     }
 }
 
-// The least and the greatest of the numbers within limits with other bits; those below may be any.
+// The limits of numbers within `old` whose `count` bits from bit `from` on are replaced by numbers
+// within `new`. The bits below may be any.
 fn limits(from: u64, count: u32, old: (u64, u64), new: (u64, u64)) -> (u64, u64)
     requires from { from < 64 }
     requires inside { from + count ≤ 64 }
@@ -68,7 +70,7 @@ fn limits(from: u64, count: u32, old: (u64, u64), new: (u64, u64)) -> (u64, u64)
     )
 }
 
-// The limits of the low halves, where one of both has them whole.
+// The limits of the low halves, if they are wholly those of one of the two.
 fn whole_low(from: u64, count: u32, old: Low, new: Low) -> Option<Low>
     requires inside { from + count ≤ 64 }
     ensures new { from ≡ 0 → count ≡ 32 → result ≡ Some new }
@@ -85,7 +87,7 @@ fn whole_low(from: u64, count: u32, old: Low, new: Low) -> Option<Low>
     }
 }
 
-// The numbers between two limits whose low halves are known, or not.
+// The numbers between two limits, with these low halves if they are known.
 fn with_low(least: u64, greatest: u64, low: Option<Low>) -> Range
     requires { least ≤ greatest }
     ensures members { (x : ℕ) → least ≤ x → x ≤ greatest → IfSome low (λ l. L.Has l (x % 2 ^ 32))

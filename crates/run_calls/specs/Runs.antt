@@ -1,4 +1,4 @@
--- What is answered of a run on one packet.
+-- What the call returns for a run on one packet.
 use Rattle.std.specs.Prelude.{ℕ, List}
 use Rattle.isa_model.specs.declared.frames.FrameHead.{FrameHead}
 use Rattle.isa_model.specs.Machine.States.{KeyValues}

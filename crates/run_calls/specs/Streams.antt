@@ -1,4 +1,4 @@
--- What is answered of a run over a stream.
+-- What the call returns for a run over a stream.
 use Rattle.std.specs.Prelude.{◌≡◌, ℕ, List, [], length, Option, Some, None, Ok}
 use Rattle.isa_model.specs.declared.streams.Fault.{Fault}
 use Rattle.isa_model.specs.declared.streams.Fault.TheVariants.{BadMagic, TruncatedHead, TooLong, TruncatedBody, ReadFailed, TooManyRecords}
@@ -17,32 +17,43 @@ fault_number TruncatedBody = 4
 fault_number ReadFailed = 5
 fault_number TooManyRecords = 6
 
-abbrev pub fault_told : Option (Fault × ℕ) → ℕ
-fault_told None = 0
-fault_told (Some (fault, offset)) = fault_number fault
+abbrev pub fault_field : Option (Fault × ℕ) → ℕ
+fault_field None = 0
+fault_field (Some (fault, offset)) = fault_number fault
 
-abbrev pub offset_told : Option (Fault × ℕ) → ℕ
-offset_told None = 0
-offset_told (Some (fault, offset)) = offset
+abbrev pub offset_field : Option (Fault × ℕ) → ℕ
+offset_field None = 0
+offset_field (Some (fault, offset)) = offset
 
 -- a tally in numbers, with the sizes of the report and of the frames out
-abbrev pub told : Tally → ℕ → ℕ → Streamed
-told tally report sent =
-    record { report = report; sent = sent; offset = offset_told tally.fault; frames = tally.frames; fault = fault_told tally.fault }
+abbrev pub streamed_of : Tally → ℕ → ℕ → Streamed
+streamed_of tally report sent =
+    record {
+      report = report;
+      sent = sent;
+      offset = offset_field tally.fault;
+      frames = tally.frames;
+      fault = fault_field tally.fault;
+    }
 
--- a run of an accepted program over a stream of these bytes writes this report and these frames out, and has this tally
+-- a run of an accepted program over a stream of these bytes writes this report and these frames
+-- out, and returns this tally
 abbrev pub WritesStream : Bounded → List ℕ → List ℕ → List ℕ → Tally → Type 0
 WritesStream a source report sent tally =
-    RunsWhole a (Some source) (record { report = Some []; frames = Some [] }) (record { report = Some report; frames = Some sent }) (Ok tally)
+    RunsWhole a (Some source) (record { report = Some []; frames = Some [] })
+    (record { report = Some report; frames = Some sent }) (Ok tally)
 
--- the bytes are an accepted image, and the buffers hold what a run of its program over the stream writes
-pub record RunsStream (bytes source old_report old_sent new_report new_sent : List ℕ) (out : Streamed) : Type 0 where
+-- the bytes are an accepted image, and the buffers hold what a run of its program over the stream
+-- writes
+pub record RunsStream (bytes source old_report old_sent new_report new_sent : List ℕ)
+    (out : Streamed) : Type 0 where
   pub bound : ℕ
   pub accepts : IsAcceptedImage bytes bound
   pub report : List ℕ
   pub sent : List ℕ
   pub tally : Tally
-  pub writes : WritesStream (record { program = accepts.program; bound = bound }) source report sent tally
+  pub writes : WritesStream
+      (record { program = accepts.program; bound = bound }) source report sent tally
   pub report_is : new_report ≡ filled old_report report
   pub sent_is : new_sent ≡ filled old_sent sent
-  pub told_is : out ≡ told tally (length report) (length sent)
+  pub out_is : out ≡ streamed_of tally (length report) (length sent)

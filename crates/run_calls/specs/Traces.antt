@@ -1,4 +1,4 @@
--- What is answered of a traced run.
+-- What the call returns for a traced run.
 use Rattle.std.specs.Prelude.{◌≡◌, ℕ, List}
 use Rattle.isa_model.specs.Code.Instructions.{Program}
 use Rattle.isa_model.specs.declared.ends.End.{End}
@@ -27,13 +27,18 @@ trap_number BadAction = 11
 -- an end in numbers
 abbrev pub end_of : End → ℕ → TracedEnd
 end_of (Exit r0 steps) limit = record { r0 = r0; steps = steps; kind = 0; reason = 0 }
-end_of (Trap reason steps) limit = record { r0 = 0; steps = steps; kind = 1; reason = trap_number reason }
+end_of (Trap reason steps) limit =
+    record { r0 = 0; steps = steps; kind = 1; reason = trap_number reason }
 end_of Limit limit = record { r0 = 0; steps = limit; kind = 2; reason = 0 }
 
--- the bytes are an image, and the run of its program within the limit, on maps as they start, ends so and leaves this packet
-pub record AnswersTrace (bytes : List ℕ) (head : FrameHead) (packet : List ℕ) (limit : ℕ) (end : TracedEnd) (after : List ℕ) : Type 0 where
+-- the bytes are an image, and the run of its program within the limit, on maps as they start, ends
+-- in this way and leaves this packet
+pub record AnswersTrace (bytes : List ℕ) (head : FrameHead) (packet : List ℕ) (limit : ℕ)
+    (end : TracedEnd) (after : List ℕ) : Type 0 where
   pub program : Program
   pub spelled : bytes ≡ image_bytes program
   pub is_image : IsImage program
-  pub ends : end ≡ end_of (turn program limit (λ _. head.time) head packet (starting_contents program.maps)).ends limit
-  pub packet_is : after ≡ (turn program limit (λ _. head.time) head packet (starting_contents program.maps)).packet
+  pub ends : end ≡ end_of
+      (turn program limit (λ _. head.time) head packet (starting_contents program.maps)).ends limit
+  pub packet_is : after
+      ≡ (turn program limit (λ _. head.time) head packet (starting_contents program.maps)).packet

@@ -1,4 +1,4 @@
-//! The clock of a frame's run.
+//! The clock of a run on a packet.
 
 ghost use Rattle.std.specs.Prelude.{◌≡◌, ◌<◌, ◌^◌, ℕ};
 
@@ -21,7 +21,7 @@ impl Clock for FrameClock {
     }
 }
 
-/// The clock that always says this time.
+/// The clock whose every answer is this time.
 pub fn clock_at(time: u64) -> FrameClock
     ensures { result.time ≡ time }
 {

@@ -1,5 +1,5 @@
-//! The calls from C and Rust that run a program once, on a packet or over a stream: all that they
-//! do, but for being exports. Their statuses are those of `verdict_calls`.
+//! The calls from C and Rust that run a program once, on a packet or over a stream; `xdpvm_c`
+//! exports them. Their statuses are those of `verdict_calls`.
 #![tactic(auto)]
 
 pub mod clocks;

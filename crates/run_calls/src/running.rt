@@ -1,4 +1,4 @@
-//! Runs of accepted programs.
+//! The call that runs an accepted program on a packet.
 
 ghost use Rattle.std.specs.Prelude.{◌≡◌, ◌≢◌, ◌<◌, ◌↔◌, length, IfSome};
 ghost use Rattle.isa_model.specs.{max_packet};
@@ -16,8 +16,8 @@ use std::alloc::Global;
 use verdict_calls::judging::verified_of;
 use verdict_calls::statuses::{MEMORY, NotAccepted, OK, REFUSED, WRONG};
 
-/// What a frame's record says beside its bytes: a time in nanoseconds, which helper 5 answers, and
-/// the interface and queue that it came in by.
+/// What comes with a packet: a time in nanoseconds, which helper 5 returns, and the interface and
+/// queue that it came in by.
 #[repr(C)]
 #[derive(Clone, Copy, Drop)]
 pub struct Head {
@@ -26,7 +26,7 @@ pub struct Head {
     pub queue: u32,
 }
 
-/// How a run ended: its answer, and how many instructions it had.
+/// How a run ended: the number in r0, and how many steps it took.
 #[repr(C)]
 #[derive(Clone, Copy, Drop)]
 pub struct Ended {
@@ -51,8 +51,8 @@ pub fn machine_of(alloc: Global, verified: Verified) -> Option<Machine>
     }
 }
 
-/// Verifies an image, and runs its program on a packet, on maps as they start. Why an image is
-/// refused `verify_image` says.
+/// Verifies an image, and runs its program on a packet, on maps as they start. `verify_image` says
+/// why an image is refused.
 pub fn run_once(alloc: Global, image: &[u8], head: &Head, packet: &mut [u8], out: &mut Ended) -> u32
     ensures ran { result ≡ 0 → RunsProgram image.now (record {
       time = head.now.time;

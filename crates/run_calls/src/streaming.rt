@@ -1,9 +1,9 @@
-//! Runs over whole frame streams.
+//! The call that runs an accepted program over a frame stream.
 
 ghost use Rattle.std.specs.Prelude.{◌≡◌, ◌≢◌, IfSome};
 ghost use Rattle.verdict_calls.specs.Crossing.{IsVerdict};
 ghost use Rattle.verdict_calls.specs.Verdicts.{IsRefusedImage};
-ghost use Rattle.run_calls.specs.Streams.{WritesStream, RunsStream, fault_number, told};
+ghost use Rattle.run_calls.specs.Streams.{WritesStream, RunsStream, fault_number, streamed_of};
 
 use bounds::Verified;
 use host::{Tally, run};
@@ -13,7 +13,7 @@ use verdict_calls::filling::fill;
 use verdict_calls::judging::verified_of;
 use verdict_calls::statuses::{MEMORY, NotAccepted, OK, REFUSED};
 
-/// What a run over a stream comes to: how many bytes the report and the frames out have, how many
+/// The result of a run over a stream: how many bytes the report and the frames out have, how many
 /// frames were found, and the number of the fault that ended the stream, with the offset of its
 /// record; both are 0 at the stream's end.
 #[repr(C)]
@@ -40,9 +40,9 @@ fn number_of(fault: Fault) -> u32
     }
 }
 
-// What is returned after a run with this tally, a report and frames out of these sizes.
-fn told(tally: Tally, report: usize, sent: usize) -> Streamed
-    ensures { result ≡ told tally report sent }
+// The result of a run with this tally, and with a report and frames out of these sizes.
+fn streamed_of(tally: Tally, report: usize, sent: usize) -> Streamed
+    ensures { result ≡ streamed_of tally report sent }
 {
     let (fault, offset) = match tally.fault {
         Some((fault, offset)) => (number_of(fault), offset),
@@ -82,8 +82,9 @@ fn stream_written(alloc: Global, verified: Verified, frames: &[u8]) -> Option<Wr
     }
 }
 
-/// Verifies an image, and runs its program on the frames of a stream. The report goes to `report`
-/// and the frames out to `sent`, as far as there is room; maps live on from frame to frame.
+/// Verifies an image, and runs its program on the frames of a stream. The report is written to
+/// `report` and the frames out to `sent`, as far as there is room; the maps keep their contents
+/// from frame to frame.
 pub fn run_stream(
     alloc: Global,
     image: &[u8],
@@ -110,6 +111,6 @@ pub fn run_stream(
     };
     let reported = fill(report, written.report.as_slice());
     let forwarded = fill(sent, written.sent.as_slice());
-    *out = told(written.tally, reported, forwarded);
+    *out = streamed_of(written.tally, reported, forwarded);
     OK
 }

@@ -1,4 +1,4 @@
-//! Runs with every access tested.
+//! The call that runs a program on a packet with every access tested.
 
 ghost use Rattle.std.specs.Prelude.{◌≡◌, ◌≢◌, ◌<◌, ◌≤◌, ◌↔◌, ◌⊎◌, length};
 ghost use Rattle.isa_model.specs.{max_packet};
@@ -26,7 +26,7 @@ pub struct TracedEnd {
     pub reason: u32,
 }
 
-// The number of a reason, from 1 on in the order of the documents.
+// The number of a reason, from 1 on in the order of docs/REFUSALS.md.
 fn number_of(reason: TrapReason) -> u32
     ensures { result ≡ trap_number reason }
 {

@@ -1,6 +1,6 @@
-//! Tests of the stores of maps, of a clock, and of streams that fail, by calls.
+//! Tests of map stores, of a clock, and of streams that fail, by calls.
 //!
-//! They are here, since a crate with tests is proved twice.
+//! They have a crate of their own, since a crate with tests is proved twice.
 #![tactic(auto)]
 
 #[cfg(test)]

@@ -1,5 +1,5 @@
-//! What only calls show: other clocks, the stores of maps, and streams that fail. What the commands
-//! show of runs, maps and streams is in tests/programs.
+//! What only calls show: another clock, map stores, and streams that fail. Runs, maps and streams
+//! that the commands show are tested by the cases in tests/programs.
 
 mod clocks;
 mod map_stores;

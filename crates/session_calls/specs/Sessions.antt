@@ -1,4 +1,4 @@
--- What calls on sessions answer.
+-- What calls on sessions return.
 use Rattle.std.specs.Prelude.{◌≡◌, ℕ, ◌<◌, List, length, Option, Some}
 use Rattle.isa_model.specs.declared.frames.FrameHead.{FrameHead}
 use Rattle.isa_model.specs.Machine.States.{KeyValues}
@@ -8,14 +8,15 @@ use Rattle.machine.specs.Running.{Running, AnswersRun}
 use Rattle.machine.specs.BetweenRuns.{row_at}
 use Rattle.verdict_calls.specs.Verdicts.{IsAcceptedImage}
 
--- a session is open, and this is so of its machine
+-- a session is open, and this holds of its machine
 pub record HoldsOpen (held : Option Running) (fact : Running → Type 0) : Type 0 where
   pub machine : Running
   pub is : held ≡ Some machine
   pub so : fact machine
 
--- it is open before and after a call, and this is so of its machine then and now
-pub record StaysOpen (old new : Option Running) (relation : Running → Running → Type 0) : Type 0 where
+-- it is open before and after a call, and this holds of its machine before and after
+pub record StaysOpen (old new : Option Running)
+    (relation : Running → Running → Type 0) : Type 0 where
   pub before : Running
   pub after : Running
   pub was : old ≡ Some before
@@ -26,10 +27,16 @@ pub record StaysOpen (old new : Option Running) (relation : Running → Running 
 pub record OpensSession (bytes : List ℕ) (held : Option Running) : Type 0 where
   pub bound : ℕ
   pub accepts : IsAcceptedImage bytes bound
-  pub is : held ≡ Some (record { program = accepts.program; bound = bound; contents = starting_contents accepts.program.maps })
+  pub is : held ≡ Some (record {
+    program = accepts.program;
+    bound = bound;
+    contents = starting_contents accepts.program.maps;
+  })
 
--- the run of the open program on this packet has this exit, and leaves this packet; program and bound stay, and the maps go on
-pub record RunsSession (old new : Option Running) (head : FrameHead) (packet : List ℕ) (exit : Exit) (after : List ℕ) : Type 0 where
+-- the run of the open program on this packet has this exit, and leaves this packet; program and
+-- bound stay, and the maps keep what the run left
+pub record RunsSession (old new : Option Running) (head : FrameHead) (packet : List ℕ) (exit : Exit)
+    (after : List ℕ) : Type 0 where
   pub machine : Running
   pub left : List KeyValues
   pub coming : ℕ → ℕ

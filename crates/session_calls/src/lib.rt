@@ -1,5 +1,5 @@
-//! The calls from C and Rust on sessions, programs that stay open: all that they do, but for being
-//! exports. Their statuses are those of `verdict_calls`.
+//! The calls from C and Rust on sessions, programs that stay open; `xdpvm_c` exports them. Their
+//! statuses are those of `verdict_calls`.
 #![tactic(auto)]
 
 pub mod map_calls;

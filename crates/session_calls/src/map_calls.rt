@@ -1,4 +1,4 @@
-//! The maps of an open program, between runs.
+//! Calls on the maps of an open program, between runs.
 
 ghost use Rattle.std.specs.Prelude.{◌≡◌, ◌≢◌, ◌↔◌, length, true, None, Some};
 ghost use Rattle.std.specs.List.{slice_get};
@@ -12,8 +12,8 @@ use machine::Machine;
 use std::alloc::Global;
 use verdict_calls::statuses::{ABSENT, OK, WRONG};
 
-/// What an update or a delete is answered: 0, or a negative error in 64 bits, as the helpers of a
-/// program are, and then nothing has changed.
+/// The answer to an update or a delete: 0, or a negative error in 64 bits, as for the helpers of a
+/// program, and then nothing has changed.
 #[repr(C)]
 #[derive(Clone, Copy, Drop)]
 pub struct Changed {
@@ -21,17 +21,17 @@ pub struct Changed {
 }
 
 // Whether a map is there, with keys of this size.
-fn fits_key(machine: &Machine, map: usize, key: usize) -> bool
+fn has_map_with_key(machine: &Machine, map: usize, key: usize) -> bool
     ensures { (result ≡ true) ↔ FitsKey machine.now map key }
 {
     map < machine.map_count() && key == usize::from(machine.map_row(map).key_size)
 }
 
 // Whether a map is there, with keys and values of these sizes.
-fn fits_map(machine: &Machine, map: usize, key: usize, value: usize) -> bool
+fn has_map_with_sizes(machine: &Machine, map: usize, key: usize, value: usize) -> bool
     ensures { (result ≡ true) ↔ FitsMap machine.now map key value }
 {
-    fits_key(machine, map, key) && value == machine.map_row(map).value_size as usize
+    has_map_with_key(machine, map, key) && value == machine.map_row(map).value_size as usize
 }
 
 fn look_up(machine: &Machine, map: usize, key: &[u8], value: &mut [u8]) -> u32
@@ -42,7 +42,7 @@ fn look_up(machine: &Machine, map: usize, key: &[u8], value: &mut [u8]) -> u32
     ensures kept { result ≢ 0 → value.new ≡ value.old }
     ensures status { IsLookUp result }
 {
-    if !fits_map(machine, map, key.len(), value.len()) {
+    if !has_map_with_sizes(machine, map, key.len(), value.len()) {
         return WRONG;
     }
     match machine.lookup(map, key) {
@@ -102,7 +102,7 @@ pub fn update_key(
     let Some(mut machine) = session.take(alloc) else {
         return WRONG;
     };
-    if !fits_map(&machine, map, key.len(), value.len()) {
+    if !has_map_with_sizes(&machine, map, key.len(), value.len()) {
         session.put(machine);
         return WRONG;
     }
@@ -131,7 +131,7 @@ pub fn delete_key(
     let Some(mut machine) = session.take(alloc) else {
         return WRONG;
     };
-    if !fits_key(&machine, map, key.len()) {
+    if !has_map_with_key(&machine, map, key.len()) {
         session.put(machine);
         return WRONG;
     }
@@ -141,7 +141,7 @@ pub fn delete_key(
     OK
 }
 
-// The status of a copied key with its value.
+// Copies the key at a rank with its value, and returns the status.
 fn copy(machine: &mut Machine, map: usize, rank: usize, key: &mut [u8], value: &mut [u8]) -> u32
     ensures copied { result ≡ 0 → slice_get (ordered_at machine.old map) rank
         ≡ Some (key.new, value.new) }
@@ -153,7 +153,7 @@ fn copy(machine: &mut Machine, map: usize, rank: usize, key: &mut [u8], value: &
     ensures value_kept { result ≢ 0 → value.new ≡ value.old }
     ensures status { IsLookUp result }
 {
-    if !fits_map(machine, map, key.len(), value.len()) {
+    if !has_map_with_sizes(machine, map, key.len(), value.len()) {
         return WRONG;
     }
     if machine.copy_key_value(map, rank, key, value) {

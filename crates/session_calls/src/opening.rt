@@ -1,4 +1,4 @@
-//! Sessions opened, run and closed.
+//! Calls that open, run and close sessions.
 
 ghost use Rattle.std.specs.Prelude.{◌≡◌, ◌≢◌, ◌<◌, ◌↔◌, ◌⊎◌, length, is_some, None, Some};
 ghost use Rattle.isa_model.specs.{max_packet};
@@ -73,7 +73,7 @@ pub fn open_image(alloc: Global, image: &[u8], session: &mut Session) -> u32
     }
 }
 
-/// The same, shown by a proof table of the image's program, whoever made it.
+/// The same, where a proof table shows that the program is accepted, whoever made the table.
 pub fn open_with_table(alloc: Global, image: &[u8], table: &[u8], session: &mut Session) -> u32
     ensures opened { result ≡ 0 → OpensSession image.now session.new.held }
     ensures wrong { (result ≡ 1) ↔ (session.old.held ≢ None) }
@@ -91,7 +91,7 @@ pub fn open_with_table(alloc: Global, image: &[u8], table: &[u8], session: &mut 
     }
 }
 
-/// Runs an open program on a packet, in place. Its maps go on from run to run.
+/// Runs an open program on a packet, in place. Its maps keep their contents from run to run.
 pub fn run_session(
     alloc: Global,
     session: &mut Session,
@@ -133,7 +133,7 @@ pub fn run_session(
     OK
 }
 
-/// Closes a session, and gives its memory back. A closed one stays as it is.
+/// Closes a session, and frees its memory. A closed one stays as it is.
 pub fn close_session(alloc: Global, session: &mut Session)
     ensures { session.new.held ≡ None }
 {

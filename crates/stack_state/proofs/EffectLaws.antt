@@ -1,13 +1,10 @@
--- What keeps the meaning of an abstract state, one effect after the other: slots of any live call
--- frame, and kinds in every frame.
-use Rattle.std.specs.Prelude.{◌≡◌, ◌≢◌, ℕ, suc, ◌+◌, ◌-◌, ◌*◌, ◌<◌, ◌==◌, ℤ, pos, ◌+ℤ◌, ◌≤ℤ◌, List, [], ◌∷◌, map, max, length, slice_set, slice_index_or, All, Option, Some, None, Result, Ok, Bool, true, false, if◌then◌else◌, refl}
+-- Effects on slots of any live call frame keep the meaning of an abstract state.
+use Rattle.std.specs.Prelude.{◌≡◌, ◌≢◌, ℕ, suc, ◌+◌, ◌-◌, ◌*◌, ◌<◌, ◌==◌, ℤ, List, [], ◌∷◌, map, length, slice_set, slice_index_or, All, Some, Result, Ok, true, false, if◌then◌else◌, refl}
 use Rattle.std.proofs.Common.{sym, ap, ◌∙◌, subst, inl, inr, arith}
 use Rattle.std.proofs.lemmas.Bool.{cases_eq}
 use Rattle.std.proofs.lemmas.Bool.Decides.{nat_tests}
-use Rattle.std.proofs.lemmas.Int.{ints}
-use Rattle.std.proofs.lemmas.List.{length-set, map-append, get_or-map, get_or-set_same, get_or-set_other, set-append_left}
+use Rattle.std.proofs.lemmas.List.{length-set, get_or-set_same, get_or-set_other, set-append_left}
 use Rattle.std.proofs.Math.Seq.{map-set_same, set-append_seam}
-use Rattle.std.proofs.Math.ListN.{get_or-map as get_or-map_default}
 use Rattle.isa_model.specs.declared.sizes.Size.{Size}
 use Rattle.isa_model.specs.declared.sizes.Size.TheVariants.{U64}
 use Rattle.isa_model.specs.declared.values.Region.TheVariants as region
@@ -19,67 +16,80 @@ use Rattle.isa_model.specs.declared.values.CallFrame.{CallFrame}
 use Rattle.isa_model.specs.declared.ends.TrapReason.{TrapReason}
 use Rattle.isa_model.specs.Code.Sizes.{size_bytes}
 use Rattle.isa_model.specs.Code.Instructions.{Program}
-use Rattle.isa_model.specs.Machine.States.{Content, value_at, frame_pointer, new_frame, frame_at}
+use Rattle.isa_model.specs.Machine.States.{value_at, frame_pointer, new_frame, frame_at}
 use Rattle.isa_model.specs.Machine.States as Machine
 use Rattle.isa_model.specs.Machine.Memory.{load, load_number, store}
 use Rattle.isa_model.specs.Machine.Calls.{innermost}
 use Rattle.isa_model.specs.Machine.MachineStates.{IsState, IsCell, IsCallFrame}
 use Rattle.reg_state.specs.declared.scalars.Scalar.{Scalar}
 use Rattle.reg_state.specs.declared.kinds.Kind.{Kind}
-use Rattle.reg_state.specs.declared.kinds.Kind.TheVariants.{Unset, Packet, MapValue, MapValueOrNull}
 use Rattle.reg_state.specs.Scalars.{Has}
-use Rattle.reg_state.specs.Kinds.{Assigned, Allows, AllowsPacket, AllowsOrNull}
+use Rattle.reg_state.specs.Kinds.{Assigned, Allows}
 use Rattle.stack_state.specs.declared.slots.StackSlot.{StackSlot}
-use Rattle.stack_state.specs.declared.slots.StackSlot.TheVariants.{Written, Spilled}
 use Rattle.stack_state.specs.declared.states.AbstractFrame.{AbstractFrame}
 use Rattle.stack_state.specs.declared.states.State.{State}
-use Rattle.stack_state.specs.Meaning.{frames_of, no_frame, abstract_frame_at, kind_at, kinds_of, stack_slots_of, depth, registers_of, AssignmentFits, MeansBy}
-use Rattle.stack_state.proofs.MeaningLaws.{length-frames_of, abstract_frame_at-innermost, depth_is_length, FrameKeeps, MeansBy-onto}
-use Rattle.stack_state.specs.Slots.{slot_at, kind_in, forgotten_slot}
-use Rattle.stack_state.specs.StackMeaning.{SlotMeans, StackMeans, StoresBytes, Spills, LoadsNumber, LoadsSlot, KeepsOtherMaps, with_maps}
-use Rattle.stack_state.proofs.StackLaws.{SlotMeans-spilled}
-use Rattle.stack_state.proofs.FillLaws.{SlotMeans-forgotten}
+use Rattle.stack_state.specs.Meaning.{frames_of, no_frame, abstract_frame_at, kind_at, kinds_of, stack_slots_of, depth, registers_of, MeansBy}
+use Rattle.stack_state.proofs.MeaningLaws.{length-frames_of, abstract_frame_at-innermost, depth_is_length}
+use Rattle.stack_state.specs.StackMeaning.{StackMeans, StoresBytes, Spills, LoadsNumber, LoadsSlot}
 use Rattle.stack_state.proofs.FrameLaws.{IsHere, with_cells, loads_here, fills_here, stores_here, spills_here}
-use Rattle.stack_state.specs.Effects.{with_slots, with_frame, with_frame_slots, map_frames, with_spilled, with_kinds, map_kinds, proved_kind, tested_value, tested_kind, forgotten_register, forgotten_frame, forgotten_in}
+use Rattle.stack_state.specs.Effects.{with_slots, with_frame, with_frame_slots}
 
 -- ---- another frame at an index
 
-pub frames_of-with_frame : (a : State) (j : ℕ) (f : AbstractFrame) → j < depth a → frames_of (with_frame a j f) ≡ slice_set (frames_of a) j f
+pub frames_of-with_frame : (a : State) (j : ℕ) (f : AbstractFrame) → j < depth a
+    → frames_of (with_frame a j f) ≡ slice_set (frames_of a) j f
 frames_of-with_frame a j f inside =
     let n : ℕ = length a.callers.items in
     elim (j == n) as (λ b. (j == n) ≡ b
-    → frames_of (if b then record a { innermost = f } else record a { callers = record { items = slice_set a.callers.items j f } }) ≡ slice_set (frames_of a) j f) [
+    → frames_of
+    (if b then record a { innermost = f }
+    else record a { callers = record { items = slice_set a.callers.items j f } })
+    ≡ slice_set (frames_of a) j f) [
       | true ↦ λ e. let same : n ≡ j = grind (arith, nat_tests) in
-          sym (set-append_seam a.callers.items a.innermost [] f) ∙ ap (λ k. slice_set (frames_of a) k f) same
+          sym (set-append_seam a.callers.items a.innermost [] f)
+          ∙ ap (λ k. slice_set (frames_of a) k f) same
       | false ↦ λ e. let other : j ≢ n = grind (arith, nat_tests) in
           sym (set-append_left a.callers.items (a.innermost ∷ []) j f (omega arith))
     ] refl
 
 slot-with_frame : (a : State) (j : ℕ) (f : AbstractFrame) → (with_frame a j f).slot ≡ a.slot
 slot-with_frame a j f =
-    elim (j == length a.callers.items) as (λ b. (if b then record a { innermost = f } else record a { callers = record { items = slice_set a.callers.items j f } }).slot ≡ a.slot)
+    elim (j == length a.callers.items) as (λ b.
+    (if b then record a { innermost = f }
+    else record a { callers = record { items = slice_set a.callers.items j f } }).slot
+    ≡ a.slot)
     [ true ↦ refl | false ↦ refl ]
 
-pub depth-with_frame : (a : State) (j : ℕ) (f : AbstractFrame) → j < depth a → depth (with_frame a j f) ≡ depth a
+pub depth-with_frame : (a : State) (j : ℕ) (f : AbstractFrame) → j < depth a
+    → depth (with_frame a j f) ≡ depth a
 depth-with_frame a j f inside =
-    sym (length-frames_of (with_frame a j f)) ∙ ap length (frames_of-with_frame a j f inside) ∙ length-set (frames_of a) j f ∙ length-frames_of a
+    sym (length-frames_of (with_frame a j f)) ∙ ap length (frames_of-with_frame a j f inside)
+    ∙ length-set (frames_of a) j f ∙ length-frames_of a
 
-pub abstract_frame_at-with_frame_same : (a : State) (j : ℕ) (f : AbstractFrame) → j < depth a → abstract_frame_at (with_frame a j f) j ≡ f
+pub abstract_frame_at-with_frame_same : (a : State) (j : ℕ) (f : AbstractFrame) → j < depth a
+    → abstract_frame_at (with_frame a j f) j ≡ f
 abstract_frame_at-with_frame_same a j f inside =
     let long = length-frames_of a in
-    ap (λ fs. slice_index_or fs j no_frame) (frames_of-with_frame a j f inside) ∙ get_or-set_same (frames_of a) j f no_frame (omega arith)
+    ap (λ fs. slice_index_or fs j no_frame) (frames_of-with_frame a j f inside)
+    ∙ get_or-set_same (frames_of a) j f no_frame (omega arith)
 
-pub abstract_frame_at-with_frame_other : (a : State) (j i : ℕ) (f : AbstractFrame) → j < depth a → i ≢ j → abstract_frame_at (with_frame a j f) i ≡ abstract_frame_at a i
+pub abstract_frame_at-with_frame_other : (a : State) (j i : ℕ) (f : AbstractFrame) → j < depth a
+    → i ≢ j → abstract_frame_at (with_frame a j f) i ≡ abstract_frame_at a i
 abstract_frame_at-with_frame_other a j i f inside other =
-    ap (λ fs. slice_index_or fs i no_frame) (frames_of-with_frame a j f inside) ∙ get_or-set_other (frames_of a) j i f no_frame other
+    ap (λ fs. slice_index_or fs i no_frame) (frames_of-with_frame a j f inside)
+    ∙ get_or-set_other (frames_of a) j i f no_frame other
 
 -- the registers as they are stay
-registers-with_frame_slots : (a : State) (j : ℕ) (slots : List StackSlot) → registers_of (with_frame_slots a j slots) ≡ registers_of a
+registers-with_frame_slots : (a : State) (j : ℕ) (slots : List StackSlot)
+    → registers_of (with_frame_slots a j slots) ≡ registers_of a
 registers-with_frame_slots a j slots =
     let n : ℕ = length a.callers.items in
     let f : AbstractFrame = with_slots (abstract_frame_at a j) slots in
     elim (j == n) as (λ b. (j == n) ≡ b
-    → (if b then record a { innermost = f } else record a { callers = record { items = slice_set a.callers.items j f } }).innermost.registers ≡ a.innermost.registers) [
+    → (if b then record a { innermost = f }
+    else record a
+    { callers = record { items = slice_set a.callers.items j f } }).innermost.registers
+    ≡ a.innermost.registers) [
       | true ↦ λ e. let same : j ≡ n = grind (arith, nat_tests) in
           ap (λ k. (abstract_frame_at a k).registers) same
           ∙ ap (λ g. g.registers) (abstract_frame_at-innermost a)
@@ -87,43 +97,60 @@ registers-with_frame_slots a j slots =
     ] refl
 
 -- what a frame has beside its slots stays
-kept_in_frame : {X : Type 0} (view : AbstractFrame → X) (a : State) (j i : ℕ) (f : AbstractFrame) → j < depth a → view f ≡ view (abstract_frame_at a j)
+kept_in_frame : {X : Type 0} (view : AbstractFrame → X) (a : State) (j i : ℕ) (f : AbstractFrame)
+    → j < depth a → view f ≡ view (abstract_frame_at a j)
     → view (abstract_frame_at (with_frame a j f) i) ≡ view (abstract_frame_at a i)
 kept_in_frame view a j i f inside same =
     elim (cases_eq i j) [
-      | inl here ↦ ap (λ k. view (abstract_frame_at (with_frame a j f) k)) here ∙ ap view (abstract_frame_at-with_frame_same a j f inside) ∙ same
+      | inl here ↦
+          ap (λ k. view (abstract_frame_at (with_frame a j f) k)) here
+          ∙ ap view (abstract_frame_at-with_frame_same a j f inside) ∙ same
           ∙ ap (λ k. view (abstract_frame_at a k)) (sym here)
       | inr other ↦ ap view (abstract_frame_at-with_frame_other a j i f inside other)
     ]
 
 -- what a call frame has beside its cells stays
-kept_in_call : {X : Type 0} (view : CallFrame → X) (fs : List CallFrame) (j i : ℕ) (f : CallFrame) → j < length fs → view f ≡ view (frame_at fs j)
+kept_in_call : {X : Type 0} (view : CallFrame → X) (fs : List CallFrame) (j i : ℕ) (f : CallFrame)
+    → j < length fs → view f ≡ view (frame_at fs j)
     → view (frame_at (slice_set fs j f) i) ≡ view (frame_at fs i)
 kept_in_call view fs j i f inside same =
     elim (cases_eq i j) [
-      | inl here ↦ ap (λ k. view (frame_at (slice_set fs j f) k)) here ∙ ap view (get_or-set_same fs j f (new_frame 0 0 []) inside) ∙ same
+      | inl here ↦
+          ap (λ k. view (frame_at (slice_set fs j f) k)) here
+          ∙ ap view (get_or-set_same fs j f (new_frame 0 0 []) inside) ∙ same
           ∙ ap (λ k. view (frame_at fs k)) (sym here)
       | inr other ↦ ap view (get_or-set_other fs j i f (new_frame 0 0 []) other)
     ]
 
 -- ---- a write into the jth frame
 
-stack_written : (e : Assigned) (a : State) (s : Machine.State) (j i : ℕ) (slots : List StackSlot) (cells : List Cell) → j < depth a → j < length s.frames
+stack_written : (e : Assigned) (a : State) (s : Machine.State) (j i : ℕ) (slots : List StackSlot)
+    (cells : List Cell) → j < depth a → j < length s.frames
     → StackMeans e slots cells → StackMeans e (stack_slots_of a i) (frame_at s.frames i).cells
-    → StackMeans e (stack_slots_of (with_frame_slots a j slots) i) (frame_at (with_cells s j cells).frames i).cells
+    → StackMeans e (stack_slots_of (with_frame_slots a j slots) i)
+    (frame_at (with_cells s j cells).frames i).cells
 stack_written e a s j i slots cells inside live new old =
     let f : AbstractFrame = with_slots (abstract_frame_at a j) slots in
     let g : CallFrame = record (frame_at s.frames j) { cells = cells } in
     elim (cases_eq i j) [
-      | inl here ↦ subst (λ k. StackMeans e (stack_slots_of (with_frame_slots a j slots) k) (frame_at (slice_set s.frames j g) k).cells) (sym here)
-          (subst (λ h. StackMeans e h.stack.slots (frame_at (slice_set s.frames j g) j).cells) (sym (abstract_frame_at-with_frame_same a j f inside))
-          (subst (λ h. StackMeans e slots h.cells) (sym (get_or-set_same s.frames j g (new_frame 0 0 []) live)) new))
-      | inr other ↦ subst (λ h. StackMeans e h.stack.slots (frame_at (slice_set s.frames j g) i).cells) (sym (abstract_frame_at-with_frame_other a j i f inside other))
-          (subst (λ h. StackMeans e (stack_slots_of a i) h.cells) (sym (get_or-set_other s.frames j i g (new_frame 0 0 []) other)) old)
+      | inl here ↦
+          subst (λ k.
+          StackMeans e (stack_slots_of (with_frame_slots a j slots) k)
+          (frame_at (slice_set s.frames j g) k).cells) (sym here)
+          (subst (λ h. StackMeans e h.stack.slots (frame_at (slice_set s.frames j g) j).cells)
+          (sym (abstract_frame_at-with_frame_same a j f inside))
+          (subst (λ h. StackMeans e slots h.cells)
+          (sym (get_or-set_same s.frames j g (new_frame 0 0 []) live)) new))
+      | inr other ↦
+          subst (λ h. StackMeans e h.stack.slots (frame_at (slice_set s.frames j g) i).cells)
+          (sym (abstract_frame_at-with_frame_other a j i f inside other))
+          (subst (λ h. StackMeans e (stack_slots_of a i) h.cells)
+          (sym (get_or-set_other s.frames j i g (new_frame 0 0 []) other)) old)
     ]
 
 -- the jth frame has other cells, and slots that mean them
-pub MeansBy-cells : (p : Program) (e : Assigned) (a : State) (s : Machine.State) (j : ℕ) (slots : List StackSlot) (cells : List Cell) → j < depth a
+pub MeansBy-cells : (p : Program) (e : Assigned) (a : State) (s : Machine.State) (j : ℕ)
+    (slots : List StackSlot) (cells : List Cell) → j < depth a
     → IsState p (with_cells s j cells) → StackMeans e slots cells → MeansBy p e a s
     → MeansBy p e (with_frame_slots a j slots) (with_cells s j cells)
 MeansBy-cells p e a s j slots cells inside is stack m =
@@ -150,212 +177,78 @@ MeansBy-cells p e a s j slots cells inside is stack m =
           ∙ sym (ap (λ fs. map (λ h. h.return_slot) fs) (frames_of-with_frame a j f inside)
           ∙ map-set_same (λ h. h.return_slot) (frames_of a) j f no_frame refl);
       pointer = m.pointer ∙ ap frame_pointer (sym last);
-      registers = λ k. subst (λ ks. Allows e (kind_at ks k) (value_at s.regs k)) (sym (registers-with_frame_slots a j slots)) (m.registers k);
+      registers =
+          λ k. subst (λ ks. Allows e (kind_at ks k) (value_at s.regs k))
+          (sym (registers-with_frame_slots a j slots)) (m.registers k);
       kept = λ i k below within.
-          subst (λ ks. Allows e (kind_at ks (6 + k)) (value_at (frame_at (slice_set s.frames j g) (suc i)).saved k))
+          subst (λ ks.
+          Allows e (kind_at ks (6 + k))
+          (value_at (frame_at (slice_set s.frames j g) (suc i)).saved k))
           (sym (kept_in_frame (λ h. h.registers) a j i f inside refl))
-          (subst (λ vs. Allows e (kind_at (kinds_of a i) (6 + k)) (value_at vs k)) (sym (kept_in_call (λ h. h.saved) s.frames j (suc i) g live refl))
+          (subst (λ vs. Allows e (kind_at (kinds_of a i) (6 + k)) (value_at vs k))
+          (sym (kept_in_call (λ h. h.saved) s.frames j (suc i) g live refl))
           (m.kept i k (omega arith) within));
-      stacks = λ i below. stack_written e a s j i slots cells inside live stack (m.stacks i (omega arith));
+      stacks =
+          λ i below.
+          stack_written e a s j i slots cells inside live stack (m.stacks i (omega arith));
     }
 
--- where it goes on, the state that is left means the machine's
+-- where the machine does not trap, its next state is a member of the state that is left
 abbrev pub IfLeft : Program → Assigned → State → Result Machine.State TrapReason → Type 0
 IfLeft p e b went = (t : Machine.State) × (went ≡ Ok t) × (IsState p t → MeansBy p e b t)
 
 -- bytes of a number are stored
-pub MeansBy-stores : (p : Program) (e : Assigned) (a : State) (s : Machine.State) (new : List StackSlot) (size : Size) (serial j at n : ℕ) (z by : ℤ)
-    → j < depth a → IsHere s serial j at (size_bytes size) z by → StoresBytes (stack_slots_of a j) at size new → MeansBy p e a s
+pub MeansBy-stores : (p : Program) (e : Assigned) (a : State) (s : Machine.State)
+    (new : List StackSlot) (size : Size) (serial j at n : ℕ) (z by : ℤ)
+    → j < depth a → IsHere s serial j at (size_bytes size) z by
+    → StoresBytes (stack_slots_of a j) at size new → MeansBy p e a s
     → IfLeft p e (with_frame_slots a j new)
     (store s size (Ptr (region.CallFrame serial) z) by (Num n))
 MeansBy-stores p e a s new size serial j at n z by inside here stores m =
-    let (cells, went, stack) = stores_here e s (stack_slots_of a j) new size serial j at n z by here (m.stacks j inside) stores in
+    let (cells, went, stack) =
+    stores_here e s (stack_slots_of a j) new size serial j at n z by here
+    (m.stacks j inside) stores in
     (with_cells s j cells, went, λ is. MeansBy-cells p e a s j new cells inside is stack m)
 
 -- a value is spilled
-pub MeansBy-spills : (p : Program) (e : Assigned) (a : State) (s : Machine.State) (new : List StackSlot) (serial j k : ℕ) (z by : ℤ) (kind : Kind) (v : Value)
-    → j < depth a → IsHere s serial j (8 * k) 8 z by → v ≢ value.Unset → Allows e kind v → Spills (stack_slots_of a j) k kind new → MeansBy p e a s
+pub MeansBy-spills : (p : Program) (e : Assigned) (a : State) (s : Machine.State)
+    (new : List StackSlot) (serial j k : ℕ) (z by : ℤ) (kind : Kind) (v : Value)
+    → j < depth a → IsHere s serial j (8 * k) 8 z by → v ≢ value.Unset → Allows e kind v
+    → Spills (stack_slots_of a j) k kind new → MeansBy p e a s
     → IfLeft p e (with_frame_slots a j new) (store s U64 (Ptr (region.CallFrame serial) z) by v)
 MeansBy-spills p e a s new serial j k z by kind v inside here set allowed spills m =
-    let (cells, went, stack) = spills_here e s (stack_slots_of a j) new serial j k z by kind v here set allowed (m.stacks j inside) spills in
+    let (cells, went, stack) =
+    spills_here e s (stack_slots_of a j) new serial j k z by kind v here set allowed
+    (m.stacks j inside) spills in
     (with_cells s j cells, went, λ is. MeansBy-cells p e a s j new cells inside is stack m)
 
 -- ---- a read of the jth frame
 
-cells_fit : (p : Program) (e : Assigned) (a : State) (s : Machine.State) (j : ℕ) → j < depth a → MeansBy p e a s
-    → All (IsCell (length p.maps) s.next_serial) (frame_at s.frames j).cells
+cells_fit : (p : Program) (e : Assigned) (a : State) (s : Machine.State) (j : ℕ) → j < depth a
+    → MeansBy p e a s → All (IsCell (length p.maps) s.next_serial) (frame_at s.frames j).cells
 cells_fit p e a s j inside m =
     let count = depth_is_length p e a s m in
-    let fits : IsCallFrame p s.next_serial (frame_at s.frames j) = m.is_state.frames j (new_frame 0 0 []) (omega arith) in
+    let fits : IsCallFrame p s.next_serial (frame_at s.frames j) =
+    m.is_state.frames j (new_frame 0 0 []) (omega arith) in
     fits.cells
 
--- bytes are loaded: their number is one of those that `load` answers
-pub MeansBy-loads : (p : Program) (e : Assigned) (a : State) (s : Machine.State) (size : Size) (serial j at : ℕ) (z by : ℤ) (numbers : Scalar)
-    → j < depth a → IsHere s serial j at (size_bytes size) z by → LoadsNumber (stack_slots_of a j) at size (Some numbers) → MeansBy p e a s
+-- bytes are loaded: their number is one of those that `load` returns
+pub MeansBy-loads : (p : Program) (e : Assigned) (a : State) (s : Machine.State) (size : Size)
+    (serial j at : ℕ) (z by : ℤ) (numbers : Scalar)
+    → j < depth a → IsHere s serial j at (size_bytes size) z by
+    → LoadsNumber (stack_slots_of a j) at size (Some numbers) → MeansBy p e a s
     → (n : ℕ) × (load_number s size (Ptr (region.CallFrame serial) z) by ≡ Ok n) × Has numbers n
 MeansBy-loads p e a s size serial j at z by numbers inside here loads m =
-    loads_here e s (stack_slots_of a j) size serial j at (length p.maps) s.next_serial z by numbers here (cells_fit p e a s j inside m) (m.stacks j inside) loads
+    loads_here e s (stack_slots_of a j) size serial j at
+    (length p.maps) s.next_serial z by numbers here (cells_fit p e a s j inside m)
+    (m.stacks j inside) loads
 
 -- a slot is read back: its value is one that the kind allows
-pub MeansBy-fills : (p : Program) (e : Assigned) (a : State) (s : Machine.State) (serial j k : ℕ) (z by : ℤ) (kind : Kind)
-    → j < depth a → IsHere s serial j (8 * k) 8 z by → LoadsSlot (stack_slots_of a j) k (Some kind) → MeansBy p e a s
+pub MeansBy-fills : (p : Program) (e : Assigned) (a : State) (s : Machine.State) (serial j k : ℕ)
+    (z by : ℤ) (kind : Kind)
+    → j < depth a → IsHere s serial j (8 * k) 8 z by → LoadsSlot (stack_slots_of a j) k (Some kind)
+    → MeansBy p e a s
     → (v : Value) × (load s U64 (Ptr (region.CallFrame serial) z) by ≡ Ok v) × Allows e kind v
 MeansBy-fills p e a s serial j k z by kind inside here fills m =
-    fills_here e s (stack_slots_of a j) serial j k (length p.maps) s.next_serial z by kind here (cells_fit p e a s j inside m) (m.stacks j inside) fills
-
--- ---- every frame
-
-pub frames_of-map : (g : AbstractFrame → AbstractFrame) (a : State) → frames_of (map_frames g a) ≡ map g (frames_of a)
-frames_of-map g a = sym (map-append g a.callers.items (a.innermost ∷ []))
-
-pub abstract_frame_at-map : (g : AbstractFrame → AbstractFrame) (a : State) (j : ℕ) → j < depth a → abstract_frame_at (map_frames g a) j ≡ g (abstract_frame_at a j)
-abstract_frame_at-map g a j inside =
-    let long = length-frames_of a in
-    ap (λ fs. slice_index_or fs j no_frame) (frames_of-map g a) ∙ get_or-map g (frames_of a) j no_frame no_frame (omega arith)
-
-pub same_returns : (g : AbstractFrame → AbstractFrame) (fs : List AbstractFrame) → ((f : AbstractFrame) → (g f).return_slot ≡ f.return_slot)
-    → map (λ f. f.return_slot) (map g fs) ≡ map (λ f. f.return_slot) fs
-same_returns g [] same = refl
-same_returns g (f ∷ fs) same = rw (same f, same_returns g fs same) refl
-
--- the same is done to each frame, and in the machine maps may change
-MeansBy-map : (p : Program) (e f : Assigned) (g : AbstractFrame → AbstractFrame) (a : State) (s t : Machine.State) → t.slot ≡ s.slot
-    → t.regs ≡ s.regs → t.frames ≡ s.frames → IsState p t → AssignmentFits f t → ((x : AbstractFrame) → (g x).return_slot ≡ x.return_slot)
-    → ((x : AbstractFrame) → FrameKeeps e f x (g x)) → MeansBy p e a s → MeansBy p f (map_frames g a) t
-MeansBy-map p e f g a s t slot regs frames is of same each m =
-    MeansBy-onto p e f a (map_frames g a) s t slot regs frames is of refl
-    (ap (λ fs. map (λ f. f.return_slot) fs) (frames_of-map g a) ∙ same_returns g (frames_of a) same)
-    (λ j below. subst (FrameKeeps e f (abstract_frame_at a j)) (sym (abstract_frame_at-map g a j below)) (each (abstract_frame_at a j))) m
-
--- ---- more known of every copy of an identity
-
-SlotMeans-with : (e f : Assigned) (g : Kind → Kind) (t : StackSlot) (cs : List Cell) → ((k : Kind) (v : Value) → Allows e k v → Allows f (g k) v)
-    → SlotMeans e t cs → SlotMeans f (with_spilled g t) cs
-SlotMeans-with e f g (Written marks) cs each h = h
-SlotMeans-with e f g (Spilled k) cs each h = SlotMeans-spilled e f k (g k) cs (each k) h
-
-FrameKeeps-kinds : (e f : Assigned) (g : Kind → Kind) (x : AbstractFrame) → g Unset ≡ Unset → ((k : Kind) (v : Value) → Allows e k v → Allows f (g k) v)
-    → FrameKeeps e f x (with_kinds g x)
-FrameKeeps-kinds e f g x unset each = record {
-  registers = λ k v h. let same : kind_at (map g x.registers) k ≡ g (kind_at x.registers k) =
-      ap (slice_index_or (map g x.registers) k) (sym unset) ∙ get_or-map_default g x.registers k Unset in
-      subst (λ l. Allows f l v) (sym same) (each (kind_at x.registers k) v h);
-  slots = λ k cs inside h. subst (λ t. SlotMeans f t cs) (sym (get_or-map_default (with_spilled g) x.stack.slots k (Written 0)))
-      (SlotMeans-with e f g (slot_at x.stack.slots k) cs each h);
-}
-
--- kinds that still allow what they allowed
-pub MeansBy-map_kinds : (p : Program) (e : Assigned) (g : Kind → Kind) (a : State) (s : Machine.State) → g Unset ≡ Unset
-    → ((k : Kind) (v : Value) → Allows e k v → Allows e (g k) v) → MeansBy p e a s → MeansBy p e (map_kinds g a) s
-MeansBy-map_kinds p e g a s unset each m =
-    MeansBy-map p e e (with_kinds g) a s s refl refl refl m.is_state m.assigned (λ x. refl) (λ x. FrameKeeps-kinds e e g x unset each) m
-
-proved_allows : (e : Assigned) (i n identity proved : ℕ) (fixed least greatest : ℤ) (v : Value) (b : Bool) → (identity == i) ≡ b
-    → (e.offset i +ℤ pos n) ≤ℤ pos e.packet_length → AllowsPacket e fixed identity least greatest proved v
-    → AllowsPacket e fixed identity least greatest (if b then max proved n else proved) v
-proved_allows e i n identity proved fixed least greatest v false is inside h = h
-proved_allows e i n identity proved fixed least greatest v true is inside h =
-    let same : identity ≡ i = grind (arith, nat_tests) in
-    let here : (e.offset identity +ℤ pos n) ≤ℤ pos e.packet_length = rw same inside in
-    record {
-      points = h.points;
-      from = h.from;
-      to = h.to;
-      inside = λ some. elim (cases_eq proved 0) [
-        | inl none ↦ omega (arith, ints, here)
-        | inr other ↦ omega (arith, ints, here, h.inside (omega arith))
-      ];
-    }
-
-Allows-proved : (e : Assigned) (i n : ℕ) → (e.offset i +ℤ pos n) ≤ℤ pos e.packet_length → (k : Kind) (v : Value) → Allows e k v
-    → Allows e (proved_kind i n k) v
-Allows-proved e i n inside (Packet fixed identity least greatest proved) v h =
-    proved_allows e i n identity proved fixed least greatest v (identity == i) refl inside h
-Allows-proved e i n inside k v h = h
-
--- n bytes after the identity's number are in the packet
-pub MeansBy-proved : (p : Program) (e : Assigned) (a : State) (s : Machine.State) (i n : ℕ) → (e.offset i +ℤ pos n) ≤ℤ pos (length s.packet)
-    → MeansBy p e a s → MeansBy p e (map_kinds (proved_kind i n) a) s
-MeansBy-proved p e a s i n inside m =
-    MeansBy-map_kinds p e (proved_kind i n) a s refl
-    (Allows-proved e i n (subst (λ l. (e.offset i +ℤ pos n) ≤ℤ pos l) (sym m.assigned.length_is) inside)) m
-
--- whether values of the identity are null
-abbrev pub IsNull : Option ℕ → Bool → Type 0
-IsNull None null = null ≡ true
-IsNull (Some n) null = null ≡ false
-
-tested_allows : (e : Assigned) (m : ℕ) (o : Option ℕ) (null : Bool) (zeros : Scalar) (v : Value) → IsNull o null → Has zeros 0
-    → AllowsOrNull e m o v → Allows e (tested_value null zeros m) v
-tested_allows e m None true zeros v is has h = (0, h, has)
-tested_allows e m None false zeros v is has h = absurd (cc)
-tested_allows e m (Some n) true zeros v is has h = absurd (cc)
-tested_allows e m (Some n) false zeros v is has h =
-    record { serial = n; offset = pos 0; points = h.0; from = omega (arith, ints); to = omega (arith, ints); live = h.1 }
-
-tested_if : (e : Assigned) (i m identity : ℕ) (null : Bool) (zeros : Scalar) (v : Value) (b : Bool) → (identity == i) ≡ b
-    → IsNull (e.value i) null → Has zeros 0 → AllowsOrNull e m (e.value identity) v
-    → Allows e (if b then tested_value null zeros m else MapValueOrNull m identity) v
-tested_if e i m identity null zeros v false is known has h = h
-tested_if e i m identity null zeros v true is known has h =
-    let same : identity ≡ i = grind (arith, nat_tests) in
-    tested_allows e m (e.value i) null zeros v known has (subst (λ n. AllowsOrNull e m (e.value n) v) same h)
-
-Allows-tested : (e : Assigned) (i : ℕ) (null : Bool) (zeros : Scalar) → IsNull (e.value i) null → Has zeros 0 → (k : Kind) (v : Value)
-    → Allows e k v → Allows e (tested_kind i null zeros k) v
-Allows-tested e i null zeros known has (MapValueOrNull m identity) v h = tested_if e i m identity null zeros v (identity == i) refl known has h
-Allows-tested e i null zeros known has k v h = h
-
--- values of the identity are null, or point to a live value
-pub MeansBy-tested : (p : Program) (e : Assigned) (a : State) (s : Machine.State) (i : ℕ) (null : Bool) (zeros : Scalar) → IsNull (e.value i) null
-    → Has zeros 0 → MeansBy p e a s → MeansBy p e (map_kinds (tested_kind i null zeros) a) s
-MeansBy-tested p e a s i null zeros known has m =
-    MeansBy-map_kinds p e (tested_kind i null zeros) a s refl (Allows-tested e i null zeros known has) m
-
--- ---- a map forgotten everywhere
-
-forgotten_null : (e : Assigned) (maps : List Content) (m n : ℕ) (o : Option ℕ) (v : Value) → n ≢ m → KeepsOtherMaps m e.maps maps
-    → AllowsOrNull e n o v → AllowsOrNull (with_maps e maps) n o v
-forgotten_null e maps m n None v other keeps h = h
-forgotten_null e maps m n (Some serial) v other keeps h = (h.0, keeps n serial other h.1)
-
-forgotten_or_null : (e : Assigned) (maps : List Content) (m n i : ℕ) (v : Value) (b : Bool) → (n == m) ≡ b → KeepsOtherMaps m e.maps maps
-    → Allows e (MapValueOrNull n i) v → Allows (with_maps e maps) (kind_in (if b then Written 0 else Spilled (MapValueOrNull n i))) v
-forgotten_or_null e maps m n i v true is keeps h = tt
-forgotten_or_null e maps m n i v false is keeps h =
-    let other : n ≢ m = grind (arith, nat_tests) in
-    forgotten_null e maps m n (e.value i) v other keeps h
-
-forgotten_value : (e : Assigned) (maps : List Content) (m n : ℕ) (l g : ℤ) (v : Value) (b : Bool) → (n == m) ≡ b → KeepsOtherMaps m e.maps maps
-    → Allows e (MapValue n l g) v → Allows (with_maps e maps) (kind_in (if b then Written 0 else Spilled (MapValue n l g))) v
-forgotten_value e maps m n l g v true is keeps h = tt
-forgotten_value e maps m n l g v false is keeps h =
-    let other : n ≢ m = grind (arith, nat_tests) in
-    record { serial = h.serial; offset = h.offset; points = h.points; from = h.from; to = h.to; live = keeps n h.serial other h.live }
-
-Allows-forgotten : (e : Assigned) (maps : List Content) (m : ℕ) (k : Kind) (v : Value) → KeepsOtherMaps m e.maps maps → Allows e k v
-    → Allows (with_maps e maps) (forgotten_register m k) v
-Allows-forgotten e maps m (MapValue n l g) v keeps h = forgotten_value e maps m n l g v (n == m) refl keeps h
-Allows-forgotten e maps m (MapValueOrNull n i) v keeps h = forgotten_or_null e maps m n i v (n == m) refl keeps h
-Allows-forgotten e maps m (Packet f i l g p) v keeps h = record { points = h.points; from = h.from; to = h.to; inside = h.inside }
-Allows-forgotten e maps m k v keeps h = h
-
-FrameKeeps-forgotten : (e : Assigned) (maps : List Content) (m : ℕ) (x : AbstractFrame) → KeepsOtherMaps m e.maps maps
-    → FrameKeeps e (with_maps e maps) x (forgotten_frame m x)
-FrameKeeps-forgotten e maps m x keeps = record {
-  registers = λ k v h. subst (λ l. Allows (with_maps e maps) l v) (sym (get_or-map_default (forgotten_register m) x.registers k Unset))
-      (Allows-forgotten e maps m (kind_at x.registers k) v keeps h);
-  slots = λ k cs inside h. subst (λ t. SlotMeans (with_maps e maps) t cs) (sym (get_or-map_default (forgotten_slot m) x.stack.slots k (Written 0)))
-      (SlotMeans-forgotten e maps m (slot_at x.stack.slots k) cs keeps h);
-}
-
--- whatever becomes of the values of the map
-pub MeansBy-forgets : (p : Program) (e : Assigned) (a : State) (s : Machine.State) (m : ℕ) (maps : List Content) → KeepsOtherMaps m s.maps maps
-    → IsState p (record s { maps = maps }) → MeansBy p e a s
-    → MeansBy p (with_maps e maps) (forgotten_in m a) (record s { maps = maps })
-MeansBy-forgets p e a s m maps keeps is means =
-    let of = means.assigned in
-    let kept : KeepsOtherMaps m e.maps maps = subst (λ l. KeepsOtherMaps m l maps) (sym of.contents) keeps in
-    MeansBy-map p e (with_maps e maps) (forgotten_frame m) a s (record s { maps = maps }) refl refl refl is
-    (record { none = of.none; length_is = of.length_is; serials = of.serials; contents = refl }) (λ x. refl)
-    (λ x. FrameKeeps-forgotten e maps m x kept) means
+    fills_here e s (stack_slots_of a j) serial j k (length p.maps) s.next_serial z by kind here
+    (cells_fit p e a s j inside m) (m.stacks j inside) fills

@@ -1,5 +1,5 @@
--- Places in call frames: each is within one stack slot, and a frame pointer of a member leads to the
--- cells there.
+-- Places in call frames: each is within one stack slot, and a frame pointer of a member leads to
+-- the cells there.
 use Rattle.std.specs.Prelude.{◌≡◌, ◌≢◌, ℕ, ◌+◌, ◌-◌, ◌*◌, ◌/◌, ◌%◌, ◌<◌, ◌≤◌, ◌==◌, ℤ, ◌+ℤ◌, nat_lt, true, List, [], ◌++◌, map, length, slice_get, slice_index_or, Some, refl}
 use Rattle.std.specs.List.{flat_map, position_or_len}
 use Rattle.std.proofs.Common.{sym, ap, ◌∙◌, arith}
@@ -32,7 +32,8 @@ place_below z U16 at h = let i = h.inside in omega arith
 place_below z U32 at h = let i = h.inside in omega arith
 place_below z U64 at h = let i = h.inside in omega arith
 
-pub place_in_slot : (z : ℤ) (size : Size) (at : ℕ) → IsPlace z size at → at % 8 + size_bytes size ≤ 8
+pub place_in_slot : (z : ℤ) (size : Size) (at : ℕ) → IsPlace z size at
+    → at % 8 + size_bytes size ≤ 8
 place_in_slot z U8 at h = omega arith
 place_in_slot z U16 at h = let a = h.aligned in omega arith
 place_in_slot z U32 at h = let a = h.aligned in omega arith
@@ -45,25 +46,30 @@ place_whole z at h = let a = h.aligned in omega arith
 -- ---- frame pointers
 
 -- serials are given once, so the serial of the jth frame finds that frame
-pub frame_index-serial : (p : Program) (s : Machine.State) (j n : ℕ) → IsState p s → slice_get (map (λ f. f.serial) s.frames) j ≡ Some n
-    → frame_index s.frames n ≡ Some j
+pub frame_index-serial : (p : Program) (s : Machine.State) (j n : ℕ) → IsState p s
+    → slice_get (map (λ f. f.serial) s.frames) j ≡ Some n → frame_index s.frames n ≡ Some j
 frame_index-serial p s j n is found =
     let fs : List CallFrame = s.frames in
     let none : CallFrame = new_frame 0 0 [] in
     let values : List ℕ = flat_map value_serials s.maps in
     let serials : List ℕ = map (λ f. f.serial) fs in
     let count : length serials ≡ length fs = length-map fs (λ f. f.serial) in
-    let long : length (values ++ serials) ≡ length values + length serials = length-append values serials in
+    let long : length (values ++ serials) ≡ length values + length serials =
+    length-append values serials in
     let inside : j < length serials = slice_get_within serials j n found in
     let serial_at : (k : ℕ) → k < length fs → slice_index_or serials k 0 ≡ (frame_at fs k).serial =
     (λ k below. get_or-map (λ f. f.serial) fs k none 0 below) in
-    let given_at : (k : ℕ) → slice_index_or (values ++ serials) (length values + k) 0 ≡ slice_index_or serials k 0 =
+    let given_at : (k : ℕ)
+    → slice_index_or (values ++ serials) (length values + k) 0 ≡ slice_index_or serials k 0 =
     (λ k. let back : (length values + k) - length values ≡ k = omega arith in
-    get_or-append_right values serials (length values) (length values + k) 0 refl (omega arith) ∙ ap (λ i. slice_index_or serials i 0) back) in
-    let here : (frame_at fs j).serial ≡ n = sym (serial_at j (omega arith)) ∙ get_or_from_slice_get serials j n 0 found in
+    get_or-append_right values serials (length values) (length values + k) 0 refl (omega arith)
+    ∙ ap (λ i. slice_index_or serials i 0) back) in
+    let here : (frame_at fs j).serial ≡ n = sym (serial_at j (omega arith))
+    ∙ get_or_from_slice_get serials j n 0 found in
     let before : (k : ℕ) → k < j → (frame_at fs k).serial ≢ n =
     (λ k below same. is.once (length values + k) (length values + j) 0 (omega arith) (omega arith)
-    (given_at k ∙ serial_at k (omega arith) ∙ same ∙ sym here ∙ sym (serial_at j (omega arith)) ∙ sym (given_at j))) in
+    (given_at k ∙ serial_at k (omega arith) ∙ same ∙ sym here ∙ sym (serial_at j (omega arith))
+    ∙ sym (given_at j))) in
     let first : position_or_len (λ f. f.serial == n) fs ≡ j =
     position_or_len_is (λ f. f.serial == n) fs j none (omega arith)
     (λ k below. let other : (frame_at fs k).serial ≢ n = before k below in grind (arith, nat_tests))
@@ -72,13 +78,19 @@ frame_index-serial p s j n is found =
     rw (first, test) refl
 
 -- the bytes of a place are there, where the serial of the jth frame is given
-pub IsHere-place : (p : Program) (e : Assigned) (a : State) (s : Machine.State) (size : Size) (serial j at : ℕ) (z by : ℤ) → MeansBy p e a s
-    → slice_get e.frames j ≡ Some serial → IsPlace (z +ℤ by) size at → IsHere s serial j at (size_bytes size) z by
+pub IsHere-place : (p : Program) (e : Assigned) (a : State) (s : Machine.State) (size : Size)
+    (serial j at : ℕ) (z by : ℤ) → MeansBy p e a s
+    → slice_get e.frames j ≡ Some serial → IsPlace (z +ℤ by) size at
+    → IsHere s serial j at (size_bytes size) z by
 IsHere-place p e a s size serial j at z by m found h =
-    let mine : slice_get (map (λ f. f.serial) s.frames) j ≡ Some serial = rw (sym m.assigned.serials) found in
-    let count : length (map (λ f. f.serial) s.frames) ≡ length s.frames = length-map s.frames (λ f. f.serial) in
-    let within : j < length (map (λ f. f.serial) s.frames) = slice_get_within (map (λ f. f.serial) s.frames) j serial mine in
-    let fits : IsCallFrame p s.next_serial (frame_at s.frames j) = m.is_state.frames j (new_frame 0 0 []) (omega arith) in
+    let mine : slice_get (map (λ f. f.serial) s.frames) j ≡ Some serial =
+    rw (sym m.assigned.serials) found in
+    let count : length (map (λ f. f.serial) s.frames) ≡ length s.frames =
+    length-map s.frames (λ f. f.serial) in
+    let within : j < length (map (λ f. f.serial) s.frames) =
+    slice_get_within (map (λ f. f.serial) s.frames) j serial mine in
+    let fits : IsCallFrame p s.next_serial (frame_at s.frames j) =
+    m.is_state.frames j (new_frame 0 0 []) (omega arith) in
     let whole : length (frame_at s.frames j).cells ≡ frame_size = fits.whole in
     let inside = h.inside in
     record {
@@ -87,12 +99,15 @@ IsHere-place p e a s size serial j at z by m found h =
       inside = omega arith;
     }
 
--- such a frame is live
-pub live_frame : (p : Program) (e : Assigned) (a : State) (s : Machine.State) (serial j : ℕ) → MeansBy p e a s → slice_get e.frames j ≡ Some serial
-    → j < depth a
+-- a frame whose serial is in the assignment is live
+pub live_frame : (p : Program) (e : Assigned) (a : State) (s : Machine.State) (serial j : ℕ)
+    → MeansBy p e a s → slice_get e.frames j ≡ Some serial → j < depth a
 live_frame p e a s serial j m found =
-    let mine : slice_get (map (λ f. f.serial) s.frames) j ≡ Some serial = rw (sym m.assigned.serials) found in
-    let count : length (map (λ f. f.serial) s.frames) ≡ length s.frames = length-map s.frames (λ f. f.serial) in
+    let mine : slice_get (map (λ f. f.serial) s.frames) j ≡ Some serial =
+    rw (sym m.assigned.serials) found in
+    let count : length (map (λ f. f.serial) s.frames) ≡ length s.frames =
+    length-map s.frames (λ f. f.serial) in
     let deep = depth_is_length p e a s m in
-    let within : j < length (map (λ f. f.serial) s.frames) = slice_get_within (map (λ f. f.serial) s.frames) j serial mine in
+    let within : j < length (map (λ f. f.serial) s.frames) =
+    slice_get_within (map (λ f. f.serial) s.frames) j serial mine in
     omega arith

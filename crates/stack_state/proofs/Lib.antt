@@ -1,6 +1,7 @@
 pub mod CallLaws
 pub mod CellLaws
 pub mod EffectLaws
+pub mod KindEffects
 pub mod EndLaws
 pub mod ExitLaws
 pub mod FactLaws

@@ -6,8 +6,8 @@ use Rattle.std.proofs.lemmas.Bool.{cases_eq, cases_lt}
 use Rattle.std.proofs.lemmas.List.{length-set, get_or_past, get_or-set_same, get_or-set_other}
 use Rattle.reg_state.specs.declared.kinds.Kind.{Kind}
 use Rattle.reg_state.specs.declared.kinds.Kind.TheVariants.{Unset}
-use Rattle.stack_state.specs.declared.identities.Names.{Names}
-use Rattle.stack_state.specs.declared.identities.Names.TheVariants.{Packets, Nulls}
+use Rattle.stack_state.specs.declared.identities.IdentitySort.{IdentitySort}
+use Rattle.stack_state.specs.declared.identities.IdentitySort.TheVariants.{Packets, Nulls}
 use Rattle.stack_state.specs.declared.slots.StackSlot.{StackSlot}
 use Rattle.stack_state.specs.declared.slots.StackSlot.TheVariants.{Written}
 use Rattle.stack_state.specs.declared.states.AbstractFrame.{AbstractFrame}
@@ -33,7 +33,8 @@ marked-set (true ∷ marks) (suc i) = let rest = marked-set marks i in omega ari
 marked-set (false ∷ marks) (suc i) = marked-set marks i
 
 -- where all are marked, there are that many marks
-pub marked-all : (marks : List Bool) → ((i : ℕ) → i < length marks → is_marked marks i ≡ true) → marked marks ≡ length marks
+pub marked-all : (marks : List Bool) → ((i : ℕ) → i < length marks → is_marked marks i ≡ true)
+    → marked marks ≡ length marks
 unfolding marked
 marked-all [] all = refl
 marked-all (true ∷ marks) all = ap suc (marked-all marks (λ i inside. all (suc i) (omega arith)))
@@ -51,13 +52,20 @@ marked-room (false ∷ marks) room all =
     let full = marked-all marks (λ i inside. all (suc i) (omega arith) (omega arith)) in
     absurd (omega arith)
 
--- nothing more is asked, and nothing marked
-pub Marks-none : (IsFree : ℕ → Type 0) (marks : List Bool) → ((i : ℕ) → IsFree i) → Marks IsFree 0 marks marks
+-- no place is asked, and nothing is marked
+pub Marks-none : (IsFree : ℕ → Type 0) (marks : List Bool) → ((i : ℕ) → IsFree i)
+    → Marks IsFree 0 marks marks
 Marks-none IsFree marks all =
-    record { named = λ i is. inl is; free = λ i inside not. (not, all i); few = omega arith; long = refl }
+    record {
+      named = λ i is. inl is;
+      free = λ i inside not. (not, all i);
+      few = omega arith;
+      long = refl;
+    }
 
 -- one after the other, where what is free for both is free for all
-pub Marks-then : (P Q R : ℕ → Type 0) (m n : ℕ) (old mid new : List Bool) → ((i : ℕ) → P i → Q i → R i) → ((i : ℕ) → R i → P i)
+pub Marks-then : (P Q R : ℕ → Type 0) (m n : ℕ) (old mid new : List Bool)
+    → ((i : ℕ) → P i → Q i → R i) → ((i : ℕ) → R i → P i)
     → ((i : ℕ) → R i → Q i) → Marks P m old mid → Marks Q n mid new → Marks R (m + n) old new
 Marks-then P Q R m n old mid new both left right first second =
     let short = first.few in
@@ -78,11 +86,13 @@ Marks-then P Q R m n old mid new both left right first second =
       long = second.long ∙ first.long;
     }
 
--- the same question, said otherwise
-pub Marks-same : (P Q : ℕ → Type 0) (n : ℕ) (old new : List Bool) → ((i : ℕ) → P i → Q i) → ((i : ℕ) → Q i → P i)
-    → Marks P n old new → Marks Q n old new
+-- the same marks, for another relation that says the same
+pub Marks-same : (P Q : ℕ → Type 0) (n : ℕ) (old new : List Bool) → ((i : ℕ) → P i → Q i)
+    → ((i : ℕ) → Q i → P i) → Marks P n old new → Marks Q n old new
 Marks-same P Q n old new on back h = record {
-  named = λ i is. elim (h.named i is) [ inl before ↦ inl before | inr not ↦ inr (λ free. not (back i free)) ];
+  named =
+      λ i is. elim (h.named i is)
+      [ inl before ↦ inl before | inr not ↦ inr (λ free. not (back i free)) ];
   free = λ i inside not. let (before, p) = h.free i inside not in (before, on i p);
   few = h.few;
   long = h.long;
@@ -93,47 +103,57 @@ pub Marks-first : (Free : ℕ → ℕ → Type 0) (marks : List Bool) → Marks 
 Marks-first Free marks = Marks-none (AreFree Free 0) marks (λ i k below. absurd (omega arith))
 
 -- one place more
-pub Marks-more : (Free : ℕ → ℕ → Type 0) (k m n : ℕ) (old mid new : List Bool) → Marks (AreFree Free k) m old mid
+pub Marks-more : (Free : ℕ → ℕ → Type 0) (k m n : ℕ) (old mid new : List Bool)
+    → Marks (AreFree Free k) m old mid
     → Marks (Free k) n mid new → Marks (AreFree Free (k + 1)) (m + n) old new
 Marks-more Free k m n old mid new =
     Marks-then (AreFree Free k) (Free k) (AreFree Free (k + 1)) m n old mid new
-    (λ i before here. below_more (λ j. Free j i) k before here) (λ i all j below. all j (omega arith)) (λ i all. all k (omega arith))
+    (λ i before here. below_more (λ j. Free j i) k before here)
+    (λ i all j below. all j (omega arith)) (λ i all. all k (omega arith))
 
 -- Unset names none
-unset_names : (names : Names) (i : ℕ) → named_by names Unset ≢ Some i
+unset_names : (sort : IdentitySort) (i : ℕ) → named_by sort Unset ≢ Some i
 unset_names Packets i = λ e. absurd (cc)
 unset_names Nulls i = λ e. absurd (cc)
 
 -- past the last register, and past the last slot, no kind names one
-pub Marks-registers : (names : Names) (kinds : List Kind) (n m : ℕ) (old new : List Bool) → length kinds ≤ n → Marks (AreFree (NamesOther names kinds) n) m old new
-    → Marks (λ i. (k : ℕ) → NamesOther names kinds k i) m old new
-Marks-registers names kinds n m old new all =
-    Marks-same (AreFree (NamesOther names kinds) n) (λ i. (k : ℕ) → NamesOther names kinds k i) m old new
+pub Marks-registers : (sort : IdentitySort) (kinds : List Kind) (n m : ℕ) (old new : List Bool)
+    → length kinds ≤ n → Marks (AreFree (NamesOther sort kinds) n) m old new
+    → Marks (λ i. (k : ℕ) → NamesOther sort kinds k i) m old new
+Marks-registers sort kinds n m old new all =
+    Marks-same (AreFree (NamesOther sort kinds) n)
+    (λ i. (k : ℕ) → NamesOther sort kinds k i) m old new
     (λ i below k. elim (cases_lt k n) [
       | inl l ↦ below k l
-      | inr past ↦ rw (get_or_past kinds k Unset (omega arith)) (unset_names names i)
+      | inr past ↦ rw (get_or_past kinds k Unset (omega arith)) (unset_names sort i)
     ]) (λ i free k below. free k)
 
-pub Marks-slots : (names : Names) (slots : List StackSlot) (n m : ℕ) (old new : List Bool) → length slots ≤ n → Marks (AreFree (HoldsOther names slots) n) m old new
-    → Marks (λ i. (k : ℕ) → HoldsOther names slots k i) m old new
-Marks-slots names slots n m old new all =
-    Marks-same (AreFree (HoldsOther names slots) n) (λ i. (k : ℕ) → HoldsOther names slots k i) m old new
+pub Marks-slots : (sort : IdentitySort) (slots : List StackSlot) (n m : ℕ) (old new : List Bool)
+    → length slots ≤ n → Marks (AreFree (HoldsOther sort slots) n) m old new
+    → Marks (λ i. (k : ℕ) → HoldsOther sort slots k i) m old new
+Marks-slots sort slots n m old new all =
+    Marks-same (AreFree (HoldsOther sort slots) n)
+    (λ i. (k : ℕ) → HoldsOther sort slots k i) m old new
     (λ i below k. elim (cases_lt k n) [
       | inl l ↦ below k l
-      | inr past ↦ rw (get_or_past slots k (Written 0) (omega arith)) (unset_names names i)
+      | inr past ↦ rw (get_or_past slots k (Written 0) (omega arith)) (unset_names sort i)
     ]) (λ i free k below. free k)
 
 -- both of a call frame
-pub Marks-frame : (names : Names) (f : AbstractFrame) (m n : ℕ) (old mid new : List Bool) → Marks (λ i. (k : ℕ) → NamesOther names f.registers k i) m old mid
-    → Marks (λ i. (k : ℕ) → HoldsOther names f.stack.slots k i) n mid new → Marks (IsFreshIn names f) (m + n) old new
-Marks-frame names f m n old mid new =
-    Marks-then (λ i. (k : ℕ) → NamesOther names f.registers k i) (λ i. (k : ℕ) → HoldsOther names f.stack.slots k i) (IsFreshIn names f) m n old mid new
+pub Marks-frame : (sort : IdentitySort) (f : AbstractFrame) (m n : ℕ) (old mid new : List Bool)
+    → Marks (λ i. (k : ℕ) → NamesOther sort f.registers k i) m old mid
+    → Marks (λ i. (k : ℕ) → HoldsOther sort f.stack.slots k i) n mid new
+    → Marks (IsFreshIn sort f) (m + n) old new
+Marks-frame sort f m n old mid new =
+    Marks-then (λ i. (k : ℕ) → NamesOther sort f.registers k i)
+    (λ i. (k : ℕ) → HoldsOther sort f.stack.slots k i) (IsFreshIn sort f) m n old mid new
     (λ i r s. record { registers = r; slots = s }) (λ i free. free.registers) (λ i free. free.slots)
 
 -- of a kind that names the identity
-pub Marks-named : (names : Names) (k : Kind) (i : ℕ) (marks : List Bool) → named_by names k ≡ Some i → i < length marks
-    → Marks (λ j. named_by names k ≢ Some j) 1 marks (slice_set marks i true)
-Marks-named names k i marks is inside = record {
+pub Marks-named : (sort : IdentitySort) (k : Kind) (i : ℕ) (marks : List Bool)
+    → named_by sort k ≡ Some i
+    → i < length marks → Marks (λ j. named_by sort k ≢ Some j) 1 marks (slice_set marks i true)
+Marks-named sort k i marks is inside = record {
   named = λ j m. elim (cases_eq j i) [
     | inl same ↦ inr (λ free. free (is ∙ ap Some (sym same)))
     | inr other ↦ inl (sym (get_or-set_other marks i j true false other) ∙ m)
@@ -147,55 +167,77 @@ Marks-named names k i marks is inside = record {
 }
 
 -- of a kind that names none so low
-pub Marks-other : (names : Names) (k : Kind) (marks : List Bool) → ((i : ℕ) → i < length marks → named_by names k ≢ Some i)
-    → Marks (λ j. named_by names k ≢ Some j) 1 marks marks
-Marks-other names k marks none =
-    record { named = λ j m. inl m; free = λ j inside not. (not, none j inside); few = omega arith; long = refl }
+pub Marks-other : (sort : IdentitySort) (k : Kind) (marks : List Bool)
+    → ((i : ℕ) → i < length marks → named_by sort k ≢ Some i)
+    → Marks (λ j. named_by sort k ≢ Some j) 1 marks marks
+Marks-other sort k marks none =
+    record {
+      named = λ j m. inl m;
+      free = λ j inside not. (not, none j inside);
+      few = omega arith;
+      long = refl;
+    }
 
 -- an empty frame names none
-nothing_names : (names : Names) (i : ℕ) → IsFreshIn names no_frame i
-nothing_names names i = record { registers = λ k. unset_names names i; slots = λ k. unset_names names i }
+nothing_names : (sort : IdentitySort) (i : ℕ) → IsFreshIn sort no_frame i
+nothing_names sort i =
+    record { registers = λ k. unset_names sort i; slots = λ k. unset_names sort i }
 
-fresh_at : (names : Names) (a : State) (i j : ℕ) → AreFree (IsFreshAt names a.callers.items) (length a.callers.items) i → IsFreshIn names a.innermost i → IsFreshIn names (abstract_frame_at a j) i
-fresh_at names a i j callers innermost =
+fresh_at : (sort : IdentitySort) (a : State) (i j : ℕ)
+    → AreFree (IsFreshAt sort a.callers.items) (length a.callers.items) i
+    → IsFreshIn sort a.innermost i → IsFreshIn sort (abstract_frame_at a j) i
+fresh_at sort a i j callers innermost =
     let n : ℕ = length a.callers.items in
     let long = length-frames_of a in
     elim (cases_lt j n) [
-      | inl below ↦ subst (λ f. IsFreshIn names f i) (sym (abstract_frame_at-caller a j (omega arith))) (callers j below)
+      | inl below ↦
+          subst (λ f. IsFreshIn sort f i) (sym (abstract_frame_at-caller a j (omega arith)))
+          (callers j below)
       | inr not ↦ elim (cases_eq j n) [
-        | inl last ↦ subst (λ f. IsFreshIn names f i) (sym (ap (abstract_frame_at a) last ∙ abstract_frame_at-innermost a)) innermost
-        | inr past ↦ subst (λ f. IsFreshIn names f i) (sym (get_or_past (frames_of a) j no_frame (omega arith))) (nothing_names names i)
+        | inl last ↦
+            subst (λ f. IsFreshIn sort f i)
+            (sym (ap (abstract_frame_at a) last ∙ abstract_frame_at-innermost a)) innermost
+        | inr past ↦
+            subst (λ f. IsFreshIn sort f i)
+            (sym (get_or_past (frames_of a) j no_frame (omega arith))) (nothing_names sort i)
       ]
     ]
 
 -- the identities that no frame names are the fresh ones
-pub IsFresh-all : (names : Names) (a : State) (i : ℕ) → AreFree (IsFreshAt names a.callers.items) (length a.callers.items) i → IsFreshIn names a.innermost i
-    → IsFresh names a i
-IsFresh-all names a i callers innermost =
+pub IsFresh-all : (sort : IdentitySort) (a : State) (i : ℕ)
+    → AreFree (IsFreshAt sort a.callers.items) (length a.callers.items) i
+    → IsFreshIn sort a.innermost i → IsFresh sort a i
+IsFresh-all sort a i callers innermost =
     record {
-      registers = λ j. (fresh_at names a i j callers innermost).registers;
-      slots = λ j. (fresh_at names a i j callers innermost).slots;
+      registers = λ j. (fresh_at sort a i j callers innermost).registers;
+      slots = λ j. (fresh_at sort a i j callers innermost).slots;
     }
 
-pub IsFreshAt-callers : (names : Names) (a : State) (i : ℕ) → IsFresh names a i → AreFree (IsFreshAt names a.callers.items) (length a.callers.items) i
-IsFreshAt-callers names a i h j below =
+pub IsFreshAt-callers : (sort : IdentitySort) (a : State) (i : ℕ) → IsFresh sort a i
+    → AreFree (IsFreshAt sort a.callers.items) (length a.callers.items) i
+IsFreshAt-callers sort a i h j below =
     let same = abstract_frame_at-caller a j (omega arith) in
-    subst (λ f. IsFreshIn names f i) same (record { registers = h.registers j; slots = h.slots j })
+    subst (λ f. IsFreshIn sort f i) same (record { registers = h.registers j; slots = h.slots j })
 
-pub IsFreshIn-innermost : (names : Names) (a : State) (i : ℕ) → IsFresh names a i → IsFreshIn names a.innermost i
-IsFreshIn-innermost names a i h =
+pub IsFreshIn-innermost : (sort : IdentitySort) (a : State) (i : ℕ) → IsFresh sort a i
+    → IsFreshIn sort a.innermost i
+IsFreshIn-innermost sort a i h =
     let n : ℕ = length a.callers.items in
-    subst (λ f. IsFreshIn names f i) (abstract_frame_at-innermost a) (record { registers = h.registers n; slots = h.slots n })
+    subst (λ f. IsFreshIn sort f i) (abstract_frame_at-innermost a)
+    (record { registers = h.registers n; slots = h.slots n })
 
 -- the first one from 1 up without a mark, after a search of all frames
-pub IsLeastFresh-marks : (names : Names) (a : State) (m n i : ℕ) (none mid marks : List Bool)
-    → Marks (AreFree (IsFreshAt names a.callers.items) (length a.callers.items)) m none mid → Marks (IsFreshIn names a.innermost) n mid marks
+pub IsLeastFresh-marks : (sort : IdentitySort) (a : State) (m n i : ℕ) (none mid marks : List Bool)
+    → Marks (AreFree (IsFreshAt sort a.callers.items) (length a.callers.items)) m none mid
+    → Marks (IsFreshIn sort a.innermost) n mid marks
     → ((j : ℕ) → is_marked none j ≡ false) → 0 < i → i < length marks → is_marked marks i ≡ false
-    → ((j : ℕ) → 0 < j → j < i → is_marked marks j ≡ true) → IsLeastFresh names a i
-IsLeastFresh-marks names a m n i none mid marks callers innermost empty some inside free least =
-    let all : Marks (IsFresh names a) (m + n) none marks =
-    Marks-then (AreFree (IsFreshAt names a.callers.items) (length a.callers.items)) (IsFreshIn names a.innermost) (IsFresh names a) m n none mid marks
-    (IsFresh-all names a) (IsFreshAt-callers names a) (IsFreshIn-innermost names a) callers innermost in
+    → ((j : ℕ) → 0 < j → j < i → is_marked marks j ≡ true) → IsLeastFresh sort a i
+IsLeastFresh-marks sort a m n i none mid marks callers innermost empty some inside free least =
+    let all : Marks (IsFresh sort a) (m + n) none marks =
+    Marks-then (AreFree (IsFreshAt sort a.callers.items) (length a.callers.items))
+    (IsFreshIn sort a.innermost) (IsFresh sort a) m n none mid marks
+    (IsFresh-all sort a) (IsFreshAt-callers sort a)
+    (IsFreshIn-innermost sort a) callers innermost in
     record {
       some = some;
       fresh = (all.free i inside free).1;

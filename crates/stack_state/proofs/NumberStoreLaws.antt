@@ -1,4 +1,5 @@
--- A number whose bytes are stored into a slot of number bytes: what the slot's eight bytes spell after it.
+-- A number whose bytes are stored into a slot of number bytes: what the slot's eight bytes spell
+-- after it.
 use Rattle.std.specs.Prelude.{◌≡◌, ℕ, suc, ◌+◌, ◌-◌, ◌*◌, ◌/◌, ◌%◌, ◌^◌, ◌<◌, ◌≤◌, true, List, [], ◌∷◌, map, length, slice_index_or, slice_set, All, bit_or, refl}
 use Rattle.std.specs.Int.{w64, to_le_bytes}
 use Rattle.std.proofs.Common.{slice_index, sym, ap, ◌∙◌, subst, inl, inr, arith}
@@ -37,7 +38,8 @@ use Rattle.stack_state.proofs.CellLaws.{length-bytes_of, marked_after, marked_sl
 use Rattle.stack_state.proofs.StackLaws.{slot_changed, SlotMeans-spill}
 
 -- what the bytes of a number spell
-bytes_number : (size : Size) (y : ℕ) → y < 2 ^ 64 → number_from (bytes_of size y) ≡ y % 2 ^ (8 * size_bytes size)
+bytes_number : (size : Size) (y : ℕ) → y < 2 ^ 64
+    → number_from (bytes_of size y) ≡ y % 2 ^ (8 * size_bytes size)
 bytes_number U8 y fits = number_of-part y 0 U8 fits (omega arith) ∙ omega arith
 bytes_number U16 y fits = number_of-part y 0 U16 fits (omega arith) ∙ omega arith
 bytes_number U32 y fits = number_of-part y 0 U32 fits (omega arith) ∙ omega arith
@@ -45,28 +47,36 @@ bytes_number U64 y fits = number_of-part y 0 U64 fits (omega arith) ∙ omega ar
 
 -- ---- cells
 
-byte_at_place : (cs : List Cell) (i : ℕ) → slice_index (map byte_in cs) i ≡ byte_in (slice_index_or cs i Unwritten)
+byte_at_place : (cs : List Cell) (i : ℕ)
+    → slice_index (map byte_in cs) i ≡ byte_in (slice_index_or cs i Unwritten)
 byte_at_place cs i = get_or-map_default byte_in cs i Unwritten
 
 -- cells that are all bytes are those of their bytes
-cells_of_bytes : (cs : List Cell) → ((i : ℕ) → i < length cs → is_byte (slice_index_or cs i Unwritten) ≡ true) → map Byte (map byte_in cs) ≡ cs
+cells_of_bytes : (cs : List Cell)
+    → ((i : ℕ) → i < length cs → is_byte (slice_index_or cs i Unwritten) ≡ true)
+    → map Byte (map byte_in cs) ≡ cs
 cells_of_bytes [] h = refl
-cells_of_bytes (Byte b ∷ cs) h = ap (λ rest. Byte b ∷ rest) (cells_of_bytes cs (λ i below. h (suc i) (omega arith)))
+cells_of_bytes (Byte b ∷ cs) h =
+    ap (λ rest. Byte b ∷ rest) (cells_of_bytes cs (λ i below. h (suc i) (omega arith)))
 cells_of_bytes (Unwritten ∷ cs) h = absurd (let e = h 0 (omega arith) in cc)
 cells_of_bytes (Piece r z k ∷ cs) h = absurd (let e = h 0 (omega arith) in cc)
 
 -- eight of them are what a store of their number writes
 stored_bytes : (cs : List Cell) → length cs ≡ 8 → EachByte (map byte_in cs)
-    → ((i : ℕ) → i < 8 → is_byte (slice_index_or cs i Unwritten) ≡ true) → cs ≡ stored_cells (Num (number_of cs))
+    → ((i : ℕ) → i < 8 → is_byte (slice_index_or cs i Unwritten) ≡ true)
+    → cs ≡ stored_cells (Num (number_of cs))
 stored_bytes cs long each all =
     let bytes : List ℕ = map byte_in cs in
     let eight : length bytes ≡ 8 = length-map cs byte_in ∙ long in
-    let same : to_le_bytes w64 (number_of cs) ≡ bytes = le_bytes_8 bytes (number_of cs) eight each refl in
+    let same : to_le_bytes w64 (number_of cs) ≡ bytes =
+    le_bytes_8 bytes (number_of cs) eight each refl in
     sym (ap (map Byte) same ∙ cells_of_bytes cs (λ i below. all i (omega arith)))
 
 -- a write inside a slot, by its bytes
-chunk_spliced : (cells : List Cell) (at : ℕ) (ys : List ℕ) → at % 8 + length ys ≤ 8 → at + length ys ≤ length cells
-    → AreSpliced (at % 8) (length ys) (map byte_in (chunk_of (at / 8) cells)) ys (map byte_in (chunk_of (at / 8) (cells_with cells at (map Byte ys))))
+chunk_spliced : (cells : List Cell) (at : ℕ) (ys : List ℕ) → at % 8 + length ys ≤ 8
+    → at + length ys ≤ length cells
+    → AreSpliced (at % 8) (length ys) (map byte_in (chunk_of (at / 8) cells)) ys
+    (map byte_in (chunk_of (at / 8) (cells_with cells at (map Byte ys))))
 chunk_spliced cells at ys inside fits =
     let k : ℕ = at / 8 in
     let old : List Cell = chunk_of k cells in
@@ -74,22 +84,29 @@ chunk_spliced cells at ys inside fits =
     let long : length (map Byte ys) ≡ length ys = length-map ys Byte in
     record {
       below = λ i lt. byte_at_place new i
-          ∙ ap byte_in (chunk_kept cells (map Byte ys) at k i Unwritten (omega arith) (inl (omega arith)) (omega arith))
+          ∙ ap byte_in
+          (chunk_kept cells (map Byte ys) at k i Unwritten (omega arith) (inl (omega arith))
+          (omega arith))
           ∙ sym (byte_at_place old i);
       there = λ i lt.
           let same : 8 * k + (at % 8 + i) - at ≡ i = omega arith in
           byte_at_place new (at % 8 + i)
-          ∙ ap byte_in (chunk_written cells (map Byte ys) at k (at % 8 + i) Unwritten (omega arith) (omega arith) (omega arith) (omega arith))
+          ∙ ap byte_in
+          (chunk_written cells (map Byte ys) at k (at % 8 + i) Unwritten (omega arith) (omega arith)
+          (omega arith) (omega arith))
           ∙ ap (λ j. byte_in (slice_index_or (map Byte ys) j Unwritten)) same
-          ∙ sym (byte_at_place (map Byte ys) i) ∙ ap (λ bytes. slice_index bytes i) (map-byte_in-Byte ys);
+          ∙ sym (byte_at_place (map Byte ys) i)
+          ∙ ap (λ bytes. slice_index bytes i) (map-byte_in-Byte ys);
       above = λ i from lt. byte_at_place new i
-          ∙ ap byte_in (chunk_kept cells (map Byte ys) at k i Unwritten lt (inr (omega arith)) (omega arith))
+          ∙ ap byte_in
+          (chunk_kept cells (map Byte ys) at k i Unwritten lt (inr (omega arith)) (omega arith))
           ∙ sym (byte_at_place old i);
     }
 
 -- the number of a slot's cells after the bytes of another were written inside it
 number_of-spliced : (cells : List Cell) (at y : ℕ) (size : Size) → at % 8 + size_bytes size ≤ 8
-    → at + size_bytes size ≤ length cells → y < 2 ^ 64 → EachByte (map byte_in (chunk_of (at / 8) cells))
+    → at + size_bytes size ≤ length cells → y < 2 ^ 64
+    → EachByte (map byte_in (chunk_of (at / 8) cells))
     → number_of (chunk_of (at / 8) (cells_with cells at (map Byte (bytes_of size y))))
     ≡ spliced (8 * (at % 8)) (8 * size_bytes size) (number_of (chunk_of (at / 8) cells)) y
 number_of-spliced cells at y size inside fits small old =
@@ -107,7 +124,8 @@ each_byte_of : (size : Size) (y : ℕ) → EachByte (bytes_of size y)
 each_byte_of size y = slice_index_fits (bytes_of size y) (bytes_of_fit size y)
 
 -- and so are those of a list with bytes of another in it
-spliced_bytes : (r n : ℕ) (bs ys cs : List ℕ) → length cs ≡ 8 → EachByte bs → EachByte ys → AreSpliced r n bs ys cs → EachByte cs
+spliced_bytes : (r n : ℕ) (bs ys cs : List ℕ) → length cs ≡ 8 → EachByte bs → EachByte ys
+    → AreSpliced r n bs ys cs → EachByte cs
 spliced_bytes r n bs ys cs long old new h i =
     elim (cases_lt i 8) [
       | inl within ↦ elim (cases_lt i r) [
@@ -128,17 +146,22 @@ spliced_bytes r n bs ys cs long old new h i =
 -- ---- slots
 
 -- what the cells of a slot spell is one of its numbers
-whole_has : (e : Assigned) (s : StackSlot) (cs : List Cell) (old : Scalar) → AreWhole s old → SlotMeans e s cs → number_of cs < 2 ^ 64 → Has old (number_of cs)
+whole_has : (e : Assigned) (s : StackSlot) (cs : List Cell) (old : Scalar) → AreWhole s old
+    → SlotMeans e s cs → number_of cs < 2 ^ 64 → Has old (number_of cs)
 whole_has e (Written marks) cs old whole h fits = whole (number_of cs) fits
 whole_has e (Spilled (Number numbers)) cs old whole h fits =
-    let same : number_of cs ≡ h.1.0 = ap number_of (h.2 ∙ ap stored_cells h.1.1) ∙ number_of-stored_cells h.1.0 h.1.2.0.below in
+    let same : number_of cs ≡ h.1.0 = ap number_of (h.2 ∙ ap stored_cells h.1.1)
+    ∙ number_of-stored_cells h.1.0 h.1.2.0.below in
     subst (λ (c : Scalar). Has c (number_of cs)) (sym whole) (subst (Has numbers) (sym same) h.1.2)
 whole_has e (Spilled k) cs old whole h fits = whole (number_of cs) fits
 
--- the slot that is left stands for its cells
-slot_stored : (e : Assigned) (rows next : ℕ) (s t : StackSlot) (cells : List Cell) (at n : ℕ) (size : Size) (numbers : Scalar)
-    → at % 8 + size_bytes size ≤ 8 → at + size_bytes size ≤ length cells → 8 * (at / 8) + 8 ≤ length cells → All (IsCell rows next) cells
-    → Has numbers n → SlotMeans e s (chunk_of (at / 8) cells) → marks_after s (at % 8) size ≡ 255 → IsSplicedSlot s (at % 8) size numbers t
+-- the slot that is left means its cells
+slot_stored : (e : Assigned) (rows next : ℕ) (s t : StackSlot) (cells : List Cell) (at n : ℕ)
+    (size : Size) (numbers : Scalar)
+    → at % 8 + size_bytes size ≤ 8 → at + size_bytes size ≤ length cells
+    → 8 * (at / 8) + 8 ≤ length cells → All (IsCell rows next) cells
+    → Has numbers n → SlotMeans e s (chunk_of (at / 8) cells) → marks_after s (at % 8) size ≡ 255
+    → IsSplicedSlot s (at % 8) size numbers t
     → SlotMeans e t (chunk_of (at / 8) (cells_with cells at (map Byte (bytes_of size n))))
 slot_stored e rows next s t cells at n size numbers inside fits eight fit has h all is =
     let small : n < 2 ^ 64 = has.0.below in
@@ -148,23 +171,35 @@ slot_stored e rows next s t cells at n size numbers inside fits eight fit has h 
     let old : List Cell = chunk_of (at / 8) cells in
     let new : List Cell = chunk_of (at / 8) (cells_with cells at (map Byte bytes)) in
     let wide = length-cells_with cells (map Byte bytes) at (omega arith) in
-    let old_fit : All (IsCell rows next) old = All-take (IsCell rows next) 8 _ (All-drop (IsCell rows next) (8 * (at / 8)) cells fit) in
-    let old_bytes : EachByte (map byte_in old) = slice_index_fits (map byte_in old) (bytes_in_fit rows next old old_fit) in
+    let old_fit : All (IsCell rows next) old =
+    All-take (IsCell rows next) 8 _ (All-drop (IsCell rows next) (8 * (at / 8)) cells fit) in
+    let old_bytes : EachByte (map byte_in old) =
+    slice_index_fits (map byte_in old) (bytes_in_fit rows next old old_fit) in
     let before : Marked (marks_of s) old = marked_slot e s old h in
     let marked : Marked (bit_or (marks_of s) (mask_of (at % 8) (at % 8 + length bytes))) new =
     marked_after (marks_of s) at cells bytes (omega arith) (omega arith) before in
-    let whole : Marked 255 new = subst (λ m. Marked m new) (ap (λ k. bit_or (marks_of s) (mask_of (at % 8) (at % 8 + k))) some ∙ all) marked in
+    let whole : Marked 255 new =
+    subst (λ m. Marked m new)
+    (ap (λ k. bit_or (marks_of s) (mask_of (at % 8) (at % 8 + k))) some ∙ all) marked in
     let number = number_of-spliced cells at n size inside fits small old_bytes in
     let places = chunk_spliced cells at bytes (omega arith) (omega arith) in
-    let new_bytes : EachByte (map byte_in new) = spliced_bytes (at % 8) (length bytes) (map byte_in old) bytes (map byte_in new)
-    (length-map new byte_in ∙ length-chunk (at / 8) (cells_with cells at (map Byte bytes)) (omega arith)) old_bytes (each_byte_of size n) places in
-    let same : new ≡ stored_cells (Num (number_of new)) = stored_bytes new (length-chunk (at / 8) (cells_with cells at (map Byte bytes)) (omega arith)) new_bytes
+    let new_bytes : EachByte (map byte_in new) =
+    spliced_bytes (at % 8) (length bytes) (map byte_in old) bytes (map byte_in new)
+    (length-map new byte_in
+    ∙ length-chunk (at / 8) (cells_with cells at (map Byte bytes)) (omega arith)) old_bytes
+    (each_byte_of size n) places in
+    let same : new ≡ stored_cells (Num (number_of new)) =
+    stored_bytes new
+    (length-chunk (at / 8) (cells_with cells at (map Byte bytes)) (omega arith)) new_bytes
     (λ i below. whole i below (bit_at_ones 8 i below)) in
     let one : Has is.new (number_of new) = subst (Has is.new) (sym number)
-    (is.spliced.contains (number_of old) n (whole_has e s old is.old is.whole h (number_of_fits rows next old old_fit)) has) in
-    SlotMeans-spill e (Number is.new) t (Num (number_of new)) new is.left (number_of new, refl, one) same
+    (is.spliced.contains (number_of old) n
+    (whole_has e s old is.old is.whole h (number_of_fits rows next old old_fit)) has) in
+    SlotMeans-spill e (Number is.new) t (Num (number_of new)) new is.left
+    (number_of new, refl, one) same
 
-pub stores_number : (slots : List StackSlot) (at : ℕ) (size : Size) (numbers : Scalar) (t : StackSlot) → length slots ≡ frame_slots → at < frame_size
+pub stores_number : (slots : List StackSlot) (at : ℕ) (size : Size) (numbers : Scalar)
+    (t : StackSlot) → length slots ≡ frame_slots → at < frame_size
     → at % 8 + size_bytes size ≤ 8 → IsSlotStored (slot_at slots (at / 8)) (at % 8) size numbers t
     → StoresNumber slots at size numbers (slice_set slots (at / 8) t)
 unfolding StoresNumber
@@ -176,17 +211,30 @@ stores_number slots at size numbers t count below inside is = λ e rows next cel
     let within : at / 8 < frame_slots = omega arith in
     let s : StackSlot = slot_at slots (at / 8) in
     let before = m.each (at / 8) within in
-    let marked : SlotMeans e (Written (marks_after s (at % 8) size)) (chunk_of (at / 8) (cells_with cells at (map Byte bytes))) =
-    subst (λ k. Marked (bit_or (marks_of s) (mask_of (at % 8) (at % 8 + k))) (chunk_of (at / 8) (cells_with cells at (map Byte bytes)))) some
-    (marked_after (marks_of s) at cells bytes (omega arith) (omega arith) (marked_slot e s (chunk_of (at / 8) cells) before)) in
-    let after : SlotMeans e t (chunk_of (at / 8) (cells_with cells at (map Byte bytes))) = elim (cases_eq (marks_after s (at % 8) size) 255) [
+    let marked : SlotMeans e (Written (marks_after s (at % 8) size))
+    (chunk_of (at / 8) (cells_with cells at (map Byte bytes))) =
+    subst (λ k. Marked (bit_or (marks_of s) (mask_of (at % 8) (at % 8 + k)))
+    (chunk_of (at / 8) (cells_with cells at (map Byte bytes)))) some
+    (marked_after (marks_of s) at cells bytes (omega arith) (omega arith)
+    (marked_slot e s (chunk_of (at / 8) cells) before)) in
+    let after : SlotMeans e t (chunk_of (at / 8) (cells_with cells at (map Byte bytes))) =
+    elim (cases_eq (marks_after s (at % 8) size) 255) [
       | inl all ↦ elim (is.whole all) [
-        | inl known ↦ slot_stored e rows next s t cells at n size numbers inside (omega arith) (omega arith) fit has before all known
-        | inr blank ↦ subst (λ (u : StackSlot). SlotMeans e u (chunk_of (at / 8) (cells_with cells at (map Byte bytes)))) (ap Written all ∙ sym blank.1) marked
+        | inl known ↦
+            slot_stored e rows next s t cells at n size numbers inside (omega arith)
+            (omega arith) fit has before all known
+        | inr blank ↦
+            subst (λ (u : StackSlot).
+            SlotMeans e u (chunk_of (at / 8) (cells_with cells at (map Byte bytes))))
+            (ap Written all ∙ sym blank.1) marked
       ]
-      | inr other ↦ subst (λ (u : StackSlot). SlotMeans e u (chunk_of (at / 8) (cells_with cells at (map Byte bytes)))) (sym (is.parts other)) marked
+      | inr other ↦
+          subst (λ (u : StackSlot).
+          SlotMeans e u (chunk_of (at / 8) (cells_with cells at (map Byte bytes))))
+          (sym (is.parts other)) marked
     ] in
-    slot_changed e slots cells (map Byte bytes) at (at / 8) t count within (omega arith) (omega arith) m after
+    slot_changed e slots cells (map Byte bytes) at (at / 8) t count within (omega arith)
+    (omega arith) m after
 
 -- a size is some bytes
 pub size_some : (size : Size) → 0 < size_bytes size

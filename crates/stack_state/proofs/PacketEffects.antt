@@ -1,4 +1,5 @@
--- What is written into the packet keeps the meaning of an abstract state, which knows no more of the packet than its length.
+-- What is written into the packet keeps the meaning of an abstract state, which knows no more of
+-- the packet than its length.
 use Rattle.std.specs.Prelude.{◌≡◌, ℕ, List, length, refl}
 use Rattle.std.proofs.Common.{sym, ◌∙◌}
 use Rattle.isa_model.specs.Code.Instructions.{Program}
@@ -10,8 +11,9 @@ use Rattle.stack_state.specs.Meaning.{MeansBy}
 use Rattle.stack_state.proofs.MeaningLaws.{MeansBy-onto}
 
 -- the packet's bytes are others, and as many
-pub MeansBy-packet : (p : Program) (e : Assigned) (a : State) (s : Machine.State) (bytes : List ℕ) → length bytes ≡ length s.packet
-    → IsState p (record s { packet = bytes }) → MeansBy p e a s → MeansBy p e a (record s { packet = bytes })
+pub MeansBy-packet : (p : Program) (e : Assigned) (a : State) (s : Machine.State) (bytes : List ℕ)
+    → length bytes ≡ length s.packet → IsState p (record s { packet = bytes }) → MeansBy p e a s
+    → MeansBy p e a (record s { packet = bytes })
 MeansBy-packet p e a s bytes long is m =
     MeansBy-onto p e e a a s (record s { packet = bytes }) refl refl refl is
     (record {

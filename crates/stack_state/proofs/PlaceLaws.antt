@@ -24,28 +24,32 @@ same_or_other q r =
 
 -- ---- kinds
 
--- every register but r10 is in the innermost frame's list
-pub kind_of-registers : (a : State) (r : Reg) → r ≢ R10 → kind_of a r ≡ kind_at (registers_of a) (reg_number r)
+-- every register but r10 is in the innermost call frame's list
+pub kind_of-registers : (a : State) (r : Reg) → r ≢ R10
+    → kind_of a r ≡ kind_at (registers_of a) (reg_number r)
 kind_of-registers a R10 own = absurd (own refl)
 kind_of-registers a r own = refl
 
-set_place : (P : Kind → Type 0) (ks : List Kind) (n : ℕ) (k : Kind) → P k → P (kind_at ks n) → P (kind_at (slice_set ks n k) n)
+set_place : (P : Kind → Type 0) (ks : List Kind) (n : ℕ) (k : Kind) → P k → P (kind_at ks n)
+    → P (kind_at (slice_set ks n k) n)
 set_place P [] n k new old = old
 set_place P (x ∷ ks) zero k new old = new
 set_place P (x ∷ ks) (suc n) k new old = set_place P ks n k new old
 
 -- what holds of the new kind holds of the register's, if it did before
-pub kind_of-with_same : (P : Kind → Type 0) (a : State) (r : Reg) (k : Kind) → r ≢ R10 → P k → P (kind_of a r)
-    → P (kind_of (with_register a r k) r)
+pub kind_of-with_same : (P : Kind → Type 0) (a : State) (r : Reg) (k : Kind) → r ≢ R10 → P k
+    → P (kind_of a r) → P (kind_of (with_register a r k) r)
 kind_of-with_same P a r k own new old =
     subst P (sym (kind_of-registers (with_register a r k) r own))
     (set_place P (registers_of a) (reg_number r) k new (subst P (kind_of-registers a r own) old))
 
-pub kind_of-with_other : (a : State) (r q : Reg) (k : Kind) → q ≢ r → kind_of (with_register a r k) q ≡ kind_of a q
+pub kind_of-with_other : (a : State) (r q : Reg) (k : Kind) → q ≢ r
+    → kind_of (with_register a r k) q ≡ kind_of a q
 kind_of-with_other a r q k other =
     elim (same_or_other q R10) [
       | inl end ↦ subst (λ q. kind_of (with_register a r k) q ≡ kind_of a q) (sym end) refl
       | inr own ↦ kind_of-registers (with_register a r k) q own
-          ∙ get_or-set_other (registers_of a) (reg_number r) (reg_number q) k Unset (λ h. other (same_number q r h))
+          ∙ get_or-set_other (registers_of a) (reg_number r) (reg_number q) k Unset
+          (λ h. other (same_number q r h))
           ∙ sym (kind_of-registers a q own)
     ]

@@ -1,4 +1,5 @@
--- The number that bytes spell, in parts; and eight bytes of which some are those of another number.
+-- The number that bytes spell, in parts; and eight bytes, some of which are those of another
+-- number.
 use Rattle.std.specs.Prelude.{◌≡◌, ℕ, zero, suc, ◌+◌, ◌-◌, ◌*◌, ◌/◌, ◌%◌, ◌^◌, ◌<◌, ◌≤◌, List, length, refl}
 use Rattle.std.proofs.Common.{slice_index, sym, ap, ◌∙◌, arith}
 use Rattle.std.proofs.Math.Nat.{add-zero}

@@ -28,7 +28,8 @@ at_start packet contents =
       maps = numbered_maps 0 contents;
     }
 
-first_allowed : (e : Assigned) (serial k : ℕ) → Allows e (kind_at first_registers k) (value_at (start_regs serial) k)
+first_allowed : (e : Assigned) (serial k : ℕ)
+    → Allows e (kind_at first_registers k) (value_at (start_regs serial) k)
 first_allowed e serial zero = tt
 first_allowed e serial (suc zero) = refl
 first_allowed e serial (suc (suc zero)) = tt
@@ -45,11 +46,13 @@ first_allowed e serial (suc (suc (suc (suc (suc (suc (suc (suc (suc (suc k))))))
 first_stack : (e : Assigned) (serial j : ℕ) (saved : List Value) → j < 1
     → StackMeans e (stack_slots_of start j) (frame_at (new_frame serial 0 saved ∷ []) j).cells
 unfolding start new_frame
-first_stack e serial zero saved below = StackMeans-new e (replicate frame_size Unwritten) (length-replicate frame_size Unwritten)
+first_stack e serial zero saved below =
+    StackMeans-new e (replicate frame_size Unwritten) (length-replicate frame_size Unwritten)
 first_stack e serial (suc j) saved below = absurd (omega arith)
 
 -- it means every state in which a run begins
-pub Means-start : (p : Program) (head : FrameHead) (packet : List ℕ) (contents : List KeyValues) → IsProgram p
+pub Means-start : (p : Program) (head : FrameHead) (packet : List ℕ) (contents : List KeyValues)
+    → IsProgram p
     → IsGiven p head packet contents → Means p start (start_state head packet contents)
 unfolding Means start start_state new_frame
 Means-start p head packet contents program given = (at_start packet contents, means)

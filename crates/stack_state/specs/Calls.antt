@@ -20,12 +20,12 @@ kept_kinds ks =
     ∷ kind_at ks 9 ∷ []
 
 -- r1 to r5, which it passes to the function
-abbrev pub handed_kinds : List Kind → List Kind
-handed_kinds ks =
+abbrev pub argument_kinds : List Kind → List Kind
+argument_kinds ks =
     Unset ∷ kind_at ks 1 ∷ kind_at ks 2 ∷ kind_at ks 3 ∷ kind_at ks 4 ∷ kind_at ks 5 ∷ Unset ∷ Unset
     ∷ Unset ∷ Unset ∷ []
 
--- a call frame whose bytes are all unknown
+-- the slots of a call frame of whose bytes nothing is known
 unfoldable pub unset_slots : List StackSlot
 unset_slots = replicate frame_slots (Written 0)
 
@@ -38,11 +38,11 @@ abbrev pub callee_of : AbstractFrame → ℕ → AbstractFrame
 callee_of f slot =
     record {
       return_slot = slot;
-      registers = handed_kinds f.registers;
+      registers = argument_kinds f.registers;
       stack = record { slots = unset_slots };
     }
 
--- a call of the function at a slot
+-- a call of the function at a slot of the code
 abbrev pub entered : State → ℕ → State
 entered a target =
     record {

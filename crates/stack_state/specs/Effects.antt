@@ -1,5 +1,4 @@
--- What is done to an abstract state, one effect after the other: other slots in a call frame, and
--- other kinds in every frame.
+-- Effects on an abstract state: other slots in a call frame, and other kinds in every frame.
 use Rattle.std.specs.Prelude.{ℕ, ◌==◌, List, map, length, max, Bool, true, false, pos, if◌then◌else◌}
 use Rattle.arrayvec.specs.ArrayVec.{with_item}
 use Rattle.reg_state.specs.declared.scalars.Scalar.{Scalar}

@@ -2,7 +2,7 @@
 -- uses.
 use Rattle.std.specs.Prelude.{◌≡◌, ◌≢◌, ℕ, suc, ◌+◌, ◌<◌, ◌≤◌, ◌⊎◌, Bool, true, false, List, [], ◌∷◌, length, slice_index_or, Some}
 use Rattle.reg_state.specs.declared.kinds.Kind.{Kind}
-use Rattle.stack_state.specs.declared.identities.Names.{Names}
+use Rattle.stack_state.specs.declared.identities.IdentitySort.{IdentitySort}
 use Rattle.stack_state.specs.declared.slots.StackSlot.{StackSlot}
 use Rattle.stack_state.specs.declared.states.AbstractFrame.{AbstractFrame}
 use Rattle.stack_state.specs.Meaning.{no_frame, kind_at}
@@ -11,27 +11,27 @@ use Rattle.stack_state.specs.Slots.{slot_at, kind_in}
 
 -- ---- what does not name an identity
 
--- no register and no slot of the call frame
-pub record IsFreshIn (names : Names) (f : AbstractFrame) (i : ℕ) : Type 0 where
-  pub registers : (k : ℕ) → named_by names (kind_at f.registers k) ≢ Some i
-  pub slots : (k : ℕ) → named_by names (kind_in (slot_at f.stack.slots k)) ≢ Some i
+-- no register and no slot of the call frame names the identity
+pub record IsFreshIn (sort : IdentitySort) (f : AbstractFrame) (i : ℕ) : Type 0 where
+  pub registers : (k : ℕ) → named_by sort (kind_at f.registers k) ≢ Some i
+  pub slots : (k : ℕ) → named_by sort (kind_in (slot_at f.stack.slots k)) ≢ Some i
 
--- none of the first n places names it, where a relation says of each place which identities it does
+-- none of the first n places names the identity; `Free` says of a place which identities it does
 -- not name
 abbrev pub AreFree : (ℕ → ℕ → Type 0) → ℕ → ℕ → Type 0
 AreFree Free n i = (k : ℕ) → k < n → Free k i
 
--- a register
-abbrev pub NamesOther : Names → List Kind → ℕ → ℕ → Type 0
-NamesOther names kinds k i = named_by names (kind_at kinds k) ≢ Some i
+-- register k does not name identity i
+abbrev pub NamesOther : IdentitySort → List Kind → ℕ → ℕ → Type 0
+NamesOther sort kinds k i = named_by sort (kind_at kinds k) ≢ Some i
 
--- a slot
-abbrev pub HoldsOther : Names → List StackSlot → ℕ → ℕ → Type 0
-HoldsOther names slots k i = named_by names (kind_in (slot_at slots k)) ≢ Some i
+-- slot k does not name identity i
+abbrev pub HoldsOther : IdentitySort → List StackSlot → ℕ → ℕ → Type 0
+HoldsOther sort slots k i = named_by sort (kind_in (slot_at slots k)) ≢ Some i
 
--- a frame
-abbrev pub IsFreshAt : Names → List AbstractFrame → ℕ → ℕ → Type 0
-IsFreshAt names frames j i = IsFreshIn names (slice_index_or frames j no_frame) i
+-- no place of call frame j names identity i
+abbrev pub IsFreshAt : IdentitySort → List AbstractFrame → ℕ → ℕ → Type 0
+IsFreshAt sort frames j i = IsFreshIn sort (slice_index_or frames j no_frame) i
 
 -- ---- marks
 

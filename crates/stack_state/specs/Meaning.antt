@@ -40,11 +40,11 @@ kinds_of a j = (abstract_frame_at a j).registers
 abbrev pub stack_slots_of : State → ℕ → List StackSlot
 stack_slots_of a j = (abstract_frame_at a j).stack.slots
 
--- the registers as they are
+-- the registers of the innermost frame
 abbrev pub registers_of : State → List Kind
 registers_of a = a.innermost.registers
 
--- the kind of a list of registers
+-- the kind of register k
 abbrev pub kind_at : List Kind → ℕ → Kind
 kind_at kinds k = slice_index_or kinds k Unset
 

@@ -52,15 +52,15 @@ abbrev pub IsBlank : StackSlot → Size → Scalar → Type 0
 IsBlank (Written marks) size numbers = HaveAll size numbers
 IsBlank (Spilled k) size numbers = ⊥
 
--- bytes of a number are written: where all eight bytes of the slot then are number bytes, what is
--- known of their number is kept, if anything is, and else which are written
+-- bytes of a number are written. If all eight bytes of the slot are number bytes after it, what is
+-- known of their number is kept, if anything is; else only which bytes are written
 pub record IsSlotStored (s : StackSlot) (from : ℕ) (size : Size) (numbers : Scalar) (t : StackSlot)
     : Type 0 where
   pub whole : marks_after s from size ≡ 255 → IsSplicedSlot s from size numbers t
       ⊎ (IsBlank s size numbers × (t ≡ Written 255))
   pub parts : marks_after s from size ≢ 255 → t ≡ Written (marks_after s from size)
 
--- the bytes of one of the numbers, stored at a place in cells of a state
+-- bytes of one of the numbers, stored from a place on into the cells that the slots mean
 unfoldable pub StoresNumber : List StackSlot → ℕ → Size → Scalar → List StackSlot → Type 0
 StoresNumber old at size numbers new =
     (e : Assigned) (rows next : ℕ) (cells : List Cell) (n : ℕ) → All (IsCell rows next) cells

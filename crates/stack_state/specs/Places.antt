@@ -9,7 +9,7 @@ use Rattle.stack_state.specs.declared.states.AbstractFrame.{AbstractFrame}
 use Rattle.stack_state.specs.declared.states.State.{State}
 use Rattle.stack_state.specs.Meaning.{kind_at, registers_of}
 
--- the kind of a register; r10 points to the end of the innermost frame
+-- the kind of a register; r10 points to the end of the innermost call frame
 abbrev pub kind_of : State → Reg → Kind
 kind_of a R10 = Stack (length a.callers.items) (pos 0)
 kind_of a r = kind_at (registers_of a) (reg_number r)
@@ -21,6 +21,6 @@ with_kind f n k = record f { registers = slice_set f.registers n k }
 abbrev pub with_register : State → Reg → Kind → State
 with_register a r k = record a { innermost = with_kind a.innermost (reg_number r) k }
 
--- the same at another slot
+-- the same state at another slot of the code
 abbrev pub go_to : State → ℕ → State
 go_to a slot = record a { slot = slot }

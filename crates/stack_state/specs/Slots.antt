@@ -13,7 +13,7 @@ use Rattle.reg_state.specs.Arithmetic.{IsPart}
 use Rattle.stack_state.specs.declared.slots.StackSlot.{StackSlot}
 use Rattle.stack_state.specs.declared.slots.StackSlot.TheVariants.{Written, Spilled}
 
--- slots of 8 bytes in a call frame
+-- how many slots of 8 bytes a call frame has
 abbrev pub frame_slots : ℕ
 frame_slots = frame_size / 8
 

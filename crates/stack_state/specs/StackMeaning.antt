@@ -73,20 +73,20 @@ Spills old k kind new =
     → StackMeans e old cells
     → StackMeans e new (cells_with cells (8 * k) (stored_cells v))
 
--- the number that a load answers is one of these
+-- the number that a load returns is one of these
 unfoldable pub LoadsNumber : List StackSlot → ℕ → Size → Option Scalar → Type 0
 LoadsNumber slots at size answer =
     IfSome answer (λ numbers. (e : Assigned) (rows next : ℕ) (cells : List Cell)
     → All (IsCell rows next) cells → StackMeans e slots cells
     → (n : ℕ) × (number_in (part_of cells at (size_bytes size)) ≡ Ok n) × Has numbers n)
 
--- the value that a load of a whole slot answers is one that the kind allows
+-- the value that a load of a whole slot returns is one that the kind allows
 unfoldable pub LoadsSlot : List StackSlot → ℕ → Option Kind → Type 0
 LoadsSlot slots k answer = IfSome answer (λ kind. (e : Assigned) (rows next : ℕ) (cells : List Cell)
     → All (IsCell rows next) cells → StackMeans e slots cells
     → (v : Value) × (value_in (chunk_of k cells) ≡ Ok v) × Allows e kind v)
 
--- the cells are number bytes, and a load of them answers their number
+-- the cells are number bytes, and a load of them returns their number
 unfoldable pub AreNumberBytes : List StackSlot → ℕ → ℕ → Type 0
 AreNumberBytes slots from n = (e : Assigned) (cells : List Cell) → StackMeans e slots cells
     → (list_all is_byte (part_of cells from n) ≡ true)

@@ -1,7 +1,7 @@
 //! Local calls and the exits of inner call frames: a frame pushed, and popped.
 
 ghost use Rattle.std.specs.Prelude.{◌≡◌, ◌+◌, ◌<◌, ◌^◌, length};
-ghost use Rattle.stack_state.specs.Calls as call_words;
+ghost use Rattle.stack_state.specs.Calls as call_defs;
 ghost use Rattle.stack_state.specs.Calls.{caller_of, callee_of, resumed_of, entered, ended};
 ghost use Rattle.stack_state.specs.Meaning.{depth};
 ghost use Rattle.isa_model.specs.Code.Limits.{max_call_frames};
@@ -16,7 +16,7 @@ use reg_state::Kind;
 
 /// r6 to r9, which a call keeps.
 fn kept_kinds(kinds: &[Kind; 10]) -> [Kind; 10]
-    ensures { result ≡ call_words.kept_kinds kinds.now }
+    ensures { result ≡ call_defs.kept_kinds kinds.now }
 {
     let none = Kind::Unset;
     let [_, _, _, _, _, _, r6, r7, r8, r9] = *kinds;
@@ -24,8 +24,8 @@ fn kept_kinds(kinds: &[Kind; 10]) -> [Kind; 10]
 }
 
 /// r1 to r5, which it passes to the function.
-fn handed_kinds(kinds: &[Kind; 10]) -> [Kind; 10]
-    ensures { result ≡ call_words.handed_kinds kinds.now }
+fn argument_kinds(kinds: &[Kind; 10]) -> [Kind; 10]
+    ensures { result ≡ call_defs.argument_kinds kinds.now }
 {
     let none = Kind::Unset;
     let [_, r1, r2, r3, r4, r5, ..] = *kinds;
@@ -34,7 +34,7 @@ fn handed_kinds(kinds: &[Kind; 10]) -> [Kind; 10]
 
 /// r0 as the callee leaves it, and r6 to r9 as they were kept.
 fn left_kinds(answer: Kind, kinds: &[Kind; 10]) -> [Kind; 10]
-    ensures { result ≡ call_words.left_kinds answer kinds.now }
+    ensures { result ≡ call_defs.left_kinds answer kinds.now }
 {
     let none = Kind::Unset;
     let [_, _, _, _, _, _, r6, r7, r8, r9] = *kinds;
@@ -51,13 +51,13 @@ impl AbstractFrame {
         self.registers = kept_kinds(&self.registers);
     }
 
-    /// The frame becomes a caller's: it calls a function that returns to the slot.
+    /// The frame becomes a caller's: it calls a function that returns to the slot of the code.
     #[tactic(auto, unfolding(crate::specs::Calls::unset_slots))]
     fn give_way(&mut self, slot: usize)
         ensures { self.new ≡ callee_of self.old slot }
     {
         self.return_slot = slot;
-        self.registers = handed_kinds(&self.registers);
+        self.registers = argument_kinds(&self.registers);
         self.stack.clear();
     }
 
@@ -72,7 +72,7 @@ impl AbstractFrame {
 // ---- states
 
 impl State {
-    /// A call of the function at a slot. It returns to the slot after this one.
+    /// A call of the function at a slot of the code. It returns to the slot after the call.
     pub fn enter(&mut self, target: usize)
         requires room { depth self.old < max_call_frames }
         requires slot { self.old.slot + 1 < 2 ^ 63 }

@@ -17,14 +17,14 @@ pub enum Fact {
         identity: u32,
         bytes: u32,
     },
-    /// What was looked up is null, or a live value; `zero` is what null is then known as.
+    /// What was looked up is null, or a live value; `zero` is what null is then known as: the
+    /// number 0.
     Tested {
         identity: u32,
         null: bool,
         zero: Scalar,
     },
-    /// The frame has ended, counted from the outermost, 0: what points into it is not known any
-    /// longer.
+    /// The frame has ended, counted from the outermost, 0: what points into it is forgotten.
     Ended {
         frame: u8,
     },
@@ -107,7 +107,7 @@ fn learned_kind(fact: Fact, kind: Kind) -> Kind
     }
 }
 
-/// Whether no fact is about a value. Most values are such ones, and are not written again.
+/// Whether no fact is about a value. Most values are like that, and are not written again.
 #[inline(always)]
 fn is_plain(kind: &Kind) -> bool
     ensures { result ≡ is_plain kind.now }

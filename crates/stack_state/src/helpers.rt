@@ -1,4 +1,4 @@
-//! What a helper leaves: its answer in r0, and pointers to values of a map forgotten.
+//! Effects of helper calls: an answer in r0, and pointers to a map's values that are forgotten.
 
 ghost use Rattle.std.specs.Prelude.{◌≡◌, map};
 ghost use Rattle.stack_state.specs.Effects.{forgotten_register, forgotten_frame, forgotten_in};
@@ -8,7 +8,7 @@ use crate::slots::{StackSlot, forgotten};
 use crate::states::{AbstractFrame, State};
 use reg_state::Kind;
 
-/// The kind, if it does not refer to values of the map.
+/// The kind, or Unset if it refers to values of the map.
 fn forgotten_kind(kind: Kind, index: u8) -> Kind
     ensures { result ≡ forgotten_register index kind }
 {
@@ -18,8 +18,8 @@ fn forgotten_kind(kind: Kind, index: u8) -> Kind
 fn forget_in_registers(kinds: &mut [Kind], index: u8)
     ensures { kinds.new ≡ map (forgotten_register index) kinds.old }
 {
-    for place in 0..kinds.len() {
-        kinds[place] = forgotten_kind(kinds[place], index);
+    for i in 0..kinds.len() {
+        kinds[i] = forgotten_kind(kinds[i], index);
     }
 }
 
@@ -33,14 +33,14 @@ fn forget_in_frame(frame: &mut AbstractFrame, index: u8)
 fn forget_in_frames(frames: &mut [AbstractFrame], index: u8)
     ensures { frames.new ≡ map (forgotten_frame index) frames.old }
 {
-    for place in 0..frames.len() {
-        forget_in_frame(&mut frames[place], index);
+    for i in 0..frames.len() {
+        forget_in_frame(&mut frames[i], index);
     }
 }
 
 impl State {
-    /// Pointers to values of the map are forgotten in registers, in those that calls kept, and in
-    /// slots of all live call frames.
+    /// Forgets pointers to values of the map in all live call frames: in registers, also those that
+    /// calls kept, and in slots.
     pub fn forget_map(&mut self, index: u8)
         ensures { self.new ≡ forgotten_in index self.old }
     {

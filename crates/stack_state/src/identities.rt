@@ -12,21 +12,21 @@ use reg_state::Kind;
 
 /// The sorts of identities.
 #[derive(Clone, Copy, PartialEq, Eq, Debug)]
-pub enum Names {
+pub enum IdentitySort {
     /// Those of packet pointers.
     Packets,
     /// Those of what was looked up.
     Nulls,
 }
 
-impl Names {
+impl IdentitySort {
     /// The identity of the sort that a kind names.
     fn named_by(self, kind: Kind) -> Option<u32>
         ensures { result ≡ named_by self kind }
     {
         match self {
-            Names::Packets => kind.packet_identity(),
-            Names::Nulls => kind.null_identity(),
+            IdentitySort::Packets => kind.packet_identity(),
+            IdentitySort::Nulls => kind.null_identity(),
         }
     }
 }
@@ -35,46 +35,46 @@ impl Names {
 // name 592 of them at most, so that one from 1 to 593 is free.
 type Named = [bool; 594];
 
-fn mark(names: Names, named: &mut Named, kind: Kind)
-    ensures { Marks (λ i. named_by names kind ≢ Some i) 1 named.old named.new }
+fn mark(sort: IdentitySort, named: &mut Named, kind: Kind)
+    ensures { Marks (λ i. named_by sort kind ≢ Some i) 1 named.old named.new }
 {
-    if let Some(identity) = names.named_by(kind) {
+    if let Some(identity) = sort.named_by(kind) {
         if identity < 594 {
             named[identity as usize] = true;
         }
     }
 }
 
-fn mark_registers(names: Names, named: &mut Named, registers: &[Kind; 10])
-    ensures { Marks (λ i. (k : ℕ) → NamesOther names registers.now k i) 10 named.old named.new }
+fn mark_registers(sort: IdentitySort, named: &mut Named, registers: &[Kind; 10])
+    ensures { Marks (λ i. (k : ℕ) → NamesOther sort registers.now k i) 10 named.old named.new }
 {
     for index in 0..10 {
-        mark(names, named, registers[index]);
+        mark(sort, named, registers[index]);
     }
 }
 
-fn mark_slots(names: Names, named: &mut Named, slots: &[StackSlot; FRAME_SLOTS])
-    ensures { Marks (λ i. (k : ℕ) → HoldsOther names slots.now k i) frame_slots
+fn mark_slots(sort: IdentitySort, named: &mut Named, slots: &[StackSlot; FRAME_SLOTS])
+    ensures { Marks (λ i. (k : ℕ) → HoldsOther sort slots.now k i) frame_slots
         named.old named.new }
 {
     for index in 0..FRAME_SLOTS {
-        mark(names, named, slots[index].kind());
+        mark(sort, named, slots[index].kind());
     }
 }
 
-fn mark_frame(names: Names, named: &mut Named, frame: &AbstractFrame)
-    ensures { Marks (IsFreshIn names frame.now) 74 named.old named.new }
+fn mark_frame(sort: IdentitySort, named: &mut Named, frame: &AbstractFrame)
+    ensures { Marks (IsFreshIn sort frame.now) 74 named.old named.new }
 {
-    mark_registers(names, named, &frame.registers);
-    mark_slots(names, named, &frame.stack.slots);
+    mark_registers(sort, named, &frame.registers);
+    mark_slots(sort, named, &frame.stack.slots);
 }
 
-fn mark_frames(names: Names, named: &mut Named, frames: &[AbstractFrame])
-    ensures { Marks (AreFree (IsFreshAt names frames.now) (length frames.now))
+fn mark_frames(sort: IdentitySort, named: &mut Named, frames: &[AbstractFrame])
+    ensures { Marks (AreFree (IsFreshAt sort frames.now) (length frames.now))
         (74 * length frames.now) named.old named.new }
 {
     for index in 0..frames.len() {
-        mark_frame(names, named, &frames[index]);
+        mark_frame(sort, named, &frames[index]);
     }
 }
 
@@ -96,12 +96,12 @@ fn first_free(named: &Named) -> u32
 
 impl State {
     // The smallest identity from 1 up that no kind names.
-    fn fresh_identity(&self, names: Names) -> u32
-        ensures { IsLeastFresh names self.now result }
+    fn fresh_identity(&self, sort: IdentitySort) -> u32
+        ensures { IsLeastFresh sort self.now result }
     {
         let mut named = [false; 594];
-        mark_frames(names, &mut named, self.callers.as_slice());
-        mark_frame(names, &mut named, &self.innermost);
+        mark_frames(sort, &mut named, self.callers.as_slice());
+        mark_frame(sort, &mut named, &self.innermost);
         first_free(&named)
     }
 
@@ -109,13 +109,13 @@ impl State {
     pub fn fresh_packet_identity(&self) -> u32
         ensures { IsLeastFreshPacket self.now result }
     {
-        self.fresh_identity(Names::Packets)
+        self.fresh_identity(IdentitySort::Packets)
     }
 
     /// The smallest null identity from 1 up that no kind names, in any register or slot.
     pub fn fresh_null_identity(&self) -> u32
         ensures { IsLeastFreshNull self.now result }
     {
-        self.fresh_identity(Names::Nulls)
+        self.fresh_identity(IdentitySort::Nulls)
     }
 }

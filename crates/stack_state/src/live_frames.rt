@@ -44,7 +44,7 @@ fn aligned(from_start: i64, size: Size) -> Option<usize>
 }
 
 /// The byte of a frame at the sum of a pointer's offset from the frame's end and an instruction's
-/// offset. None: the bytes of the size are not all in the frame, or not aligned.
+/// offset. `None`: the bytes of the size are not all in the frame, or not aligned.
 pub fn stack_place(offset: i32, by: i16, size: Size) -> Option<usize>
     ensures { FindsPlace (offset +ℤ by) size result }
 {
@@ -52,11 +52,12 @@ pub fn stack_place(offset: i32, by: i16, size: Size) -> Option<usize>
 }
 
 impl State {
-    /// What is known of the bytes of a live frame, counted from the outermost, 0. None: there is no
-    /// such frame.
+    /// What is known of the bytes of a live frame, counted from the outermost, 0. `None`: there is
+    /// no such frame.
     pub fn stack_of(&self, frame: u8) -> Option<&StackState>
         ensures { MatchOption result (depth self.now ≤ frame)
-            (λ stack. (frame < depth self.now) × (stack.now ≡ (abstract_frame_at self.now frame).stack)) }
+            (λ stack. (frame < depth self.now)
+            × (stack.now ≡ (abstract_frame_at self.now frame).stack)) }
     {
         let index = usize::from(frame);
         if index == self.callers.len() {

@@ -40,7 +40,7 @@ impl StackSlot {
     }
 }
 
-/// The marks of as many bytes of a stack slot, from one of them on.
+/// The marks of this number of bytes of a slot, from byte `from` on.
 pub(crate) fn mask(from: usize, bytes: usize) -> u8
     requires { from + bytes ≤ 8 }
     ensures { result ≡ mask_of from (from + bytes) }
@@ -67,7 +67,7 @@ pub(crate) fn all(size: Size) -> Scalar
     Scalar::between(0, greatest(size))
 }
 
-/// What bytes of a spilled number, from one of them on, may spell.
+/// The numbers that bytes of a spilled number, from byte `from` on, may spell.
 fn part(numbers: Scalar, from: usize, size: Size) -> Scalar
     requires { from + size_bytes size ≤ 8 }
     ensures { ArePart numbers from size result }

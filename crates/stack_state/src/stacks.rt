@@ -5,7 +5,7 @@ ghost use Rattle.isa_model.specs.Code.Limits.{frame_size};
 ghost use Rattle.isa_model.specs.declared.values.Cell.{Cell};
 ghost use Rattle.isa_model.specs.Code.Sizes.{size_bytes};
 ghost use Rattle.reg_state.specs.Kinds.{Assigned};
-ghost use Rattle.stack_state.specs.Slots as slot_words;
+ghost use Rattle.stack_state.specs.Slots as slot_defs;
 ghost use Rattle.stack_state.specs.Slots.{slot_at, IsNumberByte, AreMarked, after_store, IsLoad, IsSpill, IsFill, frame_slots};
 ghost use Rattle.stack_state.specs.StackMeaning.{StackMeans, StoresBytes, Spills, LoadsNumber, LoadsSlot, AreNumberBytes, ForgetsMap};
 
@@ -13,7 +13,7 @@ use crate::slots::{StackSlot, filled, forgotten, mask, numbers, spilled};
 use isa_model::{FRAME_SIZE, Size};
 use reg_state::{Kind, Scalar};
 
-/// Slots of 8 bytes in a call frame.
+/// How many slots of 8 bytes a call frame has.
 pub const FRAME_SLOTS: usize = FRAME_SIZE / 8;
 
 /// What is known of the bytes of a call frame: slot 0 is its first, the farthest from the frame's
@@ -43,7 +43,7 @@ impl StackState {
         }
     }
 
-    /// Nothing is known of it any longer.
+    /// Forgets all that is known of it.
     pub fn clear(&mut self)
         ensures { self.new.slots ≡ replicate frame_slots (StackSlot.Written 0) }
     {
@@ -62,7 +62,7 @@ impl StackState {
         self.slots[at / 8] = StackSlot::Written(written);
     }
 
-    /// The numbers that a load of the bytes may answer. None: not all of them are written number
+    /// The numbers that a load of the bytes may return. `None`: not all of them are written number
     /// bytes.
     pub fn load(&self, at: usize, size: Size) -> Option<Scalar>
         requires inside { at < frame_size }
@@ -88,7 +88,7 @@ impl StackState {
         self.slots[slot] = spilled(kind);
     }
 
-    /// The kind of the value that a load of the whole slot answers. None: some byte may be unset,
+    /// The kind of the value that a load of the whole slot returns. `None`: some byte may be unset,
     /// or a pointer not whole.
     pub fn fill(&self, slot: usize) -> Option<Kind>
         requires { slot < frame_slots }
@@ -122,7 +122,7 @@ impl StackState {
 
     /// Pointers to values of the map are forgotten.
     pub fn forget_map(&mut self, map: u8)
-        ensures exact { self.new.slots ≡ slot_words.forgotten map self.old.slots }
+        ensures exact { self.new.slots ≡ slot_defs.forgotten map self.old.slots }
         ensures meant { ForgetsMap map self.old.slots self.new.slots }
     {
         for slot in 0..FRAME_SLOTS {

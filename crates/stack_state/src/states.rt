@@ -16,7 +16,7 @@ pub const MAX_CALLERS: usize = MAX_CALL_FRAMES - 1;
 /// What is known of a call frame.
 #[derive(Clone, Copy, PartialEq, Eq, Debug, Default, Drop)]
 pub struct AbstractFrame {
-    /// The slot to which its exit leads; 0 in the first frame.
+    /// The slot of the code to which its exit leads; 0 in the first frame.
     pub return_slot: usize,
     /// r0 to r9: of the innermost frame as they are, of a caller's r6 to r9 as its call kept them.
     pub registers: [Kind; 10],
@@ -26,7 +26,7 @@ pub struct AbstractFrame {
 /// What is known of a run when it reaches an instruction.
 #[derive(Drop)]
 pub struct State {
-    /// The slot of the instruction.
+    /// The slot of the code at which the instruction is.
     pub slot: usize,
     /// The live frames but for the innermost, the outermost first.
     pub callers: ArrayVec<AbstractFrame, MAX_CALLERS>,
@@ -35,7 +35,7 @@ pub struct State {
 }
 
 /// The index of a register in a frame's list; r10 has none.
-fn place_of(register: Reg) -> usize
+fn index_of(register: Reg) -> usize
     requires { register ≢ Reg.R10 }
     ensures value { result ≡ reg_number register }
     ensures below { result < 10 }
@@ -65,7 +65,7 @@ impl State {
         }
     }
 
-    /// Another one like it.
+    /// A copy.
     pub fn copy(&self) -> Self
         ensures { result ≡ self.now }
     {
@@ -78,7 +78,7 @@ impl State {
         copy
     }
 
-    /// Becomes like the other one. Live frames only are copied.
+    /// Becomes a copy of the other one. Only live frames are copied.
     pub fn copy_from(&mut self, other: &State)
         ensures { self.new ≡ other.now }
     {
@@ -105,7 +105,7 @@ impl State {
                 frame: self.callers.len() as u8,
                 offset: 0,
             },
-            _ => self.innermost.registers[place_of(register)],
+            _ => self.innermost.registers[index_of(register)],
         }
     }
 
@@ -114,6 +114,6 @@ impl State {
         requires { register ≢ Reg.R10 }
         ensures { self.new ≡ with_register self.old register kind }
     {
-        self.innermost.registers[place_of(register)] = kind;
+        self.innermost.registers[index_of(register)] = kind;
     }
 }

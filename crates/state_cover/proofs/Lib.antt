@@ -1,4 +1,5 @@
 pub mod Marks
 pub mod Places
 pub mod Renaming
+pub mod FoundFrames
 pub mod Inclusion

@@ -9,7 +9,8 @@ use Rattle.state_cover.specs.FrameCover.{AreAmong}
 
 kept_among : (m r : ℕ) → bit_and r m ≡ m → AreAmong m r
 kept_among m r same = λ i within bit.
-    let both : min (bit_at r i) (bit_at m i) ≡ bit_at m i = sym (bit_at_and r m i) ∙ ap (λ n. bit_at n i) same in
+    let both : min (bit_at r i) (bit_at m i) ≡ bit_at m i = sym (bit_at_and r m i)
+    ∙ ap (λ n. bit_at n i) same in
     let one : bit_at r i < 2 = bit_at-lt r i in
     omega arith
 
@@ -33,6 +34,7 @@ none-among m r none = λ i within bit.
 pub among-test : (m r : ℕ) → m < 2 ^ 8 → IsTrue (nat_eq (bit_and r m) m) ↔ AreAmong m r
 among-test m r below = (
   λ yes. kept_among m r (eqb-true (bit_and r m) m yes),
-  λ among. let same : bit_and r m ≡ m = same_from_bits (bit_and r m) m (λ i. bit_at_and r m i ∙ bit_among m r i below among) in
+  λ among. let same : bit_and r m ≡ m =
+      same_from_bits (bit_and r m) m (λ i. bit_at_and r m i ∙ bit_among m r i below among) in
       grind (arith, nat_tests),
 )

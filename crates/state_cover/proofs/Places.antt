@@ -12,8 +12,10 @@ use Rattle.state_cover.specs.Names.{spilled_kinds, frame_places, places}
 -- one place more, of two lists of kinds
 pub find-zip : (p : Kind × Kind → Bool) (xs ys : List Kind) (n : ℕ) (x y : Kind)
     → n < length xs → n < length ys → x ≡ get_or xs n x → y ≡ get_or ys n y
-    → find p (zip (drop n xs) (drop n ys)) ≡ cond (p (x, y)) (Some (x, y)) (find p (zip (drop (n + 1) xs) (drop (n + 1) ys)))
-find-zip p xs ys n x y in_xs in_ys at_x at_y = rw (add-one, drop-cons xs n x, drop-cons ys n y, ← at_x, ← at_y) refl
+    → find p (zip (drop n xs) (drop n ys))
+    ≡ cond (p (x, y)) (Some (x, y)) (find p (zip (drop (n + 1) xs) (drop (n + 1) ys)))
+find-zip p xs ys n x y in_xs in_ys at_x at_y =
+    rw (add-one, drop-cons xs n x, drop-cons ys n y, ← at_x, ← at_y) refl
 
 -- one slot more
 pub find-slots : (p : Kind × Kind → Bool) (xs ys : List StackSlot) (n : ℕ) (x y : StackSlot)
@@ -21,10 +23,12 @@ pub find-slots : (p : Kind × Kind → Bool) (xs ys : List StackSlot) (n : ℕ) 
     → find p (zip (spilled_kinds (drop n xs)) (spilled_kinds (drop n ys)))
     ≡ cond (p (kind_in x, kind_in y)) (Some (kind_in x, kind_in y))
     (find p (zip (spilled_kinds (drop (n + 1) xs)) (spilled_kinds (drop (n + 1) ys))))
-find-slots p xs ys n x y in_xs in_ys at_x at_y = rw (add-one, drop-cons xs n x, drop-cons ys n y, ← at_x, ← at_y) refl
+find-slots p xs ys n x y in_xs in_ys at_x at_y =
+    rw (add-one, drop-cons xs n x, drop-cons ys n y, ← at_x, ← at_y) refl
 
 -- one frame more
-pub find-places : (p : Kind × Kind → Bool) (fs gs : List AbstractFrame) (n : ℕ) (f g : AbstractFrame)
+pub find-places : (p : Kind × Kind → Bool) (fs gs : List AbstractFrame) (n : ℕ)
+    (f g : AbstractFrame)
     → n < length fs → n < length gs → f ≡ get_or fs n f → g ≡ get_or gs n g
     → find p (places (drop n fs) (drop n gs))
     ≡ option_or (find p (frame_places f g)) (find p (places (drop (n + 1) fs) (drop (n + 1) gs)))
@@ -47,9 +51,11 @@ option_or-none : (o : Option (Kind × Kind)) → option_or o None ≡ o
 option_or-none None = refl
 option_or-none (Some place) = refl
 
-pub find-places_push : (p : Kind × Kind → Bool) (fs gs : List AbstractFrame) (f g : AbstractFrame) → length fs ≡ length gs
-    → find p (places (fs ++ f ∷ []) (gs ++ g ∷ [])) ≡ option_or (find p (places fs gs)) (find p (frame_places f g))
+pub find-places_push : (p : Kind × Kind → Bool) (fs gs : List AbstractFrame) (f g : AbstractFrame)
+    → length fs ≡ length gs → find p (places (fs ++ f ∷ []) (gs ++ g ∷ []))
+    ≡ option_or (find p (places fs gs)) (find p (frame_places f g))
 find-places_push p fs gs f g same =
     ap (find p) (places-push fs gs f g same)
     ∙ find-append p (places fs gs) (frame_places f g ++ [])
-    ∙ ap (option_or (find p (places fs gs))) (find-append p (frame_places f g) [] ∙ option_or-none (find p (frame_places f g)))
+    ∙ ap (option_or (find p (places fs gs)))
+    (find-append p (frame_places f g) [] ∙ option_or-none (find p (frame_places f g)))

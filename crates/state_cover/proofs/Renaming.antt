@@ -1,12 +1,10 @@
 -- If some renaming of identities works, then the one by first places does too.
-use Rattle.std.proofs.Common.{◌≡◌, ◌∙◌, ℕ, zero, suc, ◌<◌, inl, inr, List, [], ◌∷◌, Bool, true, false, cond, length, map, get_or, Option, Some, None, refl, sym, ap, subst, arith}
+use Rattle.std.proofs.Common.{◌≡◌, ◌∙◌, ℕ, zero, suc, inl, inr, List, [], ◌∷◌, Bool, true, false, cond, get_or, Option, Some, None, refl, sym, ap, subst, arith}
 use Rattle.std.specs.Prelude.{◌⊎◌, IfSome, IsSome, nat_eq, if◌then◌else◌}
 use Rattle.std.specs.List.{zip}
 use Rattle.std.specs.Option.{option_or}
-use Rattle.std.proofs.lemmas.List.{length-map, get_or_default}
 use Rattle.std.proofs.lemmas.List.Folds.{find-append}
 use Rattle.std.proofs.lemmas.Bool.Decides.{nat_tests}
-use Rattle.std.proofs.lemmas.Int.{ints}
 use Rattle.reg_state.specs.declared.kinds.Kind.{Kind}
 use Rattle.reg_state.specs.declared.kinds.Kind.TheVariants.{Unset, Number, Context, Stack, Packet, PacketEnd, Map, MapValue, MapValueOrNull}
 use Rattle.reg_state.specs.KindCover.{packet_identity_of, null_identity_of, KindEncloses}
@@ -17,11 +15,10 @@ use Rattle.stack_state.specs.declared.states.AbstractFrame.{AbstractFrame}
 use Rattle.stack_state.specs.declared.states.State.{State}
 use Rattle.stack_state.specs.Slots.{slot_at, kind_in}
 use Rattle.stack_state.specs.Meaning.{frames_of, no_frame, abstract_frame_at, kind_at, kinds_of, stack_slots_of}
-use Rattle.stack_state.proofs.MeaningLaws.{length-frames_of, abstract_frame_at-caller, abstract_frame_at-innermost}
 use Rattle.state_cover.specs.declared.names.Sort.{Sort}
 use Rattle.state_cover.specs.declared.names.Sort.TheVariants as sort
 use Rattle.state_cover.specs.Names.{identity_of, is_number, is_named, spilled_kinds, frame_places, places, first_named, name_at, name_of, packet_name, null_name}
-use Rattle.state_cover.specs.FrameCover.{SlotEncloses, KindsEnclose, SlotsEnclose, StateEncloses}
+use Rattle.state_cover.specs.FrameCover.{SlotEncloses, SlotsEnclose, StateEncloses}
 
 -- ---- one place
 
@@ -29,12 +26,14 @@ use Rattle.state_cover.specs.FrameCover.{SlotEncloses, KindsEnclose, SlotsEnclos
 abbrev IsOpposite : Sort → (ℕ → ℕ) → Kind → Kind → Type 0
 IsOpposite s m x y = IfSome (identity_of s x) (λ i. identity_of s y ≡ Some (m i))
 
-opposite_packet : (packet null : ℕ → ℕ) (x y : Kind) → KindEncloses packet null x y → IsOpposite sort.Packet packet x y
+opposite_packet : (packet null : ℕ → ℕ) (x y : Kind) → KindEncloses packet null x y
+    → IsOpposite sort.Packet packet x y
 opposite_packet packet null (Packet f i l g p) (Packet f' i' l' g' p') c = ap Some (sym c.1)
 opposite_packet packet null (Packet f i l g p) y c = absurd c
 opposite_packet packet null x y c = tt
 
-opposite_null : (packet null : ℕ → ℕ) (x y : Kind) → KindEncloses packet null x y → IsOpposite sort.Null null x y
+opposite_null : (packet null : ℕ → ℕ) (x y : Kind) → KindEncloses packet null x y
+    → IsOpposite sort.Null null x y
 opposite_null packet null (MapValueOrNull m i) (MapValueOrNull m' i') c = ap Some (sym c.1)
 opposite_null packet null (MapValueOrNull m i) y c = absurd c
 opposite_null packet null x y c = tt
@@ -57,29 +56,36 @@ unset_names sort.Null i h = cc
 
 -- ---- the first place that names an identity
 
--- the name is there
-abbrev StandsAt : Sort → (ℕ → ℕ) → ℕ → Option (Kind × Kind) → Type 0
-StandsAt s m i found = IfSome found (λ place. identity_of s place.1 ≡ Some (m i))
+-- the place that was found has the counterpart of i
+abbrev HasCounterpart : Sort → (ℕ → ℕ) → ℕ → Option (Kind × Kind) → Type 0
+HasCounterpart s m i found = IfSome found (λ place. identity_of s place.1 ≡ Some (m i))
 
-opposite_named : (s : Sort) (m : ℕ → ℕ) (i : ℕ) (x y : Kind) → IsOpposite s m x y → identity_of s x ≡ Some i → identity_of s y ≡ Some (m i)
+opposite_named : (s : Sort) (m : ℕ → ℕ) (i : ℕ) (x y : Kind) → IsOpposite s m x y
+    → identity_of s x ≡ Some i → identity_of s y ≡ Some (m i)
 opposite_named s m i x y o names = subst (λ n. IfSome n (λ i. identity_of s y ≡ Some (m i))) names o
 
-stands_first : (s : Sort) (m : ℕ → ℕ) (i : ℕ) (x y : Kind) (rest : Option (Kind × Kind)) → IsOpposite s m x y → StandsAt s m i rest
-    → StandsAt s m i (cond (is_named s i x) (Some (x, y)) rest)
-stands_first s m i x y rest o h =
-    elim (is_named s i x) as (λ b. is_named s i x ≡ b → StandsAt s m i (cond b (Some (x, y)) rest))
-    [ true ↦ λ e. opposite_named s m i x y o (number_is (identity_of s x) i e) | false ↦ λ e. h ] refl
+counterpart_first : (s : Sort) (m : ℕ → ℕ) (i : ℕ) (x y : Kind) (rest : Option (Kind × Kind))
+    → IsOpposite s m x y → HasCounterpart s m i rest
+    → HasCounterpart s m i (cond (is_named s i x) (Some (x, y)) rest)
+counterpart_first s m i x y rest o h =
+    elim (is_named s i x) as (λ b. is_named s i x ≡ b
+    → HasCounterpart s m i (cond b (Some (x, y)) rest))
+    [ true ↦ λ e. opposite_named s m i x y o (number_is (identity_of s x) i e) | false ↦ λ e. h ]
+    refl
 
-stands_or : (s : Sort) (m : ℕ → ℕ) (i : ℕ) (found rest : Option (Kind × Kind)) → StandsAt s m i found → StandsAt s m i rest
-    → StandsAt s m i (option_or found rest)
-stands_or s m i None rest h k = k
-stands_or s m i (Some place) rest h k = h
+counterpart_or : (s : Sort) (m : ℕ → ℕ) (i : ℕ) (found rest : Option (Kind × Kind))
+    → HasCounterpart s m i found → HasCounterpart s m i rest
+    → HasCounterpart s m i (option_or found rest)
+counterpart_or s m i None rest h k = k
+counterpart_or s m i (Some place) rest h k = h
 
-some_first : (b : Bool) (place : Kind × Kind) (rest : Option (Kind × Kind)) → b ≡ true → IsSome (cond b (Some place) rest)
+some_first : (b : Bool) (place : Kind × Kind) (rest : Option (Kind × Kind)) → b ≡ true
+    → IsSome (cond b (Some place) rest)
 some_first true place rest e = refl
 some_first false place rest e = absurd (cc)
 
-some_later : (b : Bool) (place : Kind × Kind) (rest : Option (Kind × Kind)) → IsSome rest → IsSome (cond b (Some place) rest)
+some_later : (b : Bool) (place : Kind × Kind) (rest : Option (Kind × Kind)) → IsSome rest
+    → IsSome (cond b (Some place) rest)
 some_later true place rest h = refl
 some_later false place rest h = h
 
@@ -96,12 +102,13 @@ or_later (Some place) rest h = refl
 abbrev AreOpposite : Sort → (ℕ → ℕ) → List Kind → List Kind → Type 0
 AreOpposite s m xs ys = (k : ℕ) → IsOpposite s m (kind_at xs k) (kind_at ys k)
 
-stands_registers : (s : Sort) (m : ℕ → ℕ) (i : ℕ) (xs ys : List Kind) → AreOpposite s m xs ys
-    → StandsAt s m i (first_named s i (zip xs ys))
-stands_registers s m i [] ys h = tt
-stands_registers s m i (x ∷ xs) [] h = tt
-stands_registers s m i (x ∷ xs) (y ∷ ys) h =
-    stands_first s m i x y (first_named s i (zip xs ys)) (h 0) (stands_registers s m i xs ys (λ k. h (suc k)))
+counterpart_registers : (s : Sort) (m : ℕ → ℕ) (i : ℕ) (xs ys : List Kind) → AreOpposite s m xs ys
+    → HasCounterpart s m i (first_named s i (zip xs ys))
+counterpart_registers s m i [] ys h = tt
+counterpart_registers s m i (x ∷ xs) [] h = tt
+counterpart_registers s m i (x ∷ xs) (y ∷ ys) h =
+    counterpart_first s m i x y (first_named s i (zip xs ys)) (h 0)
+    (counterpart_registers s m i xs ys (λ k. h (suc k)))
 
 some_registers : (s : Sort) (m : ℕ → ℕ) (i : ℕ) (xs ys : List Kind) (k : ℕ) → AreOpposite s m xs ys
     → identity_of s (kind_at xs k) ≡ Some i → IsSome (first_named s i (zip xs ys))
@@ -109,28 +116,34 @@ some_registers s m i [] ys k h e = absurd (unset_names s i e)
 some_registers s m i (x ∷ xs) [] k h e =
     absurd (unset_names s (m i) (opposite_named s m i (kind_at (x ∷ xs) k) Unset (h k) e))
 some_registers s m i (x ∷ xs) (y ∷ ys) zero h e =
-    some_first (is_named s i x) (x, y) (first_named s i (zip xs ys)) (is_own_number (identity_of s x) i e)
+    some_first (is_named s i x) (x, y) (first_named s i (zip xs ys))
+    (is_own_number (identity_of s x) i e)
 some_registers s m i (x ∷ xs) (y ∷ ys) (suc k) h e =
-    some_later (is_named s i x) (x, y) (first_named s i (zip xs ys)) (some_registers s m i xs ys k (λ k. h (suc k)) e)
+    some_later (is_named s i x) (x, y) (first_named s i (zip xs ys))
+    (some_registers s m i xs ys k (λ k. h (suc k)) e)
 
 -- ---- slots
 
-opposite_in_slot : (s : Sort) (m : ℕ → ℕ) (packet null : ℕ → ℕ) (x y : StackSlot) → ((k l : Kind) → KindEncloses packet null k l → IsOpposite s m k l)
+opposite_in_slot : (s : Sort) (m : ℕ → ℕ) (packet null : ℕ → ℕ) (x y : StackSlot)
+    → ((k l : Kind) → KindEncloses packet null k l → IsOpposite s m k l)
     → SlotEncloses packet null x y → IsOpposite s m (kind_in x) (kind_in y)
 opposite_in_slot s m packet null (Written marks) y each c = unset_opposite s m (kind_in y)
 opposite_in_slot s m packet null (Spilled k) (Spilled l) each c = each k l c
 opposite_in_slot s m packet null (Spilled k) (Written marks) each c = absurd c
 
 -- the kinds in two lists of slots
-kind_in_slot : (slots : List StackSlot) (k : ℕ) → kind_at (spilled_kinds slots) k ≡ kind_in (slot_at slots k)
+kind_in_slot : (slots : List StackSlot) (k : ℕ)
+    → kind_at (spilled_kinds slots) k ≡ kind_in (slot_at slots k)
 kind_in_slot [] k = refl
 kind_in_slot (x ∷ slots) zero = refl
 kind_in_slot (x ∷ slots) (suc k) = kind_in_slot slots k
 
-opposite_slots : (s : Sort) (m : ℕ → ℕ) (packet null : ℕ → ℕ) (xs ys : List StackSlot) → ((k l : Kind) → KindEncloses packet null k l → IsOpposite s m k l)
+opposite_slots : (s : Sort) (m : ℕ → ℕ) (packet null : ℕ → ℕ) (xs ys : List StackSlot)
+    → ((k l : Kind) → KindEncloses packet null k l → IsOpposite s m k l)
     → SlotsEnclose packet null xs ys → AreOpposite s m (spilled_kinds xs) (spilled_kinds ys)
 opposite_slots s m packet null xs ys each c = λ k.
-    rw (kind_in_slot xs k, kind_in_slot ys k) (opposite_in_slot s m packet null (slot_at xs k) (slot_at ys k) each (c k))
+    rw (kind_in_slot xs k, kind_in_slot ys k)
+    (opposite_in_slot s m packet null (slot_at xs k) (slot_at ys k) each (c k))
 
 -- ---- call frames
 
@@ -145,95 +158,118 @@ NamedIn s f i =
     ((k : ℕ) × (identity_of s (kind_at f.registers k) ≡ Some i))
     ⊎ ((k : ℕ) × (identity_of s (kind_at (spilled_kinds f.stack.slots) k) ≡ Some i))
 
-stands_frame : (s : Sort) (m : ℕ → ℕ) (i : ℕ) (f g : AbstractFrame) → FramesOpposite s m f g
-    → StandsAt s m i (first_named s i (frame_places f g))
-stands_frame s m i f g h =
-    rw (find-append (λ place. is_named s i place.0) (zip f.registers g.registers) (zip (spilled_kinds f.stack.slots) (spilled_kinds g.stack.slots)))
-    (stands_or s m i (first_named s i (zip f.registers g.registers)) (first_named s i (zip (spilled_kinds f.stack.slots) (spilled_kinds g.stack.slots)))
-    (stands_registers s m i f.registers g.registers h.registers)
-    (stands_registers s m i (spilled_kinds f.stack.slots) (spilled_kinds g.stack.slots) h.slots))
+counterpart_frame : (s : Sort) (m : ℕ → ℕ) (i : ℕ) (f g : AbstractFrame) → FramesOpposite s m f g
+    → HasCounterpart s m i (first_named s i (frame_places f g))
+counterpart_frame s m i f g h =
+    rw (find-append (λ place. is_named s i place.0) (zip f.registers g.registers)
+    (zip (spilled_kinds f.stack.slots) (spilled_kinds g.stack.slots)))
+    (counterpart_or s m i (first_named s i (zip f.registers g.registers))
+    (first_named s i (zip (spilled_kinds f.stack.slots) (spilled_kinds g.stack.slots)))
+    (counterpart_registers s m i f.registers g.registers h.registers)
+    (counterpart_registers s m i (spilled_kinds f.stack.slots)
+    (spilled_kinds g.stack.slots) h.slots))
 
-some_frame : (s : Sort) (m : ℕ → ℕ) (i : ℕ) (f g : AbstractFrame) → FramesOpposite s m f g → NamedIn s f i
-    → IsSome (first_named s i (frame_places f g))
+some_frame : (s : Sort) (m : ℕ → ℕ) (i : ℕ) (f g : AbstractFrame) → FramesOpposite s m f g
+    → NamedIn s f i → IsSome (first_named s i (frame_places f g))
 some_frame s m i f g h (inl named) =
-    rw (find-append (λ place. is_named s i place.0) (zip f.registers g.registers) (zip (spilled_kinds f.stack.slots) (spilled_kinds g.stack.slots)))
-    (or_first (first_named s i (zip f.registers g.registers)) (first_named s i (zip (spilled_kinds f.stack.slots) (spilled_kinds g.stack.slots)))
+    rw (find-append (λ place. is_named s i place.0) (zip f.registers g.registers)
+    (zip (spilled_kinds f.stack.slots) (spilled_kinds g.stack.slots)))
+    (or_first (first_named s i (zip f.registers g.registers))
+    (first_named s i (zip (spilled_kinds f.stack.slots) (spilled_kinds g.stack.slots)))
     (some_registers s m i f.registers g.registers named.0 h.registers named.1))
 some_frame s m i f g h (inr named) =
-    rw (find-append (λ place. is_named s i place.0) (zip f.registers g.registers) (zip (spilled_kinds f.stack.slots) (spilled_kinds g.stack.slots)))
-    (or_later (first_named s i (zip f.registers g.registers)) (first_named s i (zip (spilled_kinds f.stack.slots) (spilled_kinds g.stack.slots)))
-    (some_registers s m i (spilled_kinds f.stack.slots) (spilled_kinds g.stack.slots) named.0 h.slots named.1))
+    rw (find-append (λ place. is_named s i place.0) (zip f.registers g.registers)
+    (zip (spilled_kinds f.stack.slots) (spilled_kinds g.stack.slots)))
+    (or_later (first_named s i (zip f.registers g.registers))
+    (first_named s i (zip (spilled_kinds f.stack.slots) (spilled_kinds g.stack.slots)))
+    (some_registers s m i (spilled_kinds f.stack.slots)
+    (spilled_kinds g.stack.slots) named.0 h.slots named.1))
 
 -- of each frame
 abbrev AllOpposite : Sort → (ℕ → ℕ) → List AbstractFrame → List AbstractFrame → Type 0
 AllOpposite s m fs gs = (j : ℕ) → FramesOpposite s m (get_or fs j no_frame) (get_or gs j no_frame)
 
-stands_frames : (s : Sort) (m : ℕ → ℕ) (i : ℕ) (fs gs : List AbstractFrame) → AllOpposite s m fs gs
-    → StandsAt s m i (first_named s i (places fs gs))
-stands_frames s m i [] gs h = tt
-stands_frames s m i (f ∷ fs) [] h = tt
-stands_frames s m i (f ∷ fs) (g ∷ gs) h =
+counterpart_frames : (s : Sort) (m : ℕ → ℕ) (i : ℕ) (fs gs : List AbstractFrame)
+    → AllOpposite s m fs gs → HasCounterpart s m i (first_named s i (places fs gs))
+counterpart_frames s m i [] gs h = tt
+counterpart_frames s m i (f ∷ fs) [] h = tt
+counterpart_frames s m i (f ∷ fs) (g ∷ gs) h =
     rw (find-append (λ place. is_named s i place.0) (frame_places f g) (places fs gs))
-    (stands_or s m i (first_named s i (frame_places f g)) (first_named s i (places fs gs))
-    (stands_frame s m i f g (h 0)) (stands_frames s m i fs gs (λ j. h (suc j))))
+    (counterpart_or s m i (first_named s i (frame_places f g)) (first_named s i (places fs gs))
+    (counterpart_frame s m i f g (h 0)) (counterpart_frames s m i fs gs (λ j. h (suc j))))
 
 no_frame_names : (s : Sort) (i : ℕ) → NamedIn s no_frame i → ⊥
 no_frame_names s i (inl named) = unset_names s i named.1
 no_frame_names s i (inr named) = unset_names s i named.1
 
 -- what has no counterpart names nothing
-none_opposite : (s : Sort) (m : ℕ → ℕ) (i : ℕ) (f : AbstractFrame) → FramesOpposite s m f no_frame → NamedIn s f i → ⊥
+none_opposite : (s : Sort) (m : ℕ → ℕ) (i : ℕ) (f : AbstractFrame) → FramesOpposite s m f no_frame
+    → NamedIn s f i → ⊥
 none_opposite s m i f h (inl named) =
-    unset_names s (m i) (opposite_named s m i (kind_at f.registers named.0) Unset (h.registers named.0) named.1)
+    unset_names s (m i)
+    (opposite_named s m i (kind_at f.registers named.0) Unset (h.registers named.0) named.1)
 none_opposite s m i f h (inr named) =
-    unset_names s (m i) (opposite_named s m i (kind_at (spilled_kinds f.stack.slots) named.0) Unset (h.slots named.0) named.1)
+    unset_names s (m i)
+    (opposite_named s m i (kind_at (spilled_kinds f.stack.slots) named.0) Unset
+    (h.slots named.0) named.1)
 
-some_frames : (s : Sort) (m : ℕ → ℕ) (i : ℕ) (fs gs : List AbstractFrame) (j : ℕ) → AllOpposite s m fs gs
+some_frames : (s : Sort) (m : ℕ → ℕ) (i : ℕ) (fs gs : List AbstractFrame) (j : ℕ)
+    → AllOpposite s m fs gs
     → NamedIn s (get_or fs j no_frame) i → IsSome (first_named s i (places fs gs))
 some_frames s m i [] gs j h named = absurd (no_frame_names s i named)
-some_frames s m i (f ∷ fs) [] j h named = absurd (none_opposite s m i (get_or (f ∷ fs) j no_frame) (h j) named)
+some_frames s m i (f ∷ fs) [] j h named =
+    absurd (none_opposite s m i (get_or (f ∷ fs) j no_frame) (h j) named)
 some_frames s m i (f ∷ fs) (g ∷ gs) zero h named =
     rw (find-append (λ place. is_named s i place.0) (frame_places f g) (places fs gs))
-    (or_first (first_named s i (frame_places f g)) (first_named s i (places fs gs)) (some_frame s m i f g (h 0) named))
+    (or_first (first_named s i (frame_places f g)) (first_named s i (places fs gs))
+    (some_frame s m i f g (h 0) named))
 some_frames s m i (f ∷ fs) (g ∷ gs) (suc j) h named =
     rw (find-append (λ place. is_named s i place.0) (frame_places f g) (places fs gs))
-    (or_later (first_named s i (frame_places f g)) (first_named s i (places fs gs)) (some_frames s m i fs gs j (λ j. h (suc j)) named))
+    (or_later (first_named s i (frame_places f g)) (first_named s i (places fs gs))
+    (some_frames s m i fs gs j (λ j. h (suc j)) named))
 
 -- ---- names
 
-name_at-stands : (s : Sort) (m : ℕ → ℕ) (i : ℕ) (found : Option (Kind × Kind)) → IsSome found → StandsAt s m i found
-    → name_at s i found ≡ m i
-name_at-stands s m i None some h = absurd (cc)
-name_at-stands s m i (Some place) some h = rw h refl
+name_at-counterpart : (s : Sort) (m : ℕ → ℕ) (i : ℕ) (found : Option (Kind × Kind)) → IsSome found
+    → HasCounterpart s m i found → name_at s i found ≡ m i
+name_at-counterpart s m i None some h = absurd (cc)
+name_at-counterpart s m i (Some place) some h = rw h refl
 
 -- an identity that a frame names has the name that the map gives
-name_of-opposite : (s : Sort) (m : ℕ → ℕ) (i : ℕ) (a b : State) (j : ℕ) → AllOpposite s m (frames_of a) (frames_of b)
+name_of-opposite : (s : Sort) (m : ℕ → ℕ) (i : ℕ) (a b : State) (j : ℕ)
+    → AllOpposite s m (frames_of a) (frames_of b)
     → NamedIn s (abstract_frame_at a j) i → name_of s a b i ≡ m i
 unfolding name_of
 name_of-opposite s m i a b j h named =
-    name_at-stands s m i (first_named s i (places (frames_of a) (frames_of b))) (some_frames s m i (frames_of a) (frames_of b) j h named)
-    (stands_frames s m i (frames_of a) (frames_of b) h)
+    name_at-counterpart s m i (first_named s i (places (frames_of a) (frames_of b)))
+    (some_frames s m i (frames_of a) (frames_of b) j h named)
+    (counterpart_frames s m i (frames_of a) (frames_of b) h)
 
-packet_name-is : (a b : State) (packet : ℕ → ℕ) (i : ℕ) → packet 0 ≡ 0 → name_of sort.Packet a b i ≡ packet i
-    → packet_name a b i ≡ packet i
+packet_name-is : (a b : State) (packet : ℕ → ℕ) (i : ℕ) → packet 0 ≡ 0
+    → name_of sort.Packet a b i ≡ packet i → packet_name a b i ≡ packet i
 packet_name-is a b packet i none same =
-    elim (nat_eq i 0) as (λ z. nat_eq i 0 ≡ z → (if z then 0 else name_of sort.Packet a b i) ≡ packet i) [
+    elim (nat_eq i 0) as (λ z. nat_eq i 0 ≡ z
+    → (if z then 0 else name_of sort.Packet a b i) ≡ packet i) [
       | true ↦ λ e. let zero_is : i ≡ 0 = grind (arith, nat_tests) in sym (ap packet zero_is ∙ none)
       | false ↦ λ e. same
     ]
     refl
 
-renamed_kind : (packet null names nulls : ℕ → ℕ) (x y : Kind) → IfSome (packet_identity_of x) (λ i. names i ≡ packet i)
-    → IfSome (null_identity_of x) (λ i. nulls i ≡ null i) → KindEncloses packet null x y → KindEncloses names nulls x y
+renamed_kind : (packet null names nulls : ℕ → ℕ) (x y : Kind)
+    → IfSome (packet_identity_of x) (λ i. names i ≡ packet i)
+    → IfSome (null_identity_of x) (λ i. nulls i ≡ null i) → KindEncloses packet null x y
+    → KindEncloses names nulls x y
 renamed_kind packet null names nulls Unset y packets values c = tt
 renamed_kind packet null names nulls (Number numbers) (Number others) packets values c = c
 renamed_kind packet null names nulls Context Context packets values c = tt
 renamed_kind packet null names nulls (Stack f o) (Stack f' o') packets values c = c
-renamed_kind packet null names nulls (Packet f i l g p) (Packet f' i' l' g' p') packets values c = (c.0, packets ∙ c.1, c.2, c.3, c.4)
+renamed_kind packet null names nulls (Packet f i l g p) (Packet f' i' l' g' p') packets values c =
+    (c.0, packets ∙ c.1, c.2, c.3, c.4)
 renamed_kind packet null names nulls PacketEnd PacketEnd packets values c = tt
 renamed_kind packet null names nulls (Map m) (Map m') packets values c = c
 renamed_kind packet null names nulls (MapValue m l g) (MapValue m' l' g') packets values c = c
-renamed_kind packet null names nulls (MapValueOrNull m i) (MapValueOrNull m' i') packets values c = (c.0, values ∙ c.1)
+renamed_kind packet null names nulls (MapValueOrNull m i) (MapValueOrNull m' i') packets values c =
+    (c.0, values ∙ c.1)
 renamed_kind packet null names nulls x y packets values c = absurd c
 
 -- the two names agree with the maps on what a kind names
@@ -241,132 +277,64 @@ record AgreeOn (packet null names nulls : ℕ → ℕ) (x : Kind) : Type 0 where
   packets : IfSome (packet_identity_of x) (λ i. names i ≡ packet i)
   values : IfSome (null_identity_of x) (λ i. nulls i ≡ null i)
 
-renamed_slot : (packet null names nulls : ℕ → ℕ) (x y : StackSlot) → AgreeOn packet null names nulls (kind_in x) → SlotEncloses packet null x y
+renamed_slot : (packet null names nulls : ℕ → ℕ) (x y : StackSlot)
+    → AgreeOn packet null names nulls (kind_in x) → SlotEncloses packet null x y
     → SlotEncloses names nulls x y
 renamed_slot packet null names nulls (Written marks) y agree c = c
-renamed_slot packet null names nulls (Spilled k) (Spilled l) agree c = renamed_kind packet null names nulls k l agree.packets agree.values c
+renamed_slot packet null names nulls (Spilled k) (Spilled l) agree c =
+    renamed_kind packet null names nulls k l agree.packets agree.values c
 renamed_slot packet null names nulls (Spilled k) (Written marks) agree c = absurd c
 
-all_opposite_packet : (packet null : ℕ → ℕ) (a b : State) → StateEncloses packet null a b → AllOpposite sort.Packet packet (frames_of a) (frames_of b)
+all_opposite_packet : (packet null : ℕ → ℕ) (a b : State) → StateEncloses packet null a b
+    → AllOpposite sort.Packet packet (frames_of a) (frames_of b)
 all_opposite_packet packet null a b c = λ j. record {
-  registers = λ k. opposite_packet packet null (kind_at (kinds_of a j) k) (kind_at (kinds_of b j) k) (c.registers j k);
-  slots = opposite_slots sort.Packet packet packet null (stack_slots_of a j) (stack_slots_of b j) (opposite_packet packet null) (c.slots j);
+  registers =
+      λ k. opposite_packet packet null (kind_at (kinds_of a j) k) (kind_at (kinds_of b j) k)
+      (c.registers j k);
+  slots =
+      opposite_slots sort.Packet packet packet null (stack_slots_of a j) (stack_slots_of b j)
+      (opposite_packet packet null) (c.slots j);
 }
 
-all_opposite_null : (packet null : ℕ → ℕ) (a b : State) → StateEncloses packet null a b → AllOpposite sort.Null null (frames_of a) (frames_of b)
+all_opposite_null : (packet null : ℕ → ℕ) (a b : State) → StateEncloses packet null a b
+    → AllOpposite sort.Null null (frames_of a) (frames_of b)
 all_opposite_null packet null a b c = λ j. record {
-  registers = λ k. opposite_null packet null (kind_at (kinds_of a j) k) (kind_at (kinds_of b j) k) (c.registers j k);
-  slots = opposite_slots sort.Null null packet null (stack_slots_of a j) (stack_slots_of b j) (opposite_null packet null) (c.slots j);
+  registers =
+      λ k. opposite_null packet null (kind_at (kinds_of a j) k) (kind_at (kinds_of b j) k)
+      (c.registers j k);
+  slots =
+      opposite_slots sort.Null null packet null (stack_slots_of a j) (stack_slots_of b j)
+      (opposite_null packet null) (c.slots j);
 }
 
 agree : (packet null : ℕ → ℕ) (a b : State) (j : ℕ) (x : Kind) → StateEncloses packet null a b
     → ((s : Sort) (i : ℕ) → identity_of s x ≡ Some i → NamedIn s (abstract_frame_at a j) i)
     → AgreeOn packet null (packet_name a b) (null_name a b) x
 agree packet null a b j x c named = record {
-  packets = if_some (packet_identity_of x) (λ i. packet_name a b i ≡ packet i) (λ i e. packet_name-is a b packet i c.none
-      (name_of-opposite sort.Packet packet i a b j (all_opposite_packet packet null a b c) (named sort.Packet i e)));
+  packets =
+      if_some (packet_identity_of x) (λ i. packet_name a b i ≡ packet i)
+      (λ i e. packet_name-is a b packet i c.none
+      (name_of-opposite sort.Packet packet i a b j (all_opposite_packet packet null a b c)
+      (named sort.Packet i e)));
   values = if_some (null_identity_of x) (λ i. null_name a b i ≡ null i) (λ i e.
-      name_of-opposite sort.Null null i a b j (all_opposite_null packet null a b c) (named sort.Null i e));
+      name_of-opposite sort.Null null i a b j (all_opposite_null packet null a b c)
+      (named sort.Null i e));
 }
 
 -- the names at the first places serve where other maps do
-pub StateEncloses-names : (packet null : ℕ → ℕ) (a b : State) → StateEncloses packet null a b → StateEncloses (packet_name a b) (null_name a b) a b
+pub StateEncloses-names : (packet null : ℕ → ℕ) (a b : State) → StateEncloses packet null a b
+    → StateEncloses (packet_name a b) (null_name a b) a b
 StateEncloses-names packet null a b c = record {
   none = refl;
   slot = c.slot;
   returns = c.returns;
   registers = λ j k. let x : Kind = kind_at (kinds_of a j) k in
       let here = agree packet null a b j x c (λ s i e. inl (k, e)) in
-      renamed_kind packet null (packet_name a b) (null_name a b) x (kind_at (kinds_of b j) k) here.packets here.values (c.registers j k);
+      renamed_kind packet null (packet_name a b) (null_name a b) x
+      (kind_at (kinds_of b j) k) here.packets here.values (c.registers j k);
   slots = λ j k. let x : StackSlot = slot_at (stack_slots_of a j) k in
       renamed_slot packet null (packet_name a b) (null_name a b) x (slot_at (stack_slots_of b j) k)
       (agree packet null a b j (kind_in x) c
       (λ s i e. inr (k, ap (identity_of s) (kind_in_slot (stack_slots_of a j) k) ∙ e)))
       (c.slots j k);
 }
-
--- ---- equal states
-
-own_kind : (x : Kind) → KindEncloses (λ i. i) (λ i. i) x x
-own_kind Unset = tt
-own_kind (Number numbers) = (
-  λ x h. h,
-  ((omega arith, omega arith, omega (arith, ints), omega (arith, ints)), (omega arith, omega arith, omega (arith, ints), omega (arith, ints))),
-)
-own_kind Context = tt
-own_kind (Stack f o) = (refl, refl)
-own_kind (Packet f i l g p) = (refl, refl, omega (arith, ints), omega (arith, ints), omega arith)
-own_kind PacketEnd = tt
-own_kind (Map m) = refl
-own_kind (MapValue m l g) = (refl, omega (arith, ints), omega (arith, ints))
-own_kind (MapValueOrNull m i) = (refl, refl)
-
-own_slot : (x : StackSlot) → SlotEncloses (λ i. i) (λ i. i) x x
-own_slot (Written marks) = λ i within bit. bit
-own_slot (Spilled k) = own_kind k
-
-pub StateEncloses-own : (a : State) → StateEncloses (λ i. i) (λ i. i) a a
-StateEncloses-own a = record {
-  none = refl;
-  slot = refl;
-  returns = refl;
-  registers = λ j k. own_kind (kind_at (kinds_of a j) k);
-  slots = λ j k. own_slot (slot_at (stack_slots_of a j) k);
-}
-
--- an equal state is found where all is that can be
-pub own_found : (a b : State) (P : Type 0) → ((packet null : ℕ → ℕ) → StateEncloses packet null a b → P) → a ≡ b → P
-own_found a b P found same =
-    found (λ i. i) (λ i. i)
-    (subst (λ b. StateEncloses (λ i. i) (λ i. i) a b) same (StateEncloses-own a))
-
--- ---- a frame
-
-returns_at : (fs gs : List AbstractFrame) (j : ℕ) → map (λ f. f.return_slot) fs ≡ map (λ f. f.return_slot) gs
-    → (get_or fs j no_frame).return_slot ≡ (get_or gs j no_frame).return_slot
-returns_at [] [] j same = refl
-returns_at [] (g ∷ gs) j same = absurd (cc (same))
-returns_at (f ∷ fs) [] j same = absurd (cc (same))
-returns_at (f ∷ fs) (g ∷ gs) zero same = let first : f.return_slot ≡ g.return_slot = cc (same) in first
-returns_at (f ∷ fs) (g ∷ gs) (suc j) same =
-    let rest : map (λ f. f.return_slot) fs ≡ map (λ f. f.return_slot) gs = cc (same) in
-    returns_at fs gs j rest
-
-pub callers-same : (a b : State) (packet null : ℕ → ℕ) → StateEncloses packet null a b → length a.callers.items ≡ length b.callers.items
-callers-same a b packet null c =
-    let same : length (frames_of a) ≡ length (frames_of b) =
-    sym (length-map (frames_of a) (λ f. f.return_slot)) ∙ ap length c.returns ∙ length-map (frames_of b) (λ f. f.return_slot) in
-    let left = length-frames_of a in
-    let right = length-frames_of b in
-    omega arith
-
--- what the test of a frame has to find
-pub record IsFound (a b : State) (f g : AbstractFrame) : Type 0 where
-  pub returns : f.return_slot ≡ g.return_slot
-  pub registers : KindsEnclose (packet_name a b) (null_name a b) f.registers g.registers
-  pub slots : SlotsEnclose (packet_name a b) (null_name a b) f.stack.slots g.stack.slots
-
-found_at : (a b : State) (packet null : ℕ → ℕ) (j : ℕ) → StateEncloses packet null a b → IsFound a b (abstract_frame_at a j) (abstract_frame_at b j)
-found_at a b packet null j c =
-    let named = StateEncloses-names packet null a b c in
-    record { returns = returns_at (frames_of a) (frames_of b) j c.returns; registers = named.registers j; slots = named.slots j }
-
-pub innermost_found : (a b : State) (packet null : ℕ → ℕ) → StateEncloses packet null a b → IsFound a b a.innermost b.innermost
-innermost_found a b packet null c =
-    let same = callers-same a b packet null c in
-    subst (λ f. IsFound a b f b.innermost) (abstract_frame_at-innermost a)
-    (subst (λ g. IsFound a b (abstract_frame_at a (length a.callers.items)) g) (ap (abstract_frame_at b) same ∙ abstract_frame_at-innermost b)
-    (found_at a b packet null (length a.callers.items) c))
-
--- a caller's frame
-pub caller_found : (a b : State) (fs gs : List AbstractFrame) (packet null : ℕ → ℕ) (n : ℕ) (f g : AbstractFrame) → fs ≡ a.callers.items
-    → gs ≡ b.callers.items → StateEncloses packet null a b → n < length fs → n < length gs → f ≡ get_or fs n f → g ≡ get_or gs n g
-    → IsFound a b f g
-caller_found a b fs gs packet null n f g is_a is_b c in_a in_b at_f at_g =
-    let of_a : n < length a.callers.items = rw is_a at in_a in
-    let of_b : n < length b.callers.items = rw is_b at in_b in
-    let left : f ≡ abstract_frame_at a n =
-    at_f ∙ get_or_default fs n f no_frame in_a ∙ ap (λ fs. get_or fs n no_frame) is_a ∙ sym (abstract_frame_at-caller a n (omega arith)) in
-    let right : g ≡ abstract_frame_at b n =
-    at_g ∙ get_or_default gs n g no_frame in_b ∙ ap (λ gs. get_or gs n no_frame) is_b ∙ sym (abstract_frame_at-caller b n (omega arith)) in
-    subst (λ f. IsFound a b f g) (sym left) (subst (λ g. IsFound a b (abstract_frame_at a n) g) (sym right) (found_at a b packet null n c))

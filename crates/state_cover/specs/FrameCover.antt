@@ -1,6 +1,5 @@
--- When a call frame covers another, under maps of identities;
--- and when a test by registers and slots has to find that a state
--- does.
+-- When a call frame covers another, by maps of identities; and when a test of registers and slots
+-- has to find that a state covers another.
 use Rattle.std.specs.Prelude.{◌≡◌, ℕ, ◌<◌, List, map}
 use Rattle.std.specs.Int.{bit_at}
 use Rattle.reg_state.specs.declared.kinds.Kind.{Kind}
@@ -25,7 +24,7 @@ SlotCovers packet null (Written marks) b = AreAmong marks (marks_of b)
 SlotCovers packet null (Spilled k) (Spilled l) = KindCovers packet null k l
 SlotCovers packet null (Spilled k) (Written marks) = ⊥
 
--- a covers b, and of numbers what is written of them shows it: their bits and their limits
+-- a covers b, and where they hold numbers their bits and limits show it
 abbrev pub SlotEncloses : (ℕ → ℕ) → (ℕ → ℕ) → StackSlot → StackSlot → Type 0
 SlotEncloses packet null (Written marks) b = AreAmong marks (marks_of b)
 SlotEncloses packet null (Spilled k) (Spilled l) = KindEncloses packet null k l

@@ -15,13 +15,13 @@ use names::name_in;
 use reg_state::Kind;
 use stack_state::{AbstractFrame, FRAME_SLOTS, StackSlot, State};
 
-/// A yes says that `a` means every machine state that `b` means.
+/// True only if `a` means every machine state that `b` means.
 pub fn covers(a: &State, b: &State) -> bool
     ensures yes { IsTrue result → (p : Program) → Covers p a.now b.now }
     ensures slot { IsTrue result → a.now.slot ≡ b.now.slot }
 
-    // It finds what can be found by registers and stack slots, whatever b calls the identities of
-    // a, and by bits and limits of numbers.
+    // It is true wherever registers and stack slots show it, with numbers compared by bits and
+    // limits, whatever b calls the identities of a.
     ensures encloses { (packet null : ℕ → ℕ) → StateEncloses packet null a.now b.now
         → IsTrue result }
     ensures equal { a.now ≡ b.now → IsTrue result }
@@ -143,7 +143,7 @@ fn kind_covers(left: &Kind, right: &Kind, a: &State, b: &State) -> bool
     }
 }
 
-// Whether a kind covers another, where the first is not unset. Few kinds are compared so.
+// Whether a kind covers another, where the first is not unset. Few kinds reach this comparison.
 #[inline(never)]
 fn set_covers(left: Kind, right: Kind, a: &State, b: &State) -> bool
     requires { length a.now.callers.items ≡ length b.now.callers.items }

@@ -1,4 +1,4 @@
--- Frames as what is known of them, part by part.
+-- Call frames as what is known of them, part by part.
 use Rattle.std.specs.Prelude.{◌≡◌, ℕ, ◌+◌, ◌<◌, ◌==◌, List, [], ◌∷◌, ◌++◌, length, replicate, slice_set, Option, Some, None, option_to_list, if◌then◌else◌}
 use Rattle.reg_state.specs.declared.kinds.Kind.{Kind}
 use Rattle.reg_state.specs.declared.kinds.Kind.TheVariants.{Unset}
@@ -58,7 +58,11 @@ IsPartOf f (InSlot n t) = slot_at f.stack.slots n ≡ t
 -- a frame about which nothing is known
 unfoldable pub unset_frame : ℕ → AbstractFrame
 unset_frame slot =
-    record { return_slot = slot; registers = replicate 10 Unset; stack = record { slots = replicate frame_slots (Written 0) } }
+    record {
+      return_slot = slot;
+      registers = replicate 10 Unset;
+      stack = record { slots = replicate frame_slots (Written 0) };
+    }
 
 abbrev pub with_slot : AbstractFrame → ℕ → StackSlot → AbstractFrame
 with_slot f n t = record f { stack = record { slots = slice_set f.stack.slots n t } }

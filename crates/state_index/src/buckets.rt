@@ -1,4 +1,4 @@
-//! Buckets of stored states, which link them by their positions.
+//! Buckets of stored states, which link them by their indexes.
 
 /// Where a stored state is found.
 #[derive(Clone, Copy, PartialEq, Eq, Drop)]

@@ -25,10 +25,10 @@ impl<'a> Iterator for ShapesAt<'a> {
         if self.left == 0 {
             return None;
         }
-        let position = self.next? as usize;
-        self.next = self.shapes.get(position)?.next;
+        let index = self.next? as usize;
+        self.next = self.shapes.get(index)?.next;
         self.left -= 1;
-        Some(position)
+        Some(index)
     }
 }
 
@@ -50,10 +50,10 @@ impl<'a> Iterator for UnfinishedCandidates<'a> {
         if self.left == 0 {
             return None;
         }
-        let position = self.next? as usize;
-        self.next = self.links.get(position)?.next;
+        let index = self.next? as usize;
+        self.next = self.links.get(index)?.next;
         self.left -= 1;
-        Some(position)
+        Some(index)
     }
 }
 
@@ -75,14 +75,14 @@ pub struct FinishedCandidates<'a> {
 }
 
 impl<'a> FinishedCandidates<'a> {
-    /// The next stored state that was stored before a position.
+    /// The next stored state that was stored before the one with this index.
     pub fn next_before(&mut self, before: usize, effort: &mut Effort) -> Option<usize> {
         for _tree in 0..self.trees.len() {
             let [tree, others @ ..] = self.trees else {
                 break;
             };
             match self.next_in(tree, before, effort) {
-                Some(position) => return Some(position),
+                Some(index) => return Some(index),
                 None => {
                     self.trees = others;
                     self.number = 0;
@@ -103,21 +103,21 @@ impl<'a> FinishedCandidates<'a> {
         let number = tree.next_from(self.number, &sought, effort)?;
         self.number = number.saturating_add(1);
         self.sought = Some(sought);
-        tree.position(number)
+        tree.index_at(number)
     }
 
     /// The next stored state of the bucket.
     fn next_in_bucket(&mut self, before: usize, effort: &mut Effort) -> Option<usize> {
         for _tried in 0..self.links.len() {
-            let position = self.next? as usize;
-            if self.is_ordered && position >= before {
+            let index = self.next? as usize;
+            if self.is_ordered && index >= before {
                 return None;
             }
             effort.spend_test();
-            let link = self.links.get(position)?;
+            let link = self.links.get(index)?;
             self.next = link.next;
-            if position < before && link.known == self.known {
-                return Some(position);
+            if index < before && link.known == self.known {
+                return Some(index);
             }
         }
         None

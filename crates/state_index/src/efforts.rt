@@ -3,8 +3,7 @@
 /// How many parts may be compared in one verification. Past that nothing is looked up any more.
 const MOST: u64 = 250_000_000;
 
-/// How many comparisons of parts a test of a row or of a link takes, however many it
-/// has.
+/// How many comparisons of parts a test of a row or of a link counts as, however many it makes.
 const TEST: usize = 8;
 
 /// How many it takes to put a stored state into a tree, and how many for each of its parts.

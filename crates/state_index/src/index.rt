@@ -25,8 +25,8 @@ const BUCKETS: usize = 64;
 /// How many shapes a slot has at most, but for the last one, which knows nothing.
 const SHAPES: usize = 256;
 
-/// An index of stored states, which are known by their positions: 0, 1, .. in the order in which
-/// they were added.
+/// An index of stored states, which are known by their indexes: 0, 1, .. in the order in which they
+/// were added.
 #[derive(Drop)]
 pub struct StateIndex {
     links: Vec<StateLink>,
@@ -125,32 +125,32 @@ impl StateIndex {
         self.tree_sets.note_scan(alloc, known, count)
     }
 
-    /// The states that are to come into a tree, and how many trees of the same set stay.
+    /// The states that are to be put into a tree, and how many trees of the same set stay.
     pub fn tree_candidates(
         &self,
         alloc: Global,
         known: u64,
         effort: &mut Effort,
     ) -> Result<(Vec<u32>, usize), AllocError> {
-        let mut positions = Vec::new(alloc);
+        let mut indexes = Vec::new(alloc);
         let mut candidates = self.finished_candidates(known, &[]);
         candidates.trees = &[];
         for _state in 0..self.links.len() {
-            let Some(position) = candidates.next_before(usize::MAX, effort) else {
+            let Some(index) = candidates.next_before(usize::MAX, effort) else {
                 break;
             };
-            if let Ok(position) = u32::try_from(position) {
-                positions.push(position)?;
+            if let Ok(index) = u32::try_from(index) {
+                indexes.push(index)?;
             }
         }
-        let left = self.tree_sets.gather(known, &mut positions)?;
-        Ok((positions, left))
+        let left = self.tree_sets.gather(known, &mut indexes)?;
+        Ok((indexes, left))
     }
 
     /// Adds a tree to a set after the first `left` others, and its stored states leave their links.
     pub fn add_tree(&mut self, known: u64, left: usize, tree: Tree) -> Result<(), AllocError> {
-        for position in tree.positions() {
-            if let Some(link) = self.links.get_mut(*position as usize) {
+        for index in tree.indexes() {
+            if let Some(link) = self.links.get_mut(*index as usize) {
                 link.stage = Stage::InTree;
             }
         }
@@ -273,7 +273,7 @@ impl StateIndex {
     }
 
     /// Puts a stored state into its bucket of finished ones, if it belongs there, and else notes
-    /// its position there; all that were stored before it were put there, and those after it were
+    /// where it would be; all that were stored before it were put there, and those after it were
     /// not.
     fn file_by_known(&mut self, index: usize) {
         let Some(link) = self.links.get_mut(index) else {
@@ -339,26 +339,26 @@ impl StateIndex {
     }
 
     /// Makes the stored state the one after another finished one of its bucket, or the first.
-    fn put_after(&mut self, known: u64, before: Option<u32>, position: Option<u32>) {
+    fn put_after(&mut self, known: u64, before: Option<u32>, index: Option<u32>) {
         let bucket = bucket_of(known, self.finished.len());
         let Some(bucket) = self.finished.get_mut(bucket) else {
             return;
         };
         bucket.marks |= mark_of(known);
         if bucket.last == before {
-            bucket.last = position;
+            bucket.last = index;
         }
         let next = match before {
-            None => mem::replace(&mut bucket.first, position),
+            None => mem::replace(&mut bucket.first, index),
             Some(before) => match self.links.get_mut(before as usize) {
-                Some(link) => mem::replace(&mut link.next, position),
+                Some(link) => mem::replace(&mut link.next, index),
                 None => None,
             },
         };
-        let Some(position) = position else {
+        let Some(index) = index else {
             return;
         };
-        if let Some(link) = self.links.get_mut(position as usize) {
+        if let Some(link) = self.links.get_mut(index as usize) {
             link.next = next;
         }
     }

@@ -43,7 +43,7 @@ pub struct Measure {
 }
 
 /// How wide what is known of a part is in some states: limits that enclose those of each, and
-/// beside them the least of each measure.
+/// besides them the least of each measure.
 #[derive(Clone, Copy, Drop)]
 pub struct PartSpan {
     pub limits: PartLimits,
@@ -164,8 +164,8 @@ impl PartLimits {
         })
     }
 
-    /// Whether all that is measured here may be in a state that covers one where the other limits
-    /// are: a no says that it is not.
+    /// Whether a state with this part may cover one with the other part: `false` says that it does
+    /// not.
     fn may_enclose(&self, other: &PartLimits) -> bool {
         if self.sort != other.sort {
             return self.sort == Sort::Written;
@@ -234,7 +234,7 @@ pub fn from_part(limits: &[PartLimits], number: u32) -> &[PartLimits] {
     rest
 }
 
-/// Whether a state with these limits may cover one with others: a no says that it does not.
+/// Whether a state with these limits may cover one with the others: `false` says that it does not.
 pub fn may_enclose(limits: &[PartLimits], others: &[PartLimits]) -> bool {
     let mut rest = others;
     for own in limits {

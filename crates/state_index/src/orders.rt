@@ -28,7 +28,7 @@ fn word_at(rows: &[u64], width: usize, number: usize, column: usize) -> u64 {
     rows.get(index).copied().unwrap_or(0)
 }
 
-/// Whether rows differ in a column, as far as some of them show.
+/// Whether a sample of the rows differs in a column.
 fn differ(order: &[Row], rows: &[u64], width: usize, column: usize) -> bool {
     let Some(first) = order.first() else {
         return false;
@@ -85,7 +85,7 @@ impl RowOrder {
         Ok(RowOrder { order })
     }
 
-    /// Puts rows of such a width into order.
+    /// Puts rows of this width into order.
     pub fn arrange(&mut self, rows: &[u64], width: usize) {
         let mut size = FAN;
         for _doubled in 0..WORD {
@@ -104,9 +104,9 @@ impl RowOrder {
         }
     }
 
-    /// The number of the row at a position of the order.
-    pub fn number(&self, position: usize) -> Option<usize> {
-        let row = self.order.get(position)?;
+    /// The number of the row with this index in the order.
+    pub fn number(&self, index: usize) -> Option<usize> {
+        let row = self.order.get(index)?;
         Some(row.number)
     }
 }

@@ -61,25 +61,25 @@ fn push_registers(parts: &mut Vec<Part>, registers: &[Kind; 10]) -> Result<(), A
 /// Whether nothing is known of eight stack slots, from a multiple of eight on. Nothing is known of
 /// a stack slot that is not in `known`.
 #[inline(always)]
-fn are_blank(slots: &[StackSlot; FRAME_SLOTS], known: SlotMask, block: usize) -> bool
-    requires inside { block < 8 }
+fn are_blank(slots: &[StackSlot; FRAME_SLOTS], known: SlotMask, group: usize) -> bool
+    requires inside { group < 8 }
     requires blank { AreBlankBeside known slots.now }
-    ensures { IsTrue result → (j : ℕ) → 8 * block ≤ j → j < 8 * block + 8
+    ensures { IsTrue result → (j : ℕ) → 8 * group ≤ j → j < 8 * group + 8
         → slot_at slots.now j ≡ StackSlot.Written 0 }
 {
-    if known.is_empty_in(block as u8) {
+    if known.is_empty_in(group as u8) {
         return true;
     }
     for number in 0..8 {
-        let StackSlot::Written(0) = &slots[8 * block + number] else {
+        let StackSlot::Written(0) = &slots[8 * group + number] else {
             return false;
         };
     }
     true
 }
 
-/// Appends the stack slots of which something is known; all of them are in `known`. Most often
-/// nothing is known of eight in a row, which are skipped.
+/// Appends the stack slots about which something is known; all of them are in `known`. Most often
+/// nothing is known about eight in a row, and they are skipped.
 fn push_slots(
     parts: &mut Vec<Part>,
     slots: &[StackSlot; FRAME_SLOTS],
@@ -92,10 +92,10 @@ fn push_slots(
     if known.is_empty() {
         return Ok(());
     }
-    for block in 0..FRAME_SLOTS / 8 {
-        if !are_blank(slots, known, block) {
+    for group in 0..FRAME_SLOTS / 8 {
+        if !are_blank(slots, known, group) {
             for number in 0..8 {
-                let index = 8 * block + number;
+                let index = 8 * group + number;
                 push_slot(parts, index as u8, &slots[index])?;
             }
         }

@@ -1,4 +1,4 @@
-//! Rows of words that tell stored states apart: what a tree is made of.
+//! Rows of words in which stored states differ: what a tree is made of.
 
 use crate::limits::{MEASURES, Measure, PartLimits, PartSpan, from_part, measured, widen};
 use std::alloc::{AllocError, Global};
@@ -6,7 +6,7 @@ use std::alloc::{AllocError, Global};
 /// How many words a row has at most.
 pub const WIDTH: usize = 32;
 
-/// How wide what is known of each part is in the states that come into a tree.
+/// How wide what is known of each part is in the states that are put into a tree.
 #[derive(Drop)]
 pub struct Spread {
     spans: Vec<PartSpan>,
@@ -14,7 +14,7 @@ pub struct Spread {
     count: usize,
 }
 
-/// A row for each stored state that comes into a tree: a word for its position, which is greater
+/// A row for each stored state that is put into a tree: a word for its index, which is greater
 /// where it was stored earlier, and one for each measure in which states differ.
 #[derive(Drop)]
 pub struct Rows {
@@ -22,7 +22,7 @@ pub struct Rows {
     pub common: Vec<PartLimits>,
     /// Those in which states differ, in the order of their parts.
     pub measures: Vec<Measure>,
-    pub positions: Vec<u32>,
+    pub stored: Vec<u32>,
     pub words: Vec<u64>,
 }
 
@@ -71,7 +71,7 @@ impl Spread {
         MEASURES
     }
 
-    /// The measures in which the states differ, as far as rows have room for them.
+    /// The measures in which the states differ, as many as a row has room for.
     fn measures(&self, alloc: Global) -> Result<Vec<Measure>, AllocError> {
         let mut measures = Vec::new(alloc);
         let indexes = self.indexes();
@@ -101,20 +101,20 @@ impl Rows {
         Ok(Rows {
             common,
             measures,
-            positions: Vec::with_capacity(alloc, spread.count)?,
+            stored: Vec::with_capacity(alloc, spread.count)?,
             words: Vec::with_capacity(alloc, words)?,
         })
     }
 
     /// Adds the row of a stored state with these limits.
-    pub fn add(&mut self, position: u32, limits: &[PartLimits]) -> Result<(), AllocError> {
+    pub fn add(&mut self, index: u32, limits: &[PartLimits]) -> Result<(), AllocError> {
         let mut row = [0; WIDTH];
-        row[0] = !u64::from(position);
+        row[0] = !u64::from(index);
         put_measured(&mut row, &self.measures, limits);
         let width = self.measures.len().saturating_add(1);
         self.words
             .extend_from_slice(row.get(..width).unwrap_or(&[]))?;
-        self.positions.push(position)?;
+        self.stored.push(index)?;
         Ok(())
     }
 }

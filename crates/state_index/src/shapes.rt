@@ -20,13 +20,13 @@ struct Known {
     unknown: u64,
 }
 
-/// The numbers in the innermost frame of a state, in the order of their parts.
+/// The numbers in the innermost call frame of a state, in the order of their parts.
 #[derive(Drop)]
 pub struct Shape {
     numbers: Vec<Known>,
 }
 
-/// The number of a part, and what it is known to hold, if it is known to be one.
+/// A number for the part, and what it is known to hold, if that is known to be a number.
 fn number_in(part: &Part) -> Option<(u64, &Scalar)> {
     match part {
         Part::InRegister(number, Kind::Number(numbers)) => Some((u64::from(*number), numbers)),

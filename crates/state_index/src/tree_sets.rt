@@ -36,7 +36,7 @@ struct TreeSet {
 #[derive(Drop)]
 pub struct TreeSets {
     sets: Vec<TreeSet>,
-    /// By what is known: a power of two.
+    /// By what is known; their number is a power of two.
     buckets: Vec<Option<u32>>,
 }
 
@@ -55,10 +55,10 @@ impl TreeSets {
     fn find(&self, known: u64) -> Option<usize> {
         let mut next = self.buckets.get(bucket_of(known, self.buckets.len()))?;
         for _tried in 0..self.sets.len() {
-            let position = (*next)? as usize;
-            let set = self.sets.get(position)?;
+            let index = (*next)? as usize;
+            let set = self.sets.get(index)?;
             if set.known == known {
-                return Some(position);
+                return Some(index);
             }
             next = &set.next;
         }
@@ -71,7 +71,7 @@ impl TreeSets {
             return (&[], None);
         }
         match self.find(known) {
-            Some(position) => match self.sets.get(position) {
+            Some(index) => match self.sets.get(index) {
                 Some(set) => (&set.trees, set.unplaced),
                 None => (&[], None),
             },
@@ -81,7 +81,7 @@ impl TreeSets {
 
     /// Adds a finished stored state with these known bits to its set, if that has trees; returns
     /// the unplaced stored state after it.
-    pub fn add_unplaced(&mut self, known: u64, position: usize) -> Option<Option<u32>> {
+    pub fn add_unplaced(&mut self, known: u64, index: usize) -> Option<Option<u32>> {
         if self.sets.is_empty() {
             return None;
         }
@@ -91,7 +91,7 @@ impl TreeSets {
             return None;
         }
         set.unplaced_count = set.unplaced_count.saturating_add(1);
-        Some(mem::replace(&mut set.unplaced, u32::try_from(position).ok()))
+        Some(mem::replace(&mut set.unplaced, u32::try_from(index).ok()))
     }
 
     /// Notes that states were scanned, and returns whether a tree is to be made.
@@ -154,7 +154,7 @@ impl TreeSets {
 
     /// Merges states with these known bits with those of the smallest trees, three trees at a
     /// time, while these are not much larger; returns how many trees are left.
-    pub fn gather(&self, known: u64, positions: &mut Vec<u32>) -> Result<usize, AllocError> {
+    pub fn gather(&self, known: u64, indexes: &mut Vec<u32>) -> Result<usize, AllocError> {
         let (trees, _) = self.trees(known);
         let mut left = trees.len();
         for _group in 0..trees.len() {
@@ -163,11 +163,11 @@ impl TreeSets {
             };
             let group = trees.get(start..left).unwrap_or(&[]);
             match group.first() {
-                Some(tree) if tree.positions().len() / 2 <= positions.len() => {}
+                Some(tree) if tree.indexes().len() / 2 <= indexes.len() => {}
                 _ => break,
             }
             for tree in group {
-                positions.extend_from_slice(tree.positions())?;
+                indexes.extend_from_slice(tree.indexes())?;
             }
             left = start;
         }

@@ -18,7 +18,7 @@ pub type Sought = [u64; WIDTH];
 
 /// Stored states, those with like limits beside one another.
 ///
-/// A row has a word for the position of a stored state, which is greater where it was stored
+/// A row has a word for the index of a stored state, which is greater where it was stored
 /// earlier, and one for each measure in which states differ. It may cover a state only where each
 /// of its words is at least as great as the state's.
 #[derive(Drop)]
@@ -26,7 +26,7 @@ pub struct Tree {
     /// Limits that enclose those of all states.
     common: Vec<PartLimits>,
     measures: Vec<Measure>,
-    positions: Vec<u32>,
+    indexes: Vec<u32>,
     /// The lowest level has a row for each stored state. A row of a higher level has the greatest
     /// words of the rows that it summarizes.
     levels: Vec<Vec<u64>>,
@@ -92,15 +92,15 @@ impl Tree {
     /// A tree of the states that have these rows.
     pub fn of(alloc: Global, rows: Rows) -> Result<Self, AllocError> {
         let width = width(&rows.measures);
-        let count = rows.positions.len();
+        let count = rows.stored.len();
         let mut order = RowOrder::of(alloc, count)?;
         order.arrange(&rows.words, width);
-        let mut positions = Vec::with_capacity(alloc, count)?;
+        let mut indexes = Vec::with_capacity(alloc, count)?;
         let mut nodes = Vec::with_capacity(alloc, rows.words.len())?;
-        for position in 0..count {
-            let number = order.number(position).unwrap_or(0);
-            if let Some(position) = rows.positions.get(number) {
-                positions.push(*position)?;
+        for index in 0..count {
+            let number = order.number(index).unwrap_or(0);
+            if let Some(index) = rows.stored.get(number) {
+                indexes.push(*index)?;
                 nodes.extend_from_slice(row(&rows.words, width, number).unwrap_or(&[]))?;
             }
         }
@@ -108,14 +108,14 @@ impl Tree {
         Ok(Tree {
             common: rows.common,
             measures: rows.measures,
-            positions,
+            indexes,
             levels,
         })
     }
 
-    /// The positions of its states.
-    pub fn positions(&self) -> &[u32] {
-        &self.positions
+    /// The indexes of its states.
+    pub fn indexes(&self) -> &[u32] {
+        &self.indexes
     }
 
     /// The words that are sought for a state with these limits, if a stored state may cover it.
@@ -128,17 +128,17 @@ impl Tree {
         Some(sought)
     }
 
-    /// The position of a stored state.
-    pub fn position(&self, number: usize) -> Option<usize> {
-        let position = *self.positions.get(number)?;
-        Some(position as usize)
+    /// The index of a stored state.
+    pub fn index_at(&self, number: usize) -> Option<usize> {
+        let index = *self.indexes.get(number)?;
+        Some(index as usize)
     }
 
     /// The first stored state, from this one on, that may cover a state by the words of its row.
     pub fn next_from(&self, number: usize, sought: &Sought, effort: &mut Effort) -> Option<usize> {
         let mut number = number;
-        for _tried in 0..self.positions.len() {
-            if number >= self.positions.len() {
+        for _tried in 0..self.indexes.len() {
+            if number >= self.indexes.len() {
                 return None;
             }
             match self.barred_from(number, sought, effort) {
@@ -149,8 +149,8 @@ impl Tree {
         None
     }
 
-    /// The stored state after those that are passed over, which are in the highest row that begins
-    /// at this one and does not reach the words, if there is one.
+    /// The stored state after the ones to pass over: those of the highest row that begins at this
+    /// one and does not reach the words, if there is such a row.
     fn barred_from(&self, number: usize, sought: &Sought, effort: &mut Effort) -> Option<usize> {
         for level in (0..self.levels.len()).rev() {
             let shift = FAN_BITS.wrapping_mul(u32::try_from(level).unwrap_or(0));

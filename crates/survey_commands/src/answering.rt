@@ -1,4 +1,4 @@
-//! What the program does with its words, and its status.
+//! What the program does for its arguments, and the status that it ends with.
 
 ghost use Rattle.std.specs.Prelude.{◌≤◌, IfOk};
 
@@ -11,7 +11,7 @@ use std::rt::{Clock, Files};
 use survey_words::{Asked, read_words};
 use words::WordsError;
 
-/// Does what is asked for, and answers the status.
+/// Does what is asked for, and returns the status.
 fn serve<R: Files + Clock + AllocGlobal + Clone + Drop, W1: Write, W2: Write>(
     rt: &R,
     asked: &Asked<'_>,
@@ -29,7 +29,7 @@ fn serve<R: Files + Clock + AllocGlobal + Clone + Drop, W1: Write, W2: Write>(
     }
 }
 
-/// Flushes standard output after a task that ended so.
+/// Flushes standard output after a task. If the flush fails, that is how the task ended.
 fn flushed<R: AllocGlobal, W: Write + Drop>(
     rt: &R,
     ended: Result<u8, SurveyError>,
@@ -45,9 +45,9 @@ fn flushed<R: AllocGlobal, W: Write + Drop>(
     }
 }
 
-/// Does what the arguments ask for, and answers the program's status: 0 all images are accepted, 1
-/// invalid arguments, 2 one is refused, 4 a file or an output failed, 5 out of memory. The progress
-/// of a survey is written to standard error if that is asked for.
+/// Does what the arguments ask for, and returns the program's status: 0 all images are accepted, 1
+/// invalid arguments, 2 one is refused, 4 a file or an output failed, 5 out of memory. With
+/// `has_progress` the progress of a survey is written to standard error.
 pub fn execute<R: Files + Clock + AllocGlobal + Clone + Drop, W1: Write + Drop, W2: Write>(
     rt: &R,
     words: &[String],
@@ -68,7 +68,7 @@ pub fn execute<R: Files + Clock + AllocGlobal + Clone + Drop, W1: Write + Drop, 
     }
 }
 
-/// Does what the program's words ask for, and answers its status; if they could not be read,
+/// Does what the program's arguments ask for, and returns its status; if they could not be read,
 /// standard error says why.
 pub fn answer<R: Files + Clock + AllocGlobal + Clone + Drop, W1: Write + Drop, W2: Write>(
     rt: &R,

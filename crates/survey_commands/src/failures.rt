@@ -1,4 +1,4 @@
-//! Why the program ends early, and what it says then.
+//! Why the program ends early, and its message then.
 
 ghost use Rattle.std.specs.Prelude.{◌≡◌, ◌≤◌};
 
@@ -32,7 +32,8 @@ impl From<AllocError> for SurveyError {
     }
 }
 
-/// The line for a file or an output that failed. A name that is not UTF-8 is one in a folder.
+/// The line for a file or an output that failed. A name that is not UTF-8 is that of a file in a
+/// folder.
 pub fn file_line(
     alloc: Global,
     what: &str,
@@ -73,8 +74,8 @@ impl SurveyError {
         SurveyError::of_file(alloc, "write", "standard output", error)
     }
 
-    /// Says on standard error what went wrong, and answers the status. Nothing can be said of a
-    /// failure of standard error.
+    /// Says on standard error what went wrong, and returns the status. A failure of standard error
+    /// is not reported.
     pub fn tell<W: Write>(self, err: &mut W) -> u8
         ensures { result ≤ 5 }
     {

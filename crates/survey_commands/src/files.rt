@@ -1,4 +1,4 @@
-//! What files hold.
+//! Reading a file: all of it, or as much as an image can have.
 
 use isa_model::{MAX_MAPS, MAX_SLOTS};
 use std::alloc::Global;
@@ -6,7 +6,7 @@ use std::io::Read;
 use std::rt::Files;
 use std::{fs, io};
 
-// One byte more than the longest image has. The rest of a longer file changes nothing.
+// One byte more than the longest image has. A longer file is refused whatever the rest of it is.
 const PAST_ANY_IMAGE: u64 = 8 + 12 * MAX_MAPS as u64 + 8 * MAX_SLOTS as u64 + 1;
 
 fn read_all<S: Read + Drop>(alloc: Global, mut source: S) -> io::Result<Vec<u8>> {
@@ -15,12 +15,12 @@ fn read_all<S: Read + Drop>(alloc: Global, mut source: S) -> io::Result<Vec<u8>>
     Ok(bytes)
 }
 
-/// What a file holds.
+/// All bytes of a file.
 pub fn read_file<R: Files>(rt: &R, alloc: Global, path: &str) -> io::Result<Vec<u8>> {
     read_all(alloc, fs::open(rt, path)?)
 }
 
-/// What a file holds, as far as an image may go.
+/// The first bytes of a file, at most one more than the longest image has.
 pub fn read_image<R: Files>(rt: &R, alloc: Global, path: &str) -> io::Result<Vec<u8>> {
     let source = fs::open(rt, path)?;
     read_all(alloc, source.take(PAST_ANY_IMAGE))

@@ -8,11 +8,11 @@ use std::{fs, io};
 // The end of an image's name.
 const ENDING: &str = ".image";
 
-/// What a path names: an image, or a folder that cannot be read, or only in part.
+/// A path in a survey: of an image, or of a folder that cannot be read, or only in part.
 #[derive(Drop)]
 pub struct NamedPath {
     pub path: String,
-    /// Why the folder cannot be read.
+    /// Why the folder cannot be read, if it cannot.
     pub failure: Option<ErrorKind>,
 }
 
@@ -61,9 +61,9 @@ fn images_in<R: Files + AllocGlobal + Clone + Drop>(
     let alloc = rt.alloc();
     let mut paths = Vec::new(alloc);
     let mut has_unnamed = false;
-    for entry in fs::read_dir(rt, folder)? {
-        match entry {
-            Ok(entry) => add_path(alloc, entry.path().as_str(), &mut paths)?,
+    for found in fs::read_dir(rt, folder)? {
+        match found {
+            Ok(found) => add_path(alloc, found.path().as_str(), &mut paths)?,
             Err(error) if error.kind() == ErrorKind::InvalidFilename => has_unnamed = true,
             Err(error) => return Err(error),
         }
@@ -72,7 +72,7 @@ fn images_in<R: Files + AllocGlobal + Clone + Drop>(
     Ok(FoundImages { paths, has_unnamed })
 }
 
-/// Adds a path of a folder, if it is that of an image.
+/// Adds the path of a file in a folder, if its name ends as an image's does.
 fn add_path(alloc: Global, path: &str, paths: &mut Vec<String>) -> Result<(), AllocError> {
     if path.ends_with(ENDING) {
         paths.push(String::from_str(alloc, path)?)?;
@@ -80,7 +80,7 @@ fn add_path(alloc: Global, path: &str, paths: &mut Vec<String>) -> Result<(), Al
     Ok(())
 }
 
-/// A list of one path.
+/// One path.
 fn one(alloc: Global, path: &str) -> Result<FoundImages, AllocError> {
     let mut paths = Vec::new(alloc);
     paths.push(String::from_str(alloc, path)?)?;

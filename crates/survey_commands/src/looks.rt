@@ -1,4 +1,4 @@
-//! Looks into one image.
+//! The log, the listing and the graph of one image.
 
 ghost use Rattle.std.specs.Prelude.{◌≤◌, IfOk};
 
@@ -15,16 +15,16 @@ use std::io::Write;
 use std::rt::Files;
 use surveys::{LookError, write_graph, write_listing, write_log};
 
-/// What is looked at.
+/// What is shown of an image.
 #[derive(Clone, Copy, Drop)]
 pub enum Look {
-    /// What was explored, all or at one slot.
+    /// What the search explores, all or at one slot.
     Log(Option<usize>),
     Listing,
     Graph,
 }
 
-/// Says a line or more.
+/// Writes lines to standard output.
 fn say<W: Write>(alloc: Global, text: &str, out: &mut W) -> Result<(), SurveyError> {
     match write_bytes(out, text.as_bytes()) {
         Ok(()) => Ok(()),
@@ -32,13 +32,13 @@ fn say<W: Write>(alloc: Global, text: &str, out: &mut W) -> Result<(), SurveyErr
     }
 }
 
-/// The lines of bytes that are no image.
+/// The lines for bytes that are not an image.
 fn malformed_text(alloc: Global, error: ImageError) -> Result<String, AllocError> {
     let (code, why) = (error.code(), error.sentence());
     format!(in alloc; "refused {code}\n{why}\n")
 }
 
-/// The lines of a program that is refused: the code and the slot, why, and what is known there.
+/// The lines for a program that is refused: the code and the slot, why, and what is known there.
 fn refused_text(
     alloc: Global,
     image: &Image,
@@ -66,7 +66,7 @@ fn write_look<W: Write>(
     }
 }
 
-/// Looks into an image, and answers the status: 2 where it is refused.
+/// Shows an image, and returns the status: 2 if it is refused.
 fn look_into<W: Write>(
     alloc: Global,
     image: &Image,
@@ -92,7 +92,7 @@ fn look_into<W: Write>(
     }
 }
 
-/// Looks into the image in a file, and answers the status.
+/// Shows the image in a file, and returns the status.
 pub fn look_at<R: Files + AllocGlobal, W: Write>(
     rt: &R,
     path: &str,

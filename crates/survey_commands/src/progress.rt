@@ -1,4 +1,4 @@
-//! How far a survey is, as a terminal shows it.
+//! The progress of a survey, as a terminal shows it.
 
 use exact_io::write_bytes;
 use std::alloc::{AllocError, Global};
@@ -7,7 +7,7 @@ use std::io::Write;
 /// What is written before other lines, so that the progress line is erased.
 const CLEARED: &str = "\r\x1b[K";
 
-/// How far a survey is.
+/// The progress of a survey.
 #[derive(Clone, Copy, Drop)]
 pub struct SurveyProgress {
     /// Whether it is shown.
@@ -21,7 +21,7 @@ pub struct SurveyProgress {
 }
 
 impl SurveyProgress {
-    /// No image is judged yet, of this number of images.
+    /// Of this number of images, none is judged yet.
     pub fn of(total: usize, is_shown: bool) -> Self {
         SurveyProgress {
             is_shown,
@@ -36,7 +36,7 @@ impl SurveyProgress {
         format!(in alloc; "{CLEARED}{done} of {total}")
     }
 
-    /// Shows how far the survey is, if that is another number of hundredths than was shown last.
+    /// Shows the progress, unless the same number of hundredths was shown last.
     pub fn show<W: Write>(&mut self, alloc: Global, err: &mut W) -> Result<(), AllocError> {
         if !self.is_shown || self.total == 0 {
             return Ok(());

@@ -16,7 +16,7 @@ use survey_rows::{Counts, Judgement, Row, Summary};
 use survey_words::Survey;
 use surveys::{Judged, judge};
 
-/// Says on standard error why a file cannot be read, and answers how its image is judged.
+/// Says on standard error why a file cannot be read, and returns how its image is judged.
 fn unread<W: Write>(
     alloc: Global,
     path: &str,
@@ -47,8 +47,8 @@ fn row_unread<W: Write>(
     })
 }
 
-/// How an image is judged. One that is accepted, but without the table that is wanted, is not judged
-/// to the end: memory ran out.
+/// How an image is judged. For one that is accepted, but without the table that is wanted, memory
+/// ran out.
 fn verdict_of(judged: &Judged, has_table: bool) -> Judgement {
     match judged.verdict {
         Judgement::Accepted if has_table && judged.table.is_none() => Judgement::NoMemory,
@@ -80,7 +80,7 @@ fn row_of<R: Files + Clock + AllocGlobal, W: Write>(
     })
 }
 
-/// The row of what a path names.
+/// The row of a path.
 fn row_named<R: Files + Clock + AllocGlobal, W: Write>(
     rt: &R,
     named: &NamedPath,
@@ -98,7 +98,7 @@ fn keep(rows: &mut Vec<Row>, row: Row) -> Result<(), AllocError> {
     Ok(())
 }
 
-/// All images that the paths name, and the folders that cannot be read, or not all of them.
+/// All images that the paths name, and the folders that cannot be read, or only in part.
 fn all_named<R: Files + AllocGlobal + Clone + Drop>(
     rt: &R,
     survey: &Survey<'_>,
@@ -119,7 +119,7 @@ fn all_named<R: Files + AllocGlobal + Clone + Drop>(
     Ok(all)
 }
 
-/// The line that standard error gets at the end.
+/// The line that is written to standard error at the end.
 fn summary_line(alloc: Global, summary: &Summary) -> Result<String, AllocError> {
     let accepted = summary.accepted;
     let refused = summary.refused;
@@ -130,8 +130,8 @@ fn summary_line(alloc: Global, summary: &Summary) -> Result<String, AllocError> 
     )
 }
 
-/// Judges images, and writes the row of each one unless it has to wait. Returns the rows that wait
-/// for others, and how the images were judged.
+/// Judges images, and writes the row of each one unless rows have to wait. Returns the rows that
+/// wait, and how many images were judged in which way.
 fn judge_all<R: Files + Clock + AllocGlobal, W1: Write, W2: Write>(
     rt: &R,
     sheet: &Sheet<'_>,
@@ -159,10 +159,10 @@ fn judge_all<R: Files + Clock + AllocGlobal, W1: Write, W2: Write>(
     Ok((waiting, summary))
 }
 
-/// Surveys images: standard output gets a row for each as it is judged, or in the end all in their
-/// order, or what changed; standard error which files cannot be read, how far the survey is where
-/// that is wanted, and at the end how many images were judged in which way. Answers the status of
-/// those.
+/// Surveys images. Standard output gets a row for each image as it is judged, or at the end all
+/// rows in their order, or the differences from an earlier survey. Standard error gets a line for
+/// each file that cannot be read, the progress if that is wanted, and at the end how many images
+/// were judged in which way. Returns the status that says so.
 pub fn survey<R: Files + Clock + AllocGlobal + Clone + Drop, W1: Write, W2: Write>(
     rt: &R,
     survey: &Survey<'_>,

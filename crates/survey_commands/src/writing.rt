@@ -1,4 +1,4 @@
-//! How the rows of a survey are written.
+//! Writing the rows of a survey.
 
 use crate::failures::SurveyError;
 use crate::files::read_file;
@@ -21,7 +21,7 @@ pub struct Sheet<'a> {
 }
 
 impl Sheet<'_> {
-    /// Whether a row has to wait for the others: where rows are sorted or compared.
+    /// Whether a row has to wait for the others, since rows are sorted or compared.
     pub fn has_to_wait(&self) -> bool {
         self.survey.sort.is_some() || self.survey.earlier.is_some()
     }
@@ -93,7 +93,7 @@ fn write_grid<W: Write>(
     }
 }
 
-/// Writes the names of the columns, where rows need not wait.
+/// Writes the names of the columns, if rows need not wait.
 pub fn write_head<W: Write>(
     alloc: Global,
     sheet: &Sheet<'_>,
@@ -106,7 +106,7 @@ pub fn write_head<W: Write>(
     write_grid(alloc, sheet, sheet.survey.has_header, &grid, out)
 }
 
-/// A list of one row.
+/// One row.
 fn one(alloc: Global, row: Row) -> Result<Vec<Row>, AllocError> {
     let mut rows = Vec::new(alloc);
     rows.push(row)?;

@@ -1,4 +1,4 @@
--- The names of columns.
+-- The names of the columns of a survey.
 use Rattle.std.specs.Prelude.{ℕ, List, codes}
 use Rattle.survey_rows.specs.declared.columns.Column.{Column}
 use Rattle.survey_rows.specs.declared.columns.Column.TheVariants as column

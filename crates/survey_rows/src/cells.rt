@@ -1,8 +1,8 @@
-//! Grids: rows of cells under the heads of their columns.
+//! A grid: rows of cells under the heads of their columns.
 
 use std::alloc::{AllocError, Global};
 
-/// What a row has under a head.
+/// What a row has in a column.
 #[derive(Drop)]
 pub enum RowCell {
     Text(String),
@@ -16,7 +16,7 @@ pub enum RowCell {
 #[derive(Clone, Copy, Drop)]
 pub struct ColumnHead {
     pub name: &'static str,
-    /// Whether its cells begin at the left in a grid for people, as those of texts do.
+    /// Whether its cells are aligned at the left in a grid for people, as texts are.
     pub is_left: bool,
     /// The least width of its cells in a grid for people, in characters.
     pub width: usize,

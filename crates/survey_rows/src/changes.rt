@@ -36,7 +36,7 @@ const HEADS: [ColumnHead; 5] = [
     },
 ];
 
-/// The number that a field is, if it is one.
+/// The number that a field spells, if it spells one.
 fn number_of(field: &[u8]) -> Option<u64> {
     match std::str::from_utf8(field) {
         Ok(text) => text.parse::<u64>().ok(),
@@ -106,11 +106,11 @@ fn add_column(
     Ok(())
 }
 
-/// Adds what changed of an image, in the columns that another run repeats.
+/// Adds what changed for an image, in the columns that a second survey repeats.
 fn add_changes(
     alloc: Global,
     earlier: &Earlier,
-    record: &ByteRecord,
+    old_row: &ByteRecord,
     row: &Row,
     rows: &mut Vec<Vec<RowCell>>,
 ) -> Result<(), AllocError> {
@@ -118,7 +118,7 @@ fn add_changes(
         if column == Column::File || column.is_time() {
             continue;
         }
-        if let Some(old) = earlier.field(record, column) {
+        if let Some(old) = earlier.field(old_row, column) {
             add_column(alloc, row, column, old, rows)?;
         }
     }
@@ -137,19 +137,19 @@ fn add_new(alloc: Global, row: &Row, rows: &mut Vec<Vec<RowCell>>) -> Result<(),
 fn add_gone(
     alloc: Global,
     earlier: &Earlier,
-    record: &ByteRecord,
+    old_row: &ByteRecord,
     rows: &mut Vec<Vec<RowCell>>,
 ) -> Result<(), AllocError> {
-    let verdict = match earlier.field(record, Column::Verdict) {
+    let verdict = match earlier.field(old_row, Column::Verdict) {
         Some(field) => cell_of(alloc, field)?,
         None => RowCell::Nothing,
     };
-    let file = std::str::from_utf8(earlier.file(record)).unwrap_or("");
+    let file = std::str::from_utf8(earlier.file(old_row)).unwrap_or("");
     rows.push(change(alloc, file, Column::Verdict, verdict, RowCell::Nothing)?)?;
     Ok(())
 }
 
-/// The files that rows are of.
+/// The files of rows.
 fn files_of(alloc: Global, rows: &[Row]) -> Result<IndexSet<&[u8]>, AllocError> {
     let mut files = IndexSet::new(alloc);
     for row in rows {
@@ -158,8 +158,9 @@ fn files_of(alloc: Global, rows: &[Row]) -> Result<IndexSet<&[u8]>, AllocError> 
     Ok(files)
 }
 
-/// The differences from an earlier survey, given as the bytes of its CSV: a row for each value that
-/// changed, for each image that is new, and for each one that is gone. Times are not compared.
+/// The differences from an earlier survey, which is given as the bytes of its CSV: a row for each
+/// value that changed, for each image that is new, and for each one that is gone. Times are not
+/// compared.
 pub fn changes_since(alloc: Global, bytes: &[u8], surveyed: &[Row]) -> Result<Grid, EarlierError> {
     let earlier = Earlier::read(alloc, bytes)?;
     let by_file = earlier.by_file(alloc)?;
@@ -167,13 +168,13 @@ pub fn changes_since(alloc: Global, bytes: &[u8], surveyed: &[Row]) -> Result<Gr
     let mut rows = Vec::new(alloc);
     for row in surveyed {
         match by_file.get(row.file.as_bytes()) {
-            Some(record) => add_changes(alloc, &earlier, *record, row, &mut rows)?,
+            Some(old_row) => add_changes(alloc, &earlier, *old_row, row, &mut rows)?,
             None => add_new(alloc, row, &mut rows)?,
         }
     }
-    for record in earlier.records() {
-        if !files.contains(earlier.file(record)) {
-            add_gone(alloc, &earlier, record, &mut rows)?;
+    for old_row in earlier.rows() {
+        if !files.contains(earlier.file(old_row)) {
+            add_gone(alloc, &earlier, old_row, &mut rows)?;
         }
     }
     let heads = Vec::from_slice(alloc, &HEADS)?;

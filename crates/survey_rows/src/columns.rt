@@ -10,20 +10,20 @@ pub enum Column {
     File,
     /// `ok`, the code of the refusal, `unreadable` or `memory`.
     Verdict,
-    /// The slot at which it is refused.
+    /// The slot at which the image is refused.
     Slot,
     /// How many slots the code has.
     Slots,
     Maps,
-    /// The most instructions that a run executes.
+    /// The most steps of a run.
     Bound,
     /// How many instructions were explored.
     Explored,
-    /// How many states were stored.
+    /// How many abstract states were stored.
     Stored,
     /// How many instructions the longest path of the search has.
     Deepest,
-    /// How many bytes the stored states take that they do not share.
+    /// How many bytes the stored states take, without those that they share.
     StoredBytes,
     /// How long `verify` took.
     Milliseconds,
@@ -35,7 +35,7 @@ pub enum Column {
     RecheckMilliseconds,
 }
 
-/// All of them, in their order.
+/// All columns, in their order.
 pub const COLUMNS: [Column; 14] = [
     Column::File,
     Column::Verdict,
@@ -54,7 +54,7 @@ pub const COLUMNS: [Column; 14] = [
 ];
 
 impl Column {
-    /// Its name, which is in the first row.
+    /// Its name, which is in the head.
     pub fn name(self) -> &'static str
         ensures { result.now ≡ name_of self }
     {
@@ -76,7 +76,7 @@ impl Column {
         }
     }
 
-    /// The column of a name.
+    /// The column with a name.
     pub fn named(name: &str) -> Option<Column>
         ensures { IfSome result (λ column. name_of column ≡ name.now) }
     {
@@ -88,7 +88,7 @@ impl Column {
         None
     }
 
-    /// Whether it is a time, which another run need not repeat.
+    /// Whether it is a time, which a second survey need not repeat.
     pub fn is_time(self) -> bool {
         matches!(
             self,
@@ -104,7 +104,7 @@ impl Column {
         )
     }
 
-    /// How many characters a grid leaves for it: enough for its name, and for all of its values
+    /// Its width in a grid for people, in characters: enough for its name, and for all values
     /// except a path.
     pub fn width(self) -> usize {
         match self {

@@ -1,10 +1,10 @@
-//! Grids as CSV: a row of names, then a row of fields for each row.
+//! A grid as CSV: the names of the columns, then a line of fields for each row.
 
 use crate::cells::{Grid, head_texts, row_texts};
 use csv::{Writer, WriterBuilder};
 use std::alloc::{AllocError, Global};
 
-/// Writes a row. A writer into memory fails only where that runs out.
+/// Writes a row. A writer into memory fails only if memory runs out.
 fn put_row(writer: &mut Writer<Vec<u8>>, texts: &[String]) -> Result<(), AllocError> {
     for text in texts {
         if writer.write_field(text.as_bytes()).is_err() {
@@ -17,7 +17,7 @@ fn put_row(writer: &mut Writer<Vec<u8>>, texts: &[String]) -> Result<(), AllocEr
     }
 }
 
-/// A grid as CSV, with a line of column names first, if they are asked for.
+/// A grid as CSV, with the names of the columns in the first line if they are asked for.
 pub fn csv_text(alloc: Global, grid: &Grid, has_header: bool) -> Result<Vec<u8>, AllocError> {
     let mut writer = WriterBuilder::new().from_writer(Vec::new(alloc));
     if has_header {

@@ -6,7 +6,7 @@ use indexmap::IndexMap;
 use std::alloc::{AllocError, Global};
 use std::io;
 
-/// Why an earlier survey is not compared with.
+/// Why a survey cannot be compared with an earlier one.
 #[derive(Clone, Copy, PartialEq, Eq, Debug, Drop)]
 pub enum EarlierError {
     /// It is not CSV, or has no column `file`.
@@ -25,11 +25,11 @@ impl From<AllocError> for EarlierError {
     }
 }
 
-/// An earlier survey: the names of its columns, and a record for each image.
+/// An earlier survey: the names of its columns, and a row for each image.
 #[derive(Drop)]
 pub struct Earlier {
     names: ByteRecord,
-    records: Vec<ByteRecord>,
+    rows: Vec<ByteRecord>,
 }
 
 fn error_of(error: &Error) -> EarlierError {
@@ -43,18 +43,18 @@ fn error_of(error: &Error) -> EarlierError {
     }
 }
 
-/// The next record, if there is one.
+/// The next row, if there is one.
 fn next(alloc: Global, reader: &mut Reader<&[u8]>) -> Result<Option<ByteRecord>, EarlierError> {
-    let mut record = ByteRecord::new(alloc);
-    match reader.read_byte_record(&mut record) {
-        Ok(true) => Ok(Some(record)),
+    let mut row = ByteRecord::new(alloc);
+    match reader.read_byte_record(&mut row) {
+        Ok(true) => Ok(Some(row)),
         Ok(false) => Ok(None),
         Err(error) => Err(error_of(&error)),
     }
 }
 
-fn keep(records: &mut Vec<ByteRecord>, record: ByteRecord) -> Result<(), AllocError> {
-    records.push(record)?;
+fn keep(rows: &mut Vec<ByteRecord>, row: ByteRecord) -> Result<(), AllocError> {
+    rows.push(row)?;
     Ok(())
 }
 
@@ -71,7 +71,7 @@ fn index_of(names: &ByteRecord, column: Column) -> Option<usize> {
 }
 
 impl Earlier {
-    /// The survey that bytes are.
+    /// The survey that bytes spell.
     pub fn read(alloc: Global, bytes: &[u8]) -> Result<Self, EarlierError> {
         let mut reader = ReaderBuilder::new()
             .has_headers(false)
@@ -82,39 +82,39 @@ impl Earlier {
         if index_of(&names, Column::File).is_none() {
             return Err(EarlierError::Form);
         }
-        let mut records = Vec::new(alloc);
-        // Each record has a byte at least.
+        let mut rows = Vec::new(alloc);
+        // Each row has at least one byte.
         for _ in 0..bytes.len() {
             match next(alloc, &mut reader)? {
-                Some(record) => keep(&mut records, record)?,
+                Some(row) => keep(&mut rows, row)?,
                 None => break,
             }
         }
-        Ok(Earlier { names, records })
+        Ok(Earlier { names, rows })
     }
 
-    /// All records.
-    pub fn records(&self) -> &[ByteRecord] {
-        self.records.as_slice()
+    /// All rows.
+    pub fn rows(&self) -> &[ByteRecord] {
+        self.rows.as_slice()
     }
 
-    /// The field of a record in a column.
-    pub fn field<'a>(&self, record: &'a ByteRecord, column: Column) -> Option<&'a [u8]> {
-        record.get(index_of(&self.names, column)?)
+    /// The field of a row in a column.
+    pub fn field<'a>(&self, row: &'a ByteRecord, column: Column) -> Option<&'a [u8]> {
+        row.get(index_of(&self.names, column)?)
     }
 
-    /// The file that a record is of.
-    pub fn file<'a>(&self, record: &'a ByteRecord) -> &'a [u8] {
-        self.field(record, Column::File).unwrap_or(b"")
+    /// The file of a row.
+    pub fn file<'a>(&self, row: &'a ByteRecord) -> &'a [u8] {
+        self.field(row, Column::File).unwrap_or(b"")
     }
 
-    /// The record of each file; of two records of one file, the first.
+    /// The row of each file; if a file has two, the first.
     pub fn by_file(&self, alloc: Global) -> Result<IndexMap<&[u8], &ByteRecord>, AllocError> {
         let mut all = IndexMap::new(alloc);
-        for record in &self.records {
-            let file = self.file(record);
+        for row in &self.rows {
+            let file = self.file(row);
             if !all.contains_key(file) {
-                all.insert(file, record)?;
+                all.insert(file, row)?;
             }
         }
         Ok(all)

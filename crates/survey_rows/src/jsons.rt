@@ -1,11 +1,11 @@
-//! Grids as JSON: a line with an object for each row.
+//! A grid as JSON: a line with an object for each row.
 
 use crate::cells::{ColumnHead, Grid, RowCell};
 use serde_json::{Map, Value};
 use std::alloc::{AllocError, Global};
 use std::num::nearest_u64_to_f64;
 
-/// A cell as a value.
+/// A cell as a JSON value.
 fn value_of(alloc: Global, cell: &RowCell) -> Result<Value, AllocError> {
     match cell {
         RowCell::Text(text) => Ok(Value::from(String::from_str(alloc, text.as_str())?)),
@@ -15,17 +15,17 @@ fn value_of(alloc: Global, cell: &RowCell) -> Result<Value, AllocError> {
     }
 }
 
-/// A row as an object, whose members have the names of the columns.
+/// A row as a JSON object, with a value under each column's name.
 fn object_of(alloc: Global, heads: &[ColumnHead], row: &[RowCell]) -> Result<Value, AllocError> {
-    let mut members = Map::new(alloc);
+    let mut values = Map::new(alloc);
     for index in 0..heads.len() {
         if let Some(cell) = row.get(index) {
             let name = String::from_str(alloc, heads[index].name)?;
             let value = value_of(alloc, cell)?;
-            members.insert(name, value)?;
+            values.insert(name, value)?;
         }
     }
-    Ok(Value::Object(members))
+    Ok(Value::Object(values))
 }
 
 /// A grid as JSON, a line for each row.

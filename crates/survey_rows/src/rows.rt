@@ -19,7 +19,7 @@ pub enum Judgement {
 }
 
 impl Judgement {
-    /// Its word in a row.
+    /// The text that says it in a row.
     pub fn name(self) -> &'static str {
         match self {
             Judgement::Accepted => "ok",
@@ -61,7 +61,7 @@ pub struct Row {
 }
 
 impl Counts {
-    /// The number in a column, where there is one: of a time the microseconds.
+    /// The number in a column, if there is one; a time in microseconds.
     pub fn number(&self, column: Column) -> Option<u64> {
         match column {
             Column::File | Column::Verdict => None,
@@ -150,8 +150,8 @@ pub fn grid_of(alloc: Global, rows: &[Row], layout: &RowLayout) -> Result<Grid, 
     Ok(Grid { heads, rows: cells })
 }
 
-/// Sorts rows: by a text from the first to the last, by numbers from the greatest to the least and
-/// those without one at the end. Rows that are equal there keep their order.
+/// Sorts rows by a column: texts from the first to the last, numbers from the greatest to the
+/// least, and rows without a number at the end. Rows that are equal there keep their order.
 pub fn sort(rows: &mut Vec<Row>, column: Column) -> Result<(), AllocError>
     ensures all { IsPermutation rows.old.items rows.new.items }
 {

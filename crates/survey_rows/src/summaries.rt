@@ -1,4 +1,4 @@
-//! How many images were accepted, and the status that says so.
+//! How many images were judged in which way, and the status that says so.
 
 ghost use Rattle.std.specs.Prelude.{◌≡◌, ◌≤◌};
 ghost use Rattle.survey_rows.specs.Summaries.{status_of, with_image};
@@ -15,8 +15,8 @@ pub struct Summary {
 }
 
 impl Summary {
-    /// The status: 5 where memory ran out, else 4 where a file was not read, else 2 where an image
-    /// is refused, else 0.
+    /// The status: 5 if memory ran out, else 4 if a file was not read, else 2 if an image is
+    /// refused, else 0.
     pub fn status(&self) -> u8
         ensures says { result ≡ status_of self.now }
         ensures most { result ≤ 5 }

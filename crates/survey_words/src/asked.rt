@@ -1,4 +1,4 @@
-//! What can be asked for.
+//! What the program can be asked for: a survey, or a log, a listing or a graph of one image.
 
 use survey_rows::Column;
 
@@ -21,7 +21,7 @@ pub struct Survey<'a> {
     pub has_header: bool,
     /// The CSV of an earlier survey, to compare with.
     pub earlier: Option<&'a str>,
-    /// The folder that gets a proof table of each accepted image.
+    /// The folder for the proof tables of accepted images.
     pub tables: Option<&'a str>,
 }
 
@@ -29,10 +29,10 @@ pub struct Survey<'a> {
 #[derive(Drop)]
 pub enum Asked<'a> {
     Survey(Survey<'a>),
-    /// What was explored of an image, all or at one slot.
+    /// What the search explores of an image, all or at one slot.
     Log(&'a str, Option<usize>),
     /// The listing of an image.
     Listing(&'a str),
-    /// The graph of its blocks.
+    /// The graph of an image's basic blocks.
     Graph(&'a str),
 }

@@ -76,7 +76,7 @@ fn flag<'a>(alloc: Global, name: &'static str, help: &'static str) -> Arg<'a> {
         .help(help)
 }
 
-// A command that looks into one image.
+// A command that shows one image.
 fn look<'a>(
     alloc: Global,
     name: &'static str,

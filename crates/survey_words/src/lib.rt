@@ -1,4 +1,4 @@
-//! The words on the command line of `xdpvm_survey`, and what they ask for.
+//! The arguments on the command line of `xdpvm_survey`, and what they ask for.
 #![tactic(auto)]
 
 mod asked;

@@ -1,4 +1,4 @@
-//! What the words on the command line ask for.
+//! What the arguments on the command line ask for.
 
 use crate::asked::{Asked, Format, Survey};
 use crate::command_line::program;
@@ -8,7 +8,7 @@ use std::alloc::{AllocError, Global};
 use survey_rows::Column;
 use words::WordsError;
 
-// What is wrong with the words, where clap takes them and a survey does not.
+// The messages for arguments that clap accepts and the program does not.
 const NO_FORMAT: &str = "error: the value of --format is not table, csv or json\n";
 
 const NO_COLUMN: &str = "error: the value of --sort is no column\n";
@@ -104,7 +104,7 @@ fn look_in<'a>(
     }
 }
 
-// Why clap refused the words, or the help that they ask for.
+// Why clap refused the arguments, or the help that they ask for.
 fn refusal_of(alloc: Global, error: &clap::Error) -> WordsError {
     match error.kind() {
         ErrorKind::OutOfMemory => WordsError::Memory,
@@ -115,7 +115,7 @@ fn refusal_of(alloc: Global, error: &clap::Error) -> WordsError {
     }
 }
 
-/// What the words ask for. The first one is the program's name.
+/// What the arguments ask for. The first word is the program's name.
 pub fn read_words<'a>(alloc: Global, words: &'a [String]) -> Result<Asked<'a>, WordsError> {
     let matches = match program(alloc)?.try_get_matches_from(words) {
         Ok(matches) => matches,

@@ -14,7 +14,7 @@ use Rattle.survey_rows.specs.declared.rows.Counts.{Counts}
 use Rattle.survey_rows.specs.declared.rows.Judgement.{Judgement}
 use Rattle.survey_rows.specs.declared.rows.Judgement.TheVariants as verdict
 
--- the bound that is given is the number of the start, within which every run exits
+-- the bound is the number of the start state, and every run exits within it
 pub record Bounds (p : Program) (bound : ℕ) : Type 0 where
   pub number : HasNumber p start bound
   pub ends : StartsEnd p bound
@@ -38,15 +38,15 @@ SaysVerdict p (verdict.Refused code) counts = RefusesWith p code.now counts.slot
 SaysVerdict p verdict.Unreadable counts = ⊥
 SaysVerdict p verdict.NoMemory counts = Unit {0}
 
--- the slot of an image that is refused, where there is one
+-- the slot at which an image is refused, if there is one
 abbrev pub slot_of : ImageError → Option ℕ
 slot_of (error.Code slot _) = Some slot
 slot_of (error.UnknownMap slot) = Some slot
 slot_of (error.ValuePointer slot) = Some slot
 slot_of _ = None
 
--- what a row says of bytes that are no image: the code of what is wrong, at its slot;
--- or that memory ran out
+-- what a row says of bytes that are not an image: the code of what is wrong, at its slot; or that
+-- memory ran out
 abbrev pub SaysMalformed : ImageError → Judgement → Counts → Type 0
 SaysMalformed wrong verdict.Accepted counts = ⊥
 SaysMalformed wrong (verdict.Refused code) counts =

@@ -1,4 +1,4 @@
--- What is counted of a search.
+-- What is counted in a search.
 use Rattle.std.specs.Prelude.{◌≡◌, ℕ, ◌+◌, ◌-◌, ◌*◌, ◌<◌, ◌^◌, min, length, Bool, true, false, Some, None}
 use Rattle.isa_model.specs.{Program}
 use Rattle.survey_rows.specs.declared.rows.Counts.{Counts}
@@ -6,7 +6,7 @@ use Rattle.survey_rows.specs.declared.rows.Judgement.{Judgement}
 use Rattle.survey_rows.specs.declared.rows.Judgement.TheVariants as verdict
 use Rattle.surveys.specs.declared.tallies.SearchTally.{SearchTally}
 
--- a count of 64 bits that stays at the greatest one
+-- a count in 64 bits, which stays at the greatest number
 abbrev pub saturated : ℕ → ℕ
 saturated count = min count (2 ^ 64 - 1)
 
@@ -16,18 +16,19 @@ pub record AreWords (bytes : ℕ) : Type 0 where
   pub most : words < 2 ^ 32
   pub is : bytes ≡ words * 8
 
--- a number of bytes grew by those of a state
+-- a number of bytes that grew by those of a stored state
 pub record GrowsByWords (old new : ℕ) : Type 0 where
   pub bytes : ℕ
   pub words : AreWords bytes
   pub grown : new ≡ saturated (old + bytes)
 
--- the bytes of stored states after an instruction: only a state that is stored and kept has some
+-- the bytes of stored states after an instruction: they grow only by a state that is stored and
+-- kept
 abbrev pub CountsBytes : ℕ → Bool → ℕ → Type 0
 CountsBytes old false new = new ≡ old
 CountsBytes old true new = GrowsByWords old new
 
--- counts with those of a search
+-- counts with what was counted in a search
 abbrev pub with_tally : Counts → SearchTally → Counts
 with_tally counts t = record counts {
   explored = Some t.explored;
@@ -55,7 +56,7 @@ pub record HasSizes (p : Program) (counts : Counts) : Type 0 where
   pub slots : counts.slots ≡ Some (length p.insns)
   pub maps : counts.maps ≡ Some (length p.maps)
 
--- the sizes are said of a program unless memory ran out
+-- a row says the sizes of a program, unless memory ran out
 abbrev pub SaysSizes : Program → Judgement → Counts → Type 0
 SaysSizes p verdict.NoMemory counts = Unit {0}
 SaysSizes p v counts = HasSizes p counts

@@ -1,15 +1,15 @@
-//! The blocks of a program as a graph, in the language of Graphviz.
+//! The basic blocks of a program as a graph, in the language of Graphviz.
 
+use crate::errors::LookError;
 use crate::targets::{Mark, marks, target_of};
 use crate::texts::insn_text;
-use crate::writing::LookError;
 use exact_io::write_bytes;
 use image::Image;
 use isa_model::Insn;
 use std::alloc::{AllocError, Global};
 use std::io::Write;
 
-/// Whether a block ends with the instruction at a slot.
+/// Whether a basic block ends with the instruction at a slot.
 fn is_end(image: &Image, slot: usize) -> bool {
     matches!(
         image.at(slot),
@@ -30,7 +30,7 @@ fn begins(marks: &[Mark], slot: usize) -> bool {
     marks.get(slot).copied().unwrap_or(Mark::Nothing) != Mark::Nothing
 }
 
-/// Adds a text inside a quoted one.
+/// Adds a text to a quoted one.
 fn put_quoted(text: &str, out: &mut String) -> Result<(), AllocError> {
     for letter in text.chars() {
         match letter {
@@ -132,8 +132,8 @@ fn insn_node(
     Ok(text)
 }
 
-/// Writes the blocks of a program as a graph for `dot`: an edge on to the next block, a dashed one
-/// for each jump, and a dotted one for each call.
+/// Writes the basic blocks of a program as a graph for `dot`: a plain edge where control falls
+/// through, a dashed one for each jump, and a dotted one for each call.
 pub fn write_graph<W: Write>(alloc: Global, image: &Image, out: &mut W) -> Result<(), LookError> {
     let marks = marks(alloc, image)?;
     let mut graph = Graph {

@@ -27,17 +27,17 @@ use survey_rows::{Counts, Judgement};
 pub struct Judged {
     pub verdict: Judgement,
     pub counts: Counts,
-    /// The proof table, where one was wanted and made.
+    /// The proof table, if one was wanted and made.
     pub table: Option<Vec<u8>>,
 }
 
-/// The microseconds since a start, where the clock could be read.
+/// The microseconds since a start, if the clock could be read.
 fn microseconds_since<C: Clock>(clock: &C, start: Option<Instant>) -> Option<u64> {
     let elapsed = start?.elapsed(clock).ok()?;
     u64::try_from(elapsed.as_micros()).ok()
 }
 
-/// Nothing is known, since memory ran out.
+/// The result if memory ran out.
 fn unjudged(counts: Counts) -> Judged
     ensures verdict { result.verdict ≡ Judgement.NoMemory }
     ensures counts { result.counts ≡ counts }
@@ -49,7 +49,7 @@ fn unjudged(counts: Counts) -> Judged
     }
 }
 
-/// The slot that the refusal of an image names.
+/// The slot at which an image is refused, if there is one.
 fn slot_of(error: ImageError) -> Option<u64>
     ensures { result ≡ slot_of error }
 {
@@ -60,7 +60,7 @@ fn slot_of(error: ImageError) -> Option<u64>
     }
 }
 
-/// Bytes that are no image.
+/// The result for bytes that are not an image.
 fn malformed(error: ImageError) -> Judged
     ensures memory { error ≡ ImageError.Memory → result.verdict ≡ Judgement.NoMemory }
     ensures says { SaysMalformed error result.verdict result.counts }
@@ -89,7 +89,7 @@ fn sizes_of(image: &Image) -> Counts
     }
 }
 
-/// What was counted of a search.
+/// Counts with what was counted in a search.
 fn counted(tally: SearchTally, counts: Counts) -> Counts
     ensures { result ≡ with_tally counts tally }
 {
@@ -102,7 +102,7 @@ fn counted(tally: SearchTally, counts: Counts) -> Counts
     }
 }
 
-/// A program that is refused.
+/// The result for a program that is refused.
 fn refused(refusal: Refusal, slot: usize, counts: Counts) -> Judged
     ensures says { (p : Program) → IsRefused p refusal slot
         → SaysVerdict p result.verdict result.counts }
@@ -132,7 +132,7 @@ fn bounded(verified: &Verified, counts: Counts) -> Counts
     }
 }
 
-/// A program that is accepted.
+/// The result for a program that is accepted.
 fn accepted(verified: &Verified, counts: Counts) -> Judged
     ensures says { HasNumber verified.now.program start verified.now.bound
         → SaysVerdict verified.now.program result.verdict result.counts }
@@ -145,8 +145,8 @@ fn accepted(verified: &Verified, counts: Counts) -> Judged
     }
 }
 
-/// Makes the proof table of a verified program and tests it, and adds their sizes and times. A
-/// table that is not made, or that is refused, has no size.
+/// Makes the proof table of a verified program and tests it, and adds its size and both times. They
+/// stay unknown for a table that is not made, or that is refused.
 fn prove<C: Clock>(clock: &C, alloc: Global, verified: Verified, judged: &mut Judged)
     ensures verdict { judged.new.verdict ≡ judged.old.verdict }
     ensures bound { judged.new.counts.bound ≡ judged.old.counts.bound }
@@ -169,7 +169,7 @@ fn prove<C: Clock>(clock: &C, alloc: Global, verified: Verified, judged: &mut Ju
     judged.table = Some(table);
 }
 
-/// A verified program judged, with a proof table where one is wanted.
+/// The result for a verified program, with a proof table if one is wanted.
 fn judge_verified<C: Clock>(
     clock: &C,
     alloc: Global,
@@ -189,7 +189,7 @@ fn judge_verified<C: Clock>(
     judged
 }
 
-/// A program judged by `verify`.
+/// Judges a program by `verify`.
 fn judge_image<C: Clock>(clock: &C, alloc: Global, image: Image, has_table: bool) -> Judged
     ensures says { SaysVerdict image result.verdict result.counts }
     ensures sizes { HasSizes image result.counts }
@@ -197,7 +197,7 @@ fn judge_image<C: Clock>(clock: &C, alloc: Global, image: Image, has_table: bool
     let sizes = sizes_of(&image);
     let mut tally = SearchTally::default();
     let start = Instant::now(clock).ok();
-    let answer = verify_with(alloc, image, &mut tally);
+    let found = verify_with(alloc, image, &mut tally);
     let counts = counted(
         tally,
         Counts {
@@ -205,15 +205,15 @@ fn judge_image<C: Clock>(clock: &C, alloc: Global, image: Image, has_table: bool
             ..sizes
         },
     );
-    match answer {
+    match found {
         Ok(verified) => judge_verified(clock, alloc, verified, counts, has_table),
         Err(Halt::Refused(refusal, slot)) => refused(refusal, slot, counts),
         Err(Halt::Stopped(never)) => match never {},
     }
 }
 
-/// The bytes of an image judged: accepted by `verify` with its bound, or refused with the code and
-/// the slot; and what was counted of the search.
+/// Judges the bytes of an image: accepted by `verify` with its bound, or refused with the code and
+/// the slot; and what was counted in the search.
 pub fn judge<C: Clock>(clock: &C, alloc: Global, bytes: &[u8], has_table: bool) -> Judged
     ensures says { (p : Program) → IsImage p → bytes.now ≡ image_bytes p
         → SaysVerdict p result.verdict result.counts }

@@ -1,6 +1,8 @@
-//! Judges images, with counts and times, and shows one: its listing, its graph, what is explored.
+//! Judges images, with counts and times, and shows one: its listing, its graph, and a log of the
+//! search.
 #![tactic(auto)]
 
+mod errors;
 mod graphs;
 mod judging;
 mod listings;
@@ -9,10 +11,9 @@ mod states;
 mod tallies;
 mod targets;
 mod texts;
-mod writing;
 
+pub use errors::LookError;
 pub use graphs::write_graph;
 pub use judging::{Judged, judge};
 pub use listings::write_listing;
 pub use logs::write_log;
-pub use writing::LookError;

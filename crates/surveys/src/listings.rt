@@ -1,8 +1,8 @@
 //! A program as a listing: slots, bytes, labels and canonical text.
 
+use crate::errors::LookError;
 use crate::targets::{Mark, marks, target_of};
 use crate::texts::insn_text;
-use crate::writing::LookError;
 use exact_io::write_bytes;
 use image::Image;
 use std::alloc::{AllocError, Global};
@@ -26,8 +26,8 @@ fn code_bytes(alloc: Global, image: &Image) -> Result<Vec<u8>, AllocError> {
 fn slot_bytes(alloc: Global, code: &[u8], slot: usize) -> Result<String, AllocError> {
     let mut text = String::new(alloc);
     let from = slot.saturating_mul(8);
-    for place in 0..8usize {
-        if let Some(byte) = code.get(from.saturating_add(place)).copied() {
+    for offset in 0..8usize {
+        if let Some(byte) = code.get(from.saturating_add(offset)).copied() {
             let part = format!(in alloc; " {byte:02x}")?;
             text.push_str(part.as_str())?;
         }
@@ -35,7 +35,7 @@ fn slot_bytes(alloc: Global, code: &[u8], slot: usize) -> Result<String, AllocEr
     Ok(text)
 }
 
-/// The label above a slot: that of a function after an empty line.
+/// The label above a slot; before a function's there is an empty line.
 fn label_above(alloc: Global, mark: Mark, slot: usize) -> Result<String, AllocError> {
     match mark {
         Mark::Nothing => Ok(String::new(alloc)),
@@ -44,7 +44,7 @@ fn label_above(alloc: Global, mark: Mark, slot: usize) -> Result<String, AllocEr
     }
 }
 
-/// The label to which an instruction leads, after its text.
+/// The comment after an instruction's text, with the label to which it leads.
 fn label_behind(
     alloc: Global,
     image: &Image,
@@ -81,7 +81,7 @@ fn slot_text(
     format!(in alloc; "{above}{slot:5}: {bytes}  {insn}{behind}\n")
 }
 
-/// Writes a program: a line for each slot with its number, its bytes and the canonical text of its
+/// Writes a program: a line for each slot with its index, its bytes and the canonical text of its
 /// instruction, labels at the targets of jumps and calls, and an empty line before each function.
 pub fn write_listing<W: Write>(alloc: Global, image: &Image, out: &mut W) -> Result<(), LookError> {
     let code = code_bytes(alloc, image)?;

@@ -1,9 +1,9 @@
-//! All that a search explores, as text.
+//! A log of a search: all that it explores, as text.
 
+use crate::errors::LookError;
 use crate::states::put_state;
 use crate::tallies::SearchTally;
 use crate::texts::insn_text;
-use crate::writing::LookError;
 use exact_io::write_bytes;
 use explorer::{Halt, Kept, Listener, Refusal, verify_with};
 use image::Image;
@@ -13,7 +13,7 @@ use std::alloc::{AllocError, Global};
 use std::io::Write;
 use transfer::Ways;
 
-/// Writes what it hears of a search.
+/// A listener that writes what a search does.
 #[derive(Drop)]
 struct Log<'a, W: Write + Drop> {
     alloc: Global,
@@ -24,8 +24,9 @@ struct Log<'a, W: Write + Drop> {
     tally: SearchTally,
     /// The slot of the state that arrived last.
     arrived: usize,
-    /// The numbers of the path's instructions, and those of the stored states.
+    /// The numbers in the log of the path's instructions.
     path: Vec<u64>,
+    /// The numbers in the log of the instructions whose states were stored.
     stored: Vec<u64>,
 }
 
@@ -42,7 +43,8 @@ impl<W: Write + Drop> Log<'_, W> {
         self.only.is_none() || self.only == Some(slot)
     }
 
-    /// The lines of an instruction: its number, its slot, and the state that it is reached in.
+    /// The lines of an instruction: its number in the log, its slot, and the state that it is
+    /// reached in.
     fn explored_text(&self, state: &State, is_stored: bool) -> Result<String, AllocError> {
         let (number, slot) = (self.tally.explored, state.slot);
         let from = from_text(self.alloc, self.path.as_slice(), number)?;
@@ -53,7 +55,7 @@ impl<W: Write + Drop> Log<'_, W> {
         Ok(text)
     }
 
-    /// The line of a state that the stored one of an instruction covers.
+    /// The line for a state that a stored one covers, with the instruction that this was stored at.
     fn covered_text(&self, index: usize, steps: u32) -> Result<String, AllocError> {
         let slot = self.arrived;
         let from = from_text(self.alloc, self.path.as_slice(), self.tally.explored)?;
@@ -70,7 +72,7 @@ impl<W: Write + Drop> Log<'_, W> {
         Ok(())
     }
 
-    /// Numbers the instruction that is explored.
+    /// Keeps the number of the instruction that is explored.
     fn number(&mut self, is_stored: bool) -> Result<(), AllocError> {
         if is_stored {
             self.stored.push(self.tally.explored)?;
@@ -79,7 +81,7 @@ impl<W: Write + Drop> Log<'_, W> {
         Ok(())
     }
 
-    /// Writes how much was explored, and the bound of a program that is accepted.
+    /// Writes how much was explored, and the bound if the program is accepted.
     fn write_end(&mut self, bound: Option<u32>) -> Result<(), LookError> {
         let (explored, stored) = (self.tally.explored, self.tally.stored);
         let mut text = format!(in self.alloc;
@@ -137,10 +139,10 @@ impl<W: Write + Drop> Listener for Log<'_, W> {
     fn refused(&mut self, _refusal: Refusal, _slot: usize) {}
 }
 
-/// Writes what the search explores of a program as it goes, all or at one slot: each instruction
-/// with the state that it is reached in, and where a stored state covers one; at the end how much
-/// was explored. Of a program that is refused this is all up to the refusal, which is then
-/// answered.
+/// Writes what the search explores of a program while it does, all or at one slot: each instruction
+/// with the state that it is reached in, and each state that a stored one covers; at the end how
+/// much was explored. For a program that is refused this is all up to the refusal, which is then
+/// returned.
 pub fn write_log<W: Write>(
     alloc: Global,
     image: &Image,

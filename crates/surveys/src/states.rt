@@ -1,4 +1,4 @@
-//! Abstract states as lines.
+//! The lines that show an abstract state.
 
 use explanations::{kind_words, slot_line};
 use isa_model::{FRAME_SIZE, MAX_CALL_FRAMES, Reg};
@@ -34,7 +34,7 @@ fn put_registers(alloc: Global, state: &State, text: &mut String) -> Result<(), 
     Ok(())
 }
 
-/// Whether something is known of a stack slot.
+/// Whether something is known about a stack slot.
 fn is_known(state: &State, frame: u8, slot: usize) -> bool {
     match state.stack_of(frame) {
         Some(stack) => match stack.slots.get(slot) {

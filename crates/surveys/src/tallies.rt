@@ -1,4 +1,4 @@
-//! What is counted of a search.
+//! What is counted in a search.
 
 ghost use Rattle.std.specs.Prelude.{◌≡◌, ◌+◌, ◌-◌, ◌&&◌, max, is_some, if◌then◌else◌};
 ghost use Rattle.surveys.specs.Tallies.{AreWords, CountsBytes, saturated};
@@ -8,18 +8,18 @@ use stack_state::State;
 use std::convert::Infallible;
 use transfer::Ways;
 
-/// How many bytes a word of a stored state has.
+/// How many bytes a word of a stored state takes.
 const WORD: u64 = 8;
 
-/// What is counted of a search. A count that would overflow stays at the greatest number.
+/// What is counted in a search. A count that would overflow stays at the greatest number.
 #[derive(Clone, Copy, Default, Drop)]
 pub struct SearchTally {
-    /// The explored instructions.
+    /// How many instructions were explored.
     pub explored: u64,
-    /// How many of them were explored in a state that was stored, at a join.
+    /// How many of their states were stored, at joins.
     pub stored: u64,
-    /// How many bytes the stored states take that they do not share. No stored state is dropped, so
-    /// this is their peak, too.
+    /// How many bytes the stored states take, without those that they share. No stored state is
+    /// dropped, so this is their peak, too.
     pub stored_bytes: u64,
     /// How many instructions the path has.
     pub depth: u64,
@@ -27,7 +27,7 @@ pub struct SearchTally {
     pub deepest: u64,
 }
 
-/// How many bytes a stored state takes that it does not share.
+/// How many bytes a stored state takes, without those that it shares.
 fn own_bytes(kept: &Kept) -> u64
     ensures { AreWords result }
 {
@@ -57,7 +57,7 @@ impl SearchTally {
         }
     }
 
-    /// The last instruction of the path has its number.
+    /// The last instruction of the path has got its number, and leaves the path.
     pub fn finish(&mut self)
         ensures { self.new ≡ record self.old { depth = self.old.depth - 1 } }
     {

@@ -1,4 +1,4 @@
-//! Where instructions jump.
+//! The targets of jumps and calls.
 
 ghost use Rattle.std.specs.Prelude.{◌≡◌, IfOk, length};
 

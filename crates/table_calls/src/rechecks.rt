@@ -1,4 +1,4 @@
-//! Proof tables tested.
+//! The call that tests a proof table.
 
 ghost use Rattle.std.specs.Prelude.{◌≡◌, ◌≢◌, Err, IfOk};
 ghost use Rattle.image.specs.Images.{image_bytes};
@@ -6,7 +6,7 @@ ghost use Rattle.bounds.specs.Bounds.{IsVerified};
 ghost use Rattle.rechecking.specs.Refusing.{ShowsBound};
 ghost use Rattle.verdict_calls.specs.Crossing.{IsVerdict};
 ghost use Rattle.verdict_calls.specs.declared.statuses.NotAccepted.TheVariants as NotAccepted;
-ghost use Rattle.table_calls.specs.Tables.{AnswersShownBound, bound_alone, FillsTableRefusal, TellsRefusedTable, IsRefusedTable, broken, is_table_memory};
+ghost use Rattle.table_calls.specs.Tables.{AnswersShownBound, only_bound, FillsTableRefusal, FillsRefusedTable, IsRefusedTable, broken, is_table_memory};
 
 use bounds::Verified;
 use control_flow::FlowError;
@@ -36,7 +36,7 @@ fn is_memory(error: TableError) -> bool
 {
     matches!(
         error,
-        TableError::Fault(TableRefusal::Memory) | TableError::Flow(FlowError::Memory, _)
+        TableError::Bytes(TableRefusal::Memory) | TableError::Flow(FlowError::Memory, _)
     )
 }
 
@@ -46,15 +46,15 @@ fn broken(error: TableError, said: usize) -> Rechecked
 {
     let (rule, entry) = match error {
         TableError::Flow(_, _) => (0, 0),
-        TableError::Fault(TableRefusal::Magic) => (1, 0),
-        TableError::Fault(TableRefusal::Short) => (2, 0),
-        TableError::Fault(TableRefusal::Long) => (3, 0),
-        TableError::Fault(TableRefusal::Count) => (4, 0),
-        TableError::Fault(TableRefusal::Entry(index)) => (5, index),
+        TableError::Bytes(TableRefusal::Magic) => (1, 0),
+        TableError::Bytes(TableRefusal::Short) => (2, 0),
+        TableError::Bytes(TableRefusal::Long) => (3, 0),
+        TableError::Bytes(TableRefusal::Count) => (4, 0),
+        TableError::Bytes(TableRefusal::Entry(index)) => (5, index),
         TableError::Start => (6, 0),
         TableError::Step(index, _) => (7, index),
         TableError::Successor(index) => (8, index),
-        TableError::Fault(TableRefusal::Memory) => (9, 0),
+        TableError::Bytes(TableRefusal::Memory) => (9, 0),
     };
     Rechecked {
         said,
@@ -88,15 +88,15 @@ pub fn table_verified(alloc: Global, image: &[u8], table: &[u8]) -> Result<Verif
     }
 }
 
-// Tests a table of a program, and tells why it is refused.
+// Tests a table of a program, and writes why it is refused.
 fn test(alloc: Global, program: Image, table: &[u8], why: &mut [u8], out: &mut Rechecked) -> u32
     ensures accepted { result ≡ 0 → IsVerified (record {
       program = program;
       bound = out.new.bound;
     }) }
     ensures shows { result ≡ 0 → ShowsBound program table.now out.new.bound }
-    ensures alone { result ≡ 0 → out.new ≡ bound_alone out.new.bound }
-    ensures refused { result ≡ 2 → TellsRefusedTable program table.now why.old why.new out.new }
+    ensures alone { result ≡ 0 → out.new ≡ only_bound out.new.bound }
+    ensures refused { result ≡ 2 → FillsRefusedTable program table.now why.old why.new out.new }
     ensures why_kept { result ≢ 2 → why.new ≡ why.old }
     ensures memory { result ≡ 5 → out.new ≡ out.old }
     ensures status { IsVerdict result }
@@ -128,9 +128,9 @@ fn test(alloc: Global, program: Image, table: &[u8], why: &mut [u8], out: &mut R
 }
 
 /// Tests a proof table of an image's program, whoever made it: where it passes, the program is
-/// accepted as by `verify_image`, within the bound that the table shows. Why it is refused goes to
-/// `why`, as far as there is room; what is known of the entry is looked for only where there is
-/// some.
+/// accepted as by `verify_image`, within the bound that the table shows. Why it is refused is
+/// written to `why`, as far as there is room; what is known of the entry is looked for only where
+/// there is some.
 pub fn recheck_table(
     alloc: Global,
     image: &[u8],

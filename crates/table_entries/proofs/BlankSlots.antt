@@ -26,13 +26,15 @@ word_zeros xs h (suc (suc (suc (suc (suc (suc zero)))))) lt = omega arith
 word_zeros xs h (suc (suc (suc (suc (suc (suc (suc zero))))))) lt = omega arith
 word_zeros xs h (suc (suc (suc (suc (suc (suc (suc (suc k)))))))) lt = absurd (omega arith)
 
-zeros_at : (xs : List ℕ) (d : ℕ) → little_number 8 (drop d xs) ≡ 0 → (k : ℕ) → d ≤ k → k < d + 8 → get_or xs k 0 ≡ 0
+zeros_at : (xs : List ℕ) (d : ℕ) → little_number 8 (drop d xs) ≡ 0 → (k : ℕ) → d ≤ k → k < d + 8
+    → get_or xs k 0 ≡ 0
 zeros_at xs d h k from to =
     let place : d + (k - d) ≡ k = omega arith in
     let zero : get_or (drop d xs) (k - d) 0 ≡ 0 = word_zeros (drop d xs) h (k - d) (omega arith) in
     ap (λ (j : ℕ). get_or xs j 0) (sym place) ∙ sym (get_or-drop d xs (k - d) 0) ∙ zero
 
-pub AreZeros-words : (xs : List ℕ) → 32 ≤ length xs → little_number 8 xs ≡ 0 → little_number 8 (drop 8 xs) ≡ 0 → little_number 8 (drop 16 xs) ≡ 0
+pub AreZeros-words : (xs : List ℕ) → 32 ≤ length xs → little_number 8 xs ≡ 0
+    → little_number 8 (drop 8 xs) ≡ 0 → little_number 8 (drop 16 xs) ≡ 0
     → little_number 8 (drop 24 xs) ≡ 0 → AreZeros 32 xs
 AreZeros-words xs long a b c d = record { inside = long; zeros = each } where
   each : (k : ℕ) → k < 32 → get_or xs k 0 ≡ 0
@@ -50,7 +52,8 @@ AreZeros-words xs long a b c d = record { inside = long; zeros = each } where
 pub AreZeros-word : (xs : List ℕ) → 8 ≤ length xs → little_number 8 xs ≡ 0 → AreZeros 8 xs
 AreZeros-word xs long a = record { inside = long; zeros = λ k lt. word_zeros xs a k lt }
 
-six_zeros : (xs : List ℕ) → little_number 4 (drop 2 xs) ≡ 0 → little_number 2 (drop 6 xs) ≡ 0 → (k : ℕ) → k < 6 → get_or (drop 2 xs) k 0 ≡ 0
+six_zeros : (xs : List ℕ) → little_number 4 (drop 2 xs) ≡ 0 → little_number 2 (drop 6 xs) ≡ 0
+    → (k : ℕ) → k < 6 → get_or (drop 2 xs) k 0 ≡ 0
 six_zeros xs a b zero lt = omega arith
 six_zeros xs a b (suc zero) lt = omega arith
 six_zeros xs a b (suc (suc zero)) lt = omega arith
@@ -64,14 +67,17 @@ six_zeros xs a b (suc (suc (suc (suc (suc zero))))) lt =
 six_zeros xs a b (suc (suc (suc (suc (suc (suc k)))))) lt = absurd (omega arith)
 
 -- six zeros after two bytes
-pub AreZeros-six : (xs : List ℕ) → 8 ≤ length xs → little_number 4 (drop 2 xs) ≡ 0 → little_number 2 (drop 6 xs) ≡ 0 → AreZeros 6 (drop 2 xs)
-AreZeros-six xs long a b = record { inside = let size = length-drop 2 xs in omega arith; zeros = six_zeros xs a b }
+pub AreZeros-six : (xs : List ℕ) → 8 ≤ length xs → little_number 4 (drop 2 xs) ≡ 0
+    → little_number 2 (drop 6 xs) ≡ 0 → AreZeros 6 (drop 2 xs)
+AreZeros-six xs long a b =
+    record { inside = let size = length-drop 2 xs in omega arith; zeros = six_zeros xs a b }
 
 pub AreZeros-none : (xs : List ℕ) → AreZeros 0 xs
 AreZeros-none xs = record { inside = omega arith; zeros = λ k lt. absurd (omega arith) }
 
 -- more zeros after zeros
-pub AreZeros-more : (n m : ℕ) (xs : List ℕ) → AreZeros n xs → AreZeros m (drop n xs) → AreZeros (n + m) xs
+pub AreZeros-more : (n m : ℕ) (xs : List ℕ) → AreZeros n xs → AreZeros m (drop n xs)
+    → AreZeros (n + m) xs
 AreZeros-more n m xs first second = record {
   inside = let a = first.inside in let b = second.inside in let c = length-drop n xs in omega arith;
   zeros = λ k lt. elim (cases_lt k n) [
@@ -84,11 +90,13 @@ AreZeros-more n m xs first second = record {
 }
 
 AreZeros-fewer : (n m : ℕ) (xs : List ℕ) → m ≤ n → AreZeros n xs → AreZeros m xs
-AreZeros-fewer n m xs le z = record { inside = let a = z.inside in omega arith; zeros = λ k lt. z.zeros k (omega arith) }
+AreZeros-fewer n m xs le z =
+    record { inside = let a = z.inside in omega arith; zeros = λ k lt. z.zeros k (omega arith) }
 
 -- ---- stack slots
 
-slot_blank : (rows holder : ℕ) (bytes : List ℕ) → 2 ≤ length bytes → get_or bytes 0 0 ≡ 0 → get_or bytes 1 0 ≡ 0
+slot_blank : (rows holder : ℕ) (bytes : List ℕ) → 2 ≤ length bytes → get_or bytes 0 0 ≡ 0
+    → get_or bytes 1 0 ≡ 0
     → slot_in rows holder bytes ≡ Ok (Some (Written 0), drop 2 bytes)
 unfolding slot_in
 slot_blank rows holder [] long a b = absurd (omega arith)
@@ -97,25 +105,42 @@ slot_blank rows holder (x ∷ (y ∷ rest)) long a b = rw (a, b) refl
 
 -- j stack slots about which nothing is known were read
 pub blank_so_far : (rows holder n j : ℕ) (bytes : List ℕ) → j ≤ n → AreZeros (2 * j) bytes
-    → with_front (Some (replicate j (Written 0))) (many (λ k. slot_in rows holder) (n - j) j (drop (2 * j) bytes)) ≡ many (λ k. slot_in rows holder) n 0 bytes
+    → with_front (Some (replicate j (Written 0)))
+    (many (λ k. slot_in rows holder) (n - j) j (drop (2 * j) bytes))
+    ≡ many (λ k. slot_in rows holder) n 0 bytes
 blank_so_far rows holder n zero bytes le z = many-begins (λ k. slot_in rows holder) n bytes
 blank_so_far rows holder n (suc j) bytes le z =
-    let before = blank_so_far rows holder n j bytes (omega arith) (AreZeros-fewer (2 * suc j) (2 * j) bytes (omega arith) z) in
+    let before =
+    blank_so_far rows holder n j bytes (omega arith)
+    (AreZeros-fewer (2 * suc j) (2 * j) bytes (omega arith) z) in
     let rest : List ℕ = drop (2 * j) bytes in
     let inside = z.inside in
     let size : length rest ≡ length bytes - 2 * j = length-drop (2 * j) bytes in
-    let a : get_or rest 0 0 ≡ 0 = get_or-drop (2 * j) bytes 0 0 ∙ z.zeros (2 * j + 0) (omega arith) in
-    let b : get_or rest 1 0 ≡ 0 = get_or-drop (2 * j) bytes 1 0 ∙ z.zeros (2 * j + 1) (omega arith) in
+    let a : get_or rest 0 0 ≡ 0 =
+    get_or-drop (2 * j) bytes 0 0 ∙ z.zeros (2 * j + 0) (omega arith) in
+    let b : get_or rest 1 0 ≡ 0 =
+    get_or-drop (2 * j) bytes 1 0 ∙ z.zeros (2 * j + 1) (omega arith) in
     let read = slot_blank rows holder rest (omega arith) a b in
-    let next : drop 2 rest ≡ drop (2 * suc j) bytes = drop-drop 2 (2 * j) bytes ∙ ap (λ (k : ℕ). drop k bytes) (omega arith) in
+    let next : drop 2 rest ≡ drop (2 * suc j) bytes =
+    drop-drop 2 (2 * j) bytes ∙ ap (λ (k : ℕ). drop k bytes) (omega arith) in
     let one : j + 1 ≡ suc j = omega arith in
-    let slots : replicate j (Written 0) ++ Written 0 ∷ [] ≡ replicate (suc j) (Written 0) = replicate_more j (Written 0) ∙ ap (λ (k : ℕ). replicate k (Written 0)) one in
-    let after = many-goes_on (λ k. slot_in rows holder) (Some (replicate j (Written 0))) n j rest (Some (Written 0)) (drop 2 rest) _ (omega arith) read before in
-    subst (λ (k : ℕ). with_front (Some (replicate (suc j) (Written 0))) (many (λ k. slot_in rows holder) (n - k) k (drop (2 * suc j) bytes)) ≡ many (λ k. slot_in rows holder) n 0 bytes) one
-    (subst (λ (r : List ℕ). with_front (Some (replicate (suc j) (Written 0))) (many (λ k. slot_in rows holder) (n - (j + 1)) (j + 1) r) ≡ many (λ k. slot_in rows holder) n 0 bytes) next
-    (subst (λ (xs : List StackSlot). with_front (Some xs) (many (λ k. slot_in rows holder) (n - (j + 1)) (j + 1) (drop 2 rest)) ≡ many (λ k. slot_in rows holder) n 0 bytes) slots after))
+    let slots : replicate j (Written 0) ++ Written 0 ∷ [] ≡ replicate (suc j) (Written 0) =
+    replicate_more j (Written 0) ∙ ap (λ (k : ℕ). replicate k (Written 0)) one in
+    let after =
+    many-goes_on (λ k. slot_in rows holder) (Some (replicate j (Written 0))) n j rest
+    (Some (Written 0)) (drop 2 rest) _ (omega arith) read before in
+    subst (λ (k : ℕ). with_front (Some (replicate (suc j) (Written 0)))
+    (many (λ k. slot_in rows holder) (n - k) k (drop (2 * suc j) bytes))
+    ≡ many (λ k. slot_in rows holder) n 0 bytes) one
+    (subst (λ (r : List ℕ). with_front (Some (replicate (suc j) (Written 0)))
+    (many (λ k. slot_in rows holder) (n - (j + 1)) (j + 1) r)
+    ≡ many (λ k. slot_in rows holder) n 0 bytes) next
+    (subst (λ (xs : List StackSlot). with_front (Some xs)
+    (many (λ k. slot_in rows holder) (n - (j + 1)) (j + 1) (drop 2 rest))
+    ≡ many (λ k. slot_in rows holder) n 0 bytes) slots after))
 
-seen_front : {X : Type 0} (front : List X) (read : Read (List X)) → seen (with_front (Some front) read) ≡ seen read
+seen_front : {X : Type 0} (front : List X) (read : Read (List X))
+    → seen (with_front (Some front) read) ≡ seen read
 seen_front front (Ok x) = ap (λ (b : Bool). Ok (b, x.1)) (of x.0) where
   of : (xs : Option (List _)) → is_some (appended (Some front) xs) ≡ is_some xs
   of (Some xs) = refl
@@ -124,7 +149,9 @@ seen_front front (Err stop) = refl
 
 -- the same, passed over
 pub blank_passed : (rows holder n j : ℕ) (bytes : List ℕ) → j ≤ n → AreZeros (2 * j) bytes
-    → and_seen true (seen (many (λ k. slot_in rows holder) (n - j) j (drop (2 * j) bytes))) ≡ seen (many (λ k. slot_in rows holder) n 0 bytes)
+    → and_seen true (seen (many (λ k. slot_in rows holder) (n - j) j (drop (2 * j) bytes)))
+    ≡ seen (many (λ k. slot_in rows holder) n 0 bytes)
 blank_passed rows holder n j bytes le z =
     let rest = many (λ k. slot_in rows holder) (n - j) j (drop (2 * j) bytes) in
-    seen-begins (seen rest) ∙ sym (seen_front (replicate j (Written 0)) rest) ∙ ap seen (blank_so_far rows holder n j bytes le z)
+    seen-begins (seen rest) ∙ sym (seen_front (replicate j (Written 0)) rest)
+    ∙ ap seen (blank_so_far rows holder n j bytes le z)

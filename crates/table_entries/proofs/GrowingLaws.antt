@@ -1,4 +1,4 @@
--- What is said of tables whose entries are placed one after the other.
+-- Laws of tables whose entries are placed one after the other.
 use Rattle.std.specs.Prelude.{◌≡◌, ℕ, zero, suc, ◌+◌, ◌-◌, ◌<◌, ◌≤◌, ◌==◌, IsTrue, Bool, true, false, List, [], ◌∷◌, ◌++◌, length, drop, map, slice_get, Option, Some, None, IsSome, Ok, refl}
 use Rattle.std.specs.Option.{is_some, option_and_then}
 use Rattle.std.proofs.Common.{inl, inr, ap, sym, ◌∙◌, subst, append_assoc, arith}
@@ -17,7 +17,11 @@ use Rattle.table_entries.proofs.EntryOrder.{entries-begins, entries-goes_on, ent
 -- ---- from the beginning
 
 pub IsBegun-first : (p : Program) (bytes : List ℕ) (count : ℕ) → count_in bytes ≡ Ok count
-    → IsBegun p (record { table = record { bytes = bytes; places = [] }; rest = drop 8 bytes; count = count })
+    → IsBegun p (record {
+      table = record { bytes = bytes; places = [] };
+      rest = drop 8 bytes;
+      count = count;
+    })
 IsBegun-first p bytes count counted = record {
   counted = counted;
   so_far = entries-begins p count (drop 8 bytes);
@@ -28,25 +32,36 @@ IsBegun-first p bytes count counted = record {
 
 -- ---- one more entry
 
--- the entry that begins where the bytes are left
+-- the table with one more entry, which begins where the remaining bytes do
 abbrev pub taken : Grown → List ℕ → Grown
-taken g after = record { table = with_place g.table (length g.table.bytes - length g.rest); rest = after; count = g.count }
+taken g after =
+    record {
+      table = with_place g.table (length g.table.bytes - length g.rest);
+      rest = after;
+      count = g.count;
+    }
 
-IsBegun-more : (p : Program) (g : Grown) (e : Entry) (after : List ℕ) → IsBegun p g → count_of g.table < g.count → entry_in p g.rest ≡ Ok (Some e, after)
+IsBegun-more : (p : Program) (g : Grown) (e : Entry) (after : List ℕ) → IsBegun p g
+    → count_of g.table < g.count → entry_in p g.rest ≡ Ok (Some e, after)
     → IsBegun p (taken g after)
 IsBegun-more p g e after b less read =
     let bytes = g.table.bytes in
     let places = g.table.places in
     let at = length bytes - length g.rest in
     let front = map (entry_from p bytes) places in
-    let more : map (entry_from p bytes) (places ++ at ∷ []) ≡ front ++ Some e ∷ [] = places-more p bytes g.rest places (Some e) after b.is_end read in
-    let long : length (places ++ at ∷ []) ≡ count_of g.table + 1 = length-more places at (count_of g.table) refl in
+    let more : map (entry_from p bytes) (places ++ at ∷ []) ≡ front ++ Some e ∷ [] =
+    places-more p bytes g.rest places (Some e) after b.is_end read in
+    let long : length (places ++ at ∷ []) ≡ count_of g.table + 1 =
+    length-more places at (count_of g.table) refl in
     record {
       counted = b.counted;
-      so_far = rw (more, long) (entries-goes_on p front g.count (count_of g.table) g.rest (Some e) after _ less read b.so_far);
+      so_far =
+          rw (more, long) (entries-goes_on p front g.count (count_of g.table) g.rest
+          (Some e) after _ less read b.so_far);
       fine =
           ap (first_none 0) more
-          ∙ sym (earlier-more front (count_of g.table) (Some e) (length-map places (entry_from p bytes)))
+          ∙ sym (earlier-more front (count_of g.table) (Some e)
+          (length-map places (entry_from p bytes)))
           ∙ ap (λ (o : Option ℕ). earlier o true (count_of g.table)) b.fine;
       few = rw long (omega arith);
       is_end = IsEnd-more bytes g.rest after b.is_end (entry_in-end p g.rest (Some e) after read);
@@ -62,7 +77,8 @@ Grows-same p g = record {
   whole = λ le. refl;
 }
 
-pub Grows-more : (p : Program) (g : Grown) (e : Entry) (after : List ℕ) → count_of g.table < g.count → entry_in p g.rest ≡ Ok (Some e, after)
+pub Grows-more : (p : Program) (g : Grown) (e : Entry) (after : List ℕ) → count_of g.table < g.count
+    → entry_in p g.rest ≡ Ok (Some e, after)
     → Grows p g (taken g after)
 Grows-more p g e after less read = record {
   bytes = refl;
@@ -78,7 +94,9 @@ Grows-then p g h i first second = record {
   bytes = second.bytes ∙ first.bytes;
   count = second.count ∙ first.count;
   more = first.more ++ second.more;
-  places = second.places ∙ ap (λ (xs : List ℕ). xs ++ second.more) first.places ∙ append_assoc g.table.places first.more second.more;
+  places =
+      second.places ∙ ap (λ (xs : List ℕ). xs ++ second.more) first.places
+      ∙ append_assoc g.table.places first.more second.more;
   begun = λ b. second.begun (first.begun b);
   whole = λ le.
       let same : h.table.places ≡ g.table.places = first.whole le in
@@ -89,7 +107,8 @@ Grows-then p g h i first second = record {
 
 pub Grows-count : (p : Program) (g h : Grown) → Grows p g h → count_of g.table ≤ count_of h.table
 Grows-count p g h k =
-    let long : count_of h.table ≡ count_of g.table + length k.more = ap length k.places ∙ length-append g.table.places k.more in
+    let long : count_of h.table ≡ count_of g.table + length k.more =
+    ap length k.places ∙ length-append g.table.places k.more in
     omega arith
 
 pub MayGrow-more : (p : Program) (g h : Grown) → Grows p g h → MayGrow p g → MayGrow p h
@@ -110,24 +129,31 @@ get-last [] x = refl
 get-last (y ∷ xs) x = get-last xs x
 
 -- placed entries stay
-pub entry_at-before : (p : Program) (g h : Grown) (k : ℕ) → Grows p g h → k < count_of g.table → entry_at p h.table k ≡ entry_at p g.table k
+pub entry_at-before : (p : Program) (g h : Grown) (k : ℕ) → Grows p g h → k < count_of g.table
+    → entry_at p h.table k ≡ entry_at p g.table k
 entry_at-before p g h k grows less =
-    rw (grows.bytes, grows.places) (ap (option_and_then (entry_from p g.table.bytes)) (get-front g.table.places grows.more k less))
+    rw (grows.bytes, grows.places)
+    (ap (option_and_then (entry_from p g.table.bytes))
+    (get-front g.table.places grows.more k less))
 
--- past the last entry there is none
-pub no_entry_past : (p : Program) (t : TableView) (k : ℕ) (e : Entry) → count_of t ≤ k → entry_at p t k ≡ Some e → ⊥
+-- no entry has an index past the last one
+pub no_entry_past : (p : Program) (t : TableView) (k : ℕ) (e : Entry) → count_of t ≤ k
+    → entry_at p t k ≡ Some e → ⊥
 no_entry_past p t k e past there =
-    let none : entry_at p t k ≡ None = ap (option_and_then (entry_from p t.bytes)) (slice_get_past t.places k past) in
+    let none : entry_at p t k ≡ None =
+    ap (option_and_then (entry_from p t.bytes)) (slice_get_past t.places k past) in
     cc
 
-pub entry_at-stays : (p : Program) (g h : Grown) (k : ℕ) (e : Entry) → Grows p g h → entry_at p g.table k ≡ Some e → entry_at p h.table k ≡ Some e
+pub entry_at-stays : (p : Program) (g h : Grown) (k : ℕ) (e : Entry) → Grows p g h
+    → entry_at p g.table k ≡ Some e → entry_at p h.table k ≡ Some e
 entry_at-stays p g h k e grows there = elim (cases_lt k (count_of g.table)) [
   | inl inside ↦ entry_at-before p g h k grows inside ∙ there
   | inr past ↦ absurd (no_entry_past p g.table k e past there)
 ]
 
--- the one that was placed last
-pub entry_at-taken : (p : Program) (g : Grown) (e : Entry) (after : List ℕ) → IsBegun p g → entry_in p g.rest ≡ Ok (Some e, after)
+-- the entry with the last index is the one that was placed last
+pub entry_at-taken : (p : Program) (g : Grown) (e : Entry) (after : List ℕ) → IsBegun p g
+    → entry_in p g.rest ≡ Ok (Some e, after)
     → entry_at p (taken g after).table (count_of g.table) ≡ Some e
 entry_at-taken p g e after b read =
     let at = length g.table.bytes - length g.rest in
@@ -136,7 +162,8 @@ entry_at-taken p g e after b read =
     rw (get-last g.table.places at) there
 
 -- where all were placed, nothing changes
-pub entry_at-whole : (p : Program) (g h : Grown) → Grows p g h → g.count ≤ count_of g.table → entry_at p h.table ≡ entry_at p g.table
+pub entry_at-whole : (p : Program) (g h : Grown) → Grows p g h → g.count ≤ count_of g.table
+    → entry_at p h.table ≡ entry_at p g.table
 entry_at-whole p g h k le = λ i j. same j i where
   same : (j : ℕ) → entry_at p h.table j ≡ entry_at p g.table j
   same j = rw (k.bytes, k.whole le) refl
@@ -144,13 +171,16 @@ entry_at-whole p g h k le = λ i j. same j i where
 -- ---- whole tables
 
 -- all entries are placed, and no bytes are left over
-pub whole_read : (p : Program) (g : Grown) → IsBegun p g → count_of g.table ≡ g.count → length g.rest ≡ 0
-    → (entries : List Entry) × (table_read p g.table.bytes ≡ Ok entries) × KeepsEntries p g.table entries
+pub whole_read : (p : Program) (g : Grown) → IsBegun p g → count_of g.table ≡ g.count
+    → length g.rest ≡ 0
+    → (entries : List Entry) × (table_read p g.table.bytes ≡ Ok entries)
+    × KeepsEntries p g.table entries
 whole_read p g b all none =
     let front = map (entry_from p g.table.bytes) g.table.places in
     let empty : (length g.rest == 0) ≡ true = rw none refl in
     let body : body_in p g.table.bytes g.count ≡ Ok front =
-    ap to_the_end (entries-done p front g.count (count_of g.table) g.rest _ (omega arith) b.so_far) ∙ end-empty front g.rest empty in
+    ap to_the_end (entries-done p front g.count (count_of g.table) g.rest _ (omega arith) b.so_far)
+    ∙ end-empty front g.rest empty in
     (all_of front, rw (b.counted, body, b.fine) refl, KeepsEntries-places p g.table b.fine)
 
 -- ---- entries that are there
@@ -164,14 +194,17 @@ pub AllThere-begun : (p : Program) (g : Grown) → IsBegun p g → AllThere p g
 AllThere-begun p g b = λ k less.
     let h : KeepsEntries p g.table _ = KeepsEntries-places p g.table b.fine in
     let count = h.count in
-    subst (λ (o : Option Entry). IsSome o) (sym (h.each k)) (inside_some (all_of (map (entry_from p g.table.bytes) g.table.places)) k (omega arith))
+    subst (λ (o : Option Entry). IsSome o) (sym (h.each k))
+    (inside_some (all_of (map (entry_from p g.table.bytes) g.table.places)) k (omega arith))
 
-pub AllThere-more : (p : Program) (g h : Grown) → Grows p g h → MayGrow p g → AllThere p g → AllThere p h
+pub AllThere-more : (p : Program) (g h : Grown) → Grows p g h → MayGrow p g → AllThere p g
+    → AllThere p h
 AllThere-more p g h k may each = elim (cases_lt (count_of g.table) g.count) [
   | inl less ↦ AllThere-begun p h (k.begun (may less))
   | inr whole ↦ λ j less.
       let same : count_of h.table ≡ count_of g.table = ap length (k.whole whole) in
-      subst (λ (o : Option Entry). IsSome o) (sym (entry_at-before p g h j k (omega arith))) (each j (omega arith))
+      subst (λ (o : Option Entry). IsSome o) (sym (entry_at-before p g h j k (omega arith)))
+      (each j (omega arith))
 ]
 
 -- ---- an entry that was placed, or was not
@@ -180,26 +213,34 @@ some_of : (o : Option Entry) → is_some o ≡ true → (e : Entry) × (o ≡ So
 some_of (Some e) h = (e, refl)
 some_of None h = absurd (cc)
 
--- an entry that is passed over and is allowed
-pub passed_over : (p : Program) (rest after : List ℕ) → seen (entry_in p rest) ≡ Ok (true, after) → (e : Entry) × (entry_in p rest ≡ Ok (Some e, after))
+-- what is passed over and allowed is an entry
+pub passed_over : (p : Program) (rest after : List ℕ) → seen (entry_in p rest) ≡ Ok (true, after)
+    → (e : Entry) × (entry_in p rest ≡ Ok (Some e, after))
 passed_over p rest after h =
     let found = read-seen (entry_in p rest) true after h in
     let there = some_of found.0 found.2 in
     (there.0, found.1 ∙ ap (λ (o : Option Entry). Ok (o, after)) there.1)
 
-pub Grows-placed : (p : Program) (g h : Grown) (e : Entry) (after : List ℕ) (answer : Bool) → count_of g.table < g.count → entry_in p g.rest ≡ Ok (Some e, after)
+pub Grows-placed : (p : Program) (g h : Grown) (e : Entry) (after : List ℕ) (answer : Bool)
+    → count_of g.table < g.count → entry_in p g.rest ≡ Ok (Some e, after)
     → (IsTrue answer → h ≡ taken g after) → (answer ≡ false → h ≡ g) → Grows p g h
-Grows-placed p g h e after true less read there left = subst (Grows p g) (sym (there refl)) (Grows-more p g e after less read)
-Grows-placed p g h e after false less read there left = subst (Grows p g) (sym (left refl)) (Grows-same p g)
+Grows-placed p g h e after true less read there left =
+    subst (Grows p g) (sym (there refl)) (Grows-more p g e after less read)
+Grows-placed p g h e after false less read there left =
+    subst (Grows p g) (sym (left refl)) (Grows-same p g)
 
-pub count-taken : (g h : Grown) (after : List ℕ) → h ≡ taken g after → count_of h.table ≡ count_of g.table + 1
+pub count-taken : (g h : Grown) (after : List ℕ) → h ≡ taken g after
+    → count_of h.table ≡ count_of g.table + 1
 count-taken g h after e =
-    ap (λ (i : Grown). count_of i.table) e ∙ length-more g.table.places (length g.table.bytes - length g.rest) (count_of g.table) refl
+    ap (λ (i : Grown). count_of i.table) e
+    ∙ length-more g.table.places (length g.table.bytes - length g.rest) (count_of g.table) refl
 
-pub entry_at-placed : (p : Program) (g h : Grown) (e : Entry) (after : List ℕ) → IsBegun p g → entry_in p g.rest ≡ Ok (Some e, after) → h ≡ taken g after
+pub entry_at-placed : (p : Program) (g h : Grown) (e : Entry) (after : List ℕ) → IsBegun p g
+    → entry_in p g.rest ≡ Ok (Some e, after) → h ≡ taken g after
     → entry_at p h.table (count_of g.table) ≡ Some e
 entry_at-placed p g h e after b read same =
-    ap (λ (i : Grown). entry_at p i.table (count_of g.table)) same ∙ entry_at-taken p g e after b read
+    ap (λ (i : Grown). entry_at p i.table (count_of g.table)) same
+    ∙ entry_at-taken p g e after b read
 
 pub rest_inside : (p : Program) (g : Grown) → IsBegun p g → length g.rest ≤ length g.table.bytes
 rest_inside p g b = IsEnd-length g.table.bytes g.rest b.is_end

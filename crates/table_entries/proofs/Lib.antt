@@ -1,4 +1,4 @@
-pub mod Words
+pub mod NumberBytes
 pub mod Many
 pub mod Parts
 pub mod Ends

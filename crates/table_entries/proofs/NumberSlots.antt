@@ -1,4 +1,4 @@
--- Numbers, in registers and in stack slots: they are there, and set.
+-- A number in a register, or spilled to a stack slot, is allowed just where its fields are.
 use Rattle.std.specs.Prelude.{◌≡◌, Option, Some, None, refl}
 use Rattle.std.specs.Option.{is_some, option_map}
 use Rattle.reg_state.specs.declared.scalars.Scalar.{Scalar}

@@ -1,4 +1,4 @@
--- Frames and entries whose parts were read.
+-- Call frames and entries whose parts were read.
 use Rattle.std.specs.Prelude.{◌≡◌, ℕ, ◌≤◌, ◌&&◌, if◌then◌else◌, Bool, true, false, List, length, drop, Option, Some, None, Ok, refl}
 use Rattle.std.specs.Option.{option_map}
 use Rattle.std.proofs.Common.{ap, sym, ◌∙◌}
@@ -21,48 +21,88 @@ pub kept-if : {X : Type 0} (b : Bool) (x : X) → (if b then Some x else None) �
 kept-if true x = refl
 kept-if false x = refl
 
-pub kept-map : {X Y : Type 0} (f : X → Y) (b : Bool) (x : X) → option_map f (kept b x) ≡ kept b (f x)
+pub kept-map : {X Y : Type 0} (f : X → Y) (b : Bool) (x : X)
+    → option_map f (kept b x) ≡ kept b (f x)
 kept-map f true x = refl
 kept-map f false x = refl
 
-allowed_frame-kept : (holder : ℕ) (outer : Bool) (slot : ℕ) (values : Bool) (kinds : List Kind) (marks : Bool) (slots : List StackSlot)
-    → allowed_frame holder outer slot (kept values kinds) (kept marks slots)
-    ≡ kept ((values && marks) && frame_allowed holder outer slot kinds) (record { return_slot = slot; registers = kinds; stack = record { slots = slots } })
+allowed_frame-kept : (holder : ℕ) (outer : Bool) (slot : ℕ) (allowed : Bool) (kinds : List Kind)
+    (marks : Bool) (slots : List StackSlot)
+    → allowed_frame holder outer slot (kept allowed kinds) (kept marks slots)
+    ≡ kept ((allowed && marks) && frame_allowed holder outer slot kinds)
+    (record { return_slot = slot; registers = kinds; stack = record { slots = slots } })
 allowed_frame-kept holder outer slot true kinds true slots =
-    kept-if (frame_allowed holder outer slot kinds) (record { return_slot = slot; registers = kinds; stack = record { slots = slots } })
+    kept-if (frame_allowed holder outer slot kinds)
+    (record { return_slot = slot; registers = kinds; stack = record { slots = slots } })
 allowed_frame-kept holder outer slot true kinds false slots = refl
 allowed_frame-kept holder outer slot false kinds marks slots = refl
 
--- the values and the stack slots of a call frame are read
-pub frame_in-read : (rows holder : ℕ) (outer : Bool) (bytes : List ℕ) (values : Bool) (kinds : List Kind) (rest : List ℕ) (marks : Bool) (slots : List StackSlot) (after : List ℕ)
-    → 2 ≤ length bytes → many (λ k. kind_in rows holder) 10 0 (drop 2 bytes) ≡ Ok (kept values kinds, rest)
+-- the kinds and the stack slots of a call frame are read
+pub frame_in-read : (rows holder : ℕ) (outer : Bool) (bytes : List ℕ) (allowed : Bool)
+    (kinds : List Kind) (rest : List ℕ) (marks : Bool) (slots : List StackSlot) (after : List ℕ)
+    → 2 ≤ length bytes
+    → many (λ k. kind_in rows holder) 10 0 (drop 2 bytes) ≡ Ok (kept allowed kinds, rest)
     → many (λ k. slot_in rows holder) frame_slots 0 rest ≡ Ok (kept marks slots, after)
     → frame_in rows holder outer bytes
-    ≡ Ok (kept ((values && marks) && frame_allowed holder outer (little_number 2 bytes) kinds) (record { return_slot = little_number 2 bytes; registers = kinds; stack = record { slots = slots } }), after)
+    ≡ Ok (
+      kept ((allowed && marks) && frame_allowed holder outer (little_number 2 bytes) kinds)
+          (record {
+            return_slot = little_number 2 bytes;
+            registers = kinds;
+            stack = record { slots = slots };
+          }),
+      after,
+    )
 unfolding frame_in
-frame_in-read rows holder outer bytes values kinds rest marks slots after long first second =
-    rw (le-ltb (length bytes) 2 long, first, second) (ap (λ (f : Option AbstractFrame). Ok (f, after)) (allowed_frame-kept holder outer (little_number 2 bytes) values kinds marks slots))
+frame_in-read rows holder outer bytes allowed kinds rest marks slots after long first second =
+    rw (le-ltb (length bytes) 2 long, first, second)
+    (ap (λ (f : Option AbstractFrame). Ok (f, after))
+    (allowed_frame-kept holder outer (little_number 2 bytes) allowed kinds marks slots))
 
-entry_with-kept : (p : Program) (number slot : ℕ) (whole : Bool) (callers : List AbstractFrame) (fits : Bool) (innermost : AbstractFrame) (successors : List ℕ)
+entry_with-kept : (p : Program) (number slot : ℕ) (whole : Bool) (callers : List AbstractFrame)
+    (fits : Bool) (innermost : AbstractFrame) (successors : List ℕ)
     → entry_with p number slot (kept whole callers) (kept fits innermost) (Some successors)
     ≡ kept ((whole && fits) && head_allowed p number slot)
-    (record { number = number; state = record { slot = slot; callers = record { items = callers }; innermost = innermost }; successors = successors })
+    (record {
+      number = number;
+      state = record { slot = slot; callers = record { items = callers }; innermost = innermost };
+      successors = successors;
+    })
 entry_with-kept p number slot true callers true innermost successors =
-    kept-if (head_allowed p number slot) (record { number = number; state = record { slot = slot; callers = record { items = callers }; innermost = innermost }; successors = successors })
+    kept-if (head_allowed p number slot)
+    (record {
+      number = number;
+      state = record {
+        slot = slot;
+        callers = record { items = callers };
+        innermost = innermost;
+      };
+      successors = successors;
+    })
 entry_with-kept p number slot true callers false innermost successors = refl
 entry_with-kept p number slot false callers fits innermost successors = refl
 
 -- the parts of an entry are read
-pub rest_in-read : (p : Program) (number outer : ℕ) (bytes : List ℕ) (whole : Bool) (a : State) (rest : List ℕ) (fits : Bool) (others : List ℕ) (n : NamedEntries) (after : List ℕ)
+pub rest_in-read : (p : Program) (number outer : ℕ) (bytes : List ℕ) (whole : Bool) (a : State)
+    (rest : List ℕ) (fits : Bool) (others : List ℕ) (n : NamedEntries) (after : List ℕ)
     → callers_in (length p.maps) outer bytes ≡ Ok (kept whole a.callers.items, rest)
     → frame_in (length p.maps) outer false rest ≡ Ok (kept fits a.innermost, others)
     → named_in others ≡ Ok (Some (list_of n), after)
     → rest_in p number a.slot outer bytes
-    ≡ Ok (option_map (λ head. entry_of head a) (kept ((whole && fits) && head_allowed p number a.slot) (record { number = number; named = n })), after)
+    ≡ Ok (
+      option_map (λ head. entry_of head a)
+          (kept ((whole && fits) && head_allowed p number a.slot)
+          (record { number = number; named = n })),
+      after,
+    )
 rest_in-read p number outer bytes whole a rest fits others n after first second third =
     rw (first, second, third)
-    (ap (λ (e : Option Entry). Ok (e, after)) (entry_with-kept p number a.slot whole a.callers.items fits a.innermost (list_of n)
+    (ap (λ (e : Option Entry). Ok (e, after))
+    (entry_with-kept p number a.slot whole a.callers.items fits a.innermost (list_of n)
     ∙ (let head : EntryHead = record { number = number; named = n } in
-    let same : option_map (λ (h : EntryHead). entry_of h a) (kept ((whole && fits) && head_allowed p number a.slot) head)
-    ≡ kept ((whole && fits) && head_allowed p number a.slot) (entry_of head a) = kept-map (λ (h : EntryHead). entry_of h a) ((whole && fits) && head_allowed p number a.slot) head in
+    let same : option_map (λ (h : EntryHead). entry_of h a)
+    (kept ((whole && fits) && head_allowed p number a.slot) head)
+    ≡ kept ((whole && fits) && head_allowed p number a.slot) (entry_of head a) =
+    kept-map (λ (h : EntryHead). entry_of h a)
+    ((whole && fits) && head_allowed p number a.slot) head in
     sym same)))

@@ -1,4 +1,5 @@
--- What has its ghost facts is what is made of its fields.
+-- Laws of `bits_of`, `wide_of`, `low_of` and `limits_of`: what they make of the fields of bits and
+-- limits, and that they make nothing where the bits overlap or a least limit is over its greatest.
 use Rattle.std.specs.Prelude.{◌≡◌, ℕ, ◌^◌, ◌<◌, ◌≤◌, ℤ, ◌≤ℤ◌, ◌⊎◌, Some, None, bit_and, refl}
 use Rattle.std.proofs.Common.{inl, inr, ap, sym, ◌∙◌}
 use Rattle.std.proofs.Props.{props}
@@ -24,30 +25,40 @@ one_less n m p q = let prop : IsProp (n < m) = hlevel props in prop p q
 pub bits_of-is : (b : Bits) → bits_of b.value b.mask ≡ Some b
 unfolding bits_of
 bits_of-is b = of (cases_eq (bit_and b.value b.mask) 0) (decide_less b.mask (2 ^ 64)) where
-  of : (d : (bit_and b.value b.mask ≡ 0) ⊎ (bit_and b.value b.mask ≡ 0 → ⊥)) (f : (b.mask < 2 ^ 64) ⊎ (b.mask < 2 ^ 64 → ⊥)) → bits_when b.value b.mask d f ≡ Some b
+  of : (d : (bit_and b.value b.mask ≡ 0) ⊎ (bit_and b.value b.mask ≡ 0 → ⊥))
+      (f : (b.mask < 2 ^ 64) ⊎ (b.mask < 2 ^ 64 → ⊥)) → bits_when b.value b.mask d f ≡ Some b
   of (inl apart) (inl fits) =
-      ap (λ (h : bit_and b.value b.mask ≡ 0). Some (record { value = b.value; mask = b.mask; apart = h; fits = fits })) (one_proof (bit_and b.value b.mask) 0 apart b.apart)
-      ∙ ap (λ (h : b.mask < 2 ^ 64). Some (record { value = b.value; mask = b.mask; apart = b.apart; fits = h })) (one_less b.mask (2 ^ 64) fits b.fits)
+      ap (λ (h : bit_and b.value b.mask ≡ 0).
+      Some (record { value = b.value; mask = b.mask; apart = h; fits = fits }))
+      (one_proof (bit_and b.value b.mask) 0 apart b.apart)
+      ∙ ap (λ (h : b.mask < 2 ^ 64).
+      Some (record { value = b.value; mask = b.mask; apart = b.apart; fits = h }))
+      (one_less b.mask (2 ^ 64) fits b.fits)
   of (inr refuted) f = absurd (refuted b.apart)
   of (inl apart) (inr refuted) = absurd (refuted b.fits)
 
 pub bits_of-none : (v m : ℕ) → (bit_and v m ≡ 0 → ⊥) → bits_of v m ≡ None
 unfolding bits_of
 bits_of-none v m out = of (cases_eq (bit_and v m) 0) (decide_less m (2 ^ 64)) where
-  of : (d : (bit_and v m ≡ 0) ⊎ (bit_and v m ≡ 0 → ⊥)) (f : (m < 2 ^ 64) ⊎ (m < 2 ^ 64 → ⊥)) → bits_when v m d f ≡ None
+  of : (d : (bit_and v m ≡ 0) ⊎ (bit_and v m ≡ 0 → ⊥)) (f : (m < 2 ^ 64) ⊎ (m < 2 ^ 64 → ⊥))
+      → bits_when v m d f ≡ None
   of (inl apart) f = absurd (out apart)
   of (inr refuted) f = refl
 
-ordered_when-is : {X : Type 0} (l g : ℕ) (s t : ℤ) (make : l ≤ g → s ≤ℤ t → X) (o : l ≤ g) (p : s ≤ℤ t)
-    (a : (l ≤ g) ⊎ (l ≤ g → ⊥)) (b : (s ≤ℤ t) ⊎ (s ≤ℤ t → ⊥)) → ordered_when l g s t make a b ≡ Some (make o p)
+ordered_when-is : {X : Type 0} (l g : ℕ) (s t : ℤ) (make : l ≤ g → s ≤ℤ t → X) (o : l ≤ g)
+    (p : s ≤ℤ t)
+    (a : (l ≤ g) ⊎ (l ≤ g → ⊥)) (b : (s ≤ℤ t) ⊎ (s ≤ℤ t → ⊥))
+    → ordered_when l g s t make a b ≡ Some (make o p)
 ordered_when-is l g s t make o p (inl first) (inl second) =
     ap (λ (h : l ≤ g). Some (make h second)) (one_order l g first o)
     ∙ ap (λ (h : s ≤ℤ t). Some (make o h)) (one_order_z s t second p)
 ordered_when-is l g s t make o p (inr out) b = absurd (out o)
 ordered_when-is l g s t make o p (inl first) (inr out) = absurd (out p)
 
-ordered_when-none : {X : Type 0} (l g : ℕ) (s t : ℤ) (make : l ≤ g → s ≤ℤ t → X) → (l ≤ g → s ≤ℤ t → ⊥)
-    → (a : (l ≤ g) ⊎ (l ≤ g → ⊥)) (b : (s ≤ℤ t) ⊎ (s ≤ℤ t → ⊥)) → ordered_when l g s t make a b ≡ None
+ordered_when-none : {X : Type 0} (l g : ℕ) (s t : ℤ) (make : l ≤ g → s ≤ℤ t → X)
+    → (l ≤ g → s ≤ℤ t → ⊥)
+    → (a : (l ≤ g) ⊎ (l ≤ g → ⊥)) (b : (s ≤ℤ t) ⊎ (s ≤ℤ t → ⊥))
+    → ordered_when l g s t make a b ≡ None
 ordered_when-none l g s t make out (inl o) (inl p) = absurd (out o p)
 ordered_when-none l g s t make out (inr refuted) b = refl
 ordered_when-none l g s t make out (inl o) (inr refuted) = refl
@@ -61,7 +72,8 @@ wide_of-is w =
 
 pub wide_of-none : (l g : ℕ) (s t : ℤ) → (l ≤ g → s ≤ℤ t → ⊥) → wide_of l g s t ≡ None
 unfolding wide_of
-wide_of-none l g s t out = ordered_when-none l g s t (wide_with l g s t) out (decide l g) (decide_z s t)
+wide_of-none l g s t out =
+    ordered_when-none l g s t (wide_with l g s t) out (decide l g) (decide_z s t)
 
 pub low_of-is : (l : Low) → low_of l.least l.greatest l.signed_least l.signed_greatest ≡ Some l
 unfolding low_of
@@ -72,7 +84,8 @@ low_of-is l =
 
 pub low_of-none : (l g : ℕ) (s t : ℤ) → (l ≤ g → s ≤ℤ t → ⊥) → low_of l g s t ≡ None
 unfolding low_of
-low_of-none l g s t out = ordered_when-none l g s t (low_with l g s t) out (decide l g) (decide_z s t)
+low_of-none l g s t out =
+    ordered_when-none l g s t (low_with l g s t) out (decide l g) (decide_z s t)
 
 pub limits_of-some : (l g : ℤ) → l ≤ℤ g → limits_of l g ≡ Some (l, g)
 unfolding limits_of
@@ -89,13 +102,43 @@ limits_of-none l g out = of (decide_z l g) where
   of (inr refuted) = refl
 
 pub wide_of-made : (l g : ℕ) (s t s' t' : ℤ) (o : l ≤ g) (p : s' ≤ℤ t') → s' ≡ s → t' ≡ t
-    → Some (record { least = l; greatest = g; signed_least = s'; signed_greatest = t'; ordered = o; signed_ordered = p }) ≡ wide_of l g s t
+    → Some (record {
+      least = l;
+      greatest = g;
+      signed_least = s';
+      signed_greatest = t';
+      ordered = o;
+      signed_ordered = p;
+    }) ≡ wide_of l g s t
 wide_of-made l g s t s' t' o p e f =
-    let w : Wide = record { least = l; greatest = g; signed_least = s'; signed_greatest = t'; ordered = o; signed_ordered = p } in
+    let w : Wide =
+    record {
+      least = l;
+      greatest = g;
+      signed_least = s';
+      signed_greatest = t';
+      ordered = o;
+      signed_ordered = p;
+    } in
     sym (wide_of-is w) ∙ ap (λ (z : ℤ). wide_of l g z t') e ∙ ap (wide_of l g s) f
 
 pub low_of-made : (l g : ℕ) (s t s' t' : ℤ) (o : l ≤ g) (p : s' ≤ℤ t') → s' ≡ s → t' ≡ t
-    → Some (record { least = l; greatest = g; signed_least = s'; signed_greatest = t'; ordered = o; signed_ordered = p }) ≡ low_of l g s t
+    → Some (record {
+      least = l;
+      greatest = g;
+      signed_least = s';
+      signed_greatest = t';
+      ordered = o;
+      signed_ordered = p;
+    }) ≡ low_of l g s t
 low_of-made l g s t s' t' o p e f =
-    let w : Low = record { least = l; greatest = g; signed_least = s'; signed_greatest = t'; ordered = o; signed_ordered = p } in
+    let w : Low =
+    record {
+      least = l;
+      greatest = g;
+      signed_least = s';
+      signed_greatest = t';
+      ordered = o;
+      signed_ordered = p;
+    } in
     sym (low_of-is w) ∙ ap (λ (z : ℤ). low_of l g z t') e ∙ ap (low_of l g s) f

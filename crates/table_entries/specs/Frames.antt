@@ -39,7 +39,7 @@ allowed_frame holder outer slot (Some kinds) (Some slots) =
     }) else None
 allowed_frame holder outer slot kinds slots = None
 
--- u16 return slot, ten values, the stack slots
+-- u16 return slot, ten kinds, the stack slots
 unfoldable pub frame_in : ℕ → ℕ → Bool → List ℕ → Read AbstractFrame
 frame_in rows holder outer bytes =
     if nat_lt (length bytes) 2 then Err Short

@@ -1,12 +1,12 @@
 -- Tables whose entries are placed as they are asked for, from the first on.
 use Rattle.std.specs.Prelude.{◌≡◌, ℕ, ◌-◌, ◌<◌, ◌≤◌, List, [], ◌∷◌, ◌++◌, drop, map, Option, None, IsSome, Result, Ok, Err}
 use Rattle.isa_model.specs.Code.Instructions.{Program}
-use Rattle.table_entries.specs.declared.faults.TableRefusal.{TableRefusal}
+use Rattle.table_entries.specs.declared.refusals.TableRefusal.{TableRefusal}
 use Rattle.table_entries.specs.Entries.{Entry}
 use Rattle.table_entries.specs.Tables.{TableView, count_of, count_in, entries_in, entry_at, entry_from, first_none}
 
--- the entries that are placed, the bytes after them, and how many entries the table says that it
--- has
+-- the entries that are placed, the bytes after them, and the count of entries in the head of the
+-- table
 pub record Grown : Type 0 where
   pub table : TableView
   pub rest : List ℕ

@@ -4,7 +4,7 @@ use Rattle.std.specs.Option.{is_some}
 use Rattle.table_entries.specs.declared.stops.StopReason.{StopReason}
 use Rattle.table_entries.specs.declared.stops.StopReason.TheVariants.{Short}
 
--- what is read, and the bytes after it. None: it is of the form, but a field is not allowed
+-- what is read, and the bytes after it. None: it has the format, but a field is not allowed
 abbrev pub Read : Type 0 → Type 0
 Read X = Result (Option X × List ℕ) StopReason
 
@@ -38,7 +38,7 @@ abbrev pub joined : {X : Type 0} → Option X → Option (List X) → Option (Li
 joined (Some x) (Some xs) = Some (x ∷ xs)
 joined x xs = None
 
--- n of them, from the k-th on, one after the other: all are read. None: one of them is None
+-- n of them, from the k-th on, one after the other. None: one has a field that is not allowed
 unfoldable pub many : {X : Type 0} → (ℕ → List ℕ → Read X) → ℕ → ℕ → List ℕ → Read (List X)
 many one zero k bytes = Ok (Some [], bytes)
 many one (suc n) k bytes =

@@ -4,18 +4,18 @@ use Rattle.std.specs.List.{starts_with}
 use Rattle.std.specs.Option.{option_and_then}
 use Rattle.byteorder.specs.Endian.{little_number}
 use Rattle.isa_model.specs.Code.Instructions.{Program}
-use Rattle.table_entries.specs.declared.faults.TableRefusal.{TableRefusal}
-use Rattle.table_entries.specs.declared.faults.TableRefusal.TheVariants as fault
+use Rattle.table_entries.specs.declared.refusals.TableRefusal.{TableRefusal}
+use Rattle.table_entries.specs.declared.refusals.TableRefusal.TheVariants as refusal
 use Rattle.table_entries.specs.declared.stops.StopReason.{StopReason}
 use Rattle.table_entries.specs.declared.stops.StopReason.TheVariants.{Short, Form}
 use Rattle.isa_model.specs.declared.limits.TheConstants.{MAX_EXPLORED}
 use Rattle.table_entries.specs.Reading.{Read, allowed}
 use Rattle.table_entries.specs.Entries.{Entry, entry_in}
 
--- bytes that end, and a byte without a meaning in the entry of index k
+-- the refusal for bytes that end, or for a byte without a meaning in the entry of index k
 abbrev pub refusal_of : StopReason → ℕ → TableRefusal
-refusal_of Short k = fault.Short
-refusal_of Form k = fault.Entry k
+refusal_of Short k = refusal.Short
+refusal_of Form k = refusal.Entry k
 
 abbrev pub before : Option Entry → Result (List (Option Entry) × List ℕ) TableRefusal
     → Result (List (Option Entry) × List ℕ) TableRefusal
@@ -39,16 +39,16 @@ entries_in p (suc n) k bytes =
 -- no bytes are left over
 abbrev pub to_the_end : Result (List (Option Entry) × List ℕ) TableRefusal
     → Result (List (Option Entry)) TableRefusal
-to_the_end (Ok x) = if length x.1 == 0 then Ok x.0 else Err fault.Long
+to_the_end (Ok x) = if length x.1 == 0 then Ok x.0 else Err refusal.Long
 to_the_end (Err e) = Err e
 
--- how many entries the first 8 bytes say that there are
+-- the count of entries in the first 8 bytes, or what is wrong with these
 abbrev pub count_in : List ℕ → Result ℕ TableRefusal
 count_in bytes =
-    if nat_lt (length bytes) 8 then Err fault.Short
-    else if not (starts_with nat_eq bytes (codes "XPT1")) then Err fault.Magic
+    if nat_lt (length bytes) 8 then Err refusal.Short
+    else if not (starts_with nat_eq bytes (codes "XPT1")) then Err refusal.Magic
     else let count = little_number 4 (drop 4 bytes) in
-    if count == 0 || nat_lt MAX_EXPLORED count then Err fault.Count else Ok count
+    if count == 0 || nat_lt MAX_EXPLORED count then Err refusal.Count else Ok count
 
 -- this number of entries after the first 8 bytes, and nothing more
 abbrev pub body_in : Program → List ℕ → ℕ → Result (List (Option Entry)) TableRefusal
@@ -75,7 +75,7 @@ all_of (None ∷ entries) = all_of entries
 all_of (Some e ∷ entries) = e ∷ all_of entries
 
 abbrev pub unless : Option ℕ → List Entry → Result (List Entry) TableRefusal
-unless (Some k) entries = Err (fault.Entry k)
+unless (Some k) entries = Err (refusal.Entry k)
 unless None entries = Ok entries
 
 abbrev pub all_allowed : Result (List (Option Entry)) TableRefusal
@@ -87,7 +87,7 @@ all_allowed (Err e) = Err e
 abbrev pub table_read : Program → List ℕ → Result (List Entry) TableRefusal
 table_read p bytes = all_allowed (table_in p bytes)
 
--- ---- tables that are kept
+-- ---- tables with the places of their entries
 
 -- the bytes, and where in them each entry begins
 pub record TableView : Type 0 where
@@ -106,7 +106,7 @@ entry_at p t k = option_and_then (entry_from p t.bytes) (slice_get t.places k)
 abbrev pub count_of : TableView → ℕ
 count_of t = length t.places
 
--- the entries that it keeps
+-- the table has these entries, by their indexes
 pub record KeepsEntries (p : Program) (t : TableView) (entries : List Entry) : Type 0 where
   pub count : count_of t ≡ length entries
   pub each : (k : ℕ) → entry_at p t k ≡ slice_get entries k

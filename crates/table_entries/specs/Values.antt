@@ -1,4 +1,4 @@
--- The values of registers and stack slots, as the bytes of a table have them;
+-- The kinds of registers and stack slots, as the bytes of a table have them;
 -- the lowest byte of a number comes first.
 use Rattle.std.specs.Prelude.{◌≡◌, ℕ, ◌^◌, ◌<◌, ◌≤◌, nat_lt, ℤ, ◌≤ℤ◌, ◌⊎◌, ◌==◌, ◌&&◌, Bool, not, if◌then◌else◌, List, [], ◌∷◌, drop, Option, Some, None, Ok, Err, bit_and}
 use Rattle.std.specs.Option.{option_map}
@@ -38,7 +38,7 @@ bits_when v m a b = None
 unfoldable pub bits_of : ℕ → ℕ → Option Bits
 bits_of v m = bits_when v m (cases_eq (bit_and v m) 0) (decide_less m (2 ^ 64))
 
--- what is made of the order of two pairs of limits, unless a least one is over its greatest
+-- what is made of two pairs of limits in order; None where a least one is above its greatest
 abbrev pub ordered_when : {X : Type 0} (l g : ℕ) (s t : ℤ) → (l ≤ g → s ≤ℤ t → X)
     → (l ≤ g) ⊎ (l ≤ g → ⊥) → (s ≤ℤ t) ⊎ (s ≤ℤ t → ⊥) → Option X
 ordered_when l g s t make (inl o) (inl p) = Some (make o p)
@@ -101,7 +101,7 @@ unfoldable pub scalar_in : List ℕ → Option Scalar
 scalar_in bytes =
     scalar_of (bits_in bytes) (range_of (wide_in (drop 16 bytes)) (low_in (drop 48 bytes)))
 
--- ---- pointers; there are `rows` map rows, and `holder` is the call frame that holds the value
+-- ---- pointers; there are `rows` map rows, and `holder` is the call frame that holds them
 
 -- limits in order
 abbrev pub limits_when : (l g : ℤ) → (l ≤ℤ g) ⊎ (l ≤ℤ g → ⊥) → Option (ℤ × ℤ)
@@ -134,7 +134,7 @@ packet_in bytes =
     else packet_of (signed_32 bytes) (little_number 4 (drop 4 bytes)) (limits_in (drop 8 bytes))
     (little_number 4 (drop 16 bytes))
 
--- a call frame up to the one that holds the value, and an offset: 5 bytes
+-- a call frame up to the one that holds the pointer, and an offset: 5 bytes
 unfoldable pub stack_in : ℕ → List ℕ → Option Kind
 stack_in holder bytes =
     if nat_lt holder (little_number 1 bytes) then None
@@ -161,9 +161,9 @@ null_in rows bytes =
     then Some (MapValueOrNull (little_number 1 bytes) (little_number 4 (drop 1 bytes)))
     else None
 
--- ---- values
+-- ---- kinds
 
--- the fields of a value, by its kind's number
+-- a kind by its number, with the fields that the bytes begin with
 unfoldable pub fields_in : ℕ → ℕ → ℕ → List ℕ → Read Kind
 fields_in rows holder kind bytes =
     if kind == 0 then Ok (Some Unset, bytes)
@@ -177,12 +177,12 @@ fields_in rows holder kind bytes =
     else if kind == 8 then sized 5 (null_in rows) bytes
     else Err Form
 
--- a value
+-- a kind: its number, and its fields
 unfoldable pub kind_in : ℕ → ℕ → List ℕ → Read Kind
 kind_in rows holder [] = Err Short
 kind_in rows holder (kind ∷ bytes) = fields_in rows holder kind bytes
 
--- a value in a stack slot: it is set
+-- the kind of a value in a stack slot: it is set
 abbrev pub spilled : Option Kind → Option StackSlot
 spilled None = None
 spilled (Some Unset) = None
@@ -196,10 +196,10 @@ abbrev pub marks_in : List ℕ → Read StackSlot
 marks_in [] = Err Short
 marks_in (marks ∷ bytes) = Ok (Some (Written marks), bytes)
 
--- a stack slot: 0 and marks, or 1 and a value
+-- a stack slot: 0 and marks, or 1 and a kind
 unfoldable pub slot_in : ℕ → ℕ → List ℕ → Read StackSlot
 slot_in rows holder [] = Err Short
-slot_in rows holder (form ∷ bytes) =
-    if form == 0 then marks_in bytes
-    else if form == 1 then spilled_in (kind_in rows holder bytes)
+slot_in rows holder (tag ∷ bytes) =
+    if tag == 0 then marks_in bytes
+    else if tag == 1 then spilled_in (kind_in rows holder bytes)
     else Err Form

@@ -81,7 +81,8 @@ pub fn blank_slots(bytes: &[u8]) -> usize
     sixteens + 12
 }
 
-/// Whether the bytes begin with an outer frame's return slot and six values that are unset.
+/// Whether the bytes begin as an outer call frame's do, with a return slot and six kinds that are
+/// unset.
 #[inline(always)]
 pub fn begins_unset(bytes: &[u8]) -> bool
     ensures { IsTrue result → AreZeros 6 (drop 2 bytes.now) }

@@ -22,7 +22,7 @@ pub enum NamedEntries {
     Two(u32, u32),
 }
 
-/// What an entry says beside its state.
+/// What an entry says besides its state.
 #[derive(Clone, Copy, PartialEq, Eq, Debug, Drop)]
 pub struct EntryHead {
     /// How many steps a run makes at most from the state on.

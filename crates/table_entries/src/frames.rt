@@ -36,7 +36,7 @@ pub fn frame_allowed(holder: usize, outer: bool, slot: usize, registers: &[Kind;
     (holder != 0 || slot == 0) && (!outer || are_unset(registers))
 }
 
-/// A frame, read into the room for it: whether it is allowed, and the bytes after it.
+/// A call frame, read into the room for it: whether it is allowed, and the bytes after it.
 #[tactic(auto, unfolding(crate::specs::Frames::frame_in))]
 pub fn read_frame<'a>(
     rows: usize,
@@ -52,14 +52,14 @@ pub fn read_frame<'a>(
         return Err(StopReason::Short);
     }
     frame.return_slot = usize::from(u16_at(bytes, 0));
-    let (values, rest) = read_registers(rows, holder, skip(bytes, 2), &mut frame.registers)?;
+    let (kinds, rest) = read_registers(rows, holder, skip(bytes, 2), &mut frame.registers)?;
     let (slots, rest) = read_slots(rows, holder, rest, &mut frame.stack.slots)?;
     let fits = frame_allowed(holder, outer, frame.return_slot, &frame.registers);
-    Ok((both(both(values, slots), fits), rest))
+    Ok((both(both(kinds, slots), fits), rest))
 }
 
-/// The outer frames, by way of a frame that is free for it: whether all are allowed, and the bytes
-/// after them.
+/// The outer frames, each read into a frame that is free for it: whether all are allowed, and the
+/// bytes after them.
 pub fn read_callers<'a>(
     rows: usize,
     count: usize,

@@ -1,7 +1,7 @@
 //! Tables whose entries are placed as they are asked for.
 //!
-//! An entry whose bytes spell a state that is at hand ends where its spelling does, so it is placed
-//! without a look at its fields. Others are passed over.
+//! An entry whose bytes spell a known state ends where its spelling does, so it is placed without a
+//! look at its fields. Others are passed over: their fields are tested, to find where they end.
 
 ghost use Rattle.std.specs.Prelude.{◌≡◌, ◌<◌, ◌≤◌, ◌+◌, ◌-◌, IsTrue, IfSome, Some, false, length, [], drop};
 ghost use Rattle.isa_model.specs.Code.Instructions.{Program};
@@ -20,11 +20,11 @@ use stack_state::State;
 use std::alloc::Global;
 use std::marker::Model;
 
-/// A table whose first entries are placed: their bytes have the form, with every field allowed.
+/// A table whose first entries are placed: their bytes have the format, with every field allowed.
 /// Placing an entry takes 8 bytes of memory.
 ///
-/// Contracts see the table of those entries, the bytes after them, and how many entries the head
-/// says that there are.
+/// Contracts see the table of those entries, the bytes after them, and the count of entries in the
+/// head.
 #[derive(Drop)]
 pub struct Growing<'a> {
     table: Table<'a>,
@@ -41,8 +41,7 @@ impl<'a> Model for Growing<'a> {
 }
 
 impl<'a> Growing<'a> {
-    /// The table that the bytes say they are, with no entry placed yet. None: their head is not of
-    /// the form.
+    /// The table of the bytes, with no entry placed yet. None: they do not begin with a head.
     pub fn begin(alloc: Global, bytes: &'a [u8]) -> Option<Growing<'a>>
         ensures bytes { IfSome result (λ growing. growing.table.bytes ≡ bytes.now) }
         ensures begun { IfSome result (λ growing. (p : Program) → IsBegun p growing) }
@@ -57,7 +56,7 @@ impl<'a> Growing<'a> {
         }
     }
 
-    /// The same of a table that is read: all its entries are placed.
+    /// A table that is read, with all its entries placed.
     pub fn of(table: Table<'a>) -> Growing<'a>
         ensures { result ≡ record {
           table = table.entry;
@@ -80,7 +79,7 @@ impl<'a> Growing<'a> {
         &self.table
     }
 
-    /// How many entries the table says that it has.
+    /// The count of entries in the head of the table.
     pub fn count(&self) -> usize
         ensures { result ≡ self.now.count }
     {
@@ -95,7 +94,7 @@ impl<'a> Growing<'a> {
         self.table.len() == self.count && self.rest.is_empty()
     }
 
-    // Places the next entry, before those bytes.
+    // Places the next entry, which ends where the bytes `after` begin.
     fn place(&mut self, after: &'a [u8]) -> bool
         requires { length self.old.rest ≤ length self.old.table.bytes }
         ensures placed { IsTrue result → self.new ≡ record {
@@ -113,7 +112,7 @@ impl<'a> Growing<'a> {
         }
     }
 
-    // Passes over the next entry, if it is allowed.
+    // Passes over the next entry and places it, if it is allowed.
     fn pass_next(&mut self, image: &Image, room: &mut [Kind; 10]) -> bool
         requires begun { IsBegun image.now self.old }
         requires more { count_of self.old.table < self.old.count }
@@ -126,7 +125,7 @@ impl<'a> Growing<'a> {
         }
     }
 
-    // Passes over the entries up to one that is not placed yet.
+    // Places all entries up to that index, which is of an entry that is not placed yet.
     fn pass_to(&mut self, image: &Image, index: usize) -> bool
         requires begun { IsBegun image.now self.old }
         requires later { count_of self.old.table ≤ index }
@@ -143,7 +142,8 @@ impl<'a> Growing<'a> {
         true
     }
 
-    /// Places the entries up to that index: whether it is placed then.
+    /// Places the entries up to that index, and returns whether the entry with that index is placed
+    /// then.
     ///
     /// The image is the one with which other entries were placed.
     pub fn reach(&mut self, image: &Image, index: usize) -> bool
@@ -161,8 +161,8 @@ impl<'a> Growing<'a> {
         self.pass_to(image, index)
     }
 
-    /// What the entry of that index says beside its state, if it is the next one to be placed, and
-    /// its bytes spell this state: then it is placed. None says nothing.
+    /// What the entry of that index says besides its state, if it is the next one to be placed, and
+    /// its bytes spell this state: then it is placed. Nothing follows from None.
     pub fn take(&mut self, image: &Image, index: usize, state: &State) -> Option<EntryHead>
         requires { MayGrow image.now self.old }
         ensures grows { Grows image.now self.old self.new }

@@ -2,16 +2,16 @@
 //!
 //! A table says of each abstract state that the verifier reached how many more steps a run makes
 //! from it at most, and which entries are its successors. Nothing here judges what a table says:
-//! only that its bytes have the form, and that its fields are allowed.
+//! only that its bytes have the format, and that its fields are allowed.
 #![tactic(auto)]
 
 pub mod blanks;
 pub mod entries;
-pub mod faults;
 pub mod frames;
 pub mod growing;
 pub mod loops;
 pub mod passing;
+pub mod refusals;
 pub mod slices;
 pub mod spelling;
 pub mod stops;
@@ -19,6 +19,6 @@ pub mod tables;
 pub mod values;
 
 pub use entries::{EntryHead, NamedEntries};
-pub use faults::TableRefusal;
 pub use growing::Growing;
+pub use refusals::TableRefusal;
 pub use tables::Table;

@@ -1,4 +1,4 @@
-//! Ten values and the stack slots of a call frame in the bytes of a table, read into a frame.
+//! Ten kinds and the stack slots of a call frame in the bytes of a table, read into a frame.
 
 ghost use Rattle.std.specs.Prelude.{◌≡◌, ◌≤◌, ◌&&◌, take, replicate};
 ghost use Rattle.stack_state.specs.Slots.{frame_slots};
@@ -12,14 +12,14 @@ use crate::values::{kind_in, slot_in};
 use reg_state::Kind;
 use stack_state::{FRAME_SLOTS, StackSlot};
 
-/// Whether both are so.
+/// Whether both are true.
 pub fn both(first: bool, second: bool) -> bool
     ensures { result ≡ (first && second) }
 {
     first && second
 }
 
-/// A value, read into the room for it: whether it is allowed, and the bytes after it.
+/// A kind, read into the room for it: whether it is allowed, and the bytes after it.
 #[inline(always)]
 #[tactic(auto, unfolding(crate::specs::Values::kind_in, crate::specs::Values::fields_in))]
 fn read_kind<'a>(
@@ -62,7 +62,8 @@ fn mark(slot: &mut StackSlot, marks: u8)
 
 /// A stack slot, read into the room for it: whether it is allowed, and the bytes after it.
 ///
-/// Most stack slots have no value: they are read several at a time, since they are most of a table.
+/// Nothing is known of most stack slots: they are read several at a time, since they are most of a
+/// table.
 #[inline(always)]
 #[tactic(auto, unfolding(crate::specs::Values::slot_in))]
 fn read_slot<'a>(
@@ -92,7 +93,7 @@ fn read_slot<'a>(
     }
 }
 
-/// Ten values, read into the registers of a frame: whether all are allowed, and the bytes after
+/// Ten kinds, read into the registers of a frame: whether all are allowed, and the bytes after
 /// them.
 pub fn read_registers<'a>(
     rows: usize,

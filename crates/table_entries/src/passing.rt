@@ -20,7 +20,7 @@ use isa_model::MAX_CALL_FRAMES;
 use reg_state::Kind;
 use stack_state::FRAME_SLOTS;
 
-// A value of one of the rare kinds, or one that is not allowed or of no kind.
+// One of the rare kinds, or bytes whose fields are not allowed, or that begin with no kind.
 #[inline(never)]
 fn pass_other(rows: usize, holder: usize, bytes: &[u8]) -> Result<(bool, &[u8]), StopReason>
     ensures { ReturnsRead (λ x. (x.0, x.1.now)) result (seen (kind_in rows holder bytes.now)) }
@@ -74,7 +74,7 @@ fn pass_kind(rows: usize, holder: usize, bytes: &[u8]) -> Result<(bool, &[u8]), 
     }
 }
 
-// A stack slot with a spilled value, or of no form.
+// A stack slot with the kind of a spilled value, or bytes that begin with no stack slot.
 #[inline(never)]
 fn pass_spilled(rows: usize, holder: usize, bytes: &[u8]) -> Result<(bool, &[u8]), StopReason>
     ensures { ReturnsRead (λ x. (x.0, x.1.now)) result (seen (slot_in rows holder bytes.now)) }
@@ -137,7 +137,7 @@ fn returns_right(holder: usize, slot: u16) -> bool
     holder != 0 || slot == 0
 }
 
-/// The innermost frame.
+/// The innermost call frame.
 fn pass_frame(rows: usize, holder: usize, bytes: &[u8]) -> Result<(bool, &[u8]), StopReason>
     ensures { ReturnsRead (λ x. (x.0, x.1.now)) result
         (seen (frame_in rows holder false bytes.now)) }
@@ -146,12 +146,12 @@ fn pass_frame(rows: usize, holder: usize, bytes: &[u8]) -> Result<(bool, &[u8]),
         return Err(StopReason::Short);
     }
     let fits = returns_right(holder, u16_at(bytes, 0));
-    let (values, rest) = pass_kinds(rows, holder, skip(bytes, 2))?;
+    let (kinds, rest) = pass_kinds(rows, holder, skip(bytes, 2))?;
     let (slots, rest) = pass_slots(rows, holder, rest)?;
-    Ok((both(both(values, slots), fits), rest))
+    Ok((both(both(kinds, slots), fits), rest))
 }
 
-/// An outer frame, by way of room for its registers.
+/// An outer frame, whose registers are read into the room for them.
 fn pass_registers<'a>(
     rows: usize,
     holder: usize,
@@ -164,10 +164,10 @@ fn pass_registers<'a>(
     if bytes.len() < 2 {
         return Err(StopReason::Short);
     }
-    let (values, rest) = read_registers(rows, holder, skip(bytes, 2), room)?;
+    let (kinds, rest) = read_registers(rows, holder, skip(bytes, 2), room)?;
     let (slots, rest) = pass_slots(rows, holder, rest)?;
     let fits = frame_allowed(holder, true, usize::from(u16_at(bytes, 0)), room);
-    Ok((both(both(values, slots), fits), rest))
+    Ok((both(both(kinds, slots), fits), rest))
 }
 
 /// An outer call frame. Where r0 to r5 are unset, as they have to be, it is read as an innermost

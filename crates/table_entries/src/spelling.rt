@@ -1,7 +1,7 @@
 //! Entries compared with a state byte by byte, without reading an entry that spells it.
 //!
-//! Each function answers the bytes after the spelling of its argument, if the bytes begin with
-//! that spelling. An answer of None says nothing.
+//! Each function returns the bytes after the spelling of its argument, if the bytes begin with
+//! that spelling. Nothing follows from None.
 
 ghost use Rattle.std.specs.Prelude.{◌≡◌, ◌≤◌, Some, Ok, IfSome, IsTrue, length, drop};
 ghost use Rattle.stack_state.specs.Slots.{frame_slots};
@@ -133,7 +133,7 @@ fn are_same_within(found: Kind, kind: &Kind) -> bool
     }
 }
 
-// Whether both are the same value; numbers are not compared here.
+// Whether both are the same kind with the same fields; numbers are not compared here.
 fn are_same(found: Kind, kind: &Kind) -> bool
     ensures { IsTrue result → found ≡ kind.now }
 {
@@ -209,7 +209,7 @@ fn after_stack<'a>(holder: usize, bytes: &'a [u8], kind: &Kind) -> Option<&'a [u
     }
 }
 
-// A value of one of the other kinds, which are rare.
+// One of the other kinds, which are rare.
 #[inline(never)]
 fn after_other<'a>(rows: usize, holder: usize, bytes: &'a [u8], kind: &Kind) -> Option<&'a [u8]>
     ensures { IfSome result
@@ -329,7 +329,7 @@ fn after_callers<'a>(rows: usize, bytes: &'a [u8], callers: &[AbstractFrame]) ->
     Some(rest)
 }
 
-// The frames, and then what the entry says beside its state, and the bytes after it.
+// The call frames, and then what the entry says besides its state, and the bytes after it.
 fn after_rest<'a>(
     image: &Image,
     number: u32,
@@ -353,8 +353,8 @@ fn after_rest<'a>(
     }
 }
 
-/// What the entry that the bytes begin with says beside its state, if they spell this one, and the
-/// bytes after it.
+/// What the entry that the bytes begin with says besides its state, if they spell this state, and
+/// the bytes after it.
 #[tactic(auto, unfolding(crate::specs::Entries::entry_in))]
 pub(crate) fn after_entry<'a>(
     image: &Image,

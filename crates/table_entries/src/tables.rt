@@ -10,8 +10,8 @@ ghost use Rattle.table_entries.specs.Growing.{with_place};
 ghost use Rattle.table_entries.specs.Tables.{TableView, KeepsEntries, table_read, entry_at, count_of, ArePlaced, count_in, body_in, refusal_of, earlier};
 
 use crate::entries::{EntryHead, read_entry};
-use crate::faults::TableRefusal;
 use crate::passing::pass_entry;
+use crate::refusals::TableRefusal;
 use crate::slices::{skip, u32_at};
 use crate::spelling::after_entry;
 use crate::stops::StopReason;
@@ -22,7 +22,7 @@ use stack_state::State;
 use std::alloc::Global;
 use std::marker::Model;
 
-/// A table whose bytes are of the form, with every field allowed. It has 8 bytes for each entry,
+/// A table whose bytes have the format, with every field allowed. It has 8 bytes for each entry,
 /// which say where the entry begins: no entry is kept.
 ///
 /// Contracts see the bytes and the places.
@@ -43,7 +43,7 @@ impl<'a> Model for Table<'a> {
 // What is wrong with the first bytes, or how many entries there are.
 pub(crate) fn count_in(bytes: &[u8]) -> Result<usize, TableRefusal>
     ensures { MatchResult result (λ count. count_in bytes.now ≡ Ok count)
-        (λ fault. count_in bytes.now ≡ Err fault) }
+        (λ refusal. count_in bytes.now ≡ Err refusal) }
 {
     if bytes.len() < 8 {
         return Err(TableRefusal::Short);
@@ -61,7 +61,7 @@ pub(crate) fn count_in(bytes: &[u8]) -> Result<usize, TableRefusal>
 // Notes a place.
 fn push_place(places: &mut Vec<usize>, place: usize) -> Result<(), TableRefusal>
     ensures ok { OnOk result (places.new.items ≡ places.old.items ++ place ∷ []) }
-    ensures err { IfErr result (λ fault. fault ≡ TableRefusal.Memory) }
+    ensures err { IfErr result (λ refusal. refusal ≡ TableRefusal.Memory) }
 {
     match places.push(place) {
         Ok(()) => Ok(()),
@@ -70,15 +70,15 @@ fn push_place(places: &mut Vec<usize>, place: usize) -> Result<(), TableRefusal>
 }
 
 // Whether the entry of that index, with which the bytes begin, is allowed, and the bytes after it.
-fn pass_or_fault<'a>(
+fn pass_or_refuse<'a>(
     image: &Image,
     index: usize,
     bytes: &'a [u8],
     room: &mut [Kind; 10],
 ) -> Result<(bool, &'a [u8]), TableRefusal>
     ensures { MatchResult result (λ x. seen (entry_in image.now bytes.now) ≡ Ok (x.0, x.1.now))
-        (λ fault. (stop : StopReason) × (seen (entry_in image.now bytes.now) ≡ Err stop)
-        × (fault ≡ refusal_of stop index)) }
+        (λ refusal. (stop : StopReason) × (seen (entry_in image.now bytes.now) ≡ Err stop)
+        × (refusal ≡ refusal_of stop index)) }
 {
     match pass_entry(image, bytes, room) {
         Ok(passed) => Ok(passed),
@@ -96,8 +96,8 @@ fn places_in(
     requires { 8 ≤ length bytes.now }
     ensures { MatchResult result
         (λ x. ArePlaced image.now bytes.now count x.0.items x.1)
-        (λ fault. (fault ≡ TableRefusal.Memory)
-        ⊎ (body_in image.now bytes.now count ≡ Err fault)) }
+        (λ refusal. (refusal ≡ TableRefusal.Memory)
+        ⊎ (body_in image.now bytes.now count ≡ Err refusal)) }
 {
     let mut places = Vec::new(alloc);
     let mut first = None;
@@ -105,7 +105,7 @@ fn places_in(
     let mut room = [Kind::Unset; 10];
     for index in 0..count {
         push_place(&mut places, bytes.len() - rest.len())?;
-        let (allowed, after) = pass_or_fault(image, index, rest, &mut room)?;
+        let (allowed, after) = pass_or_refuse(image, index, rest, &mut room)?;
         first = earlier(first, allowed, index);
         rest = after;
     }
@@ -155,7 +155,8 @@ impl<'a> Table<'a> {
         ensures { MatchResult result
             (λ table. (entries : List Entry) × (table_read image.now bytes.now ≡ Ok entries)
             × KeepsEntries image.now table entries)
-            (λ fault. (fault ≡ TableRefusal.Memory) ⊎ (table_read image.now bytes.now ≡ Err fault)) }
+            (λ refusal. (refusal ≡ TableRefusal.Memory)
+            ⊎ (table_read image.now bytes.now ≡ Err refusal)) }
     {
         let count = count_in(bytes)?;
         let (places, first) = places_in(alloc, image, count, bytes)?;
@@ -175,7 +176,7 @@ impl<'a> Table<'a> {
         }
     }
 
-    /// Gives it an entry that begins where the last bytes do, if there is room for that.
+    /// Places one more entry, which begins `left` bytes before the end. False: memory ran out.
     pub(crate) fn place(&mut self, left: usize) -> bool
         requires { left ≤ length self.old.bytes }
         ensures placed { IsTrue result
@@ -225,8 +226,8 @@ impl<'a> Table<'a> {
         }
     }
 
-    /// What the entry of that index says beside its state, if its bytes spell this state. None says
-    /// nothing.
+    /// What the entry of that index says besides its state, if its bytes spell this state.
+    /// Nothing follows from None.
     ///
     /// The image is the one that the table was made with.
     pub fn head_of(&self, image: &Image, index: usize, state: &State) -> Option<EntryHead>

@@ -1,4 +1,4 @@
-//! Values of registers and stack slots in the bytes of a table.
+//! The kinds of registers and stack slots in the bytes of a table.
 
 ghost use Rattle.std.specs.Prelude.{◌≡◌, ◌≤◌, length, MatchResult, Ok, Err};
 ghost use Rattle.table_entries.specs.Values.{bits_of, wide_of, low_of, scalar_in, packet_in, stack_in, map_in, value_in, null_in, fields_in, kind_in, slot_in, marks_in, spilled, has_no_part, limits_of, limits_in, range_of, scalar_of, packet_of, lacks_identity, bits_in, wide_in, low_in};
@@ -266,7 +266,7 @@ pub fn number_in(bytes: &[u8]) -> Option<Kind>
     }
 }
 
-/// The fields of a value, by its kind's number.
+/// A kind by its number, with the fields that the bytes begin with.
 #[tactic(auto, unfolding(crate::specs::Values::fields_in))]
 fn fields_in(
     rows: usize,
@@ -320,7 +320,7 @@ fn fields_in(
     }
 }
 
-/// A value.
+/// A kind: its number, and its fields.
 #[tactic(auto, unfolding(crate::specs::Values::kind_in))]
 pub fn kind_in(
     rows: usize,
@@ -345,7 +345,7 @@ fn marks_in(bytes: &[u8]) -> Result<(Option<StackSlot>, &[u8]), StopReason>
     }
 }
 
-/// A value in a stack slot, which is set.
+/// The kind of a value in a stack slot, which is set.
 fn spilled(kind: Option<Kind>) -> Option<StackSlot>
     ensures { result ≡ spilled kind }
 {

@@ -1,6 +1,6 @@
 //! Tests of proof tables.
 //!
-//! They are here, since a crate with tests is proved twice.
+//! They have a crate of their own, since a crate with tests is proved twice.
 #![tactic(auto)]
 
 #[cfg(test)]

@@ -1,4 +1,4 @@
--- Each value that the machine computes is allowed by the kind that is given for it.
+-- Each value that the machine computes is allowed by the kind that the step computes.
 use Rattle.std.specs.Prelude.{◌≡◌, ℕ, ◌<◌, ◌≤◌, ◌^◌, ℤ, Bool, true, false, nat_le, unsigned_abs, if◌then◌else◌, slice_get, Option, Some, None, Result, Ok, Err, refl}
 use Rattle.std.proofs.Common.{arith}
 use Rattle.std.proofs.lemmas.Bool.Decides.{nat_tests}
@@ -37,7 +37,8 @@ YieldsUnder p a s k answer = (f : Assigned) × MeansBy p f a s × Yields f k ans
 abbrev pub Computes : (ℕ → ℕ) → (Scalar → Scalar → Type 0) → Type 0
 Computes f says = (a c : Scalar) → says a c → (x : ℕ) → Has a x → Has c (f x)
 
-pub on_number_yields : (e : Assigned) (f : ℕ → ℕ) (says : Scalar → Scalar → Type 0) (a k : Kind) (v : Value)
+pub on_number_yields : (e : Assigned) (f : ℕ → ℕ) (says : Scalar → Scalar → Type 0) (a k : Kind)
+    (v : Value)
     → Computes f says → OfNumber says a (Ok k) → Allows e a v → Yields e k (on_number f v)
 on_number_yields e f says (Number a) (Number c) v computes h allowed =
     let (x, is, member) = allowed in
@@ -48,16 +49,20 @@ on_number_yields e f says a k v computes h allowed = absurd (cc)
 -- ---- pointers
 
 -- an offset within the limit
-pub pointer_at_within : (r : Region) (z : ℤ) → unsigned_abs z ≤ offset_limit → pointer_at r z ≡ Ok (value.Ptr r z)
-pointer_at_within r z within = let yes : nat_le (unsigned_abs z) offset_limit ≡ true = grind (arith, nat_tests) in rw yes refl
+pub pointer_at_within : (r : Region) (z : ℤ) → unsigned_abs z ≤ offset_limit
+    → pointer_at r z ≡ Ok (value.Ptr r z)
+pointer_at_within r z within =
+    let yes : nat_le (unsigned_abs z) offset_limit ≡ true = grind (arith, nat_tests) in rw yes refl
 
 -- where a pointer is left, it is there and within the limit
 frame_there : (frame : ℕ) (z : ℤ) (k : Kind) (b : Bool) → nat_le (unsigned_abs z) offset_limit ≡ b
-    → Ok k ≡ (if b then Ok (Stack frame z) else Err PointerOffset) → (k ≡ Stack frame z) × (unsigned_abs z ≤ offset_limit)
+    → Ok k ≡ (if b then Ok (Stack frame z) else Err PointerOffset)
+    → (k ≡ Stack frame z) × (unsigned_abs z ≤ offset_limit)
 frame_there frame z k true test is = (cc, grind (arith, nat_tests))
 frame_there frame z k false test is = absurd (cc)
 
-pub frame_moves : (e : Assigned) (back : Bool) (frame : ℕ) (offset : ℤ) (by : Scalar) (k : Kind) (x n : ℕ) (o : Option ℕ) → LeavesNumber by o → Has by x
+pub frame_moves : (e : Assigned) (back : Bool) (frame : ℕ) (offset : ℤ) (by : Scalar) (k : Kind)
+    (x n : ℕ) (o : Option ℕ) → LeavesNumber by o → Has by x
     → Ok k ≡ moved_frame back frame offset o → slice_get e.frames frame ≡ Some n
     → Yields e k (moved_to (region.CallFrame n) (moved_offset back offset x))
 frame_moves e back frame offset by k x n (Some m) only member h found =
@@ -69,6 +74,7 @@ frame_moves e back frame offset by k x n None only member h found = absurd (cc)
 
 -- ---- numbers of 32 bits
 
-pub number32_yields : (e : Assigned) (k : Kind) (n : ℕ) → IsNumber32 k → n < 2 ^ 32 → Allows e k (value.Num n)
+pub number32_yields : (e : Assigned) (k : Kind) (n : ℕ) → IsNumber32 k → n < 2 ^ 32
+    → Allows e k (value.Num n)
 number32_yields e (Number c) n h small = (n, refl, (h n).1 small)
 number32_yields e k n h small = absurd h

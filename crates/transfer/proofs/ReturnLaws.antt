@@ -18,7 +18,8 @@ use Rattle.stack_state.specs.declared.states.State.{State}
 use Rattle.stack_state.specs.Meaning.{frames_of, abstract_frame_at, no_frame, depth}
 use Rattle.stack_state.proofs.MeaningLaws.{returns-with}
 use Rattle.stack_state.specs.Effects.{with_slots, with_frame_slots, forgotten_frame, with_kinds, map_kinds, proved_kind}
-use Rattle.stack_state.proofs.EffectLaws.{frames_of-with_frame, frames_of-map, same_returns}
+use Rattle.stack_state.proofs.EffectLaws.{frames_of-with_frame}
+use Rattle.stack_state.proofs.KindEffects.{frames_of-map, same_returns}
 use Rattle.branch_refine.specs.Comparing.{compared_by, same}
 use Rattle.branch_refine.specs.Refining.{Narrows, LearnsOf, Refines}
 use Rattle.branch_refine.proofs.RefiningLaws.{numbers-compared_by}
@@ -40,55 +41,79 @@ use Rattle.transfer.specs.Following.{returns_of}
 
 -- ---- memory
 
-returns-with_frame_slots : (a : State) (j : ℕ) (slots : List StackSlot) → j < depth a → returns_of (with_frame_slots a j slots) ≡ returns_of a
+returns-with_frame_slots : (a : State) (j : ℕ) (slots : List StackSlot) → j < depth a
+    → returns_of (with_frame_slots a j slots) ≡ returns_of a
 returns-with_frame_slots a j slots inside =
-    ap (λ fs. map (λ f. f.return_slot) fs) (frames_of-with_frame a j (with_slots (abstract_frame_at a j) slots) inside)
-    ∙ map-set_same (λ f. f.return_slot) (frames_of a) j (with_slots (abstract_frame_at a j) slots) no_frame refl
+    ap (λ fs. map (λ f. f.return_slot) fs)
+    (frames_of-with_frame a j (with_slots (abstract_frame_at a j) slots) inside)
+    ∙ map-set_same (λ f. f.return_slot) (frames_of a) j
+    (with_slots (abstract_frame_at a j) slots) no_frame refl
 
-returns-left : (a b : State) (frame at : ℕ) (size : Size) (source : Kind) → frame < depth a → IsLeft a frame at size source b → returns_of b ≡ returns_of a
-returns-left a b frame at U64 source live h = ap returns_of h.left ∙ returns-with_frame_slots a frame _ live
-returns-left a b frame at size (kind.Number numbers) live h = ap returns_of h.left ∙ returns-with_frame_slots a frame _ live
-returns-left a b frame at size source live h = ap returns_of h.left ∙ returns-with_frame_slots a frame _ live
+returns-left : (a b : State) (frame at : ℕ) (size : Size) (source : Kind) → frame < depth a
+    → IsLeft a frame at size source b → returns_of b ≡ returns_of a
+returns-left a b frame at U64 source live h =
+    ap returns_of h.left ∙ returns-with_frame_slots a frame _ live
+returns-left a b frame at size (kind.Number numbers) live h =
+    ap returns_of h.left ∙ returns-with_frame_slots a frame _ live
+returns-left a b frame at size source live h =
+    ap returns_of h.left ∙ returns-with_frame_slots a frame _ live
 
 -- a store
-pub returns-stores : (rows : List MapDef) (a b : State) (size : Size) (base : Kind) (by : ℤ) (source : Kind) → StoresKind rows a size base by source b (Ok tt) → returns_of b ≡ returns_of a
-returns-stores rows a b size (kind.Stack frame z) by source h = returns-left a b frame h.0 size source h.1.live h.3
-returns-stores rows a b size (kind.Packet fixed identity least greatest proved) by source h = ap returns_of h.0
+pub returns-stores : (rows : List MapDef) (a b : State) (size : Size) (base : Kind) (by : ℤ)
+    (source : Kind) → StoresKind rows a size base by source b (Ok tt) → returns_of b ≡ returns_of a
+returns-stores rows a b size (kind.Stack frame z) by source h =
+    returns-left a b frame h.0 size source h.1.live h.3
+returns-stores rows a b size (kind.Packet fixed identity least greatest proved) by source h =
+    ap returns_of h.0
 returns-stores rows a b size base by source h = ap returns_of h.0
 
-returns-with_old : (a : State) (register : Option Reg) (old : Scalar) → returns_of (with_old register old a) ≡ returns_of a
+returns-with_old : (a : State) (register : Option Reg) (old : Scalar)
+    → returns_of (with_old register old a) ≡ returns_of a
 returns-with_old a None old = refl
 returns-with_old a (Some register) old = returns-with a register (kind.Number old)
 
-returns-swapped : (a b : State) (frame at : ℕ) (size : Size) (register : Option Reg) → frame < depth a → IsSwapped a frame at size register b → returns_of b ≡ returns_of a
+returns-swapped : (a b : State) (frame at : ℕ) (size : Size) (register : Option Reg)
+    → frame < depth a → IsSwapped a frame at size register b → returns_of b ≡ returns_of a
 returns-swapped a b frame at size register live h =
-    ap returns_of h.kept ∙ returns-with_old h.after register h.old ∙ ap returns_of h.stored.left ∙ returns-with_frame_slots a frame _ live
+    ap returns_of h.kept ∙ returns-with_old h.after register h.old ∙ ap returns_of h.stored.left
+    ∙ returns-with_frame_slots a frame _ live
 
-returns-swaps_at : (rows : List MapDef) (a b : State) (base : Kind) (by : ℤ) (size : Size) (register : Option Reg) → SwapsAt rows a base by size register b (Ok tt) → returns_of b ≡ returns_of a
-returns-swaps_at rows a b (kind.Stack frame z) by size register h = returns-swapped a b frame h.0 size register h.1.live h.2
-returns-swaps_at rows a b (kind.Packet fixed identity least greatest proved) by size register h = ap returns_of h.2.0
-returns-swaps_at rows a b (kind.MapValue m least greatest) by size register h = ap returns_of h.1.2 ∙ returns-with_old a register h.1.0
+returns-swaps_at : (rows : List MapDef) (a b : State) (base : Kind) (by : ℤ) (size : Size)
+    (register : Option Reg) → SwapsAt rows a base by size register b (Ok tt)
+    → returns_of b ≡ returns_of a
+returns-swaps_at rows a b (kind.Stack frame z) by size register h =
+    returns-swapped a b frame h.0 size register h.1.live h.2
+returns-swaps_at rows a b (kind.Packet fixed identity least greatest proved) by size register h =
+    ap returns_of h.2.0
+returns-swaps_at rows a b (kind.MapValue m least greatest) by size register h =
+    ap returns_of h.1.2 ∙ returns-with_old a register h.1.0
 returns-swaps_at rows a b base by size register h = ap returns_of h.0
 
 -- an atomic instruction
-pub returns-swaps : (rows : List MapDef) (a b : State) (source base : Kind) (by : ℤ) (size : Size) (register : Option Reg) → Swaps rows a source base by size register b (Ok tt)
+pub returns-swaps : (rows : List MapDef) (a b : State) (source base : Kind) (by : ℤ) (size : Size)
+    (register : Option Reg) → Swaps rows a source base by size register b (Ok tt)
     → returns_of b ≡ returns_of a
-returns-swaps rows a b (kind.Number numbers) base by size register h = returns-swaps_at rows a b base by size register h
+returns-swaps rows a b (kind.Number numbers) base by size register h =
+    returns-swaps_at rows a b base by size register h
 returns-swaps rows a b source base by size register h = ap returns_of h.0
 
 -- CMPXCHG
-pub returns-compares : (rows : List MapDef) (a b : State) (compared source base : Kind) (by : ℤ) (size : Size) → ComparesIn rows a compared source base by size b (Ok tt)
+pub returns-compares : (rows : List MapDef) (a b : State) (compared source base : Kind) (by : ℤ)
+    (size : Size) → ComparesIn rows a compared source base by size b (Ok tt)
     → returns_of b ≡ returns_of a
-returns-compares rows a b (kind.Number numbers) source base by size h = returns-swaps rows a b source base by size (Some R0) h
+returns-compares rows a b (kind.Number numbers) source base by size h =
+    returns-swaps rows a b source base by size (Some R0) h
 returns-compares rows a b compared source base by size h = ap returns_of h.0
 
 -- ---- jumps
 
 returns-map_kinds : (g : Kind → Kind) (a : State) → returns_of (map_kinds g a) ≡ returns_of a
 returns-map_kinds g a =
-    ap (λ fs. map (λ f. f.return_slot) fs) (frames_of-map (with_kinds g) a) ∙ same_returns (with_kinds g) (frames_of a) (λ f. refl)
+    ap (λ fs. map (λ f. f.return_slot) fs) (frames_of-map (with_kinds g) a)
+    ∙ same_returns (with_kinds g) (frames_of a) (λ f. refl)
 
-returns-proved : (g : Kind → Kind) (a : State) (b : Bool) → returns_of (if b then map_kinds g a else a) ≡ returns_of a
+returns-proved : (g : Kind → Kind) (a : State) (b : Bool)
+    → returns_of (if b then map_kinds g a else a) ≡ returns_of a
 returns-proved g a true = returns-map_kinds g a
 returns-proved g a false = refl
 
@@ -99,9 +124,11 @@ returns-narrows a b h =
     ∙ ap (λ n. map (λ f. f.return_slot) a.callers.items ++ n ∷ []) h.returns
     ∙ sym (map-append (λ f. f.return_slot) a.callers.items (a.innermost ∷ []))
 
-returns-leaves : (cond : Cond) (taken : Bool) (a : State) (some : Bool) (b : State) (c : Compared) → compared_by a cond ≡ c
+returns-leaves : (cond : Cond) (taken : Bool) (a : State) (some : Bool) (b : State) (c : Compared)
+    → compared_by a cond ≡ c
     → Refines cond taken a some b → LearnsOf c taken a some b → returns_of b ≡ returns_of a
-returns-leaves cond taken a some b compared.Numbers is h l = returns-narrows a b (h.narrowed (numbers-compared_by a cond is))
+returns-leaves cond taken a some b compared.Numbers is h l =
+    returns-narrows a b (h.narrowed (numbers-compared_by a cond is))
 returns-leaves cond taken a some b (compared.Packet identity shows bytes) is h l =
     ap returns_of l.1 ∙ returns-proved (proved_kind identity bytes) a (same taken shows)
 returns-leaves cond taken a some b (compared.OrNull identity null) is h l =
@@ -111,38 +138,48 @@ returns-leaves cond taken a some b (compared.Live null) is h l = ap returns_of l
 returns-leaves cond taken a some b compared.Undefined is h l = ap returns_of l.1
 
 -- each side of a conditional jump
-pub returns-refines : (cond : Cond) (taken : Bool) (a : State) (some : Bool) (b : State) → Refines cond taken a some b → returns_of b ≡ returns_of a
-returns-refines cond taken a some b h = returns-leaves cond taken a some b (compared_by a cond) refl h h.pointers
+pub returns-refines : (cond : Cond) (taken : Bool) (a : State) (some : Bool) (b : State)
+    → Refines cond taken a some b → returns_of b ≡ returns_of a
+returns-refines cond taken a some b h =
+    returns-leaves cond taken a some b (compared_by a cond) refl h h.pointers
 
 -- ---- helpers
 
-returns-without_values : (kind : MapType) (m : ℕ) (a : State) → returns_of (without_values kind m a) ≡ returns_of a
+returns-without_values : (kind : MapType) (m : ℕ) (a : State)
+    → returns_of (without_values kind m a) ≡ returns_of a
 returns-without_values Hash m a =
     ap (λ fs. map (λ f. f.return_slot) fs) (frames_of-map (forgotten_frame m) a)
     ∙ same_returns (forgotten_frame m) (frames_of a) (λ f. refl)
 returns-without_values Array m a = refl
 
-returns-leaves_if : (a b : State) (map : Result CalledMap Refusal) (Known : CalledMap → Type 0) (leaves : CalledMap → State → Type 0)
-    → ((m : CalledMap) → leaves m b → returns_of b ≡ returns_of a) → LeavesIf map Known leaves b (Ok tt) → returns_of b ≡ returns_of a
+returns-leaves_if : (a b : State) (map : Result CalledMap Refusal) (Known : CalledMap → Type 0)
+    (leaves : CalledMap → State → Type 0)
+    → ((m : CalledMap) → leaves m b → returns_of b ≡ returns_of a)
+    → LeavesIf map Known leaves b (Ok tt) → returns_of b ≡ returns_of a
 returns-leaves_if a b (Ok m) Known leaves same h = same m h.1
 returns-leaves_if a b (Err e) Known leaves same h = absurd (cc)
 
 returns-number : (a b : State) → AnswersNumber a b → returns_of b ≡ returns_of a
 returns-number a b h = ap returns_of h.2 ∙ returns-with_answer a h.0
 
-returns-helps : (rows : List MapDef) (a b : State) (helper : Option Helper) → StepsHelper rows a helper b (Ok tt) → returns_of b ≡ returns_of a
+returns-helps : (rows : List MapDef) (a b : State) (helper : Option Helper)
+    → StepsHelper rows a helper b (Ok tt) → returns_of b ≡ returns_of a
 returns-helps rows a b (Some MapLookupElem) h =
     returns-leaves_if a b (key_arguments rows a) (KeyIsKnown rows a) (AnswersValue a)
     (λ m left. ap returns_of left.2 ∙ returns-with_answer a (kind.MapValueOrNull m.index left.0)) h
 returns-helps rows a b (Some MapUpdateElem) h =
-    returns-leaves_if a b (update_arguments rows a) (λ m. KeyIsKnown rows a m × ValueIsKnown rows a m) (λ m. AnswersNumber a)
+    returns-leaves_if a b (update_arguments rows a)
+    (λ m. KeyIsKnown rows a m × ValueIsKnown rows a m) (λ m. AnswersNumber a)
     (λ m left. returns-number a b left) h
 returns-helps rows a b (Some MapDeleteElem) h =
-    returns-leaves_if a b (key_arguments rows a) (KeyIsKnown rows a) (λ m. AnswersNumber (without_values m.row.kind m.index a))
-    (λ m left. returns-number (without_values m.row.kind m.index a) b left ∙ returns-without_values m.row.kind m.index a) h
+    returns-leaves_if a b (key_arguments rows a) (KeyIsKnown rows a)
+    (λ m. AnswersNumber (without_values m.row.kind m.index a))
+    (λ m left. returns-number (without_values m.row.kind m.index a) b left
+    ∙ returns-without_values m.row.kind m.index a) h
 returns-helps rows a b (Some KtimeGetNs) h = returns-number a b h.1
 returns-helps rows a b None h = absurd (cc)
 
 -- the call of a helper
-pub returns-calls_helper : (rows : List MapDef) (a b : State) (number : ℤ) → CallsHelper rows a number b (Ok tt) → returns_of b ≡ returns_of a
+pub returns-calls_helper : (rows : List MapDef) (a b : State) (number : ℤ)
+    → CallsHelper rows a number b (Ok tt) → returns_of b ≡ returns_of a
 returns-calls_helper rows a b number h = returns-helps rows a b (helper_numbered number) h

@@ -17,7 +17,8 @@ no_bits most n i is above =
     let small : most < 2 ^ i = omega arith in
     zero-div (2 ^ i) ∙ sym (div-eq_of_lt small)
 
-pub of_size_unknown : (size : Size) (most i : ℕ) → most + 1 ≡ 2 ^ (8 * size_bytes size) → 0 / 2 ^ i ≢ most / 2 ^ i → i < 8 * size_bytes size
+pub of_size_unknown : (size : Size) (most i : ℕ) → most + 1 ≡ 2 ^ (8 * size_bytes size)
+    → 0 / 2 ^ i ≢ most / 2 ^ i → i < 8 * size_bytes size
 of_size_unknown size most i is differ = elim (cases_lt i (8 * size_bytes size)) [
   | inl below ↦ below
   | inr above ↦ absurd (differ (no_bits most (8 * size_bytes size) i is (omega arith)))
@@ -25,11 +26,14 @@ of_size_unknown size most i is differ = elim (cases_lt i (8 * size_bytes size)) 
 
 -- where it is below 2^63 it is the same with a sign
 small_signed : (most : ℕ) → most < 2 ^ 63
-    → (cast_signed w64 0 ≤ℤ cast_signed w64 most) × (cast_signed w64 most ≡ pos most) × (cast_signed w64 0 ≡ pos 0)
+    → (cast_signed w64 0 ≤ℤ cast_signed w64 most) × (cast_signed w64 most ≡ pos most)
+    × (cast_signed w64 0 ≡ pos 0)
 small_signed most small = (omega (arith, ints), to_z_pos w64 most small, refl)
 
-pub greatest_signed : (size : Size) (most : ℕ) → most + 1 ≡ 2 ^ (8 * size_bytes size) → size_bytes size < 8
-    → (cast_signed w64 0 ≤ℤ cast_signed w64 most) × (cast_signed w64 most ≡ pos most) × (cast_signed w64 0 ≡ pos 0)
+pub greatest_signed : (size : Size) (most : ℕ) → most + 1 ≡ 2 ^ (8 * size_bytes size)
+    → size_bytes size < 8
+    → (cast_signed w64 0 ≤ℤ cast_signed w64 most) × (cast_signed w64 most ≡ pos most)
+    × (cast_signed w64 0 ≡ pos 0)
 greatest_signed U8 most is narrow = small_signed most (omega arith)
 greatest_signed U16 most is narrow = small_signed most (omega arith)
 greatest_signed U32 most is narrow = small_signed most (omega arith)

@@ -1,6 +1,6 @@
--- Through pointers to map values: what the machine loads, stores and moves is allowed by what is
--- given for it.
-use Rattle.std.specs.Prelude.{◌≡◌, ℕ, ◌+◌, ◌-◌, ◌*◌, ◌^◌, ◌<◌, ◌≤◌, ◌==◌, ℤ, pos, ◌+ℤ◌, ◌-ℤ◌, ◌≤ℤ◌, if◌then◌else◌, nat_le, nat_lt, Bool, true, false, cond, List, [], ◌∷◌, map, take, drop, length, slice_get, slice_set, slice_index_or, Contains, All, Option, Some, None, IsSomeAnd, Result, Ok, IfOk, refl}
+-- Through pointers to map values: what the machine loads and stores is allowed by the kind that
+-- the step computes.
+use Rattle.std.specs.Prelude.{◌≡◌, ℕ, ◌+◌, ◌-◌, ◌*◌, ◌^◌, ◌<◌, ◌≤◌, ◌==◌, ℤ, ◌+ℤ◌, ◌≤ℤ◌, nat_le, nat_lt, Bool, true, false, cond, List, [], map, take, drop, length, slice_get, slice_set, slice_index_or, Contains, Option, Some, None, Result, Ok, IfOk, refl}
 use Rattle.std.specs.List.{position_or_len}
 use Rattle.std.proofs.Common.{inl, inr, sym, ap, ◌∙◌, subst, arith}
 use Rattle.std.proofs.lemmas.Bool.{le-leb, cases_lt}
@@ -8,15 +8,12 @@ use Rattle.std.proofs.lemmas.Bool.Decides.{nat_tests}
 use Rattle.std.proofs.lemmas.Int.{ints}
 use Rattle.std.proofs.lemmas.List.{length-map, length-take-le, length-drop}
 use Rattle.std.proofs.lemmas.List.Sums.{fails_before_first}
-use Rattle.std.proofs.lemmas.Option.{slice_get_within}
 use Rattle.std.proofs.lemmas.List.Elements.{All-get_or, at_from_Contains}
 use Rattle.std.proofs.Math.Seq.{map-set_same}
 use Rattle.std.proofs.Math.ListN.{get_or-map as get_or-map_default}
-use Rattle.isa_model.specs.Code.Limits.{max_value_size}
 use Rattle.isa_model.specs.declared.sizes.Size.{Size}
 use Rattle.isa_model.specs.declared.sizes.Size.TheVariants.{U8, U16, U32, U64}
 use Rattle.isa_model.specs.declared.sizes.SignedSize.{SignedSize}
-use Rattle.isa_model.specs.declared.sizes.Width.TheVariants.{Full64}
 use Rattle.isa_model.specs.declared.values.Region.TheVariants as region
 use Rattle.isa_model.specs.declared.values.Value.{Value}
 use Rattle.isa_model.specs.declared.values.Value.TheVariants.{Num, Ptr}
@@ -24,23 +21,18 @@ use Rattle.isa_model.specs.declared.values.Cell.{Cell}
 use Rattle.isa_model.specs.declared.values.Cell.TheVariants.{Byte}
 use Rattle.isa_model.specs.declared.ends.TrapReason.{TrapReason}
 use Rattle.isa_model.specs.declared.map_defs.MapDef.{MapDef}
-use Rattle.isa_model.specs.declared.instructions.Insn.{Insn}
-use Rattle.isa_model.specs.declared.instructions.Insn.TheVariants.{LoadMap, LoadMapValue}
-use Rattle.isa_model.specs.Code.Instructions.{Program, fetch}
-use Rattle.isa_model.specs.Code.MapRows.{IsRow, HoldsOffset, NamesRows}
-use Rattle.isa_model.specs.Code.Numbers.{bytes_of, number_from, signed, sign_extended}
+use Rattle.isa_model.specs.Code.Instructions.{Program}
+use Rattle.isa_model.specs.Code.Numbers.{bytes_of, number_from, sign_extended}
 use Rattle.isa_model.proofs.LittleEndianLaws.{EachByte-take, EachByte-drop}
 use Rattle.isa_model.proofs.ExtensionLaws.{sign_extended_fits}
 use Rattle.isa_model.specs.Code.Sizes.{size_bytes, unsigned_size, size_extension}
 use Rattle.isa_model.specs.Machine.States.{Stored, Content, key_values_of, content_of}
 use Rattle.isa_model.specs.Machine.States as Machine
 use Rattle.isa_model.specs.Machine.Memory.{byte_in, index_from, index_of_serial, key_value_at, put_value, load, load_number, load_signed, store, store_number}
-use Rattle.isa_model.specs.Machine.Pointers.{moved_to}
-use Rattle.isa_model.specs.Machine.Steps.{one_serial, value_pointer}
-use Rattle.isa_model.specs.Machine.MachineStates.{AreBytes, IsKeyValue, keys_of, value_serials, IsState}
+use Rattle.isa_model.specs.Machine.MachineStates.{AreBytes, IsKeyValue, value_serials, IsState}
 use Rattle.isa_model.proofs.AccessLaws.{store_number_keeps}
 use Rattle.isa_model.proofs.ByteCells.{number_in-Byte, value_in-Byte, take-drop-Byte}
-use Rattle.isa_model.proofs.HelperLaws.{content_fits, has_value, row_within}
+use Rattle.isa_model.proofs.HelperLaws.{content_fits}
 use Rattle.isa_model.proofs.StateLaws.{put_value_serials}
 use Rattle.isa_model.proofs.ValueLaws.{slice_index_fits}
 use Rattle.reg_state.specs.declared.scalars.Scalar.{Scalar}
@@ -48,30 +40,28 @@ use Rattle.reg_state.specs.declared.kinds.Kind.{Kind}
 use Rattle.reg_state.specs.declared.kinds.Kind.TheVariants.{Number, MapValue, MapValueOrNull}
 use Rattle.reg_state.specs.Scalars.{Has}
 use Rattle.reg_state.specs.Kinds.{Assigned, Allows, AllowsMapValue, HasLiveValue}
-use Rattle.reg_state.proofs.ConstantsLaws.{IsNumber-only}
 use Rattle.stack_state.specs.declared.states.State.{State}
 use Rattle.stack_state.proofs.CellLaws.{length-bytes_of, number_from_below}
 use Rattle.stack_state.specs.Meaning.{MeansBy}
 use Rattle.stack_state.specs.StackMeaning.{with_maps}
 use Rattle.stack_state.proofs.ValueEffects.{KeepsLive, MeansBy-values}
-use Rattle.image.specs.Images.{IsImage}
-use Rattle.image.proofs.ImageLaws.{NamesRows-fetch}
-use Rattle.transfer.specs.Results.{moved_offset, LeavesNumber}
-use Rattle.transfer.proofs.ResultLaws.{Yields, pointer_at_within}
+use Rattle.transfer.proofs.ResultLaws.{Yields}
 use Rattle.transfer.specs.Packets.{IsOfSize, IsOfSignedSize}
-use Rattle.transfer.proofs.PacketLaws.{place_from, number_yields, extended_fits, offset_between}
+use Rattle.transfer.proofs.PacketLaws.{place_from, number_yields, extended_fits}
 use Rattle.transfer.proofs.StackAccessLaws.{ContinuesIn}
-use Rattle.transfer.specs.Values.{NamesFit, value_size, AreInValue, ValueLoads, ValueLoadsSigned, ValueStores, nearest, farthest, moved_least, moved_greatest, ValueMoves}
+use Rattle.transfer.specs.Values.{value_size, AreInValue, ValueLoads, ValueLoadsSigned, ValueStores}
 
 -- ---- live values
 
 -- a test that passes somewhere passes first at an index that is there
-first_there : {X : Type 0} (p : X → Bool) (xs : List X) (k : ℕ) (d : X) → k < length xs → p (slice_index_or xs k d) ≡ true
-    → position_or_len p xs < length xs
+first_there : {X : Type 0} (p : X → Bool) (xs : List X) (k : ℕ) (d : X) → k < length xs
+    → p (slice_index_or xs k d) ≡ true → position_or_len p xs < length xs
 first_there p xs k d within passes =
     elim (cases_lt (position_or_len p xs) (length xs)) [
       | inl before ↦ before
-      | inr past ↦ let fails : p (slice_index_or xs k d) ≡ false = fails_before_first p xs k d (omega arith) in absurd (cc)
+      | inr past ↦
+          let fails : p (slice_index_or xs k d) ≡ false =
+          fails_before_first p xs k d (omega arith) in absurd (cc)
     ]
 
 -- the key of a live value is found by its serial
@@ -82,10 +72,12 @@ live_key_value content n live =
     let there = at_from_Contains (value_serials content) n live in
     let long = length-map content (λ e. e.1.serial) in
     let within = there.1 in
-    let serial : (key_value_at content there.0).1.serial ≡ n = sym (get_or-map_default (λ e. e.1.serial) content there.0 none) ∙ there.2 0 in
+    let serial : (key_value_at content there.0).1.serial ≡ n =
+    sym (get_or-map_default (λ e. e.1.serial) content there.0 none) ∙ there.2 0 in
     let passes : ((key_value_at content there.0).1.serial == n) ≡ true = grind (arith, nat_tests) in
     let j : ℕ = position_or_len (λ e. e.1.serial == n) content in
-    let first : j < length content = first_there (λ e. e.1.serial == n) content there.0 none (omega arith) passes in
+    let first : j < length content =
+    first_there (λ e. e.1.serial == n) content there.0 none (omega arith) passes in
     let yes : nat_lt j (length content) ≡ true = grind (arith, nat_tests) in
     (j, first, ap (λ b. cond b (Some j) None) yes)
 
@@ -95,27 +87,37 @@ pub record IsLiveValue (p : Program) (s : Machine.State) (m n : ℕ) (place : �
   pub size : length (key_value_at (content_of s m) place).1.bytes ≡ value_size (slice_get p.maps m)
   pub bytes : AreBytes (key_value_at (content_of s m) place).1.bytes
 
-key_value_there : (p : Program) (s : Machine.State) (m n j : ℕ) (row : MapDef) → slice_get p.maps m ≡ Some row → IsState p s
-    → j < length (content_of s m) → IsKeyValue row ((key_value_at (content_of s m) j).0, (key_value_at (content_of s m) j).1.bytes)
+key_value_there : (p : Program) (s : Machine.State) (m n j : ℕ) (row : MapDef)
+    → slice_get p.maps m ≡ Some row → IsState p s → j < length (content_of s m) → IsKeyValue row
+    ((key_value_at (content_of s m) j).0, (key_value_at (content_of s m) j).1.bytes)
 key_value_there p s m n j row here is within =
     let content : Content = content_of s m in
     let none : List ℕ × Stored = ([], record { serial = 0; bytes = [] }) in
     let long = length-map {B = List ℕ × List ℕ} content (λ e. (e.0, e.1.bytes)) in
     subst (IsKeyValue row) (get_or-map_default (λ e. (e.0, e.1.bytes)) content j none)
-    (All-get_or (IsKeyValue row) (key_values_of content) j ([], []) (omega arith) (content_fits p s m row here is).entries)
+    (All-get_or (IsKeyValue row) (key_values_of content) j ([], []) (omega arith)
+    (content_fits p s m row here is).key_values)
 
-live_value : (p : Program) (s : Machine.State) (m n : ℕ) (o : Option MapDef) → slice_get p.maps m ≡ o → IsState p s → HasLiveValue s.maps m n
+live_value : (p : Program) (s : Machine.State) (m n : ℕ) (o : Option MapDef)
+    → slice_get p.maps m ≡ o → IsState p s → HasLiveValue s.maps m n
     → 0 < value_size o → (j : ℕ) × IsLiveValue p s m n j
 live_value p s m n None here is live some = absurd (omega arith)
 live_value p s m n (Some row) here is live some =
     let (j, within, found) = live_key_value (content_of s m) n live in
-    let entry = key_value_there p s m n j row here is within in
-    (j, record { found = found; size = entry.value_size ∙ ap value_size (sym here); bytes = entry.value })
+    let entry = key_value_there p s m n j row here is within in (
+      j,
+      record {
+        found = found;
+        size = entry.value_size ∙ ap value_size (sym here);
+        bytes = entry.value;
+      },
+    )
 
 -- ---- places
 
 -- bytes that are known to be in a value are there
-value_place : (room : ℕ) (least greatest z by : ℤ) (bytes : ℕ) → AreInValue room least greatest by bytes → least ≤ℤ z → z ≤ℤ greatest
+value_place : (room : ℕ) (least greatest z by : ℤ) (bytes : ℕ)
+    → AreInValue room least greatest by bytes → least ≤ℤ z → z ≤ℤ greatest
     → (i : ℕ) × (index_from (z +ℤ by) ≡ Some i) × (i + bytes ≤ room)
 value_place room least greatest z by bytes h from to =
     let low = h.from in
@@ -137,14 +139,18 @@ pub record HasBytesAt (p : Program) (s : Machine.State) (m n : ℕ) (z : ℤ) (b
   pub inside : index + bytes ≤ length (key_value_at (content_of s m) place).1.bytes
 
 -- some bytes that are known to be in a value are there
-pub at_value : (p : Program) (e : Assigned) (a : State) (s : Machine.State) (m : ℕ) (least greatest by : ℤ) (v : Value) (bytes : ℕ) → 0 < bytes
-    → MeansBy p e a s → (h : AllowsMapValue e m least greatest v) → AreInValue (value_size (slice_get p.maps m)) least greatest by bytes
+pub at_value : (p : Program) (e : Assigned) (a : State) (s : Machine.State) (m : ℕ)
+    (least greatest by : ℤ) (v : Value) (bytes : ℕ) → 0 < bytes
+    → MeansBy p e a s → (h : AllowsMapValue e m least greatest v)
+    → AreInValue (value_size (slice_get p.maps m)) least greatest by bytes
     → HasBytesAt p s m h.serial (h.offset +ℤ by) bytes
 at_value p e a s m least greatest by v bytes some means h inside =
     let room : ℕ = value_size (slice_get p.maps m) in
     let (i, found, within) = value_place room least greatest h.offset by bytes inside h.from h.to in
-    let live : HasLiveValue s.maps m h.serial = subst (λ maps. HasLiveValue maps m h.serial) means.assigned.contents h.live in
-    let (j, value) = live_value p s m h.serial (slice_get p.maps m) refl means.is_state live (omega arith) in
+    let live : HasLiveValue s.maps m h.serial =
+    subst (λ maps. HasLiveValue maps m h.serial) means.assigned.contents h.live in
+    let (j, value) =
+    live_value p s m h.serial (slice_get p.maps m) refl means.is_state live (omega arith) in
     let long = value.size in
     record { place = j; live = value; index = i; found = found; inside = omega arith }
 
@@ -153,8 +159,10 @@ at_value p e a s m least greatest by v bytes some means h inside =
 abbrev bytes_from : Machine.State → ℕ → ℕ → ℕ → ℕ → List ℕ
 bytes_from s m j i n = take n (drop i (key_value_at (content_of s m) j).1.bytes)
 
-value_number : (p : Program) (s : Machine.State) (size : Size) (m n : ℕ) (z by : ℤ) (h : HasBytesAt p s m n (z +ℤ by) (size_bytes size))
-    → load_number s size (Ptr (region.MapValue m n) z) by ≡ Ok (number_from (bytes_from s m h.place h.index (size_bytes size)))
+value_number : (p : Program) (s : Machine.State) (size : Size) (m n : ℕ) (z by : ℤ)
+    (h : HasBytesAt p s m n (z +ℤ by) (size_bytes size))
+    → load_number s size (Ptr (region.MapValue m n) z) by
+    ≡ Ok (number_from (bytes_from s m h.place h.index (size_bytes size)))
 value_number p s size m n z by h =
     let bytes : List ℕ = (key_value_at (content_of s m) h.place).1.bytes in
     let long : length (map Byte bytes) ≡ length bytes = length-map bytes Byte in
@@ -164,80 +172,105 @@ value_number p s size m n z by h =
     rw (h.live.found, h.found, yes, take-drop-Byte bytes h.index (size_bytes size))
     (number_in-Byte (bytes_from s m h.place h.index (size_bytes size)))
 
-value_whole : (p : Program) (s : Machine.State) (m n : ℕ) (z by : ℤ) (h : HasBytesAt p s m n (z +ℤ by) 8)
-    → load s U64 (Ptr (region.MapValue m n) z) by ≡ Ok (Num (number_from (bytes_from s m h.place h.index 8)))
+value_whole : (p : Program) (s : Machine.State) (m n : ℕ) (z by : ℤ)
+    (h : HasBytesAt p s m n (z +ℤ by) 8)
+    → load s U64 (Ptr (region.MapValue m n) z) by
+    ≡ Ok (Num (number_from (bytes_from s m h.place h.index 8)))
 value_whole p s m n z by h =
     let bytes : List ℕ = (key_value_at (content_of s m) h.place).1.bytes in
     let long : length (map Byte bytes) ≡ length bytes = length-map bytes Byte in
     let inside = h.inside in
-    let yes : nat_le (h.index + 8) (length (map Byte bytes)) ≡ true = le-leb (h.index + 8) (length (map Byte bytes)) (omega arith) in
-    rw (h.live.found, h.found, yes, take-drop-Byte bytes h.index 8) (value_in-Byte (bytes_from s m h.place h.index 8))
+    let yes : nat_le (h.index + 8) (length (map Byte bytes)) ≡ true =
+    le-leb (h.index + 8) (length (map Byte bytes)) (omega arith) in
+    rw (h.live.found, h.found, yes, take-drop-Byte bytes h.index 8)
+    (value_in-Byte (bytes_from s m h.place h.index 8))
 
-value_load : (p : Program) (s : Machine.State) (size : Size) (m n : ℕ) (z by : ℤ) (h : HasBytesAt p s m n (z +ℤ by) (size_bytes size))
-    → load s size (Ptr (region.MapValue m n) z) by ≡ Ok (Num (number_from (bytes_from s m h.place h.index (size_bytes size))))
+value_load : (p : Program) (s : Machine.State) (size : Size) (m n : ℕ) (z by : ℤ)
+    (h : HasBytesAt p s m n (z +ℤ by) (size_bytes size))
+    → load s size (Ptr (region.MapValue m n) z) by
+    ≡ Ok (Num (number_from (bytes_from s m h.place h.index (size_bytes size))))
 value_load p s U64 m n z by h = value_whole p s m n z by h
 value_load p s U8 m n z by h = rw (value_number p s U8 m n z by h)
 value_load p s U16 m n z by h = rw (value_number p s U16 m n z by h)
 value_load p s U32 m n z by h = rw (value_number p s U32 m n z by h)
 
 -- a number of that many bytes
-value_number_below : (p : Program) (s : Machine.State) (size : Size) (m n : ℕ) (z : ℤ) (h : HasBytesAt p s m n z (size_bytes size))
+value_number_below : (p : Program) (s : Machine.State) (size : Size) (m n : ℕ) (z : ℤ)
+    (h : HasBytesAt p s m n z (size_bytes size))
     → number_from (bytes_from s m h.place h.index (size_bytes size)) < 2 ^ (8 * size_bytes size)
 value_number_below p s size m n z h =
     let bytes : List ℕ = (key_value_at (content_of s m) h.place).1.bytes in
     let inside = h.inside in
-    let dropped : length (drop h.index bytes) ≡ length bytes - h.index = length-drop h.index bytes in
+    let dropped : length (drop h.index bytes) ≡ length bytes - h.index =
+    length-drop h.index bytes in
     let long : length (bytes_from s m h.place h.index (size_bytes size)) ≡ size_bytes size =
     length-take-le (size_bytes size) (drop h.index bytes) (omega arith) in
     number_from_below size (bytes_from s m h.place h.index (size_bytes size)) long
-    (EachByte-take (size_bytes size) (drop h.index bytes) (EachByte-drop h.index bytes (slice_index_fits bytes h.live.bytes)))
+    (EachByte-take (size_bytes size) (drop h.index bytes)
+    (EachByte-drop h.index bytes (slice_index_fits bytes h.live.bytes)))
 
-pub value_load_yields : (p : Program) (e : Assigned) (a : State) (s : Machine.State) (size : Size) (m : ℕ) (least greatest by : ℤ) (k : Kind) (v : Value)
-    → MeansBy p e a s → ValueLoads size (value_size (slice_get p.maps m)) least greatest by (Ok k) → Allows e (MapValue m least greatest) v
-    → Yields e k (load s size v by)
+pub value_load_yields : (p : Program) (e : Assigned) (a : State) (s : Machine.State) (size : Size)
+    (m : ℕ) (least greatest by : ℤ) (k : Kind) (v : Value)
+    → MeansBy p e a s → ValueLoads size (value_size (slice_get p.maps m)) least greatest by (Ok k)
+    → Allows e (MapValue m least greatest) v → Yields e k (load s size v by)
 value_load_yields p e a s size m least greatest by k v means (inside, number) allowed =
-    let h = at_value p e a s m least greatest by v (size_bytes size) (some_bytes size) means allowed inside in
+    let h = at_value p e a s m least greatest by v (size_bytes size)
+    (some_bytes size) means allowed inside in
     let x : ℕ = number_from (bytes_from s m h.place h.index (size_bytes size)) in
     rw (allowed.points, value_load p s size m allowed.serial allowed.offset by h)
-    (number_yields e (IsOfSize size) k x (λ c is. (is.members x).1 (value_number_below p s size m allowed.serial (allowed.offset +ℤ by) h)) number)
+    (number_yields e (IsOfSize size) k x
+    (λ c is.
+    (is.members x).1 (value_number_below p s size m allowed.serial (allowed.offset +ℤ by) h))
+    number)
 
-pub value_load_signed_yields : (p : Program) (e : Assigned) (a : State) (s : Machine.State) (size : SignedSize) (m : ℕ) (least greatest by : ℤ) (k : Kind)
-    (v : Value) → MeansBy p e a s → ValueLoadsSigned size (value_size (slice_get p.maps m)) least greatest by (Ok k)
+pub value_load_signed_yields : (p : Program) (e : Assigned) (a : State) (s : Machine.State)
+    (size : SignedSize) (m : ℕ) (least greatest by : ℤ) (k : Kind)
+    (v : Value) → MeansBy p e a s
+    → ValueLoadsSigned size (value_size (slice_get p.maps m)) least greatest by (Ok k)
     → Allows e (MapValue m least greatest) v → Yields e k (load_signed s size v by)
 value_load_signed_yields p e a s size m least greatest by k v means (inside, number) allowed =
-    let h = at_value p e a s m least greatest by v (size_bytes (unsigned_size size)) (some_bytes (unsigned_size size)) means allowed inside in
+    let h = at_value p e a s m least greatest by v (size_bytes (unsigned_size size))
+    (some_bytes (unsigned_size size)) means allowed inside in
     let n : ℕ = number_from (bytes_from s m h.place h.index (size_bytes (unsigned_size size))) in
     let x : ℕ = sign_extended (size_extension size) n in
     rw (allowed.points, value_number p s (unsigned_size size) m allowed.serial allowed.offset by h)
     (number_yields e (IsOfSignedSize size) k x
-    (λ c is. (is.members x).1 (sign_extended_fits (size_extension size) n, extended_fits size n)) number)
+    (λ c is. (is.members x).1 (sign_extended_fits (size_extension size) n, extended_fits size n))
+    number)
 
 -- ---- stores
 
--- the machine goes on, and under some assignment the abstract state that is left means where it is
+-- the machine does not trap, and under some assignment the abstract state that is left means its
+-- next state
 abbrev pub GoesIntoSome : Program → State → Result Machine.State TrapReason → Type 0
 GoesIntoSome p b went = (f : Assigned) × ContinuesIn p f b went
 
 -- a content with the same serials in place of another keeps all values live
-kept_live : (maps : List Content) (m : ℕ) (content : Content) → value_serials content ≡ value_serials (slice_index_or maps m [])
+kept_live : (maps : List Content) (m : ℕ) (content : Content)
+    → value_serials content ≡ value_serials (slice_index_or maps m [])
     → KeepsLive maps (slice_set maps m content)
 kept_live maps m content same = λ j n live.
-    let serials : value_serials (slice_index_or (slice_set maps m content) j []) ≡ value_serials (slice_index_or maps j []) =
+    let serials : value_serials (slice_index_or (slice_set maps m content) j [])
+    ≡ value_serials (slice_index_or maps j []) =
     sym (get_or-map_default value_serials (slice_set maps m content) j [])
     ∙ ap (λ l. slice_index_or l j []) (map-set_same value_serials maps m content [] same)
     ∙ get_or-map_default value_serials maps j [] in
     subst (λ l. Contains l n) (sym serials) live
 
 -- a number's bytes go where they are known to be in the value
-pub value_stored : (p : Program) (e : Assigned) (a : State) (s : Machine.State) (size : Size) (m : ℕ) (least greatest by : ℤ) (x : ℕ) (v : Value)
-    → MeansBy p e a s → AreInValue (value_size (slice_get p.maps m)) least greatest by (size_bytes size) → Allows e (MapValue m least greatest) v
-    → GoesIntoSome p a (store_number s size v by x)
+pub value_stored : (p : Program) (e : Assigned) (a : State) (s : Machine.State) (size : Size)
+    (m : ℕ) (least greatest by : ℤ) (x : ℕ) (v : Value)
+    → MeansBy p e a s
+    → AreInValue (value_size (slice_get p.maps m)) least greatest by (size_bytes size)
+    → Allows e (MapValue m least greatest) v → GoesIntoSome p a (store_number s size v by x)
 value_stored p e a s size m least greatest by x v means inside allowed =
-    let h = at_value p e a s m least greatest by v (size_bytes size) (some_bytes size) means allowed inside in
+    let h = at_value p e a s m least greatest by v (size_bytes size)
+    (some_bytes size) means allowed inside in
     let n : ℕ = allowed.serial in
     let bytes : List ℕ = (key_value_at (content_of s m) h.place).1.bytes in
     let new : List Cell = map Byte (bytes_of size x) in
-    let count : length new ≡ size_bytes size = length-map (bytes_of size x) Byte ∙ length-bytes_of size x in
+    let count : length new ≡ size_bytes size = length-map (bytes_of size x) Byte
+    ∙ length-bytes_of size x in
     let long : length (map Byte bytes) ≡ length bytes = length-map bytes Byte in
     let room = h.inside in
     let yes : nat_le (h.index + length new) (length (map Byte bytes)) ≡ true =
@@ -245,116 +278,50 @@ value_stored p e a s size m least greatest by x v means inside allowed =
     let content : Content = put_value (content_of s m) (Some h.place) h.index (map byte_in new) in
     let maps : List Content = slice_set s.maps m content in
     let t : Machine.State = record s { maps = maps } in
-    let went : store_number s size (Ptr (region.MapValue m n) allowed.offset) by x ≡ Ok t = rw (h.live.found, h.found, yes) in
-    let goes : store_number s size v by x ≡ Ok t = ap (λ u. store_number s size u by x) allowed.points ∙ went in
-    let is : IsState p t = subst (λ r. IfOk r (IsState p)) goes (store_number_keeps p s size v by x means.is_state) in
-    let live = kept_live s.maps m content (put_value_serials (content_of s m) (Some h.place) h.index (map byte_in new)) in
-    (with_maps e maps, subst (ContinuesIn p (with_maps e maps) a) (sym goes) (MeansBy-values p e a s maps live is means))
-
--- what is not refused is a number, and is stored
-pub value_store_goes : (p : Program) (e : Assigned) (a : State) (s : Machine.State) (size : Size) (m : ℕ) (least greatest by : ℤ) (source : Kind)
-    (v u : Value) → MeansBy p e a s → ValueStores size (value_size (slice_get p.maps m)) least greatest by source (Ok tt)
-    → Allows e (MapValue m least greatest) v → Allows e source u → GoesIntoSome p a (store s size v by u)
-value_store_goes p e a s size m least greatest by (Number c) v u means (inl h) allowed (x, is, has) =
-    subst (λ w. GoesIntoSome p a (store s size v by w)) (sym is) (value_stored p e a s size m least greatest by x v means h.0 allowed)
-value_store_goes p e a s size m least greatest by (MapValueOrNull j i) v u means (inl h) allowed other = absurd (cc (h.1))
-value_store_goes p e a s size m least greatest by k v u means (inl h) allowed other = absurd (cc (h.1))
-value_store_goes p e a s size m least greatest by k v u means (inr h) allowed other = absurd (cc (h.1))
-
--- the number that an atomic instruction finds
-pub value_number_read : (p : Program) (e : Assigned) (a : State) (s : Machine.State) (size : Size) (m : ℕ) (least greatest by : ℤ) (c : Scalar)
-    (v : Value) → MeansBy p e a s → AreInValue (value_size (slice_get p.maps m)) least greatest by (size_bytes size)
-    → Allows e (MapValue m least greatest) v → IsOfSize size c → (n : ℕ) × (load_number s size v by ≡ Ok n) × Has c n
-value_number_read p e a s size m least greatest by c v means inside allowed is =
-    let h = at_value p e a s m least greatest by v (size_bytes size) (some_bytes size) means allowed inside in
-    let x : ℕ = number_from (bytes_from s m h.place h.index (size_bytes size)) in (
-      x,
-      ap (λ u. load_number s size u by) allowed.points ∙ value_number p s size m allowed.serial allowed.offset by h,
-      (is.members x).1 (value_number_below p s size m allowed.serial (allowed.offset +ℤ by) h),
+    let went : store_number s size (Ptr (region.MapValue m n) allowed.offset) by x ≡ Ok t =
+    rw (h.live.found, h.found, yes) in
+    let goes : store_number s size v by x ≡ Ok t =
+    ap (λ u. store_number s size u by x) allowed.points ∙ went in
+    let is : IsState p t =
+    subst (λ r. IfOk r (IsState p)) goes (store_number_keeps p s size v by x means.is_state) in
+    let live = kept_live s.maps m content
+    (put_value_serials (content_of s m) (Some h.place) h.index (map byte_in new)) in (
+      with_maps e maps,
+      subst (ContinuesIn p (with_maps e maps) a) (sym goes)
+          (MeansBy-values p e a s maps live is means),
     )
 
--- ---- moves
+-- what is not refused is a number, and is stored
+pub value_store_goes : (p : Program) (e : Assigned) (a : State) (s : Machine.State) (size : Size)
+    (m : ℕ) (least greatest by : ℤ) (source : Kind)
+    (v u : Value) → MeansBy p e a s
+    → ValueStores size (value_size (slice_get p.maps m)) least greatest by source (Ok tt)
+    → Allows e (MapValue m least greatest) v → Allows e source u
+    → GoesIntoSome p a (store s size v by u)
+value_store_goes p e a s size m least greatest by (Number c) v u means (inl h) allowed
+    (x, is, has) =
+    subst (λ w. GoesIntoSome p a (store s size v by w)) (sym is)
+    (value_stored p e a s size m least greatest by x v means h.0 allowed)
+value_store_goes p e a s size m least greatest by (MapValueOrNull j i) v u means
+    (inl h) allowed other = absurd (cc (h.1))
+value_store_goes p e a s size m least greatest by k v u means (inl h) allowed other =
+    absurd (cc (h.1))
+value_store_goes p e a s size m least greatest by k v u means (inr h) allowed other =
+    absurd (cc (h.1))
 
--- a member of the number moves by something between the distances
-between : (by : Scalar) (o : Option ℕ) (x : ℕ) → LeavesNumber by o → Has by x
-    → (nearest by o ≤ℤ signed Full64 x) × (signed Full64 x ≤ℤ farthest by o)
-between by (Some n) x only has =
-    let same = IsNumber-only by n x only has in
-    rw same (omega (arith, ints), omega (arith, ints))
-between by None x only has = (has.1.0.signed_from, has.1.0.signed_to)
-
--- so the offset is between the new limits
-moved_between : (back : Bool) (least greatest z near far by : ℤ) → least ≤ℤ z → z ≤ℤ greatest → near ≤ℤ by → by ≤ℤ far
-    → (moved_least back least near far ≤ℤ (if back then z -ℤ by else z +ℤ by)) × ((if back then z -ℤ by else z +ℤ by) ≤ℤ moved_greatest back greatest near far)
-moved_between true least greatest z near far by from to low high = (omega (arith, ints), omega (arith, ints))
-moved_between false least greatest z near far by from to low high = (omega (arith, ints), omega (arith, ints))
-
-offset_is : (back : Bool) (z : ℤ) (x : ℕ) → moved_offset back z x ≡ (if back then z -ℤ signed Full64 x else z +ℤ signed Full64 x)
-offset_is true z x = refl
-offset_is false z x = refl
-
-pub value_moves_yields : (e : Assigned) (back : Bool) (m : ℕ) (least greatest : ℤ) (by : Scalar) (o : Option ℕ) (k : Kind) (x : ℕ) (v : Value)
-    → LeavesNumber by o → ValueMoves back m least greatest (nearest by o) (farthest by o) (Ok k) → Has by x
-    → (h : AllowsMapValue e m least greatest v)
-    → Yields e k (moved_to (region.MapValue m h.serial) (moved_offset back h.offset x))
-value_moves_yields e back m least greatest by o k x v only (is, within) has h =
-    let (low, high) = between by o x only has in
-    let z : ℤ = moved_offset back h.offset x in
-    let ends = moved_between back least greatest h.offset (nearest by o) (farthest by o) (signed Full64 x) h.from h.to low high in
-    let from : moved_least back least (nearest by o) (farthest by o) ≤ℤ z = rw (offset_is back h.offset x) ends.0 in
-    let to : z ≤ℤ moved_greatest back greatest (nearest by o) (farthest by o) = rw (offset_is back h.offset x) ends.1 in
-    let there = pointer_at_within (region.MapValue m h.serial) z
-    (offset_between (moved_least back least (nearest by o) (farthest by o)) (moved_greatest back greatest (nearest by o) (farthest by o)) z within from to) in
-    rw (there, is) (record { serial = h.serial; offset = z; points = refl; from = from; to = to; live = h.live })
-
--- ---- wide loads
-
-first_live : (content : Content) → 0 < length content → Contains (value_serials content) (one_serial content)
-first_live [] some = absurd (omega arith)
-first_live (e ∷ content) some = (0, omega arith, refl)
-
-one_live : (p : Program) (s : Machine.State) (m offset : ℕ) (o : Option MapDef) → slice_get p.maps m ≡ o → IsSomeAnd o (HoldsOffset offset) → IsState p s
-    → HasLiveValue s.maps m (one_serial (content_of s m))
-one_live p s m offset None here names is = absurd names
-one_live p s m offset (Some row) here names is =
-    let content : Content = content_of s m in
-    let fits = content_fits p s m row here is in
-    let some = has_value row.kind row.entries (keys_of (key_values_of content)) names.array names.one fits.keys in
-    let long = length-map {B = List ℕ × List ℕ} content (λ e. (e.0, e.1.bytes)) in
-    let keyed = length-map (key_values_of content) (λ e. e.0) in
-    first_live content (omega arith)
-
--- the value of an array's one key is live
-pub value_pointer_allowed : (p : Program) (e : Assigned) (a : State) (s : Machine.State) (m offset : ℕ) → MeansBy p e a s
-    → IsSomeAnd (slice_get p.maps m) (HoldsOffset offset) → Allows e (MapValue m (pos offset) (pos offset)) (value_pointer s m offset)
-value_pointer_allowed p e a s m offset means names = record {
-  serial = one_serial (content_of s m);
-  offset = pos offset;
-  points = refl;
-  from = omega (arith, ints);
-  to = omega (arith, ints);
-  live = subst (λ maps. HasLiveValue maps m (one_serial (content_of s m))) (sym means.assigned.contents)
-      (one_live p s m offset (slice_get p.maps m) refl names means.is_state);
-}
-
-short_offset : (rows : List MapDef) (m offset : ℕ) (o : Option MapDef) → slice_get rows m ≡ o → All IsRow rows → IsSomeAnd o (HoldsOffset offset)
-    → (m < length rows) × (offset < max_value_size)
-short_offset rows m offset None here all names = absurd names
-short_offset rows m offset (Some row) here all names =
-    let within = slice_get_within rows m row here in
-    let limits : IsRow row = row_within rows m row here all in
-    let short = limits.short_value in
-    let inside = names.within in
-    (within, omega arith)
-
--- what an image's wide loads of maps name fits the fields of kinds
-pub NamesFit-fetch : (p : Program) (slot : ℕ) (i : Insn) → IsImage p → fetch p slot ≡ Some i → NamesFit i
-NamesFit-fetch p slot i image here = fits i (NamesRows-fetch p slot i image here)
-  where
-    fits : (i : Insn) → NamesRows p.maps i → NamesFit i
-    fits (LoadMap d m) names = let few = image.few_maps in omega arith
-    fits (LoadMapValue d m offset) names =
-        let few = image.few_maps in
-        let (within, short) = short_offset p.maps m offset (slice_get p.maps m) refl image.rows names in
-        (omega arith, omega arith)
-    fits i names = tt
+-- the number that an atomic instruction finds
+pub value_number_read : (p : Program) (e : Assigned) (a : State) (s : Machine.State) (size : Size)
+    (m : ℕ) (least greatest by : ℤ) (c : Scalar)
+    (v : Value) → MeansBy p e a s
+    → AreInValue (value_size (slice_get p.maps m)) least greatest by (size_bytes size)
+    → Allows e (MapValue m least greatest) v → IsOfSize size c
+    → (n : ℕ) × (load_number s size v by ≡ Ok n) × Has c n
+value_number_read p e a s size m least greatest by c v means inside allowed is =
+    let h = at_value p e a s m least greatest by v (size_bytes size)
+    (some_bytes size) means allowed inside in
+    let x : ℕ = number_from (bytes_from s m h.place h.index (size_bytes size)) in (
+      x,
+      ap (λ u. load_number s size u by) allowed.points
+          ∙ value_number p s size m allowed.serial allowed.offset by h,
+      (is.members x).1 (value_number_below p s size m allowed.serial (allowed.offset +ℤ by) h),
+    )

@@ -27,7 +27,8 @@ with_old None old a = a
 with_old (Some register) old a = with_register a register (Number old)
 
 -- number bytes are replaced by others
-pub record IsSwapped (a : State) (frame at : ℕ) (size : Size) (register : Option Reg) (b : State) : Type 0 where
+pub record IsSwapped (a : State) (frame at : ℕ) (size : Size) (register : Option Reg)
+    (b : State) : Type 0 where
   pub old : Scalar
   pub loaded : IsLoad (stack_slots_of a frame) at size (Some old)
   pub after : State
@@ -35,8 +36,10 @@ pub record IsSwapped (a : State) (frame at : ℕ) (size : Size) (register : Opti
   pub kept : b ≡ with_old register old after
 
 -- through a frame pointer: refused for the place first, and then for its bytes
-abbrev pub StackSwaps : State → ℕ → ℤ → Size → Option Reg → State → Result (Unit {0}) Refusal → Type 0
-StackSwaps a frame z size register b (Ok done) = (at : ℕ) × IsFramePlace a frame z size at × IsSwapped a frame at size register b
+abbrev pub StackSwaps : State → ℕ → ℤ → Size → Option Reg → State → Result (Unit {0}) Refusal
+    → Type 0
+StackSwaps a frame z size register b (Ok done) =
+    (at : ℕ) × IsFramePlace a frame z size at × IsSwapped a frame at size register b
 StackSwaps a frame z size register b (Err StackPlace) = (b ≡ a) × IsNoFramePlace a frame z size
 StackSwaps a frame z size register b (Err StackBytes) =
     (at : ℕ) × (b ≡ a) × IsFramePlace a frame z size at
@@ -51,37 +54,51 @@ RefusesAtomic a b result e = (b ≡ a) × (result ≡ Err e)
 
 -- the packet allows none; its bytes are tested first
 abbrev pub IsPacketRefusal : ℤ → ℤ → ℕ → ℤ → Size → Refusal → Type 0
-IsPacketRefusal fixed least proved by size PacketAtomic = AreInPacket fixed least proved by (size_bytes size)
-IsPacketRefusal fixed least proved by size PacketBytes = ¬ AreInPacket fixed least proved by (size_bytes size)
+IsPacketRefusal fixed least proved by size PacketAtomic =
+    AreInPacket fixed least proved by (size_bytes size)
+IsPacketRefusal fixed least proved by size PacketBytes =
+    ¬ AreInPacket fixed least proved by (size_bytes size)
 IsPacketRefusal fixed least proved by size e = ⊥
 
 -- in a map's value an unknown number is replaced by another
-abbrev pub ValueSwaps : Type 0 → State → Size → Option Reg → State → Result (Unit {0}) Refusal → Type 0
-ValueSwaps inside a size register b (Ok done) = inside × ((old : Scalar) × IsOfSize size old × (b ≡ with_old register old a))
+abbrev pub ValueSwaps : Type 0 → State → Size → Option Reg → State → Result (Unit {0}) Refusal
+    → Type 0
+ValueSwaps inside a size register b (Ok done) =
+    inside × ((old : Scalar) × IsOfSize size old × (b ≡ with_old register old a))
 ValueSwaps inside a size register b (Err e) = (¬ inside) × RefusesAtomic a b (Err e) MapValueBytes
 
--- on numbers, through a base of that kind; `rows` are the rows of the maps
-abbrev pub SwapsAt : List MapDef → State → Kind → ℤ → Size → Option Reg → State → Result (Unit {0}) Refusal → Type 0
-SwapsAt rows a (Stack frame z) by size register b result = StackSwaps a frame (z +ℤ by) size register b result
+-- on numbers, through a base of that kind; `rows` are the map rows
+abbrev pub SwapsAt : List MapDef → State → Kind → ℤ → Size → Option Reg → State
+    → Result (Unit {0}) Refusal → Type 0
+SwapsAt rows a (Stack frame z) by size register b result =
+    StackSwaps a frame (z +ℤ by) size register b result
 SwapsAt rows a Context by size register b result = RefusesAtomic a b result PacketAtomic
 SwapsAt rows a (Packet fixed identity least greatest proved) by size register b result =
     (e : Refusal) × IsPacketRefusal fixed least proved by size e × RefusesAtomic a b result e
 SwapsAt rows a (MapValue m least greatest) by size register b result =
-    ValueSwaps (AreInValue (value_size (slice_get rows m)) least greatest by (size_bytes size)) a size register b result
-SwapsAt rows a (MapValueOrNull m identity) by size register b result = RefusesAtomic a b result NullNotTested
+    ValueSwaps (AreInValue (value_size (slice_get rows m)) least greatest by (size_bytes size)) a
+    size register b result
+SwapsAt rows a (MapValueOrNull m identity) by size register b result =
+    RefusesAtomic a b result NullNotTested
 SwapsAt rows a k by size register b result = RefusesAtomic a b result NotMemory
 
 -- ---- operands
 
 -- the operand is tested first
-abbrev pub Swaps : List MapDef → State → Kind → Kind → ℤ → Size → Option Reg → State → Result (Unit {0}) Refusal → Type 0
-Swaps rows a (Number numbers) base by size register b result = SwapsAt rows a base by size register b result
+abbrev pub Swaps : List MapDef → State → Kind → Kind → ℤ → Size → Option Reg → State
+    → Result (Unit {0}) Refusal → Type 0
+Swaps rows a (Number numbers) base by size register b result =
+    SwapsAt rows a base by size register b result
 Swaps rows a source base by size register b result = RefusesAtomic a b result PointerOperand
 
 -- and then the number to compare with, which is in r0; r0 gets the old number
-abbrev pub ComparesIn : List MapDef → State → Kind → Kind → Kind → ℤ → Size → State → Result (Unit {0}) Refusal → Type 0
-ComparesIn rows a (Number numbers) source base by size b result = Swaps rows a source base by size (Some R0) b result
+abbrev pub ComparesIn : List MapDef → State → Kind → Kind → Kind → ℤ → Size → State
+    → Result (Unit {0}) Refusal → Type 0
+ComparesIn rows a (Number numbers) source base by size b result =
+    Swaps rows a source base by size (Some R0) b result
 ComparesIn rows a compared source base by size b result = RefusesAtomic a b result PointerOperand
 
-abbrev pub Compares : List MapDef → State → Kind → Kind → ℤ → Size → State → Result (Unit {0}) Refusal → Type 0
-Compares rows a source base by size b result = ComparesIn rows a (kind_of a R0) source base by size b result
+abbrev pub Compares : List MapDef → State → Kind → Kind → ℤ → Size → State
+    → Result (Unit {0}) Refusal → Type 0
+Compares rows a source base by size b result =
+    ComparesIn rows a (kind_of a R0) source base by size b result

@@ -1,4 +1,4 @@
--- What loads of the context's fields give. Linux, struct xdp_md.
+-- The results of loads of the context's fields. Linux, struct xdp_md.
 use Rattle.std.specs.Prelude.{◌≡◌, ◌⊎◌, ℤ, pos, Result, Ok, Err}
 use Rattle.isa_model.specs.declared.sizes.Size.{Size}
 use Rattle.isa_model.specs.declared.sizes.Size.TheVariants.{U32}

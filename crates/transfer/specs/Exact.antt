@@ -1,4 +1,4 @@
--- What an instruction makes of an abstract state, and why it is refused, exactly.
+-- The exact successors of an abstract state, and the refusals of its step.
 use Rattle.std.specs.Prelude.{◌≡◌, ◌≢◌, ℕ, zero, suc, ◌+◌, ◌%◌, ◌^◌, ◌<◌, ◌≤◌, ◌==◌, nat_le, ℤ, pos, Bool, true, false, ◌||◌, if◌then◌else◌, List, length, Option, Some, None, Result, Ok, Err}
 use Rattle.isa_model.specs.declared.sizes.Width.{Width}
 use Rattle.isa_model.specs.declared.sizes.Width.TheVariants.{Full64}
@@ -60,17 +60,22 @@ IsSetter (Load size d place) = Unit {0}
 IsSetter (LoadSx size d place) = Unit {0}
 IsSetter i = ⊥
 
--- the kind that such a form gives its register, or the refusal; `rows` are the rows of the maps
+-- the kind that such a form puts into its register, or its refusal; `rows` are the map rows
 abbrev pub ResultKind : List MapDef → State → Insn → Result Kind Refusal → Type 0
-ResultKind rows a (Alu w op d source) result = (b : Kind) × OperandKind a w source b × Arithmetic a op w (kind_of a d) b result
+ResultKind rows a (Alu w op d source) result =
+    (b : Kind) × OperandKind a w source b × Arithmetic a op w (kind_of a d) b result
 ResultKind rows a (Neg w d) result = OfNumber (IsNegated w) (kind_of a d) result
 ResultKind rows a (MovSx e d r) result = OfNumber (IsSignExtended e) (kind_of a r) result
-ResultKind rows a (ByteSwap order span d) result = OfNumber (IsReordered order span) (kind_of a d) result
+ResultKind rows a (ByteSwap order span d) result =
+    OfNumber (IsReordered order span) (kind_of a d) result
 ResultKind rows a (LoadNumber d n) result = (k : Kind) × IsJust k n × (result ≡ Ok k)
 ResultKind rows a (LoadMap d m) result = result ≡ Ok (Map m)
-ResultKind rows a (LoadMapValue d m offset) result = result ≡ Ok (MapValue m (pos offset) (pos offset))
-ResultKind rows a (Load size d place) result = LoadsKind rows a size (kind_of a place.base) place.offset result
-ResultKind rows a (LoadSx size d place) result = LoadsSigned rows a size (kind_of a place.base) place.offset result
+ResultKind rows a (LoadMapValue d m offset) result =
+    result ≡ Ok (MapValue m (pos offset) (pos offset))
+ResultKind rows a (Load size d place) result =
+    LoadsKind rows a size (kind_of a place.base) place.offset result
+ResultKind rows a (LoadSx size d place) result =
+    LoadsSigned rows a size (kind_of a place.base) place.offset result
 ResultKind rows a i result = ⊥
 
 -- the state at the next instruction: the written register has a kind, and all else is as before
@@ -89,24 +94,32 @@ SetsOrRefuses rows a i (Err e) b = ResultKind rows a i (Err e)
 -- ---- memory
 
 -- the state at the next instruction, after a store or an atomic instruction
-pub record GoesOnWith (a : State) (leaves : State → Result (Unit {0}) Refusal → Type 0) (b : State) : Type 0 where
+pub record GoesOnWith (a : State) (leaves : State → Result (Unit {0}) Refusal → Type 0)
+    (b : State) : Type 0 where
   pub left : State
   pub leaving : leaves left (Ok tt)
   pub next : b ≡ go_to left (a.slot + 1)
 
-abbrev pub GoesOn : State → (State → Result (Unit {0}) Refusal → Type 0) → Result Ways Refusal → State → Type 0
+abbrev pub GoesOn : State → (State → Result (Unit {0}) Refusal → Type 0) → Result Ways Refusal
+    → State → Type 0
 GoesOn a leaves (Ok w) b = (w ≡ ways.One) × GoesOnWith a leaves b
 GoesOn a leaves (Err e) b = (left : State) × leaves left (Err e)
 
-abbrev pub StoresAt : List MapDef → State → Size → Place → Kind → State → Result (Unit {0}) Refusal → Type 0
-StoresAt rows a size place source left result = StoresKind rows a size (kind_of a place.base) place.offset source left result
+abbrev pub StoresAt : List MapDef → State → Size → Place → Kind → State → Result (Unit {0}) Refusal
+    → Type 0
+StoresAt rows a size place source left result =
+    StoresKind rows a size (kind_of a place.base) place.offset source left result
 
 -- with the kind of register r; `kept` is the register that gets the old number, if any
-abbrev pub SwapsAtPlace : List MapDef → State → Width → Place → Reg → Option Reg → State → Result (Unit {0}) Refusal → Type 0
-SwapsAtPlace rows a w place r kept left result = Swaps rows a (kind_of a r) (kind_of a place.base) place.offset (width_size w) kept left result
+abbrev pub SwapsAtPlace : List MapDef → State → Width → Place → Reg → Option Reg → State
+    → Result (Unit {0}) Refusal → Type 0
+SwapsAtPlace rows a w place r kept left result =
+    Swaps rows a (kind_of a r) (kind_of a place.base) place.offset (width_size w) kept left result
 
-abbrev pub ComparesAtPlace : List MapDef → State → Width → Place → Reg → State → Result (Unit {0}) Refusal → Type 0
-ComparesAtPlace rows a w place r left result = Compares rows a (kind_of a r) (kind_of a place.base) place.offset (width_size w) left result
+abbrev pub ComparesAtPlace : List MapDef → State → Width → Place → Reg → State
+    → Result (Unit {0}) Refusal → Type 0
+ComparesAtPlace rows a w place r left result =
+    Compares rows a (kind_of a r) (kind_of a place.base) place.offset (width_size w) left result
 
 -- ---- jumps
 
@@ -118,7 +131,8 @@ Sides false true stay go w b c = (w ≡ ways.One) × (b ≡ go)
 Sides false false stay go w b c = w ≡ ways.None
 
 -- each side is narrowed by all that the test shows
-pub record Branches (p : Program) (a : State) (cond : Cond) (by : ℤ) (w : Ways) (b c : State) : Type 0 where
+pub record Branches (p : Program) (a : State) (cond : Cond) (by : ℤ) (w : Ways)
+    (b c : State) : Type 0 where
   pub compared : IsDefined (compared_by a cond)
   pub stays : Bool
   pub stay : State
@@ -131,7 +145,8 @@ pub record Branches (p : Program) (a : State) (cond : Cond) (by : ℤ) (w : Ways
 -- the same, if the comparison is defined, and else the refusal
 abbrev pub BranchesOr : Program → State → Cond → ℤ → Result Ways Refusal → State → State → Type 0
 BranchesOr p a cond by (Ok w) b c = Branches p a cond by w b c
-BranchesOr p a cond by (Err e) b c = (e ≡ comparison_refusal a cond) × ¬ IsDefined (compared_by a cond)
+BranchesOr p a cond by (Err e) b c =
+    (e ≡ comparison_refusal a cond) × ¬ IsDefined (compared_by a cond)
 
 -- the state as before, at the jump's target
 abbrev pub StepsJump : Program → State → ℤ → Result Ways Refusal → State → Type 0
@@ -141,7 +156,8 @@ StepsJump p a by result b = (result ≡ Ok ways.One) × (b ≡ go_to a (destinat
 
 -- a call frame is pushed, unless the most frames are live already
 abbrev pub StepsCall : Program → State → ℤ → Result Ways Refusal → State → Type 0
-StepsCall p a by (Ok w) b = (depth a < max_call_frames) × (w ≡ ways.One) × (b ≡ entered a (destination p a.slot by))
+StepsCall p a by (Ok w) b =
+    (depth a < max_call_frames) × (w ≡ ways.One) × (b ≡ entered a (destination p a.slot by))
 StepsCall p a by (Err e) b = (max_call_frames ≤ depth a) × (e ≡ TooManyFrames)
 
 -- known bits or limits show that the low half of each number is at most 4, as version 2 requires of
@@ -164,8 +180,10 @@ points_into n k = false
 
 -- a frame is popped, unless r0 points into it
 abbrev pub StepsReturn : State → Result Ways Refusal → State → Type 0
-StepsReturn a (Ok w) b = (points_into (length a.callers.items) (kind_of a R0) ≡ false) × (w ≡ ways.One) × (b ≡ ended a)
-StepsReturn a (Err e) b = (points_into (length a.callers.items) (kind_of a R0) ≡ true) × (e ≡ ExitValue)
+StepsReturn a (Ok w) b =
+    (points_into (length a.callers.items) (kind_of a R0) ≡ false) × (w ≡ ways.One) × (b ≡ ended a)
+StepsReturn a (Err e) b =
+    (points_into (length a.callers.items) (kind_of a R0) ≡ true) × (e ≡ ExitValue)
 
 abbrev pub ExitsFrom : Version → ℕ → State → Result Ways Refusal → State → Type 0
 ExitsFrom v zero a result b = result ≡ exit_answer v (kind_of a R0)
@@ -180,12 +198,16 @@ StepsExit v a result b = ExitsFrom v (length a.callers.items) a result b
 -- the step of each form, once the tests of its registers pass
 abbrev pub StepsForm : Program → State → Insn → Result Ways Refusal → State → State → Type 0
 StepsForm p a (StoreConstant size place k) result b c =
-    (source : Kind) × IsJust source (unsigned Full64 k) × GoesOn a (StoresAt p.maps a size place source) result b
-StepsForm p a (Store size place r) result b c = GoesOn a (StoresAt p.maps a size place (kind_of a r)) result b
+    (source : Kind) × IsJust source (unsigned Full64 k)
+    × GoesOn a (StoresAt p.maps a size place source) result b
+StepsForm p a (Store size place r) result b c =
+    GoesOn a (StoresAt p.maps a size place (kind_of a r)) result b
 StepsForm p a (Atomic w op fetched place r) result b c =
     GoesOn a (SwapsAtPlace p.maps a w place r (writes (Atomic w op fetched place r))) result b
-StepsForm p a (Exchange w place r) result b c = GoesOn a (SwapsAtPlace p.maps a w place r (Some r)) result b
-StepsForm p a (CompareExchange w place r) result b c = GoesOn a (ComparesAtPlace p.maps a w place r) result b
+StepsForm p a (Exchange w place r) result b c =
+    GoesOn a (SwapsAtPlace p.maps a w place r (Some r)) result b
+StepsForm p a (CompareExchange w place r) result b c =
+    GoesOn a (ComparesAtPlace p.maps a w place r) result b
 StepsForm p a (Jump by) result b c = StepsJump p a by result b
 StepsForm p a (JumpLong by) result b c = StepsJump p a by result b
 StepsForm p a (JumpIf cond by) result b c = BranchesOr p a cond by result b c
@@ -194,7 +216,7 @@ StepsForm p a Exit result b c = StepsExit p.version a result b
 StepsForm p a (CallHelper number) result b c = GoesOn a (CallsHelper p.maps a number) result b
 StepsForm p a i result b c = SetsOrRefuses p.maps a i result b
 
--- a test that fails decides, and if it passes the rest does
+-- if the test fails, its refusal is the result; if it passes, the rest decides
 abbrev pub Tested : Option Refusal → Result Ways Refusal → Type 0 → Type 0
 Tested None result Rest = Rest
 Tested (Some e) result Rest = result ≡ Err e
@@ -203,10 +225,10 @@ Tested (Some e) result Rest = result ≡ Err e
 abbrev pub Steps : Program → State → Insn → Result Ways Refusal → State → State → Type 0
 Steps p a i result b c = Tested (register_refusal a i) result (StepsForm p a i result b c)
 
--- the ways that the instruction goes, with the states that it leaves
+-- how many successors the instruction has, and the states that it leaves
 abbrev pub StepsToWays : Program → State → Insn → Ways → State → State → Type 0
 StepsToWays p a i w b c = Steps p a i (Ok w) b c
 
--- its step is refused so
+-- its step gets this refusal
 abbrev pub RefusesStep : Program → State → Insn → Refusal → Type 0
 RefusesStep p a i e = (b c : State) × Steps p a i (Err e) b c

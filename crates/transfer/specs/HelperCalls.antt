@@ -1,4 +1,5 @@
--- Calls of helpers: the kinds of their arguments, the bytes that these point to, and what a call leaves.
+-- Calls of helpers: the kinds of their arguments, the bytes that these point to, and what a call
+-- leaves.
 -- bpf-helpers(7); Linux, Documentation/bpf/verifier.rst.
 use Rattle.std.specs.Prelude.{◌≡◌, ℕ, ◌+◌, ◌<◌, ◌≤◌, ℤ, pos, ◌+ℤ◌, Bool, true, false, ◌||◌, ◌&&◌, if◌then◌else◌, List, slice_get, Option, Some, None, Result, Ok, Err}
 use Rattle.isa_model.specs.Code.Limits.{frame_size}
@@ -49,18 +50,21 @@ is_number k = false
 
 -- what was looked up has to be tested first; then the kinds are tested
 abbrev pub judged : (untested fit : Bool) → Result CalledMap Refusal → Result CalledMap Refusal
-judged untested fit map = if untested then Err NullNotTested else if fit then map else Err HelperArgument
+judged untested fit map =
+    if untested then Err NullNotTested else if fit then map else Err HelperArgument
 
 -- a map and a key
 abbrev pub key_arguments : List MapDef → State → Result CalledMap Refusal
 key_arguments rows a =
-    judged (is_untested (kind_of a R1) || is_untested (kind_of a R2)) (points_to_bytes (kind_of a R2))
+    judged (is_untested (kind_of a R1) || is_untested (kind_of a R2))
+    (points_to_bytes (kind_of a R2))
     (called_map rows (kind_of a R1))
 
 -- a map, a key, a value and flags
 abbrev pub update_arguments : List MapDef → State → Result CalledMap Refusal
 update_arguments rows a =
-    judged ((is_untested (kind_of a R1) || is_untested (kind_of a R2)) || (is_untested (kind_of a R3) || is_untested (kind_of a R4)))
+    judged ((is_untested (kind_of a R1) || is_untested (kind_of a R2))
+    || (is_untested (kind_of a R3) || is_untested (kind_of a R4)))
     (points_to_bytes (kind_of a R2) && (points_to_bytes (kind_of a R3) && is_number (kind_of a R4)))
     (called_map rows (kind_of a R1))
 
@@ -77,8 +81,10 @@ pub record AreInFrame (a : State) (frame : ℕ) (z : ℤ) (n : ℕ) : Type 0 whe
 -- n bytes at a pointer are known to be there, and to be number bytes
 abbrev pub AreKnown : List MapDef → State → Kind → ℕ → Type 0
 AreKnown rows a (Stack frame z) n = AreInFrame a frame z n
-AreKnown rows a (Packet fixed identity least greatest proved) n = AreInPacket fixed least proved (pos 0) n
-AreKnown rows a (MapValue m least greatest) n = AreInValue (value_size (slice_get rows m)) least greatest (pos 0) n
+AreKnown rows a (Packet fixed identity least greatest proved) n =
+    AreInPacket fixed least proved (pos 0) n
+AreKnown rows a (MapValue m least greatest) n =
+    AreInValue (value_size (slice_get rows m)) least greatest (pos 0) n
 AreKnown rows a k n = ⊥
 
 abbrev pub KeyIsKnown : List MapDef → State → CalledMap → Type 0
@@ -103,22 +109,25 @@ without_values Hash m a = forgotten_in m a
 without_values Array m a = a
 
 -- the state after the call, if the arguments are right and their bytes known
-abbrev pub LeavesIf : Result CalledMap Refusal → (CalledMap → Type 0) → (CalledMap → State → Type 0) → State
-    → Result (Unit {0}) Refusal → Type 0
+abbrev pub LeavesIf : Result CalledMap Refusal → (CalledMap → Type 0) → (CalledMap → State → Type 0)
+    → State → Result (Unit {0}) Refusal → Type 0
 LeavesIf (Ok m) Known leaves b (Ok done) = Known m × leaves m b
 LeavesIf (Ok m) Known leaves b (Err e) = (e ≡ HelperBytes) × ¬ Known m
 LeavesIf (Err e) Known leaves b result = result ≡ Err e
 
-abbrev pub StepsHelper : List MapDef → State → Option Helper → State → Result (Unit {0}) Refusal → Type 0
+abbrev pub StepsHelper : List MapDef → State → Option Helper → State → Result (Unit {0}) Refusal
+    → Type 0
 StepsHelper rows a (Some MapLookupElem) b result =
     LeavesIf (key_arguments rows a) (KeyIsKnown rows a) (AnswersValue a) b result
 StepsHelper rows a (Some MapUpdateElem) b result =
-    LeavesIf (update_arguments rows a) (λ m. KeyIsKnown rows a m × ValueIsKnown rows a m) (λ m. AnswersNumber a) b result
+    LeavesIf (update_arguments rows a) (λ m. KeyIsKnown rows a m × ValueIsKnown rows a m)
+    (λ m. AnswersNumber a) b result
 StepsHelper rows a (Some MapDeleteElem) b result =
-    LeavesIf (key_arguments rows a) (KeyIsKnown rows a) (λ m. AnswersNumber (without_values m.row.kind m.index a)) b result
+    LeavesIf (key_arguments rows a) (KeyIsKnown rows a)
+    (λ m. AnswersNumber (without_values m.row.kind m.index a)) b result
 StepsHelper rows a (Some KtimeGetNs) b result = (result ≡ Ok tt) × AnswersNumber a b
 StepsHelper rows a None b result = result ≡ Err HelperArgument
 
--- the call of the helper of a number
+-- the call of the helper with this number
 abbrev pub CallsHelper : List MapDef → State → ℤ → State → Result (Unit {0}) Refusal → Type 0
 CallsHelper rows a number b result = StepsHelper rows a (helper_numbered number) b result

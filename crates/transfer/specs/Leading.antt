@@ -25,14 +25,16 @@ InSome p None a b s = ⊥
 InSome p One a b s = Means p a s
 InSome p Two a b s = Means p a s ⊎ Means p b s
 
--- with every clock, no member traps at its next step, and each that does not exit goes into one of
--- these successors
+-- with every clock, no member traps at its next step, and each that does not exit becomes a member
+-- of one of these successors
 unfoldable pub LeadsTo : Program → State → Ways → State → State → Type 0
 LeadsTo p from ways a b =
-    (clock : ℕ → ℕ) → IsClock clock → (s : Machine.State) → Means p from s → After (InSome p ways a b) (step p clock s)
+    (clock : ℕ → ℕ) → IsClock clock → (s : Machine.State) → Means p from s
+    → After (InSome p ways a b) (step p clock s)
 
 -- P of the ways and the two states, for the successors of a result
-abbrev pub OnSuccessors : Result Successors Refusal → (Result Ways Refusal → State → State → Type 0) → Type 0
+abbrev pub OnSuccessors : Result Successors Refusal → (Result Ways Refusal → State → State → Type 0)
+    → Type 0
 OnSuccessors (Ok successors.None) P = (a b : State) × P (Ok None) a b
 OnSuccessors (Ok (successors.One a)) P = (b : State) × P (Ok One) a b
 OnSuccessors (Ok (successors.Two a b)) P = P (Ok Two) a b

@@ -1,4 +1,4 @@
--- What loads, stores and moves through packet pointers give.
+-- The results of loads, stores and moves through packet pointers.
 -- Linux, Documentation/bpf/verifier.rst (direct packet access).
 use Rattle.std.specs.Prelude.{◌≡◌, ℕ, ◌+◌, ◌*◌, ◌^◌, ◌<◌, ◌≤◌, ◌⊎◌, ◌↔◌, ℤ, pos, ◌+ℤ◌, ◌-ℤ◌, ◌≤ℤ◌, FitsSigned, unsigned_abs, Bool, true, false, Option, Some, None, Result, Ok, Err}
 use Rattle.std.specs.Int.{w32, w64, cast_signed, bit_at}
@@ -38,14 +38,17 @@ pub record IsOfSize (size : Size) (c : Scalar) : Type 0 where
   pub least : c.range.wide.least ≡ 0
   pub greatest : c.range.wide.greatest + 1 ≡ 2 ^ (8 * size_bytes size)
   pub signed_least : size_bytes size < 8 → c.range.wide.signed_least ≡ pos 0
-  pub signed_greatest : size_bytes size < 8 → c.range.wide.signed_greatest ≡ pos c.range.wide.greatest
+  pub signed_greatest : size_bytes size < 8
+      → c.range.wide.signed_greatest ≡ pos c.range.wide.greatest
 
 -- any number with this number of bytes and a sign, in 64 bits
 pub record IsOfSignedSize (size : SignedSize) (c : Scalar) : Type 0 where
   pub members : (x : ℕ)
-      → (Has c x ↔ ((x < 2 ^ 64) × FitsSigned (extension_signed (size_extension size)) (cast_signed w64 x)))
+      → (Has c x
+      ↔ ((x < 2 ^ 64) × FitsSigned (extension_signed (size_extension size)) (cast_signed w64 x)))
   pub signed_least : FitsSigned (extension_signed (size_extension size)) c.range.wide.signed_least
-  pub signed_greatest : FitsSigned (extension_signed (size_extension size)) c.range.wide.signed_greatest
+  pub signed_greatest : FitsSigned
+      (extension_signed (size_extension size)) c.range.wide.signed_greatest
 
 abbrev pub IsNumberOf : (Scalar → Type 0) → Kind → Type 0
 IsNumberOf says (Number c) = says c
@@ -62,7 +65,8 @@ PacketLoads size fixed least proved by answer =
 
 abbrev pub PacketLoadsSigned : SignedSize → ℤ → ℤ → ℕ → ℤ → Result Kind Refusal → Type 0
 PacketLoadsSigned size fixed least proved by answer =
-    GivesIf PacketBytes (AreInPacket fixed least proved by (size_bytes (unsigned_size size))) (IsOfSignedSize size) answer
+    GivesIf PacketBytes (AreInPacket fixed least proved by (size_bytes (unsigned_size size)))
+    (IsOfSignedSize size) answer
 
 -- ---- stores
 
@@ -97,7 +101,7 @@ abbrev pub highest : Bool → PacketPointer → ℤ → ℤ → ℤ
 highest true p near far = (p.fixed +ℤ p.greatest) -ℤ near
 highest false p near far = (p.fixed +ℤ p.greatest) +ℤ far
 
--- both are offsets of pointers
+-- both are offsets that a pointer may have
 pub record AreOffsets (from to : ℤ) : Type 0 where
   pub from_is : unsigned_abs from ≤ offset_limit
   pub to_is : unsigned_abs to ≤ offset_limit
@@ -119,18 +123,20 @@ abbrev pub OffsetsHaveRoom : ℤ → ℤ → Type 0
 OffsetsHaveRoom least greatest = FitsSigned w32 least × FitsSigned w32 greatest
 
 abbrev pub AreOffsetParts : ℤ → ℤ → Option (ℤ × ℤ) → Type 0
-AreOffsetParts least greatest (Some parts) = (parts.0 ≡ least) × (parts.1 ≡ greatest) × OffsetsHaveRoom least greatest
+AreOffsetParts least greatest (Some parts) =
+    (parts.0 ≡ least) × (parts.1 ≡ greatest) × OffsetsHaveRoom least greatest
 AreOffsetParts least greatest None = ¬ OffsetsHaveRoom least greatest
 
--- the proved bytes after a move: less by how much the greatest variable part grows, if that is a
--- length of 32 bits; else none
+-- the proved bytes after a move: fewer by the growth of the greatest variable part, if that leaves
+-- a positive number of 32 bits; else none
 pub record StaysProved (proved : ℕ) (growth : ℤ) (left : ℕ) : Type 0 where
   pub some : 0 < left → (0 < proved) × (pos left ≡ (pos proved -ℤ growth))
   pub none : left ≡ 0 → 0 < proved
       → ((pos proved -ℤ growth) ≤ℤ pos 0) ⊎ (pos (2 ^ 32) ≤ℤ (pos proved -ℤ growth))
 
 -- a pointer with the least new identity
-pub record IsFreshPointer (a : State) (fixed least greatest : ℤ) (proved : ℕ) (k : Kind) : Type 0 where
+pub record IsFreshPointer (a : State) (fixed least greatest : ℤ) (proved : ℕ)
+    (k : Kind) : Type 0 where
   pub identity : ℕ
   pub fresh : IsLeastFreshPacket a identity
   pub pointer : k ≡ Packet fixed identity least greatest proved
@@ -144,14 +150,17 @@ abbrev pub greatest_part : Bool → PacketPointer → ℤ → ℤ → ℤ
 greatest_part back p near far = highest back p near far -ℤ p.fixed
 
 -- the variable part is moved, if it has room for that
-pub record IsMovedVariable (a : State) (back : Bool) (p : PacketPointer) (near far : ℤ) (k : Kind) : Type 0 where
+pub record IsMovedVariable (a : State) (back : Bool) (p : PacketPointer) (near far : ℤ)
+    (k : Kind) : Type 0 where
   pub room : OffsetsHaveRoom (least_part back p near far) (greatest_part back p near far)
   pub proved : ℕ
   pub stays : StaysProved p.proved (greatest_part back p near far -ℤ p.greatest) proved
-  pub pointer : IsFreshPointer a p.fixed (least_part back p near far) (greatest_part back p near far) proved k
+  pub pointer : IsFreshPointer a p.fixed (least_part back p near far)
+      (greatest_part back p near far) proved k
 
 -- if it has none, the whole offset becomes the variable part, and no bytes are proved
-pub record IsMovedBetween (a : State) (back : Bool) (p : PacketPointer) (near far : ℤ) (k : Kind) : Type 0 where
+pub record IsMovedBetween (a : State) (back : Bool) (p : PacketPointer) (near far : ℤ)
+    (k : Kind) : Type 0 where
   pub within : AreOffsets (lowest back p near far) (highest back p near far)
   pub pointer : IsMovedVariable a back p near far k
       ⊎ ((¬ OffsetsHaveRoom (least_part back p near far) (greatest_part back p near far))
@@ -163,7 +172,8 @@ pub record IsMovedFixed (back : Bool) (p : PacketPointer) (by : ℤ) (k : Kind) 
   pub pointer : k ≡ Packet (moved_by back p.fixed by) p.identity p.least p.greatest p.proved
 
 -- if that has room for it
-pub record IsMovedBy (a : State) (back : Bool) (p : PacketPointer) (by : ℤ) (k : Kind) : Type 0 where
+pub record IsMovedBy (a : State) (back : Bool) (p : PacketPointer) (by : ℤ)
+    (k : Kind) : Type 0 where
   pub within : AreOffsets (lowest back p by by) (highest back p by by)
   pub pointer : IsMovedFixed back p by k
       ⊎ ((¬ FitsSigned w32 (moved_by back p.fixed by))
@@ -176,16 +186,19 @@ MovesBetween a back p near far (Err e) =
 
 abbrev pub MovesBy : State → Bool → PacketPointer → ℤ → Result Kind Refusal → Type 0
 MovesBy a back p by (Ok k) = IsMovedBy a back p by k
-MovesBy a back p by (Err e) = (e ≡ PointerOffset) × ¬ AreOffsets (lowest back p by by) (highest back p by by)
+MovesBy a back p by (Err e) =
+    (e ≡ PointerOffset) × ¬ AreOffsets (lowest back p by by) (highest back p by by)
 
--- a number that is known moves the pointer by its value, read with a sign
-pub record MovesByNumber (a : State) (back : Bool) (p : PacketPointer) (by : Scalar) (answer : Result Kind Refusal) : Type 0 where
+-- a known number is the distance of the move, read with a sign
+pub record MovesByNumber (a : State) (back : Bool) (p : PacketPointer) (by : Scalar)
+    (answer : Result Kind Refusal) : Type 0 where
   pub number : ℕ
   pub alone : IsNumber by number
   pub moves : MovesBy a back p (signed Full64 number) answer
 
 -- any other number by a distance between its signed limits
-pub record MovesByLimits (a : State) (back : Bool) (p : PacketPointer) (by : Scalar) (answer : Result Kind Refusal) : Type 0 where
+pub record MovesByLimits (a : State) (back : Bool) (p : PacketPointer) (by : Scalar)
+    (answer : Result Kind Refusal) : Type 0 where
   pub several : (n : ℕ) → ¬ IsNumber by n
   pub moves : MovesBetween a back p by.range.wide.signed_least by.range.wide.signed_greatest answer
 

@@ -52,4 +52,5 @@ is_untested_operand a (Register r) = is_untested (kind_of a r)
 -- why a comparison that is not defined is refused
 abbrev pub comparison_refusal : State → Cond → Refusal
 comparison_refusal a cond =
-    if is_untested (kind_of a cond.register) || is_untested_operand a cond.operand then NullNotTested else Comparison
+    if is_untested (kind_of a cond.register) || is_untested_operand a cond.operand
+    then NullNotTested else Comparison

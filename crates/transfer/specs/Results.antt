@@ -1,4 +1,4 @@
--- What arithmetic gives in a state, and why it is refused: a relation over the result for each form.
+-- The results and refusals of arithmetic in a state: a relation over the result for each form.
 use Rattle.std.specs.Prelude.{◌≡◌, ℕ, ◌^◌, ◌<◌, ◌↔◌, ℤ, ◌+ℤ◌, ◌-ℤ◌, Bool, true, false, nat_le, unsigned_abs, if◌then◌else◌, Option, Some, None, Result, Ok, Err}
 use Rattle.isa_model.specs.declared.sizes.Width.{Width}
 use Rattle.isa_model.specs.declared.sizes.Width.TheVariants.{Low32, Full64}
@@ -25,13 +25,13 @@ abbrev pub IsNumber32 : Kind → Type 0
 IsNumber32 (Number c) = (x : ℕ) → (Has c x ↔ (x < 2 ^ 32))
 IsNumber32 k = ⊥
 
--- a number gives a number with this relation of the domain; a pointer gives nothing
+-- of a number, a number in this relation to it; a pointer is refused
 abbrev pub OfNumber : (Scalar → Scalar → Type 0) → Kind → Result Kind Refusal → Type 0
 OfNumber says (Number a) (Ok (Number c)) = says a c
 OfNumber says (Number a) result = ⊥
 OfNumber says k result = result ≡ Err PointerOperand
 
--- the low 32 bits, as MOV at 32 bits gives them
+-- the low 32 bits, as MOV at 32 bits copies them
 abbrev pub IsLowNumber : Scalar → Scalar → Type 0
 IsLowNumber a c = IsAlu Mov Low32 a a c
 
@@ -44,7 +44,8 @@ moved_offset false z n = z +ℤ signed Full64 n
 
 -- a pointer to a call frame, within the limit of offsets
 abbrev pub frame_pointer : ℕ → ℤ → Result Kind Refusal
-frame_pointer frame z = if nat_le (unsigned_abs z) offset_limit then Ok (Stack frame z) else Err PointerOffset
+frame_pointer frame z =
+    if nat_le (unsigned_abs z) offset_limit then Ok (Stack frame z) else Err PointerOffset
 
 -- the only number of a set, if it has only one
 abbrev pub LeavesNumber : Scalar → Option ℕ → Type 0
@@ -58,14 +59,22 @@ moved_frame back frame offset None = Err PointerOffset
 
 abbrev pub packet_pointer : ℤ → ℕ → ℤ → ℤ → ℕ → PacketPointer
 packet_pointer fixed identity least greatest proved =
-    record { fixed = fixed; identity = identity; least = least; greatest = greatest; proved = proved }
+    record {
+      fixed = fixed;
+      identity = identity;
+      least = least;
+      greatest = greatest;
+      proved = proved;
+    }
 
 abbrev pub MovesPointer : State → Bool → Kind → Scalar → Result Kind Refusal → Type 0
-MovesPointer a back (Stack frame offset) by result = (o : Option ℕ) × LeavesNumber by o × (result ≡ moved_frame back frame offset o)
+MovesPointer a back (Stack frame offset) by result =
+    (o : Option ℕ) × LeavesNumber by o × (result ≡ moved_frame back frame offset o)
 MovesPointer a back (Packet fixed identity least greatest proved) by result =
     PacketMoves a back (packet_pointer fixed identity least greatest proved) by result
 MovesPointer a back (MapValue m least greatest) by result =
-    (o : Option ℕ) × LeavesNumber by o × ValueMoves back m least greatest (nearest by o) (farthest by o) result
+    (o : Option ℕ) × LeavesNumber by o
+    × ValueMoves back m least greatest (nearest by o) (farthest by o) result
 MovesPointer a back (MapValueOrNull index identity) by result = result ≡ Err NullNotTested
 MovesPointer a back pointer by result = result ≡ Err PointerOperand
 

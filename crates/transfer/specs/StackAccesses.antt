@@ -1,4 +1,5 @@
--- Loads and stores through frame pointers: what they give, what they leave, and why they are refused.
+-- Loads and stores through frame pointers: the kinds that are loaded, the states that are left, and
+-- the refusals.
 use Rattle.std.specs.Prelude.{◌≡◌, ℕ, suc, ◌/◌, ◌<◌, ◌==◌, ℤ, List, Option, Some, None, Result, Ok, Err, if◌then◌else◌}
 use Rattle.isa_model.specs.declared.sizes.Size.{Size}
 use Rattle.isa_model.specs.declared.sizes.Size.TheVariants.{U64}
@@ -33,13 +34,13 @@ FindsFramePlace a frame z size None = IsNoFramePlace a frame z size
 
 -- ---- loads
 
--- the number that the bytes spell; None: not all of them are written number bytes
+-- the number that the bytes spell; `None`: not all of them are written number bytes
 abbrev pub IsNumberLoad : List StackSlot → ℕ → Size → Option Kind → Type 0
 IsNumberLoad slots at size None = IsLoad slots at size None
 IsNumberLoad slots at size (Some (Number c)) = IsLoad slots at size (Some c)
 IsNumberLoad slots at size (Some k) = ⊥
 
--- 8 bytes give the value that was stored whole
+-- a load of 8 bytes returns the value that was stored whole
 abbrev pub IsStackLoad : List StackSlot → ℕ → Size → Option Kind → Type 0
 IsStackLoad slots at U64 answer = IsFill (slot_at slots (at / 8)) answer
 IsStackLoad slots at size answer = IsNumberLoad slots at size answer
@@ -48,21 +49,27 @@ IsStackLoad slots at size answer = IsNumberLoad slots at size answer
 abbrev pub IsSignedLoad : List StackSlot → ℕ → SignedSize → Option Kind → Type 0
 IsSignedLoad slots at size None = IsLoad slots at (unsigned_size size) None
 IsSignedLoad slots at size (Some (Number c)) =
-    (b : Scalar) × IsLoad slots at (unsigned_size size) (Some b) × IsSignExtended (size_extension size) b c
+    (b : Scalar) × IsLoad slots at (unsigned_size size) (Some b)
+    × IsSignExtended (size_extension size) b c
 IsSignedLoad slots at size (Some k) = ⊥
 
--- a load is refused for where it leads, and then for its bytes
-abbrev pub LoadsIn : State → ℕ → ℤ → Size → (List StackSlot → ℕ → Option Kind → Type 0) → Result Kind Refusal → Type 0
-LoadsIn a frame z size gives (Ok k) = (at : ℕ) × IsFramePlace a frame z size at × gives (stack_slots_of a frame) at (Some k)
+-- a load is refused for its place, and then for its bytes
+abbrev pub LoadsIn : State → ℕ → ℤ → Size → (List StackSlot → ℕ → Option Kind → Type 0)
+    → Result Kind Refusal → Type 0
+LoadsIn a frame z size gives (Ok k) =
+    (at : ℕ) × IsFramePlace a frame z size at × gives (stack_slots_of a frame) at (Some k)
 LoadsIn a frame z size gives (Err StackPlace) = IsNoFramePlace a frame z size
-LoadsIn a frame z size gives (Err StackBytes) = (at : ℕ) × IsFramePlace a frame z size at × gives (stack_slots_of a frame) at None
+LoadsIn a frame z size gives (Err StackBytes) =
+    (at : ℕ) × IsFramePlace a frame z size at × gives (stack_slots_of a frame) at None
 LoadsIn a frame z size gives (Err e) = ⊥
 
 abbrev pub StackLoads : State → ℕ → ℤ → Size → Result Kind Refusal → Type 0
-StackLoads a frame z size result = LoadsIn a frame z size (λ slots at. IsStackLoad slots at size) result
+StackLoads a frame z size result =
+    LoadsIn a frame z size (λ slots at. IsStackLoad slots at size) result
 
 abbrev pub StackLoadsSigned : State → ℕ → ℤ → SignedSize → Result Kind Refusal → Type 0
-StackLoadsSigned a frame z size result = LoadsIn a frame z (unsigned_size size) (λ slots at. IsSignedLoad slots at size) result
+StackLoadsSigned a frame z size result =
+    LoadsIn a frame z (unsigned_size size) (λ slots at. IsSignedLoad slots at size) result
 
 -- ---- stores
 
@@ -71,16 +78,18 @@ abbrev pub whole_or : Refusal → Size → Option Refusal
 whole_or refusal U64 = None
 whole_or refusal size = Some refusal
 
--- why a value is not stored in a frame: pointers are stored whole, and those into frames in the innermost only
+-- why a value is not stored in a frame: pointers are stored whole, and those into frames in the
+-- innermost only
 abbrev pub store_refusal : State → ℕ → Size → Kind → Option Refusal
 store_refusal a frame size Unset = Some PointerStored
 store_refusal a frame size (Number numbers) = None
-store_refusal a frame size (Stack f z) = if suc frame == depth a then whole_or PointerStored size else Some PointerStored
+store_refusal a frame size (Stack f z) =
+    if suc frame == depth a then whole_or PointerStored size else Some PointerStored
 store_refusal a frame size (MapValueOrNull m identity) = whole_or NullNotTested size
 store_refusal a frame size k = whole_or PointerStored size
 
--- 8 bytes keep what is known of the value; others are number bytes, and keep what is known of the number where the other bytes
--- of the stack slot are such bytes too
+-- 8 bytes keep what is known of the value; others are number bytes, and keep what is known of the
+-- number where the other bytes of the stack slot are such bytes too
 abbrev pub IsLeft : State → ℕ → ℕ → Size → Kind → State → Type 0
 IsLeft a frame at U64 source b = IsSpilledIn a frame (at / 8) source b
 IsLeft a frame at size (Number numbers) b = IsNumberStoredIn a frame at size numbers b
@@ -91,8 +100,9 @@ IsStoreRefused a frame z size source StackPlace = IsNoFramePlace a frame z size
 IsStoreRefused a frame z size source e =
     (at : ℕ) × IsFramePlace a frame z size at × (store_refusal a frame size source ≡ Some e)
 
--- a store is refused for where it leads, and then for its value
+-- a store is refused for its place, and then for its value
 abbrev pub StackStores : State → ℕ → ℤ → Size → Kind → State → Result (Unit {0}) Refusal → Type 0
 StackStores a frame z size source b (Ok done) =
-    (at : ℕ) × IsFramePlace a frame z size at × (store_refusal a frame size source ≡ None) × IsLeft a frame at size source b
+    (at : ℕ) × IsFramePlace a frame z size at × (store_refusal a frame size source ≡ None)
+    × IsLeft a frame at size source b
 StackStores a frame z size source b (Err e) = (b ≡ a) × IsStoreRefused a frame z size source e

@@ -1,4 +1,4 @@
--- What wide loads of maps give, and loads, stores and moves through pointers to map values.
+-- The results of wide loads of maps, and of loads, stores and moves through pointers to map values.
 -- bpf(2) (maps); Linux, Documentation/bpf/verifier.rst (pointers to map values).
 use Rattle.std.specs.Prelude.{◌≡◌, ℕ, ◌^◌, ◌<◌, ℤ, pos, ◌+ℤ◌, ◌-ℤ◌, ◌≤ℤ◌, Bool, true, false, Option, Some, None, Result, Ok, Err}
 use Rattle.isa_model.specs.declared.sizes.Size.{Size}
@@ -41,11 +41,13 @@ pub record AreInValue (room : ℕ) (least greatest by : ℤ) (bytes : ℕ) : Typ
 -- nothing is known of the bytes of a value
 abbrev pub ValueLoads : Size → ℕ → ℤ → ℤ → ℤ → Result Kind Refusal → Type 0
 ValueLoads size room least greatest by answer =
-    GivesIf MapValueBytes (AreInValue room least greatest by (size_bytes size)) (IsOfSize size) answer
+    GivesIf MapValueBytes (AreInValue room least greatest by (size_bytes size))
+    (IsOfSize size) answer
 
 abbrev pub ValueLoadsSigned : SignedSize → ℕ → ℤ → ℤ → ℤ → Result Kind Refusal → Type 0
 ValueLoadsSigned size room least greatest by answer =
-    GivesIf MapValueBytes (AreInValue room least greatest by (size_bytes (unsigned_size size))) (IsOfSignedSize size) answer
+    GivesIf MapValueBytes (AreInValue room least greatest by (size_bytes (unsigned_size size)))
+    (IsOfSignedSize size) answer
 
 abbrev pub ValueStores : Size → ℕ → ℤ → ℤ → ℤ → Kind → Result (Unit {0}) Refusal → Type 0
 ValueStores size room least greatest by source answer =

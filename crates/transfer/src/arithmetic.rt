@@ -47,7 +47,7 @@ pub fn reordered(order: ByteOrder, span: SwapWidth, kind: Kind) -> Result<Kind, 
     }
 }
 
-/// What an operation gives on two numbers.
+/// The results of an operation on two numbers.
 fn computed(op: AluOp, width: Width, a: Scalar, b: Scalar) -> Scalar
     ensures { IsAlu op width a b result }
 {
@@ -55,7 +55,7 @@ fn computed(op: AluOp, width: Width, a: Scalar, b: Scalar) -> Scalar
 }
 
 /// The low 32 bits of a number.
-fn low_word(kind: Kind) -> Result<Kind, Refusal>
+fn low_number(kind: Kind) -> Result<Kind, Refusal>
     ensures { OfNumber IsLowNumber kind result }
 {
     match kind {
@@ -70,7 +70,7 @@ fn copied(width: Width, source: Kind) -> Result<Kind, Refusal>
 {
     match width {
         Width::Full64 => Ok(source),
-        Width::Low32 => low_word(source),
+        Width::Low32 => low_number(source),
     }
 }
 
@@ -104,7 +104,7 @@ fn combined(state: &State, op: AluOp, width: Width, a: Kind, b: Kind) -> Result<
     }
 }
 
-/// What an arithmetic instruction gives on two operands in a state.
+/// The result of an arithmetic instruction on two operands in a state.
 pub fn arithmetic(state: &State, op: AluOp, width: Width, a: Kind, b: Kind) -> Result<Kind, Refusal>
     ensures { Arithmetic state.now op width a b result }
 {

@@ -9,7 +9,7 @@ use isa_model::{Size, Width};
 use reg_state::{Domain, Kind, Scalar};
 
 /// Any number of 32 bits.
-fn word() -> Kind
+fn number32() -> Kind
     ensures { IsNumber32 result }
 {
     Kind::Number(Scalar::any(Width::Low32))
@@ -28,19 +28,19 @@ fn packet_start() -> Kind
     }
 }
 
-/// What a 4-byte load gives.
+/// The result of a 4-byte load.
 fn field(offset: i16) -> Result<Kind, Refusal>
     ensures { FieldLoads offset result }
 {
     match offset {
         0 => Ok(packet_start()),
         4 => Ok(Kind::PacketEnd),
-        12 | 16 => Ok(word()),
+        12 | 16 => Ok(number32()),
         _ => Err(Refusal::ContextAccess),
     }
 }
 
-/// What a load without a sign gives; a load with a sign is refused.
+/// The result of a load that extends no sign; one that extends it is refused.
 pub fn context_load(size: Size, offset: i16) -> Result<Kind, Refusal>
     ensures { ContextLoads size offset result }
 {

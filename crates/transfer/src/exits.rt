@@ -30,7 +30,7 @@ fn shows_action(version: Version, numbers: Scalar) -> bool
     }
 }
 
-/// What a program of that version answers.
+/// The last exit of a program of this version, with this kind in r0: an answer, or a refusal.
 fn exit_answer(version: Version, kind: Kind) -> Result<Ways, Refusal>
     ensures { result ≡ exit_answer version kind }
 {

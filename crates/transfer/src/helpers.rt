@@ -181,7 +181,7 @@ fn help(maps: &[MapDef], helper: Option<Helper>, state: &mut State) -> Result<()
     }
 }
 
-/// The call of the helper of a number.
+/// The call of the helper with this number.
 pub fn call_helper(maps: &[MapDef], number: i32, state: &mut State) -> Result<(), Refusal>
     ensures { CallsHelper maps.now state.old number state.new result }
 {

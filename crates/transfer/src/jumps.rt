@@ -54,10 +54,10 @@ fn comparison_refusal(cond: Cond, state: &State) -> Refusal
     }
 }
 
-/// The two ways of a conditional jump: `state` becomes the fall-through's at `next`, and `other`
-/// the jump's at `target`. If one way is never taken, `state` becomes the other way's, and no state
-/// is copied.
-fn part(
+/// The two sides of a conditional jump: `state` becomes the fall-through's, at `next`, and `other`
+/// the jump's, at `target`. If only one side is taken, `state` becomes that side's, and no state is
+/// copied.
+fn split(
     cond: Cond,
     ways: (BranchOutcome, BranchOutcome),
     slots: (usize, usize),
@@ -114,5 +114,5 @@ pub fn jump_if(
     let go = outcome_of(cond, true, state);
     let next = state.slot + 1;
     let target = destination(state.slot, by, slots);
-    Ok(part(cond, (stay, go), (next, target), state, other))
+    Ok(split(cond, (stay, go), (next, target), state, other))
 }

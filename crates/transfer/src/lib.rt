@@ -50,8 +50,8 @@ pub enum Successors {
     Two(State, State),
 }
 
-/// The successors of a state: on each member its instruction does not trap, and exits or goes into
-/// a successor.
+/// The successors of a state: no member traps at its instruction, and each exits or becomes a
+/// member of a successor.
 pub fn step(image: &Image, state: &State) -> Result<Successors, Refusal>
     requires { IsSome (fetch image.now state.now.slot) }
     ensures leads { OnSuccessors result

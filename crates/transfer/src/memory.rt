@@ -25,7 +25,7 @@ fn access_refusal(base: Kind) -> Refusal
     }
 }
 
-/// What a load gives.
+/// The result of a load.
 pub fn load(
     maps: &[MapDef],
     state: &State,
@@ -53,7 +53,7 @@ pub fn load(
     }
 }
 
-/// What a sign-extending load gives.
+/// The result of a sign-extending load.
 pub fn load_signed(
     maps: &[MapDef],
     state: &State,

@@ -13,7 +13,7 @@ pub fn sum(left: i32, right: i32) -> i64
     i64::from(left) + i64::from(right)
 }
 
-/// The place after a move, back or on.
+/// The offset after a move, back or forward.
 pub fn moved_by(back: bool, place: i64, distance: i64) -> i128
     ensures { result ≡ moved_by back place distance }
 {
@@ -35,7 +35,7 @@ fn limited(offset: i128) -> Result<i32, Refusal>
     }
 }
 
-/// Two of them.
+/// Two such offsets.
 pub fn limits(from: i128, to: i128) -> Result<(i32, i32), Refusal>
     ensures { AreLimited from to result }
 {

@@ -72,7 +72,7 @@ pub fn of_signed_size(size: SignedSize) -> Scalar
     }
 }
 
-/// What a load without a sign gives.
+/// The result of a load that extends no sign.
 pub fn packet_load(
     size: Size,
     fixed: i32,
@@ -89,7 +89,7 @@ pub fn packet_load(
     }
 }
 
-/// What a load with a sign gives.
+/// The result of a sign-extending load.
 pub fn packet_load_signed(
     size: SignedSize,
     fixed: i32,
@@ -141,7 +141,7 @@ pub fn packet_store(
     }
 }
 
-/// The least offset after a move by something between two distances.
+/// The least offset after a move by a distance between two limits.
 fn lowest(back: bool, pointer: PacketPointer, near: i64, far: i64) -> i128
     ensures { result ≡ lowest back pointer near far }
 {
@@ -165,7 +165,7 @@ fn highest(back: bool, pointer: PacketPointer, near: i64, far: i64) -> i128
     }
 }
 
-/// Both of them.
+/// Both offsets.
 fn both(back: bool, pointer: PacketPointer, near: i64, far: i64) -> Result<(i32, i32), Refusal>
     ensures { AreLimited (lowest back pointer near far) (highest back pointer near far) result }
 {
@@ -219,8 +219,8 @@ fn fresh_pointer(state: &State, fixed: i32, least: i32, greatest: i32, proved: u
     }
 }
 
-/// A move by something between two distances. The fixed part stays, if the variable one has room
-/// for the move; else the variable part takes it in, and nothing is proved.
+/// A move by a distance between two limits. The fixed part stays, if the variable one has room for
+/// the move; else the variable part becomes the whole offset, and nothing is proved.
 fn moved_between(
     state: &State,
     back: bool,
@@ -243,7 +243,7 @@ fn moved_between(
 }
 
 /// A move by one distance. The fixed part moves, if it has room for that; else the variable part
-/// takes it in, and nothing is proved.
+/// becomes the whole offset, and nothing is proved.
 fn moved(state: &State, back: bool, pointer: PacketPointer, distance: i64) -> Result<Kind, Refusal>
     ensures { MovesBy state.now back pointer distance result }
 {

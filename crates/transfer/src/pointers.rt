@@ -10,7 +10,7 @@ use isa_model::{AluOp, OFFSET_LIMIT, Width};
 use reg_state::{Domain, Kind, Scalar};
 use stack_state::State;
 
-/// The offset after a move, back or on; the number counts as a signed one.
+/// The offset after a move, back or forward; the number counts as a signed one.
 fn moved_offset(back: bool, offset: i32, number: u64) -> i128
     ensures { result ≡ moved_offset back offset number }
 {
@@ -36,7 +36,8 @@ fn frame_pointer(frame: u8, offset: i128) -> Result<Kind, Refusal>
     }
 }
 
-/// The frame pointer that the one number left moves, back or on.
+/// The frame pointer after a move by a number, back or forward; `None` is a number that is not
+/// known.
 fn moved_frame(back: bool, frame: u8, offset: i32, number: Option<u64>) -> Result<Kind, Refusal>
     ensures { result ≡ moved_frame back frame offset number }
 {
@@ -46,7 +47,7 @@ fn moved_frame(back: bool, frame: u8, offset: i32, number: Option<u64>) -> Resul
     }
 }
 
-/// A pointer that a number moves, back or on.
+/// The pointer after a move by a number, back or forward.
 fn moved(state: &State, back: bool, pointer: Kind, by: Scalar) -> Result<Kind, Refusal>
     ensures { MovesPointer state.now back pointer by result }
 {

@@ -56,7 +56,7 @@ fn number(stack: &StackState, at: usize, size: Size) -> Option<Kind>
     }
 }
 
-/// What a load of the bytes gives.
+/// The kind that a load of the bytes returns.
 fn loaded(stack: &StackState, at: usize, size: Size) -> Option<Kind>
     requires inside { at < frame_size }
     requires in_slot { at % 8 + size_bytes size ≤ 8 }
@@ -80,7 +80,7 @@ fn loaded_signed(stack: &StackState, at: usize, size: SignedSize) -> Option<Kind
     }
 }
 
-/// What a load (LDX MEM) through a frame pointer gives.
+/// The result of a load (LDX MEM) through a frame pointer.
 pub fn stack_load(
     state: &State,
     frame: u8,
@@ -102,7 +102,7 @@ pub fn stack_load(
     }
 }
 
-/// What a sign-extending load (LDX MEMSX) through a frame pointer gives.
+/// The result of a sign-extending load (LDX MEMSX) through a frame pointer.
 pub fn stack_load_signed(
     state: &State,
     frame: u8,

@@ -1,4 +1,4 @@
-//! What an instruction makes of a state.
+//! The step of an instruction in a state, form by form.
 
 ghost use Rattle.std.specs.Prelude.{false, ◌≡◌, ◌+◌, ◌<◌, ◌^◌, length};
 ghost use Rattle.std.specs.List.{list_any};
@@ -57,7 +57,7 @@ fn operand(state: &State, width: Width, source: Operand) -> Kind
     }
 }
 
-/// The kind that a form gives its register, or the refusal.
+/// The kind that a form puts into its register, or the refusal.
 fn result_kind(maps: &[MapDef], state: &State, insn: &Insn) -> Result<Kind, Refusal>
     requires named { NamesFit insn.now }
     requires setter { IsSetter insn.now }

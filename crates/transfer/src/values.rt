@@ -37,7 +37,7 @@ pub fn value_pointer(index: u32, offset: u32) -> Kind
 
 // ---- loads and stores
 
-/// What a load without a sign gives.
+/// The result of a load that extends no sign.
 pub fn value_load(
     size: Size,
     room: u32,
@@ -54,7 +54,7 @@ pub fn value_load(
     }
 }
 
-/// What a load with a sign gives.
+/// The result of a sign-extending load.
 pub fn value_load_signed(
     size: SignedSize,
     room: u32,

@@ -1,4 +1,4 @@
--- What every call answers and writes.
+-- What every call returns and writes.
 use Rattle.std.specs.Prelude.{◌≡◌, ℕ, Bool, true, false, List, ◌++◌, length, take, drop, codes, ◌⊎◌}
 use Rattle.isa_model.specs.declared.frames.Action.{Action}
 use Rattle.isa_model.specs.declared.frames.Action.TheVariants as action
@@ -30,7 +30,7 @@ IsChange status = (status ≡ 0) ⊎ (status ≡ 1)
 abbrev pub filled : List ℕ → List ℕ → List ℕ
 filled buffer bytes = take (length buffer) bytes ++ drop (length bytes) buffer
 
--- bytes were written to a buffer so, and this is their count
+-- bytes were written to a buffer as far as there is room, and this is how many there are
 pub record FillsBuffer (old new : List ℕ) (count : ℕ) (bytes : List ℕ) : Type 0 where
   pub whole : count ≡ length bytes
   pub written : new ≡ filled old bytes

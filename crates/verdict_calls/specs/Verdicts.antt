@@ -1,4 +1,4 @@
--- What is answered of images and texts.
+-- What the calls return for images and texts.
 use Rattle.std.specs.Prelude.{◌≡◌, ◌≢◌, ◌<◌, ℕ, false, List, Some, Ok, Err, ◌⊎◌}
 use Rattle.isa_model.specs.Code.Instructions.{Program}
 use Rattle.isa_model.specs.Code.Limits.{max_explored}
@@ -17,7 +17,7 @@ use Rattle.assembler.specs.Assembling.{assembled}
 use Rattle.verdict_calls.specs.declared.judging.Verdict.{Verdict}
 use Rattle.verdict_calls.specs.declared.assembling.Assembled.{Assembled}
 use Rattle.verdict_calls.specs.Crossing.{FillsBuffer, is_memory}
-use Rattle.refusal_texts.specs.Texts.{image_text, source_text, TellsProgram}
+use Rattle.refusal_texts.specs.Texts.{image_text, source_text, IsProgramText}
 
 -- ---- images
 
@@ -28,17 +28,17 @@ pub record IsAcceptedImage (bytes : List ℕ) (bound : ℕ) : Type 0 where
   pub verified : IsVerified (record { program = program; bound = bound })
 
 -- a verdict that is a bound, and says nothing of a refusal
-abbrev pub bound_alone : ℕ → Verdict
-bound_alone bound = record { said = 0; slot = 0; bound = bound }
+abbrev pub only_bound : ℕ → Verdict
+only_bound bound = record { said = 0; slot = 0; bound = bound }
 
--- the bytes are an accepted image, and the verdict is the bound of its program alone: the number
--- of the start state, and small enough, or the very one, where that is known of a program that
--- must be accepted
+-- the bytes are an accepted image, and the verdict has the bound of its program and nothing else.
+-- The bound is the number of the start state; that of a program which must be accepted is as small
+-- as `BoundsAll` says
 pub record AnswersBound (bytes : List ℕ) (out : Verdict) : Type 0 where
   pub accepts : IsAcceptedImage bytes out.bound
   pub number : HasNumber accepts.program start out.bound
   pub bounds : BoundsAll accepts.program out.bound
-  pub alone : out ≡ bound_alone out.bound
+  pub alone : out ≡ only_bound out.bound
 
 -- the bytes are no image
 abbrev pub IsNoImage : List ℕ → Type 0
@@ -52,35 +52,42 @@ pub record HasRefusedProgram (bytes : List ℕ) (refusal : Refusal) (slot : ℕ)
   pub not_memory : is_memory refusal ≡ false
 
 abbrev pub IsRefusedImage : List ℕ → Type 0
-IsRefusedImage bytes = IsNoImage bytes ⊎ ((refusal : Refusal) × (slot : ℕ) × HasRefusedProgram bytes refusal slot)
+IsRefusedImage bytes =
+    IsNoImage bytes ⊎ ((refusal : Refusal) × (slot : ℕ) × HasRefusedProgram bytes refusal slot)
 
--- the program is refused at a slot, and a buffer says why; `said` is how many bytes the text has
-abbrev pub TellsRefusal : Program → ℕ → List ℕ → List ℕ → ℕ → Type 0
-TellsRefusal p slot old new said =
+-- the program is refused at a slot, and a buffer has the text that says why; `said` is how many
+-- bytes the text has
+abbrev pub FillsProgramRefusal : Program → ℕ → List ℕ → List ℕ → ℕ → Type 0
+FillsProgramRefusal p slot old new said =
     (refusal : Refusal) × IsRefused p refusal slot × (is_memory refusal ≡ false)
-    × ((told : List ℕ) × TellsProgram p refusal slot told × FillsBuffer old new said told)
+    × ((text : List ℕ) × IsProgramText p refusal slot text × FillsBuffer old new said text)
 
--- the bytes are no image, and a buffer says why; or they are one whose program is refused, and the buffer says that
+-- the bytes are no image, or they are one whose program is refused, and a buffer has the text that
+-- says why
 abbrev pub FillsImageRefusal : List ℕ → ℕ → List ℕ → List ℕ → ℕ → Type 0
 FillsImageRefusal bytes slot old new said =
-    ((error : ImageError) × (refusal_of bytes ≡ Some error) × (slot ≡ 0) × FillsBuffer old new said (image_text error))
-    ⊎ ((program : Program) × (bytes ≡ image_bytes program) × TellsRefusal program slot old new said)
+    ((error : ImageError) × (refusal_of bytes ≡ Some error) × (slot ≡ 0)
+    × FillsBuffer old new said (image_text error))
+    ⊎ ((program : Program) × (bytes ≡ image_bytes program)
+    × FillsProgramRefusal program slot old new said)
 
 -- the bytes are an image, and the limit is one that a search can reach
 abbrev pub IsUndecided : List ℕ → ℕ → Type 0
-IsUndecided bytes limit = (program : Program) × (bytes ≡ image_bytes program) × (limit < max_explored)
+IsUndecided bytes limit =
+    (program : Program) × (bytes ≡ image_bytes program) × (limit < max_explored)
 
 -- ---- texts
 
 -- the text spells a program, whose image is written to a buffer
 abbrev pub FillsAssembledImage : List ℕ → List ℕ → List ℕ → ℕ → Type 0
-FillsAssembledImage source old new size = (p : Program) × (assembled source ≡ Ok p) × FillsBuffer old new size (image_bytes p)
+FillsAssembledImage source old new size =
+    (p : Program) × (assembled source ≡ Ok p) × FillsBuffer old new size (image_bytes p)
 
 -- the answer for an image: its size, and no line or column
-abbrev pub size_alone : ℕ → Assembled
-size_alone size = record { size = size; line = 0; column = 0 }
+abbrev pub only_size : ℕ → Assembled
+only_size size = record { size = size; line = 0; column = 0 }
 
--- it spells none, and a buffer says why, at this line and column
+-- it spells none, and a buffer has the text that says why, at this line and column
 abbrev pub FillsTextRefusal : List ℕ → List ℕ → List ℕ → ℕ → ℕ → ℕ → Type 0
 FillsTextRefusal source old new size line column =
     (error : AsmError) × (assembled source ≡ Err error) × (error.kind ≢ text.Memory)

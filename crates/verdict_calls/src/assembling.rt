@@ -1,11 +1,11 @@
-//! Images from texts.
+//! The call that assembles a text.
 
 ghost use Rattle.std.specs.Prelude.{◌≡◌, ◌≢◌, ◌⊎◌};
 ghost use Rattle.assembler.specs.declared.errors.AsmErrorKind.TheVariants as Kind;
 ghost use Rattle.image.specs.Images.{image_bytes};
 ghost use Rattle.refusal_texts.specs.Texts.{source_text};
 ghost use Rattle.verdict_calls.specs.Crossing.{FillsBuffer, IsVerdict};
-ghost use Rattle.verdict_calls.specs.Verdicts.{FillsAssembledImage, FillsTextRefusal, size_alone};
+ghost use Rattle.verdict_calls.specs.Verdicts.{FillsAssembledImage, FillsTextRefusal, only_size};
 
 use crate::filling::fill;
 use crate::statuses::{MEMORY, OK, REFUSED};
@@ -25,10 +25,10 @@ pub struct Assembled {
 }
 
 // Writes the image of a program.
-fn give(alloc: Global, made: &Image, image: &mut [u8], out: &mut Assembled) -> u32
+fn write_image(alloc: Global, made: &Image, image: &mut [u8], out: &mut Assembled) -> u32
     ensures given { result ≡ 0
         → FillsBuffer image.old image.new out.new.size (image_bytes made.now) }
-    ensures alone { result ≡ 0 → out.new ≡ size_alone out.new.size }
+    ensures alone { result ≡ 0 → out.new ≡ only_size out.new.size }
     ensures image_kept { result ≢ 0 → image.new ≡ image.old }
     ensures memory { result ≡ 5 → out.new ≡ out.old }
     ensures status { (result ≡ 0) ⊎ (result ≡ 5) }
@@ -45,8 +45,8 @@ fn give(alloc: Global, made: &Image, image: &mut [u8], out: &mut Assembled) -> u
     OK
 }
 
-// Tells why a text is refused.
-fn tell(alloc: Global, error: AsmError, why: &mut [u8], out: &mut Assembled) -> u32
+// Writes why a text is refused.
+fn write_refusal(alloc: Global, error: AsmError, why: &mut [u8], out: &mut Assembled) -> u32
     ensures refused { result ≡ 2 → (error.kind ≢ Kind.Memory) × (out.new.line ≡ error.line)
         × (out.new.column ≡ error.column)
         × FillsBuffer why.old why.new out.new.size (source_text error) }
@@ -57,19 +57,19 @@ fn tell(alloc: Global, error: AsmError, why: &mut [u8], out: &mut Assembled) -> 
     if error.kind == AsmErrorKind::Memory {
         return MEMORY;
     }
-    let Ok(said) = source_text(alloc, error) else {
+    let Ok(text) = source_text(alloc, error) else {
         return MEMORY;
     };
     *out = Assembled {
-        size: fill(why, said.as_bytes()),
+        size: fill(why, text.as_bytes()),
         line: error.line,
         column: error.column,
     };
     REFUSED
 }
 
-/// Assembles a text. The image goes to `image`, and why the text is refused to `why`, as far as
-/// there is room.
+/// Assembles a text. The image is written to `image`, and why the text is refused to `why`, as far
+/// as there is room.
 pub fn assemble_text(
     alloc: Global,
     text: &[u8],
@@ -78,7 +78,7 @@ pub fn assemble_text(
     out: &mut Assembled,
 ) -> u32
     ensures assembled { result ≡ 0 → FillsAssembledImage text.now image.old image.new out.new.size }
-    ensures alone { result ≡ 0 → out.new ≡ size_alone out.new.size }
+    ensures alone { result ≡ 0 → out.new ≡ only_size out.new.size }
     ensures refused { result ≡ 2 → FillsTextRefusal text.now why.old why.new out.new.size
         out.new.line out.new.column }
     ensures image_kept { result ≢ 0 → image.new ≡ image.old }
@@ -87,7 +87,7 @@ pub fn assemble_text(
     ensures status { IsVerdict result }
 {
     match assemble(alloc, text) {
-        Ok(made) => give(alloc, &made, image, out),
-        Err(error) => tell(alloc, error, why, out),
+        Ok(made) => write_image(alloc, &made, image, out),
+        Err(error) => write_refusal(alloc, error, why, out),
     }
 }

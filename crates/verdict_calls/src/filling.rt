@@ -1,9 +1,9 @@
-//! Bytes for a buffer of the caller.
+//! Writes bytes to a buffer of the caller.
 
 ghost use Rattle.std.specs.Prelude.{◌≡◌, length};
 ghost use Rattle.verdict_calls.specs.Crossing.{filled};
 
-/// Writes as many of the bytes as the buffer has room for, and answers how many there are.
+/// Writes as many of the bytes as the buffer has room for, and returns how many there are.
 pub fn fill(buffer: &mut [u8], bytes: &[u8]) -> usize
     ensures count { result ≡ length bytes.now }
     ensures filled { buffer.new ≡ filled buffer.old bytes.now }

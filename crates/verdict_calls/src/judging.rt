@@ -1,4 +1,4 @@
-//! Verdicts on images.
+//! The call that verifies an image.
 
 ghost use Rattle.std.specs.Prelude.{◌≡◌, ◌≢◌, ◌<◌, ◌↔◌, ◌⊎◌, Err, IfOk};
 ghost use Rattle.isa_model.specs.Code.Limits.{max_explored};
@@ -9,7 +9,7 @@ ghost use Rattle.walks.specs.Refused.{IsRefused};
 ghost use Rattle.walks.specs.Accepting.{BoundsAll};
 ghost use Rattle.walks.specs.Counts.{HasNumber};
 ghost use Rattle.verdict_calls.specs.Crossing.{IsDecision, is_memory};
-ghost use Rattle.verdict_calls.specs.Verdicts.{AnswersBound, bound_alone, IsRefusedImage, FillsImageRefusal, TellsRefusal, IsUndecided};
+ghost use Rattle.verdict_calls.specs.Verdicts.{AnswersBound, only_bound, IsRefusedImage, FillsImageRefusal, FillsProgramRefusal, IsUndecided};
 ghost use Rattle.verdict_calls.specs.declared.statuses.NotAccepted.TheVariants as NotAccepted;
 
 use crate::filling::fill;
@@ -21,9 +21,9 @@ use isa_model::MAX_EXPLORED;
 use refusal_texts::{image_text, program_text};
 use std::alloc::Global;
 
-/// The verdict on an image: the most steps of a run if it is accepted, and else the slot of the
-/// refusal, or 0 if it has none. `said` is how many bytes the text of a refusal has. What a verdict
-/// does not have is 0.
+/// The verdict on an image: the most steps of a run if it is accepted, and otherwise the slot of
+/// the refusal, or 0 if it has none. `said` is how many bytes the text of a refusal has. What a
+/// verdict does not have is 0.
 #[repr(C)]
 #[derive(Clone, Copy, Drop)]
 pub struct Verdict {
@@ -62,8 +62,8 @@ pub fn verified_of(alloc: Global, image: &[u8]) -> Result<Verified, NotAccepted>
     }
 }
 
-// Tells why a program is refused.
-fn tell(
+// Writes why a program is refused.
+fn write_refusal(
     alloc: Global,
     program: &Image,
     refusal: Refusal,
@@ -72,7 +72,7 @@ fn tell(
     out: &mut Verdict,
 ) -> u32
     ensures refused { result ≡ 2 → IsRefused program.now refusal slot
-        → TellsRefusal program.now out.new.slot why.old why.new out.new.said }
+        → FillsProgramRefusal program.now out.new.slot why.old why.new out.new.said }
     ensures no_bound { result ≡ 2 → out.new.bound ≡ 0 }
     ensures why_kept { result ≢ 2 → why.new ≡ why.old }
     ensures memory { result ≡ 5 → out.new ≡ out.old }
@@ -92,7 +92,7 @@ fn tell(
     REFUSED
 }
 
-// Judges a program, and tells why it is refused.
+// Judges a program, and writes why it is refused.
 fn judge(alloc: Global, program: Image, limit: u32, why: &mut [u8], out: &mut Verdict) -> u32
     ensures accepted { result ≡ 0 → IsVerified (record {
       program = program;
@@ -100,8 +100,9 @@ fn judge(alloc: Global, program: Image, limit: u32, why: &mut [u8], out: &mut Ve
     }) }
     ensures number { result ≡ 0 → HasNumber program start out.new.bound }
     ensures bounds { result ≡ 0 → BoundsAll program out.new.bound }
-    ensures alone { result ≡ 0 → out.new ≡ bound_alone out.new.bound }
-    ensures refused { result ≡ 2 → TellsRefusal program out.new.slot why.old why.new out.new.said }
+    ensures alone { result ≡ 0 → out.new ≡ only_bound out.new.bound }
+    ensures refused { result ≡ 2
+        → FillsProgramRefusal program out.new.slot why.old why.new out.new.said }
     ensures no_bound { result ≡ 2 → out.new.bound ≡ 0 }
     ensures why_kept { result ≢ 2 → why.new ≡ why.old }
     ensures memory { result ≡ 5 → out.new ≡ out.old }
@@ -121,13 +122,15 @@ fn judge(alloc: Global, program: Image, limit: u32, why: &mut [u8], out: &mut Ve
             OK
         }
         Err(NoBound::Limit) => UNDECIDED,
-        Err(NoBound::Refused(refusal, slot)) => tell(alloc, &copy, refusal, slot, why, out),
+        Err(NoBound::Refused(refusal, slot)) => write_refusal(
+            alloc, &copy, refusal, slot, why, out,
+        ),
     }
 }
 
-/// Verifies an image, exploring at most `limit` instructions (1 to 1,000,000). Why it is refused
-/// goes to `why`, as far as there is room; what is known at the refused instruction is looked for
-/// only if there is room.
+/// Verifies an image, exploring at most `limit` instructions (1 to 1,000,000). Why it is refused is
+/// written to `why`, as far as there is room; what is known at the refused instruction is looked
+/// for only if there is room.
 pub fn verify_image(
     alloc: Global,
     image: &[u8],

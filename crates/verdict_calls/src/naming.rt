@@ -1,4 +1,4 @@
-//! The version, and the actions that answers name.
+//! The version, and the action that a program's answer names.
 
 ghost use Rattle.std.specs.Prelude.{◌≡◌, codes, length};
 ghost use Rattle.isa_model.specs.Reporting.Frames.{action_of};
@@ -7,7 +7,7 @@ ghost use Rattle.verdict_calls.specs.Crossing.{action_number, filled, version};
 use crate::filling::fill;
 use isa_model::Action;
 
-/// Writes the version, such as `0.1.0`, and answers how many bytes it has.
+/// Writes the version, such as `0.1.0`, and returns how many bytes it has.
 pub fn write_version(buffer: &mut [u8]) -> usize
     ensures size { result ≡ length version }
     ensures written { buffer.new ≡ filled buffer.old version }

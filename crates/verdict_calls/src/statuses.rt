@@ -1,4 +1,4 @@
-//! What calls answer.
+//! The statuses that calls return.
 
 /// Done.
 pub const OK: u32 = 0;

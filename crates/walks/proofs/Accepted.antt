@@ -1,4 +1,4 @@
--- What a program must meet to be refused only for memory and for its steps.
+-- When a program is refused only for memory and for its steps.
 use Rattle.std.proofs.Common.{◌≡◌, ◌≤◌, ◌+◌, ◌∷◌, [], ℕ, zero, suc, Some, None, Option, Bool, true, false, List, arith, refl, sym, subst, inl, inr, ◌⊎◌}
 use Rattle.std.specs.Prelude.{◌≢◌, ◌↔◌, ℤ, if◌then◌else◌}
 use Rattle.std.specs.List.{list_any}
@@ -44,11 +44,14 @@ pub record Jumped (p : Program) (slot to : ℕ) : Type 0 where
 pub jump_to-by : (p : Program) (slot to : ℕ) → jump_to p slot ≡ Some to → Jumped p slot to
 unfolding jump_to
 jump_to-by p slot to h = of (fetch p slot) refl h where
-  far : (i : Insn) (d : Option ℤ) → fetch p slot ≡ Some i → jump_distance i ≡ d → option_map (destination p slot) d ≡ Some to → Jumped p slot to
+  far : (i : Insn) (d : Option ℤ) → fetch p slot ≡ Some i → jump_distance i ≡ d
+      → option_map (destination p slot) d ≡ Some to → Jumped p slot to
   far i None here is e = absurd (cc)
   far i (Some by) here is e = record { insn = i; by = by; here = here; distance = is; at = cc }
 
-  of : (o : Option Insn) → fetch p slot ≡ o → option_map (destination p slot) (option_and_then jump_distance o) ≡ Some to → Jumped p slot to
+  of : (o : Option Insn) → fetch p slot ≡ o
+      → option_map (destination p slot) (option_and_then jump_distance o) ≡ Some to
+      → Jumped p slot to
   of None here e = absurd (cc)
   of (Some i) here e = far i (jump_distance i) here refl e
 
@@ -61,11 +64,13 @@ pub record Fallen (p : Program) (slot to : ℕ) : Type 0 where
 fall_to-by : (p : Program) (slot to : ℕ) → fall_to p slot ≡ Some to → Fallen p slot to
 unfolding fall_to
 fall_to-by p slot to h = of (fetch p slot) refl h where
-  far : (i : Insn) (b : Bool) → fetch p slot ≡ Some i → falls_through i ≡ b → (if b then Some (slot + slots_filled i) else None) ≡ Some to → Fallen p slot to
+  far : (i : Insn) (b : Bool) → fetch p slot ≡ Some i → falls_through i ≡ b
+      → (if b then Some (slot + slots_filled i) else None) ≡ Some to → Fallen p slot to
   far i true here is e = record { insn = i; here = here; falls = is; at = cc }
   far i false here is e = absurd (cc)
 
-  of : (o : Option Insn) → fetch p slot ≡ o → option_and_then (slot_behind slot) o ≡ Some to → Fallen p slot to
+  of : (o : Option Insn) → fetch p slot ≡ o → option_and_then (slot_behind slot) o ≡ Some to
+      → Fallen p slot to
   of None here e = absurd (cc)
   of (Some i) here e = far i (falls_through i) here refl e
 
@@ -80,11 +85,13 @@ no_call i plain = refl
 call_to-none : (p : Program) (slot to : ℕ) → HasNoCalls p → call_to p slot ≡ Some to → ⊥
 unfolding call_to
 call_to-none p slot to forms h = of (fetch p slot) refl h where
-  of : (o : Option Insn) → fetch p slot ≡ o → option_map (destination p slot) (option_and_then call_distance o) ≡ Some to → ⊥
+  of : (o : Option Insn) → fetch p slot ≡ o
+      → option_map (destination p slot) (option_and_then call_distance o) ≡ Some to → ⊥
   of None here e = absurd (cc)
   of (Some i) here e =
       let none = forms slot i here in
-      let e' : option_map (destination p slot) None ≡ Some to = subst (λ (d : Option ℤ). option_map (destination p slot) d ≡ Some to) none e in
+      let e' : option_map (destination p slot) None ≡ Some to =
+      subst (λ (d : Option ℤ). option_map (destination p slot) d ≡ Some to) none e in
       absurd (cc)
 
 -- without calls there is one function
@@ -94,7 +101,8 @@ one_function p slot to forms = record { none = λ f begins. of f begins } where
   of f (inl is) = (λ h. omega (arith, is), λ h. omega (arith, is))
   of f (inr (from, called)) = absurd (call_to-none p from f forms called)
 
-PathTo-reached : (p : Program) (n slot : ℕ) (written : List Reg) → PathTo p n slot written → ReachedIn p n slot
+PathTo-reached : (p : Program) (n slot : ℕ) (written : List Reg) → PathTo p n slot written
+    → ReachedIn p n slot
 unfolding PathTo
 PathTo-reached p zero slot written h = h.0
 PathTo-reached p (suc n) slot written h =
@@ -103,25 +111,35 @@ PathTo-reached p (suc n) slot written h =
 pub IsFlow-whole : (p : Program) → IsWhole p → HasNoCalls p → IsFlow p
 IsFlow-whole p whole forms = record {
   jumps = λ slot to h.
-      let j = jump_to-by p slot to h in
-      (subst (BeginsInsn p) j.at (whole.jumps slot j.insn j.by j.here j.distance), one_function p slot to forms);
+      let j = jump_to-by p slot to h in (
+        subst (BeginsInsn p) j.at (whole.jumps slot j.insn j.by j.here j.distance),
+        one_function p slot to forms,
+      );
   calls = λ slot to h. absurd (call_to-none p slot to forms h);
   falls = λ slot to h.
-      let f = fall_to-by p slot to h in
-      (subst (BeginsInsn p) f.at (whole.falls slot f.insn f.here f.falls), one_function p slot to forms);
-  reached = λ slot begins. let path = whole.reached slot begins in (path.0, PathTo-reached p path.0 slot path.1 path.2);
+      let f = fall_to-by p slot to h in (
+        subst (BeginsInsn p) f.at (whole.falls slot f.insn f.here f.falls),
+        one_function p slot to forms,
+      );
+  reached =
+      λ slot begins. let path = whole.reached slot begins in
+      (path.0, PathTo-reached p path.0 slot path.1 path.2);
 }
 
 -- ---- refusals
 
-pub Flow-out_of_memory : (p : Program) (e : FlowError) (slot : ℕ) → IsFlow p → flow.IsRefusal p e slot → IsOutOfMemory (Flow e)
+pub Flow-out_of_memory : (p : Program) (e : FlowError) (slot : ℕ) → IsFlow p
+    → flow.IsRefusal p e slot → IsOutOfMemory (Flow e)
 Flow-out_of_memory p error.Memory slot good h = tt
 Flow-out_of_memory p e slot good h = absurd (IsFlow-Fails p e slot good h.fails)
 
--- nothing is left to refuse the program for but memory, and what its steps may be refused for
-pub IsRefused-want : (p : Program) (e : Refusal) (slot : ℕ) (Rest : Refusal → Type 0) → IsFlow p → ((e : StepRefusal) (slot : ℕ) → IsStuck p e slot → Rest (Step e))
-    → ((slot : ℕ) → ComesBack p slot → ⊥) → (StartTakes p 1000001 → ⊥) → IsRefused p e slot → IsOutOfMemory e ⊎ Rest e
-IsRefused-want p (Flow e) slot Rest good moves parts ends h = inl (Flow-out_of_memory p e slot good h)
+-- the program is refused only for memory, and for what its steps may be refused for
+pub IsRefused-want : (p : Program) (e : Refusal) (slot : ℕ) (Rest : Refusal → Type 0) → IsFlow p
+    → ((e : StepRefusal) (slot : ℕ) → IsStuck p e slot → Rest (Step e))
+    → ((slot : ℕ) → ComesBack p slot → ⊥) → (StartTakes p 1000001 → ⊥) → IsRefused p e slot
+    → IsOutOfMemory e ⊎ Rest e
+IsRefused-want p (Flow e) slot Rest good moves parts ends h =
+    inl (Flow-out_of_memory p e slot good h)
 IsRefused-want p (Step e) slot Rest good moves parts ends h = inr (moves e slot h.1)
 IsRefused-want p Repeats slot Rest good moves parts ends h = absurd (parts slot h.1)
 IsRefused-want p TooLong slot Rest good moves parts ends h = absurd (ends h.1.1)
@@ -133,7 +151,8 @@ pub number_is : (k : Kind) → IsNumberKind k → (c : Scalar) × (k ≡ Number 
 number_is (Number c) h = (c, refl)
 number_is k h = absurd h
 
-pub Each-more : (P Q : Reg → Type 0) (rs : List Reg) → ((r : Reg) → P r → Q r) → Each P rs → Each Q rs
+pub Each-more : (P Q : Reg → Type 0) (rs : List Reg) → ((r : Reg) → P r → Q r) → Each P rs
+    → Each Q rs
 Each-more P Q [] h each = tt
 Each-more P Q (r ∷ rs) h each = (h r each.0, Each-more P Q rs h each.1)
 
@@ -154,7 +173,8 @@ pub number_set : (k : Kind) → IsNumberKind k → is_unset k ≡ false
 number_set (Number c) h = refl
 number_set k h = absurd h
 
-all_set : (s : State) (rs : List Reg) → Each (λ r. is_unset (kind_of s r) ≡ false) rs → list_any (is_unset_in s) rs ≡ false
+all_set : (s : State) (rs : List Reg) → Each (λ r. is_unset (kind_of s r) ≡ false) rs
+    → list_any (is_unset_in s) rs ≡ false
 all_set s [] h = refl
 all_set s (r ∷ rs) h =
     let first = h.0 in
@@ -166,13 +186,18 @@ own_register None own = refl
 own_register (Some R10) own = absurd (own refl)
 own_register (Some r) own = refl
 
--- where all registers that are read are set, and r10 is not written, the tests of the registers pass
-pub sets_pass : (s : State) (i : Insn) → Each (λ r. is_unset (kind_of s r) ≡ false) (reads i) → writes i ≢ Some R10 → register_refusal s i ≡ None
+-- where all registers that are read are set, and r10 is not written, the tests of the registers
+-- pass
+pub sets_pass : (s : State) (i : Insn) → Each (λ r. is_unset (kind_of s r) ≡ false) (reads i)
+    → writes i ≢ Some R10 → register_refusal s i ≡ None
 sets_pass s i set own =
     let known : reads_unset s i ≡ false = all_set s (reads i) set in
     let free = own_register (writes i) own in
     rw (known, free) refl
 
-pub tests_pass : (s : State) (i : Insn) → Each (λ r. IsNumberKind (kind_of s r)) (reads i) → writes i ≢ Some R10 → register_refusal s i ≡ None
+pub tests_pass : (s : State) (i : Insn) → Each (λ r. IsNumberKind (kind_of s r)) (reads i)
+    → writes i ≢ Some R10 → register_refusal s i ≡ None
 tests_pass s i numbers own =
-    sets_pass s i (Each-more (λ r. IsNumberKind (kind_of s r)) (λ r. is_unset (kind_of s r) ≡ false) (reads i) (λ r h. number_set (kind_of s r) h) numbers) own
+    sets_pass s i
+    (Each-more (λ r. IsNumberKind (kind_of s r)) (λ r. is_unset (kind_of s r) ≡ false) (reads i)
+    (λ r h. number_set (kind_of s r) h) numbers) own

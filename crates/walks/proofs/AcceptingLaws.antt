@@ -1,4 +1,5 @@
--- Of the programs that must be accepted, in one: which refusals they get, and which bounds.
+-- The programs that must be accepted, all classes together: which refusals they get, and which
+-- bounds.
 use Rattle.std.specs.Prelude.{ℕ}
 use Rattle.isa_model.specs.Code.Instructions.{Program}
 use Rattle.isa_model.specs.Machine.MachineStates.{IsProgram}
@@ -12,14 +13,15 @@ use Rattle.walks.proofs.Determined.{IsDetermined-refused, IsDetermined-bound}
 use Rattle.walks.proofs.Guarded.{IsGuarded-refused, IsGuarded-bound}
 
 -- a refusal is one that programs which must be accepted do not get
-pub AcceptsAll-refused : (p : Program) (e : Refusal) (slot : ℕ) → IsProgram p → IsRefused p e slot → AcceptsAll p e
+pub AcceptsAll-refused : (p : Program) (e : Refusal) (slot : ℕ) → IsProgram p → IsRefused p e slot
+    → AcceptsAll p e
 AcceptsAll-refused p e slot program refused = record {
   plain = λ h. IsPlain-refused p e slot refused h;
   determined = λ steps h. IsDetermined-refused p steps e slot program refused h;
   guarded = λ len h. IsGuarded-refused p len e slot refused h;
 }
 
--- and a number is the bound that is known of them
+-- and the number of the start is the bound that is known of them
 pub BoundsAll-number : (p : Program) (n : ℕ) → IsProgram p → HasNumber p start n → BoundsAll p n
 BoundsAll-number p n program number = record {
   plain = λ h. IsPlain-bound p n number h;

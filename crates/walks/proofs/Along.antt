@@ -1,275 +1,42 @@
--- A step goes along a run.
-use Rattle.std.proofs.Common.{◌≡◌, ◌+◌, ◌<◌, ◌∷◌, ℕ, suc, Some, None, Ok, Bool, true, false, length, set, arith, refl, sym, ap, ◌∙◌, subst, inl, inr, ◌⊎◌}
+-- A step of a walk stays beside a step of a run: conditional jumps, stores, and any step.
+use Rattle.std.proofs.Common.{◌≡◌, ◌+◌, ◌<◌, ◌∷◌, ℕ, suc, Some, None, Ok, Bool, true, false, length, arith, refl, sym, ap, ◌∙◌, subst, inl, inr}
 use Rattle.std.specs.Prelude.{◌≢◌, ℤ, ◌^◌}
-use Rattle.std.proofs.lemmas.Bool.{cases_lt}
 use Rattle.std.proofs.lemmas.Int.{ints}
-use Rattle.std.proofs.lemmas.List.{length-set, get_or-set_same, get_or-set_other}
 use Rattle.isa_model.specs.declared.sizes.Size.TheVariants.{U64}
 use Rattle.isa_model.specs.declared.sizes.Width.TheVariants.{Full64}
 use Rattle.isa_model.specs.declared.registers.Reg.{Reg}
-use Rattle.isa_model.specs.declared.registers.Reg.TheVariants.{R0, R1, R10}
-use Rattle.isa_model.specs.Code.Registers.{reg_number}
 use Rattle.isa_model.specs.declared.instructions.Cond.{Cond}
 use Rattle.isa_model.specs.declared.instructions.Operand.{Operand}
 use Rattle.isa_model.specs.declared.instructions.Operand.TheVariants.{Constant, Register}
 use Rattle.isa_model.specs.declared.instructions.Place.{Place}
 use Rattle.isa_model.specs.declared.instructions.Insn.{Insn}
 use Rattle.isa_model.specs.declared.instructions.Insn.TheVariants.{Alu, Neg, MovSx, ByteSwap, LoadNumber, Load, StoreConstant, Store, Jump, JumpLong, JumpIf, Exit}
-use Rattle.isa_model.specs.declared.values.Value.{Value}
-use Rattle.isa_model.specs.declared.values.Value.TheVariants.{Unset, Num, Ptr}
+use Rattle.isa_model.specs.declared.values.Value.TheVariants.{Num}
 use Rattle.isa_model.specs.Code.Numbers.{unsigned, holds}
-use Rattle.isa_model.specs.Code.Instructions.{Program, fetch, slots_filled, operand_reads, writes}
+use Rattle.isa_model.specs.Code.Instructions.{Program, fetch, operand_reads, writes}
 use Rattle.isa_model.specs.Machine.States as Machine
-use Rattle.isa_model.specs.Machine.States.{reg, set_reg, value_at, new_frame}
+use Rattle.isa_model.specs.Machine.States.{reg}
 use Rattle.isa_model.specs.Machine.Steps.{Next, destination, branches, tested, test_of, act, step}
-use Rattle.isa_model.specs.Machine.Successors.{falls_through, jump_distance, FallsTo, JumpsTo}
-use Rattle.isa_model.specs.Running.Runs.{Reaches}
+use Rattle.isa_model.specs.Machine.Successors.{jump_distance, FallsTo}
 use Rattle.isa_model.proofs.EndsLaws.{Reaches-then}
 use Rattle.isa_model.specs.MustAccept.Paths.{Each}
-use Rattle.isa_model.specs.MustAccept.Determined.{slot_offset, slot_place, IsSlotPlace, IsDeterminedForm, WritesIn, IsDetermined}
-use Rattle.isa_model.proofs.RunSteps.{no_trap, step_acts}
+use Rattle.isa_model.specs.MustAccept.Determined.{slot_offset, slot_place, IsSlotPlace, IsDeterminedForm, IsDetermined}
 use Rattle.isa_model.proofs.SlotLaws.{HasKnownSlots-store, HasKnownSlots-keep, stored, store_acts, store_constant_acts}
 use Rattle.reg_state.specs.declared.kinds.Kind.{Kind}
 use Rattle.stack_state.specs.declared.states.State.{State}
-use Rattle.stack_state.specs.Places.{kind_of, with_register, go_to}
-use Rattle.isa_model.proofs.RegisterLaws.{same_number}
-use Rattle.stack_state.proofs.PlaceLaws.{same_or_other, kind_of-with_other}
-use Rattle.stack_state.specs.Slots.{slot_at, kind_in}
+use Rattle.stack_state.specs.Places.{kind_of, go_to}
 use Rattle.branch_refine.specs.Refining.{IsJust, IsJustOperand}
 use Rattle.transfer.specs.declared.Ways.{Ways}
 use Rattle.transfer.specs.declared.Ways.TheVariants as ways
 use Rattle.transfer.specs.Exact.{SetsRegister, Sides, Branches, StepsForm, StepsToWays, GoesOnWith, StoresAt}
-use Rattle.control_flow.specs.Liveness.{Home, InRegister, InSlot, IsLive, IsSlotLive, IsHomeLive}
+use Rattle.control_flow.specs.Liveness.{IsHomeLive}
 use Rattle.control_flow.specs.StackUse.{IsWholeSlot, WritesSlot}
-use Rattle.control_flow.proofs.LivenessLaws.{IsSlotLive-read, IsSlotLive-back}
-use Rattle.walks.proofs.Living.{live_before}
-use Rattle.walks.proofs.Accepted.{Each-more, own_register}
+use Rattle.walks.proofs.Accepted.{Each-more}
 use Rattle.walks.proofs.Exits.{exited_none}
-use Rattle.walks.proofs.OnNumbers.{NumbersIn, Remains, Refines-remains, StepsToWays-performs, kind_of-go_to, kind_of-with_own, room-with, compared_operand, just_number}
+use Rattle.walks.proofs.OnNumbers.{NumbersIn, Refines-remains, StepsToWays-performs, kind_of-go_to, compared_operand, just_number}
 use Rattle.walks.proofs.StackSlots.{PutsSlot, store_puts}
-use Rattle.walks.proofs.Beside.{HoldsIf, Mirrored, IsNoPointer, Mirrors, first, Along, KnowsRegister, none_unset, determined_calls, read_numbers, just_below, computed}
-
--- ---- a step
-
-abbrev pub NextAlong : (p : Program) (steps : ℕ) → IsDetermined p steps → ℕ → Ways → State → Type 0
-NextAlong p steps d k ways.None a = Unit {0}
-NextAlong p steps d k ways.One a = (u : Machine.State) × Along p steps d (suc k) a u
-NextAlong p steps d k ways.Two a = ⊥
-
-below_eleven : (r : Reg) → reg_number r < 11
-below_eleven R0 = omega arith
-below_eleven r = omega arith
-
-mirrored_more : (v : Value) (k l : Kind) → ((x : ℕ) → IsJust k x → IsJust l x) → Mirrored v k → Mirrored v l
-mirrored_more Unset k l more h = tt
-mirrored_more (Num x) k l more h = more x h
-mirrored_more (Ptr r z) k l more h = tt
-
--- the same registers and stack slots at another slot of the code
-Mirrors-go : (alive more : Home → Type 0) (s b : State) (t : Machine.State) (slot to : ℕ)
-    → to ≡ slot → Remains s b
-    → ((h : Home) → more h → alive h) → Mirrors alive s t
-    → Mirrors more (go_to b slot) (Machine.go_to t to)
-Mirrors-go alive more s b t slot to same n less m = record {
-  slot = same;
-  one = ap (λ c. length c.items + 1) n.callers ∙ m.one;
-  room = n.room ∙ m.room;
-  wide = m.wide;
-  regs = λ r own live. mirrored_more (reg t r) (kind_of s r) (kind_of (go_to b slot) r) (λ x just. subst (λ k. IsJust k x) (sym (kind_of-go_to b slot r)) (n.constants r x just)) (m.regs r own (less (InRegister r) live));
-  cells = ap (λ k. length k.slots) n.stack ∙ m.cells;
-  stack = HasKnownSlots-keep (HoldsIf alive s) (HoldsIf more (go_to b slot)) t (Machine.go_to t to) m.stack refl refl
-      (λ k z held live. subst (λ x. IsJust (kind_in (slot_at x.slots k)) z) (sym n.stack) (held (less (InSlot k) live)));
-}
-
-stays : (s : State) → Remains s s
-stays s = record { slot = refl; callers = refl; stack = refl; room = refl; numbers = λ r h. h; constants = λ r x h. h }
-
-reg_with_own : (t : Machine.State) (r : Reg) (v : Value) → length t.regs ≡ 11 → reg (set_reg t r v) r ≡ v
-reg_with_own t r v wide = let below = below_eleven r in get_or-set_same t.regs (reg_number r) v Unset (omega (arith, below, wide))
-
-reg_with_other : (t : Machine.State) (r q : Reg) (v : Value) → q ≢ r → reg (set_reg t r v) q ≡ reg t q
-reg_with_other t r q v other = get_or-set_other t.regs (reg_number r) (reg_number q) v Unset (λ same. other (same_number q r same))
-
-one_register : (q r : Reg) → InRegister q ≡ InRegister r → q ≡ r
-one_register q r same = cc
-
-no_register : (j : ℕ) (r : Reg) → InSlot j ≡ InRegister r → ⊥
-no_register j r same = cc
-
-Mirrors-set : (alive : Home → Type 0) (s : State) (t : Machine.State) (r : Reg) (k : Kind) (n : ℕ)
-    → r ≢ R10 → IsJust k n → Mirrors alive s t
-    → Mirrors (λ q. (q ≡ InRegister r) ⊎ alive q) (with_register s r k) (set_reg t r (Num n))
-Mirrors-set alive s t r k n own just m = record {
-  slot = m.slot;
-  one = m.one;
-  room = room-with s r k ∙ m.room;
-  wide = length-set t.regs (reg_number r) (Num n) ∙ m.wide;
-  regs = λ q other live. elim (same_or_other q r) [
-    | inl same ↦ subst (λ q. Mirrored (reg (set_reg t r (Num n)) q) (kind_of (with_register s r k) q)) (sym same)
-        (rw (reg_with_own t r (Num n) m.wide, kind_of-with_own s r k own m.room) just)
-    | inr apart ↦
-        let before : alive (InRegister q) = elim live [ inl same ↦ absurd (apart (one_register q r same)) | inr before ↦ before ] in
-        rw (reg_with_other t r q (Num n) apart, kind_of-with_other s r q k apart) (m.regs q other before)
-  ];
-  cells = m.cells;
-  stack = HasKnownSlots-keep (HoldsIf alive s) (HoldsIf (λ q. (q ≡ InRegister r) ⊎ alive q) (with_register s r k)) t (set_reg t r (Num n)) m.stack refl (reg_with_other t r R10 (Num n) (λ e. own (sym e)))
-      (λ j z held live. held (elim live [ inl same ↦ absurd (no_register j r same) | inr before ↦ before ]));
-}
-
--- the step itself does not write r1
-not_yet : (p : Program) (clock : ℕ → ℕ) (from t : Machine.State) (k : ℕ) (i : Insn) → Reaches p clock from k t
-    → fetch p t.slot ≡ Some i → writes i ≢ Some R1
-    → (WritesIn p clock from k R1 → ⊥) → WritesIn p clock from (suc k) R1 → ⊥
-not_yet p clock from t k i reached here other before w =
-    elim (cases_lt w.step k) [
-      | inl below ↦ before (record { step = w.step; before = below; state = w.state; reached = w.reached; insn = w.insn; here = w.here; writes_it = w.writes_it })
-      | inr past ↦
-          let early = w.before in
-          let same : w.step ≡ k = omega (arith, past, early) in
-          let there : Reaches p clock from k w.state = subst (λ n. Reaches p clock from n w.state) same w.reached in
-          let state : w.state ≡ t = cc (there, reached) in
-          let insn : w.insn ≡ i = cc (subst (λ (x : Machine.State). fetch p x.slot ≡ Some w.insn) state w.here, here) in
-          absurd (other (subst (λ x. writes x ≡ Some R1) insn w.writes_it))
-    ]
-
--- the instruction at the machine state is the one at the abstract state
-pub here_too : (p : Program) (s : State) (t : Machine.State) (i : Insn) → t.slot ≡ s.slot → fetch p s.slot ≡ Some i
-    → fetch p t.slot ≡ Some i
-here_too p s t i same here = ap (fetch p) same ∙ here
-
--- what is live after the instruction was written by it, or is live before it
-live_along : (p : Program) (steps : ℕ) (d : IsDetermined p steps) (k : ℕ) (s : State) (t : Machine.State) (i : Insn) (next : ℕ) (r : Reg)
-    → Along p steps d k s t → fetch p t.slot ≡ Some i → FallsTo s.slot i next ⊎ JumpsTo p s.slot i next
-    → IsLive p r next → (writes i ≡ Some r) ⊎ IsLive p r s.slot
-live_along p steps d k s t i next r along here on live =
-    let there : fetch p s.slot ≡ Some i = ap (fetch p) (sym along.mirrors.slot) ∙ here in
-    live_before p s.slot next i r there (determined_calls i (d.forms t.slot i here)) (i, there, on) live
-
--- where it writes no register, one is live before it
-still_known : (p : Program) (steps : ℕ) (d : IsDetermined p steps) (k : ℕ) (s : State) (t : Machine.State) (i : Insn) (next : ℕ)
-    → Along p steps d k s t → fetch p t.slot ≡ Some i → writes i ≡ None → FallsTo s.slot i next ⊎ JumpsTo p s.slot i next
-    → (r : Reg) → IsLive p r next → IsLive p r s.slot
-still_known p steps d k s t i next along here silent on r live = elim (live_along p steps d k s t i next r along here on live) [
-  | inl is ↦ absurd (cc (is, silent))
-  | inr before ↦ before
-]
-
--- a stack slot that the instruction does not write is live before it
-slot_before : (p : Program) (steps : ℕ) (d : IsDetermined p steps) (k : ℕ) (s : State) (t : Machine.State) (i : Insn) (next j : ℕ)
-    → Along p steps d k s t → fetch p t.slot ≡ Some i → (WritesSlot i j → ⊥)
-    → FallsTo s.slot i next ⊎ JumpsTo p s.slot i next
-    → IsSlotLive p j next → IsSlotLive p j s.slot
-slot_before p steps d k s t i next j along here keeps on live =
-    let there : fetch p s.slot ≡ Some i = ap (fetch p) (sym along.mirrors.slot) ∙ here in
-    IsSlotLive-back p j s.slot next i there keeps (i, there, on) live
-
--- jumps write no stack slot
-jumps_keep : (i : Insn) (by : ℤ) → jump_distance i ≡ Some by → (j : ℕ) → WritesSlot i j → ⊥
-jumps_keep (Store size place r) by is j h = absurd (cc is)
-jumps_keep (StoreConstant size place n) by is j h = absurd (cc is)
-jumps_keep i by is j h = h
-
--- nor do forms that write a register
-sets_keep : (i : Insn) (r : Reg) → writes i ≡ Some r → (j : ℕ) → WritesSlot i j → ⊥
-sets_keep (Store size place q) r is j h = absurd (cc is)
-sets_keep (StoreConstant size place n) r is j h = absurd (cc is)
-sets_keep i r is j h = h
-
--- what is live after a jump is live before it
-still_live : (p : Program) (steps : ℕ) (d : IsDetermined p steps) (k : ℕ) (s : State) (t : Machine.State) (i : Insn) (by : ℤ) (next : ℕ)
-    → Along p steps d k s t → fetch p t.slot ≡ Some i → writes i ≡ None → jump_distance i ≡ Some by
-    → FallsTo s.slot i next ⊎ JumpsTo p s.slot i next
-    → (h : Home) → IsHomeLive p h next → IsHomeLive p h s.slot
-still_live p steps d k s t i by next along here silent jumps on (InRegister r) live = still_known p steps d k s t i next along here silent on r live
-still_live p steps d k s t i by next along here silent jumps on (InSlot j) live = slot_before p steps d k s t i next j along here (jumps_keep i by jumps j) on live
-
--- what is live after a form that writes a register is that register, or is live before it
-one_more : (p : Program) (steps : ℕ) (d : IsDetermined p steps) (k : ℕ) (s : State) (t : Machine.State) (i : Insn) (q : Reg) (next : ℕ)
-    → Along p steps d k s t → fetch p t.slot ≡ Some i → writes i ≡ Some q
-    → FallsTo s.slot i next ⊎ JumpsTo p s.slot i next
-    → (h : Home) → IsHomeLive p h next → (h ≡ InRegister q) ⊎ IsHomeLive p h s.slot
-one_more p steps d k s t i q next along here written on (InRegister r) live = elim (live_along p steps d k s t i next r along here on live) [
-  | inl is ↦ inl (let same : r ≡ q = cc (is, written) in cc)
-  | inr before ↦ inr before
-]
-one_more p steps d k s t i q next along here written on (InSlot j) live = inr (slot_before p steps d k s t i next j along here (sets_keep i q written j) on live)
-
-pub run_acts : (p : Program) (steps : ℕ) (d : IsDetermined p steps) (k : ℕ) (s : State) (t : Machine.State) (i : Insn)
-    → Along p steps d k s t → fetch p t.slot ≡ Some i
-    → step p d.run.clock t ≡ act p d.run.clock t i
-run_acts p steps d k s t i along here =
-    step_acts p d.run.clock t i here (none_unset p steps d k s t i along here) (own_register (writes i) (d.own t.slot i here))
-
--- a jump goes on
-goes_along : (p : Program) (steps : ℕ) (d : IsDetermined p steps) (k : ℕ) (s b : State) (t : Machine.State) (i : Insn) (slot to : ℕ)
-    → Along p steps d k s t → fetch p t.slot ≡ Some i → writes i ≡ None
-    → step p d.run.clock t ≡ Next (Machine.go_to t to)
-    → Mirrors (λ h. IsHomeLive p h slot) (go_to b slot) (Machine.go_to t to)
-    → Along p steps d (suc k) (go_to b slot) (Machine.go_to t to)
-goes_along p steps d k s b t i slot to along here silent goes mirrors = record {
-  reached = Reaches-then p d.run.clock (first p steps d) k t (Machine.go_to t to) along.reached goes;
-  mirrors = mirrors;
-  numbers = λ r own. elim (along.numbers r own) [
-    | inl plain ↦ inl plain
-    | inr argument ↦ inr (argument.0, λ w. not_yet p d.run.clock (first p steps d) t k i along.reached here (λ e. absurd (cc (e, silent))) argument.1 w)
-  ];
-}
-
--- a form that writes a register falls through
-writes_falls : (i : Insn) (r : Reg) → writes i ≡ Some r → falls_through i ≡ true
-writes_falls (Jump by) r is = absurd (cc is)
-writes_falls (JumpLong by) r is = absurd (cc is)
-writes_falls Exit r is = absurd (cc is)
-writes_falls i r is = refl
-
--- a form that sets a register goes on
-sets_along : (p : Program) (steps : ℕ) (d : IsDetermined p steps) (k : ℕ) (s a : State) (t : Machine.State) (i : Insn)
-    → Along p steps d k s t → fetch p t.slot ≡ Some i → SetsRegister p.maps s i a
-    → (u : Machine.State) × Along p steps d (suc k) a u
-sets_along p steps d k s a t i along here h =
-    let acts = run_acts p steps d k s t i along here in
-    let there : fetch p s.slot ≡ Some i = ap (fetch p) (sym along.mirrors.slot) ∙ here in
-    let c = computed (λ q. IsHomeLive p q s.slot) p d.run.clock s t i h.register h.kind (d.forms t.slot i here) (read_numbers p steps d k s t i along here) along.mirrors.stack
-    (λ j reads. IsSlotLive-read p j s.slot i there reads)
-    (λ e trap. no_trap p d.run.clock (first p steps d) steps d.run.number k t e d.run.runs along.reached (acts ∙ trap)) h.written h.puts in
-    let u = Machine.go_to (set_reg t h.register (Num c.number)) (t.slot + slots_filled i) in
-    let goes : step p d.run.clock t ≡ Next u = run_acts p steps d k s t i along here ∙ c.acts in
-    let next : ℕ = s.slot + slots_filled i in
-    let put = Mirrors-set (λ q. IsHomeLive p q s.slot) s t h.register h.kind c.number h.own c.just along.mirrors in
-    let less : (q : Home) → IsHomeLive p q next → (q ≡ InRegister h.register) ⊎ IsHomeLive p q s.slot =
-    one_more p steps d k s t i h.register next along here h.written (inl (writes_falls i h.register h.written, refl)) in
-    let mirrors : Mirrors (λ q. IsHomeLive p q next) (go_to (with_register s h.register h.kind) next) u =
-    Mirrors-go (λ q. (q ≡ InRegister h.register) ⊎ IsHomeLive p q s.slot) (λ q. IsHomeLive p q next) (with_register s h.register h.kind) (with_register s h.register h.kind) (set_reg t h.register (Num c.number)) next (t.slot + slots_filled i)
-    (ap (λ n. n + slots_filled i) along.mirrors.slot) (stays (with_register s h.register h.kind)) less put in (
-      u,
-      record {
-        reached = Reaches-then p d.run.clock (first p steps d) k t u along.reached goes;
-        mirrors = subst (λ x. Mirrors (λ q. IsHomeLive p q x.slot) x u) (sym h.next) mirrors;
-        numbers = λ q own. elim (same_or_other q h.register) [
-          | inl same ↦ inl (subst (λ q. IsNoPointer (reg u q)) (sym same) (subst IsNoPointer (sym (reg_with_own t h.register (Num c.number) along.mirrors.wide)) tt))
-          | inr apart ↦
-              let stays : reg u q ≡ reg t q = reg_with_other t h.register q (Num c.number) apart in
-              elim (along.numbers q own) [
-                | inl plain ↦ inl (subst IsNoPointer (sym stays) plain)
-                | inr argument ↦ inr (argument.0, λ w. not_yet p d.run.clock (first p steps d) t k i along.reached here (λ e. apart (argument.0 ∙ cc (e, h.written))) argument.1 w)
-              ]
-        ];
-      },
-    )
-
-one_next : (p : Program) (steps : ℕ) (d : IsDetermined p steps) (k : ℕ) (w : Ways) (a c : State) (u : Machine.State)
-    → w ≡ ways.One → a ≡ c → Along p steps d (suc k) c u → NextAlong p steps d k w a
-one_next p steps d k w a c u one is along = subst (λ v. NextAlong p steps d k v a) (sym one) (u, subst (λ x. Along p steps d (suc k) x u) (sym is) along)
-
-jump_along : (p : Program) (steps : ℕ) (d : IsDetermined p steps) (k : ℕ) (s : State) (t : Machine.State) (i : Insn) (by : ℤ) (w : Ways) (a : State)
-    → Along p steps d k s t → fetch p t.slot ≡ Some i → writes i ≡ None → jump_distance i ≡ Some by
-    → act p d.run.clock t i ≡ Next (Machine.go_to t (destination p t.slot by)) → w ≡ ways.One
-    → a ≡ go_to s (destination p s.slot by) → NextAlong p steps d k w a
-jump_along p steps d k s t i by w a along here silent jumps acts one is =
-    one_next p steps d k w a (go_to s (destination p s.slot by)) (Machine.go_to t (destination p t.slot by)) one is
-    (goes_along p steps d k s s t i (destination p s.slot by) (destination p t.slot by) along here silent (run_acts p steps d k s t i along here ∙ acts)
-    (Mirrors-go (λ q. IsHomeLive p q s.slot) (λ q. IsHomeLive p q (destination p s.slot by)) s s t (destination p s.slot by) (destination p t.slot by) (ap (λ n. destination p n by) along.mirrors.slot) (stays s)
-    (still_live p steps d k s t i by (destination p s.slot by) along here silent jumps (inr (by, jumps, refl))) along.mirrors))
+use Rattle.walks.proofs.Beside.{HoldsIf, Mirrored, first, Along, KnowsRegister, read_numbers, just_below}
+use Rattle.walks.proofs.StillBeside.{NextAlong, Mirrors-go, not_yet, here_too, still_known, slot_before, still_live, run_acts, goes_along, sets_along, one_next, jump_along}
 
 -- ---- conditional jumps
 
@@ -280,63 +47,97 @@ record Tested (s : State) (t : Machine.State) (c : Cond) : Type 0 where
   left : IsJust (kind_of s c.register) x
   right : IsJustOperand s c.width c.operand y
 
-tested_by : (s : State) (t : Machine.State) (c : Cond) (operand : Operand) (x : ℕ) → reg t c.register ≡ Num x
-    → Each (KnowsRegister s t) (operand_reads operand)
-    → (y : ℕ) × (tested t c operand ≡ Ok (holds c.comparison c.width x y)) × IsJustOperand s c.width operand y
+tested_by : (s : State) (t : Machine.State) (c : Cond) (operand : Operand) (x : ℕ)
+    → reg t c.register ≡ Num x → Each (KnowsRegister s t) (operand_reads operand)
+    → (y : ℕ) × (tested t c operand ≡ Ok (holds c.comparison c.width x y))
+    × IsJustOperand s c.width operand y
 tested_by s t c (Constant k) x is set = (unsigned c.width k, rw is refl, refl)
 tested_by s t c (Register r) x is set = (set.0.0, rw (is, set.0.1) refl, set.0.2)
 
-tested_there : (s : State) (t : Machine.State) (c : Cond) → Each (KnowsRegister s t) (c.register ∷ operand_reads c.operand)
-    → Tested s t c
+tested_there : (s : State) (t : Machine.State) (c : Cond)
+    → Each (KnowsRegister s t) (c.register ∷ operand_reads c.operand) → Tested s t c
 tested_there s t c set =
     let (x, is, just) = set.0 in
     let (y, says, right) = tested_by s t c c.operand x is set.1 in
     record { x = x; y = y; says = says; left = just; right = right }
 
-only_goes : (p : Program) (steps : ℕ) (d : IsDetermined p steps) (k : ℕ) (stays goes : Bool) (stay go : State) (w : Ways) (a b : State)
+only_goes : (p : Program) (steps : ℕ) (d : IsDetermined p steps) (k : ℕ) (stays goes : Bool)
+    (stay go : State) (w : Ways) (a b : State)
     → stays ≡ false → Sides stays goes stay go w a b
     → (u : Machine.State) × Along p steps d (suc k) go u → NextAlong p steps d k w a
 only_goes p steps d k true goes stay go w a b none sides along = absurd (cc)
-only_goes p steps d k false true stay go w a b none sides along = one_next p steps d k w a go along.0 sides.0 sides.1 along.1
-only_goes p steps d k false false stay go w a b none sides along = subst (λ v. NextAlong p steps d k v a) (sym sides) tt
+only_goes p steps d k false true stay go w a b none sides along =
+    one_next p steps d k w a go along.0 sides.0 sides.1 along.1
+only_goes p steps d k false false stay go w a b none sides along =
+    subst (λ v. NextAlong p steps d k v a) (sym sides) tt
 
-only_stays : (p : Program) (steps : ℕ) (d : IsDetermined p steps) (k : ℕ) (stays goes : Bool) (stay go : State) (w : Ways) (a b : State)
+only_stays : (p : Program) (steps : ℕ) (d : IsDetermined p steps) (k : ℕ) (stays goes : Bool)
+    (stay go : State) (w : Ways) (a b : State)
     → goes ≡ false → Sides stays goes stay go w a b
     → (u : Machine.State) × Along p steps d (suc k) stay u → NextAlong p steps d k w a
 only_stays p steps d k stays true stay go w a b none sides along = absurd (cc)
-only_stays p steps d k true false stay go w a b none sides along = one_next p steps d k w a stay along.0 sides.0 sides.1 along.1
-only_stays p steps d k false false stay go w a b none sides along = subst (λ v. NextAlong p steps d k v a) (sym sides) tt
+only_stays p steps d k true false stay go w a b none sides along =
+    one_next p steps d k w a stay along.0 sides.0 sides.1 along.1
+only_stays p steps d k false false stay go w a b none sides along =
+    subst (λ v. NextAlong p steps d k v a) (sym sides) tt
 
-branch_along : (p : Program) (steps : ℕ) (d : IsDetermined p steps) (k : ℕ) (s : State) (t : Machine.State) (c : Cond) (by : ℤ) (i : Insn) (w : Ways) (a b : State)
+branch_along : (p : Program) (steps : ℕ) (d : IsDetermined p steps) (k : ℕ) (s : State)
+    (t : Machine.State) (c : Cond) (by : ℤ) (i : Insn) (w : Ways) (a b : State)
     → Along p steps d k s t → fetch p t.slot ≡ Some i
-    → writes i ≡ None → FallsTo s.slot i (s.slot + 1) → jump_distance i ≡ Some by → act p d.run.clock t i ≡ branches t p by (test_of t c)
-    → Each (KnowsRegister s t) (c.register ∷ operand_reads c.operand) → Branches p s c by w a b → NextAlong p steps d k w a
-branch_along p steps d k s t c by i w a b along here silent falls jumps acts set h = of (holds c.comparison c.width test.x test.y) refl where
-  test : Tested s t c
-  test = tested_there s t c set
+    → writes i ≡ None → FallsTo s.slot i (s.slot + 1) → jump_distance i ≡ Some by
+    → act p d.run.clock t i ≡ branches t p by (test_of t c)
+    → Each (KnowsRegister s t) (c.register ∷ operand_reads c.operand) → Branches p s c by w a b
+    → NextAlong p steps d k w a
+branch_along p steps d k s t c by i w a b along here silent falls jumps acts set h =
+    of (holds c.comparison c.width test.x test.y) refl where
+      test : Tested s t c
+      test = tested_there s t c set
 
-  numbers : Each (NumbersIn s) (c.register ∷ operand_reads c.operand)
-  numbers = Each-more (KnowsRegister s t) (NumbersIn s) (c.register ∷ operand_reads c.operand) (λ r known. just_number (kind_of s r) known.0 known.2) set
+      numbers : Each (NumbersIn s) (c.register ∷ operand_reads c.operand)
+      numbers =
+          Each-more (KnowsRegister s t) (NumbersIn s) (c.register ∷ operand_reads c.operand)
+          (λ r known. just_number (kind_of s r) known.0 known.2) set
 
-  goes_by : (taken : Bool) → holds c.comparison c.width test.x test.y ≡ taken
-      → step p d.run.clock t ≡ branches t p by (Ok taken)
-  goes_by taken is = run_acts p steps d k s t i along here ∙ acts ∙ ap (branches t p by) (test.says ∙ ap (λ (x : Bool). Ok x) is)
+      goes_by : (taken : Bool) → holds c.comparison c.width test.x test.y ≡ taken
+          → step p d.run.clock t ≡ branches t p by (Ok taken)
+      goes_by taken is =
+          run_acts p steps d k s t i along here ∙ acts
+          ∙ ap (branches t p by) (test.says ∙ ap (λ (x : Bool). Ok x) is)
 
-  of : (taken : Bool) → holds c.comparison c.width test.x test.y ≡ taken → NextAlong p steps d k w a
-  of true is =
-      only_goes p steps d k h.stays h.goes (go_to h.stay (s.slot + 1)) (go_to h.go (destination p s.slot by)) w a b (h.left_there.constants test.x test.y test.left test.right (λ e. absurd (cc (e, is)))) h.sides (
-        Machine.go_to t (destination p t.slot by),
-        goes_along p steps d k s h.go t i (destination p s.slot by) (destination p t.slot by) along here silent (goes_by true is)
-            (Mirrors-go (λ q. IsHomeLive p q s.slot) (λ q. IsHomeLive p q (destination p s.slot by)) s h.go t (destination p s.slot by) (destination p t.slot by) (ap (λ n. destination p n by) along.mirrors.slot) (Refines-remains c true h.goes s h.go (numbers.0, compared_operand s c.operand numbers.1) h.taken_there)
-            (still_live p steps d k s t i by (destination p s.slot by) along here silent jumps (inr (by, jumps, refl))) along.mirrors),
-      )
-  of false is =
-      only_stays p steps d k h.stays h.goes (go_to h.stay (s.slot + 1)) (go_to h.go (destination p s.slot by)) w a b (h.taken_there.constants test.x test.y test.left test.right (λ e. absurd (cc (e, is)))) h.sides (
-        Machine.go_to t (t.slot + 1),
-        goes_along p steps d k s h.stay t i (s.slot + 1) (t.slot + 1) along here silent (goes_by false is)
-            (Mirrors-go (λ q. IsHomeLive p q s.slot) (λ q. IsHomeLive p q (s.slot + 1)) s h.stay t (s.slot + 1) (t.slot + 1) (ap (λ n. n + 1) along.mirrors.slot) (Refines-remains c false h.stays s h.stay (numbers.0, compared_operand s c.operand numbers.1) h.left_there)
-            (still_live p steps d k s t i by (s.slot + 1) along here silent jumps (inl falls)) along.mirrors),
-      )
+      of : (taken : Bool) → holds c.comparison c.width test.x test.y ≡ taken
+          → NextAlong p steps d k w a
+      of true is =
+          only_goes p steps d k h.stays h.goes (go_to h.stay (s.slot + 1))
+          (go_to h.go (destination p s.slot by)) w a b
+          (h.left_there.constants test.x test.y test.left test.right (λ e. absurd (cc (e, is))))
+          h.sides (
+            Machine.go_to t (destination p t.slot by),
+            goes_along p steps d k s h.go t i (destination p s.slot by)
+                (destination p t.slot by) along here silent (goes_by true is)
+                (Mirrors-go (λ q. IsHomeLive p q s.slot)
+                (λ q. IsHomeLive p q (destination p s.slot by)) s h.go t (destination p s.slot by)
+                (destination p t.slot by) (ap (λ n. destination p n by) along.mirrors.slot)
+                (Refines-remains c true h.goes s h.go
+                (numbers.0, compared_operand s c.operand numbers.1) h.taken_there)
+                (still_live p steps d k s t i by (destination p s.slot by) along here silent jumps
+                (inr (by, jumps, refl))) along.mirrors),
+          )
+      of false is =
+          only_stays p steps d k h.stays h.goes (go_to h.stay (s.slot + 1))
+          (go_to h.go (destination p s.slot by)) w a b
+          (h.taken_there.constants test.x test.y test.left test.right (λ e. absurd (cc (e, is))))
+          h.sides (
+            Machine.go_to t (t.slot + 1),
+            goes_along p steps d k s h.stay t i (s.slot + 1) (t.slot + 1) along here silent
+                (goes_by false is)
+                (Mirrors-go (λ q. IsHomeLive p q s.slot)
+                (λ q. IsHomeLive p q (s.slot + 1)) s h.stay t
+                (s.slot + 1) (t.slot + 1) (ap (λ n. n + 1) along.mirrors.slot)
+                (Refines-remains c false h.stays s h.stay
+                (numbers.0, compared_operand s c.operand numbers.1) h.left_there)
+                (still_live p steps d k s t i by (s.slot + 1) along here silent jumps (inl falls))
+                along.mirrors),
+          )
 
 -- ---- stores
 
@@ -347,103 +148,161 @@ other_slot j n apart (below, is) =
     apart (omega (arith, ints, same))
 
 -- a number goes into a stack slot
-put_along : (p : Program) (steps : ℕ) (d : IsDetermined p steps) (k : ℕ) (s left : State) (t : Machine.State) (i : Insn) (j y : ℕ)
-    → (along : Along p steps d k s t) → fetch p t.slot ≡ Some i → writes i ≡ None → FallsTo s.slot i (s.slot + 1)
+put_along : (p : Program) (steps : ℕ) (d : IsDetermined p steps) (k : ℕ) (s left : State)
+    (t : Machine.State) (i : Insn) (j y : ℕ)
+    → (along : Along p steps d k s t) → fetch p t.slot ≡ Some i → writes i ≡ None
+    → FallsTo s.slot i (s.slot + 1)
     → ((n : ℕ) → n ≢ j → WritesSlot i n → ⊥) → j < 64 → y < 2 ^ 64 → PutsSlot s left j y
-    → act p d.run.clock t i ≡ Next (Machine.go_to (stored t along.mirrors.stack.frame j y) (t.slot + 1))
-    → Along p steps d (suc k) (go_to left (s.slot + 1)) (Machine.go_to (stored t along.mirrors.stack.frame j y) (t.slot + 1))
+    → act p d.run.clock t i
+    ≡ Next (Machine.go_to (stored t along.mirrors.stack.frame j y) (t.slot + 1))
+    → Along p steps d (suc k) (go_to left (s.slot + 1))
+    (Machine.go_to (stored t along.mirrors.stack.frame j y) (t.slot + 1))
 unfolding stored
 put_along p steps d k s left t i j y along here silent falls keeps below fits put acts =
     let m = along.mirrors in
     let u = stored t m.stack.frame j y in
-    let cells = HasKnownSlots-store (HoldsIf (λ h. IsHomeLive p h s.slot) s) (HoldsIf (λ h. IsHomeLive p h (s.slot + 1)) left) t m.stack j y below fits (λ live. put.there)
-    (λ n z apart held live. put.others n z apart (held (slot_before p steps d k s t i (s.slot + 1) n along here (keeps n apart) (inl falls) live))) in
+    let cells = HasKnownSlots-store (HoldsIf (λ h. IsHomeLive p h s.slot) s)
+    (HoldsIf (λ h. IsHomeLive p h (s.slot + 1)) left) t m.stack j y below fits
+    (λ live. put.there)
+    (λ n z apart held live.
+    put.others n z apart
+    (held (slot_before p steps d k s t i (s.slot + 1) n along here (keeps n apart)
+    (inl falls) live))) in
     record {
-      reached = Reaches-then p d.run.clock (first p steps d) k t (Machine.go_to u (t.slot + 1)) along.reached (run_acts p steps d k s t i along here ∙ acts);
+      reached =
+          Reaches-then p d.run.clock (first p steps d) k t
+          (Machine.go_to u (t.slot + 1)) along.reached
+          (run_acts p steps d k s t i along here ∙ acts);
       mirrors = record {
         slot = ap (λ n. n + 1) m.slot;
         one = ap (λ c. length c.items + 1) put.callers ∙ m.one;
         room = put.room ∙ m.room;
         wide = m.wide;
-        regs = λ r own live. subst (Mirrored (reg t r)) (sym (kind_of-go_to left (s.slot + 1) r ∙ put.kinds r))
-            (m.regs r own (still_known p steps d k s t i (s.slot + 1) along here silent (inl falls) r live));
+        regs =
+            λ r own live.
+            subst (Mirrored (reg t r)) (sym (kind_of-go_to left (s.slot + 1) r ∙ put.kinds r))
+            (m.regs r own
+            (still_known p steps d k s t i (s.slot + 1) along here silent
+            (inl falls) r live));
         cells = put.wide ∙ m.cells;
-        stack = HasKnownSlots-keep (HoldsIf (λ h. IsHomeLive p h (s.slot + 1)) left) (HoldsIf (λ h. IsHomeLive p h (s.slot + 1)) (go_to left (s.slot + 1))) u (Machine.go_to u (t.slot + 1)) cells refl refl (λ k z held. held);
+        stack =
+            HasKnownSlots-keep (HoldsIf (λ h. IsHomeLive p h (s.slot + 1)) left)
+            (HoldsIf (λ h. IsHomeLive p h (s.slot + 1)) (go_to left (s.slot + 1))) u
+            (Machine.go_to u (t.slot + 1)) cells refl refl (λ k z held. held);
       };
       numbers = λ r own. elim (along.numbers r own) [
         | inl plain ↦ inl plain
-        | inr argument ↦ inr (argument.0, λ w. not_yet p d.run.clock (first p steps d) t k i along.reached here (λ e. absurd (cc (e, silent))) argument.1 w)
+        | inr argument ↦
+            inr (
+              argument.0,
+              λ w. not_yet p d.run.clock (first p steps d) t k i along.reached here
+                  (λ e. absurd (cc (e, silent))) argument.1 w,
+            )
       ];
     }
 
-goes_on_along : (p : Program) (steps : ℕ) (d : IsDetermined p steps) (k : ℕ) (s : State) (t : Machine.State) (i : Insn) (j y : ℕ) (source : Kind) (w : Ways) (a : State)
+goes_on_along : (p : Program) (steps : ℕ) (d : IsDetermined p steps) (k : ℕ) (s : State)
+    (t : Machine.State) (i : Insn) (j y : ℕ) (source : Kind) (w : Ways) (a : State)
     → (along : Along p steps d k s t)
     → fetch p t.slot ≡ Some i → writes i ≡ None → FallsTo s.slot i (s.slot + 1)
-    → ((n : ℕ) → n ≢ j → WritesSlot i n → ⊥) → j < 64 → IsJust source y
-    → act p d.run.clock t i ≡ Next (Machine.go_to (stored t along.mirrors.stack.frame j y) (t.slot + 1))
-    → w ≡ ways.One → GoesOnWith s (StoresAt p.maps s U64 (slot_place j) source) a → NextAlong p steps d k w a
+    → ((n : ℕ) → n ≢ j → WritesSlot i n → ⊥) → j < 64 → IsJust source y → act p d.run.clock t i
+    ≡ Next (Machine.go_to (stored t along.mirrors.stack.frame j y) (t.slot + 1))
+    → w ≡ ways.One → GoesOnWith s (StoresAt p.maps s U64 (slot_place j) source) a
+    → NextAlong p steps d k w a
 goes_on_along p steps d k s t i j y source w a along here silent falls keeps below just acts one h =
     let wide = along.mirrors.cells in
     let put = store_puts s h.left j y source (omega (arith, below, wide)) just h.leaving in
-    one_next p steps d k w a (go_to h.left (s.slot + 1)) (Machine.go_to (stored t along.mirrors.stack.frame j y) (t.slot + 1)) one h.next
-    (put_along p steps d k s h.left t i j y along here silent falls keeps below (just_below source y just) put acts)
+    one_next p steps d k w a (go_to h.left (s.slot + 1))
+    (Machine.go_to (stored t along.mirrors.stack.frame j y) (t.slot + 1)) one h.next
+    (put_along p steps d k s h.left t i j y along here silent falls keeps below
+    (just_below source y just) put acts)
 
-store_along : (p : Program) (steps : ℕ) (d : IsDetermined p steps) (k : ℕ) (s : State) (t : Machine.State) (place : Place) (r : Reg) (w : Ways) (a : State)
+store_along : (p : Program) (steps : ℕ) (d : IsDetermined p steps) (k : ℕ) (s : State)
+    (t : Machine.State) (place : Place) (r : Reg) (w : Ways) (a : State)
     → Along p steps d k s t → IsSlotPlace place
-    → fetch p t.slot ≡ Some (Store U64 place r) → w ≡ ways.One → GoesOnWith s (StoresAt p.maps s U64 place (kind_of s r)) a
-    → NextAlong p steps d k w a
-store_along p steps d k s t place r w a along (j, below, is) here one h = of (subst (λ q. fetch p t.slot ≡ Some (Store U64 q r)) is here) (subst (λ q. GoesOnWith s (StoresAt p.maps s U64 q (kind_of s r)) a) is h) where
-  of : fetch p t.slot ≡ Some (Store U64 (slot_place j) r)
-      → GoesOnWith s (StoresAt p.maps s U64 (slot_place j) (kind_of s r)) a → NextAlong p steps d k w a
-  of here h =
-      let (y, there, just) = (read_numbers p steps d k s t (Store U64 (slot_place j) r) along here).0 in
-      goes_on_along p steps d k s t (Store U64 (slot_place j) r) j y (kind_of s r) w a along here refl (refl, refl) (other_slot j) below just
-      (store_acts (HoldsIf (λ q. IsHomeLive p q s.slot) s) p d.run.clock t r j y along.mirrors.stack below there) one h
+    → fetch p t.slot ≡ Some (Store U64 place r) → w ≡ ways.One
+    → GoesOnWith s (StoresAt p.maps s U64 place (kind_of s r)) a → NextAlong p steps d k w a
+store_along p steps d k s t place r w a along (j, below, is) here one h =
+    of (subst (λ q. fetch p t.slot ≡ Some (Store U64 q r)) is here)
+    (subst (λ q. GoesOnWith s (StoresAt p.maps s U64 q (kind_of s r)) a) is h) where
+      of : fetch p t.slot ≡ Some (Store U64 (slot_place j) r)
+          → GoesOnWith s (StoresAt p.maps s U64 (slot_place j) (kind_of s r)) a
+          → NextAlong p steps d k w a
+      of here h =
+          let (y, there, just) =
+          (read_numbers p steps d k s t (Store U64 (slot_place j) r) along here).0 in
+          goes_on_along p steps d k s t (Store U64 (slot_place j) r) j y
+          (kind_of s r) w a along here refl (refl, refl) (other_slot j) below just
+          (store_acts (HoldsIf (λ q. IsHomeLive p q s.slot) s) p d.run.clock t r j y
+          along.mirrors.stack
+          below there) one h
 
-store_constant_along : (p : Program) (steps : ℕ) (d : IsDetermined p steps) (k : ℕ) (s : State) (t : Machine.State) (place : Place) (n : ℤ) (source : Kind) (w : Ways) (a : State)
+store_constant_along : (p : Program) (steps : ℕ) (d : IsDetermined p steps) (k : ℕ) (s : State)
+    (t : Machine.State) (place : Place) (n : ℤ) (source : Kind) (w : Ways) (a : State)
     → Along p steps d k s t → IsSlotPlace place
-    → fetch p t.slot ≡ Some (StoreConstant U64 place n) → IsJust source (unsigned Full64 n) → w ≡ ways.One
-    → GoesOnWith s (StoresAt p.maps s U64 place source) a → NextAlong p steps d k w a
+    → fetch p t.slot ≡ Some (StoreConstant U64 place n) → IsJust source (unsigned Full64 n)
+    → w ≡ ways.One → GoesOnWith s (StoresAt p.maps s U64 place source) a → NextAlong p steps d k w a
 store_constant_along p steps d k s t place n source w a along (j, below, is) here just one h =
-    of (subst (λ q. fetch p t.slot ≡ Some (StoreConstant U64 q n)) is here) (subst (λ q. GoesOnWith s (StoresAt p.maps s U64 q source) a) is h) where
+    of (subst (λ q. fetch p t.slot ≡ Some (StoreConstant U64 q n)) is here)
+    (subst (λ q. GoesOnWith s (StoresAt p.maps s U64 q source) a) is h) where
       of : fetch p t.slot ≡ Some (StoreConstant U64 (slot_place j) n)
           → GoesOnWith s (StoresAt p.maps s U64 (slot_place j) source) a → NextAlong p steps d k w a
       of here h =
-          goes_on_along p steps d k s t (StoreConstant U64 (slot_place j) n) j (unsigned Full64 n) source w a along here refl (refl, refl) (other_slot j) below just
-          (store_constant_acts (HoldsIf (λ q. IsHomeLive p q s.slot) s) p d.run.clock t n j along.mirrors.stack below) one h
+          goes_on_along p steps d k s t (StoreConstant U64 (slot_place j) n) j
+          (unsigned Full64 n) source w a along here refl (refl, refl) (other_slot j) below just
+          (store_constant_acts
+          (HoldsIf (λ q. IsHomeLive p q s.slot) s) p d.run.clock t n j along.mirrors.stack
+          below) one h
 
 -- ---- any step
 
-set_next : (p : Program) (steps : ℕ) (d : IsDetermined p steps) (k : ℕ) (s : State) (t : Machine.State) (i : Insn) (w : Ways) (a : State)
+set_next : (p : Program) (steps : ℕ) (d : IsDetermined p steps) (k : ℕ) (s : State)
+    (t : Machine.State) (i : Insn) (w : Ways) (a : State)
     → Along p steps d k s t → fetch p t.slot ≡ Some i → w ≡ ways.One → SetsRegister p.maps s i a
     → NextAlong p steps d k w a
 set_next p steps d k s t i w a along here one h =
     let (u, next) = sets_along p steps d k s a t i along here h in
     one_next p steps d k w a a u one refl next
 
-performs_along : (p : Program) (steps : ℕ) (d : IsDetermined p steps) (k : ℕ) (s : State) (t : Machine.State) (i : Insn) (w : Ways) (a b : State)
+performs_along : (p : Program) (steps : ℕ) (d : IsDetermined p steps) (k : ℕ) (s : State)
+    (t : Machine.State) (i : Insn) (w : Ways) (a b : State)
     → Along p steps d k s t → fetch p t.slot ≡ Some i → IsDeterminedForm i
     → StepsForm p s i (Ok w) a b → NextAlong p steps d k w a
 unfolding act
-performs_along p steps d k s t (Jump by) w a b along here form h = jump_along p steps d k s t (Jump by) by w a along here refl refl refl (cc (h.0)) h.1
-performs_along p steps d k s t (JumpLong by) w a b along here form h = jump_along p steps d k s t (JumpLong by) by w a along here refl refl refl (cc (h.0)) h.1
+performs_along p steps d k s t (Jump by) w a b along here form h =
+    jump_along p steps d k s t (Jump by) by w a along here refl refl refl (cc (h.0)) h.1
+performs_along p steps d k s t (JumpLong by) w a b along here form h =
+    jump_along p steps d k s t (JumpLong by) by w a along here refl refl refl (cc (h.0)) h.1
 performs_along p steps d k s t (JumpIf c by) w a b along here form h =
-    branch_along p steps d k s t c by (JumpIf c by) w a b along here refl (refl, refl) refl refl (read_numbers p steps d k s t (JumpIf c by) along here) h
-performs_along p steps d k s t Exit w a b along here form h = subst (λ v. NextAlong p steps d k v a) (sym (exited_none p.version (length s.callers.items) s a w along.mirrors.one h)) tt
-performs_along p steps d k s t (Store U64 place r) w a b along here form h = store_along p steps d k s t place r w a along form here h.0 h.1
+    branch_along p steps d k s t c by (JumpIf c by) w a b along here refl (refl, refl) refl refl
+    (read_numbers p steps d k s t (JumpIf c by) along here) h
+performs_along p steps d k s t Exit w a b along here form h =
+    subst (λ v. NextAlong p steps d k v a)
+    (sym (exited_none p.version (length s.callers.items) s a w along.mirrors.one h)) tt
+performs_along p steps d k s t (Store U64 place r) w a b along here form h =
+    store_along p steps d k s t place r w a along form here h.0 h.1
 performs_along p steps d k s t (Store size place r) w a b along here form h = absurd form
-performs_along p steps d k s t (StoreConstant U64 place n) w a b along here form h = store_constant_along p steps d k s t place n h.0 w a along form here h.1 h.2.0 h.2.1
+performs_along p steps d k s t (StoreConstant U64 place n) w a b along here form h =
+    store_constant_along p steps d k s t place n h.0 w a along form here h.1 h.2.0 h.2.1
 performs_along p steps d k s t (StoreConstant size place n) w a b along here form h = absurd form
-performs_along p steps d k s t (Alu v op x source) w a b along here form h = set_next p steps d k s t (Alu v op x source) w a along here h.0 h.1
-performs_along p steps d k s t (Neg v x) w a b along here form h = set_next p steps d k s t (Neg v x) w a along here h.0 h.1
-performs_along p steps d k s t (MovSx e x r) w a b along here form h = set_next p steps d k s t (MovSx e x r) w a along here h.0 h.1
-performs_along p steps d k s t (ByteSwap order span x) w a b along here form h = set_next p steps d k s t (ByteSwap order span x) w a along here h.0 h.1
-performs_along p steps d k s t (LoadNumber x n) w a b along here form h = set_next p steps d k s t (LoadNumber x n) w a along here h.0 h.1
-performs_along p steps d k s t (Load size x place) w a b along here form h = set_next p steps d k s t (Load size x place) w a along here h.0 h.1
+performs_along p steps d k s t (Alu v op x source) w a b along here form h =
+    set_next p steps d k s t (Alu v op x source) w a along here h.0 h.1
+performs_along p steps d k s t (Neg v x) w a b along here form h =
+    set_next p steps d k s t (Neg v x) w a along here h.0 h.1
+performs_along p steps d k s t (MovSx e x r) w a b along here form h =
+    set_next p steps d k s t (MovSx e x r) w a along here h.0 h.1
+performs_along p steps d k s t (ByteSwap order span x) w a b along here form h =
+    set_next p steps d k s t (ByteSwap order span x) w a along here h.0 h.1
+performs_along p steps d k s t (LoadNumber x n) w a b along here form h =
+    set_next p steps d k s t (LoadNumber x n) w a along here h.0 h.1
+performs_along p steps d k s t (Load size x place) w a b along here form h =
+    set_next p steps d k s t (Load size x place) w a along here h.0 h.1
 performs_along p steps d k s t i w a b along here form h = absurd form
 
-pub step_along : (p : Program) (steps : ℕ) (d : IsDetermined p steps) (k : ℕ) (s : State) (t : Machine.State) (i : Insn) (w : Ways) (a b : State)
+pub step_along : (p : Program) (steps : ℕ) (d : IsDetermined p steps) (k : ℕ) (s : State)
+    (t : Machine.State) (i : Insn) (w : Ways) (a b : State)
     → Along p steps d k s t → fetch p s.slot ≡ Some i
     → StepsToWays p s i w a b → NextAlong p steps d k w a
 step_along p steps d k s t i w a b along here makes =
-    performs_along p steps d k s t i w a b along (here_too p s t i along.mirrors.slot here) (d.forms s.slot i here) (StepsToWays-performs p s i w a b makes)
+    performs_along p steps d k s t i w a b along (here_too p s t i along.mirrors.slot here)
+    (d.forms s.slot i here) (StepsToWays-performs p s i w a b makes)

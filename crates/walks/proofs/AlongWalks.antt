@@ -1,4 +1,4 @@
--- A walk goes along a run.
+-- A walk stays beside a run, step by step.
 use Rattle.std.proofs.Common.{◌≡◌, ◌+◌, ℕ, zero, suc, arith, refl, sym, ◌∙◌, subst, inl, inr, ◌⊎◌}
 use Rattle.std.specs.Prelude.{◌≢◌}
 use Rattle.stack_state.specs.declared.slots.StackSlot.TheVariants.{Written}
@@ -27,7 +27,8 @@ use Rattle.walks.specs.Forgetting.{Forgets}
 use Rattle.walks.specs.Counts.{AreForgotten, StepsInto}
 use Rattle.walks.proofs.Forgotten.{Forgets-slot, Forgets-depth, Forgets-live, Forgets-slot_live}
 use Rattle.walks.proofs.Beside.{HoldsIf, Mirrored, IsNoPointer, first, Along}
-use Rattle.walks.proofs.Along.{NextAlong, step_along}
+use Rattle.walks.proofs.StillBeside.{NextAlong}
+use Rattle.walks.proofs.Along.{step_along}
 
 -- stack slots that are live are known as before
 kept_slots : (p : Program) (a b : State) (t : Machine.State) → Forgets p a b
@@ -45,14 +46,17 @@ kept_slots p a b t f h = record {
       known.1,
       known.2,
       λ live.
-          let before : IsSlotLive p j a.slot = subst (λ n. IsSlotLive p j n) (Forgets-slot p a b f) live in
-          subst (λ x. IsJust (kind_in x) known.0) (sym (Forgets-slot_live p a b j f below before)) (known.3 before),
+          let before : IsSlotLive p j a.slot =
+          subst (λ n. IsSlotLive p j n) (Forgets-slot p a b f) live in
+          subst (λ x. IsJust (kind_in x) known.0) (sym (Forgets-slot_live p a b j f below before))
+          (known.3 before),
     )
   ];
 }
 
 -- what is forgotten is dead, so the state stays beside the run's
-pub Along-forgets : (p : Program) (steps : ℕ) (d : IsDetermined p steps) (k : ℕ) (a b : State) (t : Machine.State) → Forgets p a b
+pub Along-forgets : (p : Program) (steps : ℕ) (d : IsDetermined p steps) (k : ℕ) (a b : State)
+    (t : Machine.State) → Forgets p a b
     → Along p steps d k a t → Along p steps d k b t
 Along-forgets p steps d k a b t f along =
     let m = along.mirrors in
@@ -64,39 +68,56 @@ Along-forgets p steps d k a b t f along =
         room = f.registers.ten;
         wide = m.wide;
         regs = λ r own live.
-            let before : IsLive p r a.slot = subst (λ n. IsLive p r n) (Forgets-slot p a b f) live in
-            subst (Mirrored (reg t r)) (sym (Forgets-live p a b r f own before)) (m.regs r own before);
+            let before : IsLive p r a.slot =
+            subst (λ n. IsLive p r n) (Forgets-slot p a b f) live in
+            subst (Mirrored (reg t r)) (sym (Forgets-live p a b r f own before))
+            (m.regs r own before);
         cells = f.slots.all;
         stack = kept_slots p a b t f m.stack;
       };
       numbers = along.numbers;
     }
 
-pub into_along : (p : Program) (steps : ℕ) (d : IsDetermined p steps) (k : ℕ) (s : State) (t : Machine.State) (w : Ways) (a b : State)
+pub into_along : (p : Program) (steps : ℕ) (d : IsDetermined p steps) (k : ℕ) (s : State)
+    (t : Machine.State) (w : Ways) (a b : State)
     → Along p steps d k s t → StepsInto p s w a b → NextAlong p steps d k w a
 into_along p steps d k s t w a b along step =
-    of w a b step.next step.aside step.forgets (step_along p steps d k s t step.insn w step.next step.aside along step.here step.makes) where
-      of : (w : Ways) (a b x y : State) → AreForgotten p w x y a b → NextAlong p steps d k w x → NextAlong p steps d k w a
+    of w a b step.next step.aside step.forgets
+    (step_along p steps d k s t step.insn w step.next step.aside along step.here
+    step.makes) where
+      of : (w : Ways) (a b x y : State) → AreForgotten p w x y a b → NextAlong p steps d k w x
+          → NextAlong p steps d k w a
       of ways.None a b x y f next = tt
       of ways.One a b x y f next = (next.0, Along-forgets p steps d (suc k) x a next.0 f next.1)
       of ways.Two a b x y f next = absurd next
 
--- a walk goes along the run
-pub to_along : (p : Program) (steps : ℕ) (d : IsDetermined p steps) (k : ℕ) (s c : State) (t : Machine.State)
+-- each step of a walk stays beside the run
+pub to_along : (p : Program) (steps : ℕ) (d : IsDetermined p steps) (k : ℕ) (s c : State)
+    (t : Machine.State)
     → Along p steps d k s t → StepsTo p s c → (u : Machine.State) × Along p steps d (suc k) c u
 to_along p steps d k s c t along step =
-    of step.taken step.first step.other (step_along p steps d k s t step.insn step.taken step.first step.other along step.here step.makes) step.among where
+    of step.taken step.first step.other
+    (step_along p steps d k s t step.insn step.taken step.first step.other along step.here
+    step.makes) step.among where
       of : (w : Ways) (a b : State) → NextAlong p steps d k w a → IsAmong w a b step.next
           → (u : Machine.State) × Along p steps d (suc k) c u
       of ways.None a b next among = absurd among
-      of ways.One a b next among =
-          (next.0, Along-forgets p steps d (suc k) step.next c next.0 step.forgets (subst (λ x. Along p steps d (suc k) x next.0) (sym among) next.1))
+      of ways.One a b next among = (
+        next.0,
+        Along-forgets p steps d (suc k) step.next c next.0 step.forgets
+            (subst (λ x. Along p steps d (suc k) x next.0) (sym among) next.1),
+      )
       of ways.Two a b next among = absurd next
 
-pub walk_along : (p : Program) (steps : ℕ) (d : IsDetermined p steps) (n k : ℕ) (a b : State) (t : Machine.State)
+pub walk_along : (p : Program) (steps : ℕ) (d : IsDetermined p steps) (n k : ℕ) (a b : State)
+    (t : Machine.State)
     → Along p steps d k a t → HasPath p n a b → (u : Machine.State) × Along p steps d (k + n) b u
 unfolding HasPath
-walk_along p steps d zero k a b t along h = (t, subst (λ j. Along p steps d j b t) (omega arith) (subst (λ x. Along p steps d k x t) (sym h) along))
+walk_along p steps d zero k a b t along h = (
+  t,
+  subst (λ j. Along p steps d j b t) (omega arith)
+      (subst (λ x. Along p steps d k x t) (sym h) along),
+)
 walk_along p steps d (suc n) k a b t along h =
     let (u, next) = to_along p steps d k a h.0 t along h.1 in
     let (v, there) = walk_along p steps d n (suc k) h.0 b u next h.2 in
@@ -107,20 +128,33 @@ start_mirrored : (serial : ℕ) (r : Reg) → r ≢ R10
 start_mirrored serial R10 own = absurd (own refl)
 start_mirrored serial r own = tt
 
-start_number : (serial : ℕ) (r : Reg) → r ≢ R10 → IsNoPointer (value_at (start_regs serial) (reg_number r)) ⊎ (r ≡ R1)
+start_number : (serial : ℕ) (r : Reg) → r ≢ R10
+    → IsNoPointer (value_at (start_regs serial) (reg_number r)) ⊎ (r ≡ R1)
 start_number serial R10 own = absurd (own refl)
 start_number serial R1 own = inr refl
 start_number serial r own = inl tt
 
-pub start_along : (p : Program) (steps : ℕ) (d : IsDetermined p steps) → Along p steps d 0 start (first p steps d)
+pub start_along : (p : Program) (steps : ℕ) (d : IsDetermined p steps)
+    → Along p steps d 0 start (first p steps d)
 unfolding start start_state new_frame
 start_along p steps d =
     let serial = count_values d.run.contents in
     record {
       reached = progress-zero p d.run.clock (first p steps d);
-      mirrors = record { slot = refl; one = refl; room = refl; wide = refl; regs = λ r own live. start_mirrored serial r own; cells = length-replicate frame_slots (Written 0); stack = HasKnownSlots-start (HoldsIf (λ h. IsHomeLive p h start.slot) start) d.run.head d.run.packet d.run.contents };
+      mirrors =
+          record {
+            slot = refl;
+            one = refl;
+            room = refl;
+            wide = refl;
+            regs = λ r own live. start_mirrored serial r own;
+            cells = length-replicate frame_slots (Written 0);
+            stack = HasKnownSlots-start (HoldsIf (λ h. IsHomeLive p h start.slot) start) d.run.head
+                d.run.packet d.run.contents;
+          };
       numbers = λ r own. elim (start_number serial r own) [
         | inl plain ↦ inl plain
-        | inr argument ↦ inr (argument, λ w. let before = w.before in absurd (omega (arith, before)))
+        | inr argument ↦
+            inr (argument, λ w. let before = w.before in absurd (omega (arith, before)))
       ];
     }

@@ -76,8 +76,10 @@ pub record Mirrors (alive : Home → Type 0) (s : State) (t : Machine.State) : T
 abbrev pub first : (p : Program) (steps : ℕ) → IsDetermined p steps → Machine.State
 first p steps d = start_state d.run.head d.run.packet d.run.contents
 
--- the run comes to the machine state after k steps; no register but r1, until it is written, and r10 holds a pointer
-pub record Along (p : Program) (steps : ℕ) (d : IsDetermined p steps) (k : ℕ) (s : State) (t : Machine.State) : Type 0 where
+-- the run reaches the machine state after k steps; no register but r1, until it is written, and r10
+-- holds a pointer
+pub record Along (p : Program) (steps : ℕ) (d : IsDetermined p steps) (k : ℕ) (s : State)
+    (t : Machine.State) : Type 0 where
   pub reached : Reaches p d.run.clock (first p steps d) k t
   pub mirrors : Mirrors (λ h. IsHomeLive p h s.slot) s t
   pub numbers : (r : Reg) → r ≢ R10
@@ -89,23 +91,26 @@ pub record Along (p : Program) (steps : ℕ) (d : IsDetermined p steps) (k : ℕ
 abbrev pub KnowsRegister : State → Machine.State → Reg → Type 0
 KnowsRegister s t r = (x : ℕ) × (reg t r ≡ Num x) × IsJust (kind_of s r) x
 
-read_value : (s : State) (t : Machine.State) (r : Reg) (v : Value) → reg t r ≡ v → is_unset v ≡ false
-    → IsNoPointer v → Mirrored v (kind_of s r) → KnowsRegister s t r
+read_value : (s : State) (t : Machine.State) (r : Reg) (v : Value) → reg t r ≡ v
+    → is_unset v ≡ false → IsNoPointer v → Mirrored v (kind_of s r) → KnowsRegister s t r
 read_value s t r Unset is set free mirrored = absurd (cc)
 read_value s t r (Num x) is set free mirrored = (x, is, mirrored)
 read_value s t r (Ptr region z) is set free mirrored = absurd free
 
 -- the registers that the run reads are set
-pub none_unset : (p : Program) (steps : ℕ) (d : IsDetermined p steps) (k : ℕ) (s : State) (t : Machine.State) (i : Insn)
+pub none_unset : (p : Program) (steps : ℕ) (d : IsDetermined p steps) (k : ℕ) (s : State)
+    (t : Machine.State) (i : Insn)
     → Along p steps d k s t → fetch p t.slot ≡ Some i
     → list_any (λ r. is_unset (reg t r)) (reads i) ≡ false
-none_unset p steps d k s t i along here = of (list_any (λ r. is_unset (reg t r)) (reads i)) refl where
-  of : (b : Bool) → list_any (λ r. is_unset (reg t r)) (reads i) ≡ b
-      → list_any (λ r. is_unset (reg t r)) (reads i) ≡ false
-  of false is = is
-  of true is =
-      let trap = step_unset p d.run.clock t i here is in
-      absurd (no_trap p d.run.clock (first p steps d) steps d.run.number k t trap.0 d.run.runs along.reached trap.1)
+none_unset p steps d k s t i along here =
+    of (list_any (λ r. is_unset (reg t r)) (reads i)) refl where
+      of : (b : Bool) → list_any (λ r. is_unset (reg t r)) (reads i) ≡ b
+          → list_any (λ r. is_unset (reg t r)) (reads i) ≡ false
+      of false is = is
+      of true is =
+          let trap = step_unset p d.run.clock t i here is in
+          absurd (no_trap p d.run.clock
+          (first p steps d) steps d.run.number k t trap.0 d.run.runs along.reached trap.1)
 
 pub determined_calls : (i : Insn) → IsDeterminedForm i → CallsNothing i
 determined_calls (CallHelper number) form = absurd form
@@ -113,11 +118,13 @@ determined_calls (CallLocal by) form = absurd form
 determined_calls i form = tt
 
 -- what is read is live
-read_live : (p : Program) (steps : ℕ) (d : IsDetermined p steps) (k : ℕ) (s : State) (t : Machine.State) (i : Insn) (r : Reg)
+read_live : (p : Program) (steps : ℕ) (d : IsDetermined p steps) (k : ℕ) (s : State)
+    (t : Machine.State) (i : Insn) (r : Reg)
     → Along p steps d k s t → fetch p t.slot ≡ Some i → IsOneOf (reads i) r → IsLive p r s.slot
 read_live p steps d k s t i r along here among =
     let there : fetch p s.slot ≡ Some i = ap (fetch p) (sym along.mirrors.slot) ∙ here in
-    IsLive-read p r s.slot i there (read_needed i (determined_calls i (d.forms t.slot i here)) r among)
+    IsLive-read p r s.slot i there
+    (read_needed i (determined_calls i (d.forms t.slot i here)) r among)
 
 -- and hold numbers
 operand_read : (i : Insn) (r : Reg) → IsOneOf (operands i) r → IsOneOf (reads i) r
@@ -126,7 +133,8 @@ operand_read (Store size place q) r among = inr among
 operand_read (StoreConstant size place k) r among = absurd among
 operand_read i r among = among
 
-pub read_numbers : (p : Program) (steps : ℕ) (d : IsDetermined p steps) (k : ℕ) (s : State) (t : Machine.State) (i : Insn)
+pub read_numbers : (p : Program) (steps : ℕ) (d : IsDetermined p steps) (k : ℕ) (s : State)
+    (t : Machine.State) (i : Insn)
     → Along p steps d k s t → fetch p t.slot ≡ Some i → Each (KnowsRegister s t) (operands i)
 read_numbers p steps d k s t i along here =
     let set = none_unset p steps d k s t i along here in
@@ -135,9 +143,12 @@ read_numbers p steps d k s t i along here =
     let read = operand_read i r among in
     let free : IsNoPointer (reg t r) = elim (along.numbers r own) [
       | inl plain ↦ plain
-      | inr argument ↦ absurd (argument.1 (d.run.argument k t i along.reached here (subst (IsOneOf (reads i)) argument.0 read)))
+      | inr argument ↦
+          absurd (argument.1
+          (d.run.argument k t i along.reached here (subst (IsOneOf (reads i)) argument.0 read)))
     ] in
-    read_value s t r (reg t r) refl (is_set (reads i) (λ q. is_unset (reg t q)) r set read) free (along.mirrors.regs r own (read_live p steps d k s t i r along here read)))
+    read_value s t r (reg t r) refl (is_set (reads i) (λ q. is_unset (reg t q)) r set read) free
+    (along.mirrors.regs r own (read_live p steps d k s t i r along here read)))
 
 -- ---- what an instruction on numbers computes
 
@@ -147,11 +158,13 @@ record Sharp (says : Scalar → Scalar → Type 0) (f : ℕ → ℕ) : Type 0 wh
 
 just_one : (says : Scalar → Scalar → Type 0) (f : ℕ → ℕ) (a k : Kind) (x : ℕ) → Sharp says f
     → OfNumber says a (Ok k) → IsJust a x → IsJust k (f x)
-just_one says f (kind.Number a) (kind.Number c) x sharp h just = (sharp.contains a c h x just.0, sharp.exact a c h x just.1)
+just_one says f (kind.Number a) (kind.Number c) x sharp h just =
+    (sharp.contains a c h x just.0, sharp.exact a c h x just.1)
 just_one says f (kind.Number a) k x sharp h just = absurd h
 just_one says f a k x sharp h just = absurd just
 
-just_is : (k : Kind) (x : ℕ) → IsJust k x → (c : Scalar) × (k ≡ kind.Number c) × Has c x × IsConstant c x
+just_is : (k : Kind) (x : ℕ) → IsJust k x
+    → (c : Scalar) × (k ≡ kind.Number c) × Has c x × IsConstant c x
 just_is (kind.Number c) x just = (c, refl, just.0, just.1)
 just_is k x just = absurd just
 
@@ -160,13 +173,14 @@ just_below (kind.Number c) x just = just.0.0.below
 just_below k x just = absurd just
 
 just_and : (s : State) (op : AluOp) (w : Width) (a b : Scalar) (k : Kind) (x y : ℕ)
-    → NumberAnd s op w a (kind.Number b) (Ok k) → Has a x → IsConstant a x → Has b y → IsConstant b y
-    → IsJust k (alu op w x y)
-just_and s op w a b (kind.Number c) x y h in_a is_a in_b is_b = (h.contains x y in_a in_b, h.exact x y is_a is_b)
+    → NumberAnd s op w a (kind.Number b) (Ok k) → Has a x → IsConstant a x → Has b y
+    → IsConstant b y → IsJust k (alu op w x y)
+just_and s op w a b (kind.Number c) x y h in_a is_a in_b is_b =
+    (h.contains x y in_a in_b, h.exact x y is_a is_b)
 just_and s op w a b k x y h in_a is_a in_b is_b = absurd h
 
-just_both : (s : State) (op : AluOp) (w : Width) (a b k : Kind) (x y : ℕ) → Combined s op w a b (Ok k) → IsJust a x
-    → IsJust b y → IsJust k (alu op w x y)
+just_both : (s : State) (op : AluOp) (w : Width) (a b k : Kind) (x y : ℕ)
+    → Combined s op w a b (Ok k) → IsJust a x → IsJust b y → IsJust k (alu op w x y)
 just_both s op w a b k x y h left right =
     let (c, is, in_c, is_c) = just_is a x left in
     let (e, is_e, in_e, just_e) = just_is b y right in
@@ -177,7 +191,10 @@ just_low : (b k : Kind) (y : ℕ) → OfNumber (λ a c. IsAlu Mov Low32 a a c) b
 unfolding alu
 just_low b k y h just =
     just_one (λ a c. IsAlu Mov Low32 a a c) (low Low32) b k y
-    (record { contains = λ a c says x has. says.contains x x has has; exact = λ a c says x is. says.exact x x is is }) h just
+    (record {
+      contains = λ a c says x has. says.contains x x has has;
+      exact = λ a c says x is. says.exact x x is is;
+    }) h just
 
 just_copied : (w : Width) (b k : Kind) (y : ℕ) → Copied w b (Ok k) → IsJust b y → IsJust k (low w y)
 just_copied Full64 b k y h just =
@@ -190,9 +207,11 @@ just_operand : (s : State) (t : Machine.State) (w : Width) (source : Operand) (b
     → Each (KnowsRegister s t) (operand_reads source) → OperandKind s w source b
     → (y : ℕ) × (operand_value t w source ≡ Num y) × IsJust b y
 just_operand s t w (Constant k) b set h = (unsigned w k, refl, h)
-just_operand s t w (Register r) b set h = (set.0.0, set.0.1, subst (λ x. IsJust x set.0.0) (sym h) set.0.2)
+just_operand s t w (Register r) b set h =
+    (set.0.0, set.0.1, subst (λ x. IsJust x set.0.0) (sym h) set.0.2)
 
-alu_computed : (s : State) (t : Machine.State) (w : Width) (op : AluOp) (x : Reg) (source : Operand) (b k : Kind)
+alu_computed : (s : State) (t : Machine.State) (w : Width) (op : AluOp) (x : Reg) (source : Operand)
+    (b k : Kind)
     → Each (KnowsRegister s t) (alu_reads op x source) → OperandKind s w source b
     → Arithmetic s op w (kind_of s x) b (Ok k)
     → (n : ℕ) × (arithmetic op w (reg t x) (operand_value t w source) ≡ Ok (Num n)) × IsJust k n
@@ -205,7 +224,8 @@ alu_computed s t w op x source b k set operand h =
     (alu op w n y, rw (there, is) refl, just_both s op w (kind_of s x) b k n y h own just)
 
 -- a form that sets a register puts the number into it, and the kind is that constant
-pub record Computed (p : Program) (clock : ℕ → ℕ) (t : Machine.State) (i : Insn) (d : Reg) (k : Kind) : Type 0 where
+pub record Computed (p : Program) (clock : ℕ → ℕ) (t : Machine.State) (i : Insn) (d : Reg)
+    (k : Kind) : Type 0 where
   pub number : ℕ
   pub acts : act p clock t i ≡ sets t i d (Ok (Num number))
   pub just : IsJust k number
@@ -213,61 +233,109 @@ pub record Computed (p : Program) (clock : ℕ → ℕ) (t : Machine.State) (i :
 -- a load from the place of a stack slot reads it
 pub within_place : (d : Reg) (place : Place) (j : ℕ) → j < 64 → place ≡ slot_place j
     → ReadsSlot (Load U64 d place) j
-within_place d place j below is =
-    (8 * j, (omega arith, ap (λ (q : Place). q.base) is, ap (λ (q : Place). q.offset) is), omega arith, omega arith)
+within_place d place j below is = (
+  8 * j,
+  (omega arith, ap (λ (q : Place). q.base) is, ap (λ (q : Place). q.offset) is),
+  omega arith,
+  omega arith,
+)
 
 -- 8 bytes that a run loads from a stack slot
-load_computed : (alive : Home → Type 0) (p : Program) (clock : ℕ → ℕ) (s : State) (t : Machine.State) (d : Reg) (k : Kind) (place : Place)
-    → HasKnownSlots (HoldsIf alive s) t → ((j : ℕ) → ReadsSlot (Load U64 d place) j → alive (InSlot j))
-    → IsSlotPlace place
-    → ((e : TrapReason) → act p clock t (Load U64 d place) ≡ Trapped e → ⊥) → ResultKind p.maps s (Load U64 d place) (Ok k)
-    → Computed p clock t (Load U64 d place) d k
-load_computed alive p clock s t d k place stack read (j, below, is) goes h = of place is goes h where
-  there : ((e : TrapReason) → act p clock t (Load U64 d (slot_place j)) ≡ Trapped e → ⊥)
-      → ResultKind p.maps s (Load U64 d (slot_place j)) (Ok k) → Computed p clock t (Load U64 d (slot_place j)) d k
-  there goes h =
-      let (y, held, acts) = load_acts (HoldsIf alive s) p clock t d j stack below goes in
-      record { number = y; acts = acts; just = load_just s j y k (held (read j (within_place d place j below is))) h }
+load_computed : (alive : Home → Type 0) (p : Program) (clock : ℕ → ℕ) (s : State)
+    (t : Machine.State) (d : Reg) (k : Kind) (place : Place)
+    → HasKnownSlots (HoldsIf alive s) t
+    → ((j : ℕ) → ReadsSlot (Load U64 d place) j → alive (InSlot j)) → IsSlotPlace place
+    → ((e : TrapReason) → act p clock t (Load U64 d place) ≡ Trapped e → ⊥)
+    → ResultKind p.maps s (Load U64 d place) (Ok k) → Computed p clock t (Load U64 d place) d k
+load_computed alive p clock s t d k place stack read (j, below, is) goes h =
+    of place is goes h where
+      there : ((e : TrapReason) → act p clock t (Load U64 d (slot_place j)) ≡ Trapped e → ⊥)
+          → ResultKind p.maps s (Load U64 d (slot_place j)) (Ok k)
+          → Computed p clock t (Load U64 d (slot_place j)) d k
+      there goes h =
+          let (y, held, acts) = load_acts (HoldsIf alive s) p clock t d j stack below goes in
+          record {
+            number = y;
+            acts = acts;
+            just = load_just s j y k (held (read j (within_place d place j below is))) h;
+          }
 
-  of : (place : Place) → place ≡ slot_place j
-      → ((e : TrapReason) → act p clock t (Load U64 d place) ≡ Trapped e → ⊥) → ResultKind p.maps s (Load U64 d place) (Ok k)
-      → Computed p clock t (Load U64 d place) d k
-  of place is =
-      subst (λ q. ((e : TrapReason) → act p clock t (Load U64 d q) ≡ Trapped e → ⊥) → ResultKind p.maps s (Load U64 d q) (Ok k) → Computed p clock t (Load U64 d q) d k) (sym is) there
+      of : (place : Place) → place ≡ slot_place j
+          → ((e : TrapReason) → act p clock t (Load U64 d place) ≡ Trapped e → ⊥)
+          → ResultKind p.maps s (Load U64 d place) (Ok k)
+          → Computed p clock t (Load U64 d place) d k
+      of place is =
+          subst (λ q. ((e : TrapReason) → act p clock t (Load U64 d q) ≡ Trapped e → ⊥)
+          → ResultKind p.maps s (Load U64 d q) (Ok k) → Computed p clock t (Load U64 d q) d k)
+          (sym is) there
 
-pub computed : (alive : Home → Type 0) (p : Program) (clock : ℕ → ℕ) (s : State) (t : Machine.State) (i : Insn) (d : Reg) (k : Kind)
+pub computed : (alive : Home → Type 0) (p : Program) (clock : ℕ → ℕ) (s : State) (t : Machine.State)
+    (i : Insn) (d : Reg) (k : Kind)
     → IsDeterminedForm i → Each (KnowsRegister s t) (operands i) → HasKnownSlots (HoldsIf alive s) t
     → ((j : ℕ) → ReadsSlot i j → alive (InSlot j))
-    → ((e : TrapReason) → act p clock t i ≡ Trapped e → ⊥) → writes i ≡ Some d → ResultKind p.maps s i (Ok k)
-    → Computed p clock t i d k
+    → ((e : TrapReason) → act p clock t i ≡ Trapped e → ⊥) → writes i ≡ Some d
+    → ResultKind p.maps s i (Ok k) → Computed p clock t i d k
 unfolding act
 computed alive p clock s t (Alu w op x source) d k plain set stack read traps written h =
     let same : x ≡ d = cc in
     let (b, operand, gives) = h in
     let (n, is, just) = alu_computed s t w op x source b k set operand gives in
-    record { number = n; acts = ap (λ r. sets t (Alu w op x source) x r) is ∙ ap (λ y. sets t (Alu w op x source) y (Ok (Num n))) same; just = just }
+    record {
+      number = n;
+      acts = ap (λ r. sets t (Alu w op x source) x r) is
+          ∙ ap (λ y. sets t (Alu w op x source) y (Ok (Num n))) same;
+      just = just;
+    }
 computed alive p clock s t (Neg w x) d k plain set stack read traps written h =
     let same : x ≡ d = cc in
     let (n, there, own) = set.0 in
-    record { number = negated w n; acts = ap (λ v. sets t (Neg w x) x (on_number (negated w) v)) there ∙ ap (λ y. sets t (Neg w x) y (Ok (Num (negated w n)))) same; just = just_one (IsNegated w) (negated w) (kind_of s x) k n (record { contains = λ a c says. says.contains; exact = λ a c says. says.exact }) h own }
+    record {
+      number = negated w n;
+      acts = ap (λ v. sets t (Neg w x) x (on_number (negated w) v)) there
+          ∙ ap (λ y. sets t (Neg w x) y (Ok (Num (negated w n)))) same;
+      just = just_one (IsNegated w) (negated w) (kind_of s x) k n
+          (record { contains = λ a c says. says.contains; exact = λ a c says. says.exact }) h own;
+    }
 computed alive p clock s t (MovSx by x r) d k plain set stack read traps written h =
     let same : x ≡ d = cc in
     let (n, there, own) = set.0 in
-    record { number = sign_extended by n; acts = ap (λ v. sets t (MovSx by x r) x (on_number (sign_extended by) v)) there ∙ ap (λ y. sets t (MovSx by x r) y (Ok (Num (sign_extended by n)))) same; just = just_one (IsSignExtended by) (sign_extended by) (kind_of s r) k n (record { contains = λ a c says. says.contains; exact = λ a c says. says.exact }) h own }
+    record {
+      number = sign_extended by n;
+      acts = ap (λ v. sets t (MovSx by x r) x (on_number (sign_extended by) v)) there
+          ∙ ap (λ y. sets t (MovSx by x r) y (Ok (Num (sign_extended by n)))) same;
+      just = just_one (IsSignExtended by) (sign_extended by) (kind_of s r) k n
+          (record { contains = λ a c says. says.contains; exact = λ a c says. says.exact }) h own;
+    }
 computed alive p clock s t (ByteSwap order span x) d k plain set stack read traps written h =
     let same : x ≡ d = cc in
     let (n, there, own) = set.0 in
-    record { number = reordered order span n; acts = ap (λ v. sets t (ByteSwap order span x) x (on_number (reordered order span) v)) there ∙ ap (λ y. sets t (ByteSwap order span x) y (Ok (Num (reordered order span n)))) same; just = just_one (IsReordered order span) (reordered order span) (kind_of s x) k n (record { contains = λ a c says. says.contains; exact = λ a c says. says.exact }) h own }
+    record {
+      number = reordered order span n;
+      acts = ap (λ v. sets t (ByteSwap order span x) x (on_number (reordered order span) v)) there
+          ∙ ap (λ y. sets t (ByteSwap order span x) y (Ok (Num (reordered order span n)))) same;
+      just = just_one (IsReordered order span) (reordered order span) (kind_of s x) k n
+          (record { contains = λ a c says. says.contains; exact = λ a c says. says.exact }) h own;
+    }
 computed alive p clock s t (LoadNumber x n) d k plain set stack read traps written h =
     let same : x ≡ d = cc in
-    record { number = n; acts = ap (λ y. sets t (LoadNumber x n) y (Ok (Num n))) same; just = let kept : k ≡ h.0 = cc (h.2) in subst (λ q. IsJust q n) (sym kept) h.1 }
+    record {
+      number = n;
+      acts = ap (λ y. sets t (LoadNumber x n) y (Ok (Num n))) same;
+      just = let kept : k ≡ h.0 = cc (h.2) in subst (λ q. IsJust q n) (sym kept) h.1;
+    }
 computed alive p clock s t (Load U64 x place) d k form set stack read traps written h =
     let same : x ≡ d = cc in
     let c = load_computed alive p clock s t x k place stack read form traps h in
-    record { number = c.number; acts = c.acts ∙ ap (λ y. sets t (Load U64 x place) y (Ok (Num c.number))) same; just = c.just }
+    record {
+      number = c.number;
+      acts = c.acts ∙ ap (λ y. sets t (Load U64 x place) y (Ok (Num c.number))) same;
+      just = c.just;
+    }
 computed alive p clock s t (Load size x place) d k form set stack read traps written h = absurd form
-computed alive p clock s t (Store size place r) d k form set stack read traps written h = absurd (cc)
-computed alive p clock s t (StoreConstant size place n) d k form set stack read traps written h = absurd (cc)
+computed alive p clock s t (Store size place r) d k form set stack read traps written h =
+    absurd (cc)
+computed alive p clock s t (StoreConstant size place n) d k form set stack read traps written h =
+    absurd (cc)
 computed alive p clock s t (Jump by) d k form set stack read traps written h = absurd (cc)
 computed alive p clock s t (JumpLong by) d k form set stack read traps written h = absurd (cc)
 computed alive p clock s t (JumpIf c by) d k form set stack read traps written h = absurd (cc)

@@ -1,9 +1,9 @@
 -- What forgetting dead registers and stack slots does to a state: it means more, and all
 -- else stays.
-use Rattle.std.proofs.Common.{◌≡◌, ◌≢◌, ◌<◌, ◌≤◌, ◌+◌, ◌∷◌, ◌++◌, [], ℕ, zero, suc, List, length, map, replicate, get_or, set, refl, sym, ap, ◌∙◌, subst, arith, inl, inr}
+use Rattle.std.proofs.Common.{◌≡◌, ◌≢◌, ◌<◌, ◌+◌, ◌∷◌, ◌++◌, [], ℕ, zero, suc, List, length, map, get_or, refl, sym, ap, ◌∙◌, subst, arith, inl, inr}
 use Rattle.std.proofs.lemmas.Bool.{cases_lt, cases_eq}
 use Rattle.std.proofs.lemmas.Nat.Bits.{bit_at-zero}
-use Rattle.std.proofs.lemmas.List.{length-replicate, get_or-replicate, length-set, get_or-set_same, get_or-set_other, get_or_past}
+use Rattle.std.proofs.lemmas.List.{get_or_past}
 use Rattle.isa_model.specs.declared.registers.Reg.{Reg}
 use Rattle.isa_model.specs.declared.registers.Reg.TheVariants.{R10}
 use Rattle.isa_model.specs.declared.values.Value.{Value}
@@ -19,14 +19,13 @@ use Rattle.reg_state.specs.declared.kinds.Kind.TheVariants.{Unset}
 use Rattle.reg_state.specs.Kinds.{Assigned, Allows}
 use Rattle.stack_state.specs.declared.slots.StackSlot.{StackSlot}
 use Rattle.stack_state.specs.declared.slots.StackSlot.TheVariants.{Written}
-use Rattle.stack_state.specs.Slots.{slot_at, frame_slots}
+use Rattle.stack_state.specs.Slots.{slot_at}
 use Rattle.stack_state.specs.StackMeaning.{SlotMeans}
 use Rattle.stack_state.specs.declared.states.AbstractFrame.{AbstractFrame}
 use Rattle.stack_state.specs.declared.states.State.{State}
 use Rattle.stack_state.specs.Meaning.{frames_of, abstract_frame_at, depth, registers_of, kind_at, no_frame, Means, Covers}
-use Rattle.stack_state.proofs.MeaningLaws.{abstract_frame_at-caller, abstract_frame_at-innermost, length-frames_of, FrameKeeps, MeansBy-change}
+use Rattle.stack_state.proofs.MeaningLaws.{abstract_frame_at-innermost, length-frames_of, FrameKeeps, MeansBy-change}
 use Rattle.stack_state.specs.Places.{kind_of}
-use Rattle.isa_model.proofs.RegisterLaws.{same_number}
 use Rattle.stack_state.proofs.PlaceLaws.{kind_of-registers}
 use Rattle.control_flow.specs.Flows.{IsJoin}
 use Rattle.control_flow.specs.Liveness.{IsLive, IsSlotLive}
@@ -35,16 +34,16 @@ use Rattle.transfer.specs.declared.Ways.{Ways}
 use Rattle.transfer.specs.declared.Ways.TheVariants as ways
 use Rattle.transfer.specs.Leading.{LeadsTo, InSome}
 use Rattle.transfer.specs.Following.{returns_of, GoesOnTo}
-use Rattle.walks.specs.Forgetting.{IsKept, AreKept, IsSlotLeft, AreSlotsLeft, IsSlotDeadAt, IsSlotKept, AreSlotsKept, IsCallerSlotKept, IsCallerKept, AreCallersKept, CallersForgotten, slots_in, Forgets, IsForgotten}
+use Rattle.walks.specs.Forgetting.{IsKept, IsSlotDeadAt, IsSlotKept, IsCallerSlotKept, slots_in, Forgets, IsForgotten}
 use Rattle.walks.specs.Counts.{AreForgotten}
-use Rattle.walks.proofs.OnNumbers.{below_ten}
 
 -- ---- what stays
 
 pub Forgets-slot : (p : Program) (a b : State) → Forgets p a b → b.slot ≡ a.slot
 Forgets-slot p a b f = ap (λ (x : State). x.slot) f.rest
 
-pub Forgets-callers : (p : Program) (a b : State) → Forgets p a b → length b.callers.items ≡ length a.callers.items
+pub Forgets-callers : (p : Program) (a b : State) → Forgets p a b
+    → length b.callers.items ≡ length a.callers.items
 Forgets-callers p a b f = f.callers.as_many
 
 pub Forgets-depth : (p : Program) (a b : State) → Forgets p a b → depth b ≡ depth a
@@ -57,7 +56,8 @@ maps_same f d [] (y ∷ ys) long same = absurd (omega arith)
 maps_same f d (x ∷ xs) [] long same = absurd (omega arith)
 maps_same f d (x ∷ xs) (y ∷ ys) long same =
     ap (λ (n : ℕ). n ∷ map f xs) (same zero (omega arith))
-    ∙ ap (λ (l : List ℕ). f y ∷ l) (maps_same f d xs ys (omega arith) (λ k below. same (suc k) (omega arith)))
+    ∙ ap (λ (l : List ℕ). f y ∷ l)
+    (maps_same f d xs ys (omega arith) (λ k below. same (suc k) (omega arith)))
 
 -- each call frame returns to where it returned
 frame_returns : (p : Program) (a b : State) (k : ℕ) → Forgets p a b → k < depth a
@@ -66,7 +66,9 @@ frame_returns p a b k f below = elim (cases_eq k (length a.callers.items)) [
   | inl last ↦
       let here : abstract_frame_at a k
       ≡ a.innermost = ap (abstract_frame_at a) last ∙ abstract_frame_at-innermost a in
-      let there : abstract_frame_at b k ≡ b.innermost = ap (abstract_frame_at b) (last ∙ sym (Forgets-callers p a b f)) ∙ abstract_frame_at-innermost b in
+      let there : abstract_frame_at b k ≡ b.innermost =
+      ap (abstract_frame_at b) (last ∙ sym (Forgets-callers p a b f))
+      ∙ abstract_frame_at-innermost b in
       ap (λ (x : AbstractFrame). x.return_slot) there
       ∙ ap (λ (x : State). x.innermost.return_slot) f.rest
       ∙ ap (λ (x : AbstractFrame). x.return_slot) (sym here)
@@ -74,26 +76,32 @@ frame_returns p a b k f below = elim (cases_eq k (length a.callers.items)) [
 ]
 
 pub Forgets-returns : (p : Program) (a b : State) → Forgets p a b → returns_of b ≡ returns_of a
-Forgets-returns p a b f = maps_same (λ (x : AbstractFrame). x.return_slot) no_frame (frames_of b) (frames_of a)
+Forgets-returns p a b f =
+    maps_same (λ (x : AbstractFrame). x.return_slot) no_frame (frames_of b) (frames_of a)
     (length-frames_of b ∙ Forgets-depth p a b f ∙ sym (length-frames_of a))
-    (λ k below. frame_returns p a b k f (omega (arith, below, length-frames_of b, Forgets-depth p a b f)))
+    (λ k below. frame_returns p a b k f
+    (omega (arith, below, length-frames_of b, Forgets-depth p a b f)))
 
 -- ---- what is known of registers
 
-pub Forgets-each : (p : Program) (a b : State) (r : Reg) → Forgets p a b → r ≢ R10 → IsKept p a.slot r (kind_of a r) (kind_of b r)
+pub Forgets-each : (p : Program) (a b : State) (r : Reg) → Forgets p a b → r ≢ R10
+    → IsKept p a.slot r (kind_of a r) (kind_of b r)
 Forgets-each p a b r f own =
     subst (λ k. IsKept p a.slot r k (kind_of b r)) (sym (kind_of-registers a r own))
-    (subst (λ k. IsKept p a.slot r (kind_at (registers_of a) (reg_number r)) k) (sym (kind_of-registers b r own)) (f.registers.each r own))
+    (subst (λ k. IsKept p a.slot r (kind_at (registers_of a) (reg_number r)) k)
+    (sym (kind_of-registers b r own)) (f.registers.each r own))
 
 -- a register that is live is known as before
-pub Forgets-live : (p : Program) (a b : State) (r : Reg) → Forgets p a b → r ≢ R10 → IsLive p r a.slot → kind_of b r ≡ kind_of a r
+pub Forgets-live : (p : Program) (a b : State) (r : Reg) → Forgets p a b → r ≢ R10
+    → IsLive p r a.slot → kind_of b r ≡ kind_of a r
 Forgets-live p a b r f own live = elim (Forgets-each p a b r f own) [
   | inl same ↦ same.1
   | inr gone ↦ absurd (gone.0.1 live)
 ]
 
 -- where no paths meet each one is
-pub Forgets-alone : (p : Program) (a b : State) (r : Reg) → Forgets p a b → r ≢ R10 → (IsJoin p a.slot → ⊥) → kind_of b r ≡ kind_of a r
+pub Forgets-alone : (p : Program) (a b : State) (r : Reg) → Forgets p a b → r ≢ R10
+    → (IsJoin p a.slot → ⊥) → kind_of b r ≡ kind_of a r
 Forgets-alone p a b r f own alone = elim (Forgets-each p a b r f own) [
   | inl same ↦ same.1
   | inr gone ↦ absurd (alone gone.0.0)
@@ -114,64 +122,87 @@ Forgets-slot_live p a b j f below live = elim (f.slots.each j below) [
 slot_kept_means : (p : Program) (slot j : ℕ) (e : Assigned) (before after : StackSlot)
     (cs : List Cell)
     → IsSlotKept p slot j before after → SlotMeans e before cs → SlotMeans e after cs
-slot_kept_means p slot j e before after cs (inl same) h = subst (λ s. SlotMeans e s cs) (sym same.1) h
+slot_kept_means p slot j e before after cs (inl same) h =
+    subst (λ s. SlotMeans e s cs) (sym same.1) h
 slot_kept_means p slot j e before after cs (inr gone) h =
-    let nothing : SlotMeans e (Written 0) cs = λ i below marked. let none = bit_at-zero i in absurd cc in
+    let nothing : SlotMeans e (Written 0) cs = λ i below marked. let none = bit_at-zero i in
+    absurd cc in
     subst (λ s. SlotMeans e s cs) (sym gone.1) nothing
 
 caller_slot_means : (p : Program) (slot j : ℕ) (e : Assigned) (before after : StackSlot)
     (cs : List Cell)
     → IsCallerSlotKept p slot j before after → SlotMeans e before cs → SlotMeans e after cs
-caller_slot_means p slot j e before after cs (inl same) h = subst (λ s. SlotMeans e s cs) (sym same) h
+caller_slot_means p slot j e before after cs (inl same) h =
+    subst (λ s. SlotMeans e s cs) (sym same) h
 caller_slot_means p slot j e before after cs (inr gone) h =
-    let nothing : SlotMeans e (Written 0) cs = λ i below marked. let none = bit_at-zero i in absurd cc in
+    let nothing : SlotMeans e (Written 0) cs = λ i below marked. let none = bit_at-zero i in
+    absurd cc in
     subst (λ s. SlotMeans e s cs) (sym gone.1) nothing
 
-kept_allows : (p : Program) (slot : ℕ) (r : Reg) (e : Assigned) (before after : Kind) (v : Value) → IsKept p slot r before after → Allows e before v → Allows e after v
+kept_allows : (p : Program) (slot : ℕ) (r : Reg) (e : Assigned) (before after : Kind) (v : Value)
+    → IsKept p slot r before after → Allows e before v → Allows e after v
 kept_allows p slot r e before after v (inl same) h = subst (λ k. Allows e k v) (sym same.1) h
 kept_allows p slot r e before after v (inr gone) h = subst (λ k. Allows e k v) (sym gone.1) tt
 
 not_last : (r : Reg) (k : ℕ) → reg_number r ≡ k → k < 10 → r ≢ R10
-not_last r k is below same = let ten : reg_number r ≡ 10 = ap reg_number same in absurd (omega arith)
+not_last r k is below same =
+    let ten : reg_number r ≡ 10 = ap reg_number same in absurd (omega arith)
 
-registers_allow : (p : Program) (a b : State) (e : Assigned) (k : ℕ) (v : Value) → Forgets p a b → Allows e (kind_at (registers_of a) k) v → Allows e (kind_at (registers_of b) k) v
+registers_allow : (p : Program) (a b : State) (e : Assigned) (k : ℕ) (v : Value) → Forgets p a b
+    → Allows e (kind_at (registers_of a) k) v → Allows e (kind_at (registers_of b) k) v
 registers_allow p a b e k v f h = elim (cases_lt k 10) [
   | inl below ↦
       let (r, named, is) = numbered k (omega arith) in
       let own = not_last r k is below in
       subst (λ n. Allows e (kind_at (registers_of b) n) v) is
-      (kept_allows p a.slot r e (kind_at (registers_of a) (reg_number r)) (kind_at (registers_of b) (reg_number r)) v (f.registers.each r own)
+      (kept_allows p a.slot r e (kind_at (registers_of a) (reg_number r))
+      (kind_at (registers_of b) (reg_number r)) v (f.registers.each r own)
       (subst (λ n. Allows e (kind_at (registers_of a) n) v) (sym is) h))
   | inr past ↦
-      let none : kind_at (registers_of b) k ≡ Unset = get_or_past (registers_of b) k Unset (let ten = f.registers.ten in omega arith) in
+      let none : kind_at (registers_of b) k ≡ Unset =
+      get_or_past (registers_of b) k Unset (let ten = f.registers.ten in omega arith) in
       subst (λ x. Allows e x v) (sym none) tt
 ]
 
-frames_keep : (p : Program) (a b : State) (e : Assigned) (j : ℕ) → Forgets p a b → j < depth a → FrameKeeps e e (abstract_frame_at a j) (abstract_frame_at b j)
+frames_keep : (p : Program) (a b : State) (e : Assigned) (j : ℕ) → Forgets p a b → j < depth a
+    → FrameKeeps e e (abstract_frame_at a j) (abstract_frame_at b j)
 frames_keep p a b e j f below = elim (cases_eq j (length a.callers.items)) [
   | inl last ↦
       let here : abstract_frame_at a j
       ≡ a.innermost = ap (abstract_frame_at a) last ∙ abstract_frame_at-innermost a in
-      let there : abstract_frame_at b j ≡ b.innermost = ap (abstract_frame_at b) (last ∙ sym (Forgets-callers p a b f)) ∙ abstract_frame_at-innermost b in
+      let there : abstract_frame_at b j ≡ b.innermost =
+      ap (abstract_frame_at b) (last ∙ sym (Forgets-callers p a b f))
+      ∙ abstract_frame_at-innermost b in
       let own : FrameKeeps e e a.innermost b.innermost = record {
         registers = λ k v h. registers_allow p a b e k v f h;
-        slots = λ k cs within h. slot_kept_means p a.slot k e (slot_at (slots_in a) k) (slot_at (slots_in b) k) cs (f.slots.each k within) h;
+        slots =
+            λ k cs within h.
+            slot_kept_means p a.slot k e (slot_at (slots_in a) k) (slot_at (slots_in b) k) cs
+            (f.slots.each k within) h;
       } in
-      subst (λ x. FrameKeeps e e x (abstract_frame_at b j)) (sym here) (subst (λ x. FrameKeeps e e a.innermost x) (sym there) own)
+      subst (λ x. FrameKeeps e e x (abstract_frame_at b j)) (sym here)
+      (subst (λ x. FrameKeeps e e a.innermost x) (sym there) own)
   | inr apart ↦
       let kept = f.callers.each j (omega arith) in
       record {
-        registers = λ k v h. subst (λ (x : AbstractFrame). Allows e (kind_at x.registers k) v) (sym kept.rest) h;
+        registers =
+            λ k v h.
+            subst (λ (x : AbstractFrame). Allows e (kind_at x.registers k) v) (sym kept.rest) h;
         slots = λ k cs within h. caller_slot_means p (abstract_frame_at a (j + 1)).return_slot k e
-            (slot_at (abstract_frame_at a j).stack.slots k) (slot_at (abstract_frame_at b j).stack.slots k) cs (kept.slots k within) h;
+            (slot_at (abstract_frame_at a j).stack.slots k)
+            (slot_at (abstract_frame_at b j).stack.slots k) cs (kept.slots k within) h;
       }
 ]
 
 -- whatever the state means, it means once dead registers are forgotten
-pub Means-forgets : (p : Program) (a b : State) (w : Machine.State) → Forgets p a b → Means p a w → Means p b w
+pub Means-forgets : (p : Program) (a b : State) (w : Machine.State) → Forgets p a b → Means p a w
+    → Means p b w
 unfolding Means
-Means-forgets p a b w f (e, m) =
-    (e, MeansBy-change p e e a b w m.assigned (Forgets-slot p a b f) (Forgets-returns p a b f) (λ j below. frames_keep p a b e j f below) m)
+Means-forgets p a b w f (e, m) = (
+  e,
+  MeansBy-change p e e a b w m.assigned (Forgets-slot p a b f) (Forgets-returns p a b f)
+      (λ j below. frames_keep p a b e j f below) m,
+)
 
 pub Forgets-covers : (p : Program) (a b : State) → Forgets p a b → Covers p b a
 unfolding Covers
@@ -179,18 +210,22 @@ Forgets-covers p a b f = λ w means. Means-forgets p a b w f means
 
 -- ---- ways
 
-some_forgotten : (p : Program) (w : Ways) (a b first other : State) (v : Machine.State) → AreForgotten p w a b first other → InSome p w a b v → InSome p w first other v
+some_forgotten : (p : Program) (w : Ways) (a b first other : State) (v : Machine.State)
+    → AreForgotten p w a b first other → InSome p w a b v → InSome p w first other v
 some_forgotten p ways.None a b first other v f h = h
 some_forgotten p ways.One a b first other v f h = Means-forgets p a first v f h
 some_forgotten p ways.Two a b first other v f (inl h) = inl (Means-forgets p a first v f.0 h)
 some_forgotten p ways.Two a b first other v f (inr h) = inr (Means-forgets p b other v f.1 h)
 
-pub LeadsTo-forgets : (p : Program) (s : State) (w : Ways) (a b first other : State) → AreForgotten p w a b first other → LeadsTo p s w a b → LeadsTo p s w first other
+pub LeadsTo-forgets : (p : Program) (s : State) (w : Ways) (a b first other : State)
+    → AreForgotten p w a b first other → LeadsTo p s w a b → LeadsTo p s w first other
 unfolding LeadsTo
 LeadsTo-forgets p s w a b first other f leads = λ clock fits v means.
-    After-weaker (InSome p w a b) (InSome p w first other) (step p clock v) (λ x h. some_forgotten p w a b first other x f h) (leads clock fits v means)
+    After-weaker (InSome p w a b) (InSome p w first other) (step p clock v)
+    (λ x h. some_forgotten p w a b first other x f h) (leads clock fits v means)
 
-pub GoesOnTo-forgets : (p : Program) (s a b : State) → Forgets p a b → GoesOnTo p s a → GoesOnTo p s b
+pub GoesOnTo-forgets : (p : Program) (s a b : State) → Forgets p a b → GoesOnTo p s a
+    → GoesOnTo p s b
 GoesOnTo-forgets p s a b f (inl h) = inl (record {
   follows = subst (λ n. Follows p s.slot n) (sym (Forgets-slot p a b f)) h.follows;
   returns = Forgets-returns p a b f ∙ h.returns;
@@ -203,7 +238,9 @@ GoesOnTo-forgets p s a b f (inr (inl h)) = inr (inl (record {
 }))
 GoesOnTo-forgets p s a b f (inr (inr h)) = inr (inr (record {
   here = h.here;
-  returns = h.returns ∙ ap (λ (rs : List ℕ). rs ++ a.slot ∷ []) (sym (Forgets-returns p a b f)) ∙ ap (λ (n : ℕ). returns_of b ++ n ∷ []) (sym (Forgets-slot p a b f));
+  returns =
+      h.returns ∙ ap (λ (rs : List ℕ). rs ++ a.slot ∷ []) (sym (Forgets-returns p a b f))
+      ∙ ap (λ (n : ℕ). returns_of b ++ n ∷ []) (sym (Forgets-slot p a b f));
 }))
 
 -- nothing is known of dead stack slots
@@ -215,208 +252,3 @@ Forgets-forgotten p a b f = (
     | inr gone ↦ gone.1
   ],
 )
-
--- ---- the loop
-
--- the registers with numbers below n are as a path comes to the slot, and the rest as before
-pub record KeptBelow (p : Program) (slot n : ℕ) (old new : List Kind) : Type 0 where
-  pub ten : length new ≡ 10
-  pub below : (r : Reg) → r ≢ R10 → reg_number r < n → IsKept p slot r (kind_at old (reg_number r)) (kind_at new (reg_number r))
-  pub above : (k : ℕ) → n ≤ k → kind_at new k ≡ kind_at old k
-
-pub kept_none : (p : Program) (slot : ℕ) (old : List Kind) → length old ≡ 10 → KeptBelow p slot 0 old old
-kept_none p slot old ten = record { ten = ten; below = λ r own low. absurd (omega arith); above = λ k high. refl }
-
--- the next register is live
-pub kept_more_live : (p : Program) (slot n : ℕ) (r : Reg) (old new : List Kind) → reg_number r ≡ n → IsLive p r slot → KeptBelow p slot n old new
-    → KeptBelow p slot (n + 1) old new
-kept_more_live p slot n r old new is live m = record {
-  ten = m.ten;
-  below = λ q own low. elim (cases_eq (reg_number q) n) [
-    | inl e ↦
-        let same : q ≡ r = same_number q r (e ∙ sym is) in
-        inl (λ dead. dead.1 (subst (λ (x : Reg). IsLive p x slot) (sym same) live), m.above (reg_number q) (omega arith))
-    | inr apart ↦ m.below q own (omega arith)
-  ];
-  above = λ k high. m.above k (omega arith);
-}
-
--- the next register is dead
-pub kept_more_dead : (p : Program) (slot n : ℕ) (r : Reg) (old new : List Kind) → reg_number r ≡ n → n < 10 → IsJoin p slot → (IsLive p r slot → ⊥)
-    → KeptBelow p slot n old new → KeptBelow p slot (n + 1) old (set new n Unset)
-kept_more_dead p slot n r old new is within join dead m =
-    let inside : n < length new = let ten = m.ten in omega arith in record {
-      ten = length-set new n Unset ∙ m.ten;
-      below = λ q own low. elim (cases_eq (reg_number q) n) [
-        | inl e ↦
-            let same : q ≡ r = same_number q r (e ∙ sym is) in
-            let gone : kind_at (set new n Unset) (reg_number q) ≡ Unset =
-            ap (kind_at (set new n Unset)) e ∙ get_or-set_same new n Unset Unset inside in
-            inr ((join, λ live. dead (subst (λ (x : Reg). IsLive p x slot) same live)), gone)
-        | inr apart ↦
-            subst (IsKept p slot q (kind_at old (reg_number q))) (sym (get_or-set_other new n (reg_number q) Unset Unset apart)) (m.below q own (omega arith))
-      ];
-      above = λ k high. get_or-set_other new n k Unset Unset (λ e. absurd (omega arith)) ∙ m.above k (omega arith);
-    }
-
-pub AreKept-below : (p : Program) (slot n : ℕ) (old new : List Kind) → 10 ≤ n → KeptBelow p slot n old new → AreKept p slot old new
-AreKept-below p slot n old new all m = record { ten = m.ten; each = λ r own. m.below r own (let low = below_ten r own in omega arith) }
-
--- away from joins nothing is forgotten
-pub kept_alone : (p : Program) (slot : ℕ) (old : List Kind) → length old ≡ 10 → (IsJoin p slot → ⊥) → AreKept p slot old old
-kept_alone p slot old ten alone = record { ten = ten; each = λ r own. inl (λ dead. alone dead.0, refl) }
-
--- ---- the loop through stack slots
-
--- the stack slots below n are left as they are or forgotten, and the rest is as before
-pub record SlotsLeftBelow (p : Program) (slot n : ℕ) (old new : List StackSlot) : Type 0 where
-  pub all : length new ≡ 64
-  pub below : (j : ℕ) → j < n → IsSlotLeft p slot j (slot_at old j) (slot_at new j)
-  pub above : (k : ℕ) → n ≤ k → slot_at new k ≡ slot_at old k
-
-pub slots_left_none : (p : Program) (slot : ℕ) (old : List StackSlot) → length old ≡ 64
-    → SlotsLeftBelow p slot 0 old old
-slots_left_none p slot old all = record { all = all; below = λ j low. absurd (omega arith); above = λ k high. refl }
-
--- the next stack slot is live
-pub slots_left_live : (p : Program) (slot n : ℕ) (old new : List StackSlot) → IsSlotLive p n slot
-    → SlotsLeftBelow p slot n old new
-    → SlotsLeftBelow p slot (n + 1) old new
-slots_left_live p slot n old new live m = record {
-  all = m.all;
-  below = λ j low. elim (cases_eq j n) [
-    | inl e ↦ inl (subst (λ (k : ℕ). IsSlotLive p k slot) (sym e) live, m.above j (omega arith))
-    | inr apart ↦ m.below j (omega arith)
-  ];
-  above = λ k high. m.above k (omega arith);
-}
-
--- the next stack slot is dead
-pub slots_left_dead : (p : Program) (slot n : ℕ) (old new : List StackSlot) → n < 64
-    → (IsSlotLive p n slot → ⊥)
-    → SlotsLeftBelow p slot n old new → SlotsLeftBelow p slot (n + 1) old (set new n (Written 0))
-slots_left_dead p slot n old new within dead m =
-    let inside : n < length new = let all = m.all in omega arith in record {
-      all = length-set new n (Written 0) ∙ m.all;
-      below = λ j low. elim (cases_eq j n) [
-        | inl e ↦
-            let gone : slot_at (set new n (Written 0)) j ≡ Written 0 =
-            ap (slot_at (set new n (Written 0))) e ∙ get_or-set_same new n (Written 0) (Written 0) inside in
-            inr (λ live. dead (subst (λ (k : ℕ). IsSlotLive p k slot) e live), gone)
-        | inr apart ↦
-            subst (IsSlotLeft p slot j (slot_at old j)) (sym (get_or-set_other new n j (Written 0) (Written 0) apart)) (m.below j (omega arith))
-      ];
-      above = λ k high. get_or-set_other new n k (Written 0) (Written 0) (λ e. absurd (omega arith)) ∙ m.above k (omega arith);
-    }
-
-pub AreSlotsLeft-below : (p : Program) (slot n : ℕ) (old new : List StackSlot) → 64 ≤ n
-    → SlotsLeftBelow p slot n old new → AreSlotsLeft p slot old new
-AreSlotsLeft-below p slot n old new every m = record { all = m.all; each = λ j below. m.below j (omega arith) }
-
--- all of them are live
-pub slots_left_full : (p : Program) (slot : ℕ) (old : List StackSlot) → length old ≡ 64
-    → ((j : ℕ) → j < 64 → IsSlotLive p j slot) → AreSlotsLeft p slot old old
-slots_left_full p slot old all live = record { all = all; each = λ j below. inl (live j below, refl) }
-
--- and none of them
-pub slots_left_empty : (p : Program) (slot : ℕ) (old : List StackSlot) → ((j : ℕ) → IsSlotLive p j slot → ⊥)
-    → AreSlotsLeft p slot old (replicate frame_slots (Written 0))
-slots_left_empty p slot old dead = record {
-  all = length-replicate frame_slots (Written 0);
-  each = λ j below. inr (dead j, get_or-replicate frame_slots j (Written 0) (Written 0) below);
-}
-
--- away from joins nothing is forgotten
-pub slots_kept_alone : (p : Program) (slot : ℕ) (old : List StackSlot) → length old ≡ 64
-    → (IsJoin p slot → ⊥) → AreSlotsKept p slot old old
-slots_kept_alone p slot old all alone = record { all = all; each = λ j below. inl (λ dead. alone dead.0, refl) }
-
--- at a join the dead stack slots are
-pub AreSlotsKept-left : (p : Program) (slot : ℕ) (old new : List StackSlot) → IsJoin p slot
-    → AreSlotsLeft p slot old new → AreSlotsKept p slot old new
-AreSlotsKept-left p slot old new join left = record {
-  all = left.all;
-  each = λ j below. elim (left.each j below) [
-    | inl same ↦ inl (λ dead. dead.1 same.0, same.1)
-    | inr gone ↦ inr ((join, gone.0), gone.1)
-  ];
-}
-
--- ---- callers
-
--- all callers as they are
-callers_kept_all : (p : Program) (a : State) → AreCallersKept p a a
-callers_kept_all p a = record { as_many = refl; each = λ k below. record { rest = refl; slots = λ j inside. inl refl } }
-
-pub callers_none : (p : Program) (a : State) → CallersForgotten p a a
-callers_none p a = record { rest = refl; callers = callers_kept_all p a }
-
--- the last one with other stack slots, which are left as they are or forgotten
-pub caller_left : (p : Program) (a b : State) (n : ℕ) (f g : AbstractFrame) → n + 1 ≡ length a.callers.items
-    → f ≡ abstract_frame_at a n
-    → b ≡ record a { callers = record { items = set a.callers.items n g } }
-    → g ≡ record f { stack = record { slots = g.stack.slots } }
-    → AreSlotsLeft p a.innermost.return_slot f.stack.slots g.stack.slots → CallersForgotten p a b
-caller_left p a b n f g last there is rest left = record {
-  rest = is ∙ ap (λ (x : State). record a { callers = x.callers }) (sym is);
-  callers = record {
-    as_many = ap (λ (x : State). length x.callers.items) is ∙ length-set a.callers.items n g;
-    each = λ k below.
-        let long : length b.callers.items ≡ length a.callers.items =
-        ap (λ (x : State). length x.callers.items) is ∙ length-set a.callers.items n g in
-        let now : abstract_frame_at b k ≡ get_or (set a.callers.items n g) k no_frame =
-        abstract_frame_at-caller b k (omega (arith, below, long)) ∙ ap (λ (x : State). get_or x.callers.items k no_frame) is in
-        elim (cases_eq k n) [
-          | inl e ↦
-              let own : abstract_frame_at b k ≡ g =
-              now ∙ ap (λ (i : ℕ). get_or (set a.callers.items n g) i no_frame) e
-              ∙ get_or-set_same a.callers.items n g no_frame (omega (arith, last)) in
-              let before : f ≡ abstract_frame_at a k = there ∙ ap (abstract_frame_at a) (sym e) in
-              let after : abstract_frame_at a (k + 1) ≡ a.innermost =
-              ap (abstract_frame_at a) (ap (λ (i : ℕ). i + 1) e ∙ last)
-              ∙ abstract_frame_at-innermost a in
-              let kept : IsCallerKept p a.innermost.return_slot f g = record {
-                rest = rest;
-                slots = λ j inside. elim (left.each j inside) [
-                  | inl same ↦ inl same.1
-                  | inr gone ↦ inr gone
-                ];
-              } in
-              subst (λ (x : AbstractFrame). IsCallerKept p (abstract_frame_at a (k + 1)).return_slot (abstract_frame_at a k) x) (sym own)
-              (subst (λ (x : AbstractFrame). IsCallerKept p x.return_slot (abstract_frame_at a k) g) (sym after)
-              (subst (λ (x : AbstractFrame). IsCallerKept p a.innermost.return_slot x g) before kept))
-          | inr apart ↦
-              let same : abstract_frame_at b k ≡ abstract_frame_at a k =
-              now ∙ get_or-set_other a.callers.items n k g no_frame apart ∙ sym (abstract_frame_at-caller a k (omega arith)) in
-              subst (λ (x : AbstractFrame). IsCallerKept p (abstract_frame_at a (k + 1)).return_slot (abstract_frame_at a k) x) (sym same)
-              (record { rest = refl; slots = λ j inside. inl refl })
-        ];
-  };
-}
-
--- what is forgotten of callers first, and of the innermost frame then
-pub Forgets-both : (p : Program) (a m b : State) (ks : List Kind) (slots : List StackSlot) → CallersForgotten p a m
-    → b ≡ record m { innermost = record m.innermost { registers = ks; stack = record { slots = slots } } }
-    → AreKept p m.slot m.innermost.registers ks → AreSlotsKept p m.slot m.innermost.stack.slots slots → Forgets p a b
-Forgets-both p a m b ks slots callers is registers own =
-    let whole : State = record a {
-      callers = m.callers;
-      innermost = record a.innermost { registers = ks; stack = record { slots = slots } };
-    } in
-    let same : b ≡ whole =
-    is ∙ ap (λ (x : State). record x { innermost = record x.innermost { registers = ks; stack = record { slots = slots } } }) callers.rest in
-    let forgets : Forgets p a whole = record {
-      rest = refl;
-      callers = record {
-        as_many = callers.callers.as_many;
-        each = λ k below.
-            let there : abstract_frame_at whole k ≡ abstract_frame_at m k =
-            abstract_frame_at-caller whole k (omega (arith, below, callers.callers.as_many))
-            ∙ sym (abstract_frame_at-caller m k (omega (arith, below, callers.callers.as_many))) in
-            subst (λ (x : AbstractFrame). IsCallerKept p (abstract_frame_at a (k + 1)).return_slot (abstract_frame_at a k) x) (sym there)
-            (callers.callers.each k below);
-      };
-      registers = subst (λ (x : State). AreKept p x.slot x.innermost.registers ks) callers.rest registers;
-      slots = subst (λ (x : State). AreSlotsKept p x.slot x.innermost.stack.slots slots) callers.rest own;
-    } in
-    subst (Forgets p a) (sym same) forgets

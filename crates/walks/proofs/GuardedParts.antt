@@ -39,18 +39,19 @@ part_of tail (suc zero) below = AtEnd refl
 part_of tail (suc (suc zero)) below = AtCopy refl
 part_of tail (suc (suc (suc zero))) below = AtAhead refl
 part_of tail (suc (suc (suc (suc zero)))) below = AtTest refl
-part_of tail (suc (suc (suc (suc (suc slot))))) below = part_behind tail (suc (suc (suc (suc (suc slot))))) (omega arith) below
+part_of tail (suc (suc (suc (suc (suc slot))))) below =
+    part_behind tail (suc (suc (suc (suc (suc slot))))) (omega arith) below
 
-pub part_at : (p : Program) (len slot : ℕ) (i : Insn) → (g : IsGuarded p len) → fetch p slot ≡ Some i
-    → GuardedPart g.tail slot
+pub part_at : (p : Program) (len slot : ℕ) (i : Insn) → (g : IsGuarded p len)
+    → fetch p slot ≡ Some i → GuardedPart g.tail slot
 part_at p len slot i g here =
     let inside = BeginsInsn-inside p slot (fetch-BeginsInsn p slot i here) in
     let ends = g.ends in
     part_of g.tail slot (omega (arith, inside, ends))
 
 -- a slot has one instruction
-pub one_insn : (p : Program) (slot at : ℕ) (i j : Insn) → slot ≡ at → fetch p at ≡ Some j → fetch p slot ≡ Some i
-    → j ≡ i
+pub one_insn : (p : Program) (slot at : ℕ) (i j : Insn) → slot ≡ at → fetch p at ≡ Some j
+    → fetch p slot ≡ Some i → j ≡ i
 one_insn p slot at i j same there here = cc (sym there ∙ ap (fetch p) (sym same) ∙ here)
 
 body_calls : (len : ℕ) (i : Insn) → IsBodyForm len i → CallsNothing i
@@ -61,7 +62,8 @@ body_calls len i body = tt
 calls_at : (i j : Insn) → j ≡ i → CallsNothing j → CallsNothing i
 calls_at i j one none = subst CallsNothing one none
 
-pub IsGuarded-calls : (p : Program) (len slot : ℕ) (i : Insn) → IsGuarded p len → fetch p slot ≡ Some i → CallsNothing i
+pub IsGuarded-calls : (p : Program) (len slot : ℕ) (i : Insn) → IsGuarded p len
+    → fetch p slot ≡ Some i → CallsNothing i
 IsGuarded-calls p len slot i g here = of (part_at p len slot i g here) where
   of : GuardedPart g.tail slot → CallsNothing i
   of (AtPacket at) = calls_at i _ (one_insn p slot 0 i _ at g.packet here) tt
@@ -88,13 +90,18 @@ first_no_join p len slot g early (from, jumps) = of (part_at p len from j.insn g
   j = jump_to-by p from slot jumps
 
   low : from < 4
-  low = let up = g.forward.forward from j.insn j.by j.here j.distance in let at = j.at in omega (arith, up, at, early)
+  low = let up = g.forward.forward from j.insn j.by j.here j.distance in
+      let at = j.at in omega (arith, up, at, early)
 
   of : GuardedPart g.tail from → ⊥
-  of (AtPacket at) = jumps_not j.insn _ j.by (one_insn p from 0 j.insn _ at g.packet j.here) refl j.distance
-  of (AtEnd at) = jumps_not j.insn _ j.by (one_insn p from 1 j.insn _ at g.packet_end j.here) refl j.distance
-  of (AtCopy at) = jumps_not j.insn _ j.by (one_insn p from 2 j.insn _ at g.copy j.here) refl j.distance
-  of (AtAhead at) = jumps_not j.insn _ j.by (one_insn p from 3 j.insn _ at g.ahead j.here) refl j.distance
+  of (AtPacket at) =
+      jumps_not j.insn _ j.by (one_insn p from 0 j.insn _ at g.packet j.here) refl j.distance
+  of (AtEnd at) =
+      jumps_not j.insn _ j.by (one_insn p from 1 j.insn _ at g.packet_end j.here) refl j.distance
+  of (AtCopy at) =
+      jumps_not j.insn _ j.by (one_insn p from 2 j.insn _ at g.copy j.here) refl j.distance
+  of (AtAhead at) =
+      jumps_not j.insn _ j.by (one_insn p from 3 j.insn _ at g.ahead j.here) refl j.distance
   of (AtTest at) = let h = low in omega (arith, at, h)
   of (InBody behind before) = let h = low in omega (arith, behind, h)
   of (AtAnswer at) = let h = low in let far = g.behind in omega (arith, at, h, far)

@@ -1,41 +1,31 @@
 -- What is known at each slot of a guarded program, and that it stays so.
-use Rattle.std.proofs.Common.{◌≡◌, ◌≤◌, ◌+◌, ◌<◌, ◌∷◌, [], ℕ, suc, Some, true, List, arith, refl, sym, ap, ◌∙◌, subst, inl, inr}
+use Rattle.std.proofs.Common.{◌≡◌, ◌≤◌, ◌+◌, ◌<◌, ◌∷◌, [], ℕ, suc, Some, List, arith, refl, sym, ap, ◌∙◌, subst, inl, inr}
 use Rattle.std.specs.Prelude.{◌≢◌}
-use Rattle.isa_model.specs.declared.map_defs.MapDef.{MapDef}
 use Rattle.isa_model.specs.declared.registers.Reg.{Reg}
 use Rattle.isa_model.specs.declared.registers.Reg.TheVariants.{R1, R2, R3, R4, R10}
-use Rattle.isa_model.specs.declared.instructions.AluOp.{AluOp}
-use Rattle.isa_model.specs.declared.instructions.AluOp.TheVariants.{Mov}
-use Rattle.isa_model.specs.declared.instructions.Cond.{Cond}
-use Rattle.isa_model.specs.declared.instructions.Operand.{Operand}
-use Rattle.isa_model.specs.declared.instructions.Operand.TheVariants.{Constant, Register}
 use Rattle.isa_model.specs.declared.instructions.Insn.{Insn}
-use Rattle.isa_model.specs.declared.instructions.Insn.TheVariants.{Alu, Neg, MovSx, ByteSwap, LoadNumber, Load, LoadSx, Jump, JumpLong, JumpIf, Exit}
-use Rattle.isa_model.specs.Code.Instructions.{Program, fetch, slots_filled, operand_reads, alu_reads, reads, writes}
-use Rattle.isa_model.specs.Machine.Steps.{destination}
-use Rattle.isa_model.specs.Machine.Successors.{falls_through, Follows, FallsTo}
-use Rattle.isa_model.specs.MustAccept.Paths.{IsPlainForm, Each, IsOneOf, needs, written_too, PathTo}
-use Rattle.isa_model.specs.MustAccept.Guarded.{IsFree, IsFreeOperand, IsBodyForm, IsGuarded}
+use Rattle.isa_model.specs.Code.Instructions.{Program, fetch, writes}
+use Rattle.isa_model.specs.Machine.Successors.{FallsTo}
+use Rattle.isa_model.specs.MustAccept.Paths.{IsOneOf, written_too, PathTo}
+use Rattle.isa_model.specs.MustAccept.Guarded.{IsFree, IsGuarded}
 use Rattle.reg_state.specs.declared.kinds.Kind.{Kind}
 use Rattle.reg_state.specs.declared.kinds.Kind.TheVariants as kind
 use Rattle.stack_state.specs.declared.states.State.{State}
 use Rattle.stack_state.specs.Places.{kind_of, with_register, go_to}
 use Rattle.stack_state.proofs.PlaceLaws.{kind_of-with_other}
 use Rattle.stack_state.specs.Starts.{start}
-use Rattle.branch_refine.specs.Refining.{IsNumberKind, NamesRegister}
+use Rattle.branch_refine.specs.Refining.{IsNumberKind}
 use Rattle.transfer.specs.declared.Ways.{Ways}
-use Rattle.transfer.specs.Exact.{StepsToWays, SetsRegister}
 use Rattle.control_flow.specs.Liveness.{IsLive}
 use Rattle.walks.specs.Forgetting.{Forgets}
 use Rattle.walks.specs.Walks.{IsAmong}
-use Rattle.walks.proofs.Accepted.{Each-all, Each-one}
 use Rattle.walks.proofs.Forgotten.{Forgets-slot, Forgets-live, Forgets-alone}
-use Rattle.walks.proofs.Living.{needs_live, live_before, KnowsNumbers-forgets, known_further}
-use Rattle.walks.proofs.Forward.{StepsToWays-follows, follows_up}
-use Rattle.walks.proofs.OnNumbers.{NumbersIn, Made, KnowsNumbers, KnowsNumbers-with, KnowsNumbers-go_to, KnowsNumbers-makes, kind_of-go_to, kind_of-with_own, room-with, are_compared, one_among, none_among, side_among}
+use Rattle.walks.proofs.Living.{live_before, KnowsNumbers-forgets}
+use Rattle.walks.proofs.OnNumbers.{kind_of-go_to, kind_of-with_own, room-with, one_among}
+use Rattle.walks.proofs.KnowsNumbers.{KnowsNumbers, KnowsNumbers-with, KnowsNumbers-go_to}
 use Rattle.walks.proofs.OnPackets.{packet_from, GivesKind}
-use Rattle.walks.proofs.Plain.{follows_by, PathTo-more}
-use Rattle.walks.proofs.GuardedParts.{IsGuarded-calls, IsGuarded-no_calls, first_no_join}
+use Rattle.walks.proofs.Plain.{PathTo-more}
+use Rattle.walks.proofs.GuardedParts.{IsGuarded-calls, first_no_join}
 
 -- ---- a kind put into a register
 
@@ -44,29 +34,44 @@ pub record Put (s t : State) (d : Reg) (k : Kind) : Type 0 where
   pub own : kind_of t d ≡ k
   pub others : (q : Reg) → q ≢ d → kind_of t q ≡ kind_of s q
 
-pub put_of : (s a b t : State) (d : Reg) (k : Kind) (w : Ways) (known : List Reg) → KnowsNumbers s known → d ≢ R10
-    → GivesKind s d k w a → IsAmong w a b t → Put s t d k
+pub put_of : (s a b t : State) (d : Reg) (k : Kind) (w : Ways) (known : List Reg)
+    → KnowsNumbers s known → d ≢ R10 → GivesKind s d k w a → IsAmong w a b t → Put s t d k
 put_of s a b t d k w known knows own gives among =
-    let is : t ≡ go_to (with_register s d k) (s.slot + 1) = one_among w a b t gives.0 among ∙ gives.1 in
+    let is : t ≡ go_to (with_register s d k) (s.slot + 1) = one_among w a b t gives.0 among
+    ∙ gives.1 in
     record {
       slot = ap (λ (x : State). x.slot) is;
-      own = ap (λ (x : State). kind_of x d) is ∙ kind_of-go_to (with_register s d k) (s.slot + 1) d ∙ kind_of-with_own s d k own knows.room;
-      others = λ q other. ap (λ (x : State). kind_of x q) is ∙ kind_of-go_to (with_register s d k) (s.slot + 1) q ∙ kind_of-with_other s d q k other;
+      own =
+          ap (λ (x : State). kind_of x d) is ∙ kind_of-go_to (with_register s d k) (s.slot + 1) d
+          ∙ kind_of-with_own s d k own knows.room;
+      others =
+          λ q other. ap (λ (x : State). kind_of x q) is
+          ∙ kind_of-go_to (with_register s d k) (s.slot + 1) q ∙ kind_of-with_other s d q k other;
     }
 
 -- a pointer put into a register leaves numbers as they were
-pub known_aside : (s a b t : State) (d : Reg) (k : Kind) (w : Ways) → GivesKind s d k w a → IsAmong w a b t
-    → KnowsNumbers s [] → KnowsNumbers t []
+pub known_aside : (s a b t : State) (d : Reg) (k : Kind) (w : Ways) → GivesKind s d k w a
+    → IsAmong w a b t → KnowsNumbers s [] → KnowsNumbers t []
 known_aside s a b t d k w gives among knows =
-    let is : t ≡ go_to (with_register s d k) (s.slot + 1) = one_among w a b t gives.0 among ∙ gives.1 in
+    let is : t ≡ go_to (with_register s d k) (s.slot + 1) = one_among w a b t gives.0 among
+    ∙ gives.1 in
     subst (λ x. KnowsNumbers x []) (sym is)
-    (KnowsNumbers-go_to (with_register s d k) (s.slot + 1) [] (record { one = knows.one; room = room-with s d k ∙ knows.room; numbers = λ r among. absurd among }))
+    (KnowsNumbers-go_to (with_register s d k) (s.slot + 1) []
+    (record {
+      one = knows.one;
+      room = room-with s d k ∙ knows.room;
+      numbers = λ r among. absurd among;
+    }))
 
-known_number : (s a b t : State) (d : Reg) (k : Kind) (w : Ways) (known : List Reg) → d ≢ R10 → IsNumberKind k
+pub known_number : (s a b t : State) (d : Reg) (k : Kind) (w : Ways) (known : List Reg) → d ≢ R10
+    → IsNumberKind k
     → GivesKind s d k w a → IsAmong w a b t → KnowsNumbers s known → KnowsNumbers t (d ∷ known)
 known_number s a b t d k w known own number gives among knows =
-    let is : t ≡ go_to (with_register s d k) (s.slot + 1) = one_among w a b t gives.0 among ∙ gives.1 in
-    subst (λ x. KnowsNumbers x (d ∷ known)) (sym is) (KnowsNumbers-go_to (with_register s d k) (s.slot + 1) (d ∷ known) (KnowsNumbers-with s d k known own number knows))
+    let is : t ≡ go_to (with_register s d k) (s.slot + 1) = one_among w a b t gives.0 among
+    ∙ gives.1 in
+    subst (λ x. KnowsNumbers x (d ∷ known)) (sym is)
+    (KnowsNumbers-go_to (with_register s d k) (s.slot + 1) (d ∷ known)
+    (KnowsNumbers-with s d k known own number knows))
 
 -- ---- what is known at each slot
 
@@ -83,7 +88,8 @@ pub record Guards (p : Program) (len : ℕ) (g : IsGuarded p len) (s : State) : 
   pub packet_end : 2 ≤ s.slot → s.slot < 5 → kind_of s R3 ≡ kind.PacketEnd
   pub copied : s.slot ≡ 3 → kind_of s R4 ≡ packet_from 0 0
   pub ahead : s.slot ≡ 4 → kind_of s R4 ≡ packet_from len 0
-  pub proved : 5 ≤ s.slot → s.slot < g.tail → IsLive p R2 s.slot → (m : ℕ) × (kind_of s R2 ≡ packet_from 0 m) × (len ≤ m)
+  pub proved : 5 ≤ s.slot → s.slot < g.tail → IsLive p R2 s.slot
+      → (m : ℕ) × (kind_of s R2 ≡ packet_from 0 m) × (len ≤ m)
 
 -- ---- the body's registers
 
@@ -120,21 +126,29 @@ pub record Pointers (s : State) (len : ℕ) : Type 0 where
   pub copied : s.slot ≡ 3 → kind_of s R4 ≡ packet_from 0 0
   pub ahead : s.slot ≡ 4 → kind_of s R4 ≡ packet_from len 0
 
-pub prologue : (p : Program) (len : ℕ) (g : IsGuarded p len) (s t : State) (d : Reg) (i : Insn) → Guards p len g s
+pub prologue : (p : Program) (len : ℕ) (g : IsGuarded p len) (s t : State) (d : Reg) (i : Insn)
+    → Guards p len g s
     → s.slot < 4 → fetch p s.slot ≡ Some i → writes i ≡ Some d → FallsTo s.slot i t.slot
     → t.slot ≡ s.slot + 1 → (IsFree d → ⊥) → KnowsNumbers t [] → Pointers t len → Guards p len g t
 prologue p len g s t d i h below here written falls slot not_free knows pointers = record {
   steps = suc h.steps;
   written = d ∷ h.written;
   known = [];
-  path = subst (λ o. PathTo p (suc h.steps) t.slot (written_too o h.written)) written (PathTo-more p h.steps s.slot t.slot h.written i h.path here (inl falls));
+  path =
+      subst (λ o. PathTo p (suc h.steps) t.slot (written_too o h.written)) written
+      (PathTo-more p h.steps s.slot t.slot h.written i h.path here (inl falls));
   knows = knows;
   free = λ r free live among. elim among [
     | inl same ↦ absurd (not_free (subst IsFree same free))
-    | inr rest ↦ elim (live_before p s.slot t.slot i r here (IsGuarded-calls p len s.slot i g here) (i, here, inl falls) live) [
-      | inl is ↦ let same : r ≡ d = cc (is, written) in absurd (not_free (subst IsFree same free))
-      | inr early ↦ absurd (none_known h.known r (h.early (omega (arith, below))) (h.free r free early rest))
-    ]
+    | inr rest ↦
+        elim (live_before p s.slot t.slot i r here (IsGuarded-calls p len s.slot i g here)
+        (i, here, inl falls) live) [
+          | inl is ↦
+              let same : r ≡ d = cc (is, written) in absurd (not_free (subst IsFree same free))
+          | inr early ↦
+              absurd (none_known h.known r (h.early (omega (arith, below)))
+              (h.free r free early rest))
+        ]
   ];
   early = λ k. refl;
   context = pointers.context;
@@ -145,165 +159,18 @@ prologue p len g s t d i h below here written falls slot not_free knows pointers
   proved = λ k m live. absurd (omega (arith, k, slot, below));
 }
 
--- ---- the body
-
-free_operand : (source : Operand) → IsFreeOperand source → Each IsFree (operand_reads source)
-free_operand (Constant k) h = tt
-free_operand (Register r) h = (h, tt)
-
-alu_free : (op : AluOp) (d : Reg) (source : Operand) → IsFree d → IsFreeOperand source
-    → Each IsFree (alu_reads op d source)
-alu_free Mov d source own h = free_operand source h
-alu_free op d source own h = (own, free_operand source h)
-
-pub body_needs : (len : ℕ) (i : Insn) → IsPlainForm i → IsBodyForm len i → Each IsFree (needs i)
-body_needs len (Alu w op d source) plain h = alu_free op d source h.0 h.1
-body_needs len (Neg w d) plain h = (h, tt)
-body_needs len (MovSx e d r) plain h = (h.1, tt)
-body_needs len (ByteSwap order span d) plain h = (h, tt)
-body_needs len (LoadNumber d n) plain h = tt
-body_needs len (Jump by) plain h = tt
-body_needs len (JumpLong by) plain h = tt
-body_needs len (JumpIf c by) plain h = (h.0, free_operand c.operand h.1)
-body_needs len Exit plain h = (tt, tt)
-body_needs len i plain h = absurd plain
-
-written_free : (r : Reg) (written : List Reg) → IsFree r → IsOneOf (R1 ∷ written) r → IsOneOf written r
-written_free r written free (inl same) = absurd (subst IsFree same free)
-written_free r written free (inr rest) = rest
-
--- what an instruction needs is known to be numbers
-pub numbers_needed : (p : Program) (len : ℕ) (g : IsGuarded p len) (s : State) (i : Insn) → Guards p len g s
-    → fetch p s.slot ≡ Some i → Each IsFree (needs i) → Each (NumbersIn s) (needs i)
-numbers_needed p len g s i h here free =
-    let written = g.written h.steps s.slot h.written i h.path here in
-    Each-all (NumbersIn s) (needs i) (λ r among.
-    let own = Each-one IsFree (needs i) r free among in
-    let live = needs_live p s.slot i r here (IsGuarded-calls p len s.slot i g here) among in
-    h.knows.numbers r (h.free r own live (written_free r h.written own (Each-one (IsOneOf (R1 ∷ h.written)) (needs i) r written among))))
-
--- what is free, written and live is known, one instruction further
-more_free : (p : Program) (len : ℕ) (g : IsGuarded p len) (s : State) (next : ℕ) (i : Insn) (h : Guards p len g s) → fetch p s.slot ≡ Some i
-    → Follows p s.slot next → (r : Reg) → IsFree r → IsLive p r next → IsOneOf (written_too (writes i) h.written) r → IsOneOf (written_too (writes i) h.known) r
-more_free p len g s next i h here follows r free live among =
-    known_further (writes i) h.written h.known r
-    (elim (live_before p s.slot next i r here (IsGuarded-calls p len s.slot i g here) follows live) [ inl is ↦ inl is | inr early ↦ inr (h.free r free early) ]) among
-
-freed : (x d : Reg) → Some x ≡ Some d → IsFree x → IsFree d
-freed x d is free = let same : x ≡ d = cc is in subst IsFree same free
-
--- what an instruction of the body writes is free
-pub body_free : (len : ℕ) (i : Insn) (d : Reg) → IsBodyForm len i → writes i ≡ Some d → IsFree d
-body_free len (Alu w op x source) d h is = freed x d is h.0
-body_free len (Neg w x) d h is = freed x d is h
-body_free len (MovSx e x r) d h is = freed x d is h.0
-body_free len (ByteSwap order span x) d h is = freed x d is h
-body_free len (LoadNumber x n) d h is = freed x d is h
-body_free len (Load size x place) d h is = freed x d is h.0
-body_free len (LoadSx size x place) d h is = freed x d is h.0
-body_free len (Jump by) d h is = absurd (cc is)
-body_free len (JumpLong by) d h is = absurd (cc is)
-body_free len (JumpIf c by) d h is = absurd (cc is)
-body_free len Exit d h is = absurd (cc is)
-body_free len i d h is = absurd h
-
--- a form on numbers, after the test
-pub plain_step : (p : Program) (len : ℕ) (g : IsGuarded p len) (s t : State) (i : Insn) (w : Ways) (a b : State)
-    → Guards p len g s → 5 ≤ s.slot → fetch p s.slot ≡ Some i → IsPlainForm i
-    → Each (NumbersIn s) (reads i) → StepsToWays p s i w a b → IsAmong w a b t
-    → (t.slot < g.tail → (s.slot < g.tail) × (kind_of t R2 ≡ kind_of s R2) × (writes i ≡ Some R2 → ⊥)) → Guards p len g t
-plain_step p len g s t i w a b h behind here plain set makes among kept =
-    let follows = StepsToWays-follows p s t i w a b (IsGuarded-no_calls p len g) h.knows.one here makes among in
-    let up = follows_up p s.slot t.slot g.forward follows in
-    record {
-      steps = suc h.steps;
-      written = written_too (writes i) h.written;
-      known = written_too (writes i) h.known;
-      path = PathTo-more p h.steps s.slot t.slot h.written i h.path here (follows_by p s.slot t.slot i here follows);
-      knows = KnowsNumbers-makes p s a b t i w h.known plain set makes among h.knows;
-      free = more_free p len g s t.slot i h here follows;
-      early = λ k. absurd (omega (arith, k, up, behind));
-      context = λ k. absurd (omega (arith, k, up, behind));
-      packet = λ k m. absurd (omega (arith, m, up, behind));
-      packet_end = λ k m. absurd (omega (arith, m, up, behind));
-      copied = λ k. absurd (omega (arith, k, up, behind));
-      ahead = λ k. absurd (omega (arith, k, up, behind));
-      proved = λ k below live.
-          let (before, same, aside) = kept below in
-          let early : IsLive p R2 s.slot =
-          elim (live_before p s.slot t.slot i R2 here (IsGuarded-calls p len s.slot i g here) follows live) [ inl is ↦ absurd (aside is) | inr early ↦ early ] in
-          let (m, is, most) = h.proved behind before early in
-          (m, same ∙ is, most);
-    }
-
--- a load of bytes that are proved to be there
-pub load_step : (p : Program) (len : ℕ) (g : IsGuarded p len) (s t : State) (i : Insn) (d : Reg) (k : Kind) (w : Ways) (a b : State)
-    → Guards p len g s → 5 ≤ s.slot → s.slot < g.tail → fetch p s.slot ≡ Some i
-    → writes i ≡ Some d → falls_through i ≡ true → slots_filled i ≡ 1 → IsLive p R2 s.slot → IsFree d → IsNumberKind k → GivesKind s d k w a
-    → IsAmong w a b t → Guards p len g t
-load_step p len g s t i d k w a b h behind before here written falls one loaded free number gives among =
-    let put = put_of s a b t d k w h.known h.knows (free_own d free) gives among in
-    let slot = put.slot in
-    let on : FallsTo s.slot i t.slot = (falls, slot ∙ ap (λ n. s.slot + n) (sym one)) in
-    record {
-      steps = suc h.steps;
-      written = d ∷ h.written;
-      known = d ∷ h.known;
-      path = subst (λ o. PathTo p (suc h.steps) t.slot (written_too o h.written)) written (PathTo-more p h.steps s.slot t.slot h.written i h.path here (inl on));
-      knows = known_number s a b t d k w h.known (free_own d free) number gives among h.knows;
-      free = λ r free live among.
-          subst (λ o. IsOneOf (written_too o h.known) r) written
-          (more_free p len g s t.slot i h here (i, here, inl on) r free live (subst (λ o. IsOneOf (written_too o h.written) r) (sym written) among));
-      early = λ k. absurd (omega (arith, k, slot, behind));
-      context = λ k. absurd (omega (arith, k, slot, behind));
-      packet = λ k m. absurd (omega (arith, m, slot, behind));
-      packet_end = λ k m. absurd (omega (arith, m, slot, behind));
-      copied = λ k. absurd (omega (arith, k, slot, behind));
-      ahead = λ k. absurd (omega (arith, k, slot, behind));
-      proved = λ k below live.
-          let (m, is, most) = h.proved behind before loaded in
-          (m, put.others R2 (λ e. subst IsFree (sym e) free) ∙ is, most);
-    }
-
--- r2 stays
-sets_aside : (rows : List MapDef) (s a : State) (i : Insn) (d : Reg) → writes i ≡ Some d → IsFree d → SetsRegister rows s i a
-    → kind_of a R2 ≡ kind_of s R2
-sets_aside rows s a i d written free h =
-    let same : h.register ≡ d = cc (sym h.written ∙ written) in
-    ap (λ (x : State). kind_of x R2) h.next ∙ kind_of-go_to (with_register s h.register h.kind) (s.slot + slots_filled i) R2
-    ∙ kind_of-with_other s h.register R2 h.kind (λ e. subst IsFree (sym (e ∙ same)) free)
-
-unnamed : (c : Cond) → IsFree c.register → IsFreeOperand c.operand → NamesRegister c R2 → ⊥
-unnamed c left right (inl is) = subst IsFree is left
-unnamed c left right (inr is) = subst IsFreeOperand is right
-
-pub body_keeps : (p : Program) (len : ℕ) (s t : State) (i : Insn) (w : Ways) (a b : State) → IsPlainForm i
-    → Each (NumbersIn s) (reads i) → IsBodyForm len i → Made p s i w a b → IsAmong w a b t
-    → kind_of t R2 ≡ kind_of s R2
-body_keeps p len s t (Jump by) w a b plain set body makes among = ap (λ (x : State). kind_of x R2) (one_among w a b t makes.0 among ∙ makes.1) ∙ kind_of-go_to s (destination p s.slot by) R2
-body_keeps p len s t (JumpLong by) w a b plain set body makes among = ap (λ (x : State). kind_of x R2) (one_among w a b t makes.0 among ∙ makes.1) ∙ kind_of-go_to s (destination p s.slot by) R2
-body_keeps p len s t (JumpIf c by) w a b plain set body makes among =
-    side_among makes.stays makes.goes (go_to makes.stay (s.slot + 1)) (go_to makes.go (destination p s.slot by)) w a b t (λ x. kind_of x R2 ≡ kind_of s R2) makes.sides among
-    (kind_of-go_to makes.stay (s.slot + 1) R2 ∙ makes.left_there.others (are_compared s c set) R2 (unnamed c body.0 body.1))
-    (kind_of-go_to makes.go (destination p s.slot by) R2 ∙ makes.taken_there.others (are_compared s c set) R2 (unnamed c body.0 body.1))
-body_keeps p len s t Exit w a b plain set body makes among = absurd (none_among w a b t makes among)
-body_keeps p len s t (Alu v op d source) w a b plain set body makes among = ap (λ (x : State). kind_of x R2) (one_among w a b t makes.0 among) ∙ sets_aside p.maps s a (Alu v op d source) d refl body.0 makes.1
-body_keeps p len s t (Neg v d) w a b plain set body makes among = ap (λ (x : State). kind_of x R2) (one_among w a b t makes.0 among) ∙ sets_aside p.maps s a (Neg v d) d refl body makes.1
-body_keeps p len s t (MovSx e d r) w a b plain set body makes among = ap (λ (x : State). kind_of x R2) (one_among w a b t makes.0 among) ∙ sets_aside p.maps s a (MovSx e d r) d refl body.0 makes.1
-body_keeps p len s t (ByteSwap order span d) w a b plain set body makes among = ap (λ (x : State). kind_of x R2) (one_among w a b t makes.0 among) ∙ sets_aside p.maps s a (ByteSwap order span d) d refl body makes.1
-body_keeps p len s t (LoadNumber d n) w a b plain set body makes among = ap (λ (x : State). kind_of x R2) (one_among w a b t makes.0 among) ∙ sets_aside p.maps s a (LoadNumber d n) d refl body makes.1
-body_keeps p len s t i w a b plain set body makes among = absurd plain
-
 -- ---- dead registers forgotten
 
 -- in the first five slots nothing is forgotten, since they are no joins; after them what is live is
 -- known as before
-pub Guards-forgets : (p : Program) (len : ℕ) (g : IsGuarded p len) (a b : State) → Forgets p a b → Guards p len g a → Guards p len g b
+pub Guards-forgets : (p : Program) (len : ℕ) (g : IsGuarded p len) (a b : State) → Forgets p a b
+    → Guards p len g a → Guards p len g b
 Guards-forgets p len g a b f h =
     let slot : b.slot ≡ a.slot = Forgets-slot p a b f in
     let rest = KnowsNumbers-forgets p a b h.known f h.knows in
     let same : (r : Reg) → r ≢ R10 → a.slot < 5 → kind_of b r ≡ kind_of a r =
-    λ r own early. Forgets-alone p a b r f own (λ join. first_no_join p len a.slot g early join) in record {
+    λ r own early. Forgets-alone p a b r f own (λ join. first_no_join p len a.slot g early join) in
+    record {
       steps = h.steps;
       written = h.written;
       known = rest.left;
@@ -313,11 +180,21 @@ Guards-forgets p len g a b f h =
           let before : IsLive p r a.slot = subst (IsLive p r) slot live in
           rest.live r before (h.free r free before among);
       early = λ k. rest.none (h.early (omega (arith, k, slot)));
-      context = λ k. same R1 (λ e. absurd (cc e)) (omega (arith, k, slot)) ∙ h.context (omega (arith, k, slot));
-      packet = λ k m. same R2 (λ e. absurd (cc e)) (omega (arith, m, slot)) ∙ h.packet (omega (arith, k, slot)) (omega (arith, m, slot));
-      packet_end = λ k m. same R3 (λ e. absurd (cc e)) (omega (arith, m, slot)) ∙ h.packet_end (omega (arith, k, slot)) (omega (arith, m, slot));
-      copied = λ k. same R4 (λ e. absurd (cc e)) (omega (arith, k, slot)) ∙ h.copied (omega (arith, k, slot));
-      ahead = λ k. same R4 (λ e. absurd (cc e)) (omega (arith, k, slot)) ∙ h.ahead (omega (arith, k, slot));
+      context =
+          λ k. same R1 (λ e. absurd (cc e)) (omega (arith, k, slot))
+          ∙ h.context (omega (arith, k, slot));
+      packet =
+          λ k m. same R2 (λ e. absurd (cc e)) (omega (arith, m, slot))
+          ∙ h.packet (omega (arith, k, slot)) (omega (arith, m, slot));
+      packet_end =
+          λ k m. same R3 (λ e. absurd (cc e)) (omega (arith, m, slot))
+          ∙ h.packet_end (omega (arith, k, slot)) (omega (arith, m, slot));
+      copied =
+          λ k. same R4 (λ e. absurd (cc e)) (omega (arith, k, slot))
+          ∙ h.copied (omega (arith, k, slot));
+      ahead =
+          λ k. same R4 (λ e. absurd (cc e)) (omega (arith, k, slot))
+          ∙ h.ahead (omega (arith, k, slot));
       proved = λ k m live.
           let before : IsLive p R2 a.slot = subst (IsLive p R2) slot live in
           let (n, is, most) = h.proved (omega (arith, k, slot)) (omega (arith, m, slot)) before in

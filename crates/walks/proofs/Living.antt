@@ -17,7 +17,8 @@ use Rattle.control_flow.specs.Liveness.{IsLive}
 use Rattle.control_flow.proofs.LivenessLaws.{IsLive-read, IsLive-back}
 use Rattle.walks.specs.Forgetting.{Forgets}
 use Rattle.walks.proofs.Forgotten.{Forgets-depth, Forgets-each}
-use Rattle.walks.proofs.OnNumbers.{NumbersIn, KnowsNumbers}
+use Rattle.walks.proofs.OnNumbers.{NumbersIn}
+use Rattle.walks.proofs.KnowsNumbers.{KnowsNumbers}
 
 -- ---- instructions that call nothing
 
@@ -42,7 +43,8 @@ needs_read (CallHelper number) none = absurd none
 needs_read (CallLocal by) none = absurd none
 needs_read i none = refl
 
-pub read_needed : (i : Insn) → CallsNothing i → (r : Reg) → IsOneOf (reads i) r → IsOneOf (read_registers i) r
+pub read_needed : (i : Insn) → CallsNothing i → (r : Reg) → IsOneOf (reads i) r
+    → IsOneOf (read_registers i) r
 read_needed (CallHelper number) none r among = absurd none
 read_needed (CallLocal by) none r among = absurd none
 read_needed Exit none r among = absurd among
@@ -54,9 +56,12 @@ one_written (CallHelper number) none = absurd none
 one_written (CallLocal by) none = absurd none
 one_written i none = refl
 
--- what such an instruction needs is live there
-pub needs_live : (p : Program) (slot : ℕ) (i : Insn) (r : Reg) → fetch p slot ≡ Some i → CallsNothing i → IsOneOf (needs i) r → IsLive p r slot
-needs_live p slot i r here none among = IsLive-read p r slot i here (subst (λ (rs : List Reg). IsOneOf rs r) (sym (needs_read i none)) among)
+-- what an instruction that calls nothing needs is live there
+pub needs_live : (p : Program) (slot : ℕ) (i : Insn) (r : Reg) → fetch p slot ≡ Some i
+    → CallsNothing i → IsOneOf (needs i) r → IsLive p r slot
+needs_live p slot i r here none among =
+    IsLive-read p r slot i here
+    (subst (λ (rs : List Reg). IsOneOf rs r) (sym (needs_read i none)) among)
 
 the_one : (o : Option Reg) (r : Reg) → IsOneOf (option_to_list o) r → o ≡ Some r
 the_one None r among = absurd among
@@ -65,14 +70,19 @@ the_one (Some d) r (inr rest) = absurd rest
 
 written_or_not : (o : Option Reg) (r : Reg) → (o ≡ Some r) ⊎ (o ≢ Some r)
 written_or_not None r = inr (λ e. absurd (cc e))
-written_or_not (Some d) r = elim (same_or_other d r) [ inl same ↦ inl (ap Some same) | inr other ↦ inr (λ e. other (cc e)) ]
+written_or_not (Some d) r =
+    elim (same_or_other d r) [ inl same ↦ inl (ap Some same) | inr other ↦ inr (λ e. other (cc e)) ]
 
--- what is live after such an instruction was written by it, or is live before it
-pub live_before : (p : Program) (slot next : ℕ) (i : Insn) (r : Reg) → fetch p slot ≡ Some i → CallsNothing i → Follows p slot next → IsLive p r next
-    → (writes i ≡ Some r) ⊎ IsLive p r slot
+-- what is live after an instruction that calls nothing was written by it, or is live before it
+pub live_before : (p : Program) (slot next : ℕ) (i : Insn) (r : Reg) → fetch p slot ≡ Some i
+    → CallsNothing i → Follows p slot next → IsLive p r next → (writes i ≡ Some r) ⊎ IsLive p r slot
 live_before p slot next i r here none follows live = elim (written_or_not (writes i) r) [
   | inl written ↦ inl written
-  | inr other ↦ inr (IsLive-back p r slot next i here (λ among. other (the_one (writes i) r (subst (λ (rs : List Reg). IsOneOf rs r) (one_written i none) among))) follows live)
+  | inr other ↦
+      inr (IsLive-back p r slot next i here
+      (λ among.
+      other (the_one (writes i) r
+      (subst (λ (rs : List Reg). IsOneOf rs r) (one_written i none) among))) follows live)
 ]
 
 -- ---- numbers in live registers
@@ -84,24 +94,42 @@ pub record Remaining (p : Program) (a b : State) (known : List Reg) : Type 0 whe
   pub live : (r : Reg) → IsLive p r a.slot → IsOneOf known r → IsOneOf left r
   pub none : known ≡ [] → left ≡ []
 
-one_dropped : (p : Program) (a b : State) (q : Reg) (known : List Reg) → (IsLive p q a.slot → ⊥) → Remaining p a b known → Remaining p a b (q ∷ known)
+one_dropped : (p : Program) (a b : State) (q : Reg) (known : List Reg) → (IsLive p q a.slot → ⊥)
+    → Remaining p a b known → Remaining p a b (q ∷ known)
 one_dropped p a b q known dead rest = record {
   left = rest.left;
   numbers = rest.numbers;
-  live = λ r live among. elim among [ inl same ↦ absurd (dead (subst (λ (x : Reg). IsLive p x a.slot) same live)) | inr among ↦ rest.live r live among ];
+  live =
+      λ r live among.
+      elim among [
+        | inl same ↦ absurd (dead (subst (λ (x : Reg). IsLive p x a.slot) same live))
+        | inr among ↦ rest.live r live among
+      ];
   none = λ e. absurd (cc e);
 }
 
-one_kept : (p : Program) (a b : State) (q : Reg) (known : List Reg) → NumbersIn b q → Remaining p a b known → Remaining p a b (q ∷ known)
+one_kept : (p : Program) (a b : State) (q : Reg) (known : List Reg) → NumbersIn b q
+    → Remaining p a b known → Remaining p a b (q ∷ known)
 one_kept p a b q known number rest = record {
   left = q ∷ rest.left;
-  numbers = λ r among. elim among [ inl same ↦ subst (NumbersIn b) (sym same) number | inr among ↦ rest.numbers r among ];
-  live = λ r live among. elim among [ inl same ↦ inl same | inr among ↦ inr (rest.live r live among) ];
+  numbers =
+      λ r among.
+      elim among
+      [ inl same ↦ subst (NumbersIn b) (sym same) number | inr among ↦ rest.numbers r among ];
+  live =
+      λ r live among. elim among [ inl same ↦ inl same | inr among ↦ inr (rest.live r live among) ];
   none = λ e. absurd (cc e);
 }
 
-remaining : (p : Program) (a b : State) (known : List Reg) → Forgets p a b → ((r : Reg) → IsOneOf known r → NumbersIn a r) → Remaining p a b known
-remaining p a b [] f numbers = record { left = []; numbers = λ r among. absurd among; live = λ r live among. absurd among; none = λ e. refl }
+remaining : (p : Program) (a b : State) (known : List Reg) → Forgets p a b
+    → ((r : Reg) → IsOneOf known r → NumbersIn a r) → Remaining p a b known
+remaining p a b [] f numbers =
+    record {
+      left = [];
+      numbers = λ r among. absurd among;
+      live = λ r live among. absurd among;
+      none = λ e. refl;
+    }
 remaining p a b (q ∷ known) f numbers =
     let rest = remaining p a b known f (λ r among. numbers r (inr among)) in
     let own : NumbersIn a q = numbers q (inl refl) in
@@ -120,17 +148,24 @@ pub record KnowsLeft (p : Program) (a b : State) (known : List Reg) : Type 0 whe
   pub live : (r : Reg) → IsLive p r a.slot → IsOneOf known r → IsOneOf left r
   pub none : known ≡ [] → left ≡ []
 
-pub KnowsNumbers-forgets : (p : Program) (a b : State) (known : List Reg) → Forgets p a b → KnowsNumbers a known → KnowsLeft p a b known
+pub KnowsNumbers-forgets : (p : Program) (a b : State) (known : List Reg) → Forgets p a b
+    → KnowsNumbers a known → KnowsLeft p a b known
 KnowsNumbers-forgets p a b known f h =
     let rest = remaining p a b known f h.numbers in record {
       left = rest.left;
-      knows = record { one = Forgets-depth p a b f ∙ h.one; room = f.registers.ten; numbers = rest.numbers };
+      knows =
+          record {
+            one = Forgets-depth p a b f ∙ h.one;
+            room = f.registers.ten;
+            numbers = rest.numbers;
+          };
       live = rest.live;
       none = rest.none;
     }
 
 -- what is written and live is known, one instruction further
-pub known_further : (o : Option Reg) (written known : List Reg) (r : Reg) → (o ≡ Some r) ⊎ (IsOneOf written r → IsOneOf known r)
+pub known_further : (o : Option Reg) (written known : List Reg) (r : Reg)
+    → (o ≡ Some r) ⊎ (IsOneOf written r → IsOneOf known r)
     → IsOneOf (written_too o written) r → IsOneOf (written_too o known) r
 known_further None written known r (inl e) among = absurd (cc e)
 known_further None written known r (inr h) among = h among

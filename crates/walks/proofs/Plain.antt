@@ -22,14 +22,15 @@ use Rattle.walks.proofs.Living.{plain_calls, needs_live, live_before, KnowsNumbe
 use Rattle.walks.proofs.Forward.{StepsToWays-follows, one_frame-start, HasNumber-forward, StartTakes-few, ComesBack-forward}
 use Rattle.walks.proofs.Accepted.{HasNoCalls, no_call, IsFlow-whole, IsRefused-want, Each-all, Each-one, needs_reads, tests_pass}
 use Rattle.walks.proofs.Exits.{ShowsNoAction}
-use Rattle.walks.proofs.OnNumbers.{NumbersIn, KnowsNumbers, KnowsNumbers-makes, refused_unshown}
+use Rattle.walks.proofs.OnNumbers.{NumbersIn, refused_unshown}
+use Rattle.walks.proofs.KnowsNumbers.{KnowsNumbers, KnowsNumbers-makes}
 
 IsPlain-no_calls : (p : Program) → IsPlain p → HasNoCalls p
 IsPlain-no_calls p plain = λ slot i here. no_call i (plain.forms slot i here)
 
 -- ---- walks
 
--- some path comes to the state's slot, and what it wrote and is live is known there
+-- some path reaches the state's slot, and what it wrote and is live is known there
 record KnowsWritten (p : Program) (s : State) : Type 0 where
   steps : ℕ
   written : List Reg
@@ -38,19 +39,24 @@ record KnowsWritten (p : Program) (s : State) : Type 0 where
   knows : KnowsNumbers s known
   live : (r : Reg) → IsLive p r s.slot → IsOneOf written r → IsOneOf known r
 
-needed : (p : Program) (s : State) (i : Insn) → IsPlain p → fetch p s.slot ≡ Some i → (h : KnowsWritten p s) → Each (NumbersIn s) (needs i)
+needed : (p : Program) (s : State) (i : Insn) → IsPlain p → fetch p s.slot ≡ Some i
+    → (h : KnowsWritten p s) → Each (NumbersIn s) (needs i)
 needed p s i plain here h =
     let written = plain.written h.steps s.slot h.written i h.path here in
     let calls = plain_calls i (plain.forms s.slot i here) in
     Each-all (NumbersIn s) (needs i)
-    (λ r among. h.knows.numbers r (h.live r (needs_live p s.slot i r here calls among) (Each-one (IsOneOf h.written) (needs i) r written among)))
+    (λ r among. h.knows.numbers r
+    (h.live r (needs_live p s.slot i r here calls among)
+    (Each-one (IsOneOf h.written) (needs i) r written among)))
 
-pub follows_by : (p : Program) (slot next : ℕ) (i : Insn) → fetch p slot ≡ Some i → Follows p slot next → FallsTo slot i next ⊎ JumpsTo p slot i next
+pub follows_by : (p : Program) (slot next : ℕ) (i : Insn) → fetch p slot ≡ Some i
+    → Follows p slot next → FallsTo slot i next ⊎ JumpsTo p slot i next
 follows_by p slot next i there (j, here, on) =
     let same : j ≡ i = cc (here, there) in
     subst (λ x. FallsTo slot x next ⊎ JumpsTo p slot x next) same on
 
-pub PathTo-more : (p : Program) (n from slot : ℕ) (written : List Reg) (i : Insn) → PathTo p n from written → fetch p from ≡ Some i → FallsTo from i slot ⊎ JumpsTo p from i slot
+pub PathTo-more : (p : Program) (n from slot : ℕ) (written : List Reg) (i : Insn)
+    → PathTo p n from written → fetch p from ≡ Some i → FallsTo from i slot ⊎ JumpsTo p from i slot
     → PathTo p (suc n) slot (written_too (writes i) written)
 unfolding PathTo
 PathTo-more p n from slot written i path here on = (from, written, i, path, here, on, refl)
@@ -76,21 +82,31 @@ step_known p s t plain step h =
     let i = step.insn in
     let form = plain.forms s.slot i step.here in
     let set = needs_reads (NumbersIn s) i (needed p s i plain step.here h) in
-    let follows = StepsToWays-follows p s step.next i step.taken step.first step.other (IsPlain-no_calls p plain) h.knows.one step.here step.makes step.among in
+    let follows =
+    StepsToWays-follows p s step.next i step.taken step.first step.other
+    (IsPlain-no_calls p plain) h.knows.one step.here step.makes step.among in
     known_forgets p step.next t step.forgets (record {
       steps = suc h.steps;
       written = written_too (writes i) h.written;
-      path = PathTo-more p h.steps s.slot step.next.slot h.written i h.path step.here (follows_by p s.slot step.next.slot i step.here follows);
+      path =
+          PathTo-more p h.steps s.slot step.next.slot h.written i h.path step.here
+          (follows_by p s.slot step.next.slot i step.here follows);
       known = written_too (writes i) h.known;
-      knows = KnowsNumbers-makes p s step.first step.other step.next i step.taken h.known form set step.makes step.among h.knows;
+      knows =
+          KnowsNumbers-makes p s step.first step.other step.next i step.taken h.known form set
+          step.makes step.among h.knows;
       live = λ r live among. known_further (writes i) h.written h.known r
-          (elim (live_before p s.slot step.next.slot i r step.here (plain_calls i form) follows live) [ inl written ↦ inl written | inr early ↦ inr (h.live r early) ]) among;
+          (elim (live_before p s.slot step.next.slot i r step.here
+          (plain_calls i form) follows live)
+          [ inl written ↦ inl written | inr early ↦ inr (h.live r early) ]) among;
     })
 
-walk_known : (p : Program) (n : ℕ) (a b : State) → IsPlain p → HasPath p n a b → KnowsWritten p a → KnowsWritten p b
+walk_known : (p : Program) (n : ℕ) (a b : State) → IsPlain p → HasPath p n a b → KnowsWritten p a
+    → KnowsWritten p b
 unfolding HasPath
 walk_known p zero a b plain h known = subst (KnowsWritten p) (sym h) known
-walk_known p (suc n) a b plain h known = walk_known p n h.0 b plain h.2 (step_known p a h.0 plain h.1 known)
+walk_known p (suc n) a b plain h known =
+    walk_known p n h.0 b plain h.2 (step_known p a h.0 plain h.1 known)
 
 start_known : (p : Program) → KnowsWritten p start
 unfolding start PathTo
@@ -105,24 +121,31 @@ start_known p = record {
 
 -- ---- what is accepted
 
-stuck_unshown : (p : Program) (e : StepRefusal) (slot : ℕ) → IsPlain p → IsStuck p e slot → ShowsNoAction p.version e
+stuck_unshown : (p : Program) (e : StepRefusal) (slot : ℕ) → IsPlain p → IsStuck p e slot
+    → ShowsNoAction p.version e
 stuck_unshown p e slot plain h =
     let walk = h.walk in
-    let known = walk_known p h.steps walk.first h.state plain walk.leads (known_forgets p start walk.first walk.begins (start_known p)) in
+    let known = walk_known p h.steps walk.first h.state plain walk.leads
+    (known_forgets p start walk.first walk.begins (start_known p)) in
     let set = needed p h.state h.insn plain h.here known in
-    let pass = tests_pass h.state h.insn (needs_reads (NumbersIn h.state) h.insn set) (plain.own h.state.slot h.insn h.here) in
-    refused_unshown p h.state h.insn e (plain.forms h.state.slot h.insn h.here) set known.knows.one pass h.refused
+    let pass = tests_pass h.state h.insn (needs_reads (NumbersIn h.state) h.insn set)
+    (plain.own h.state.slot h.insn h.here) in
+    refused_unshown p h.state h.insn e
+    (plain.forms h.state.slot h.insn h.here) set known.knows.one pass h.refused
 
--- ---- the floor
+-- ---- refusals and the bound
 
-pub IsPlain-refused : (p : Program) (e : Refusal) (slot : ℕ) → IsRefused p e slot → IsPlain p → IsOutOfMemory e ⊎ IsUnanswered p e
+pub IsPlain-refused : (p : Program) (e : Refusal) (slot : ℕ) → IsRefused p e slot → IsPlain p
+    → IsOutOfMemory e ⊎ IsUnanswered p e
 IsPlain-refused p e slot refused plain =
     let free = IsPlain-no_calls p plain in
     IsRefused-want p e slot (IsUnanswered p) (IsFlow-whole p plain.whole free)
     (λ e slot h. let unshown = stuck_unshown p e slot plain h in (unshown.0, ap Step unshown.1))
-    (λ slot h. ComesBack-forward p slot free plain.forward h) (λ h. StartTakes-few p free plain.forward h) refused
+    (λ slot h. ComesBack-forward p slot free plain.forward h)
+    (λ h. StartTakes-few p free plain.forward h) refused
 
 pub IsPlain-bound : (p : Program) (n : ℕ) → HasNumber p start n → IsPlain p → n ≤ length p.insns
 IsPlain-bound p n number plain =
-    let most = HasNumber-forward p start n (IsPlain-no_calls p plain) plain.forward one_frame-start number in
+    let most = HasNumber-forward p start n
+    (IsPlain-no_calls p plain) plain.forward one_frame-start number in
     omega (arith, most)

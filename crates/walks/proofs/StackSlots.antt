@@ -47,15 +47,25 @@ slot_of_place j at place =
     let here : at ≡ 8 * j = cc same in
     omega (arith, here)
 
-place_there : (s : State) (j : ℕ) → j < 64 → IsFramePlace s (innermost s) (pos 0 +ℤ slot_offset j) U64 (8 * j)
+place_there : (s : State) (j : ℕ) → j < 64
+    → IsFramePlace s (innermost s) (pos 0 +ℤ slot_offset j) U64 (8 * j)
 place_there s j below =
-    record { live = omega arith; place = record { from_start = starts_at j; inside = omega (arith, below); aligned = omega arith } }
+    record {
+      live = omega arith;
+      place = record {
+        from_start = starts_at j;
+        inside = omega (arith, below);
+        aligned = omega arith;
+      };
+    }
 
 -- ---- loads
 
-fill_just : (slot : StackSlot) (k : Kind) (y : ℕ) → IsFill slot (Some k) → IsJust (kind_in slot) y → IsJust k y
+fill_just : (slot : StackSlot) (k : Kind) (y : ℕ) → IsFill slot (Some k) → IsJust (kind_in slot) y
+    → IsJust k y
 fill_just (Written marks) k y h just = absurd just
-fill_just (Spilled (Number c)) k y h just = let same : k ≡ Number c = cc h in subst (λ x. IsJust x y) (sym same) just
+fill_just (Spilled (Number c)) k y h just =
+    let same : k ≡ Number c = cc h in subst (λ x. IsJust x y) (sym same) just
 fill_just (Spilled other) k y h just = absurd just
 
 fill_some : (slot : StackSlot) (y : ℕ) → IsFill slot None → IsJust (kind_in slot) y → ⊥
@@ -90,7 +100,8 @@ load_goes s j y e below held h = absurd h
 
 -- ---- stores
 
-spill_just : (source : Kind) (slot : StackSlot) (y : ℕ) → IsSpill source slot → IsJust source y → IsJust (kind_in slot) y
+spill_just : (source : Kind) (slot : StackSlot) (y : ℕ) → IsSpill source slot → IsJust source y
+    → IsJust (kind_in slot) y
 spill_just (Number c) (Spilled k) y h just = subst (λ x. IsJust x y) (sym h.0) just
 spill_just (Number c) (Written marks) y h just =
     let none : 0 ≡ y = IsNumber-only c y 0 (inl just.1.0) (h.1 0 (omega arith)) in
@@ -116,12 +127,14 @@ kinds_stay : (s : State) (slots : List StackSlot) (q : Reg)
 kinds_stay s slots R10 = refl
 kinds_stay s slots q = refl
 
-own_slots : (s : State) (slots : List StackSlot) → with_frame_slots s (innermost s) slots ≡ with_own s slots
+own_slots : (s : State) (slots : List StackSlot)
+    → with_frame_slots s (innermost s) slots ≡ with_own s slots
 own_slots s slots =
     let same : (innermost s == innermost s) ≡ true = grind (arith, nat_tests) in
     rw (same, abstract_frame_at-innermost s) refl
 
-puts_in : (s : State) (j y : ℕ) (slot : StackSlot) → j < length s.innermost.stack.slots → IsJust (kind_in slot) y
+puts_in : (s : State) (j y : ℕ) (slot : StackSlot) → j < length s.innermost.stack.slots
+    → IsJust (kind_in slot) y
     → PutsSlot s (with_own s (slice_set s.innermost.stack.slots j slot)) j y
 puts_in s j y slot below just = record {
   slot = refl;
@@ -129,29 +142,39 @@ puts_in s j y slot below just = record {
   room = refl;
   kinds = λ q. kinds_stay s (slice_set s.innermost.stack.slots j slot) q;
   wide = length-set s.innermost.stack.slots j slot;
-  there = subst (λ x. IsJust (kind_in x) y) (sym (get_or-set_same s.innermost.stack.slots j slot (Written 0) below)) just;
+  there =
+      subst (λ x. IsJust (kind_in x) y)
+      (sym (get_or-set_same s.innermost.stack.slots j slot (Written 0) below)) just;
   others = λ k z other held.
-      subst (λ x. IsJust (kind_in x) z) (sym (get_or-set_other s.innermost.stack.slots j k slot (Written 0) other)) held;
+      subst (λ x. IsJust (kind_in x) z)
+      (sym (get_or-set_other s.innermost.stack.slots j k slot (Written 0) other)) held;
 }
 
-pub store_puts : (s left : State) (j y : ℕ) (source : Kind) → j < length s.innermost.stack.slots → IsJust source y
-    → StackStores s (innermost s) (pos 0 +ℤ slot_offset j) U64 source left (Ok tt) → PutsSlot s left j y
+pub store_puts : (s left : State) (j y : ℕ) (source : Kind) → j < length s.innermost.stack.slots
+    → IsJust source y → StackStores s (innermost s) (pos 0 +ℤ slot_offset j) U64 source left (Ok tt)
+    → PutsSlot s left j y
 store_puts s left j y source below just h =
     let same = slot_of_place j h.0 h.1.place in
     let spilled = h.3 in
     let slot = spilled.slot in
-    let list : slice_set (stack_slots_of s (innermost s)) (h.0 / 8) slot ≡ slice_set s.innermost.stack.slots j slot =
-    ap (λ n. slice_set (stack_slots_of s (innermost s)) n slot) same ∙ ap (λ (slots : List StackSlot). slice_set slots j slot) (slots_here s) in
+    let list : slice_set (stack_slots_of s (innermost s)) (h.0 / 8) slot
+    ≡ slice_set s.innermost.stack.slots j slot =
+    ap (λ n. slice_set (stack_slots_of s (innermost s)) n slot) same
+    ∙ ap (λ (slots : List StackSlot). slice_set slots j slot) (slots_here s) in
     let is : left ≡ with_own s (slice_set s.innermost.stack.slots j slot) =
-    spilled.left ∙ ap (with_frame_slots s (innermost s)) list ∙ own_slots s (slice_set s.innermost.stack.slots j slot) in
-    subst (λ t. PutsSlot s t j y) (sym is) (puts_in s j y slot below (spill_just source slot y spilled.spill just))
+    spilled.left ∙ ap (with_frame_slots s (innermost s)) list
+    ∙ own_slots s (slice_set s.innermost.stack.slots j slot) in
+    subst (λ t. PutsSlot s t j y) (sym is)
+    (puts_in s j y slot below (spill_just source slot y spilled.spill just))
 
-numbers_stored : (s : State) (n : ℕ) (source : Kind) → IsNumberKind source → store_refusal s n U64 source ≡ None
+numbers_stored : (s : State) (n : ℕ) (source : Kind) → IsNumberKind source
+    → store_refusal s n U64 source ≡ None
 numbers_stored s n (Number c) number = refl
 numbers_stored s n source number = absurd number
 
 -- a store of a number is not refused
-pub store_goes : (s left : State) (j : ℕ) (source : Kind) (e : Refusal) → j < 64 → IsNumberKind source
+pub store_goes : (s left : State) (j : ℕ) (source : Kind) (e : Refusal) → j < 64
+    → IsNumberKind source
     → StackStores s (innermost s) (pos 0 +ℤ slot_offset j) U64 source left (Err e) → ⊥
 store_goes s left j source e below number h = of e h.1 where
   of : (e : Refusal) → IsStoreRefused s (innermost s) (pos 0 +ℤ slot_offset j) U64 source e → ⊥

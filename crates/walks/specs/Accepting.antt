@@ -20,15 +20,15 @@ IsOutOfMemory e = ⊥
 abbrev pub IsUnanswered : Program → Refusal → Type 0
 IsUnanswered p e = (p.version ≡ Two) × (e ≡ Step NoAction)
 
--- these programs are refused only when memory runs out; those of version 2 whose run is not known also for the actions
--- that they answer with
+-- these programs are refused only when memory runs out; those of version 2 whose run is not known
+-- also for the actions that they answer with
 pub record AcceptsAll (p : Program) (e : Refusal) : Type 0 where
   pub plain : IsPlain p → IsOutOfMemory e ⊎ IsUnanswered p e
   pub determined : (steps : ℕ) → IsDetermined p steps → IsOutOfMemory e
   pub guarded : (len : ℕ) → IsGuarded p len → IsOutOfMemory e ⊎ IsUnanswered p e
 
--- the bound of a plain or a guarded program is at most its count of slots, and that of a determined one is the count of
--- steps of its run
+-- the bound of a plain or a guarded program is at most its count of slots, and that of a determined
+-- one is the count of steps of its run
 pub record BoundsAll (p : Program) (bound : ℕ) : Type 0 where
   pub plain : IsPlain p → bound ≤ length p.insns
   pub determined : (steps : ℕ) → IsDetermined p steps → bound ≡ steps

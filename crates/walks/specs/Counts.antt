@@ -31,15 +31,18 @@ pub record StepsInto (p : Program) (s : State) (taken : Ways) (first other : Sta
 -- or the number of a state at its slot that covers it and that a walk from the start reaches too
 pub data HasNumber (p : Program) : State → ℕ → Type 0 where
   LeadsNowhere : (s a b : State) (n : ℕ) → StepsInto p s ways.None a b → n ≡ 1 → HasNumber p s n
-  LeadsToOne : (s a b : State) (m n : ℕ) → StepsInto p s ways.One a b → HasNumber p a m → n ≡ m + 1 → HasNumber p s n
-  LeadsToTwo : (s a b : State) (j k n : ℕ) → StepsInto p s ways.Two a b → HasNumber p a j → HasNumber p b k → n ≡ max j k + 1
+  LeadsToOne : (s a b : State) (m n : ℕ) → StepsInto p s ways.One a b → HasNumber p a m → n ≡ m + 1
       → HasNumber p s n
-  IsCoveredBy : (s e : State) (steps n : ℕ) → WalksTo p steps e → e.slot ≡ s.slot → Covers p e s → HasNumber p e n
-      → HasNumber p s n
+  LeadsToTwo : (s a b : State) (j k n : ℕ) → StepsInto p s ways.Two a b → HasNumber p a j
+      → HasNumber p b k → n ≡ max j k + 1 → HasNumber p s n
+  IsCoveredBy : (s e : State) (steps n : ℕ) → WalksTo p steps e → e.slot ≡ s.slot → Covers p e s
+      → HasNumber p e n → HasNumber p s n
 
--- at least n instructions are explored from a state where nothing covers anything
+-- at least n instructions are explored from a state, if no state covers another
 pub data Takes (p : Program) : State → ℕ → Type 0 where
   Nothing : (s : State) (n : ℕ) → n ≡ 0 → Takes p s n
   ItsOwn : (s : State) (n : ℕ) → BeginsInsn p s.slot → n ≡ 1 → Takes p s n
-  OneMore : (s a b : State) (m n : ℕ) → StepsInto p s ways.One a b → Takes p a m → n ≡ m + 1 → Takes p s n
-  BothMore : (s a b : State) (j k n : ℕ) → StepsInto p s ways.Two a b → Takes p a j → Takes p b k → n ≡ j + k + 1 → Takes p s n
+  OneMore : (s a b : State) (m n : ℕ) → StepsInto p s ways.One a b → Takes p a m → n ≡ m + 1
+      → Takes p s n
+  BothMore : (s a b : State) (j k n : ℕ) → StepsInto p s ways.Two a b → Takes p a j → Takes p b k
+      → n ≡ j + k + 1 → Takes p s n

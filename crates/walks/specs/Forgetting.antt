@@ -1,6 +1,6 @@
--- What is forgotten of a state when a path reaches it: at joins, the registers and slots of the
--- innermost frame's stack that no path reads before it writes them. Of callers' stacks slots may be
--- forgotten that no path reads from where the caller goes on.
+-- What is forgotten of a state when a path reaches it: at joins, the registers and stack slots of
+-- the innermost call frame that no path reads before it writes them. Of callers' stacks, slots may
+-- be forgotten that no path reads from where the caller goes on.
 use Rattle.std.specs.Prelude.{◌≡◌, ◌≢◌, ◌⊎◌, ℕ, ◌+◌, ◌<◌, List, length}
 use Rattle.isa_model.specs.declared.registers.Reg.{Reg}
 use Rattle.isa_model.specs.declared.registers.Reg.TheVariants.{R10}
@@ -23,16 +23,19 @@ IsDeadAt p slot r = IsJoin p slot × (¬ IsLive p r slot)
 
 -- what is known of a register stays known, or the register is dead and unset
 abbrev pub IsKept : Program → ℕ → Reg → Kind → Kind → Type 0
-IsKept p slot r before after = ((¬ IsDeadAt p slot r) × (after ≡ before)) ⊎ (IsDeadAt p slot r × (after ≡ Unset))
+IsKept p slot r before after =
+    ((¬ IsDeadAt p slot r) × (after ≡ before)) ⊎ (IsDeadAt p slot r × (after ≡ Unset))
 
 -- the registers of a frame when a path reaches the slot
 pub record AreKept (p : Program) (slot : ℕ) (old new : List Kind) : Type 0 where
   pub ten : length new ≡ 10
-  pub each : (r : Reg) → r ≢ R10 → IsKept p slot r (kind_at old (reg_number r)) (kind_at new (reg_number r))
+  pub each : (r : Reg) → r ≢ R10
+      → IsKept p slot r (kind_at old (reg_number r)) (kind_at new (reg_number r))
 
 -- what is known of a stack slot stays known if it is live, and nothing is if it is dead
 abbrev pub IsSlotLeft : Program → ℕ → ℕ → StackSlot → StackSlot → Type 0
-IsSlotLeft p slot j before after = (IsSlotLive p j slot × (after ≡ before)) ⊎ ((¬ IsSlotLive p j slot) × (after ≡ Written 0))
+IsSlotLeft p slot j before after =
+    (IsSlotLive p j slot × (after ≡ before)) ⊎ ((¬ IsSlotLive p j slot) × (after ≡ Written 0))
 
 pub record AreSlotsLeft (p : Program) (slot : ℕ) (old new : List StackSlot) : Type 0 where
   pub all : length new ≡ 64
@@ -44,7 +47,8 @@ IsSlotDeadAt p slot j = IsJoin p slot × (¬ IsSlotLive p j slot)
 
 -- what is known of a stack slot stays known, or the slot is dead and nothing is
 abbrev pub IsSlotKept : Program → ℕ → ℕ → StackSlot → StackSlot → Type 0
-IsSlotKept p slot j before after = ((¬ IsSlotDeadAt p slot j) × (after ≡ before)) ⊎ (IsSlotDeadAt p slot j × (after ≡ Written 0))
+IsSlotKept p slot j before after =
+    ((¬ IsSlotDeadAt p slot j) × (after ≡ before)) ⊎ (IsSlotDeadAt p slot j × (after ≡ Written 0))
 
 -- the stack slots of a frame when a path reaches the slot of the code
 pub record AreSlotsKept (p : Program) (slot : ℕ) (old new : List StackSlot) : Type 0 where
@@ -54,14 +58,17 @@ pub record AreSlotsKept (p : Program) (slot : ℕ) (old new : List StackSlot) : 
 abbrev pub slots_in : State → List StackSlot
 slots_in s = s.innermost.stack.slots
 
--- what is known of a slot of a caller's stack stays known, or the slot is dead where the caller goes on, and nothing is
+-- what is known of a slot of a caller's stack stays known, or the slot is dead where the caller
+-- goes on, and nothing is
 abbrev pub IsCallerSlotKept : Program → ℕ → ℕ → StackSlot → StackSlot → Type 0
-IsCallerSlotKept p slot j before after = (after ≡ before) ⊎ ((¬ IsSlotLive p j slot) × (after ≡ Written 0))
+IsCallerSlotKept p slot j before after =
+    (after ≡ before) ⊎ ((¬ IsSlotLive p j slot) × (after ≡ Written 0))
 
 -- a caller that goes on at the slot stays as it is but for such slots
 pub record IsCallerKept (p : Program) (slot : ℕ) (old new : AbstractFrame) : Type 0 where
   pub rest : new ≡ record old { stack = record { slots = new.stack.slots } }
-  pub slots : (j : ℕ) → j < 64 → IsCallerSlotKept p slot j (slot_at old.stack.slots j) (slot_at new.stack.slots j)
+  pub slots : (j : ℕ) → j < 64
+      → IsCallerSlotKept p slot j (slot_at old.stack.slots j) (slot_at new.stack.slots j)
 
 -- all callers; each goes on at the slot to which the frame after it returns
 pub record AreCallersKept (p : Program) (a b : State) : Type 0 where
@@ -76,16 +83,19 @@ pub record CallersForgotten (p : Program) (a b : State) : Type 0 where
   pub callers : AreCallersKept p a b
 
 -- b is a without what is known of dead registers and of dead stack slots, and of some dead stack
--- stack slots of callers
+-- slots of callers
 pub record Forgets (p : Program) (a b : State) : Type 0 where
   pub rest : b ≡ record a {
     callers = b.callers;
-    innermost = record a.innermost { registers = registers_of b; stack = record { slots = slots_in b } };
+    innermost =
+        record a.innermost { registers = registers_of b; stack = record { slots = slots_in b } };
   }
   pub callers : AreCallersKept p a b
   pub registers : AreKept p a.slot (registers_of a) (registers_of b)
   pub slots : AreSlotsKept p a.slot (slots_in a) (slots_in b)
 
--- the state is as a path comes to it: nothing is known of stack slots that are dead there
+-- the state is as when a path reaches it: nothing is known of stack slots that are dead there
 abbrev pub IsForgotten : Program → State → Type 0
-IsForgotten p s = (length (slots_in s) ≡ 64) × ((j : ℕ) → j < 64 → IsSlotDeadAt p s.slot j → slot_at (slots_in s) j ≡ Written 0)
+IsForgotten p s =
+    (length (slots_in s) ≡ 64)
+    × ((j : ℕ) → j < 64 → IsSlotDeadAt p s.slot j → slot_at (slots_in s) j ≡ Written 0)

@@ -30,7 +30,7 @@ pub record StepsTo (p : Program) (a b : State) : Type 0 where
   pub among : IsAmong taken first other next
   pub forgets : Forgets p next b
 
--- a path of n steps goes from a to b
+-- n steps lead from a to b
 unfoldable pub HasPath : Program → ℕ → State → State → Type 0
 HasPath p zero a b = b ≡ a
 HasPath p (suc n) a b = (c : State) × StepsTo p a c × HasPath p n c b
@@ -51,7 +51,7 @@ pub record IsReached (p : Program) (slot : ℕ) : Type 0 where
   pub slot_is : slot ≡ state.slot
   pub begins : BeginsInsn p slot
 
--- some walk from the start reaches a state at this slot, and its step is refused so
+-- some walk from the start reaches a state at this slot, and its step gets this refusal
 pub record IsStuck (p : Program) (e : Refusal) (slot : ℕ) : Type 0 where
   pub state : State
   pub steps : ℕ

@@ -51,8 +51,8 @@ fn clear(slot: &mut StackSlot)
     }
 }
 
-/// Forgets what is known of all stack slots of a call frame: eight in a turn, which the compiler
-/// writes out.
+/// Forgets what is known of all stack slots of a call frame: eight in each turn of the loop, which
+/// the compiler unrolls.
 pub fn clear_slots(slots: &mut [StackSlot; FRAME_SLOTS])
     ensures { slots.new ≡ replicate frame_slots (StackSlot.Written 0) }
 {
@@ -142,7 +142,7 @@ pub fn forget_dead(flow: &Flow<'_>, has_called: bool, state: &mut State)
     );
 }
 
-/// The stack slots of the innermost frame of which something may be known where a path comes to a
+/// The stack slots of the innermost frame about which something may be known where a path reaches a
 /// slot of the code: at a join those that are live.
 pub fn kept_slots(flow: &Flow<'_>, slot: usize) -> SlotMask
     ensures { (j : ℕ) → j < 64 → ¬ HasSlot result j → IsSlotDeadAt flow.now slot j }

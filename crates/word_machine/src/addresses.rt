@@ -1,36 +1,37 @@
-//! Addresses: the upper half says which region, and the middle of the lower half is where the
-//! region begins.
+//! Addresses: the upper half says which region, and the middle of the lower half is the region's
+//! offset 0.
 
 ghost use Rattle.std.specs.Prelude.{◌≡◌, ◌-◌, ◌<◌, ◌≤◌, ◌^◌};
 ghost use Rattle.word_machine.specs.Addresses.{base, region_of, packet_index, block_map, block_index, first_frame, frame_index};
 
 use isa_model::{FRAME_SIZE, MAX_CALL_FRAMES};
 
-// Addresses of a region.
+// How many addresses a region has.
 const REGION_SIZE: u64 = 0x1_0000_0000;
 
-// Where among them it begins.
+// How many of them are before the region's offset 0.
 const REGION_MIDDLE: u64 = 0x8000_0000;
 
-// Bytes of a call frame.
+// How many bytes a call frame has.
 const FRAME_BYTES: u64 = FRAME_SIZE as u64;
 
-// How many addresses there are for each byte of a call frame, since each has a region of its own.
-const FRAME_STEP: u64 = REGION_SIZE / FRAME_BYTES;
+// How many addresses there are for each byte of a call frame, since each call frame has a region of
+// its own.
+const ADDRESSES_PER_BYTE: u64 = REGION_SIZE / FRAME_BYTES;
 
-/// The region of the context.
+/// The number of the region of the context.
 pub const CONTEXT_REGION: u64 = 1;
 
-/// The region of the packet.
+/// The number of the region of the packet.
 pub const PACKET_REGION: u64 = 2;
 
-/// The region of the first map.
+/// The number of the region of the first map.
 pub const FIRST_MAP: u64 = 16;
 
-/// The region of the values of the first map.
+/// The number of the region of the values of the first map.
 pub const FIRST_VALUES: u64 = 32;
 
-/// The region of the outermost call frame.
+/// The number of the region of the outermost call frame.
 pub const FIRST_FRAME: u64 = 48;
 
 /// The address of the context.
@@ -42,13 +43,14 @@ pub const PACKET: u64 = PACKET_REGION * REGION_SIZE + REGION_MIDDLE;
 /// The end of the outermost call frame.
 pub const FRAME_END: u64 = FIRST_FRAME * REGION_SIZE + REGION_MIDDLE;
 
-/// The first byte of the outermost call frame, and the least address of any.
+/// The address of the first byte of the outermost call frame, which is the least of all call
+/// frames.
 pub const FRAMES: u64 = FRAME_END - FRAME_BYTES;
 
-/// Bytes of all call frames.
+/// How many bytes all call frames have.
 pub const FRAMES_SIZE: usize = MAX_CALL_FRAMES * FRAME_SIZE;
 
-/// Where a region begins.
+/// The address of a region's offset 0.
 #[inline(always)]
 pub fn base(region: u64) -> u64
     requires { region < 2 ^ 31 }
@@ -57,7 +59,7 @@ pub fn base(region: u64) -> u64
     region * REGION_SIZE + REGION_MIDDLE
 }
 
-/// The region of an address.
+/// The number of the region of an address.
 #[inline(always)]
 pub fn region_of(address: u64) -> u64
     ensures { result ≡ region_of address }
@@ -65,7 +67,7 @@ pub fn region_of(address: u64) -> u64
     address / REGION_SIZE
 }
 
-/// The byte of the packet to which an address leads.
+/// The index of the byte of the packet to which an address leads.
 #[inline(always)]
 pub fn packet_index(address: u64) -> usize
     ensures { result ≡ packet_index address }
@@ -73,7 +75,7 @@ pub fn packet_index(address: u64) -> usize
     (address % 0x1_0000) as usize
 }
 
-/// The map in the block of whose values an address leads.
+/// The map to whose block of values an address leads.
 #[inline(always)]
 pub fn block_map(address: u64) -> usize
     requires { 32 ≤ region_of address }
@@ -82,7 +84,7 @@ pub fn block_map(address: u64) -> usize
     (region_of(address) - FIRST_VALUES) as usize
 }
 
-/// The byte of that block.
+/// The index of the byte in that block.
 #[inline(always)]
 pub fn block_index(address: u64) -> usize
     ensures { result ≡ block_index address }
@@ -90,12 +92,12 @@ pub fn block_index(address: u64) -> usize
     (address % REGION_MIDDLE) as usize
 }
 
-/// The byte of the block of all call frames.
+/// The index of the byte in the block of all call frames.
 #[inline(always)]
 pub fn frame_index(address: u64) -> usize
     requires { first_frame ≤ address }
     ensures { result ≡ frame_index (address - first_frame) }
 {
     let past = address - FRAMES;
-    (past / FRAME_STEP + past % FRAME_BYTES) as usize
+    (past / ADDRESSES_PER_BYTE + past % FRAME_BYTES) as usize
 }

@@ -6,7 +6,7 @@ ghost use Rattle.helpers.specs.declared.calls.Answer.TheVariants.{Number, Value}
 ghost use Rattle.word_machine.specs.Addresses.{region_of};
 ghost use Rattle.isa_model.specs.Code.Helpers.{helper_numbered};
 ghost use Rattle.word_machine.specs.Helping.{CallFits, Calls, asks, NamesKey, HasPlaces, NamesValue, UpdatesMap, DeletesFromMap, found_at, key_named, named};
-ghost use Rattle.word_machine.specs.Machine.{words_of, Rests};
+ghost use Rattle.word_machine.specs.Machine.{words_of, KeepsRest};
 ghost use Rattle.word_machine.specs.Ops.{constant_of, HasConstant};
 
 use crate::addresses::{FIRST_MAP, FIRST_VALUES, base, region_of};
@@ -36,8 +36,8 @@ fn number(answer: Answer) -> u64
     }
 }
 
-// Where the value of the key is to which r2 points, or 0. A key that is itself in a map is copied
-// first.
+// The address of the value of the key to which r2 points, or 0. A key that is itself in a map is
+// copied first.
 fn lookup<C: Clock>(regs: &[u64; 11], memory: &mut Memory, packet: &[u8], clock: &mut C) -> u64
     requires key { NamesKey (words_of 0 regs.now memory.old packet.now 0) }
     requires places { HasPlaces (words_of 0 regs.now memory.old packet.now 0) }
@@ -47,7 +47,7 @@ fn lookup<C: Clock>(regs: &[u64; 11], memory: &mut Memory, packet: &[u8], clock:
     ensures maps { memory.new.maps ≡ memory.old.maps }
     ensures frames { memory.new.frames ≡ memory.old.frames }
     ensures kept { vec_capacity memory.new.saved ≡ vec_capacity memory.old.saved }
-    ensures rest { Rests memory.old memory.new }
+    ensures rest { KeepsRest memory.old memory.new }
     ensures clock { (k : ℕ) → C.at clock.new k ≡ C.at clock.old k }
 {
     let map = map_named(regs);
@@ -82,10 +82,11 @@ fn lookup<C: Clock>(regs: &[u64; 11], memory: &mut Memory, packet: &[u8], clock:
 fn update<C: Clock>(regs: &[u64; 11], memory: &mut Memory, packet: &[u8], clock: &mut C) -> u64
     requires key { NamesKey (words_of 0 regs.now memory.old packet.now 0) }
     requires value { NamesValue (words_of 0 regs.now memory.old packet.now 0) }
-    ensures updates { UpdatesMap (words_of 0 regs.now memory.old packet.now 0) result memory.new.maps }
+    ensures updates { UpdatesMap (words_of 0 regs.now memory.old packet.now 0)
+        result memory.new.maps }
     ensures frames { memory.new.frames ≡ memory.old.frames }
     ensures kept { vec_capacity memory.new.saved ≡ vec_capacity memory.old.saved }
-    ensures rest { Rests memory.old memory.new }
+    ensures rest { KeepsRest memory.old memory.new }
     ensures clock { (k : ℕ) → C.at clock.new k ≡ C.at clock.old k }
 {
     let map = map_named(regs);
@@ -118,10 +119,11 @@ fn update<C: Clock>(regs: &[u64; 11], memory: &mut Memory, packet: &[u8], clock:
 // Removes the key to which r2 points: 0, or an error.
 fn delete<C: Clock>(regs: &[u64; 11], memory: &mut Memory, packet: &[u8], clock: &mut C) -> u64
     requires { NamesKey (words_of 0 regs.now memory.old packet.now 0) }
-    ensures deletes { DeletesFromMap (words_of 0 regs.now memory.old packet.now 0) result memory.new.maps }
+    ensures deletes { DeletesFromMap (words_of 0 regs.now memory.old packet.now 0)
+        result memory.new.maps }
     ensures frames { memory.new.frames ≡ memory.old.frames }
     ensures kept { vec_capacity memory.new.saved ≡ vec_capacity memory.old.saved }
-    ensures rest { Rests memory.old memory.new }
+    ensures rest { KeepsRest memory.old memory.new }
     ensures clock { (k : ℕ) → C.at clock.new k ≡ C.at clock.old k }
 {
     let map = map_named(regs);
@@ -161,7 +163,7 @@ fn time<C: Clock>(memory: &mut Memory, clock: &mut C) -> u64
     number(call(&mut memory.maps, &request, clock))
 }
 
-/// Does the call of a helper.
+/// Calls a helper.
 #[inline(never)]
 pub fn help<C: Clock>(
     o: &Op,

@@ -25,7 +25,7 @@ pub struct Saved {
     pub kept: [u64; 4],
 }
 
-/// All that a program reads and writes, but its registers and the packet.
+/// All that a program reads and writes, except its registers and the packet.
 #[derive(Drop)]
 pub struct Memory {
     /// The bytes of all call frames.
@@ -34,12 +34,12 @@ pub struct Memory {
     pub interface: u32,
     pub queue: u32,
     pub maps: Maps,
-    /// Where a call of a helper keeps a value, and a key that is in a map.
+    /// Where the call of a helper keeps a copy of a value, or of a key that is itself in a map.
     pub room: Room,
 }
 
 impl Memory {
-    /// Call frames of zeros beside these maps, and no caller. All room that a run fills is made
+    /// Call frames of zeros with these maps, and no caller. All memory that a run needs is taken
     /// here.
     pub fn new(alloc: Global, maps: Maps) -> Result<Self, AllocError>
         ensures frames { IfOk result (λ memory. length memory.frames.items ≡ frames_size) }

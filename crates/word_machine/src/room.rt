@@ -1,4 +1,4 @@
-//! Room for the bytes of a value.
+//! Room for the bytes of a map value.
 
 ghost use Rattle.std.specs.Prelude.{◌≡◌, ◌≤◌, length, take, vec_capacity, IfOk};
 ghost use Rattle.isa_model.specs.Code.Limits.{max_value_size};
@@ -7,7 +7,7 @@ use maps::VALUE_ROOM;
 use std::alloc::{AllocError, Global};
 
 /// A list of this number of zeros, without room for more. `vec!` may make a list with more room;
-/// that is refused as if memory ran out.
+/// that is treated as if memory ran out.
 pub fn zeros(alloc: Global, count: usize) -> Result<Vec<u8>, AllocError>
     ensures zeros { IfOk result (λ bytes. length bytes.items ≡ count) }
     ensures exact { IfOk result (λ bytes. vec_capacity bytes ≡ count) }
@@ -20,7 +20,7 @@ pub fn zeros(alloc: Global, count: usize) -> Result<Vec<u8>, AllocError>
     }
 }
 
-/// Room for the bytes of a value; the front is kept.
+/// Room for the bytes of a map value, which are kept at its front.
 #[derive(Drop)]
 pub struct Room {
     bytes: Vec<u8>,
@@ -29,13 +29,13 @@ pub struct Room {
 }
 
 impl Room {
-    /// Room for the longest value.
+    /// Room for the longest map value.
     pub fn new(alloc: Global) -> Result<Self, AllocError> {
         let bytes = zeros(alloc, VALUE_ROOM)?;
         Ok(Room { bytes })
     }
 
-    /// Keeps some bytes.
+    /// Copies some bytes to the front.
     pub fn keep(&mut self, bytes: &[u8])
         requires { length bytes.now ≤ max_value_size }
         ensures { take (length bytes.now) self.new.bytes.items ≡ bytes.now }

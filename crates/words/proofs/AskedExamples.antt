@@ -1,4 +1,4 @@
--- What some words ask for.
+-- What some arguments ask for, computed.
 use Rattle.std.specs.Prelude.{◌≡◌, [], ◌∷◌, Some, None, codes}
 use Rattle.std.proofs.Common.{refl}
 use Rattle.clap.proofs.OnLiterals.{clap_on_literals}
@@ -9,63 +9,85 @@ use Rattle.words.specs.Asked.{asked}
 
 -- ---- the commands
 
-runs : asked (codes "xdpvm" ∷ codes "run" ∷ codes "a" ∷ codes "b" ∷ codes "c" ∷ []) ≡ Some (Run (record { image = codes "a"; frames = codes "b"; out = codes "c" }) None)
+runs : asked (codes "xdpvm" ∷ codes "run" ∷ codes "a" ∷ codes "b" ∷ codes "c" ∷ [])
+    ≡ Some (Run (record { image = codes "a"; frames = codes "b"; out = codes "c" }) None)
 unfolding clap_on_literals asked program asm dis verify run trace prove recheck
 runs = refl
 
-traces : asked (codes "xdpvm" ∷ codes "trace" ∷ codes "a" ∷ codes "b" ∷ codes "c" ∷ []) ≡ Some (Trace (record { image = codes "a"; frames = codes "b"; out = codes "c" }) max_steps)
+traces : asked (codes "xdpvm" ∷ codes "trace" ∷ codes "a" ∷ codes "b" ∷ codes "c" ∷ [])
+    ≡ Some (Trace (record { image = codes "a"; frames = codes "b"; out = codes "c" }) max_steps)
 unfolding clap_on_literals asked program asm dis verify run trace prove recheck
 traces = refl
 
 -- ---- a limit can be anywhere among the files, and has its value after it or after an equals sign
 
-traces-limit : asked (codes "xdpvm" ∷ codes "trace" ∷ codes "a" ∷ codes "b" ∷ codes "c" ∷ codes "--limit" ∷ codes "5" ∷ []) ≡ Some (Trace (record { image = codes "a"; frames = codes "b"; out = codes "c" }) 5)
+traces-limit : asked
+    (codes "xdpvm" ∷ codes "trace" ∷ codes "a" ∷ codes "b" ∷ codes "c" ∷ codes "--limit" ∷ codes "5"
+    ∷ []) ≡ Some (Trace (record { image = codes "a"; frames = codes "b"; out = codes "c" }) 5)
 unfolding clap_on_literals asked program asm dis verify run trace prove recheck
 traces-limit = refl
 
-traces-limit-first : asked (codes "xdpvm" ∷ codes "trace" ∷ codes "--limit" ∷ codes "1000000" ∷ codes "a" ∷ codes "b" ∷ codes "c" ∷ []) ≡ Some (Trace (record { image = codes "a"; frames = codes "b"; out = codes "c" }) max_steps)
+traces-limit-first : asked
+    (codes "xdpvm" ∷ codes "trace" ∷ codes "--limit" ∷ codes "1000000" ∷ codes "a" ∷ codes "b"
+    ∷ codes "c" ∷ [])
+    ≡ Some (Trace (record { image = codes "a"; frames = codes "b"; out = codes "c" }) max_steps)
 unfolding clap_on_literals asked program asm dis verify run trace prove recheck
 traces-limit-first = refl
 
-traces-limit-equals : asked (codes "xdpvm" ∷ codes "trace" ∷ codes "a" ∷ codes "--limit=007" ∷ codes "b" ∷ codes "c" ∷ []) ≡ Some (Trace (record { image = codes "a"; frames = codes "b"; out = codes "c" }) 7)
+traces-limit-equals : asked
+    (codes "xdpvm" ∷ codes "trace" ∷ codes "a" ∷ codes "--limit=007" ∷ codes "b" ∷ codes "c" ∷ [])
+    ≡ Some (Trace (record { image = codes "a"; frames = codes "b"; out = codes "c" }) 7)
 unfolding clap_on_literals asked program asm dis verify run trace prove recheck
 traces-limit-equals = refl
 
--- ---- no limits
+-- ---- what is not a limit
 
-traces-limit-zero : asked (codes "xdpvm" ∷ codes "trace" ∷ codes "a" ∷ codes "b" ∷ codes "c" ∷ codes "--limit" ∷ codes "0" ∷ []) ≡ None
+traces-limit-zero : asked
+    (codes "xdpvm" ∷ codes "trace" ∷ codes "a" ∷ codes "b" ∷ codes "c" ∷ codes "--limit" ∷ codes "0"
+    ∷ []) ≡ None
 unfolding clap_on_literals asked program asm dis verify run trace prove recheck
 traces-limit-zero = refl
 
-traces-limit-over : asked (codes "xdpvm" ∷ codes "trace" ∷ codes "a" ∷ codes "b" ∷ codes "c" ∷ codes "--limit" ∷ codes "1000001" ∷ []) ≡ None
+traces-limit-over : asked
+    (codes "xdpvm" ∷ codes "trace" ∷ codes "a" ∷ codes "b" ∷ codes "c" ∷ codes "--limit"
+    ∷ codes "1000001" ∷ []) ≡ None
 unfolding clap_on_literals asked program asm dis verify run trace prove recheck
 traces-limit-over = refl
 
-traces-limit-sign : asked (codes "xdpvm" ∷ codes "trace" ∷ codes "a" ∷ codes "b" ∷ codes "c" ∷ codes "--limit" ∷ codes "+5" ∷ []) ≡ None
+traces-limit-sign : asked
+    (codes "xdpvm" ∷ codes "trace" ∷ codes "a" ∷ codes "b" ∷ codes "c" ∷ codes "--limit"
+    ∷ codes "+5" ∷ []) ≡ None
 unfolding clap_on_literals asked program asm dis verify run trace prove recheck
 traces-limit-sign = refl
 
-traces-limit-twice : asked (codes "xdpvm" ∷ codes "trace" ∷ codes "a" ∷ codes "b" ∷ codes "c" ∷ codes "--limit" ∷ codes "5" ∷ codes "--limit" ∷ codes "5" ∷ []) ≡ None
+traces-limit-twice : asked
+    (codes "xdpvm" ∷ codes "trace" ∷ codes "a" ∷ codes "b" ∷ codes "c" ∷ codes "--limit" ∷ codes "5"
+    ∷ codes "--limit" ∷ codes "5" ∷ []) ≡ None
 unfolding clap_on_literals asked program asm dis verify run trace prove recheck
 traces-limit-twice = refl
 
-runs-limit : asked (codes "xdpvm" ∷ codes "run" ∷ codes "a" ∷ codes "b" ∷ codes "c" ∷ codes "--limit" ∷ codes "5" ∷ []) ≡ None
+runs-limit : asked
+    (codes "xdpvm" ∷ codes "run" ∷ codes "a" ∷ codes "b" ∷ codes "c" ∷ codes "--limit" ∷ codes "5"
+    ∷ []) ≡ None
 unfolding clap_on_literals asked program asm dis verify run trace prove recheck
 runs-limit = refl
 
--- ---- after two hyphens all words are files
+-- ---- after two hyphens all arguments are files
 
-verifies-hyphen : asked (codes "xdpvm" ∷ codes "verify" ∷ codes "--" ∷ codes "-a" ∷ []) ≡ Some (Verify (codes "-a"))
+verifies-hyphen : asked (codes "xdpvm" ∷ codes "verify" ∷ codes "--" ∷ codes "-a" ∷ [])
+    ≡ Some (Verify (codes "-a"))
 unfolding clap_on_literals asked program asm dis verify run trace prove recheck
 verifies-hyphen = refl
 
 -- ---- proof tables
 
-proves : asked (codes "xdpvm" ∷ codes "prove" ∷ codes "a" ∷ codes "b" ∷ []) ≡ Some (Prove (record { image = codes "a"; table = codes "b" }))
+proves : asked (codes "xdpvm" ∷ codes "prove" ∷ codes "a" ∷ codes "b" ∷ [])
+    ≡ Some (Prove (record { image = codes "a"; table = codes "b" }))
 unfolding clap_on_literals asked program asm dis verify run trace prove recheck
 proves = refl
 
-rechecks : asked (codes "xdpvm" ∷ codes "recheck" ∷ codes "a" ∷ codes "b" ∷ []) ≡ Some (Recheck (record { image = codes "a"; table = codes "b" }))
+rechecks : asked (codes "xdpvm" ∷ codes "recheck" ∷ codes "a" ∷ codes "b" ∷ [])
+    ≡ Some (Recheck (record { image = codes "a"; table = codes "b" }))
 unfolding clap_on_literals asked program asm dis verify run trace prove recheck
 rechecks = refl
 
@@ -73,29 +95,40 @@ rechecks-one : asked (codes "xdpvm" ∷ codes "recheck" ∷ codes "a" ∷ []) �
 unfolding clap_on_literals asked program asm dis verify run trace prove recheck
 rechecks-one = refl
 
--- ---- the table of a run can be anywhere among its files
+-- ---- the table of `run` can be anywhere among its files
 
-runs-table : asked (codes "xdpvm" ∷ codes "run" ∷ codes "--table" ∷ codes "t" ∷ codes "a" ∷ codes "b" ∷ codes "c" ∷ []) ≡ Some (Run (record { image = codes "a"; frames = codes "b"; out = codes "c" }) (Some (codes "t")))
+runs-table : asked
+    (codes "xdpvm" ∷ codes "run" ∷ codes "--table" ∷ codes "t" ∷ codes "a" ∷ codes "b" ∷ codes "c"
+    ∷ []) ≡ Some (Run (record { image = codes "a"; frames = codes "b"; out = codes "c" })
+    (Some (codes "t")))
 unfolding clap_on_literals asked program asm dis verify run trace prove recheck
 runs-table = refl
 
-runs-table-last : asked (codes "xdpvm" ∷ codes "run" ∷ codes "a" ∷ codes "b" ∷ codes "c" ∷ codes "--table=t" ∷ []) ≡ Some (Run (record { image = codes "a"; frames = codes "b"; out = codes "c" }) (Some (codes "t")))
+runs-table-last : asked
+    (codes "xdpvm" ∷ codes "run" ∷ codes "a" ∷ codes "b" ∷ codes "c" ∷ codes "--table=t" ∷ [])
+    ≡ Some (Run (record { image = codes "a"; frames = codes "b"; out = codes "c" })
+    (Some (codes "t")))
 unfolding clap_on_literals asked program asm dis verify run trace prove recheck
 runs-table-last = refl
 
-runs-table-twice : asked (codes "xdpvm" ∷ codes "run" ∷ codes "a" ∷ codes "b" ∷ codes "c" ∷ codes "--table" ∷ codes "t" ∷ codes "--table" ∷ codes "t" ∷ []) ≡ None
+runs-table-twice : asked
+    (codes "xdpvm" ∷ codes "run" ∷ codes "a" ∷ codes "b" ∷ codes "c" ∷ codes "--table" ∷ codes "t"
+    ∷ codes "--table" ∷ codes "t" ∷ []) ≡ None
 unfolding clap_on_literals asked program asm dis verify run trace prove recheck
 runs-table-twice = refl
 
-runs-table-none : asked (codes "xdpvm" ∷ codes "run" ∷ codes "a" ∷ codes "b" ∷ codes "c" ∷ codes "--table" ∷ []) ≡ None
+runs-table-none : asked
+    (codes "xdpvm" ∷ codes "run" ∷ codes "a" ∷ codes "b" ∷ codes "c" ∷ codes "--table" ∷ []) ≡ None
 unfolding clap_on_literals asked program asm dis verify run trace prove recheck
 runs-table-none = refl
 
-traces-table : asked (codes "xdpvm" ∷ codes "trace" ∷ codes "a" ∷ codes "b" ∷ codes "c" ∷ codes "--table" ∷ codes "t" ∷ []) ≡ None
+traces-table : asked
+    (codes "xdpvm" ∷ codes "trace" ∷ codes "a" ∷ codes "b" ∷ codes "c" ∷ codes "--table" ∷ codes "t"
+    ∷ []) ≡ None
 unfolding clap_on_literals asked program asm dis verify run trace prove recheck
 traces-table = refl
 
--- ---- words that ask for nothing
+-- ---- arguments that ask for nothing
 
 nothing : asked (codes "xdpvm" ∷ []) ≡ None
 unfolding clap_on_literals asked program asm dis verify run trace prove recheck
@@ -129,6 +162,7 @@ runs-two : asked (codes "xdpvm" ∷ codes "run" ∷ codes "a" ∷ codes "b" ∷ 
 unfolding clap_on_literals asked program asm dis verify run trace prove recheck
 runs-two = refl
 
-runs-four : asked (codes "xdpvm" ∷ codes "run" ∷ codes "a" ∷ codes "b" ∷ codes "c" ∷ codes "d" ∷ []) ≡ None
+runs-four : asked (codes "xdpvm" ∷ codes "run" ∷ codes "a" ∷ codes "b" ∷ codes "c" ∷ codes "d" ∷ [])
+    ≡ None
 unfolding clap_on_literals asked program asm dis verify run trace prove recheck
 runs-four = refl

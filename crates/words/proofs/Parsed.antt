@@ -1,4 +1,4 @@
--- What a parse of the command line says of what the words ask for.
+-- That clap's parse of the command line leads to what the arguments ask for.
 use Rattle.std.proofs.Common.{◌≡◌, ◌∙◌, ℕ, true, List, [], ◌∷◌, Option, Some, None, refl, ap, ap₂, sym, subst, inl, inr}
 use Rattle.std.specs.Prelude.{option_map, Result, Err}
 use Rattle.clap.specs.Faults.{fault_of, is_simple_and_free}
@@ -16,7 +16,7 @@ use Rattle.words.specs.CommandLine.{program, asm, dis, verify, run, trace, prove
 use Rattle.words.specs.Requests.{TaskRequest}
 use Rattle.words.specs.Asked.{AsksFor, TellsOf, asked, request_by, request_met, unless_faulty}
 
--- clap says of this command line what a parse finds, and how it fails
+-- for this command line clap's contracts say what a parse finds, and how it fails
 is_simple-program : is_simple program ≡ true
 unfolding program asm dis verify run trace prove recheck
 is_simple-program = refl
@@ -25,31 +25,41 @@ is_simple_and_free-program : is_simple_and_free program ≡ true
 unfolding program asm dis verify run trace prove recheck
 is_simple_and_free-program = refl
 
-unless_faulty-among : (k : ErrorKind) (kinds : Kinds) (r : Option TaskRequest) → IsAmong k kinds → unless_faulty kinds r ≡ None
+unless_faulty-among : (k : ErrorKind) (kinds : Kinds) (r : Option TaskRequest) → IsAmong k kinds
+    → unless_faulty kinds r ≡ None
 unless_faulty-among k [] r among = absurd among
 unless_faulty-among k (x ∷ xs) r among = refl
 
--- a parse failed
+-- the parse failed
 pub failed-reads : (a : App) (words : List (List ℕ)) (e : Error) (w : WordsError) → a ≡ program
-    → (is_simple_and_free a ≡ true → HasKind (fault_of a words) e) → (kind_of e ≡ kind.OutOfMemory → w ≡ Memory) → AsksFor words (Err w)
+    → (is_simple_and_free a ≡ true → HasKind (fault_of a words) e)
+    → (kind_of e ≡ kind.OutOfMemory → w ≡ Memory) → AsksFor words (Err w)
 unfolding asked
 failed-reads a words e Memory is h memory = tt
 failed-reads a words e (Wrong text) is h memory =
     elim (h (ap is_simple_and_free is ∙ is_simple_and_free-program)) [
       | inl out ↦ let same : Wrong text ≡ Memory = memory out in cc
-      | inr among ↦ unless_faulty-among (kind_of e) (fault_of program words) _ (subst (λ (x : App). IsAmong (kind_of e) (fault_of x words)) is among)
+      | inr among ↦
+          unless_faulty-among (kind_of e) (fault_of program words) _
+          (subst (λ (x : App). IsAmong (kind_of e) (fault_of x words)) is among)
     ]
 
--- a parse succeeded
-asked-parsed : (a : App) (words : List (List ℕ)) (m : ArgMatches) → a ≡ program → (is_simple_and_free a ≡ true → fault_of a words ≡ [])
+-- the parse succeeded
+asked-parsed : (a : App) (words : List (List ℕ)) (m : ArgMatches) → a ≡ program
+    → (is_simple_and_free a ≡ true → fault_of a words ≡ [])
     → HasMatchesOf a words m → asked words ≡ request_met (subcommand_rows_of m)
 unfolding asked
 asked-parsed a words m is h found =
-    let none : fault_of program words ≡ [] = sym (ap (λ (x : App). fault_of x words) is) ∙ h (ap is_simple_and_free is ∙ is_simple_and_free-program) in
-    let met : subcommand_rows_of m ≡ subcommand_of program words = (found (ap is_simple is ∙ is_simple-program)).1 ∙ ap (λ (x : App). subcommand_of x words) is in
+    let none : fault_of program words ≡ [] =
+    sym (ap (λ (x : App). fault_of x words) is)
+    ∙ h (ap is_simple_and_free is ∙ is_simple_and_free-program) in
+    let met : subcommand_rows_of m ≡ subcommand_of program words =
+    (found (ap is_simple is ∙ is_simple-program)).1
+    ∙ ap (λ (x : App). subcommand_of x words) is in
     ap₂ unless_faulty none (ap request_met (sym met))
 
-maps : {A B C : Type 0} (g : B → C) (f : A → B) (o : Option A) → option_map (λ x. g (f x)) o ≡ option_map g (option_map f o)
+maps : {A B C : Type 0} (g : B → C) (f : A → B) (o : Option A)
+    → option_map (λ x. g (f x)) o ≡ option_map g (option_map f o)
 maps g f None = refl
 maps g f (Some x) = refl
 
@@ -57,7 +67,9 @@ maps g f (Some x) = refl
 name-met : (m : ArgMatches) → subcommand_name_of m ≡ option_map (λ p. p.0) (subcommand_rows_of m)
 name-met m = maps (λ (p : List ℕ × List Row). p.0) _ _
 
-met-some : (o : Option (List ℕ × List Row)) (name : List ℕ) (rows : List Row) → Some name ≡ option_map (λ p. p.0) o → Some rows ≡ option_map (λ p. p.1) o → o ≡ Some (name, rows)
+met-some : (o : Option (List ℕ × List Row)) (name : List ℕ) (rows : List Row)
+    → Some name ≡ option_map (λ p. p.0) o → Some rows ≡ option_map (λ p. p.1) o
+    → o ≡ Some (name, rows)
 met-some None name rows e f = cc
 met-some (Some (n, r)) name rows e f = cc
 
@@ -65,17 +77,23 @@ met-none : (o : Option (List ℕ × List Row)) → None ≡ option_map (λ p. p.
 met-none None e = refl
 met-none (Some p) e = cc
 
--- and met a command
-pub parsed-reads : (a : App) (words : List (List ℕ)) (m : ArgMatches) (name : List ℕ) (rows : List Row) (r : Result Task WordsError) → a ≡ program
-    → (is_simple_and_free a ≡ true → fault_of a words ≡ []) → HasMatchesOf a words m → Some name ≡ subcommand_name_of m → Some rows ≡ option_map (λ p. p.1) (subcommand_rows_of m)
+-- the parse succeeded, and found a command
+pub parsed-reads : (a : App) (words : List (List ℕ)) (m : ArgMatches) (name : List ℕ)
+    (rows : List Row) (r : Result Task WordsError) → a ≡ program
+    → (is_simple_and_free a ≡ true → fault_of a words ≡ []) → HasMatchesOf a words m
+    → Some name ≡ subcommand_name_of m → Some rows ≡ option_map (λ p. p.1) (subcommand_rows_of m)
     → TellsOf (request_by name rows) r → AsksFor words r
 parsed-reads a words m name rows r is h found e f tells =
-    let met : subcommand_rows_of m ≡ Some (name, rows) = met-some (subcommand_rows_of m) name rows (e ∙ name-met m) f in
-    let same : request_by name rows ≡ asked words = sym (asked-parsed a words m is h found ∙ ap request_met met) in
+    let met : subcommand_rows_of m ≡ Some (name, rows) =
+    met-some (subcommand_rows_of m) name rows (e ∙ name-met m) f in
+    let same : request_by name rows ≡ asked words =
+    sym (asked-parsed a words m is h found ∙ ap request_met met) in
     subst (λ (o : Option TaskRequest). TellsOf o r) same tells
 
--- and met none
+-- the parse succeeded, and found no command
 pub parsed-none : (a : App) (words : List (List ℕ)) (m : ArgMatches) → a ≡ program
-    → (is_simple_and_free a ≡ true → fault_of a words ≡ []) → HasMatchesOf a words m → None ≡ subcommand_name_of m → asked words ≡ None
+    → (is_simple_and_free a ≡ true → fault_of a words ≡ []) → HasMatchesOf a words m
+    → None ≡ subcommand_name_of m → asked words ≡ None
 parsed-none a words m is h found e =
-    asked-parsed a words m is h found ∙ ap request_met (met-none (subcommand_rows_of m) (e ∙ name-met m))
+    asked-parsed a words m is h found
+    ∙ ap request_met (met-none (subcommand_rows_of m) (e ∙ name-met m))

@@ -1,4 +1,4 @@
--- What was read of the words on the command line.
+-- The values of arguments, limits, and command lines with more arguments and commands.
 use Rattle.std.proofs.Common.{◌≡◌, ◌∙◌, ◌<◌, ◌≤◌, ℕ, Bool, true, false, List, [], ◌∷◌, Option, Some, None, length, take, get_or, ◌+◌, map, refl, ap, ap₂, sym, arith, cond, ◌^◌, lt-ltb}
 use Rattle.std.specs.Prelude.{◌&&◌, not, option_map, option_and_then, slice_get, nat_le}
 use Rattle.std.specs.List.{list_all, fold}
@@ -22,12 +22,15 @@ use Rattle.clap.specs.declared.parser.matches.ArgMatches.{ArgMatches}
 use Rattle.clap.specs.declared.parser.matches.MatchedArg.{MatchedArg}
 
 -- the first text of a list
-first-texts : (vs : List (Bor (List ℕ))) → option_map (λ s. s.now) (slice_get vs 0) ≡ slice_get (map (λ s. s.now) vs) 0
+first-texts : (vs : List (Bor (List ℕ)))
+    → option_map (λ s. s.now) (slice_get vs 0) ≡ slice_get (map (λ s. s.now) vs) 0
 first-texts [] = refl
 first-texts (v ∷ vs) = refl
 
--- the first value of an entry is that of its row
-first-row : (o : Option (Bor (List ℕ) × MatchedArg)) → option_and_then (λ a. option_map (λ s. s.now) (slice_get a.vals.items 0)) (option_map (λ e. e.1) o)
+-- the first value of an argument is that of its row
+first-row : (o : Option (Bor (List ℕ) × MatchedArg))
+    → option_and_then (λ a. option_map (λ s. s.now) (slice_get a.vals.items 0))
+    (option_map (λ e. e.1) o)
     ≡ option_and_then (λ (r : Row). slice_get r.values 0) (option_map (λ e. record {
       id = e.0.now;
       values = map (λ s. s.now) e.1.vals.items;
@@ -39,9 +42,11 @@ first-row None = refl
 first-row (Some e) = first-texts e.1.vals.items
 
 -- the value of an argument is in its row
-pub first_value-first_of : (m : ArgMatches) (id : List ℕ) → first_value (found_of m) id ≡ first_of id (rows_of (found_of m))
+pub first_value-first_of : (m : ArgMatches) (id : List ℕ)
+    → first_value (found_of m) id ≡ first_of id (rows_of (found_of m))
 first_value-first_of m id =
-    first-row _ ∙ ap (option_and_then (λ (r : Row). slice_get r.values 0)) (sym (find_row (found_of m).entries.items id))
+    first-row _ ∙ ap (option_and_then (λ (r : Row). slice_get r.values 0))
+    (sym (find_row (found_of m).entries.items id))
 
 -- ---- limits
 
@@ -67,54 +72,68 @@ all-digits (c ∷ cs) h =
     let range = first-digit c (both _ _ h).0 in
     (omega (arith, digit_value_digit c range, range.1), all-digits cs (both _ _ h).1)
 
--- what a text of digits is as a limit
+-- which limit a text of digits spells
 limit_of-digits : (text : List ℕ) → 0 < length text → list_all is_ascii_digit text ≡ true
-    → limit_of text ≡ cond (nat_le 1 (digits_value 10 text) && nat_le (digits_value 10 text) max_steps) (Some (digits_value 10 text)) None
+    → limit_of text
+    ≡ cond (nat_le 1 (digits_value 10 text) && nat_le (digits_value 10 text) max_steps)
+    (Some (digits_value 10 text)) None
 limit_of-digits text some digits = rw (lt-ltb 0 (length text) some, digits) refl
 
 -- a text that was read as a number in the range is a limit
-pub limit_of-read : (text : List ℕ) (steps : ℕ) → 0 < length text → list_all is_ascii_digit text ≡ true → steps ≡ digits_value 10 (without_leading_plus text)
+pub limit_of-read : (text : List ℕ) (steps : ℕ) → 0 < length text
+    → list_all is_ascii_digit text ≡ true → steps ≡ digits_value 10 (without_leading_plus text)
     → 1 ≤ steps → steps ≤ max_steps → Some steps ≡ limit_of text
 limit_of-read text steps some digits read least most =
     let value : steps ≡ digits_value 10 text = read ∙ ap (digits_value 10) (no-sign text digits) in
-    let low : nat_le 1 (digits_value 10 text) ≡ true = le-leb 1 (digits_value 10 text) (omega arith) in
-    let high : nat_le (digits_value 10 text) max_steps ≡ true = le-leb (digits_value 10 text) max_steps (omega arith) in
-    let is : limit_of text ≡ Some (digits_value 10 text) = limit_of-digits text some digits ∙ rw (low, high) refl in
+    let low : nat_le 1 (digits_value 10 text) ≡ true =
+    le-leb 1 (digits_value 10 text) (omega arith) in
+    let high : nat_le (digits_value 10 text) max_steps ≡ true =
+    le-leb (digits_value 10 text) max_steps (omega arith) in
+    let is : limit_of text ≡ Some (digits_value 10 text) =
+    limit_of-digits text some digits ∙ rw (low, high) refl in
     cc
 
--- and a word that was not read as a number is none
+-- a text that was not read as a number is not a limit
 pub limit_of-unread : (text : List ℕ) → 0 < length text → list_all is_ascii_digit text ≡ true
-    → (IsNumeral 10 (without_leading_plus text) × (digits_value 10 (without_leading_plus text) < 2 ^ 32) → ⊥) → None ≡ limit_of text
+    → (IsNumeral 10 (without_leading_plus text)
+    × (digits_value 10 (without_leading_plus text) < 2 ^ 32) → ⊥) → None ≡ limit_of text
 limit_of-unread text some digits read =
     let numeral : IsNumeral 10 text = (some, all-digits text digits) in
-    let large : digits_value 10 text < 2 ^ 32 → ⊥ = λ small. read (rw (no-sign text digits) (numeral, small)) in
-    let high : nat_le (digits_value 10 text) max_steps ≡ false = lt-leb (digits_value 10 text) max_steps (omega (arith, large)) in
+    let large : digits_value 10 text < 2 ^ 32 → ⊥ =
+    λ small. read (rw (no-sign text digits) (numeral, small)) in
+    let high : nat_le (digits_value 10 text) max_steps ≡ false =
+    lt-leb (digits_value 10 text) max_steps (omega (arith, large)) in
     let is : limit_of text ≡ None = limit_of-digits text some digits ∙ rw (high, and-false) refl in
     cc
 
 -- ---- the command line
 
--- one wanted argument more
-pub wanted-more : {A : Type 0} (name : A → List ℕ) (a : App) (xs : List A) (i : ℕ) (d : A) → i < length xs
-    → fold with_wanted a (map name (take (i + 1) xs)) ≡ with_wanted (fold with_wanted a (map name (take i xs))) (name (get_or xs i d))
+-- with one more argument
+pub wanted-more : {A : Type 0} (name : A → List ℕ) (a : App) (xs : List A) (i : ℕ) (d : A)
+    → i < length xs
+    → fold with_wanted a (map name (take (i + 1) xs))
+    ≡ with_wanted (fold with_wanted a (map name (take i xs))) (name (get_or xs i d))
 wanted-more name a xs i d lt =
     fold-map with_wanted name a (take (i + 1) xs)
     ∙ (fold_more (λ b x. with_wanted b (name x)) a xs i d lt
-    ∙ ap (λ (b : App). with_wanted b (name (get_or xs i d))) (sym (fold-map with_wanted name a (take i xs))))
+    ∙ ap (λ (b : App). with_wanted b (name (get_or xs i d)))
+    (sym (fold-map with_wanted name a (take i xs))))
 
--- a setting of a plain command
+-- a plain command is not global
 local : (a b g r : Bool) → (a && (not b && (not g && r))) ≡ true → g ≡ false
 local true false false r h = refl
 local true false true r h = cc
 local true true g r h = cc
 local false b g r h = cc
 
--- one command more
-pub command-more : (old sub new : Command) (a b : App) → AddsSubcommand old sub new → app_of old ≡ a → app_of sub ≡ b → b.top.is_plain ≡ true → app_of new ≡ with_command a b
+-- with one more command
+pub command-more : (old sub new : Command) (a b : App) → AddsSubcommand old sub new → app_of old ≡ a
+    → app_of sub ≡ b → b.top.is_plain ≡ true → app_of new ≡ with_command a b
 command-more old sub new a b added e f plain =
     added.shape (local _ _ _ _ (ap (λ (x : App). x.top.is_plain) f ∙ plain)) ∙ ap₂ with_command e f
 
--- wanted arguments leave a command plain
-pub is_plain-wanted : (a : App) (names : List (List ℕ)) → (fold with_wanted a names).top.is_plain ≡ a.top.is_plain
+-- a command with more required arguments stays plain
+pub is_plain-wanted : (a : App) (names : List (List ℕ))
+    → (fold with_wanted a names).top.is_plain ≡ a.top.is_plain
 is_plain-wanted a [] = refl
 is_plain-wanted a (name ∷ names) = is_plain-wanted (with_wanted a name) names

@@ -1,4 +1,4 @@
--- What the words on the command line ask for.
+-- What the arguments on the command line ask for.
 use Rattle.std.specs.Prelude.{◌≡◌, ℕ, Bool, ◌&&◌, List, [], ◌∷◌, Option, Some, None, Result, Ok, Err, codes, length, nat_le, nat_lt, if◌then◌else◌, option_map, option_and_then}
 use Rattle.std.specs.List.{list_all}
 use Rattle.std.specs.Char.{is_ascii_digit}
@@ -17,25 +17,31 @@ use Rattle.words.specs.CommandLine.{program}
 
 -- ---- what the arguments of a command ask for
 
--- the files of a run
+-- the files of `run` or `trace`
 abbrev pub files_in : List Row → Option RunFiles
-files_in rows = option_and_then (λ image. option_and_then (λ frames. option_map (λ out. record { image = image; frames = frames; out = out })
+files_in rows =
+    option_and_then
+    (λ image. option_and_then
+    (λ frames. option_map (λ out. record { image = image; frames = frames; out = out })
     (first_of (codes "out") rows)) (first_of (codes "frames") rows)) (first_of (codes "image") rows)
 
 -- the image and the proof table of `prove` or `recheck`
 abbrev pub proof_in : List Row → Option ProofFiles
-proof_in rows = option_and_then (λ image. option_map (λ table. record { image = image; table = table }) (first_of (codes "table") rows))
+proof_in rows =
+    option_and_then
+    (λ image. option_map (λ table. record { image = image; table = table })
+    (first_of (codes "table") rows))
     (first_of (codes "image") rows)
 
 abbrev pub is_limit : List ℕ → Bool
 is_limit text = nat_lt 0 (length text) && (list_all is_ascii_digit text
     && (nat_le 1 (digits_value 10 text) && nat_le (digits_value 10 text) max_steps))
 
--- a limit: decimal digits that write a number from 1 to 1,000,000
+-- a limit: decimal digits of a number from 1 to 1,000,000
 abbrev pub limit_of : List ℕ → Option ℕ
 limit_of text = if is_limit text then Some (digits_value 10 text) else None
 
--- the limit that is given, or the most
+-- the limit that is given, or the greatest
 abbrev pub limit_or_most : Option (List ℕ) → Option ℕ
 limit_or_most None = Some max_steps
 limit_or_most (Some text) = limit_of text
@@ -43,7 +49,7 @@ limit_or_most (Some text) = limit_of text
 abbrev pub limit_in : List Row → Option ℕ
 limit_in rows = limit_or_most (first_of (codes "limit") rows)
 
--- with a proof table, if one is given
+-- `run`, with a proof table if one is given
 abbrev pub run_of : List Row → Option TaskRequest
 run_of rows = option_map (λ files. Run files (first_of (codes "table") rows)) (files_in rows)
 
@@ -51,7 +57,9 @@ abbrev pub trace_of : List Row → Option TaskRequest
 trace_of rows = option_and_then (λ files. option_map (Trace files) (limit_in rows)) (files_in rows)
 
 abbrev pub assembly_of : List Row → Option TaskRequest
-assembly_of rows = option_and_then (λ text. option_map (Assemble text) (first_of (codes "image") rows)) (first_of (codes "text") rows)
+assembly_of rows =
+    option_and_then (λ text. option_map (Assemble text) (first_of (codes "image") rows))
+    (first_of (codes "text") rows)
 
 -- what the command of this name asks for with these arguments
 abbrev pub request_by : List ℕ → List Row → Option TaskRequest
@@ -65,34 +73,34 @@ request_by name rows =
     else if bytes_eq name (codes "recheck") then option_map Recheck (proof_in rows)
     else None
 
--- ---- what the words ask for
+-- ---- what the arguments ask for
 
--- the command that is met, with its arguments
+-- what the command that clap found asks for with its arguments
 abbrev pub request_met : Option (List ℕ × List Row) → Option TaskRequest
 request_met = option_and_then (λ met. request_by met.0 met.1)
 
--- wrong words ask for nothing
+-- arguments that clap refuses ask for nothing
 abbrev pub unless_faulty : Kinds → Option TaskRequest → Option TaskRequest
 unless_faulty [] request = request
 unless_faulty (wrong ∷ more) request = None
 
--- what the words ask for: what their command asks for; the first word is the program's name
+-- what the arguments ask for: what their command does; the first word is the program's name
 unfoldable pub asked : List (List ℕ) → Option TaskRequest
 asked words = unless_faulty (fault_of program words) (request_met (subcommand_of program words))
 
--- ---- what was read of them
+-- ---- the result of reading them
 
--- the answer says that the words are wrong
+-- the error says that the arguments are wrong
 abbrev pub IsWrong : WordsError → Type 0
 IsWrong (Wrong text) = Unit {0}
 IsWrong Memory = ⊥
 
--- the task that the words ask for, or that they ask for none; or memory ran out
+-- the result is the task of this request, or says that there is none; or memory ran out
 abbrev pub TellsOf : Option TaskRequest → Result Task WordsError → Type 0
 TellsOf request (Ok task) = request ≡ Some (request_of task)
 TellsOf request (Err (Wrong text)) = request ≡ None
 TellsOf request (Err Memory) = Unit {0}
 
--- what was read of words: what they ask for, or that it is nothing; or memory ran out
+-- the result of reading arguments: what they ask for, or that it is nothing; or memory ran out
 abbrev pub AsksFor : List (List ℕ) → Result Task WordsError → Type 0
 AsksFor words result = TellsOf (asked words) result

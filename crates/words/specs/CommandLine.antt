@@ -20,9 +20,10 @@ with_wanted command name = with_rule command (wanted name)
 abbrev pub command : List ℕ → List (List ℕ) → App
 command name arguments = fold with_wanted (new_app name) arguments
 
--- the command of this name that runs a program on a stream of frames, and takes this option
+-- the command of this name that runs a program on a frame stream, and takes this option
 abbrev pub running : List ℕ → List ℕ → App
-running name option = with_rule (command name (codes "image" ∷ codes "frames" ∷ codes "out" ∷ [])) (optional option)
+running name option =
+    with_rule (command name (codes "image" ∷ codes "frames" ∷ codes "out" ∷ [])) (optional option)
 
 unfoldable pub asm : App
 asm = command (codes "asm") (codes "text" ∷ codes "image" ∷ [])
@@ -45,7 +46,7 @@ prove = command (codes "prove") (codes "image" ∷ codes "table" ∷ [])
 unfoldable pub recheck : App
 recheck = command (codes "recheck") (codes "image" ∷ codes "table" ∷ [])
 
--- a program with one command more
+-- a program with one more command
 abbrev pub with_command : App → App → App
 with_command program command = with_subcommand program command.top
 

@@ -5,13 +5,13 @@ use Rattle.words.specs.declared.tasks.Proof.{Proof}
 use Rattle.words.specs.declared.tasks.Task.{Task}
 use Rattle.words.specs.declared.tasks.Task.TheVariants as task
 
--- the files of a run, by their paths
+-- the files of `run` and `trace`, by their paths
 pub record RunFiles : Type 0 where
   pub image : List ℕ
   pub frames : List ℕ
   pub out : List ℕ
 
--- the files of a proof, by their paths
+-- the files of `prove` and `recheck`, by their paths
 pub record ProofFiles : Type 0 where
   pub image : List ℕ
   pub table : List ℕ
@@ -19,12 +19,12 @@ pub record ProofFiles : Type 0 where
 -- what is asked for, on files by their paths
 pub data TaskRequest : Type 0 where
   Trace : RunFiles → ℕ → TaskRequest
-  -- where a proof table is given, that is tested in place of verifying the program
+  -- if a proof table is given, it is tested in place of verifying the program
   Run : RunFiles → Option (List ℕ) → TaskRequest
   Verify : List ℕ → TaskRequest
   Prove : ProofFiles → TaskRequest
   Recheck : ProofFiles → TaskRequest
-  -- of a text, an image
+  -- the text, and the image that is made of it
   Assemble : List ℕ → List ℕ → TaskRequest
   Disassemble : List ℕ → TaskRequest
 

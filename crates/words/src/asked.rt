@@ -1,4 +1,4 @@
-//! What the words on the command line ask for.
+//! What the arguments on the command line ask for.
 
 ghost use Rattle.std.specs.Prelude.{◌≡◌, map, option_map};
 ghost use Rattle.std.specs.List.{list_all};
@@ -15,7 +15,7 @@ use clap::error::ErrorKind;
 use isa_model::MAX_STEPS;
 use std::alloc::{AllocError, Global};
 
-// What is wrong with the words, where clap takes them and a command does not.
+// The message for arguments that clap accepts and a command does not.
 const NO_LIMIT: &str = "error: the value of --limit is not a number from 1 to 1000000\n";
 
 fn is_all_digits(text: &[u8]) -> bool
@@ -55,7 +55,7 @@ fn paths_in<'a>(matches: &ArgMatches<'a>) -> Option<RunPaths<'a>>
     })
 }
 
-// The limit that the words give, or the most.
+// The limit that is given, or the greatest.
 fn limit_in(matches: &ArgMatches<'_>) -> Option<StepLimit>
     ensures { option_map (λ limit. limit.steps) result ≡ limit_in (rows_of (found_of matches.now)) }
 {
@@ -65,7 +65,7 @@ fn limit_in(matches: &ArgMatches<'_>) -> Option<StepLimit>
     }
 }
 
-// Where a proof table is given, it is rechecked, and the verifier is not run.
+// If a proof table is given, it is rechecked in place of verifying the program.
 fn run_in<'a>(matches: &ArgMatches<'a>) -> Option<Task<'a>>
     ensures { option_map request_of result ≡ run_of (rows_of (found_of matches.now)) }
 {
@@ -126,8 +126,8 @@ fn wanted_task<'a>(
     }
 }
 
-// A message of clap, without its tip to put two hyphens before a word: no file is meant by a word
-// that looks like an option.
+// A message of clap without its tip to put two hyphens before an argument: one that looks like an
+// option is not meant as a file.
 fn without_tip(alloc: Global, message: String) -> Result<String, AllocError> {
     if let Some((front, tip)) = message.as_str().split_once("\n\n  tip: to pass '") {
         if let Some((_, back)) = tip.split_once("\n\nUsage: ") {
@@ -137,7 +137,7 @@ fn without_tip(alloc: Global, message: String) -> Result<String, AllocError> {
     Ok(message)
 }
 
-// What clap says of a command line that it refused, or of a request for help or the version.
+// The text that clap makes for a command line that it refused, or for help or the version.
 fn message_of(alloc: Global, error: &clap::Error) -> Result<String, AllocError> {
     let message = format!(in alloc; "{error}")?;
     without_tip(alloc, message)
@@ -156,7 +156,7 @@ fn refusal_of(alloc: Global, error: &clap::Error) -> WordsError
     }
 }
 
-/// What the words ask for. The first one is the program's name.
+/// What the arguments ask for. The first word is the program's name.
 pub fn read_words<'a>(alloc: Global, words: &'a [String]) -> Result<Task<'a>, WordsError>
     ensures { AsksFor (map string_bytes words.now) result }
 {

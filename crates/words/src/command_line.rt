@@ -13,7 +13,7 @@ const NAME: &str = "xdpvm";
 /// The version of the program, which `--version` prints.
 pub const VERSION: &str = "0.1.0";
 
-// An argument that a command requires, and what help says of it.
+// An argument that a command requires, and its help text.
 #[derive(Clone, Copy)]
 struct Argument {
     name: &'static str,
@@ -75,7 +75,7 @@ const INSTEAD: Choice = Choice {
     help: "A proof table, which is tested in place of verifying the program",
 };
 
-// What help says of each command, in the order of the list.
+// The help text of each command, in the order of the list.
 const ASM_ABOUT: &str = "Makes the image of a program that is written as text";
 
 const DIS_ABOUT: &str = "Prints the text of an image";
@@ -121,7 +121,7 @@ fn command<'a>(
     Ok(command)
 }
 
-// A command that takes an option, too.
+// A command with an option.
 fn with_choice<'a>(
     alloc: Global,
     command: Command<'a>,
@@ -138,7 +138,7 @@ fn with_choice<'a>(
     command.arg(option)
 }
 
-// The command of this name that runs a program on a stream of frames, and takes this option.
+// The command of this name that runs a program on a frame stream, and takes this option.
 fn running<'a>(
     alloc: Global,
     name: &'static str,
@@ -185,7 +185,7 @@ fn with_running<'a>(
 fn empty_program<'a>(alloc: Global) -> Result<Command<'a>, AllocError>
     ensures { IfOk result (λ made. app_of made ≡ empty_program) }
 {
-    // Help and messages name it so, whatever the file is called that runs.
+    // Help and messages have this name, whatever the executable file is called.
     Command::new(alloc, NAME)
         .version(VERSION)
         .subcommand_required(true)

@@ -1,4 +1,4 @@
-//! The words that the program is given.
+//! The arguments that the program is given.
 
 ghost use Rattle.std.specs.Prelude.{◌≡◌, ◌≢◌};
 ghost use Rattle.std.specs.IoError.{error_kind};
@@ -10,7 +10,7 @@ use std::env::Env;
 use std::io;
 use std::io::ErrorKind;
 
-// Why the words could not be got.
+// Why the arguments could not be read.
 fn failure_of(alloc: Global, error: &io::Error) -> WordsError
     ensures memory { error_kind error.now ≡ ErrorKind.OutOfMemory → result ≡ WordsError.Memory }
     ensures wrong { error_kind error.now ≢ ErrorKind.OutOfMemory → IsWrong result }
@@ -21,7 +21,7 @@ fn failure_of(alloc: Global, error: &io::Error) -> WordsError
     }
 }
 
-/// The words that the program was given. The first one is its name.
+/// The arguments that the program was given. The first word is its name.
 pub fn given_words<R: Env + AllocGlobal>(rt: &R) -> Result<Vec<String>, WordsError> {
     match std::env::args(rt) {
         Ok(words) => Ok(words.collect(rt.alloc())?),

@@ -1,4 +1,4 @@
-//! The words on the command line, what they ask for, and what the program can be asked to do.
+//! The arguments on the command line, what they ask for, and what the program can be asked to do.
 #![tactic(auto)]
 
 mod asked;

@@ -1,5 +1,4 @@
-//! What the program is to do, and why words ask for nothing. Nothing here speaks of the command
-//! line's form.
+//! What the program is to do, and why arguments ask for nothing, whatever form a command line has.
 
 ghost use Rattle.std.specs.Prelude.{◌≤◌};
 ghost use Rattle.isa_model.specs.Code.Limits.{max_steps};
@@ -11,7 +10,7 @@ use std::alloc::AllocError;
 pub enum Task<'a> {
     /// Run a program with checks.
     Trace(RunPaths<'a>, StepLimit),
-    /// Verify a program and run it. Where a proof table is given, that is tested instead.
+    /// Verify a program and run it. If a proof table is given, it is tested in place of verifying.
     Run(RunPaths<'a>, Option<&'a str>),
     /// Verify a program.
     Verify(&'a str),
@@ -25,7 +24,7 @@ pub enum Task<'a> {
     Disassemble(&'a str),
 }
 
-/// The most steps of a run on one frame: from 1 to 1,000,000.
+/// The limit of steps of a run: from 1 to 1,000,000.
 #[derive(Clone, Copy)]
 pub struct StepLimit {
     pub steps: u32,
@@ -33,7 +32,7 @@ pub struct StepLimit {
     ghost most: { steps ≤ max_steps },
 }
 
-/// The files of a run: the image and the frames that are read, and the frames out.
+/// The files of `run` and `trace`: the image and the frames that are read, and the frames out.
 #[derive(Clone, Copy)]
 pub struct RunPaths<'a> {
     pub image: &'a str,
@@ -41,21 +40,21 @@ pub struct RunPaths<'a> {
     pub out: &'a str,
 }
 
-/// The files of an assembly: the text, and the image that is made.
+/// The files of `asm`: the text, and the image that is made.
 #[derive(Clone, Copy)]
 pub struct Assembly<'a> {
     pub text: &'a str,
     pub image: &'a str,
 }
 
-/// The files of a proof: the image, and the proof table of its program.
+/// The files of `prove` and `recheck`: the image, and the proof table of its program.
 #[derive(Clone, Copy)]
 pub struct Proof<'a> {
     pub image: &'a str,
     pub table: &'a str,
 }
 
-/// Why the words ask for nothing.
+/// Why the arguments ask for nothing.
 #[derive(Drop)]
 pub enum WordsError {
     /// The arguments are invalid, or not UTF-8, or they ask for help or the version. The text is

@@ -1,7 +1,7 @@
 //! xdpvm: runs BPF programs of the XDP kind on streams of packet frames.
 //!
-//! The program calls one function, `execute`, which says what is done by each command and with
-//! which status. What can be stated of the calls around it is stated at `answer` and `buffered`.
+//! The program calls one function, `execute`, whose contract says what each command does and with
+//! which status it ends. `answer` and `buffered` state what can be stated of the calls around it.
 #![tactic(auto)]
 
 pub use commands::execute;
@@ -11,8 +11,8 @@ use std::process::ExitCode;
 use std::rt::Files;
 use words::given_words;
 
-// Whether standard output is a file on a disk. Where the system has no such name it is taken for
-// something that is watched.
+// Whether standard output is a file on a disk. If the system does not have this path, standard
+// output is written at once, as to someone who watches.
 fn is_stored<R: Files>(rt: &R) -> bool {
     match fs::metadata(rt, "/dev/stdout") {
         Ok(output) => output.is_file(),

@@ -1,8 +1,8 @@
 //! The calls of `verdict_calls`, `table_calls`, `run_calls` and `session_calls`, exported for C and
 //! Rust.
 //!
-//! An export has no `requires`, since nothing makes a caller meet it. It is one call, and says what
-//! that call says. `examples/embed/xdpvm.h` declares the same for C.
+//! An export has no `requires`, since nothing makes a caller meet it. It is one call, and has that
+//! call's clauses. `examples/embed/xdpvm.h` declares the same for C.
 #![tactic(auto)]
 
 pub mod map_calls;

@@ -1,4 +1,4 @@
-//! The maps of an open program, between runs.
+//! Exports on the maps of an open program, between runs.
 
 ghost use Rattle.std.specs.Prelude.{◌≡◌, ◌≢◌, ◌↔◌, length, None, Some};
 ghost use Rattle.std.specs.List.{slice_get};

@@ -1,4 +1,4 @@
-//! The version, and the actions that answers name.
+//! Exports of the version, and of the action that an answer names.
 
 ghost use Rattle.std.specs.Prelude.{◌≡◌, length};
 ghost use Rattle.isa_model.specs.Reporting.Frames.{action_of};
@@ -6,7 +6,7 @@ ghost use Rattle.verdict_calls.specs.Crossing.{filled, version, action_number};
 
 use verdict_calls::naming::{number_of_action, write_version};
 
-/// Writes the version, such as `0.1.0`, and answers how many bytes it has.
+/// Writes the version, such as `0.1.0`, and returns how many bytes it has.
 #[unsafe(no_mangle)]
 pub extern "C" fn xdpvm_version(buffer: &mut [u8]) -> usize
     ensures size { result ≡ length version }

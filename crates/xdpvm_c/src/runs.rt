@@ -1,4 +1,4 @@
-//! Runs on one packet, and over streams.
+//! Exports that run a program on one packet, or over a stream.
 
 ghost use Rattle.std.specs.Prelude.{◌≡◌, ◌≢◌, ◌<◌, ◌↔◌, length, ◌⊎◌};
 ghost use Rattle.isa_model.specs.Code.Limits.{max_steps};
@@ -14,8 +14,8 @@ use run_calls::streaming::{Streamed, run_stream};
 use run_calls::tracing::{TracedEnd, trace_once};
 use std::alloc::Global;
 
-/// Verifies an image, and runs its program on a packet, on maps as they start. Why an image is
-/// refused `xdpvm_verify` says.
+/// Verifies an image, and runs its program on a packet, on maps as they start. `xdpvm_verify` says
+/// why an image is refused.
 #[unsafe(no_mangle)]
 pub extern "C" fn xdpvm_run_once(
     alloc: Global,
@@ -64,8 +64,9 @@ pub extern "C" fn xdpvm_trace_once(
     trace_once(alloc, image, head, packet, limit, out)
 }
 
-/// Verifies an image, and runs its program on the frames of a stream. The report goes to `report`
-/// and the frames out to `sent`, as far as there is room; maps live on from frame to frame.
+/// Verifies an image, and runs its program on the frames of a stream. The report is written to
+/// `report` and the frames out to `sent`, as far as there is room; the maps keep their contents
+/// from frame to frame.
 #[unsafe(no_mangle)]
 pub extern "C" fn xdpvm_run_stream(
     alloc: Global,

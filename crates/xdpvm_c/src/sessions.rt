@@ -1,4 +1,4 @@
-//! Sessions opened, run and closed.
+//! Exports that open, run and close sessions.
 
 ghost use Rattle.std.specs.Prelude.{◌≡◌, ◌≢◌, ◌↔◌, None, ◌<◌, ◌⊎◌, length};
 ghost use Rattle.isa_model.specs.{max_packet};
@@ -25,7 +25,7 @@ pub extern "C" fn xdpvm_open(alloc: Global, image: &[u8], session: &mut Session)
     open_image(alloc, image, session)
 }
 
-/// The same, shown by a proof table of the image's program, whoever made it.
+/// The same, where a proof table shows that the program is accepted, whoever made the table.
 #[unsafe(no_mangle)]
 pub extern "C" fn xdpvm_open_with_table(
     alloc: Global,
@@ -42,7 +42,7 @@ pub extern "C" fn xdpvm_open_with_table(
     open_with_table(alloc, image, table, session)
 }
 
-/// Runs an open program on a packet, in place. Its maps go on from run to run.
+/// Runs an open program on a packet, in place. Its maps keep their contents from run to run.
 #[unsafe(no_mangle)]
 pub extern "C" fn xdpvm_run(
     alloc: Global,
@@ -66,7 +66,7 @@ pub extern "C" fn xdpvm_run(
     run_session(alloc, session, head, packet, out)
 }
 
-/// Closes a session, and gives its memory back. A closed one stays as it is.
+/// Closes a session, and frees its memory. A closed one stays as it is.
 #[unsafe(no_mangle)]
 pub extern "C" fn xdpvm_close(alloc: Global, session: &mut Session)
     ensures { session.new.held ≡ None }

@@ -1,9 +1,9 @@
-//! Exports that assemble a text, verify an image, and prove or recheck a bound.
+//! Exports that assemble a text, verify an image, and test a proof table.
 
 ghost use Rattle.std.specs.Prelude.{◌≡◌, ◌≢◌, ◌<◌, ◌↔◌, ◌⊎◌};
 ghost use Rattle.isa_model.specs.Code.Limits.{max_explored};
 ghost use Rattle.verdict_calls.specs.Crossing.{IsVerdict, IsDecision};
-ghost use Rattle.verdict_calls.specs.Verdicts.{FillsAssembledImage, size_alone, FillsTextRefusal, AnswersBound, FillsImageRefusal, IsUndecided};
+ghost use Rattle.verdict_calls.specs.Verdicts.{FillsAssembledImage, only_size, FillsTextRefusal, AnswersBound, FillsImageRefusal, IsUndecided};
 ghost use Rattle.table_calls.specs.Tables.{AnswersShownBound, FillsTableRefusal};
 
 use std::alloc::Global;
@@ -11,8 +11,8 @@ use table_calls::rechecks::{Rechecked, recheck_table};
 use verdict_calls::assembling::{Assembled, assemble_text};
 use verdict_calls::judging::{Verdict, verify_image};
 
-/// Assembles a text. The image goes to `image`, and why the text is refused to `why`, as far as
-/// there is room.
+/// Assembles a text. The image is written to `image`, and why the text is refused to `why`, as far
+/// as there is room.
 #[unsafe(no_mangle)]
 pub extern "C" fn xdpvm_assemble(
     alloc: Global,
@@ -22,7 +22,7 @@ pub extern "C" fn xdpvm_assemble(
     out: &mut Assembled,
 ) -> u32
     ensures assembled { result ≡ 0 → FillsAssembledImage text.now image.old image.new out.new.size }
-    ensures alone { result ≡ 0 → out.new ≡ size_alone out.new.size }
+    ensures alone { result ≡ 0 → out.new ≡ only_size out.new.size }
     ensures refused { result ≡ 2 → FillsTextRefusal text.now why.old why.new out.new.size
         out.new.line out.new.column }
     ensures image_kept { result ≢ 0 → image.new ≡ image.old }
@@ -33,9 +33,9 @@ pub extern "C" fn xdpvm_assemble(
     assemble_text(alloc, text, image, why, out)
 }
 
-/// Verifies an image, exploring at most `limit` instructions (1 to 1,000,000). Why it is refused
-/// goes to `why`, as far as there is room; what is known at the refused instruction is looked for
-/// only if there is room.
+/// Verifies an image, exploring at most `limit` instructions (1 to 1,000,000). Why it is refused is
+/// written to `why`, as far as there is room; what is known at the refused instruction is looked
+/// for only if there is room.
 #[unsafe(no_mangle)]
 pub extern "C" fn xdpvm_verify(
     alloc: Global,
@@ -58,9 +58,9 @@ pub extern "C" fn xdpvm_verify(
 }
 
 /// Tests a proof table of an image's program, whoever made it: where it passes, the program is
-/// accepted as by `xdpvm_verify`, within the bound that the table shows. Why it is refused goes to
-/// `why`, as far as there is room; what is known of the entry is looked for only where there is
-/// some.
+/// accepted as by `xdpvm_verify`, within the bound that the table shows. Why it is refused is
+/// written to `why`, as far as there is room; what is known of the entry is looked for only where
+/// there is some.
 #[unsafe(no_mangle)]
 pub extern "C" fn xdpvm_recheck(
     alloc: Global,

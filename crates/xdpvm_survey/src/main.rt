@@ -1,6 +1,6 @@
-//! xdpvm_survey: judges many BPF programs at once, and looks into one.
+//! xdpvm_survey: judges many BPF programs at once, and shows one.
 //!
-//! The program calls one function, `execute`, which says what is done and with which status.
+//! The program calls one function, `execute`, which does what is asked for and returns the status.
 #![tactic(auto)]
 
 use commands::buffered;
@@ -12,8 +12,8 @@ use std::rt::Files;
 use survey_commands::answer;
 use words::given_words;
 
-// Whether standard output is a file on a disk. Where the system has no such name it is taken for
-// something that is watched.
+// Whether standard output is a file on a disk. If the system does not have this path, standard
+// output is written at once, as to someone who watches.
 fn is_stored<R: Files>(rt: &R) -> bool {
     match fs::metadata(rt, "/dev/stdout") {
         Ok(output) => output.is_file(),

@@ -13,7 +13,7 @@ use isa_model::{
 };
 
 impl Core {
-    /// Sets a register and goes on to the slot that is `slots` later.
+    /// Sets a register and goes on at the slot that is `slots` slots later.
     pub fn set_and_go_on(&mut self, d: Reg, value: Value, slots: usize)
         requires { self.old.slot + slots < 2 ^ 64 }
         ensures { self.new ≡ record self.old {

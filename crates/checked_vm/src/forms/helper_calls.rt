@@ -1,5 +1,5 @@
-//! Calls of helpers: the kinds of the arguments are tested first, then the key is read, then the
-//! value, and one change comes last.
+//! Calls of helpers: the arguments are tested first, then the key is read, then the value, and the
+//! map is changed last.
 
 ghost use Rattle.std.specs.Prelude.{◌≡◌, ◌+◌, ◌<◌, ◌≤◌, ◌^◌, ℕ, List, length, slice_get, Some, Ok, Err, IfOk, MatchResult};
 ghost use Rattle.isa_model.specs.Code.Limits.{max_key_size, max_value_size};
@@ -10,7 +10,7 @@ ghost use Rattle.isa_model.specs.Machine.States.{go_to};
 ghost use Rattle.isa_model.specs.Machine.Steps.{act};
 ghost use Rattle.isa_model.specs.Machine.HelperCalls.{map_argument, bytes_argument, number_argument, bytes_at, answered, lookup_call, update_call, delete_call};
 ghost use Rattle.checked_vm.specs.Machine.{state_of, KeepsFrames, IsRunning, StaysRunning, Helps};
-ghost use Rattle.checked_vm.specs.Outcomes.{IsStep, after_time};
+ghost use Rattle.checked_vm.specs.StepResults.{IsStep, after_time};
 
 use crate::cells;
 use crate::core_state::Core;
@@ -19,7 +19,7 @@ use crate::steps::Stepped;
 use isa_model::{Helper, MapDef, Reg, Region, TrapReason, Value};
 use maps::{KEY_ROOM, VALUE_ROOM};
 
-/// Where the bytes of a key or a value are.
+/// Where the bytes of a key or a map value are.
 fn bytes_argument(value: Value) -> Result<(Region, i64), TrapReason>
     ensures { MatchResult result
         (λ at. bytes_argument value ≡ Ok (record { region = at.0; offset = at.1 }))
@@ -51,7 +51,7 @@ fn key_room() -> [u8; KEY_ROOM]
     [0; KEY_ROOM]
 }
 
-/// Room for the longest value.
+/// Room for the longest map value.
 fn value_room() -> [u8; VALUE_ROOM]
     ensures { length result ≡ max_value_size }
 {
@@ -207,7 +207,8 @@ impl Core {
         Ok(())
     }
 
-    /// CALL of a helper. The time is only asked for: the clock is not the machine's.
+    /// CALL of a helper. A call of ktime_get_ns is not answered here, since the machine has no
+    /// clock.
     #[tactic(auto, unfolding(isa_model::specs::Machine::Steps::act))]
     pub fn call_helper(&mut self, number: i32, packet: &[u8]) -> Stepped
         requires running { IsRunning self.old }

@@ -1,4 +1,4 @@
-//! Jumps.
+//! Jump instructions.
 
 ghost use Rattle.std.specs.Prelude.{◌≡◌, ◌<◌, ◌^◌, ℕ, List, [], length, unwrap_or};
 ghost use Rattle.isa_model.specs.Machine.Steps.{target, test_of};
@@ -17,7 +17,7 @@ impl Core {
         self.slot = destination(self.slot, by, slots);
     }
 
-    /// What the test of a conditional jump says, in a run on a packet of this length.
+    /// Whether the test of a conditional jump holds, in a run on a packet of this length.
     fn test(&self, cond: Cond, len: usize) -> Result<bool, TrapReason>
         requires { len < 2 ^ 63 }
         ensures { (packet : List ℕ) → length packet ≡ len

@@ -1,4 +1,4 @@
-//! Loads and stores.
+//! Load and store instructions.
 
 ghost use Rattle.std.specs.Prelude.{◌≡◌, ◌+◌, ◌<◌, ◌^◌};
 ghost use Rattle.checked_vm.specs.Machine.{KeepsFrames, Performs};

@@ -1,4 +1,4 @@
-//! The images that are tested, as docs/FORMATS.md and docs/REFUSALS.md show them.
+//! The images of the tests, as docs/FORMATS.md and docs/REFUSALS.md show them.
 
 use run_calls::running::Head;
 
@@ -15,7 +15,7 @@ pub const UNGUARDED: [u8; 40] = *b"XBP1\0\0\x04\0\
 /// `r0 = 0; loop: goto loop`.
 pub const ENDLESS: [u8; 24] = *b"XBP1\0\0\x02\0\xb7\0\0\0\0\0\0\0\x05\0\xff\xff\0\0\0\0";
 
-/// No image.
+/// Bytes that are not an image.
 pub const OTHER: [u8; 8] = *b"XBP3\0\0\x02\0";
 
 /// Time 1000, interface 7, queue 2.

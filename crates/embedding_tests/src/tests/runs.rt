@@ -1,4 +1,4 @@
-//! Runs on one packet, and over streams.
+//! Programs that are run on one packet, and over a stream.
 
 use super::buffers::holds;
 use super::images::{ENDLESS, HEAD, INTERFACE, OTHER, PASS, UNGUARDED};
@@ -7,7 +7,7 @@ use run_calls::streaming::{Streamed, run_stream};
 use run_calls::tracing::{TracedEnd, trace_once};
 use std::alloc::Global;
 
-/// The status, and the answer and the steps, of a run on a packet of that many bytes.
+/// The status, and r0 and the steps of a run on a packet of that many bytes.
 fn ran(alloc: Global, image: &[u8], length: usize) -> (u32, u64, u32) {
     let mut packet = [0; 9217];
     let mut out = Ended { r0: 9, steps: 9 };
@@ -16,7 +16,7 @@ fn ran(alloc: Global, image: &[u8], length: usize) -> (u32, u64, u32) {
     (status, out.r0, out.steps)
 }
 
-/// An image, the packet's length, and what is answered.
+/// An image, the packet's length, and what is returned.
 const RUNS: [(&[u8], usize, (u32, u64, u32)); 6] = [
     (&PASS, 0, (0, 2, 2)),
     (&INTERFACE, 9216, (0, 7, 2)),
@@ -29,12 +29,12 @@ const RUNS: [(&[u8], usize, (u32, u64, u32)); 6] = [
 #[test]
 fn runs_once(rt: HostRuntime) {
     for (image, length, wanted) in RUNS.iter() {
-        let answer = ran(rt.alloc(), image, *length);
-        assert!(rt; answer == *wanted, "{length} bytes");
+        let found = ran(rt.alloc(), image, *length);
+        assert!(rt; found == *wanted, "{length} bytes");
     }
 }
 
-/// The status, the kind of end, and the answer or the reason, and the steps.
+/// The status, how the run ended, r0, the trap reason, and the steps.
 type Traced = (u32, u32, u64, u32, u32);
 
 fn traced(alloc: Global, image: &[u8], length: usize, limit: u32) -> Traced {
@@ -50,7 +50,7 @@ fn traced(alloc: Global, image: &[u8], length: usize, limit: u32) -> Traced {
     (status, out.kind, out.r0, out.reason, out.steps)
 }
 
-/// An image, the packet's length and the limit, and what is answered.
+/// An image, the packet's length and the limit, and what is returned.
 const TRACES: [(&[u8], usize, u32, Traced); 8] = [
     (&PASS, 64, 2, (0, 0, 2, 0, 2)),
     (&PASS, 64, 1, (0, 2, 0, 0, 1)),
@@ -65,20 +65,20 @@ const TRACES: [(&[u8], usize, u32, Traced); 8] = [
 #[test]
 fn traces_once(rt: HostRuntime) {
     for (image, length, limit, wanted) in TRACES.iter() {
-        let answer = traced(rt.alloc(), image, *length, *limit);
-        assert!(rt; answer == *wanted, "{length} bytes, limit {limit}");
+        let found = traced(rt.alloc(), image, *length, *limit);
+        assert!(rt; found == *wanted, "{length} bytes, limit {limit}");
     }
 }
 
-/// One frame of two bytes.
+/// The stream of one frame of two bytes.
 const FRAMES: &[u8] = b"XPF1\xe8\x03\0\0\0\0\0\0\x01\0\0\0\0\0\0\0\x02\0\0\0\xca\xfe";
 
-/// The same, and a record that is cut off after it.
+/// The same stream, and the first byte of another record.
 const CUT: &[u8] = b"XPF1\xe8\x03\0\0\0\0\0\0\x01\0\0\0\0\0\0\0\x02\0\0\0\xca\xfe\x01";
 
 /// The status, the sizes of the report and of the frames out, how many frames there were, and the
 /// fault with its offset.
-type Told = (u32, usize, usize, u32, u32, u64);
+type Returned = (u32, usize, usize, u32, u32, u64);
 
 fn streamed(
     alloc: Global,
@@ -86,7 +86,7 @@ fn streamed(
     frames: &[u8],
     report: &mut [u8],
     sent: &mut [u8],
-) -> Told {
+) -> Returned {
     let mut out = Streamed {
         report: 9,
         sent: 9,
@@ -100,24 +100,25 @@ fn streamed(
     )
 }
 
-/// Whether a run over a stream is answered so, with that much room for each of the two outputs.
+/// Whether running a program over a stream returns this, with that much room for each of the two
+/// outputs.
 fn streams_so(
     alloc: Global,
     image: &[u8],
     frames: &[u8],
     room: usize,
-    wanted: &(Told, &[u8], &[u8]),
+    wanted: &(Returned, &[u8], &[u8]),
 ) -> bool {
     let mut report = [7; 40];
     let mut sent = [7; 40];
     let room = room.min(40);
-    let answer = streamed(alloc, image, frames, &mut report[..room], &mut sent[..room]);
-    answer == wanted.0 && holds(&report, wanted.1) && holds(&sent, wanted.2)
+    let found = streamed(alloc, image, frames, &mut report[..room], &mut sent[..room]);
+    found == wanted.0 && holds(&report, wanted.1) && holds(&sent, wanted.2)
 }
 
-/// An image, a stream, the room for each output, and what is answered, with what is written of the
+/// An image, a stream, the room for each output, and what is returned, with what is written of the
 /// report and of the frames out.
-const STREAMS: [(&[u8], &[u8], usize, (Told, &[u8], &[u8])); 3] = [
+const STREAMS: [(&[u8], &[u8], usize, (Returned, &[u8], &[u8])); 3] = [
     (
         &PASS,
         FRAMES,

@@ -7,34 +7,34 @@ use session_calls::map_calls::{Changed, delete_key, key_at_rank, look_up_key, up
 use session_calls::opening::{close_session, open_image, open_with_table, run_session};
 use std::alloc::Global;
 
-/// `r0 = 2; exit`, with a hash map of two entries, of keys of 2 bytes and values of 3, and an array
+/// `r0 = 2; exit`, with a hash map of at most two keys of 2 bytes, with values of 3, and an array
 /// of four values of 4 bytes.
 const MAPS: [u8; 48] = *b"XBP1\x02\0\x02\0\
     \x01\0\x02\0\x03\0\0\0\x02\0\0\0\x02\0\x04\0\x04\0\0\0\x04\0\0\0\
     \xb7\0\0\0\x02\0\0\0\x95\0\0\0\0\0\0\0";
 
-/// What is called on a session.
+/// A call on a session.
 enum Call {
     Open(&'static [u8]),
     OpenWithTable(&'static [u8], &'static [u8]),
     /// On a packet of that many bytes.
     Run(usize),
     Close,
-    /// In a map, of a key, with a value of that many bytes.
+    /// In a map, with a key, and room for a value of that many bytes.
     Lookup(usize, &'static [u8], usize),
     /// With flags.
     Update(usize, &'static [u8], &'static [u8], u64),
     Delete(usize, &'static [u8]),
-    /// The key at a rank, with a key and a value of that many bytes.
+    /// The key at a rank in a map, and room for a key and a value of that many bytes.
     Next(usize, usize, usize, usize),
 }
 
-/// The status, a number, and the steps of a run. The number is the answer of a run, an update or a
-/// delete; a value, or a key below its value, by their bytes, the lowest first; 9 where nothing was
-/// written.
-type Answer = (u32, u64, u32);
+/// The status, a number, and the steps of a run. The number is r0 of a run, or the answer of an
+/// update or a delete; or a value, or a key with its value above it, the lowest byte first; or 9 if
+/// nothing was written.
+type Returned = (u32, u64, u32);
 
-fn ran(alloc: Global, session: &mut Session, length: usize) -> Answer {
+fn ran(alloc: Global, session: &mut Session, length: usize) -> Returned {
     let mut packet = [0; 9217];
     let mut out = Ended { r0: 9, steps: 9 };
     let body = &mut packet[..length.min(9217)];
@@ -49,24 +49,30 @@ fn number(bytes: &[u8; 4]) -> u64 {
         | u64::from(bytes[3]) << 24
 }
 
-fn looked_up(alloc: Global, session: &mut Session, map: usize, key: &[u8], size: usize) -> Answer {
+fn looked_up(
+    alloc: Global,
+    session: &mut Session,
+    map: usize,
+    key: &[u8],
+    size: usize,
+) -> Returned {
     let mut value = [9, 0, 0, 0];
     let status = look_up_key(alloc, session, map, key, &mut value[..size.min(4)]);
     (status, number(&value), 0)
 }
 
-fn changed(status: u32, out: Changed) -> Answer {
+fn changed(status: u32, out: Changed) -> Returned {
     (status, out.answer, 0)
 }
 
-/// The key at a rank, and the sizes of key and value.
+/// The key at a rank with its value, with room for a key and a value of these sizes.
 fn listed(
     alloc: Global,
     session: &mut Session,
     map: usize,
     rank: usize,
     sizes: (usize, usize),
-) -> Answer {
+) -> Returned {
     let mut key = [9, 0, 0, 0];
     let mut value = [0; 4];
     let (key_bytes, value_bytes) = (&mut key[..sizes.0.min(4)], &mut value[..sizes.1.min(4)]);
@@ -74,7 +80,7 @@ fn listed(
     (status, number(&value) << 32 | number(&key), 0)
 }
 
-fn called(alloc: Global, session: &mut Session, call: &Call) -> Answer {
+fn called(alloc: Global, session: &mut Session, call: &Call) -> Returned {
     let mut out = Changed { answer: 9 };
     match call {
         Call::Open(image) => (open_image(alloc, image, session), 9, 0),
@@ -99,9 +105,9 @@ fn called(alloc: Global, session: &mut Session, call: &Call) -> Answer {
     }
 }
 
-/// Calls, one after another on one session, and what each is answered. bpf(2): EEXIST is 17, E2BIG
-/// 7, ENOENT 2, EINVAL 22.
-const CALLS: [(Call, Answer); 48] = [
+/// Calls, one after another on one session, and what each returns. bpf(2): EEXIST is 17, E2BIG 7,
+/// ENOENT 2, EINVAL 22.
+const CALLS: [(Call, Returned); 48] = [
     (Call::Run(64), (1, 9, 9)),
     (Call::Open(&INTERFACE), (0, 9, 0)),
     (Call::Open(&PASS), (1, 9, 0)),
@@ -169,10 +175,10 @@ const CALLS: [(Call, Answer); 48] = [
 ];
 
 #[test]
-fn answers_each_call_of_a_session(rt: HostRuntime) {
+fn calls_on_a_session(rt: HostRuntime) {
     let mut session = Session::closed();
     for (call, wanted) in CALLS.iter() {
-        let answer = called(rt.alloc(), &mut session, call);
-        assert!(rt; answer == *wanted, "{} {}", wanted.0, wanted.1);
+        let found = called(rt.alloc(), &mut session, call);
+        assert!(rt; found == *wanted, "{} {}", wanted.0, wanted.1);
     }
 }

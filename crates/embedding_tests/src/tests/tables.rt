@@ -5,8 +5,8 @@ use super::images::{ENDLESS, OTHER, PASS};
 use std::alloc::Global;
 use table_calls::rechecks::{Rechecked, recheck_table};
 
-/// The second entry of the table, but for its stack slots: the first has nothing but zeros at the
-/// end. Its r0 is the number 2: value and mask, then its limits at 64 and 32 bits.
+/// The second entry of the table without its stack slots; the first entry has only zeros there. Its
+/// r0 is the number 2: value and mask, then its limits at 64 and 32 bits.
 const SECOND: [u8; 80] = *b"\x01\x01\0\0\0\
     \x01\0\0\0\x01\0\x01\0\0\
     \x01\x02\0\0\0\0\0\0\0\0\0\0\0\0\0\0\0\
@@ -14,11 +14,11 @@ const SECOND: [u8; 80] = *b"\x01\x01\0\0\0\
     \x02\0\0\0\x02\0\0\0\x02\0\0\0\x02\0\0\0\x02";
 
 /// The table of the program, of two entries, with a byte changed.
-fn table(place: usize, byte: u8) -> [u8; 372] {
+fn table(index: usize, byte: u8) -> [u8; 372] {
     let mut bytes = [0; 372];
     bytes[..19].copy_from_slice(b"XPT1\x02\0\0\0\x02\0\0\0\0\0\x01\0\0\0\x02");
     bytes[155..235].copy_from_slice(&SECOND);
-    bytes[place.min(371)] = byte;
+    bytes[index.min(371)] = byte;
     bytes
 }
 
@@ -37,22 +37,23 @@ fn rechecked(alloc: Global, image: &[u8], table: &[u8], why: &mut [u8]) -> (Test
     ((status, out.bound, out.rule, out.entry), out.said)
 }
 
-/// Whether the table with a byte changed is answered so, where a text is wanted with room for it.
+/// Whether the call on the table with a byte changed returns this, with room for a text if one is
+/// wanted.
 fn rechecks_so(
     alloc: Global,
     image: &[u8],
-    place: usize,
+    index: usize,
     byte: u8,
     wanted: &(Tested, &str),
 ) -> bool {
     let mut why = [7; 200];
     let room = if wanted.1.is_empty() { 0 } else { 200 };
-    let (answer, said) = rechecked(alloc, image, &table(place, byte), &mut why[..room]);
-    answer == wanted.0 && (room == 0 || said == wanted.1.len()) && holds(&why, wanted.1.as_bytes())
+    let (found, said) = rechecked(alloc, image, &table(index, byte), &mut why[..room]);
+    found == wanted.0 && (room == 0 || said == wanted.1.len()) && holds(&why, wanted.1.as_bytes())
 }
 
-/// An image, a byte of the table by its index, and what is answered and said, as docs/REFUSALS.md
-/// has it.
+/// An image, a byte of the table by its index, and what is returned and said, as docs/REFUSALS.md
+/// shows it.
 const CHANGES: [(&[u8], usize, u8, (Tested, &str)); 11] = [
     (&PASS, 0, 0x58, ((0, 2, 0, 0), "")),
     (&PASS, 8, 5, ((0, 5, 0, 0), "")),
@@ -95,10 +96,10 @@ const CHANGES: [(&[u8], usize, u8, (Tested, &str)); 11] = [
 
 #[test]
 fn rechecks(rt: HostRuntime) {
-    for (image, place, byte, wanted) in CHANGES.iter() {
+    for (image, index, byte, wanted) in CHANGES.iter() {
         assert!(rt;
-            rechecks_so(rt.alloc(), image, *place, *byte, wanted),
-            "byte {place}"
+            rechecks_so(rt.alloc(), image, *index, *byte, wanted),
+            "byte {index}"
         );
     }
 }

@@ -1,4 +1,4 @@
-//! Texts, images and names.
+//! Calls on texts and images, and those for actions and the version.
 
 use super::buffers::holds;
 use super::images::{ENDLESS, OTHER, PASS, UNGUARDED};
@@ -7,7 +7,7 @@ use verdict_calls::assembling::{Assembled, assemble_text};
 use verdict_calls::judging::{Verdict, verify_image};
 use verdict_calls::naming::{number_of_action, write_version};
 
-/// The status, and the size, the line and the column.
+/// The status, and the size of the image, the line and the column.
 type Made = (u32, usize, usize, usize);
 
 fn assembled(alloc: Global, text: &[u8], image: &mut [u8], why: &mut [u8]) -> Made {
@@ -20,15 +20,15 @@ fn assembled(alloc: Global, text: &[u8], image: &mut [u8], why: &mut [u8]) -> Ma
     (status, out.size, out.line, out.column)
 }
 
-/// Whether a text is answered so, with that much room for its image.
+/// Whether the call on a text returns this, with that much room for its image.
 fn assembles_so(alloc: Global, text: &[u8], room: usize, wanted: &(Made, &[u8], &[u8])) -> bool {
     let mut image = [7; 26];
     let mut why = [7; 80];
-    let answer = assembled(alloc, text, &mut image[..room.min(26)], &mut why);
-    answer == wanted.0 && holds(&image, wanted.1) && holds(&why, wanted.2)
+    let found = assembled(alloc, text, &mut image[..room.min(26)], &mut why);
+    found == wanted.0 && holds(&image, wanted.1) && holds(&why, wanted.2)
 }
 
-/// A text, the room for its image, and what is answered, with what is written of the image and of
+/// A text, the room for its image, and what is returned, with what is written of the image and of
 /// why there is none.
 const TEXTS: [(&[u8], usize, (Made, &[u8], &[u8])); 3] = [
     (b"r0 = 2\nexit\n", 26, ((0, 24, 0, 0), &PASS, b"")),
@@ -71,16 +71,17 @@ fn verdict(alloc: Global, image: &[u8], limit: u32, why: &mut [u8]) -> Judged {
     (status, out.bound, out.slot, out.said)
 }
 
-/// Whether an image is judged so, where a text is wanted with room for it.
+/// Whether the call on an image returns this, with room for a text if one is wanted.
 fn judges_so(alloc: Global, image: &[u8], limit: u32, wanted: &(Judged, &str)) -> bool {
     let mut why = [7; 300];
     let room = if wanted.1.is_empty() { 0 } else { 300 };
-    let answer = verdict(alloc, image, limit, &mut why[..room]);
-    answer == wanted.0 && holds(&why, wanted.1.as_bytes())
+    let found = verdict(alloc, image, limit, &mut why[..room]);
+    found == wanted.0 && holds(&why, wanted.1.as_bytes())
 }
 
-/// An image and a limit, and what is answered and said: `PASS` has two instructions, and each is
-/// explored once. Without room for a text what is known at the instruction is not looked for.
+/// An image and a limit of explored instructions, and what is returned and said: `PASS` has two
+/// instructions, and each is explored once. Without room for a text, what is known at the
+/// instruction is not looked for.
 const IMAGES: [(&[u8], u32, (Judged, &str)); 10] = [
     (&PASS, 1_000_000, ((0, 2, 0, 0), "")),
     (&PASS, 0, ((1, 9, 9, 9), "")),
@@ -129,7 +130,7 @@ fn verifies(rt: HostRuntime) {
     }
 }
 
-/// An answer, and the number of the action that its low 32 bits name.
+/// r0 of a run, and the number of the action that its low 32 bits name.
 const ACTIONS: [(u64, u32); 7] = [
     (0, 0),
     (1, 1),

@@ -1,4 +1,4 @@
--- `put_window` writes N bytes at a place as one array, for every N.
+-- `put_window` writes N bytes at an index as one array, for every N.
 use mathlib.Core.Path.{◌≡◌, refl, sym, ap, ◌∙◌, subst}
 use Prim.Native.Nat.{ℕ, ◌+◌, ◌-◌, ◌≤◌, ◌<◌, ◌^◌}
 use native.Mathlib.Omega.{arith}
@@ -44,7 +44,7 @@ use denote.Triple.Spec.{Meets, triple_of}
 use denote.Triple.Table.{entered}
 use denote.Triple.Walked.{says, Stays, stay_dropped, stay_slice, Goes-slice, walk_of, ends_at, walked, Goes-dropped, walk_Meets}
 use borrow.Table.Elements.{at, at_byte, length-take-le, length_app}
-use Rattle.flatmem.proofs.Rows.{bytes_val, run_at, has, run_out, run_in}
+use Rattle.flatmem.proofs.Arrays.{bytes_val, array_at, has, array_out, array_in}
 use Rattle.flatmem.specs.contracts.put_window as F
 use Rattle.flatmem.specs.contracts.put_window.Key.{name as #self}
 use Rattle.flatmem.proofs.put_window.Statement as stated
@@ -79,14 +79,16 @@ module _ (n : ℕ) where
 abbrev rest : Body
 rest = seq (assign (place 0 []) (rv_opd opd_unit)) return
 
-module _ (n : ℕ) {M : Type 1} {𝓤 : Ura M} (𝓛 : Logic 𝓤) (at_mem : Memory → SProp 𝓤) (run : Routine → Fun 𝓤) where
+module _ (n : ℕ) {M : Type 1} {𝓤 : Ura M} (𝓛 : Logic 𝓤) (at_mem : Memory → SProp 𝓤)
+    (run : Routine → Fun 𝓤) where
   open 𝓛 use {H}
 
   abbrev clauses : Clauses 𝓤 (ended n)
   clauses = F.clauses (number n) 𝓛 at_mem run
 
   module _ (C : Calls 𝓤 H) (Λ : Loops 𝓤 H) (κ κN : Lft) (q qN : Share)
-      (bd : AllOutlive 2 (ended n).signature.outlives (κ, (κN, tt))) (b o : ℕ) (γ : GName) (xs : List ℕ) (m : ℕ)
+      (bd : AllOutlive 2 (ended n).signature.outlives (κ, (κN, tt))) (b o : ℕ) (γ : GName)
+      (xs : List ℕ) (m : ℕ)
       (w : List ℕ) where
     abbrev buf : List ℕ → MutBor (List ℕ)
     buf zs = record { ref_ptr = (b, o); ghost_name = γ; now = zs }
@@ -100,8 +102,10 @@ module _ (n : ℕ) {M : Type 1} {𝓤 : Ura M} (𝓛 : Logic 𝓤) (at_mem : Mem
     abbrev Post : Val → SProp 𝓤
     Post = (walk_of 𝓛 (ended n) (stayed n) clauses).post bound
 
-    walk : m < 2 ^ 64 → Room u8 (length xs) → Is (Word n) w (bytes_val w ∷ []) → length w ≡ n → m + n ≤ length xs
-        → ent 𝓤 (on_entry 𝓛 (ended n).signature (κ, (κN, tt)) (q, (qN, tt)) (buf xs, (m, (w, tt))) words)
+    walk : m < 2 ^ 64 → Room u8 (length xs) → Is (Word n) w (bytes_val w ∷ []) → length w ≡ n
+        → m + n ≤ length xs
+        → ent 𝓤 (on_entry 𝓛 (ended n).signature (κ, (κN, tt)) (q, (qN, tt))
+        (buf xs, (m, (w, tt))) words)
         (WpFn 𝓤 H C Λ (fn' n) (slice_val (b, o) (length xs) ∷ vint w64 m ∷ bytes_val w ∷ []) Post)
     walk fm rm is lw le =
         let front : List ℕ = take m xs in
@@ -119,7 +123,8 @@ module _ (n : ℕ) {M : Type 1} {𝓤 : Ura M} (𝓛 : Logic 𝓤) (at_mem : Mem
         let p : ℕ = m + o in
         let on : at o 1 (length front) ≡ p = at_byte o (length front) ∙ ap (λ (k : ℕ). k + o) lf in
         let ok = (Array-Lawful 𝓛 u8 (uint_Lawful 𝓛 w8) n).typed w (bytes_val w ∷ []) is in
-        qed 𝓛 ((‵ (flft κ q) ⊛ ‵ (flft κN qN) ⊛ ‵ ftrue) ∷ ‵ (owns (MutSlice (named 0) κ u8 ∷ usize ∷ Word n ∷ [])
+        qed 𝓛 ((‵ (flft κ q) ⊛ ‵ (flft κN qN) ⊛ ‵ ftrue)
+        ∷ ‵ (owns (MutSlice (named 0) κ u8 ∷ usize ∷ Word n ∷ [])
         (buf xs, (m, (w, tt))) words) ∷ []) ∵ enter ! C Λ (fn' n) (slice_val (b, o)
         (length xs) ∷ vint w64 m ∷ bytes_val w ∷ []) _ $
         alloc_all ! (λ l. pass_all ! refl (
@@ -132,31 +137,37 @@ module _ (n : ℕ) {M : Type 1} {𝓤 : Ura M} (𝓛 : Logic 𝓤) (at_mem : Mem
         (stop !))))) refl (tt, tt) $
         sets ! (bin ! (get ! refl) (get ! refl) tt) refl (tt, tt) $
         sets ! (of_opd ! (get ! refl)) refl (tt, tt) $
-        move ! (1 ∷ []) $ fsplit ! $ fsplit ! $ drop ! $ fsplit ! $ move ! (2 ∷ []) $ fsplit ! $ drop ! $ fsplit ! $
+        move ! (1 ∷ []) $ fsplit ! $ fsplit ! $ drop ! $ fsplit ! $ move ! (2 ∷ []) $ fsplit ! $
+        drop ! $ fsplit ! $
         move ! (1 ∷ []) $ drop ! $ move ! (3 ∷ []) $ split3 ! $ move ! (4 ∷ 5 ∷ 0 ∷ []) $
         opens_slice ! tt u8 xs b o $
         rewrite ! 0 (λ (l : List ℕ). ‵ (row u8 full_share l b o)) cut refl $
-        use1 𝓛 (‵ (run_at full_share n mid b p) ⊛ ‵ (has n mid) ⊛ ‵ (row u8 full_share front b o) ⊛ ‵
-        (row u8 full_share back b (at p 1 (length mid)))) (run_out 𝓛 full_share n front mid back b o p long on) $
+        use1 𝓛 (‵ (array_at full_share n mid b p) ⊛ ‵ (has n mid) ⊛ ‵ (row u8 full_share front b o)
+        ⊛ ‵ (row u8 full_share back b (at p 1 (length mid))))
+        (array_out 𝓛 full_share n front mid back b o p long on) $
         split ! $ move ! (1 ∷ []) $ split3 ! $ drop ! $ move ! (2 ∷ []) $
-        -- [the array; the bytes before it; those after; the open borrow, in three entries; ..]
+        -- [the array; the bytes before it; those after; the open borrow, in three parts; ..]
         assigns_last ! (of_opd ! (get ! refl)) (through ! refl (stop !)) (store ! 0 refl ok.0) $
         exec ! C Λ En rest (at_ret En Post) $
         sets ! (of_opd ! (unit_lit !)) refl (tt, tt) $
         rewrite ! 2 (λ (c : ℕ). ‵ (row u8 full_share back b (at p 1 c))) (long ∙ sym lw) refl $
         move ! (0 ∷ 8 ∷ 1 ∷ 2 ∷ []) $ group ! 4 $
-        use1 𝓛 (‵ (row u8 full_share ys b o)) (run_in 𝓛 full_share n front w back b o p lw on) $
+        use1 𝓛 (‵ (row u8 full_share ys b o)) (array_in 𝓛 full_share n front w back b o p lw on) $
         closes_slice ! tt u8 xs ys same b o $
         returns ! (look_at ! 0 refl) $ free_all ! refl $ keep ! (0 ∷ 1 ∷ 2 ∷ 3 ∷ []) $
         suffices ! _ (ends_at 𝓛 (ended n) (stayed n) clauses bound vunit tt (ys, (tt, (tt, tt)))
-        (same, (tt, (tt, tt)))) $ says ! (ap (λ (l : List ℕ). front ++ (w ++ l)) (drop-drop n m xs)) $
-        nothing ! $ move ! (4 ∷ 0 ∷ []) $ join ! $ move ! (3 ∷ 0 ∷ []) $ join ! $ frame ! $ fjoin ! $
+        (same, (tt, (tt, tt)))) $
+        says ! (ap (λ (l : List ℕ). front ++ (w ++ l)) (drop-drop n m xs)) $
+        nothing ! $ move ! (4 ∷ 0 ∷ []) $ join ! $ move ! (3 ∷ 0 ∷ []) $ join ! $ frame ! $
+        fjoin ! $
         pure_i ! (mut_slice_at u8 (buf ys) (mut_slice_vals (buf xs))) (tt, (tt, tt))
-        (ap (λ (k : ℕ). slice_val (b, o) k ∷ []) (sym same), subst (Room u8) (sym same) rm) $ fjoin ! $
+        (ap (λ (k : ℕ). slice_val (b, o) k ∷ []) (sym same), subst (Room u8) (sym same) rm) $
+        fjoin ! $
         nothing ! $ nothing ! $ fjoin ! $ nothing ! $ fjoin ! $ move ! (1 ∷ 0 ∷ []) $ fjoin ! $
         feq_i ! (List Val) (vunit ∷ []) (vunit ∷ []) refl $ move ! (1 ∷ 0 ∷ []) $ done !)
 
-  meets : (𝓣 : Tables 𝓤 H) → Meets 𝓛 (ended n).signature (WpFn 𝓤 H 𝓣.C 𝓣.Λ (fn' n)) (closing 𝓛 (ended n) clauses)
+  meets : (𝓣 : Tables 𝓤 H)
+      → Meets 𝓛 (ended n).signature (WpFn 𝓤 H 𝓣.C 𝓣.Λ (fn' n)) (closing 𝓛 (ended n) clauses)
   meets 𝓣 =
       walk_Meets 𝓛 (ended n) (stayed n) (
         Goes-slice 𝓛 2 0 tt (plain (λ _. u8)),
@@ -194,13 +205,15 @@ module _ (n : ℕ) {M : Type 1} {𝓤 : Ura M} (𝓛 : Logic 𝓤) (at_mem : Mem
       qed 𝓛 (raw On ∷ (given (κs.1.0 ⊑ []) (‵ ftrue) ⊛ given (size (layout (Word n)) < 2 ^ 63)
       (‵ ftrue) ⊛ given (a.1.0 + n ≤ length a.0.now) (‵ ftrue)) ∷ []) ∵
       move ! (1 ∷ []) $ split3 ! $ drop ! $ drop ! $ learn ! (λ le. drop ! $
-      by ! (walk 𝓣.C 𝓣.Λ κs.0 κs.1.0 qs.0 qs.1.0 bounds a.0.ref_ptr.0 a.0.ref_ptr.1 a.0.ghost_name a.0.now a.1.0
+      by ! (walk 𝓣.C 𝓣.Λ κs.0 κs.1.0 qs.0 qs.1.0 bounds a.0.ref_ptr.0 a.0.ref_ptr.1 a.0.ghost_name
+      a.0.now a.1.0
       a.1.1.0 are.1.0.1 are.0.0.1 are.1.1.0 are.1.1.0.1.0.1 le))))
 
 pub put_window_spec : {M : Type 1} → stated.statement M
 unfolding tables_of
 put_window_spec 𝓤 𝓛 𝓜 𝓡 wired n fits =
     let 𝓣 : Tables 𝓤 𝓛.H = tables_of 𝓤 𝓛.H 𝓜 (tables 𝓤 𝓛.H 𝓜 𝓡 𝓡.env) in
-    entered 𝓤 𝓛.H (triple_of 𝓛 (ended n).signature (F.spec (number n) 𝓛 𝓜.mem 𝓡.returns)) 𝓣.C 𝓣.Λ (#self (args n))
+    entered 𝓤 𝓛.H (triple_of 𝓛 (ended n).signature (F.spec (number n) 𝓛 𝓜.mem 𝓡.returns)) 𝓣.C 𝓣.Λ
+    (#self (args n))
     (fn' n) (code.unfolded 𝓤 𝓛.H 𝓜 𝓡 wired (number n, tt))
     (meets n 𝓛 𝓜.mem 𝓡.returns 𝓣)

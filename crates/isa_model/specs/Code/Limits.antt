@@ -10,7 +10,7 @@ use Rattle.isa_model.specs.declared.versions.Version.TheVariants.{One, Two}
 abbrev pub max_slots : ℕ
 max_slots = 4096
 
--- slots of a program that is accepted by its form only: packet reads after a test of the length
+-- bytes of a packet that the test of a guarded program may ask for (specs/MustAccept/Guarded)
 abbrev pub max_guarded_length : ℕ
 max_guarded_length = 4096
 

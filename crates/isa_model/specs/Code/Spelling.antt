@@ -1,6 +1,6 @@
 -- How instructions are spelled. RFC 9669, sections 3.1 (basic encoding),
 -- 3.2 (wide encoding) and 4 to 5.4 (the tables).
--- Each form gives the fields of its first slot, in the order opcode, dst_reg, src_reg, offset,
+-- Each form has the fields of its first slot here, in the order opcode, dst_reg, src_reg, offset,
 -- imm; unused fields are 0.
 use Rattle.std.specs.Prelude.{ℕ, ◌+◌, ◌*◌, ◌/◌, ◌%◌, ◌^◌, ◌<◌, Bool, true, false, ℤ, List, [], ◌∷◌, ◌++◌, Option, Some, None}
 use Rattle.std.specs.Int.{w16, w32, cast_unsigned}

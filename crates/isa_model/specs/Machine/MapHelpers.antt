@@ -1,6 +1,6 @@
--- The helpers on maps, in the machine's state. bpf(2); serials are this project's own.
--- The map's row, its index, and the bytes of key and value are given: before that, the kinds of the
--- arguments are tested, and the bytes are read.
+-- The helpers on maps, in the machine's state. bpf(2); serials are this project's own. The map's
+-- row and index, and the bytes of key and value, are given: the types of the arguments were tested,
+-- and the bytes were read, before.
 use Rattle.std.specs.Prelude.{ℕ, suc, ◌==◌, pos, if◌then◌else◌, List, slice_set, Option, Some, None}
 use Rattle.isa_model.specs.declared.map_defs.MapDef.{MapDef}
 use Rattle.isa_model.specs.declared.values.Region.TheVariants as region
@@ -9,7 +9,7 @@ use Rattle.isa_model.specs.declared.values.Value.TheVariants.{Num, Ptr}
 use Rattle.isa_model.specs.Machine.States.{Stored, Content, State, content_of}
 use Rattle.isa_model.specs.Machine.MapContents.{at_key, with_key, without_key, update_answer, delete_answer}
 
--- what a helper gives: its answer, and the state that it leaves
+-- what a helper returns: its answer, and the state that it leaves
 pub record Helped : Type 0 where
   pub answer : Value
   pub state : State
@@ -28,9 +28,9 @@ abbrev pub serial_after : ℕ → Option Stored → ℕ
 serial_after next (Some old) = next
 serial_after next None = suc next
 
--- ---- what is done once the tests are passed
+-- ---- the changes of the maps, after all tests have passed
 
--- the key has these bytes
+-- these bytes become the value of the key
 abbrev pub put_bytes : State → ℕ → List ℕ → List ℕ → State
 put_bytes s m key bytes =
     let content = content_of s m in
@@ -41,7 +41,7 @@ put_bytes s m key bytes =
       next_serial = serial_after s.next_serial old;
     }
 
--- the key is gone, and with it the serial of its value
+-- the key is removed, and its value's serial with it
 abbrev pub remove_key : State → ℕ → List ℕ → State
 remove_key s m key = with_content s m (without_key key (content_of s m))
 

@@ -12,7 +12,7 @@ falls_through (JumpLong by) = false
 falls_through Exit = false
 falls_through i = true
 
--- the distance that a jump goes, if it is taken
+-- the distance of a jump, if it is taken
 abbrev pub jump_distance : Insn → Option ℤ
 jump_distance (Jump by) = Some by
 jump_distance (JumpLong by) = Some by

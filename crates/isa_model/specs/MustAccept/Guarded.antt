@@ -32,7 +32,7 @@ abbrev pub IsFreeOperand : Operand → Type 0
 IsFreeOperand (Constant k) = Unit {0}
 IsFreeOperand (Register r) = IsFree r
 
--- a load of size bytes at a constant offset from r2, which ends before the length
+-- a load of size bytes at a constant offset from r2, all of them before the length
 abbrev pub IsLoadBefore : ℕ → ℕ → Reg → Place → Type 0
 IsLoadBefore size len d place =
     IsFree d × (place.base ≡ R2) × ((at : ℕ) × (place.offset ≡ pos at) × (at + size ≤ len))

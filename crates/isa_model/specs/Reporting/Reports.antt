@@ -61,14 +61,14 @@ is_forwarded action.Pass = true
 is_forwarded action.Tx = true
 is_forwarded other = false
 
--- in version 2 the upper half of an answer says why a frame is not sent on; 1 is no cause
-abbrev pub told_reason : Version → ℕ → ℕ
-told_reason One value = 1
-told_reason Two value = if value / 2 ^ 32 == 0 then 1 else value / 2 ^ 32
+-- in version 2 the upper half of an answer says why a frame is not sent on; without one it is 1
+abbrev pub drop_reason : Version → ℕ → ℕ
+drop_reason One value = 1
+drop_reason Two value = if value / 2 ^ 32 == 0 then 1 else value / 2 ^ 32
 
 -- the reason of a frame, by the program's version and answer; 0 where the frame is sent on
 abbrev pub reason_of : Version → ℕ → ℕ
-reason_of program value = if is_forwarded (action_of value) then 0 else told_reason program value
+reason_of program value = if is_forwarded (action_of value) then 0 else drop_reason program value
 
 -- ---- lines, each ended by one line feed
 
@@ -79,7 +79,7 @@ pub record ReportForm : Type 0 where
   pub program : Version
   pub stream : Version
 
--- the field of a line that tells the reason, where the stream has reasons
+-- the field of a line that has the reason, where the stream has reasons
 abbrev pub reason_text : Version → ℕ → List ℕ
 reason_text One reason = []
 reason_text Two reason = codes " " ++ decimal reason
@@ -161,12 +161,12 @@ unfoldable pub frame_pieces : ReportForm → ℕ → PacketFrame → Turn → Li
 frame_pieces form number f t =
     ToReport (frame_line form number t.ends (length f.body)) ∷ record_pieces form f.head t
 
--- a frame that is not run goes out as it came
+-- a frame that is not run is written out as it was read
 unfoldable pub skip_pieces : ReportForm → ℕ → PacketFrame → List OutputPart
 skip_pieces form number f =
     ToReport (skip_line number (length f.body) f.reason) ∷ ToFrames (frame_bytes form.stream f) ∷ []
 
--- what running a frame on map contents gives
+-- the turn of a frame on map contents
 abbrev pub Rule : Type 0
 Rule = FrameHead → List ℕ → List KeyValues → Turn
 
@@ -279,7 +279,7 @@ ReportsFrames form p number contents (f ∷ frames) pieces last =
     × ReportsFrame form p number contents f (f.reason == 0) front next
     × (pieces ≡ front ++ rest) × ReportsFrames form p (number + 1) next frames rest last
 
--- the form of a report; no line of it tells the limit, since every run exits
+-- what a report looks like; no line of it has the limit, since every run exits
 abbrev pub report_form_of : Program → Stream → ReportForm
 report_form_of p found = record { limit = max_steps; program = p.version; stream = found.version }
 

@@ -62,7 +62,7 @@ pub data InputEnding : Type 0 where
   ByEnd : InputEnding
   ByError : InputEnding
 
--- an input: the bytes that the reader gives, and how they end
+-- an input: the bytes that the reader returns, and how they end
 pub record Input : Type 0 where
   pub bytes : List ℕ
   pub ending : InputEnding
@@ -71,7 +71,7 @@ pub record Input : Type 0 where
 abbrev pub max_frames : ℕ
 max_frames = 4294967295
 
--- where something is cut off, an end makes it the fault f and an error ReadFailed
+-- the fault of an input that ends too early: f at its end, ReadFailed by the reader's error
 abbrev pub cut_by : InputEnding → Fault → Fault
 cut_by ByEnd f = f
 cut_by ByError f = ReadFailed
@@ -84,7 +84,7 @@ opened bytes ending =
     else if starts_with nat_eq bytes (stream_magic Two) then Ok Two
     else Err BadMagic
 
--- the length that a record's head gives
+-- the length in a record's head
 abbrev pub length_field : List ℕ → ℕ
 length_field bytes = little_from 16 4 bytes
 

@@ -81,8 +81,8 @@ Runs p clock s (suc n) a = (t : State) × Reaches p clock s n t × (step p clock
 
 -- ---- outcomes
 
--- what a run that exits gives: r0, the packet and the map contents as they are then, its steps, and
--- how often it asked the clock
+-- the outcome of a run that exits: r0, the packet and the map contents as they are then, its steps,
+-- and how often it asked the clock
 pub record Outcome : Type 0 where
   pub number : ℕ
   pub packet : List ℕ

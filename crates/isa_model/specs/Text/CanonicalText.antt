@@ -221,14 +221,14 @@ line_of (CallHelper number) = codes "call " ++ signed_decimal number ++ codes "\
 line_of (CallLocal by) = codes "call pc" ++ distance_text by ++ codes "\n"
 line_of Exit = codes "exit\n"
 
-abbrev pub kind_text : MapType → List ℕ
-kind_text Hash = codes "hash"
-kind_text Array = codes "array"
+abbrev pub map_type_text : MapType → List ℕ
+map_type_text Hash = codes "hash"
+map_type_text Array = codes "array"
 
 -- a map row's line: the type, the key's size, the value's size and the most keys
 unfoldable pub row_line : MapDef → List ℕ
 row_line row =
-    codes "map " ++ kind_text row.kind ++ codes " " ++ decimal row.key_size ++ codes " "
+    codes "map " ++ map_type_text row.kind ++ codes " " ++ decimal row.key_size ++ codes " "
     ++ decimal row.value_size
     ++ codes " " ++ decimal row.entries ++ codes "\n"
 

@@ -132,7 +132,7 @@ kept_over_a_call i =
     ∷ set R6 (pos 60) ∷ set R7 (pos 70) ∷ set R8 (pos 80) ∷ set R9 (pos 90) ∷ set R1 (pos 1)
     ∷ set R0 (pos 100) ∷ insn.Exit ∷ []) [] 18
 
--- r6 to r9 and r10 are the caller's, r0 is handed over
+-- r6 to r9 and r10 are the caller's, r0 is returned
 pub registers_kept : kept_over_a_call (insn.StoreConstant U8 (below R10 512) (pos 1)) ≡ Exit 130 18
 unfolding turn progress start_state new_frame step act alu holds sign_extended reordered
 registers_kept = refl
@@ -149,14 +149,14 @@ within_a_call inner =
     end_on (map (λ r. set r (pos 1)) (R0 ∷ R1 ∷ R2 ∷ R3 ∷ R4 ∷ R5 ∷ R6 ∷ R7 ∷ R8 ∷ R9 ∷ [])
     ++ insn.CallLocal (pos 1) ∷ insn.Exit ∷ inner ++ insn.Exit ∷ []) [] 14
 
--- r1 to r5 are handed over; r0 and r6 to r9 are unset within
+-- r1 to r5 are passed; r0 and r6 to r9 are unset within
 pub registers_within : map (λ r. within_a_call (copy R0 r ∷ []))
     (R0 ∷ R1 ∷ R2 ∷ R3 ∷ R4 ∷ R5 ∷ R6 ∷ R7 ∷ R8 ∷ R9 ∷ [])
     ≡ Trap UnsetRead 11 ∷ replicate 5 (Exit 1 14) ++ replicate 4 (Trap UnsetRead 11)
 unfolding turn progress start_state new_frame step act alu holds sign_extended reordered
 registers_within = refl
 
--- r0 is handed over unset, too
+-- r0 is returned unset, too
 pub result_handed_over_unset : within_a_call [] ≡ Trap NoResult 12
 unfolding turn progress start_state new_frame step act alu holds sign_extended reordered
 result_handed_over_unset = refl

@@ -28,7 +28,7 @@ use Rattle.isa_model.specs.Machine.Steps.{act, step}
 use Rattle.isa_model.specs.Running.Runs.{start_state, progress, Turn, turn}
 use Rattle.isa_model.specs.declared.versions.Version.TheVariants.{One}
 
--- ---- short forms
+-- ---- abbreviations
 
 -- the head of a packet frame that came in by an interface
 abbrev pub head_by : ℕ → FrameHead
@@ -124,11 +124,11 @@ unfolding turn progress start_state new_frame step act alu holds sign_extended r
 signed_modulo_cuts_toward_zero = refl
 
 -- r0 = 0x102030405060708 ll; r0 = be16 r0; exit
-pub big_endian_half_word : end_on
+pub big_endian_16_bits : end_on
     (insn.LoadNumber R0 0x102030405060708 ∷ insn.ByteSwap Big B16 R0 ∷ insn.Exit ∷ []) [] 3
     ≡ Exit 2055 3
 unfolding turn progress start_state new_frame step act alu holds sign_extended reordered
-big_endian_half_word = refl
+big_endian_16_bits = refl
 
 -- ---- jumps and loops
 
@@ -303,11 +303,11 @@ unfolding turn progress start_state new_frame step act alu holds sign_extended r
 sign_extending_load = refl
 
 -- *(u32 *)(r10 - 8) = 5; r0 = 0x100000005 ll; r1 = 9; r0 = cmpxchg_32(r10 - 8, r0, r1); exit
-pub compare_exchange_of_a_word : end_on
+pub compare_exchange_of_4_bytes : end_on
     (insn.StoreConstant U32 (below R10 8) (pos 5) ∷ insn.LoadNumber R0 0x100000005 ∷ set R1 (pos 9)
     ∷ insn.CompareExchange Low32 (below R10 8) R1 ∷ insn.Exit ∷ []) [] 5 ≡ Exit 5 5
 unfolding turn progress start_state new_frame step act alu holds sign_extended reordered
-compare_exchange_of_a_word = refl
+compare_exchange_of_4_bytes = refl
 
 -- r6 = 0; *(u64 *)(r10 - 512) = r6; r7 = *(u64 *)(r10 - 512); r7 += 3; *(u64 *)(r10 - 512) = r7;
 -- if r7 != 300 goto -4;
@@ -320,7 +320,7 @@ counts_on_the_stack =
     ∷ subtract R0 (pos 298)
     ∷ insn.Exit ∷ []
 
--- a loop of 100 turns
+-- the loop has 100 turns
 pub counts_at_the_frames_first_byte : end_on counts_on_the_stack [] 405 ≡ Exit 2 405
 unfolding turn progress start_state new_frame step act alu holds sign_extended reordered
 counts_at_the_frames_first_byte = refl

@@ -32,7 +32,7 @@ left e content = record { ends = e; packet = []; contents = content ∷ []; cloc
 abbrev pub end_with : MapDef → KeyValues → List Insn → End
 end_with row content code = (turn_with row content code).ends
 
--- ---- short forms
+-- ---- abbreviations
 
 -- call map_lookup_elem, call map_update_elem, call map_delete_elem, call ktime_get_ns
 abbrev pub lookup : Insn
@@ -146,7 +146,7 @@ update_by j i =
     end_with one_key []
     (j ∷ map_and_key 1 ++ stack R3 2 ++ set R4 (pos 0) ∷ i ∷ update ∷ insn.Exit ∷ [])
 
--- the kind of each argument comes before the key, which is unset
+-- the type of each argument is tested before the key, which is unset
 pub kinds_of_arguments : map (update_by (set R0 (pos 0)))
     (set R1 (pos 0) ∷ copy R1 R10 ∷ set R2 (pos 0) ∷ copy R2 R1 ∷ set R3 (pos 0) ∷ copy R3 R1
     ∷ copy R4 R10 ∷ [])

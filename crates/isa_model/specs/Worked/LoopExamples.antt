@@ -59,7 +59,7 @@ without_r1 =
     of_each by_threes (λ slot i. names (reads i) R1 ≡ false)
     (refl, (refl, (refl, (refl, (refl, (refl, (refl, (refl, (refl, tt)))))))))
 
--- two steps, a hundred times the four of the loop, and three
+-- two steps, a hundred turns of the loop with four steps each, and three steps
 threes_run : HasRun by_threes 405
 unfolding progress start_state new_frame step act alu holds sign_extended reordered
 threes_run = record {
@@ -141,7 +141,7 @@ reads_r1_late (suc (suc n)) t i reached here among =
       writes_it = refl;
     }
 
--- a step, four times the four of the loop, and two
+-- one step, four turns of the loop with four steps each, and two steps
 ones_run : HasRun by_ones 19
 unfolding progress start_state new_frame step act alu holds sign_extended reordered
 ones_run = record {

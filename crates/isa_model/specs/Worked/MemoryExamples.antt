@@ -98,7 +98,7 @@ pub stores_past_the_edges : map alone
 unfolding turn progress start_state new_frame step act alu holds sign_extended reordered
 stores_past_the_edges = refl
 
--- the place counts before unset bytes
+-- the place is tested before unset bytes
 pub loads_past_the_edges : map alone
     (insn.Load U8 R0 (below R10 513) ∷ insn.Load U64 R0 (below R10 7)
     ∷ insn.Load U8 R0 (below R10 1) ∷ [])
@@ -173,12 +173,12 @@ pub pieces_of_one_pointer : first_half_and (Ptr (region.MapValue 0 1) (negsuc 3)
 pieces_of_one_pointer = refl
 
 -- by fewer than 8 bytes no pointer is stored
-pub narrow_stores_of_a_pointer : map alone
+pub short_stores_of_a_pointer : map alone
     (insn.Store U32 (below R10 8) R10 ∷ insn.Store U16 (below R10 8) R10
     ∷ insn.Store U8 (below R10 8) R10 ∷ [])
     ≡ replicate 3 (Trap BadAccess 0)
 unfolding turn progress start_state new_frame step act alu holds sign_extended reordered
-narrow_stores_of_a_pointer = refl
+short_stores_of_a_pointer = refl
 
 -- ---- the packet
 

@@ -27,31 +27,31 @@ minus_one = 0xffffffffffffffff
 abbrev pub least : ℕ
 least = 0x8000000000000000
 
-abbrev pub word_least : ℕ
-word_least = 0x80000000
+abbrev pub least32 : ℕ
+least32 = 0x80000000
 
-abbrev pub word_end : ℕ
-word_end = 0x100000000
+abbrev pub end32 : ℕ
+end32 = 0x100000000
 
-pub sums_wrap : both Add minus_one 2 ∷ both Add word_least word_least ∷ both Add word_end 7 ∷ []
-    ≡ (1, 1) ∷ (word_end, 0) ∷ (0x100000007, 7) ∷ []
+pub sums_wrap : both Add minus_one 2 ∷ both Add least32 least32 ∷ both Add end32 7 ∷ []
+    ≡ (1, 1) ∷ (end32, 0) ∷ (0x100000007, 7) ∷ []
 unfolding alu
 sums_wrap = refl
 
-pub differences_wrap : both Sub 1 2 ∷ both Sub least 1 ∷ both Sub 0 0 ∷ both Sub word_end 1 ∷ []
+pub differences_wrap : both Sub 1 2 ∷ both Sub least 1 ∷ both Sub 0 0 ∷ both Sub end32 1 ∷ []
     ≡ (minus_one, 0xffffffff) ∷ (0x7fffffffffffffff, 0xffffffff) ∷ (0, 0) ∷ (0xffffffff, 0xffffffff)
     ∷ []
 unfolding alu
 differences_wrap = refl
 
-pub products_wrap : both Mul minus_one 3 ∷ both Mul word_least 6 ∷ both Mul word_end word_end ∷ []
+pub products_wrap : both Mul minus_one 3 ∷ both Mul least32 6 ∷ both Mul end32 end32 ∷ []
     ≡ (0xfffffffffffffffd, 0xfffffffd) ∷ (0x300000000, 0) ∷ (0, 0) ∷ []
 unfolding alu
 products_wrap = refl
 
 -- the operands are unsigned, and a division by zero gives 0
 pub quotients : both Div minus_one 2 ∷ both Div 7 minus_one ∷ both Div 7 0
-    ∷ both Div 0x900000009 word_end ∷ []
+    ∷ both Div 0x900000009 end32 ∷ []
     ≡ (0x7fffffffffffffff, 0x7fffffff) ∷ (0, 0) ∷ (0, 0) ∷ (9, 0) ∷ []
 unfolding alu
 quotients = refl
@@ -65,8 +65,8 @@ signed_quotients = refl
 
 -- by zero, and the least numbers of 64 and of 32 bits by -1
 pub signed_quotients_at_the_edge : both SignedDiv 7 0 ∷ both SignedDiv least minus_one
-    ∷ both SignedDiv word_least minus_one ∷ []
-    ≡ (0, 0) ∷ (least, 0) ∷ (0xffffffff80000000, word_least) ∷ []
+    ∷ both SignedDiv least32 minus_one ∷ []
+    ≡ (0, 0) ∷ (least, 0) ∷ (0xffffffff80000000, least32) ∷ []
 unfolding alu
 signed_quotients_at_the_edge = refl
 
@@ -84,7 +84,7 @@ unfolding alu
 signed_remainders = refl
 
 pub signed_remainders_at_the_edge : both SignedMod minus_one 0 ∷ both SignedMod least minus_one
-    ∷ both SignedMod word_least minus_one ∷ []
+    ∷ both SignedMod least32 minus_one ∷ []
     ≡ (minus_one, 0xffffffff) ∷ (0, 0) ∷ (0, 0) ∷ []
 unfolding alu
 signed_remainders_at_the_edge = refl
@@ -95,7 +95,7 @@ pub bits : both Or 12 10 ∷ both And 12 10 ∷ both Xor 12 10 ∷ []
 unfolding alu
 bits = refl
 
-pub high_bits : both Or word_end 1 ∷ both And minus_one 0x300000003 ∷ both Xor minus_one word_end
+pub high_bits : both Or end32 1 ∷ both And minus_one 0x300000003 ∷ both Xor minus_one end32
     ∷ []
     ≡ (0x100000001, 1) ∷ (0x300000003, 3) ∷ (0xfffffffeffffffff, 0xffffffff) ∷ []
 unfolding alu
@@ -103,7 +103,7 @@ high_bits = refl
 
 -- the distance counts modulo the width: 33, 65 and -1
 pub left_shifts : both Lsh 3 33 ∷ both Lsh 3 65 ∷ both Lsh 3 minus_one ∷ []
-    ≡ (0x600000000, 6) ∷ (6, 6) ∷ (least, word_least) ∷ []
+    ≡ (0x600000000, 6) ∷ (6, 6) ∷ (least, least32) ∷ []
 unfolding alu
 left_shifts = refl
 
@@ -114,7 +114,7 @@ unfolding alu
 right_shifts = refl
 
 -- the sign comes in from the left, that of the width
-pub signed_right_shifts : both Arsh least 1 ∷ both Arsh word_least 33 ∷ both Arsh 0x7fffffff 1 ∷ []
+pub signed_right_shifts : both Arsh least 1 ∷ both Arsh least32 33 ∷ both Arsh 0x7fffffff 1 ∷ []
     ≡ (0xc000000000000000, 0) ∷ (0, 0xc0000000) ∷ (0x3fffffff, 0x3fffffff) ∷ []
 unfolding alu
 signed_right_shifts = refl
@@ -123,9 +123,9 @@ pub moves : both Mov 5 0x900000007 ≡ (0x900000007, 7)
 unfolding alu
 moves = refl
 
-pub negations : negated Full64 1 ∷ negated Low32 1 ∷ negated Full64 least ∷ negated Low32 word_least
-    ∷ negated Low32 word_end ∷ negated Full64 0 ∷ []
-    ≡ minus_one ∷ 0xffffffff ∷ least ∷ word_least ∷ 0 ∷ 0 ∷ []
+pub negations : negated Full64 1 ∷ negated Low32 1 ∷ negated Full64 least ∷ negated Low32 least32
+    ∷ negated Low32 end32 ∷ negated Full64 0 ∷ []
+    ≡ minus_one ∷ 0xffffffff ∷ least ∷ least32 ∷ 0 ∷ 0 ∷ []
 unfolding alu
 negations = refl
 
@@ -138,7 +138,7 @@ atomic_operations = refl
 -- ---- two's complement
 
 pub signs : signed Full64 minus_one ∷ signed Full64 least ∷ signed Low32 0x7fffffff
-    ∷ signed Low32 word_least ∷ []
+    ∷ signed Low32 least32 ∷ []
     ≡ negsuc 0 ∷ negsuc 0x7fffffffffffffff ∷ pos 0x7fffffff ∷ negsuc 0x7fffffff ∷ []
 signs = refl
 
@@ -162,9 +162,9 @@ pub extensions_of_positive_numbers : map (λ e. sign_extended e 0xffff70807f7f)
 unfolding sign_extended
 extensions_of_positive_numbers = refl
 
-pub extension_of_a_negative_word : sign_extended Full32 0x580000000 ≡ 0xffffffff80000000
+pub extension_of_negative_32_bits : sign_extended Full32 0x580000000 ≡ 0xffffffff80000000
 unfolding sign_extended
-extension_of_a_negative_word = refl
+extension_of_negative_32_bits = refl
 
 -- ---- byte order
 
@@ -229,21 +229,21 @@ unfolding holds
 minus_one_and_zero_with_signs = refl
 
 -- 2^32 and 1: above at 64 bits, below at 32
-pub halves_differ : map (both_hold word_end 1) unsigned_comparisons
+pub halves_differ : map (both_hold end32 1) unsigned_comparisons
     ≡ (false, false) ∷ (true, true) ∷ (true, false) ∷ (true, false) ∷ (false, true) ∷ (false, true)
     ∷ (false, false) ∷ []
 unfolding holds
 halves_differ = refl
 
 -- 2^32 and 0 are equal at 32 bits, and 2^32 has a bit in common with itself at 64 only
-pub low_halves_are_equal : holds Equal Low32 word_end 0 ∷ holds NotEqual Low32 word_end 0
-    ∷ holds AnyBit Full64 word_end word_end ∷ holds AnyBit Low32 word_end word_end ∷ []
+pub low_halves_are_equal : holds Equal Low32 end32 0 ∷ holds NotEqual Low32 end32 0
+    ∷ holds AnyBit Full64 end32 end32 ∷ holds AnyBit Low32 end32 end32 ∷ []
     ≡ true ∷ false ∷ true ∷ false ∷ []
 unfolding holds
 low_halves_are_equal = refl
 
 -- 2^31 and 0: the sign at 32 bits is another than at 64
-pub sign_of_the_low_half : map (both_hold word_least 0) signed_comparisons
+pub sign_of_the_low_half : map (both_hold least32 0) signed_comparisons
     ≡ (true, false) ∷ (true, false) ∷ (false, true) ∷ (false, true) ∷ []
 unfolding holds
 sign_of_the_low_half = refl

@@ -38,7 +38,7 @@ modulo_by_zero_is_plain = record {
       ([] ∷ [] ∷ (R0 ∷ []) ∷ (R0 ∷ R1 ∷ []) ∷ (R0 ∷ R1 ∷ []) ∷ []) refl refl refl;
 }
 
--- ---- two ways that meet
+-- ---- two paths that meet
 
 -- if w2 != 7 goto +3
 abbrev pub other_way : Insn
@@ -62,7 +62,7 @@ two_ways = record {
   version = One;
 }
 
--- the ways part at slot 1 and meet at slot 6
+-- the paths part at slot 1 and meet at slot 6
 pub two_ways_is_plain : IsPlain two_ways
 two_ways_is_plain = record {
   forms =

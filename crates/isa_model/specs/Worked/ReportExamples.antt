@@ -33,7 +33,7 @@ use Rattle.isa_model.specs.declared.versions.Version.TheVariants.{One, Two}
 abbrev pub passes : Program
 passes = record { insns = slots (set R0 (pos 2) ∷ insn.Exit ∷ []); maps = []; version = One }
 
--- the report, and the frames out, on bytes that end
+-- the report, and below it the frames out, of a stream that ends after these bytes
 abbrev pub report_on : Program → List ℕ → List ℕ
 report_on p bytes =
     report_bytes (checked_report p 100 (stream_of (record { bytes = bytes; ending = ByEnd })))
@@ -117,8 +117,8 @@ limit_line = refl
 -- ---- actions and lines
 
 -- a program and a stream of the first version
-abbrev form : ℕ → ReportForm
-form limit = record { limit = limit; program = One; stream = One }
+abbrev report_form : ℕ → ReportForm
+report_form limit = record { limit = limit; program = One; stream = One }
 
 -- 0 to 5, and results whose low 32 bits are 2, 4 and 2^32 - 1
 pub actions : map action_of (0 ∷ 1 ∷ 2 ∷ 3 ∷ 4 ∷ 5 ∷ 0x700000002 ∷ 0x100000004 ∷ 0xffffffff ∷ [])
@@ -126,15 +126,15 @@ pub actions : map action_of (0 ∷ 1 ∷ 2 ∷ 3 ∷ 4 ∷ 5 ∷ 0x700000002 ∷
     ∷ action.Pass ∷ action.Redirect ∷ action.Invalid ∷ []
 actions = refl
 
--- frame 12 of 60 bytes, by a program that answers 0 to 5 after 7 steps
-pub lines_of_actions : map (λ n. frame_line (form 100) 12 (Exit n 7) 60)
+-- frame 12 of 60 bytes, by a program that returns 0 to 5 after 7 steps
+pub lines_of_actions : map (λ n. frame_line (report_form 100) 12 (Exit n 7) 60)
     (0 ∷ 1 ∷ 2 ∷ 3 ∷ 4 ∷ 5 ∷ [])
     ≡ codes "12 ABORTED 60 7\n" ∷ codes "12 DROP 60 7\n" ∷ codes "12 PASS 60 7\n"
     ∷ codes "12 TX 60 7\n" ∷ codes "12 REDIRECT 60 7\n" ∷ codes "12 INVALID 60 7\n" ∷ []
 unfolding frame_line digits
 lines_of_actions = refl
 
-pub lines_of_traps : map (λ reason. frame_line (form 100) 12 (Trap reason 7) 60)
+pub lines_of_traps : map (λ reason. frame_line (report_form 100) 12 (Trap reason 7) 60)
     (NoCode ∷ UnsetRead ∷ ReadOnly ∷ BadPointer ∷ OutOfRange ∷ BadAccess ∷ BadCompare ∷ BadHelper
     ∷ TooManyFrames ∷ NoResult ∷ BadAction ∷ [])
     ≡ codes "12 TRAP code 60 7\n" ∷ codes "12 TRAP unset 60 7\n" ∷ codes "12 TRAP readonly 60 7\n"
@@ -145,7 +145,7 @@ pub lines_of_traps : map (λ reason. frame_line (form 100) 12 (Trap reason 7) 60
 unfolding frame_line digits
 lines_of_traps = refl
 
-pub line_at_the_limit : frame_line (form 1000000) 12 Limit 60 ≡ codes "12 LIMIT 60 1000000\n"
+pub line_at_the_limit : frame_line (report_form 1000000) 12 Limit 60 ≡ codes "12 LIMIT 60 1000000\n"
 unfolding frame_line digits
 line_at_the_limit = refl
 
@@ -158,7 +158,7 @@ pub last_lines : last_line 7 finish.End
 unfolding last_line digits
 last_lines = refl
 
--- PASS and TX frames go out
+-- PASS and TX frames are written out
 pub frames_sent : map (is_sent One)
     (Exit 0 1 ∷ Exit 1 1 ∷ Exit 2 1 ∷ Exit 3 1 ∷ Exit 4 1 ∷ Exit 5 1 ∷ Exit 0x700000003 1
     ∷ Trap NoResult 2 ∷ Limit ∷ [])
@@ -178,7 +178,7 @@ writes_and_sends_back =
       version = One;
     }
 
--- a record whose head's bytes count up from 1, as far as the length
+-- a record whose head begins with the bytes 1 to 16, before the length
 abbrev pub record_of : List ℕ → List ℕ
 record_of body = range_with_len 1 16 ++ length body ∷ 0 ∷ 0 ∷ 0 ∷ body
 
@@ -186,7 +186,7 @@ abbrev pub three_records : List ℕ
 three_records =
     stream_magic One ++ record_of (8 ∷ 9 ∷ []) ++ record_of (8 ∷ []) ++ record_of (5 ∷ 5 ∷ 5 ∷ [])
 
--- a frame goes out as its run left it, with its head;
+-- a frame is written out as its run left it, with its head;
 -- the run on the second one, of one byte, traps, and the third is run
 pub frames_out_as_they_are_left : report_on writes_and_sends_back three_records
     ∷ out_on writes_and_sends_back three_records ∷ []
@@ -202,7 +202,8 @@ pub hexadecimal_is_lower_case : map_line 1 (0 ∷ 171 ∷ [], 255 ∷ []) ≡ co
 unfolding map_line encode_with digits
 hexadecimal_is_lower_case = refl
 
--- an array's keys are little-endian, so that 256 comes before 1 by key bytes, and after it by index
+-- an array's keys are little-endian, so 256 is before 1 in the order of key bytes, and after it by
+-- index
 pub arrays_go_by_index : map (λ e. e.1)
     (in_report_order Array 257
     ((0 ∷ 0 ∷ 0 ∷ 0 ∷ [], 7 ∷ []) ∷ (0 ∷ 1 ∷ 0 ∷ 0 ∷ [], 9 ∷ []) ∷ (1 ∷ 0 ∷ 0 ∷ 0 ∷ [], 8 ∷ [])
@@ -229,8 +230,8 @@ remembers head body contents = record {
   clock_calls = 0;
 }
 
--- contents are carried from frame to frame, also where a run traps, and then each map's lines come,
--- map by map
+-- contents are carried from frame to frame, also where a run traps, and then each map's lines
+-- follow, map by map
 pub contents_carried_along : report_bytes
     (report_of 100 One rows remembers (starting_contents rows) (record {
       version = One;
@@ -252,11 +253,11 @@ abbrev pub answers : Version → ℕ → Program
 answers version n =
     record { insns = slots (insn.LoadNumber R0 n ∷ insn.Exit ∷ []); maps = []; version = version }
 
--- a record of a body of n bytes with a reason, all other fields 0
+-- the head of a record of n bytes with a reason, all other fields 0
 abbrev pub head_with_reason : ℕ → ℕ → List ℕ
 head_with_reason n reason = zeros 16 ++ n ∷ 0 ∷ 0 ∷ 0 ∷ reason ∷ 0 ∷ 0 ∷ 0 ∷ []
 
--- a frame that is dropped goes out with the reason that the program gives
+-- a frame that is dropped is written out with the reason that the program returns
 pub reason_goes_out : report_on (answers Two 0x700000001)
     (stream_magic Two ++ head_with_reason 3 0 ++ 170 ∷ 187 ∷ 204 ∷ [])
     ∷ out_on (answers Two 0x700000001)
@@ -276,7 +277,7 @@ unfolding frames_from opened stop_at turn progress start_state new_frame step ac
     frame_line last_line head_bytes digits
 no_reason_goes_out = refl
 
--- a frame that has a reason is not run, and goes out as it came
+-- a frame that has a reason is not run, and is written out as it was read
 pub frame_with_a_reason_is_skipped : report_on (answers One 0x700000001)
     (stream_magic Two ++ head_with_reason 0 0 ++ head_with_reason 2 5 ++ 1 ∷ 2 ∷ [])
     ∷ out_on (answers One 0x700000001)
@@ -287,7 +288,7 @@ unfolding frames_from opened stop_at turn progress start_state new_frame step ac
     frame_line skip_pieces skip_line last_line head_bytes digits
 frame_with_a_reason_is_skipped = refl
 
--- a program of version 2 has to answer an action; one of version 1 may answer any number
+-- a program of version 2 has to return an action; one of version 1 may return any number
 pub action_over_4 : map
     (λ version. report_on (answers version 6) (stream_magic Two ++ head_with_reason 0 0))
     (One ∷ Two ∷ [])
@@ -303,8 +304,8 @@ unfolding frames_from opened stop_at turn progress start_state new_frame step ac
     frame_line last_line digits
 trapped_frame_has_no_record = refl
 
--- of PASS and TX the reason is 0; else the upper half of the answer, and 1 where that is 0,
--- or where the program is of version 1
+-- the reason is 0 for PASS and TX; else it is the upper half of the number that the program
+-- returns, or 1 where that half is 0 or the program is of version 1
 pub reasons : map (reason_of Two)
     (0x700000002 ∷ 0x700000003 ∷ 0x700000004 ∷ 0xffffffff00000000 ∷ 1 ∷ [])
     ++ map (reason_of One) (0x700000002 ∷ 0x700000001 ∷ 9 ∷ [])

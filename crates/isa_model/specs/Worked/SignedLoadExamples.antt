@@ -15,23 +15,23 @@ use Rattle.isa_model.specs.Worked.Examples.{set, copy, add, above, if_register}
 use Rattle.isa_model.specs.Worked.WorkedLaws.{Where, of_where, of_each, ahead, IsWhole-tested, AreWritten-tested}
 
 -- the last four bytes of 14, the last one, and the first two
-abbrev pub word_loaded : Insn
-word_loaded = insn.LoadSx S32 R5 (above R2 10)
+abbrev pub four_bytes_loaded : Insn
+four_bytes_loaded = insn.LoadSx S32 R5 (above R2 10)
 
 abbrev pub byte_loaded : Insn
 byte_loaded = insn.LoadSx S8 R0 (above R2 13)
 
-abbrev pub half_loaded : Insn
-half_loaded = insn.LoadSx S16 R0 (above R2 0)
+abbrev pub two_bytes_loaded : Insn
+two_bytes_loaded = insn.LoadSx S16 R0 (above R2 0)
 
-word_in_body : IsBodyForm 14 word_loaded
-word_in_body = (tt, refl, (10, refl, omega arith))
+four_bytes_in_body : IsBodyForm 14 four_bytes_loaded
+four_bytes_in_body = (tt, refl, (10, refl, omega arith))
 
 byte_in_body : IsBodyForm 14 byte_loaded
 byte_in_body = (tt, refl, (13, refl, omega arith))
 
-half_in_body : IsBodyForm 14 half_loaded
-half_in_body = (tt, refl, (0, refl, omega arith))
+two_bytes_in_body : IsBodyForm 14 two_bytes_loaded
+two_bytes_in_body = (tt, refl, (0, refl, omega arith))
 
 -- r2 = *(u32 *)(r1 + 0); r3 = *(u32 *)(r1 + 4); r4 = r2; r4 += 14; if r4 > r3 goto +5;
 -- r5 = *(s32 *)(r2 + 10); r0 = *(s8 *)(r2 + 13); if r0 s> r5 goto +1; r0 = *(s16 *)(r2 + 0); exit;
@@ -41,7 +41,7 @@ signed_loads = record {
   insns =
       slots (insn.Load U32 R2 (above R1 0) ∷ insn.Load U32 R3 (above R1 4) ∷ copy R4 R2
       ∷ add R4 (pos 14) ∷ if_register Greater R4 R3 (pos 5)
-      ∷ word_loaded ∷ byte_loaded ∷ if_register SignedGreater R0 R5 (pos 1) ∷ half_loaded
+      ∷ four_bytes_loaded ∷ byte_loaded ∷ if_register SignedGreater R0 R5 (pos 1) ∷ two_bytes_loaded
       ∷ insn.Exit
       ∷ set R0 (pos 1) ∷ insn.Exit ∷ []);
   maps = [];
@@ -60,7 +60,13 @@ in_body = of_each signed_loads
           tt,
           (
             tt,
-            (tt, (word_in_body, (byte_in_body, ((tt, tt), (half_in_body, (tt, (tt, (tt, tt)))))))),
+            (
+              tt,
+              (
+                four_bytes_in_body,
+                (byte_in_body, ((tt, tt), (two_bytes_in_body, (tt, (tt, (tt, tt)))))),
+              ),
+            ),
           ),
         ),
       ),

@@ -77,7 +77,7 @@ record_read = refl
 
 -- ---- faults of the body
 
--- a record's head whose body has n bytes, all other fields 0
+-- the head of a record whose body has n bytes, all other fields 0
 abbrev pub head_of : ℕ → List ℕ
 head_of n = zeros 16 ++ little_bytes 4 n
 
@@ -113,8 +113,8 @@ error_behind_a_record = refl
 
 -- ---- too many records
 
--- after the last one that may be there: one byte more,
--- whatever it begins and however the bytes end; no byte more
+-- after the last record that is allowed: one byte more, whatever it begins and however the bytes
+-- end; and no byte more
 pub one_record_too_many : stop_at One max_frames 24 (0 ∷ []) ByEnd
     ∷ stop_at One max_frames 24 (0 ∷ []) ByError ∷ stop_at One max_frames 24 (head_of 4097) ByEnd
     ∷ []
@@ -131,22 +131,22 @@ no_record_too_many = refl
 -- ---- streams of version 2
 
 -- a frame with a reason
-abbrev pub told : PacketFrame
-told = record { head = frame.head; body = 0xaa ∷ 0xbb ∷ []; reason = 0x08070605 }
+abbrev pub dropped : PacketFrame
+dropped = record { head = frame.head; body = 0xaa ∷ 0xbb ∷ []; reason = 0x08070605 }
 
 -- the reason comes after the length
-abbrev pub told_bytes : List ℕ
-told_bytes = range_with_len 1 16 ++ 2 ∷ 0 ∷ 0 ∷ 0 ∷ 5 ∷ 6 ∷ 7 ∷ 8 ∷ 0xaa ∷ 0xbb ∷ []
+abbrev pub dropped_bytes : List ℕ
+dropped_bytes = range_with_len 1 16 ++ 2 ∷ 0 ∷ 0 ∷ 0 ∷ 5 ∷ 6 ∷ 7 ∷ 8 ∷ 0xaa ∷ 0xbb ∷ []
 
-pub told_written : frame_bytes Two told ≡ told_bytes
+pub dropped_written : frame_bytes Two dropped ≡ dropped_bytes
 unfolding head_bytes
-told_written = refl
+dropped_written = refl
 
-pub told_read : stream_of
-    (record { bytes = stream_magic Two ++ told_bytes ++ told_bytes; ending = ByEnd })
-    ≡ record { version = Two; frames = told ∷ told ∷ []; finish = finish.End }
+pub dropped_read : stream_of
+    (record { bytes = stream_magic Two ++ dropped_bytes ++ dropped_bytes; ending = ByEnd })
+    ≡ record { version = Two; frames = dropped ∷ dropped ∷ []; finish = finish.End }
 unfolding frames_from opened stop_at
-told_read = refl
+dropped_read = refl
 
 -- a record of no bytes cut after 0, 1, .. 24 bytes, by an end and by an error
 pub heads_cut : map (λ n. summary_of (stream_magic Two ++ zeros n) ByEnd) (range_with_len 0 25)

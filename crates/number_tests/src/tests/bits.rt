@@ -1,4 +1,4 @@
-//! How precise known bits are, worked out by hand: values and masks of real shapes.
+//! How sharp known bits are: examples worked out by hand, of shapes that programs have.
 
 use super::operations::{Part, Relation};
 use isa_model::{AluOp, ByteOrder, Extension, SwapWidth, Width};
@@ -17,14 +17,14 @@ const ANY: Pair = (0, u64::MAX);
 
 const BYTE: Pair = (0, 0xff);
 
-/// The numbers from 2^64 - 256 on.
+/// The numbers of 64 bits from 2^64 - 256 on.
 const TOP: Pair = (0xffff_ffff_ffff_ff00, 0xff);
 
 fn alu(op: AluOp, width: Width, a: Bits, b: Bits) -> Bits {
     Bits::alu(op, width, a, b)
 }
 
-/// The ones of the value, and the unknown bits of the mask.
+/// The known bits with this value and this mask.
 fn bits_of(pair: Pair) -> Bits {
     let unknown = alu(AluOp::And, FULL, Bits::any(FULL), Bits::constant(pair.1));
     alu(AluOp::Or, FULL, unknown, Bits::constant(pair.0))
@@ -40,19 +40,19 @@ const RESULTS: [(AluOp, Width, Pair, Pair, Pair); 15] = [
     // A header length: 0, 4, .. 60, and 14 more: each is 2 above a multiple of 4, and at most 126.
     (AluOp::Lsh, FULL, (0, 15), (2, 0), (0, 60)),
     (AluOp::Add, FULL, (0, 60), (14, 0), (2, 0x7c)),
-    // Six times a byte is even and below 2,048.
+    // A byte times six is even and below 2,048.
     (AluOp::Mul, FULL, BYTE, (6, 0), (0, 0x7fe)),
-    // A difference may have borrowed.
+    // A difference may borrow, and then any bit may be 1.
     (AluOp::Sub, FULL, BYTE, (10, 0), ANY),
     (AluOp::And, FULL, ANY, (15, 0), (0, 15)),
     (AluOp::Or, FULL, BYTE, (0x30, 0), (0x30, 0xcf)),
     (AluOp::Xor, FULL, BYTE, (0x30, 0), BYTE),
     (AluOp::Mov, LOW, ANY, ANY, (0, 0xffff_ffff)),
     (AluOp::Rsh, FULL, ANY, (48, 0), (0, 0xffff)),
-    // A shift by 64 goes nowhere.
+    // A shift by 64 changes nothing.
     (AluOp::Lsh, FULL, BYTE, (64, 0), BYTE),
     (AluOp::Lsh, FULL, BYTE, ANY, ANY),
-    // 0x8000_00?? moved by four bits, the sign kept.
+    // 0x8000_00?? is shifted by four bits, and keeps its sign.
     (
         AluOp::Arsh,
         LOW,
@@ -158,7 +158,7 @@ fn limits(rt: HostRuntime) -> Result<(), Fail> {
 
 const EVEN: Pair = (0, u64::MAX - 1);
 
-/// Two sets, what both have, and whether the first covers the second.
+/// Two sets, their common members, and whether the first covers the second.
 const COMMON: [(Pair, Pair, Option<Pair>, bool); 5] = [
     (BYTE, EVEN, Some((0, 0xfe)), false),
     (EVEN, BYTE, Some((0, 0xfe)), false),
@@ -223,7 +223,7 @@ const GREAT: Pair = (0xffff_ffff_ffff_ff00, 0);
 const RELATIONS: [(Relation, Pair, Pair, Option<(Pair, Pair)>); 15] = [
     (Relation::Below, BYTE, TEN, Some(((0, 15), TEN))),
     (Relation::Below, TEN, (0, 7), None),
-    // What is above a great number shares its leading ones.
+    // The numbers above one with leading ones have these too.
     (Relation::Below, GREAT, ANY, Some((GREAT, TOP))),
     (Relation::AtMost, GREAT, ANY, Some((GREAT, TOP))),
     (Relation::AtMost, BYTE, (7, 0), Some(((0, 7), (7, 0)))),
@@ -254,7 +254,7 @@ const RELATIONS: [(Relation, Pair, Pair, Option<(Pair, Pair)>); 15] = [
     (Relation::Disjoint, TEN, TEN, None),
 ];
 
-/// What a relation leaves of two sets, whose members the width reads.
+/// What a relation leaves of two sets, where members are read at a width.
 fn related(relation: &Relation, width: Width, a: Bits, b: Bits) -> Option<(Bits, Bits)> {
     match relation {
         Relation::Equal => Domain::equal(a, width, b),
@@ -283,31 +283,31 @@ fn relations(rt: HostRuntime) -> Result<(), Fail> {
     Ok(())
 }
 
-const WORD: Pair = (0, 0xffff_ffff);
+const UNSIGNED_32: Pair = (0, 0xffff_ffff);
 
 /// A number whose low half is 7, and one whose low half is 8.
 const SEVEN: Pair = (0x5_0000_0007, 0);
 
 const EIGHT: Pair = (0x5_0000_0008, 0);
 
-/// A relation of low halves, two sets, and what it leaves of both. A number that may have an upper
-/// half stays as it is.
+/// A relation of low halves, two sets, and what it leaves of both. A set with upper halves stays as
+/// it is.
 const LOW_RELATIONS: [(Relation, Pair, Pair, Option<(Pair, Pair)>); 8] = [
-    (Relation::Equal, WORD, SEVEN, Some(((7, 0), SEVEN))),
-    (Relation::Equal, SEVEN, WORD, Some((SEVEN, (7, 0)))),
+    (Relation::Equal, UNSIGNED_32, SEVEN, Some(((7, 0), SEVEN))),
+    (Relation::Equal, SEVEN, UNSIGNED_32, Some((SEVEN, (7, 0)))),
     (Relation::Equal, SEVEN, EIGHT, None),
     (Relation::Equal, ANY, SEVEN, Some((ANY, SEVEN))),
-    (Relation::Below, WORD, EIGHT, Some(((0, 7), EIGHT))),
-    (Relation::AtMost, WORD, SEVEN, Some(((0, 7), SEVEN))),
+    (Relation::Below, UNSIGNED_32, EIGHT, Some(((0, 7), EIGHT))),
+    (Relation::AtMost, UNSIGNED_32, SEVEN, Some(((0, 7), SEVEN))),
     (
         Relation::Disjoint,
         SEVEN,
-        WORD,
+        UNSIGNED_32,
         Some((SEVEN, (0, 0xffff_fff8))),
     ),
     (
         Relation::Overlapping,
-        WORD,
+        UNSIGNED_32,
         EIGHT,
         Some(((8, 0xffff_fff7), EIGHT)),
     ),

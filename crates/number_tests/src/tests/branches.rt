@@ -1,4 +1,4 @@
-//! How precise the answers about conditional jumps are.
+//! How sharp the sets are that a conditional jump leaves.
 
 use branch_refine::{Branch, refine};
 use isa_model::{Comparison, Cond, Operand, Reg, Width};
@@ -23,11 +23,11 @@ const TEN: Operand = Operand::Constant(10);
 
 const R3: Operand = Operand::Register(Reg::R3);
 
-/// What is no number.
+/// The limits of a kind that is not a number.
 const NONE: Limits = (1, 0);
 
-/// r2 is compared with the operand, and the jump is taken or not: the limits of r2 and r3 before,
-/// and of both after it, if it goes this way.
+/// r2 is compared with the operand, and the jump is taken or not: the limits of r2 and r3 before
+/// it, and after it if a member goes this way.
 type Row = (
     Comparison,
     Width,
@@ -43,19 +43,18 @@ const ROWS: [Row; 13] = [
     (Comparison::Less, FULL, TEN, false, [ANY, ANY], Some([(10, u64::MAX), ANY])),
     (Comparison::Less, FULL, R3, true, [ANY, (5, 10)], Some([(0, 9), (5, 10)])),
     (Comparison::Less, FULL, R3, false, [ANY, (5, 10)], Some([(5, u64::MAX), (5, 10)])),
-    // Of 7 to 100 below 5 to 10, what is below 10 is left of the one, and what is above 7 of the
-    // other.
+    // 7 to 100 below 5 to 10 leaves of the one what is below 10, and of the other what is above 7.
     (Comparison::Less, FULL, R3, true, [(7, 100), (5, 10)], Some([(7, 9), (8, 10)])),
-    // Of numbers of 32 bits the same holds at 32 bits.
+    // For numbers of 32 bits the same holds at 32 bits.
     (Comparison::Less, LOW, R3, true, [(7, 100), (5, 10)], Some([(7, 9), (8, 10)])),
-    // Of a number whose upper half is not known it holds of the low half.
+    // For a number whose upper half is not known, the comparison narrows the low half.
     (Comparison::Less, LOW, TEN, true, [ANY, ANY], Some([(0, 0xffff_ffff_0000_0009), ANY])),
     (Comparison::Less, LOW, TEN, true, [LOW_HALF, ANY], Some([(0, 9), ANY])),
     (Comparison::Equal, FULL, R3, true, [SEVEN, SEVEN], Some([SEVEN, SEVEN])),
     (Comparison::Equal, FULL, R3, false, [SEVEN, SEVEN], None),
-    // Equal numbers are in both sets.
+    // Equal numbers are members of both sets.
     (Comparison::Equal, FULL, R3, true, [(7, 100), (5, 10)], Some([(7, 10), (7, 10)])),
-    // A number that is not 7 is over it, where 7 is the least, and so at 32 bits of a number of 32
+    // A number that is not 7 is above 7 if 7 is the least member; at 32 bits too, for numbers of 32
     // bits.
     (Comparison::Equal, FULL, R3, false, [SEVEN, (7, 100)], Some([SEVEN, (8, 100)])),
     (Comparison::NotEqual, LOW, R3, true, [(5, 7), SEVEN], Some([(5, 6), SEVEN])),
@@ -77,7 +76,7 @@ fn limits_of(kind: Kind) -> Limits {
     }
 }
 
-/// What is left of a start with these numbers in r2 and r3.
+/// What is left of a start state with these numbers in r2 and r3.
 fn left_of(cond: Cond, taken: bool, before: &[Limits; 2]) -> Branch {
     let mut state = State::start();
     state.set_register(Reg::R2, numbers(before[0]));
@@ -114,7 +113,7 @@ fn registers_narrow(rt: HostRuntime) -> Result<(), Fail> {
     Ok(())
 }
 
-// What r1 holds at the start, if it may be 0.
+// What is left of r1 at the start where it is 0.
 fn context_left() -> Option<Kind> {
     let cond = condition(Comparison::Equal, FULL, Reg::R1, Operand::Constant(0));
     match refine(cond, true, &State::start()) {

@@ -1,6 +1,6 @@
-//! Rows of a set, what is done to it, and what is then known. No function here has a contract, so a
-//! test costs little for each row; and none has a type parameter, since each call of a function
-//! over any domain costs what the whole trait does.
+//! Rows of a test: a set, what is done to it, and what is then known. No function here has a
+//! contract, so a row costs little; and none has a type parameter, since a call of a function over
+//! any domain costs as much as the whole trait.
 
 use super::operations::Part;
 use isa_model::{AluOp, Comparison, Width};
@@ -45,7 +45,7 @@ pub fn refined(
 }
 
 /// What is done to a set.
-pub enum Step {
+pub enum Change {
     /// An operation with a number.
     Alu(AluOp, Width, u64),
     /// An operation with the set itself.
@@ -67,18 +67,18 @@ fn part_of(part: &Part, a: Scalar) -> Scalar {
     }
 }
 
-fn next(step: &Step, set: Scalar) -> Option<Scalar> {
-    match step {
-        Step::Alu(op, width, number) => {
+fn next(change: &Change, set: Scalar) -> Option<Scalar> {
+    match change {
+        Change::Alu(op, width, number) => {
             Some(Scalar::alu(*op, *width, set, Scalar::constant(*number)))
         }
-        Step::Itself(op, width) => Some(Scalar::alu(*op, *width, set, set)),
-        Step::Part(part) => Some(part_of(part, set)),
-        Step::Compare(comparison, width, taken, number) => {
+        Change::Itself(op, width) => Some(Scalar::alu(*op, *width, set, set)),
+        Change::Part(part) => Some(part_of(part, set)),
+        Change::Compare(comparison, width, taken, number) => {
             refined(*comparison, *width, *taken, set, *number)
         }
-        Step::Meet(other) => set.meet(set_of(other)),
-        Step::MeetMasked(mask) => set.meet(masked(*mask)),
+        Change::Meet(other) => set.meet(set_of(other)),
+        Change::MeetMasked(mask) => set.meet(masked(*mask)),
     }
 }
 
@@ -88,11 +88,11 @@ fn masked(mask: u64) -> Scalar {
     Scalar::alu(AluOp::And, Width::Full64, any, Scalar::constant(mask))
 }
 
-/// What is left after all of the steps.
-fn after(set: &Set, steps: &[Step]) -> Option<Scalar> {
+/// What is left after all of the changes.
+fn after(set: &Set, changes: &[Change]) -> Option<Scalar> {
     let mut left = set_of(set);
-    for step in steps {
-        match next(step, left) {
+    for change in changes {
+        match next(change, left) {
             Some(set) => left = set,
             None => return None,
         }
@@ -106,9 +106,9 @@ pub enum Look {
     Wide(u64, u64),
     /// As signed numbers.
     Signed(i64, i64),
-    /// Of the upper halves.
+    /// The least and the greatest upper half.
     Upper(u64, u64),
-    /// Of the low halves, unsigned and then signed.
+    /// The limits of low halves, unsigned and then signed.
     Low(u32, u32, i32, i32),
     GreatestAtMost(u64),
     /// The bits that are not known.
@@ -157,18 +157,18 @@ fn is_seen(left: Option<Scalar>, look: &Look) -> bool {
 }
 
 /// A set, what is done to it, and what is known of what is left.
-pub type Row = (Set, &'static [Step], &'static [Look]);
+pub type Row = (Set, &'static [Change], &'static [Look]);
 
-fn is_row_seen(rt: &impl Abort, place: usize, row: &Row) {
-    let (set, steps, looks) = row;
-    let left = after(set, *steps);
+fn is_row_seen(rt: &impl Abort, index: usize, row: &Row) {
+    let (set, changes, looks) = row;
+    let left = after(set, *changes);
     for (at, look) in looks.iter().enumerate() {
-        assert!(rt; is_seen(left, look), "row {place}, look {at}");
+        assert!(rt; is_seen(left, look), "row {index}, look {at}");
     }
 }
 
 pub fn are_seen(rt: &impl Abort, rows: &[Row]) {
-    for (place, row) in rows.iter().enumerate() {
-        is_row_seen(rt, place, row);
+    for (index, row) in rows.iter().enumerate() {
+        is_row_seen(rt, index, row);
     }
 }

@@ -12,8 +12,8 @@ fn is_covering(a: &Sample, b: &Sample) -> bool {
 type Row = (Sample, Sample, bool);
 
 fn are_covering(rt: &impl Abort, rows: &[Row]) {
-    for (place, (a, b, wanted)) in rows.iter().enumerate() {
-        assert_eq!(rt; is_covering(a, b), *wanted, "row {place}");
+    for (index, (a, b, wanted)) in rows.iter().enumerate() {
+        assert_eq!(rt; is_covering(a, b), *wanted, "row {index}");
     }
 }
 
@@ -56,19 +56,19 @@ const ANY_NUMBER: Sample = Sample::Outer(3, &[Put::Register(2, Held::AnyNumber)]
 const SEVEN: Sample = Sample::Outer(3, &[Put::Register(2, Held::Number(7))]);
 
 const REGISTERS: [Row; 11] = [
-    // One identity is one in the other.
+    // One identity in the covering state has one counterpart.
     (ONE_IDENTITY, SAME_IDENTITY, true),
     (ONE_IDENTITY, TWO_IDENTITIES, false),
     (TWO_IDENTITIES, ONE_IDENTITY, true),
-    // A longer proof is not covered.
+    // A pointer with more proved bytes does not cover one with fewer.
     (PROVED_14, PROVED_10, false),
     (PROVED_10, PROVED_14, true),
-    // Unset covers all, and the slot counts.
+    // Unset covers all kinds, and the states' slots have to be the same.
     (NOTHING, IN_LAST, true),
     (IN_LAST, NOTHING, false),
     (IN_LAST, IN_LAST, true),
     (IN_LAST_LATER, IN_LAST, false),
-    // Numbers go by their limits.
+    // Numbers are covered by their limits.
     (ANY_NUMBER, SEVEN, true),
     (SEVEN, ANY_NUMBER, false),
 ];
@@ -95,11 +95,11 @@ const OTHER_IN_BOTH: Sample = Sample::InCall(
 );
 
 const CALLS: [Row; 6] = [
-    // Return slots and depth count.
+    // Return slots and depths have to be the same.
     (BACK_TO_7, BACK_TO_7, true),
     (BACK_TO_7, BACK_TO_8, false),
     (BACK_TO_7, NOTHING, false),
-    // Identities hold across frames.
+    // Identities are the same in all call frames.
     (SAME_IN_BOTH, SAME_IN_BOTH, true),
     (SAME_IN_BOTH, OTHER_IN_BOTH, false),
     (OTHER_IN_BOTH, SAME_IN_BOTH, true),
@@ -169,7 +169,7 @@ const OTHER_IN_SLOT_AND_REGISTER: Sample = Sample::Outer(
 );
 
 const STACKS: [Row; 18] = [
-    // A pointer and a number are apart.
+    // A pointer covers no number, and a number no pointer.
     (POINTER_IN_5, POINTER_IN_5, true),
     (POINTER_IN_5, SEVEN_IN_5, false),
     (SEVEN_IN_5, POINTER_IN_5, false),
@@ -182,12 +182,12 @@ const STACKS: [Row; 18] = [
     (SEVEN_IN_63, WHOLE, false),
     (SEVEN_IN_63, EIGHT_IN_63, false),
     (WHOLE, POINTER_IN_63, false),
-    // Identities hold across slots.
+    // Identities are the same in all stack slots.
     (ONE_IN_SLOTS, SAME_IN_SLOTS, true),
     (ONE_IN_SLOTS, TWO_IN_SLOTS, false),
     (TWO_IN_SLOTS, ONE_IN_SLOTS, true),
     (PROVED_14_IN_0, PROVED_10_IN_0, false),
-    // An identity is one in registers and slots.
+    // Identities are the same in registers and stack slots.
     (SAME_IN_SLOT_AND_REGISTER, SAME_IN_SLOT_AND_REGISTER, true),
     (SAME_IN_SLOT_AND_REGISTER, OTHER_IN_SLOT_AND_REGISTER, false),
     (OTHER_IN_SLOT_AND_REGISTER, SAME_IN_SLOT_AND_REGISTER, true),

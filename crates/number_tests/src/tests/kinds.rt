@@ -6,7 +6,7 @@ use std::test::Fail;
 
 const OWN: u32 = 7;
 
-/// What a register holds.
+/// A kind of a register.
 enum Held {
     AnyNumber,
     Is(Kind),
@@ -52,7 +52,7 @@ const LOOKED_UP: Kind = Kind::MapValueOrNull {
     identity: OWN,
 };
 
-const ANSWERED: Held = Held::Is(LOOKED_UP);
+const UNTESTED: Held = Held::Is(LOOKED_UP);
 
 const LIVE: Held = Held::Is(Kind::MapValue {
     index: 0,
@@ -60,23 +60,22 @@ const LIVE: Held = Held::Is(Kind::MapValue {
     greatest: 8,
 });
 
-/// Two kinds, the identity that the second's is compared with, and whether the first covers the
-/// second.
+/// Two kinds, the identity that has to be the second's, and whether the first covers the second.
 const COVERED: [(Held, Held, u32, bool); 11] = [
-    // A number and a pointer cover neither.
+    // A number covers no pointer, and a pointer no number.
     (Held::AnyNumber, PACKET, OWN, false),
     (PACKET, Held::AnyNumber, OWN, false),
     (UNSET, PACKET, OWN, true),
     (UNSET, Held::AnyNumber, OWN, true),
-    // A proved length covers a longer one.
+    // A pointer with fewer proved bytes covers one with more.
     (PROVED_14, PROVED_10, OWN, false),
     (PROVED_10, PROVED_14, OWN, true),
     (PROVED_14, PROVED_14, OWN, true),
     (PROVED_14, PROVED_14, OWN + 1, false),
-    // A live value is not one or null.
-    (LIVE, ANSWERED, OWN, false),
+    // A map value does not cover a map value or null.
+    (LIVE, UNTESTED, OWN, false),
     (LIVE, LIVE, OWN, true),
-    (ANSWERED, ANSWERED, OWN, true),
+    (UNTESTED, UNTESTED, OWN, true),
 ];
 
 fn is_covering(a: &Held, b: &Held, identity: u32) -> bool {
@@ -89,8 +88,8 @@ fn identities_of(kind: Kind) -> (Option<u32>, Option<u32>) {
 
 #[test]
 fn covered(rt: HostRuntime) -> Result<(), Fail> {
-    for (place, (a, b, identity, wanted)) in COVERED.iter().enumerate() {
-        assert_eq!(rt; is_covering(a, b, *identity), *wanted, "row {place}");
+    for (index, (a, b, identity, wanted)) in COVERED.iter().enumerate() {
+        assert_eq!(rt; is_covering(a, b, *identity), *wanted, "row {index}");
     }
     assert_eq!(rt; identities_of(LOOKED_UP), (Some(OWN), None));
     assert_eq!(rt; identities_of(PROVED_0), (None, Some(OWN)));

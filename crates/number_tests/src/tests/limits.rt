@@ -1,4 +1,4 @@
-//! How precise limits are, worked out by hand: limits of real shapes.
+//! How tight limits are: examples worked out by hand, of shapes that programs have.
 
 use super::operations::{Part, Relation};
 use isa_model::{AluOp, ByteOrder, Extension, SwapWidth, Width};
@@ -20,12 +20,12 @@ enum Set {
     /// The same as signed numbers.
     Signed(i64, i64),
     /// Numbers of 32 bits, by their least and greatest as signed ones of 32 bits.
-    SignedWord(i32, i32),
+    Signed32(i32, i32),
 }
 
 const BYTE: Set = Set::Between(0, 255);
 
-const WORD: Set = Set::Between(0, 0xffff_ffff);
+const UNSIGNED_32: Set = Set::Between(0, 0xffff_ffff);
 
 const MINUS_ONE: Set = Set::Signed(-1, -1);
 
@@ -36,7 +36,7 @@ fn range_of(set: Set) -> Range {
         Set::Signed(least, greatest) if least <= greatest => {
             Range::signed_between(least, greatest)
         }
-        Set::SignedWord(least, greatest) if least <= greatest => Range {
+        Set::Signed32(least, greatest) if least <= greatest => Range {
             wide: Range::any(LOW).wide,
             low: Low {
                 least: 0,
@@ -54,7 +54,7 @@ type Limits = (u64, u64, i64, i64, Option<u64>);
 
 const LIMITS: [(Set, Limits); 8] = [
     (Set::Any, (0, u64::MAX, i64::MIN, i64::MAX, None)),
-    (WORD, (0, 0xffff_ffff, 0, 0xffff_ffff, None)),
+    (UNSIGNED_32, (0, 0xffff_ffff, 0, 0xffff_ffff, None)),
     (Set::One(7), (7, 7, 7, 7, Some(7))),
     (
         Set::One(u64::MAX),
@@ -93,7 +93,7 @@ fn sets(rt: HostRuntime) -> Result<(), Fail> {
     for (set, wanted) in LIMITS.iter() {
         assert_eq!(rt; limits_of(range_of(*set)), *wanted);
     }
-    assert_eq!(rt; Range::any(LOW), range_of(WORD));
+    assert_eq!(rt; Range::any(LOW), range_of(UNSIGNED_32));
     Ok(())
 }
 
@@ -118,13 +118,7 @@ const RESULTS: [(AluOp, Width, Set, Set, Set); 20] = [
     (AluOp::Mul, FULL, BYTE, Set::One(6), Set::Between(0, 1530)),
     // A difference below 0 keeps its signed limits only.
     (AluOp::Sub, FULL, BYTE, Set::One(10), Set::Signed(-10, 245)),
-    (
-        AluOp::Sub,
-        LOW,
-        BYTE,
-        Set::One(10),
-        Set::SignedWord(-10, 245),
-    ),
+    (AluOp::Sub, LOW, BYTE, Set::One(10), Set::Signed32(-10, 245)),
     (
         AluOp::Add,
         FULL,
@@ -154,7 +148,7 @@ const RESULTS: [(AluOp, Width, Set, Set, Set); 20] = [
         Set::One(48),
         Set::Between(0, 0xffff),
     ),
-    (AluOp::Mov, LOW, Set::Any, Set::Any, WORD),
+    (AluOp::Mov, LOW, Set::Any, Set::Any, UNSIGNED_32),
     (AluOp::Lsh, FULL, BYTE, Set::One(64), BYTE),
     (AluOp::Rsh, FULL, BYTE, Set::Any, BYTE),
     (
@@ -257,7 +251,7 @@ fn parts(rt: HostRuntime) -> Result<(), Fail> {
     Ok(())
 }
 
-/// Two sets, what both have, and whether the first covers the second.
+/// Two sets, their common members, and whether the first covers the second.
 const COMMON: [(Set, Set, Option<Set>, bool); 6] = [
     (
         BYTE,
@@ -268,14 +262,14 @@ const COMMON: [(Set, Set, Option<Set>, bool); 6] = [
     (BYTE, Set::One(256), None, false),
     // Each pair of limits is narrowed by the other.
     (BYTE, Set::Signed(-5, 10), Some(Set::Between(0, 10)), false),
-    // Of the numbers with the sign bit none is left, and then not of those below 5.
+    // No number with the sign bit is left, and then none below 5.
     (
         Set::Between(5, 0x8000_0000_0000_0003),
         Set::Signed(-0x7fff_ffff_ffff_0000, 10),
         Some(Set::Between(5, 10)),
         false,
     ),
-    (WORD, BYTE, Some(BYTE), true),
+    (UNSIGNED_32, BYTE, Some(BYTE), true),
     (BYTE, BYTE, Some(BYTE), true),
 ];
 
@@ -361,7 +355,7 @@ fn ranges_if(sets: Option<(Set, Set)>) -> Option<(Range, Range)> {
     }
 }
 
-/// What a relation leaves of two sets, whose members the width reads.
+/// What a relation leaves of two sets, where members are read at a width.
 fn related(relation: &Relation, width: Width, a: Range, b: Range) -> Option<(Range, Range)> {
     match relation {
         Relation::Equal => Domain::equal(a, width, b),

@@ -1,7 +1,7 @@
-//! How precise limits of low halves are, worked out by hand: of numbers whose upper halves are not
-//! known.
+//! How tight limits of low halves are, for numbers whose upper halves are not known: examples
+//! worked out by hand.
 
-use super::chains::{Look, Row, Set, Step, are_seen, refined, set_of};
+use super::chains::{Change, Look, Row, Set, are_seen, refined, set_of};
 use super::operations::Part;
 use isa_model::{AluOp, ByteOrder, Comparison, Extension, SwapWidth, Width};
 use reg_state::Scalar;
@@ -42,7 +42,7 @@ const SIGNED_ABOVE: Limits = (11, 0x7fff_ffff, 11, i32::MAX);
 
 const SIGNED_AT_LEAST: Limits = (10, 0x7fff_ffff, 10, i32::MAX);
 
-/// A comparison with 10, and what it leaves of all numbers where it holds and where it does not.
+/// A comparison with 10, and what it leaves of all numbers if it holds and if it does not.
 const COMPARISONS: [(Comparison, Limits, Limits); 11] = [
     (Comparison::Equal, (10, 10, 10, 10), ALL),
     (Comparison::NotEqual, ALL, (10, 10, 10, 10)),
@@ -77,7 +77,7 @@ fn left_of(comparison: Comparison, taken: bool) -> Option<(Limits, Uppers)> {
     }
 }
 
-/// The upper half stays open.
+/// Nothing is known of the upper half.
 const OPEN: Uppers = (0, 0xffff_ffff);
 
 #[test]
@@ -93,73 +93,73 @@ fn each_comparison_narrows(rt: HostRuntime) -> Result<(), Fail> {
 const EVERY: Set = Set::Any(FULL);
 
 // Of all numbers, those with a low half from 3 to 9.
-const BELOW_TEN: Step = Step::Compare(Comparison::Less, LOW, true, 10);
+const BELOW_TEN: Change = Change::Compare(Comparison::Less, LOW, true, 10);
 
-const FROM_THREE: Step = Step::Compare(Comparison::GreaterEqual, LOW, true, 3);
+const FROM_THREE: Change = Change::Compare(Comparison::GreaterEqual, LOW, true, 3);
 
-const MINUS_FIVE: Step = Step::Alu(AluOp::Sub, FULL, 5);
+const MINUS_FIVE: Change = Change::Alu(AluOp::Sub, FULL, 5);
 
-const RAISED: Step = Step::Alu(AluOp::Lsh, FULL, 32);
+const RAISED: Change = Change::Alu(AluOp::Lsh, FULL, 32);
 
 #[rattlefmt::skip]
 const OPERATIONS: [Row; 7] = [
     (EVERY, &[BELOW_TEN, FROM_THREE], &[Look::Low(3, 9, 3, 9)]),
     (
         EVERY,
-        &[BELOW_TEN, FROM_THREE, Step::Alu(AluOp::Add, FULL, 1)],
+        &[BELOW_TEN, FROM_THREE, Change::Alu(AluOp::Add, FULL, 1)],
         &[Look::Low(4, 10, 4, 10)],
     ),
     (EVERY, &[BELOW_TEN, FROM_THREE, MINUS_FIVE], &[Look::Low(0, u32::MAX, -2, 4)]),
     (
         EVERY,
-        &[BELOW_TEN, FROM_THREE, Step::Alu(AluOp::Mul, FULL, 3)],
+        &[BELOW_TEN, FROM_THREE, Change::Alu(AluOp::Mul, FULL, 3)],
         &[Look::Low(9, 27, 9, 27)],
     ),
     (
         EVERY,
-        &[BELOW_TEN, FROM_THREE, Step::Alu(AluOp::Lsh, FULL, 4)],
+        &[BELOW_TEN, FROM_THREE, Change::Alu(AluOp::Lsh, FULL, 4)],
         &[Look::Low(48, 144, 48, 144)],
     ),
     (
         EVERY,
-        &[BELOW_TEN, FROM_THREE, Step::Alu(AluOp::And, FULL, u64::MAX)],
+        &[BELOW_TEN, FROM_THREE, Change::Alu(AluOp::And, FULL, u64::MAX)],
         &[Look::Low(0, 9, 0, 9)],
     ),
-    // What is shifted out of the upper half is not known.
+    // The bits that are shifted in from the upper half are not known.
     (
         EVERY,
-        &[BELOW_TEN, FROM_THREE, Step::Alu(AluOp::Rsh, FULL, 4)],
+        &[BELOW_TEN, FROM_THREE, Change::Alu(AluOp::Rsh, FULL, 4)],
         &[Look::Low(0, u32::MAX, i32::MIN, i32::MAX)],
     ),
 ];
 
 #[rattlefmt::skip]
 const CASTS: [Row; 6] = [
-    (EVERY, &[BELOW_TEN, FROM_THREE, Step::Itself(AluOp::Mov, LOW)], &[Look::Wide(3, 9)]),
+    (EVERY, &[BELOW_TEN, FROM_THREE, Change::Itself(AluOp::Mov, LOW)], &[Look::Wide(3, 9)]),
     (
         EVERY,
-        &[BELOW_TEN, FROM_THREE, RAISED, Step::Alu(AluOp::Rsh, FULL, 32)],
+        &[BELOW_TEN, FROM_THREE, RAISED, Change::Alu(AluOp::Rsh, FULL, 32)],
         &[Look::Wide(3, 9)],
     ),
     (
         EVERY,
-        &[BELOW_TEN, FROM_THREE, MINUS_FIVE, Step::Part(Part::SignExtend(Extension::Full32))],
+        &[BELOW_TEN, FROM_THREE, MINUS_FIVE, Change::Part(Part::SignExtend(Extension::Full32))],
         &[Look::Signed(-2, 4)],
     ),
     (
         EVERY,
-        &[BELOW_TEN, FROM_THREE, MINUS_FIVE, RAISED, Step::Alu(AluOp::Arsh, FULL, 32)],
+        &[BELOW_TEN, FROM_THREE, MINUS_FIVE, RAISED, Change::Alu(AluOp::Arsh, FULL, 32)],
         &[Look::Signed(-2, 4)],
     ),
-    // Known bits see the limits of the whole number that these leave.
+    // Known bits are narrowed by the limits of the whole number that these leave.
     (
         EVERY,
-        &[BELOW_TEN, FROM_THREE, Step::Part(Part::SignExtend(Extension::Low16))],
+        &[BELOW_TEN, FROM_THREE, Change::Part(Part::SignExtend(Extension::Low16))],
         &[Look::Mask(15)],
     ),
     (
         EVERY,
-        &[BELOW_TEN, FROM_THREE, Step::Part(Part::Reorder(ByteOrder::Little, SwapWidth::B32))],
+        &[BELOW_TEN, FROM_THREE, Change::Part(Part::Reorder(ByteOrder::Little, SwapWidth::B32))],
         &[Look::Mask(15)],
     ),
 ];

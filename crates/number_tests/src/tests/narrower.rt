@@ -11,7 +11,7 @@ const FULL: Width = Width::Full64;
 
 const LOW: Width = Width::Low32;
 
-/// What is asked of a number, and of a set of numbers.
+/// An operation on a number, and on a set of numbers.
 #[derive(Clone, Copy)]
 enum Operation {
     Reorder(ByteOrder, SwapWidth),
@@ -59,7 +59,7 @@ const OPERATIONS: [Operation; 14] = [
     Operation::Part(0, 64),
 ];
 
-/// Known bits, and the unknown ones.
+/// A value, and a mask of unknown bits.
 const BITS: [(u64, u64); 7] = [
     (0, 0x1f00),
     (0, 0x8001_0000_0000_0180),
@@ -70,47 +70,47 @@ const BITS: [(u64, u64); 7] = [
     (0, 0xf0f0),
 ];
 
-/// The numbers that have these bits, and of the others any.
+/// The numbers with these known bits.
 fn with_bits(value: u64, mask: u64) -> Scalar {
     let any = Scalar::alu(AluOp::And, FULL, Scalar::any(FULL), Scalar::constant(mask));
     Scalar::alu(AluOp::Or, FULL, any, Scalar::constant(value))
 }
 
-/// The bits that are 1 in the answers for all of the numbers, and those that are in some.
-fn bits_of_answers(operation: Operation, value: u64, mask: u64) -> (u64, u64) {
+/// The bits that are 1 in the results for all members, and those that are 1 in some.
+fn bits_of_results(operation: Operation, value: u64, mask: u64) -> (u64, u64) {
     let mut part = 0;
     let mut all = u64::MAX;
     let mut some = 0;
     for _ in 0..0x400 {
-        let answer = of_number(operation, value | part);
-        all &= answer;
-        some |= answer;
+        let number = of_number(operation, value | part);
+        all &= number;
+        some |= number;
         // The next smaller or equal choice of unknown bits; after 0 comes the mask again.
         part = part.wrapping_sub(1) & mask;
     }
     (all, some)
 }
 
-/// The same of the bits that are known of the set.
+/// The same from the known bits of the result for the set.
 fn bits_of_set(operation: Operation, value: u64, mask: u64) -> (u64, u64) {
     let bits = of_set(operation, with_bits(value, mask)).bits;
     (bits.value, bits.value | bits.mask)
 }
 
-/// As many bits are known as of all answers together.
+/// As many bits are known as in the results of all members together.
 #[test]
 fn bits_are_those_of_all_members(rt: HostRuntime) -> Result<(), Fail> {
-    for (place, operation) in OPERATIONS.iter().enumerate() {
+    for (index, operation) in OPERATIONS.iter().enumerate() {
         for (value, mask) in BITS.iter() {
-            let wanted = bits_of_answers(*operation, *value, *mask);
+            let wanted = bits_of_results(*operation, *value, *mask);
             let found = bits_of_set(*operation, *value, *mask);
-            assert_eq!(rt; found, wanted, "operation {place} of {value:x} {mask:x}");
+            assert_eq!(rt; found, wanted, "operation {index} of {value:x} {mask:x}");
         }
     }
     Ok(())
 }
 
-/// From one number to another; where a part begins, and how long it is; its least and greatest.
+/// The limits of numbers; where a part of them begins, and how long it is; the limits of the part.
 const LIMITS: [((u64, u64), (u64, u32), (u64, u64)); 8] = [
     ((5, 20), (0, 8), (5, 20)),
     ((5, 255), (0, 8), (5, 255)),
@@ -166,7 +166,7 @@ const DIVIDED: [Row; 14] = [
     (-1, 0, 100, (0, 0), (-1, 0)),
 ];
 
-/// The ends of 64 bits. The least number by -1 is itself.
+/// At the ends of 64 bits. The least number divided by -1 is itself.
 const DIVIDED_AT_THE_ENDS: [Row; 6] = [
     (i64::MIN, i64::MAX, -1, (i64::MIN, i64::MAX), (0, 0)),
     (-i64::MAX, i64::MAX, -1, (-i64::MAX, i64::MAX), (0, 0)),
@@ -194,8 +194,8 @@ const DIVIDED_AT_THE_ENDS: [Row; 6] = [
     ),
 ];
 
-/// And those of 32 bits.
-const DIVIDED_AT_THE_ENDS_OF_WORDS: [Row; 3] = [
+/// At the ends of 32 bits.
+const DIVIDED_AT_THE_ENDS_OF_32_BITS: [Row; 3] = [
     (
         -0x8000_0000,
         0x7fff_ffff,
@@ -233,7 +233,7 @@ fn signed_between(least: i64, greatest: i64) -> Scalar {
     }
 }
 
-/// The signed limits of what the operation gives, at 32 bits those of low halves.
+/// The signed limits of the result; at 32 bits those of its low half.
 fn divided(op: AluOp, width: Width, limits: (i64, i64), by: i64) -> (i64, i64) {
     let divisor = Scalar::constant(by.cast_unsigned());
     let range = Scalar::alu(op, width, signed_between(limits.0, limits.1), divisor).range;
@@ -261,24 +261,24 @@ fn signed_quotients_and_remainders(rt: HostRuntime) -> Result<(), Fail> {
     are_divided(&rt, FULL, &DIVIDED);
     are_divided(&rt, LOW, &DIVIDED);
     are_divided(&rt, FULL, &DIVIDED_AT_THE_ENDS);
-    are_divided(&rt, LOW, &DIVIDED_AT_THE_ENDS_OF_WORDS);
+    are_divided(&rt, LOW, &DIVIDED_AT_THE_ENDS_OF_32_BITS);
     Ok(())
 }
 
-/// Whether what the operation gives for each number from one to another is in the answer.
+/// Whether the result for each member is a member of the result for the set.
 fn contains_all(op: AluOp, width: Width, limits: (i64, i64), by: i64) -> bool {
     let divisor = Scalar::constant(by.cast_unsigned());
-    let answer = Scalar::alu(op, width, signed_between(limits.0, limits.1), divisor);
+    let found = Scalar::alu(op, width, signed_between(limits.0, limits.1), divisor);
     for number in limits.0..=limits.1 {
         let exact = numbers::compute(op, width, number.cast_unsigned(), by.cast_unsigned());
-        if !answer.covers(Scalar::constant(exact)) {
+        if !found.covers(Scalar::constant(exact)) {
             return false;
         }
     }
     true
 }
 
-/// Of each small dividend, by each small divisor.
+/// For each small dividend, and each small divisor.
 #[test]
 fn no_result_is_lost(rt: HostRuntime) -> Result<(), Fail> {
     for op in [AluOp::SignedDiv, AluOp::SignedMod] {
@@ -300,7 +300,7 @@ fn no_result_is_lost(rt: HostRuntime) -> Result<(), Fail> {
     Ok(())
 }
 
-// The limits of what the operation gives on 40 to 100 and 4 to 20.
+// The limits of the result for 40 to 100 by 4 to 20.
 fn of_unsigned(op: AluOp, width: Width) -> (u64, u64) {
     let divisors = Scalar::between(4, 20);
     let wide = Scalar::alu(op, width, Scalar::between(40, 100), divisors)
@@ -309,7 +309,8 @@ fn of_unsigned(op: AluOp, width: Width) -> (u64, u64) {
     (wide.least, wide.greatest)
 }
 
-/// Of numbers without a sign bit they are the unsigned ones, by divisors that are not known too.
+/// For numbers without a sign bit the limits are the unsigned ones, even if the divisor is not
+/// known.
 #[test]
 fn numbers_without_a_sign(rt: HostRuntime) -> Result<(), Fail> {
     for width in [FULL, LOW] {

@@ -1,4 +1,4 @@
-//! Vectors at the edges, worked out from the rules of RFC 9669, sections 4.1 to 4.3.
+//! Vectors at the ends of the ranges, worked out from the rules of RFC 9669, sections 4.1 to 4.3.
 
 use super::operations::Part;
 use isa_model::numbers::{compare, compute, negate, reorder, sign_extend};
@@ -200,7 +200,7 @@ fn computed(op: AluOp, a: u64, b: u64) -> (u64, u64) {
 }
 
 #[test]
-fn arithmetic_at_the_edges(rt: HostRuntime) -> Result<(), Fail> {
+fn arithmetic_at_the_ends(rt: HostRuntime) -> Result<(), Fail> {
     for (op, a, b, wide, narrow) in ARITHMETIC.iter() {
         assert_eq!(rt; computed(*op, *a, *b), (*wide, *narrow), "{op:?} of {a:x}");
     }
@@ -215,7 +215,7 @@ fn compared(comparison: Comparison, a: u64, b: u64) -> (bool, bool) {
 }
 
 #[test]
-fn comparisons_at_the_edges(rt: HostRuntime) -> Result<(), Fail> {
+fn comparisons_at_the_ends(rt: HostRuntime) -> Result<(), Fail> {
     for (comparison, a, b, wide, narrow) in COMPARISONS.iter() {
         let found = compared(*comparison, *a, *b);
         assert_eq!(rt; found, (*wide, *narrow), "{comparison:?} of {a:x}");

@@ -1,4 +1,4 @@
-//! What the tests do to numbers and to sets of them.
+//! Operations and relations that tests apply to numbers and to sets of them.
 
 use isa_model::{ByteOrder, Extension, SwapWidth, Width};
 

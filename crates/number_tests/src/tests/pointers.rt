@@ -13,10 +13,10 @@ const R3: Operand = Operand::Register(Reg::R3);
 
 const ZERO: Operand = Operand::Constant(0);
 
-/// r2 against r3, or the other way round, and the outcome.
+/// r2 compared with r3, or the other way round, and whether the comparison holds.
 type Test = (Comparison, bool, bool);
 
-/// How many bytes each test proves, where the pointer is 14 bytes after its variable part.
+/// How many bytes each test proves, if the pointer is 14 bytes after its variable part.
 const PACKET_TESTS: [(Test, u32); 16] = [
     ((Comparison::Greater, false, true), 0),
     ((Comparison::Greater, false, false), 14),
@@ -65,7 +65,8 @@ const LOOKED_UP: Kind = Kind::MapValueOrNull {
     identity: 5,
 };
 
-/// r2 and r3 are these, r4 and a slot are as given, and so are r6 and a slot of the caller.
+/// A state with these kinds in r2 and r3, and the copies in r4, a stack slot, and r6 and a stack
+/// slot of the caller.
 fn in_call(tested: Kind, other: Kind, copies: [Kind; 4]) -> State {
     let mut caller = AbstractFrame::default();
     caller.registers[6] = copies[2];
@@ -84,7 +85,7 @@ fn in_call(tested: Kind, other: Kind, copies: [Kind; 4]) -> State {
     }
 }
 
-/// The same places, read back.
+/// The copies, read from the same places.
 fn copies_in(state: &State) -> [Kind; 4] {
     let mut copies = [Kind::Unset; 4];
     copies[0] = state.kind_of(Reg::R4);
@@ -187,7 +188,7 @@ const IS_BEFORE: Test = (Comparison::Less, false, true);
 
 const AT_OR_BEFORE: Test = (Comparison::LessEqual, false, true);
 
-/// More is proved already; another identity; none; no packet pointer.
+/// A pointer with more proved bytes; one of another identity; one of none; no packet pointer.
 const OTHERS: [Held; 4] = [
     Held::Packet(0, 3, 40),
     Held::Packet(14, 4, 2),
@@ -204,7 +205,7 @@ const FAR: Held = Held::Packet(0, 3, 0x8000_0000);
 /// A test of a pointer with this fixed part, the copies before it, and those after it.
 const COPIES: [(Test, i32, [Held; 4], [Held; 4]); 6] = [
     (IS_BEFORE, 14, OTHERS, OTHERS),
-    // Offsets before the variable part prove nothing.
+    // A test of a pointer that is not after its variable part proves nothing.
     (
         AT_OR_BEFORE,
         0,
@@ -241,7 +242,7 @@ fn copies_of_packet_pointers(rt: HostRuntime) -> Result<(), Fail> {
     Ok(())
 }
 
-const ASKED: [Held; 4] = [
+const UNTESTED: [Held; 4] = [
     Held::LookedUp(5),
     Held::LookedUp(5),
     Held::LookedUp(5),
@@ -264,28 +265,28 @@ const SOME_LIVE: [Held; 4] = [
 const NULL_TESTS: [(Held, [Held; 4], Comparison, bool, Option<[Held; 4]>); 8] = [
     (
         Held::LookedUp(5),
-        ASKED,
+        UNTESTED,
         Comparison::Equal,
         true,
         Some(NULL),
     ),
     (
         Held::LookedUp(5),
-        ASKED,
+        UNTESTED,
         Comparison::Equal,
         false,
         Some(LIVE),
     ),
     (
         Held::LookedUp(5),
-        ASKED,
+        UNTESTED,
         Comparison::NotEqual,
         true,
         Some(LIVE),
     ),
     (
         Held::LookedUp(5),
-        ASKED,
+        UNTESTED,
         Comparison::NotEqual,
         false,
         Some(NULL),
@@ -334,7 +335,7 @@ fn null_tests(rt: HostRuntime) -> Result<(), Fail> {
     Ok(())
 }
 
-/// Comparisons of pointers that have no outcome.
+/// Comparisons that are not defined for their pointers.
 const UNDEFINED: [(Comparison, Width, Operand, Kind, Kind); 12] = [
     (Comparison::Equal, FULL, R3, POINTER, Kind::PacketEnd),
     (Comparison::SignedLess, FULL, R3, POINTER, Kind::PacketEnd),
@@ -356,7 +357,7 @@ const UNDEFINED: [(Comparison, Width, Operand, Kind, Kind); 12] = [
     (Comparison::Equal, FULL, ZERO, Kind::Unset, Kind::Unset),
 ];
 
-/// Whether r2 and r3 have no outcome, and all copies stay both ways.
+/// Whether the comparison of r2 with r3 is not defined, and all copies stay both ways.
 fn is_undefined(cond: Cond, left: Kind, right: Kind) -> [bool; 3] {
     let copies = [left, right, right, left];
     let state = in_call(left, right, copies);

@@ -1,4 +1,4 @@
-//! Abstract states that tables of tests name.
+//! The abstract states of tests, by what is in them.
 
 use arrayvec::ArrayVec;
 use isa_model::Width;
@@ -29,7 +29,7 @@ fn kind_of(held: &Held) -> Kind {
     }
 }
 
-/// What is put into a frame.
+/// What is put into a call frame.
 pub enum Put {
     Register(usize, Held),
     Spill(usize, Held),
@@ -40,26 +40,26 @@ pub enum Put {
 fn frame_with(frame: AbstractFrame, act: &Put) -> AbstractFrame {
     let mut frame = frame;
     match act {
-        Put::Register(place, held) => {
-            if *place < 10 {
-                frame.registers[*place] = kind_of(held);
+        Put::Register(index, held) => {
+            if *index < 10 {
+                frame.registers[*index] = kind_of(held);
             }
         }
-        Put::Spill(place, held) => {
-            if *place < 64 {
-                frame.stack.slots[*place] = StackSlot::Spilled(kind_of(held));
+        Put::Spill(index, held) => {
+            if *index < 64 {
+                frame.stack.slots[*index] = StackSlot::Spilled(kind_of(held));
             }
         }
-        Put::Written(place, marks) => {
-            if *place < 64 {
-                frame.stack.slots[*place] = StackSlot::Written(*marks);
+        Put::Written(index, marks) => {
+            if *index < 64 {
+                frame.stack.slots[*index] = StackSlot::Written(*marks);
             }
         }
     }
     frame
 }
 
-/// A frame of Unset registers and unwritten bytes, but for these.
+/// A frame in which only these registers and bytes are set.
 fn frame_of(return_slot: usize, acts: &[Put]) -> AbstractFrame {
     let mut frame = AbstractFrame::default();
     frame.return_slot = return_slot;
@@ -69,11 +69,11 @@ fn frame_of(return_slot: usize, acts: &[Put]) -> AbstractFrame {
     frame
 }
 
-/// A state.
+/// An abstract state.
 pub enum Sample {
-    /// Of the first frame, at a slot.
+    /// With one call frame, at a slot.
     Outer(usize, &'static [Put]),
-    /// Of a function that was called, at slot 3: where its exit leads, the caller's frame, and its
+    /// In a function that was called, at slot 3: where its exit leads, the caller's frame, and its
     /// own.
     InCall(usize, &'static [Put], &'static [Put]),
 }

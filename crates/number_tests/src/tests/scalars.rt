@@ -1,7 +1,7 @@
-//! How precise the answers are, worked out by hand, and each function that takes any domain, on
-//! each of them.
+//! How sharp both domains together are: examples worked out by hand; and what a function over any
+//! domain does with each of them.
 
-use super::chains::{Look, Row, Set, Step, are_seen, refined, set_of};
+use super::chains::{Change, Look, Row, Set, are_seen, refined, set_of};
 use super::operations::Part;
 use isa_model::{AluOp, ByteOrder, Comparison, Extension, SwapWidth, Width};
 use known_bits::Bits;
@@ -17,62 +17,62 @@ const BYTE: Set = Set::Between(0, 255);
 
 const ALL: Set = Set::Any(FULL);
 
-const LOW_WORD: Set = Set::Any(LOW);
+const UNSIGNED_32: Set = Set::Any(LOW);
 
-const EVEN: Step = Step::Alu(AluOp::Lsh, FULL, 1);
+const EVEN: Change = Change::Alu(AluOp::Lsh, FULL, 1);
 
 #[rattlefmt::skip]
 const SUMS_AND_PRODUCTS: [Row; 5] = [
     // A header length of 0 to 60 bytes after 14 others.
     (
         BYTE,
-        &[Step::Alu(AluOp::And, FULL, 15), Step::Alu(AluOp::Lsh, FULL, 2)],
+        &[Change::Alu(AluOp::And, FULL, 15), Change::Alu(AluOp::Lsh, FULL, 2)],
         &[Look::Wide(0, 60), Look::Mask(60)],
     ),
     (
         BYTE,
         &[
-            Step::Alu(AluOp::And, FULL, 15),
-            Step::Alu(AluOp::Lsh, FULL, 2),
-            Step::Alu(AluOp::Add, FULL, 14),
+            Change::Alu(AluOp::And, FULL, 15),
+            Change::Alu(AluOp::Lsh, FULL, 2),
+            Change::Alu(AluOp::Add, FULL, 14),
         ],
         &[Look::Wide(14, 74)],
     ),
-    (BYTE, &[Step::Alu(AluOp::Mul, FULL, 6)], &[Look::GreatestAtMost(1530), Look::Even]),
-    (BYTE, &[Step::Alu(AluOp::Sub, FULL, 10)], &[Look::Signed(-10, 245)]),
-    (BYTE, &[Step::Part(Part::Negate(FULL))], &[Look::Signed(-255, 0)]),
+    (BYTE, &[Change::Alu(AluOp::Mul, FULL, 6)], &[Look::GreatestAtMost(1530), Look::Even]),
+    (BYTE, &[Change::Alu(AluOp::Sub, FULL, 10)], &[Look::Signed(-10, 245)]),
+    (BYTE, &[Change::Part(Part::Negate(FULL))], &[Look::Signed(-255, 0)]),
 ];
 
 #[rattlefmt::skip]
 const PARTS: [Row; 8] = [
-    (ALL, &[Step::Alu(AluOp::And, FULL, 15)], &[Look::Wide(0, 15)]),
-    (ALL, &[Step::Itself(AluOp::Mov, LOW)], &[Look::Wide(0, 0xffff_ffff)]),
-    (ALL, &[Step::Part(Part::Reorder(ByteOrder::Big, SwapWidth::B16))], &[Look::Wide(0, 0xffff)]),
-    (ALL, &[Step::Alu(AluOp::Rsh, FULL, 48)], &[Look::Wide(0, 0xffff)]),
-    (BYTE, &[Step::Alu(AluOp::Xor, FULL, 0x30)], &[Look::Wide(0, 255)]),
-    (ALL, &[Step::Part(Part::SignExtend(Extension::Full8))], &[Look::Signed(-128, 127)]),
-    // An even number stays even. Where the sign bit is not known, the least number has it and no
-    // other bit.
-    (ALL, &[EVEN, Step::Part(Part::SignExtend(Extension::Full8))], &[Look::Even]),
+    (ALL, &[Change::Alu(AluOp::And, FULL, 15)], &[Look::Wide(0, 15)]),
+    (ALL, &[Change::Itself(AluOp::Mov, LOW)], &[Look::Wide(0, 0xffff_ffff)]),
+    (ALL, &[Change::Part(Part::Reorder(ByteOrder::Big, SwapWidth::B16))], &[Look::Wide(0, 0xffff)]),
+    (ALL, &[Change::Alu(AluOp::Rsh, FULL, 48)], &[Look::Wide(0, 0xffff)]),
+    (BYTE, &[Change::Alu(AluOp::Xor, FULL, 0x30)], &[Look::Wide(0, 255)]),
+    (ALL, &[Change::Part(Part::SignExtend(Extension::Full8))], &[Look::Signed(-128, 127)]),
+    // An even number stays even. If the sign bit is not known, the least member has it and no other
+    // bit.
+    (ALL, &[EVEN, Change::Part(Part::SignExtend(Extension::Full8))], &[Look::Even]),
     (
         ALL,
-        &[Step::Alu(AluOp::And, FULL, 0x8000_0000_0000_000f)],
+        &[Change::Alu(AluOp::And, FULL, 0x8000_0000_0000_000f)],
         &[Look::Signed(i64::MIN, 15)],
     ),
 ];
 
 #[rattlefmt::skip]
 const COMMON_MEMBERS: [Row; 3] = [
-    // Limits show bits, and a single number left is a constant.
-    (ALL, &[EVEN, Step::Meet(Set::Between(8, 9))], &[Look::Is(Set::One(8))]),
-    (ALL, &[EVEN, Step::Meet(Set::One(7))], &[Look::Never]),
-    // Of 0 and 2, by the bits of both, the limits leave 2.
+    // Limits narrow known bits, and one member that is left is a constant.
+    (ALL, &[EVEN, Change::Meet(Set::Between(8, 9))], &[Look::Is(Set::One(8))]),
+    (ALL, &[EVEN, Change::Meet(Set::One(7))], &[Look::Never]),
+    // Known bits leave 0 and 2, and of these the limits leave 2.
     (
         ALL,
         &[
-            Step::Alu(AluOp::And, FULL, 11),
-            Step::Compare(Comparison::Less, FULL, false, 2),
-            Step::MeetMasked(6),
+            Change::Alu(AluOp::And, FULL, 11),
+            Change::Compare(Comparison::Less, FULL, false, 2),
+            Change::MeetMasked(6),
         ],
         &[Look::Is(Set::One(2))],
     ),
@@ -80,63 +80,63 @@ const COMMON_MEMBERS: [Row; 3] = [
 
 #[rattlefmt::skip]
 const JUMPS: [Row; 6] = [
-    (ALL, &[Step::Compare(Comparison::Less, FULL, true, 10)], &[Look::Wide(0, 9)]),
+    (ALL, &[Change::Compare(Comparison::Less, FULL, true, 10)], &[Look::Wide(0, 9)]),
     (
         ALL,
-        &[Step::Compare(Comparison::Less, FULL, true, 10), Step::Alu(AluOp::Add, FULL, 1)],
+        &[Change::Compare(Comparison::Less, FULL, true, 10), Change::Alu(AluOp::Add, FULL, 1)],
         &[Look::Wide(1, 10)],
     ),
-    (ALL, &[Step::Compare(Comparison::Less, FULL, false, 10)], &[Look::Wide(10, u64::MAX)]),
+    (ALL, &[Change::Compare(Comparison::Less, FULL, false, 10)], &[Look::Wide(10, u64::MAX)]),
     (
         ALL,
-        &[Step::Compare(Comparison::SignedLess, FULL, false, 0)],
+        &[Change::Compare(Comparison::SignedLess, FULL, false, 0)],
         &[Look::Signed(0, i64::MAX), Look::Wide(0, 0x7fff_ffff_ffff_ffff)],
     ),
     (
         ALL,
-        &[Step::Compare(Comparison::AnyBit, FULL, false, 1)],
+        &[Change::Compare(Comparison::AnyBit, FULL, false, 1)],
         &[Look::Ones(0), Look::Mask(u64::MAX - 1)],
     ),
-    (ALL, &[Step::Compare(Comparison::Equal, FULL, true, 5)], &[Look::Is(Set::One(5))]),
+    (ALL, &[Change::Compare(Comparison::Equal, FULL, true, 5)], &[Look::Is(Set::One(5))]),
 ];
 
 const FIVE: Set = Set::One(5);
 
 #[rattlefmt::skip]
 const CONSTANTS: [Row; 4] = [
-    (FIVE, &[Step::Compare(Comparison::Less, FULL, true, 5)], &[Look::Never]),
-    (FIVE, &[Step::Compare(Comparison::Less, FULL, false, 5)], &[Look::Is(FIVE)]),
+    (FIVE, &[Change::Compare(Comparison::Less, FULL, true, 5)], &[Look::Never]),
+    (FIVE, &[Change::Compare(Comparison::Less, FULL, false, 5)], &[Look::Is(FIVE)]),
     // The low half of 2^32 + 5 is 5.
-    (FIVE, &[Step::Compare(Comparison::NotEqual, LOW, true, 0x1_0000_0005)], &[Look::Never]),
-    (FIVE, &[Step::Compare(Comparison::NotEqual, FULL, true, 0x1_0000_0005)], &[Look::Is(FIVE)]),
+    (FIVE, &[Change::Compare(Comparison::NotEqual, LOW, true, 0x1_0000_0005)], &[Look::Never]),
+    (FIVE, &[Change::Compare(Comparison::NotEqual, FULL, true, 0x1_0000_0005)], &[Look::Is(FIVE)]),
 ];
 
 #[rattlefmt::skip]
 const LOW_HALVES: [Row; 6] = [
-    // Of a number whose upper half is unknown, what a low half shows holds of the low half.
+    // For a number whose upper half is not known, a comparison of low halves narrows the low half.
     (
         ALL,
-        &[Step::Compare(Comparison::Less, LOW, true, 10)],
+        &[Change::Compare(Comparison::Less, LOW, true, 10)],
         &[Look::Wide(0, 0xffff_ffff_0000_0009)],
     ),
     (
         ALL,
-        &[Step::Compare(Comparison::Equal, LOW, true, 5)],
+        &[Change::Compare(Comparison::Equal, LOW, true, 5)],
         &[Look::Wide(5, 0xffff_ffff_0000_0005)],
     ),
     (
-        LOW_WORD,
-        &[Step::Compare(Comparison::Less, LOW, true, 10)],
+        UNSIGNED_32,
+        &[Change::Compare(Comparison::Less, LOW, true, 10)],
         &[Look::Is(Set::Between(0, 9))],
     ),
     // 0xffff_ffff is -1 as a signed number of 32 bits.
     (
-        LOW_WORD,
-        &[Step::Compare(Comparison::SignedLess, LOW, true, 0)],
+        UNSIGNED_32,
+        &[Change::Compare(Comparison::SignedLess, LOW, true, 0)],
         &[Look::Is(Set::Between(0x8000_0000, 0xffff_ffff))],
     ),
-    (BYTE, &[Step::Compare(Comparison::SignedLess, LOW, true, 0xffff_ffff)], &[Look::Never]),
-    (BYTE, &[Step::Compare(Comparison::SignedGreater, LOW, true, u64::MAX)], &[Look::Is(BYTE)]),
+    (BYTE, &[Change::Compare(Comparison::SignedLess, LOW, true, 0xffff_ffff)], &[Look::Never]),
+    (BYTE, &[Change::Compare(Comparison::SignedGreater, LOW, true, u64::MAX)], &[Look::Is(BYTE)]),
 ];
 
 #[test]
@@ -157,7 +157,7 @@ fn jumps(rt: HostRuntime) {
     are_seen(&rt, &LOW_HALVES);
 }
 
-// Its number, if it has only one, and its greatest.
+// The number of a set, if it has only one, and its greatest member.
 fn numbers_of(set: &Set) -> (Option<u64>, u64) {
     let set = set_of(set);
     (set.number(), set.greatest())
@@ -195,7 +195,7 @@ const AT_LEAST: Option<Limits> = Some((10, 255));
 
 const ABOVE: Option<Limits> = Some((11, 255));
 
-/// A comparison and a number, and what it leaves of a byte where it holds and where it does not.
+/// A comparison and a number, and what it leaves of a byte if it holds and if it does not.
 const COMPARISONS: [(Comparison, u64, Option<Limits>, Option<Limits>); 12] = [
     (Comparison::Equal, 10, Some((10, 10)), Some((0, 255))),
     (Comparison::NotEqual, 10, Some((0, 255)), Some((10, 10))),
@@ -207,9 +207,9 @@ const COMPARISONS: [(Comparison, u64, Option<Limits>, Option<Limits>); 12] = [
     (Comparison::SignedGreaterEqual, 10, AT_LEAST, BELOW),
     (Comparison::SignedLess, 10, BELOW, AT_LEAST),
     (Comparison::SignedLessEqual, 10, AT_MOST, ABOVE),
-    // Of 8 and 2 either may be the common bit: only 0 is ruled out.
+    // Either 8 or 2 may be the common bit: only 0 is ruled out.
     (Comparison::AnyBit, 10, Some((1, 255)), Some((0, 245))),
-    // A limit that is ruled out is trimmed.
+    // A number at a limit that is ruled out narrows the limit.
     (Comparison::NotEqual, 0, Some((1, 255)), ZERO),
 ];
 
@@ -225,7 +225,7 @@ fn each_comparison_narrows(rt: HostRuntime) -> Result<(), Fail> {
     Ok(())
 }
 
-/// The numbers from one to another.
+/// The least and the greatest number.
 type Limits = (u64, u64);
 
 /// A comparison and whether it holds, a set and the number that it is compared with, and what is
@@ -240,7 +240,7 @@ const ZERO: Option<Limits> = Some((0, 0));
 
 const ONE: Option<Limits> = Some((1, 1));
 
-/// Of known bits.
+/// What known bits leave.
 const BITS: [Narrowing; 7] = [
     (Comparison::Less, true, BIT, 1, ZERO),
     (Comparison::LessEqual, true, BIT, 0, ZERO),
@@ -251,7 +251,7 @@ const BITS: [Narrowing; 7] = [
     (Comparison::LessEqual, true, ANY, 9, Some((0, 9))),
 ];
 
-/// Of limits.
+/// What limits leave.
 const LIMITS: [Narrowing; 7] = [
     (Comparison::Less, true, BIT, 1, ZERO),
     (Comparison::LessEqual, true, BIT, 0, ZERO),
@@ -262,8 +262,8 @@ const LIMITS: [Narrowing; 7] = [
     (Comparison::LessEqual, true, ANY, 9, Some((0, 9))),
 ];
 
-// The same for each domain, without a type parameter: each call of a function over any domain costs
-// what the whole trait does.
+// The same function for each domain, without a type parameter: a call of a function over any domain
+// costs as much as the whole trait.
 fn bits_between(limits: Limits) -> Bits {
     let (least, greatest) = limits;
     if least <= greatest {

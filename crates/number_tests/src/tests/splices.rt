@@ -1,5 +1,5 @@
-//! Numbers of which some bits were written: worked out by hand at the ends, and from all members of
-//! small sets.
+//! Numbers some of whose bits were overwritten: worked out by hand at the ends, and from all
+//! members of small sets.
 
 use isa_model::Width;
 use known_bits::spliced;
@@ -7,10 +7,11 @@ use reg_state::{Domain, Scalar};
 use std::process::Abort;
 use std::test::Fail;
 
-/// From one number to another.
+/// The least and the greatest number.
 type Limits = (u64, u64);
 
-/// What is written into, the first bit and how many, what is written, and what is left.
+/// The old numbers, the first bit and the number of bits that are overwritten, the new numbers, and
+/// the result.
 const WRITTEN: [(Limits, (u64, u32), Limits, Limits); 10] = [
     ((0, 0), (0, 32), (20, 51), (20, 51)),
     ((0, 0), (32, 32), (1, 3), (0x1_0000_0000, 0x3_0000_0000)),
@@ -52,26 +53,22 @@ fn written(old: Scalar, (from, count): (u64, u32), new: Scalar) -> Scalar {
 
 #[test]
 fn limits_of_written_numbers(rt: HostRuntime) -> Result<(), Fail> {
-    for (old, place, new, wanted) in WRITTEN.iter() {
-        let wide = written(between(*old), *place, between(*new)).range.wide;
-        assert_eq!(rt;
-            (wide.least, wide.greatest),
-            *wanted,
-            "{old:?} at {place:?}"
-        );
+    for (old, part, new, wanted) in WRITTEN.iter() {
+        let wide = written(between(*old), *part, between(*new)).range.wide;
+        assert_eq!(rt; (wide.least, wide.greatest), *wanted, "{old:?} at {part:?}");
     }
     Ok(())
 }
 
-/// Whether each number with other bits is in the answer.
-fn contains_all(old: Limits, place: (u64, u32), new: Limits) -> bool {
-    let answer = written(between(old), place, between(new));
+/// Whether each old number with the bits of each new one is a member of the result.
+fn contains_all(old: Limits, part: (u64, u32), new: Limits) -> bool {
+    let found = written(between(old), part, between(new));
     for number in old.0..=old.1 {
         for other in new.0..=new.1 {
-            if place.0 < 64
-                && place.1 <= 64
-                && place.0 + u64::from(place.1) <= 64
-                && !answer.covers(Scalar::constant(spliced(place.0, place.1, number, other)))
+            if part.0 < 64
+                && part.1 <= 64
+                && part.0 + u64::from(part.1) <= 64
+                && !found.covers(Scalar::constant(spliced(part.0, part.1, number, other)))
             {
                 return false;
             }
@@ -80,10 +77,10 @@ fn contains_all(old: Limits, place: (u64, u32), new: Limits) -> bool {
     true
 }
 
-/// Of each two small sets, at each small position, whether the bits hold the new numbers or not.
+/// For each two small sets and each small part, whether the new numbers fit into it or not.
 #[test]
 fn no_number_is_lost(rt: HostRuntime) -> Result<(), Fail> {
-    for place in [
+    for part in [
         (0, 1),
         (0, 3),
         (1, 2),
@@ -96,10 +93,7 @@ fn no_number_is_lost(rt: HostRuntime) -> Result<(), Fail> {
         for least in 0..12 {
             for greatest in [12, 15, 17] {
                 let (old, new) = ((least, greatest), (12 - least, greatest));
-                assert!(rt;
-                    contains_all(old, place, new),
-                    "{old:?} at {place:?} {new:?}"
-                );
+                assert!(rt; contains_all(old, part, new), "{old:?} at {part:?} {new:?}");
             }
         }
     }

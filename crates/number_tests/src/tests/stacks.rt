@@ -5,7 +5,7 @@ use reg_state::{Domain, Kind, Scalar};
 use stack_state::{StackSlot, StackState};
 use std::process::Abort;
 
-/// What is done to a frame.
+/// What is done to a call frame.
 #[derive(Clone, Copy)]
 enum Act {
     Spill(usize, Kind),
@@ -14,7 +14,7 @@ enum Act {
     ForgetMap(u8),
 }
 
-/// A question about it, and the answer that is wanted.
+/// What is looked at in a call frame, and what is wanted there.
 #[derive(Clone, Copy)]
 enum Look {
     StackSlot(usize, StackSlot),
@@ -63,12 +63,12 @@ fn is_shown(stack: &StackState, look: &Look) -> bool {
 
 fn are_shown(rt: &impl Abort, acts: &[Act], looks: &[Look]) {
     let stack = after(acts);
-    for (place, look) in looks.iter().enumerate() {
-        assert!(rt; is_shown(&stack, look), "look {place}");
+    for (index, look) in looks.iter().enumerate() {
+        assert!(rt; is_shown(&stack, look), "look {index}");
     }
 }
 
-/// The marks of slot 2 after a store.
+/// Which bytes of slot 2 are written after a store.
 #[test]
 fn each_size_at_each_place(rt: HostRuntime) {
     for byte in 0..8usize {
@@ -127,7 +127,7 @@ fn a_number_is_read_in_part(rt: HostRuntime) {
             Look::Load(24, Size::U64, Some(seven)),
             Look::Load(24, Size::U8, Some(seven)),
             Look::Load(26, Size::U16, Some(Scalar::constant(0))),
-            // across two slots, the second a pointer
+            // bytes of two slots; the second has a pointer
             Look::IsBytes(28, 8, false),
         ],
     );
@@ -147,7 +147,7 @@ fn a_number_is_read_in_part(rt: HostRuntime) {
     );
 }
 
-/// A spilled number, and then bytes of it.
+/// A number is spilled, and then some of its bytes are overwritten.
 fn is_changed(rt: &impl Abort, old: u64, (at, size): (usize, Size), new: u64, wanted: u64) {
     are_shown(
         rt,
@@ -161,7 +161,7 @@ fn is_changed(rt: &impl Abort, old: u64, (at, size): (usize, Size), new: u64, wa
 
 #[test]
 fn a_number_changes_in_part(rt: HostRuntime) {
-    for (old, place, new, wanted) in [
+    for (old, part, new, wanted) in [
         (7, (24, Size::U32), 5, 5),
         (7, (28, Size::U32), 1, 0x1_0000_0007),
         (7, (28, Size::U32), 0x3_0000_0001, 0x1_0000_0007),
@@ -170,7 +170,7 @@ fn a_number_changes_in_part(rt: HostRuntime) {
         (0x1122_3344, (26, Size::U16), 0x5566, 0x5566_3344),
         (7, (24, Size::U64), 9, 9),
     ] {
-        is_changed(&rt, old, place, new, wanted);
+        is_changed(&rt, old, part, new, wanted);
     }
 }
 
@@ -229,7 +229,7 @@ fn an_unknown_number_is_written_bytes(rt: HostRuntime) {
     );
 }
 
-/// What points to the value of a map that was looked up.
+/// The kind after a look-up in a map.
 fn looked_up(index: u8) -> Kind {
     Kind::MapValueOrNull { index, identity: 1 }
 }

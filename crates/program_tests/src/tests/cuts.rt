@@ -1,4 +1,4 @@
-//! Instructions that are cut.
+//! Instructions that are cut off.
 
 use insn_codec::{CodecError, decode};
 use std::process::Abort;

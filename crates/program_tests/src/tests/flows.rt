@@ -30,7 +30,7 @@ fn is_join(alloc: Global, text: &str, slot: usize) -> Result<Option<bool>, Fail>
 const WITH_JOINS: &str = "call pc+3; if r0 == 0 goto -2; goto +0; exit; gotol -1";
 
 #[test]
-fn tells_joins(rt: HostRuntime) -> Result<(), Fail> {
+fn finds_joins(rt: HostRuntime) -> Result<(), Fail> {
     for (slot, wanted) in JOINS.iter() {
         let found = is_join(rt.alloc(), WITH_JOINS, *slot)?;
         assert_eq!(rt; found, Some(*wanted), "slot {slot}");
@@ -78,7 +78,7 @@ const LIVE: [(&str, usize, &str); 14] = [
     (COUNTS, 3, " 0 1"),
     (COUNTS, 5, " 0 1"),
     (COUNTS, 6, " 0"),
-    // a local call hands over r1 to r5, and keeps r6
+    // a local call passes r1 to r5, and keeps r6
     (CALLS, 0, " 2 3 4 5"),
     (CALLS, 2, " 1 2 3 4 5 6"),
     (CALLS, 3, " 0 6"),

@@ -1,9 +1,9 @@
-//! A lexeme of each kind, and the byte at which none begins.
+//! The lexeme at the front of a text, and the byte at which no token begins.
 
 use lexer::{Lexeme, Sign, Token, Word, lexeme_at};
 
-/// What the text begins with, and its length; or "none", and the offset of the byte that begins no
-/// token.
+/// What the text begins with, and how long that is; or "none", and the offset of the byte at which
+/// no token begins.
 fn front_of(text: &[u8]) -> (&'static str, usize) {
     match lexeme_at(text) {
         Ok((Lexeme::Blank, length)) => ("blank", length),
@@ -34,7 +34,7 @@ const FRONTS: [(&[u8], &str, usize); 11] = [
 
 #[test]
 fn finds_the_longest_or_no_token(rt: HostRuntime) {
-    for (text, name, place) in FRONTS.iter() {
-        assert_eq!(rt; front_of(*text), (*name, *place));
+    for (text, name, at) in FRONTS.iter() {
+        assert_eq!(rt; front_of(*text), (*name, *at));
     }
 }

@@ -7,7 +7,7 @@ use std::io::ErrorKind;
 use std::process::Abort;
 use std::test::Fail;
 
-/// Texts, whether the text of their images is written or the bytes, and what these are.
+/// A text, whether the text of its image is written or the image's bytes, and what is written.
 const WRITTEN: [(&str, bool, &[u8]); 3] = [
     (
         "r0 = 2; exit",
@@ -28,19 +28,18 @@ const WRITTEN: [(&str, bool, &[u8]); 3] = [
 
 /// Why writing fails, if it does.
 fn failure_of(image: &Image, is_text: bool, mut out: &mut [u8]) -> Option<ErrorKind> {
-    let answer = if is_text {
+    let written = if is_text {
         disassemble(image, &mut out)
     } else {
         image.write(&mut out)
     };
-    match answer {
+    match written {
         Ok(()) => None,
         Err(error) => Some(error.kind()),
     }
 }
 
-/// An output with room for n bytes has what came before it was full, and its failure is
-/// handed on.
+/// An output gets as many bytes as it has room for, and its failure is returned.
 fn is_front(rt: &impl Abort, image: &Image, is_text: bool, whole: &[u8], room: usize) {
     let mut taken = [0; 99];
     let failure = match taken.get_mut(..room) {

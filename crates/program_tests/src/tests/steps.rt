@@ -1,4 +1,4 @@
-//! States after some steps of the verifier.
+//! Abstract states after some steps.
 
 use super::programs::image_of;
 use image::Image;
@@ -9,7 +9,7 @@ use std::alloc::Global;
 use std::test::Fail;
 use transfer::{Refusal, Successors, step};
 
-/// The step, where an instruction begins at the state's slot.
+/// The step from a state, if an instruction begins at its slot.
 fn stepped(image: &Image, state: &State) -> Option<Result<Successors, Refusal>> {
     match image.at(state.slot) {
         None => None,
@@ -35,8 +35,8 @@ fn walked(image: &Image, way: &[bool]) -> Option<State> {
     Some(state)
 }
 
-/// Its slot, and the number in r0, if it is known.
-fn told(alloc: Global, text: &str, way: &[bool]) -> Result<Option<(usize, Option<u64>)>, Fail> {
+/// The slot that is reached, and the number in r0 if it is known.
+fn reached(alloc: Global, text: &str, way: &[bool]) -> Result<Option<(usize, Option<u64>)>, Fail> {
     let image = image_of(alloc, text)?;
     let Some(state) = walked(&image, way) else {
         return Ok(None);
@@ -51,7 +51,7 @@ fn told(alloc: Global, text: &str, way: &[bool]) -> Result<Option<(usize, Option
 /// A 32-bit result has an upper half of zeros.
 const REMAINDER: &str = "r0 = -1; r1 = 0; w0 %= w1; r0 >>= 31; exit";
 
-/// Both sides of a jump are narrowed.
+/// A jump narrows both branches.
 const JUMP: &str = "r0 = *(u32 *)(r1 + 12); if r0 == 7 goto +1; r0 = 0; exit";
 
 /// A text, whether each step goes to the second successor, the slot, and what is known of r0.
@@ -66,7 +66,7 @@ const STATES: [(&str, &[bool], Option<(usize, Option<u64>)>); 5] = [
 #[test]
 fn states_after_steps(rt: HostRuntime) -> Result<(), Fail> {
     for (text, way, wanted) in STATES.iter() {
-        assert_eq!(rt; told(rt.alloc(), *text, *way)?, *wanted, "{text}");
+        assert_eq!(rt; reached(rt.alloc(), *text, *way)?, *wanted, "{text}");
     }
     Ok(())
 }

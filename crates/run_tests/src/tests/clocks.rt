@@ -1,4 +1,4 @@
-//! A clock that stands still at the last time that there is.
+//! A run with a clock that always answers the greatest time.
 
 ghost use Rattle.std.proofs.Common.{lit<};
 
@@ -27,7 +27,7 @@ const HEAD: FrameHead = FrameHead {
     queue: 0,
 };
 
-/// How a run of a program on an empty packet ends by that clock.
+/// How a run of a program on an empty packet ends with that clock.
 fn end_of(alloc: Global, text: &str) -> Result<End, Fail> {
     let mut checked = Checked::new(alloc, image_of(alloc, text)?)?;
     Ok(checked.run(HEAD, &mut [], &mut Last, 100))

@@ -1,4 +1,4 @@
-//! Maps: the answers to commands, by each of the stores.
+//! Map stores: their answers to updates, deletes and look-ups.
 
 mod answers;
 mod stores;

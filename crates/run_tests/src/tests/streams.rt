@@ -1,4 +1,4 @@
-//! What reads and writes streams, and the runs between two streams, where a read or a write fails.
+//! Streams and outputs that fail: bytes, records, and programs that are run on a stream.
 
 mod broken;
 mod buffers;

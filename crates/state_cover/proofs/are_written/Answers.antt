@@ -11,5 +11,6 @@ pub returns : goal.returns
 returns c =
     let marks : ℕ = c.args.marks in
     let others : ℕ = c.marks-others.result in
-    subst (λ (r : ℕ). IsTrue (nat_eq (bit_and others marks) marks) ↔ AreAmong marks r) c.marks-others.ensures
+    subst (λ (r : ℕ). IsTrue (nat_eq (bit_and others marks) marks) ↔ AreAmong marks r)
+    c.marks-others.ensures
     (among-test marks others (omega arith))

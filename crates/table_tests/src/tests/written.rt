@@ -1,4 +1,4 @@
-//! The table of `r0 = 2; exit`, written to outputs that fail.
+//! The proof table of `r0 = 2; exit`, written to outputs that fail.
 
 use explorer::verify;
 use failing_io::{Failure, Writer};
@@ -39,18 +39,19 @@ const FAILURES: [(Failure, ErrorKind); 3] = [
     (Failure::Nothing, ErrorKind::WriteZero),
 ];
 
-/// How many bytes are written before: none, a part of the head, of entry 0, and of entry 1.
+/// How many bytes are written before the failure: none, a part of the head, the head, a part of
+/// entry 0, and all but the last byte.
 const ROOMS: [usize; 5] = [0, 5, 8, 100, 371];
 
-/// What is answered where a writer fails after `room` bytes, and what it took.
+/// What is returned if a writer fails after `room` bytes, and what it took.
 fn cut(
     alloc: Global,
     room: usize,
     failing: Failure,
 ) -> Result<(Result<(), WriteTableError>, Vec<u8>), Fail> {
     let mut writer = Writer::new(alloc, 7, room, Some(failing));
-    let answer = write_to(alloc, &mut writer)?;
-    Ok((answer, writer.taken))
+    let ended = write_to(alloc, &mut writer)?;
+    Ok((ended, writer.taken))
 }
 
 fn is_cut(
@@ -60,9 +61,9 @@ fn is_cut(
     failing: Failure,
     kind: ErrorKind,
 ) -> Result<(), Fail> {
-    let (answer, taken) = cut(rt.alloc(), room, failing)?;
+    let (ended, taken) = cut(rt.alloc(), room, failing)?;
     assert_eq!(rt;
-        (answer, Some(taken.as_slice())),
+        (ended, Some(taken.as_slice())),
         (Err(WriteTableError::Writer(kind)), table.get(..room)),
         "after {room}"
     );

@@ -26,7 +26,8 @@ unfolding assembled
 returns-in-Ok-clause-exact c = ap (λ r. error_in c.args.text.now r) c.in-Ok.ensures
 
 pub returns-in-Ok-clause-round_trip : goal.returns-in-Ok-clause-round_trip
-returns-in-Ok-clause-round_trip c = λ p h e. same_found c.in-Ok.image p (sym c.in-Ok.ensures ∙ ap (λ text. program_in text) e ∙ program_in-canonical_text p h)
+returns-in-Ok-clause-round_trip c = λ p h e. same_found c.in-Ok.image p
+    (sym c.in-Ok.ensures ∙ ap (λ text. program_in text) e ∙ program_in-canonical_text p h)
 
 pub returns-in-Err-clause-exact : goal.returns-in-Err-clause-exact
 unfolding assembled
@@ -40,5 +41,7 @@ pub returns-in-Err-clause-round_trip : goal.returns-in-Err-clause-round_trip
 returns-in-Err-clause-round_trip c = λ p h e.
     elim c.in-Err.ensures [
       | inl memory ↦ ap (λ (e : AsmError). e.kind) c.located.ensures ∙ memory
-      | inr r ↦ absurd (found-refused p c.in-Err.refusal (sym (program_in-canonical_text p h) ∙ ap (λ text. program_in text) (sym e) ∙ r))
+      | inr r ↦
+          absurd (found-refused p c.in-Err.refusal
+          (sym (program_in-canonical_text p h) ∙ ap (λ text. program_in text) (sym e) ∙ r))
     ]

@@ -1,27 +1,37 @@
 use Rattle.std.proofs.Common.{◌≡◌, ◌+◌, ◌<◌, ◌≤◌, ◌-◌, ◌^◌, ℕ, List, ap, ap₂, ◌∙◌, sym, length, take, rules, Some, None, Result, Ok, Err, arith, inr, subst}
 use Rattle.std.proofs.lemmas.List.{take_min}
-use Rattle.lexer.specs.Lexing.{lexeme_at, fault_at}
-use Rattle.lexer.proofs.LexingLaws.{fault_at-within}
+use Rattle.lexer.specs.Lexing.{lexeme_at, unknown_at}
+use Rattle.lexer.proofs.LexingLaws.{unknown_at-within}
 use Rattle.assembler.specs.declared.errors.AsmErrorKind.TheVariants.{UnknownByte}
 use Rattle.assembler.specs.declared.refusals.Refusal.{Refusal}
 use Rattle.assembler.specs.Assembling.{ReadSoFar, Answers, accept, read_on}
 use Rattle.assembler.specs.Drafts.{progress_of}
-use Rattle.assembler.proofs.TextTurns.{turn-none, turn-taken, turn-end}
+use Rattle.assembler.proofs.ReadingLoop.{loop_turn-none, loop_turn-taken, loop_turn-end}
 use Rattle.assembler.proofs.assembly.read_into.Goals as goal
 
 pub loop-rest-preserved : goal.loop-rest-preserved
 loop-rest-preserved c =
-    let at : lexeme_at c.loop-rest.rest.now ≡ Some (c.in-Ok.found.0, c.in-Ok.found.1) = sym c.in-Ok.ensures.found in
+    let at : lexeme_at c.loop-rest.rest.now ≡ Some (c.in-Ok.found.0, c.in-Ok.found.1) =
+    sym c.in-Ok.ensures.found in
     let more : 0 < length c.loop-rest.rest.now = search rules in
     let few : length c.loop-rest.rest.now ≤ length c.args.text.now = c.loop-rest.invariant.1 in
-    let bytes : take c.min.result c.loop-rest.rest.now ≡ take c.in-Ok.found.1 c.loop-rest.rest.now = ap (λ n. take n c.loop-rest.rest.now) c.min.ensures ∙ take_min c.in-Ok.found.1 c.loop-rest.rest.now in
-    let taken : accept (progress_of c.loop-rest.draft) c.in-Ok.found.0 (length c.args.text.now - length c.loop-rest.rest.now, take c.in-Ok.found.1 c.loop-rest.rest.now) ≡ Ok (progress_of c.accept.new.self) =
-    ap₂ (λ (o : ℕ) (bs : List ℕ). accept (progress_of c.loop-rest.draft) c.in-Ok.found.0 (o, bs)) (sym c.saturating_sub-offset.ensures) (sym bytes) ∙ c.in-Ok-accept.ensures
+    let bytes : take c.min.result c.loop-rest.rest.now ≡ take c.in-Ok.found.1 c.loop-rest.rest.now =
+    ap (λ n. take n c.loop-rest.rest.now) c.min.ensures
+    ∙ take_min c.in-Ok.found.1 c.loop-rest.rest.now in
+    let taken : accept (progress_of c.loop-rest.draft) c.in-Ok.found.0 (
+      length c.args.text.now - length c.loop-rest.rest.now,
+      take c.in-Ok.found.1 c.loop-rest.rest.now,
+    ) ≡ Ok (progress_of c.accept.new.self) =
+    ap₂ (λ (o : ℕ) (bs : List ℕ). accept (progress_of c.loop-rest.draft) c.in-Ok.found.0 (o, bs))
+    (sym c.saturating_sub-offset.ensures) (sym bytes) ∙ c.in-Ok-accept.ensures
     in
     let less = c.after-rest.ensures.less in (
       c.loop-rest.invariant.0
-          ∙ turn-taken c.loop-rest.rest.now (length c.args.text.now) (progress_of c.loop-rest.draft) c.in-Ok.found.0 c.in-Ok.found.1 (progress_of c.accept.new.self) more few at taken
-          ∙ ap (λ bs. read_on bs 0 (length c.args.text.now - length bs) (progress_of c.accept.new.self)) (sym c.after-rest.ensures.value),
+          ∙ loop_turn-taken c.loop-rest.rest.now (length c.args.text.now)
+          (progress_of c.loop-rest.draft) c.in-Ok.found.0 c.in-Ok.found.1
+          (progress_of c.accept.new.self) more few at taken
+          ∙ ap (λ bs. read_on bs 0 (length c.args.text.now - length bs)
+          (progress_of c.accept.new.self)) (sym c.after-rest.ensures.value),
       omega (arith, few, less),
     )
 
@@ -30,22 +40,27 @@ returns-in-Err c =
     let at : lexeme_at c.loop-rest.rest.now ≡ None = sym c.in-Err.ensures.found in
     let more : 0 < length c.loop-rest.rest.now = search rules in
     let few : length c.loop-rest.rest.now ≤ length c.args.text.now = c.loop-rest.invariant.1 in
-    let fault : c.in-Err.at ≡ fault_at c.loop-rest.rest.now = c.in-Err.ensures.fault in
-    let within : fault_at c.loop-rest.rest.now ≤ length c.loop-rest.rest.now = fault_at-within c.loop-rest.rest.now more in
+    let unknown : c.in-Err.at ≡ unknown_at c.loop-rest.rest.now = c.in-Err.ensures.fault in
+    let within : unknown_at c.loop-rest.rest.now ≤ length c.loop-rest.rest.now =
+    unknown_at-within c.loop-rest.rest.now more in
     let small : length c.args.text.now < 2 ^ 63 = search rules in
     let offset = c.saturating_sub-offset.ensures in
     let sum = c.saturating_add.ensures in
-    let place : (length c.args.text.now - length c.loop-rest.rest.now) + fault_at c.loop-rest.rest.now ≡ c.saturating_add.result = omega (arith, offset, sum, fault, within, small, few) in
+    let offset_is : (length c.args.text.now - length c.loop-rest.rest.now)
+    + unknown_at c.loop-rest.rest.now
+    ≡ c.saturating_add.result = omega (arith, offset, sum, unknown, within, small, few) in
     inr (c.loop-rest.invariant.0
-    ∙ turn-none c.loop-rest.rest.now (length c.args.text.now - length c.loop-rest.rest.now) (progress_of c.loop-rest.draft) more at
-    ∙ ap (λ o. let r : Refusal = record { kind = UnknownByte; offset = o } in Err r) place)
+    ∙ loop_turn-none c.loop-rest.rest.now (length c.args.text.now - length c.loop-rest.rest.now)
+    (progress_of c.loop-rest.draft) more at
+    ∙ ap (λ o. let r : Refusal = record { kind = UnknownByte; offset = o } in Err r) offset_is)
 
 pub returns : goal.returns
 returns c =
     let rest = c.loop-rest.rest.now in
     let none : length rest ≡ 0 = search rules in
     let same = c.loop-rest.invariant.0
-    ∙ turn-end rest (length c.args.text.now - length rest) (progress_of c.loop-rest.draft) none in
+    ∙ loop_turn-end rest (length c.args.text.now - length rest)
+    (progress_of c.loop-rest.draft) none in
     subst (λ (wanted : Result ReadSoFar Refusal).
     Answers (λ done. progress_of c.close.new.self) c.close.result wanted)
     (sym same) c.close.ensures

@@ -5,4 +5,5 @@ use Rattle.isa_model.specs.declared.limits.TheConstants.{MAX_MAP_ROOM}
 use Rattle.assembler.proofs.map_tests.has_map_room.Given as goal
 
 abbrev pub invariant-loop-other : goal.invariant-loop-other
-invariant-loop-other l = l.left + (sum_by room_of (take l.other-index l.maps) + room_of l.row) ≡ MAX_MAP_ROOM
+invariant-loop-other l =
+    l.left + (sum_by room_of (take l.other-index l.maps) + room_of l.row) ≡ MAX_MAP_ROOM

@@ -12,7 +12,10 @@ returns-in-Constant c =
     let number = c.unsigned.result in
     let small : number < 2 ^ 64 = omega arith in
     let one = c.constant.ensures in
-    let has : Has numbers number = (bits_constant_has numbers.bits number small one.0, range_constant_has numbers.range number small one.1) in
+    let has : Has numbers number = (
+      bits_constant_has numbers.bits number small one.0,
+      range_constant_has numbers.range number small one.1,
+    ) in
     let fits : FitsSigned w32 c.in-Constant.k = first_of (search rules, omega (arith, ints)) in
     let is = simp to_z-of_z at c.unsigned.ensures in
     rw c.in-Constant.is (subst (λ (n : ℕ). Has numbers n × IsConstant numbers n) is (has, one))

@@ -11,43 +11,66 @@ pub returns-in-Ok-clause-executes : goal.returns-in-Ok-clause-executes
 returns-in-Ok-clause-executes g c = (
   c.flushed.result,
   c.tell.ensures.status,
-  asked-served _ _ (request_of c.in-Ok.task) _ _ _ _ _ c.in-Ok.ensures c.serve.ensures c.flushed.ensures,
+  asked-served _ _
+      (request_of c.in-Ok.task) _ _ _ _ _ c.in-Ok.ensures c.serve.ensures c.flushed.ensures,
   c.tell.ensures.said,
 )
 
 pub returns-in-Ok-clause-wrong_words : goal.returns-in-Ok-clause-wrong_words
-returns-in-Ok-clause-wrong_words g c e = whole_silent _ (request_of c.in-Ok.task) _ _ _ _ c.flushed.result c.serve.ensures c.flushed.ensures (silent_words _ (sym c.tell.ensures.status ∙ e))
+returns-in-Ok-clause-wrong_words g c e =
+    whole_silent _
+    (request_of c.in-Ok.task) _ _ _ _ c.flushed.result c.serve.ensures c.flushed.ensures
+    (silent_words _ (sym c.tell.ensures.status ∙ e))
 
 pub returns-in-Ok-clause-no_memory : goal.returns-in-Ok-clause-no_memory
-returns-in-Ok-clause-no_memory g c e = whole_silent _ (request_of c.in-Ok.task) _ _ _ _ c.flushed.result c.serve.ensures c.flushed.ensures (silent_memory _ (sym c.tell.ensures.status ∙ e))
+returns-in-Ok-clause-no_memory g c e =
+    whole_silent _
+    (request_of c.in-Ok.task) _ _ _ _ c.flushed.result c.serve.ensures c.flushed.ensures
+    (silent_memory _ (sym c.tell.ensures.status ∙ e))
 
 pub returns-in-Ok-clause-done : goal.returns-in-Ok-clause-done
 returns-in-Ok-clause-done g c e =
-    done_by _ (request_of c.in-Ok.task) c.flushed.result.outcome c.flushed.result.why _ _ c.in-Ok.ensures (whole_knows _ (request_of c.in-Ok.task) _ _ _ _ c.flushed.result c.serve.ensures c.flushed.ensures)
+    done_by _ (request_of c.in-Ok.task) c.flushed.result.outcome c.flushed.result.why _ _
+    c.in-Ok.ensures
+    (whole_knows _
+    (request_of c.in-Ok.task) _ _ _ _ c.flushed.result c.serve.ensures c.flushed.ensures)
     (sym c.tell.ensures.status ∙ e) c.tell.ensures.unsaid c.tell.ensures.said
 
 pub returns-in-Ok-clause-faulted : goal.returns-in-Ok-clause-faulted
 returns-in-Ok-clause-faulted g c e =
-    faulted_by (request_of c.in-Ok.task) c.flushed.result.outcome c.flushed.result.why _ _ (whole_knows _ (request_of c.in-Ok.task) _ _ _ _ c.flushed.result c.serve.ensures c.flushed.ensures)
+    faulted_by (request_of c.in-Ok.task) c.flushed.result.outcome c.flushed.result.why _ _
+    (whole_knows _
+    (request_of c.in-Ok.task) _ _ _ _ c.flushed.result c.serve.ensures c.flushed.ensures)
     (sym c.tell.ensures.status ∙ e) c.tell.ensures.said
 
 pub returns-in-Ok-clause-refused : goal.returns-in-Ok-clause-refused
 returns-in-Ok-clause-refused g c e =
-    refused_by (request_of c.in-Ok.task) c.flushed.result.outcome c.flushed.result.why _ _ (whole_knows _ (request_of c.in-Ok.task) _ _ _ _ c.flushed.result c.serve.ensures c.flushed.ensures)
+    refused_by (request_of c.in-Ok.task) c.flushed.result.outcome c.flushed.result.why _ _
+    (whole_knows _
+    (request_of c.in-Ok.task) _ _ _ _ c.flushed.result c.serve.ensures c.flushed.ensures)
     (sym c.tell.ensures.status ∙ e) c.tell.ensures.said
 
 pub returns-in-Ok-clause-handed_on : goal.returns-in-Ok-clause-handed_on
 returns-in-Ok-clause-handed_on g c most apart =
-    whole_handed_on _ _ _ _ c.flushed.result c.flushed.ensures (subst (λ n. n ≤ 3) c.tell.ensures.status most) (λ e. apart (c.tell.ensures.status ∙ e))
+    whole_handed_on _ _ _ _ c.flushed.result c.flushed.ensures
+    (subst (λ n. n ≤ 3) c.tell.ensures.status most) (λ e. apart (c.tell.ensures.status ∙ e))
 
 pub returns-in-Err-clause-handed_on : goal.returns-in-Err-clause-handed_on
 returns-in-Err-clause-handed_on g c most apart =
-    absurd (unasked_status _ _ c.of_words.ensures (subst (λ n. n ≤ 3) c.tell-in-Err.ensures.status most) (λ e. apart (c.tell-in-Err.ensures.status ∙ e)))
+    absurd (unasked_status _ _ c.of_words.ensures
+    (subst (λ n. n ≤ 3) c.tell-in-Err.ensures.status most)
+    (λ e. apart (c.tell-in-Err.ensures.status ∙ e)))
 
 pub returns-in-Err-clause-executes : goal.returns-in-Err-clause-executes
 returns-in-Err-clause-executes g c =
-    let ending : Ending = record { outcome = c.of_words.result; why = None } in
-    (ending, c.tell-in-Err.ensures.status, unasked _ _ c.in-Err.error _ _ c.in-Err.ensures c.of_words.ensures, c.tell-in-Err.ensures.said)
+    let ending : Ending = record { outcome = c.of_words.result; why = None } in (
+      ending,
+      c.tell-in-Err.ensures.status,
+      unasked _ _ c.in-Err.error _ _ c.in-Err.ensures
+          c.of_words.ensures,
+      c.tell-in-Err.ensures.said,
+    )
 
 pub returns-in-Err-clause-done : goal.returns-in-Err-clause-done
-returns-in-Err-clause-done g c e = done_plain _ _ _ _ (sym c.tell-in-Err.ensures.status ∙ e) c.tell-in-Err.ensures.unsaid
+returns-in-Err-clause-done g c e =
+    done_plain _ _ _ _ (sym c.tell-in-Err.ensures.status ∙ e) c.tell-in-Err.ensures.unsaid

@@ -6,12 +6,15 @@ use Rattle.commands.proofs.rejections.say_cured.Goals as goal
 
 pub returns-in_err-say_number-clause-err : goal.returns-in_err-say_number-clause-err
 returns-in_err-say_number-clause-err g c =
-    on_err _ _ (first_failed _ _ (c.args.word.now ++ (decimal c.args.number ++ codes "\n")) (cure_line c.args.error) _ refl c.in_err-say_number.ensures.err)
+    on_err _ _ (first_failed _ _ (c.args.unit.now ++ (decimal c.args.number ++ codes "\n"))
+    (cure_line c.args.error) _ refl c.in_err-say_number.ensures.err)
 
 pub returns-clause-ok : goal.returns-clause-ok
 returns-clause-ok g c =
-    ok_behind _ _ _ _ (c.args.word.now ++ (decimal c.args.number ++ codes "\n")) (cure_line c.args.error) _ refl c.in_ok-say_number.ensures.ok c.say_cure.ensures.ok
+    ok_behind _ _ _ _ (c.args.unit.now ++ (decimal c.args.number ++ codes "\n"))
+    (cure_line c.args.error) _ refl c.in_ok-say_number.ensures.ok c.say_cure.ensures.ok
 
 pub returns-clause-err : goal.returns-clause-err
 returns-clause-err g c =
-    err_behind _ _ _ _ (c.args.word.now ++ (decimal c.args.number ++ codes "\n")) (cure_line c.args.error) _ refl c.in_ok-say_number.ensures.ok c.say_cure.ensures.err
+    err_behind _ _ _ _ (c.args.unit.now ++ (decimal c.args.number ++ codes "\n"))
+    (cure_line c.args.error) _ refl c.in_ok-say_number.ensures.ok c.say_cure.ensures.err

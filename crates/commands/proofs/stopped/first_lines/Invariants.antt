@@ -4,4 +4,5 @@ use Rattle.commands.specs.Stopped.{first_lines}
 use Rattle.commands.proofs.stopped.first_lines.Given as goal
 
 abbrev pub invariant-loop-index : goal.invariant-loop-index
-invariant-loop-index l = string_bytes l.text ++ first_lines (drop l.index l.first) ≡ first_lines l.first
+invariant-loop-index l =
+    string_bytes l.text ++ first_lines (drop l.index l.first) ≡ first_lines l.first

@@ -4,4 +4,6 @@ use Rattle.commands.proofs.Delivered.{fails_at_the_end}
 use Rattle.commands.proofs.streams.outcome_of.Goals as goal
 
 pub returns-in-Err : goal.returns-in-Err
-returns-in-Err g c = fails_at_the_end _ (waiting c.flush.new.self) _ _ _ _ _ _ _ c.in-Ok.is c.flush.ensures.bytes (refl, ap Some c.kind.ensures ∙ sym c.in-Err.ensures.recorded)
+returns-in-Err g c =
+    fails_at_the_end _ (waiting c.flush.new.self) _ _ _ _ _ _ _ c.in-Ok.is c.flush.ensures.bytes
+    (refl, ap Some c.kind.ensures ∙ sym c.in-Err.ensures.recorded)

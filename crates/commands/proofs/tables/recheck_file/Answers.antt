@@ -5,7 +5,8 @@ use Rattle.commands.proofs.tables.recheck_file.Goals as goal
 
 pub returns-in-Ok : goal.returns-in-Ok
 returns-in-Ok g c =
-    bound_said (proof_files_of c.args.proof) _ _ _ _ _ _ c.in-Ok.ensures.ok c.in-Ok.ensures.shown c.accepted.ensures c.plain.ensures.outcome c.plain.ensures.why
+    bound_said (proof_files_of c.args.proof) _ _ _ _ _ _ c.in-Ok.ensures.ok c.in-Ok.ensures.shown
+    c.accepted.ensures c.plain.ensures.outcome c.plain.ensures.why
 
 pub returns-in-Err : goal.returns-in-Err
 returns-in-Err g c = inl c.in-Err.ensures.none

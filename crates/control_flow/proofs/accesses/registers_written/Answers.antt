@@ -12,5 +12,7 @@ pub returns-in_default : goal.returns-in_default
 returns-in_default c = λ r.
     subst (λ (rs : List Reg). HasRegister c.with_found.result r ↔ IsOneOf rs r)
     (sym (written_others c.args.insn.now c.in_default.not-CallHelper c.in_default.not-CallLocal))
-    (found-with (HasRegister c.none.result r) (HasRegister c.with_found.result r) c.written.result _ r c.written.ensures
-    (λ h. none_has r (subst (λ (m : RegisterMask). HasRegister m r) c.none.ensures h)) (c.with_found.ensures r))
+    (found-with (HasRegister c.none.result r)
+    (HasRegister c.with_found.result r) c.written.result _ r c.written.ensures
+    (λ h. none_has r (subst (λ (m : RegisterMask). HasRegister m r) c.none.ensures h))
+    (c.with_found.ensures r))

@@ -12,12 +12,18 @@ loop-slot-preserved c =
     let m = c.in_ok-marks.ensures in
     let slot = c.loop-slot.slot in
     let inside : slot < length marks = omega (arith, c.len-slot-end.ensures) in
-    let read : get_or marks slot false ≡ c.index.result.now = read_at marks slot c.index.result.now false inside c.index.ensures in
+    let read : get_or marks slot false ≡ c.index.result.now =
+    read_at marks slot c.index.result.now false inside c.index.ensures in
     let each = m.each slot (omega (arith, m.same)) in
     let before = c.loop-slot.functions.items in
     elim c.if-index.branch [
       | then-index w ↦
-          rw (c.in_ok-push.ensures.items, w.function-is) (functions_more_new p slot before c.loop-slot.function (each.0 (read ∙ w.if-index.true)) c.loop-slot.invariant)
+          rw (c.in_ok-push.ensures.items, w.function-is)
+          (functions_more_new p slot before c.loop-slot.function
+          (each.0 (read ∙ w.if-index.true)) c.loop-slot.invariant)
       | else-index w ↦
-          rw (c.in_ok-push.ensures.items, w.function-is) (functions_more_old p slot before c.loop-slot.function (λ b. both_ways (get_or marks slot false) (read ∙ w.if-index.false) (each.1 b)) c.loop-slot.invariant)
+          rw (c.in_ok-push.ensures.items, w.function-is)
+          (functions_more_old p slot before c.loop-slot.function
+          (λ b. both_ways (get_or marks slot false) (read ∙ w.if-index.false) (each.1 b))
+          c.loop-slot.invariant)
     ]

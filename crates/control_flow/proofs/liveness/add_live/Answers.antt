@@ -1,12 +1,16 @@
 use Rattle.std.proofs.Common.{sym, ◌∙◌, arith}
 use Rattle.std.proofs.lemmas.Option.{slice_get-get_or}
 use Rattle.control_flow.specs.Masks.{mask_at}
-use Rattle.control_flow.proofs.Working.{step_more, masks_apart}
+use Rattle.control_flow.proofs.MaskSteps.{step_more, masks_apart}
 use Rattle.control_flow.proofs.liveness.add_live.Goals as goal
 
 pub returns : goal.returns
 returns c =
-    step_more c.args.nodes.now c.args.slot _ c.args.masks.now c.live_before.result c.or-new.result
-    (slice_get-get_or c.args.nodes.now c.args.slot _ c.requires.inside, c.live_before.ensures, c.or-new.ensures.all)
+    step_more c.args.nodes.now c.args.slot _ c.args.masks.now c.live_before.result c.or-new.result (
+      slice_get-get_or c.args.nodes.now c.args.slot _ c.requires.inside,
+      c.live_before.ensures,
+      c.or-new.ensures.all,
+    )
     (omega arith) (omega arith) (omega arith) c.or-new.ensures.registers c.or-new.ensures.slots
-    (masks_apart c.or-new.result (mask_at c.args.masks.now c.args.slot) (sym c.eq.ensures ∙ c.if-eq.false))
+    (masks_apart c.or-new.result (mask_at c.args.masks.now c.args.slot)
+    (sym c.eq.ensures ∙ c.if-eq.false))

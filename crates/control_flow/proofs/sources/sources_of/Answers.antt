@@ -16,12 +16,15 @@ jump_of c =
 
 pub index-earlier-requires : goal.index-earlier-requires
 index-earlier-requires c =
-    let inside = c.requires c.loop-slot.slot c.in-Some.to (jump_of (goal.at.index-earlier-requires c).In-Some) in
+    let inside =
+    c.requires c.loop-slot.slot c.in-Some.to
+    (jump_of (goal.at.index-earlier-requires c).In-Some) in
     omega (arith, inside, c.loop-slot.invariant.as_many)
 
 pub index_mut-requires : goal.index_mut-requires
 index_mut-requires c =
-    let inside = c.requires c.loop-slot.slot c.in-Some.to (jump_of (goal.at.index_mut-requires c).In-Some) in
+    let inside =
+    c.requires c.loop-slot.slot c.in-Some.to (jump_of (goal.at.index_mut-requires c).In-Some) in
     omega (arith, inside, c.loop-slot.invariant.as_many)
 
 pub loop-slot-preserved : goal.loop-slot-preserved
@@ -35,14 +38,20 @@ loop-slot-preserved c =
       | in-Some w ↦
           let jumps : jump_from nodes slot ≡ Some w.in-Some.to = here ∙ w.in-Some.is in
           let inside = c.requires slot w.in-Some.to jumps in
-          let within : w.in-Some.to < length last = omega (arith, inside, c.loop-slot.invariant.as_many) in
+          let within : w.in-Some.to < length last =
+          omega (arith, inside, c.loop-slot.invariant.as_many) in
           rw (c.in_ok-push.ensures.items, w.last-is, w.earlier-is)
-          (sources_more_some nodes slot w.in-Some.to last before w.index-earlier.result.now (sym jumps) inside
-          (sym (read_at last w.in-Some.to w.index-earlier.result.now None within w.index-earlier.ensures)) c.loop-slot.invariant)
+          (sources_more_some nodes slot w.in-Some.to last before w.index-earlier.result.now
+          (sym jumps) inside
+          (sym (read_at last w.in-Some.to w.index-earlier.result.now None within
+          w.index-earlier.ensures)) c.loop-slot.invariant)
       | in_default w ↦
           rw (c.in_ok-push.ensures.items, w.last-is, w.earlier-is)
-          (sources_more_none nodes slot last before (sym (here ∙ w.in_default.is)) c.loop-slot.invariant)
+          (sources_more_none nodes slot last before
+          (sym (here ∙ w.in_default.is)) c.loop-slot.invariant)
     ]
 
 pub returns : goal.returns
-returns c = AreSources-below c.args.nodes.now c.loop-slot.slot c.loop-slot.last.items c.loop-slot.before.items (omega arith) c.loop-slot.invariant
+returns c =
+    AreSources-below c.args.nodes.now c.loop-slot.slot c.loop-slot.last.items
+    c.loop-slot.before.items (omega arith) c.loop-slot.invariant

@@ -3,7 +3,10 @@ use Rattle.control_flow.proofs.StackPlaces.{byte_below, within_some}
 use Rattle.control_flow.proofs.stack_accesses.slot_of.Goals as goal
 
 pub overflow_cast-result : goal.overflow_cast-result
-overflow_cast-result c = let below = byte_below c.args.place c.byte_of.result c.in-Some.byte c.in-Some.is c.byte_of.ensures in omega (arith, below)
+overflow_cast-result c =
+    let below = byte_below c.args.place c.byte_of.result c.in-Some.byte c.in-Some.is
+    c.byte_of.ensures in omega (arith, below)
 
 pub returns-in-Some : goal.returns-in-Some
-returns-in-Some c = within_some c.args.place c.byte_of.result c.in-Some.byte c.in-Some.is c.byte_of.ensures
+returns-in-Some c =
+    within_some c.args.place c.byte_of.result c.in-Some.byte c.in-Some.is c.byte_of.ensures

@@ -8,8 +8,11 @@ pub returns-in-Some : goal.returns-in-Some
 returns-in-Some c =
     let slots = c.slots.result in
     let to = c.in-Some.to in
-    at_some (HasTarget c.args.image.now c.args.slot) (λ to. length c.args.image.now.insns ≤ to) (nat_le slots to) to c.in-Some.ensures
+    at_some (HasTarget c.args.image.now c.args.slot) (λ to. length c.args.image.now.insns ≤ to)
+    (nat_le slots to) to c.in-Some.ensures
     (λ h. let le = leb-true slots to h in omega arith, λ past. le-leb slots to (omega arith))
 
 pub returns-in-None : goal.returns-in-None
-returns-in-None c = at_none (HasTarget c.args.image.now c.args.slot) (λ to. length c.args.image.now.insns ≤ to) c.in-None.ensures
+returns-in-None c =
+    at_none (HasTarget c.args.image.now c.args.slot)
+    (λ to. length c.args.image.now.insns ≤ to) c.in-None.ensures

@@ -1,4 +1,4 @@
 use Rattle.disassembler.proofs.numbers.+push_digits.Given as goal
 
 abbrev pub decreases-push_digits : goal.decreases-push_digits
-decreases-push_digits l = l.places
+decreases-push_digits l = l.count

@@ -10,4 +10,6 @@ pub returns-in_err-write_row-clause-err : goal.returns-in_err-write_row-clause-e
 returns-in_err-write_row-clause-err g c =
     let none : MapDef = record { kind = Hash; key_size = 0; value_size = 0; entries = 0 } in
     on_err _ c.from_residual.result
-    (text_failed row_line _ _ _ c.args.rows.now c.loop-row.row-index (get_or c.args.rows.now c.loop-row.row-index none) none c.loop-row-test.true refl c.loop-row.invariant c.in_err-write_row.ensures.err)
+    (text_failed row_line _ _ _ c.args.rows.now c.loop-row.row-index
+    (get_or c.args.rows.now c.loop-row.row-index none) none c.loop-row-test.true refl
+    c.loop-row.invariant c.in_err-write_row.ensures.err)

@@ -5,5 +5,7 @@ use Rattle.explanations.proofs.turns.stack_turns.Goals as goal
 
 pub returns : goal.returns
 returns c =
-    let all : c.loop-count.count ≡ 64 = omega (arith, c.loop-count-test.false, c.loop-count.auto.count-end) in
-    subst (λ n. string_bytes c.loop-count.text ≡ stack_turns c.args.earlier.now c.args.state.now n) all c.loop-count.invariant
+    let all : c.loop-count.count ≡ 64 =
+    omega (arith, c.loop-count-test.false, c.loop-count.auto.count-end) in
+    subst (λ n. string_bytes c.loop-count.text ≡ stack_turns c.args.earlier.now c.args.state.now n)
+    all c.loop-count.invariant

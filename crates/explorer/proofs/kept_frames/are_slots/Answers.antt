@@ -1,5 +1,5 @@
 use Rattle.std.proofs.Common.{arith}
-use Rattle.explorer.proofs.PieceLaws.{slot_parts-next, slot_parts-done}
+use Rattle.explorer.proofs.GroupLaws.{slot_parts-next, slot_parts-done}
 use Rattle.explorer.proofs.kept_frames.are_slots.Goals as goal
 
 pub loop-index-preserved : goal.loop-index-preserved

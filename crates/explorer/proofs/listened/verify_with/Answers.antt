@@ -9,14 +9,16 @@ use Rattle.explorer.specs.declared.moves.Halt.TheVariants.{Refused, Stopped}
 use Rattle.explorer.specs.Listening.{IfRefused}
 use Rattle.explorer.proofs.listened.verify_with.Goals as goal
 
-accepting : {S : Type 0} (p : Program) (h : Halt S) → IsProgram p → IfRefused h (IsRefused p) → IfRefused h (λ e _. AcceptsAll p e)
+accepting : {S : Type 0} (p : Program) (h : Halt S) → IsProgram p → IfRefused h (IsRefused p)
+    → IfRefused h (λ e _. AcceptsAll p e)
 accepting p (Refused e slot) program refused = AcceptsAll-refused p e slot program refused
 accepting p (Stopped stop) program refused = tt
 
 pub returns-in-Ok-clause-bounds : goal.returns-in-Ok-clause-bounds
 returns-in-Ok-clause-bounds g c =
     let program = IsProgram-IsImage c.args.image c.recall.ensures in
-    rw c.from_within.ensures (BoundsAll-number c.args.image c.in-Ok.bound program c.in-Ok.ensures.number)
+    rw c.from_within.ensures
+    (BoundsAll-number c.args.image c.in-Ok.bound program c.in-Ok.ensures.number)
 
 pub returns-in-Err-clause-accepts : goal.returns-in-Err-clause-accepts
 returns-in-Err-clause-accepts g c =

@@ -1,5 +1,5 @@
 use Rattle.explorer.proofs.search.arrive.Goals as goal
 
-pub turn_to-requires : goal.turn_to-requires
-turn_to-requires c = λ new j below none.
+pub take_up-requires : goal.take_up-requires
+take_up-requires c = λ new j below none.
     (c.requires.forgotten new).1 j below (c.kept_slots-known.ensures j below none)

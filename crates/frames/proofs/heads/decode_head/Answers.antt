@@ -11,9 +11,12 @@ unfolding head_bytes
 returns-in-One-clause-spelled c =
     let xs = c.args.bytes.now in
     let small : EachByte xs = λ j. omega (arith, c.type_inv.bytes j) in
-    let interface : c.read_u32.result ≡ little_from 8 4 xs = c.read_u32.ensures ∙ little_from-behind 4 8 xs in
-    let queue : c.read_u32-2.result ≡ little_from 12 4 xs = c.read_u32-2.ensures ∙ little_from-behind 4 12 xs in
-    let size : c.read_u32-length.result ≡ little_from 16 4 xs = c.read_u32-length.ensures ∙ little_from-behind 4 16 xs in
+    let interface : c.read_u32.result ≡ little_from 8 4 xs =
+    c.read_u32.ensures ∙ little_from-behind 4 8 xs in
+    let queue : c.read_u32-2.result ≡ little_from 12 4 xs =
+    c.read_u32-2.ensures ∙ little_from-behind 4 12 xs in
+    let size : c.read_u32-length.result ≡ little_from 16 4 xs =
+    c.read_u32-length.ensures ∙ little_from-behind 4 16 xs in
     let one : c.args.version ≡ One = search rules in
     rw (one, c.read_u64.ensures, interface, queue, size) (little_bytes-four xs small (search rules))
 
@@ -22,9 +25,14 @@ unfolding head_bytes
 returns-in-Two-clause-spelled c =
     let xs = c.args.bytes.now in
     let small : EachByte xs = λ j. omega (arith, c.type_inv.bytes j) in
-    let interface : c.read_u32.result ≡ little_from 8 4 xs = c.read_u32.ensures ∙ little_from-behind 4 8 xs in
-    let queue : c.read_u32-2.result ≡ little_from 12 4 xs = c.read_u32-2.ensures ∙ little_from-behind 4 12 xs in
-    let size : c.read_u32-length.result ≡ little_from 16 4 xs = c.read_u32-length.ensures ∙ little_from-behind 4 16 xs in
-    let reason : c.read_u32-in-Two.result ≡ little_from 20 4 xs = c.read_u32-in-Two.ensures ∙ little_from-behind 4 20 xs in
+    let interface : c.read_u32.result ≡ little_from 8 4 xs =
+    c.read_u32.ensures ∙ little_from-behind 4 8 xs in
+    let queue : c.read_u32-2.result ≡ little_from 12 4 xs =
+    c.read_u32-2.ensures ∙ little_from-behind 4 12 xs in
+    let size : c.read_u32-length.result ≡ little_from 16 4 xs =
+    c.read_u32-length.ensures ∙ little_from-behind 4 16 xs in
+    let reason : c.read_u32-in-Two.result ≡ little_from 20 4 xs =
+    c.read_u32-in-Two.ensures ∙ little_from-behind 4 20 xs in
     let two : c.args.version ≡ Two = search rules in
-    rw (two, c.read_u64.ensures, interface, queue, size, reason) (little_bytes-five xs small (search rules))
+    rw (two, c.read_u64.ensures, interface, queue, size, reason)
+    (little_bytes-five xs small (search rules))

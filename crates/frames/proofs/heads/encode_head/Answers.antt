@@ -4,4 +4,5 @@ use Rattle.frames.proofs.heads.encode_head.Goals as goal
 
 pub returns : goal.returns
 unfolding head_bytes
-returns c = rw (c.write_u32-3.ensures, c.write_u32-2.ensures, c.write_u32.ensures, c.write_u64.ensures) refl
+returns c =
+    rw (c.write_u32-3.ensures, c.write_u32-2.ensures, c.write_u32.ensures, c.write_u64.ensures) refl

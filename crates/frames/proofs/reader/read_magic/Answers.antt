@@ -3,10 +3,13 @@ use Rattle.frames.proofs.Findings.{magic_failed, magic_ended, magic_wrong, may_b
 use Rattle.frames.proofs.reader.read_magic.Goals as goal
 
 pub returns-in-Failed-clause-bytes : goal.returns-in-Failed-clause-bytes
-returns-in-Failed-clause-bytes g c = magic_failed _ _ _ _ c.fill.auto.buffer c.in-Failed.ensures.0 c.in-Failed.ensures.1
+returns-in-Failed-clause-bytes g c =
+    magic_failed _ _ _ _ c.fill.auto.buffer c.in-Failed.ensures.0 c.in-Failed.ensures.1
 
 pub returns-in-Ended-clause-bytes : goal.returns-in-Ended-clause-bytes
-returns-in-Ended-clause-bytes g c = magic_ended _ _ _ _ c.fill.auto.buffer c.in-Ended.ensures.0 c.in-Ended.ensures.1 c.in-Ended.ensures.2
+returns-in-Ended-clause-bytes g c =
+    magic_ended _ _ _ _ c.fill.auto.buffer c.in-Ended.ensures.0 c.in-Ended.ensures.1
+    c.in-Ended.ensures.2
 
 pub returns-in-Failed-clause-room : goal.returns-in-Failed-clause-room
 returns-in-Failed-clause-room g c = may_fail
@@ -16,7 +19,8 @@ returns-in-Ended-clause-room g c = may_be_short
 
 pub returns-else-eq-2-clause-bytes : goal.returns-else-eq-2-clause-bytes
 returns-else-eq-2-clause-bytes g c =
-    magic_wrong _ _ _ c.fill.auto.buffer (sym c.eq.ensures ∙ c.if-eq.false) (sym c.eq-else-eq.ensures ∙ c.if-eq-2.false) c.in-Whole.ensures
+    magic_wrong _ _ _ c.fill.auto.buffer (sym c.eq.ensures ∙ c.if-eq.false)
+    (sym c.eq-else-eq.ensures ∙ c.if-eq-2.false) c.in-Whole.ensures
 
 pub returns-else-eq-2-clause-room : goal.returns-else-eq-2-clause-room
 returns-else-eq-2-clause-room g c = may_be_short

@@ -3,15 +3,20 @@ use Rattle.host.proofs.Pieces.{line_failed, frame_kept, frame_sent, record_faile
 use Rattle.host.proofs.engine.run_frame.Goals as goal
 
 pub returns-in-Err-clause-writes : goal.returns-in-Err-clause-writes
-returns-in-Err-clause-writes g c = line_failed _ _ _ _ _ c.run-end.ensures.ends _ (search rules) _ _ _ c.in-Err.ensures.err
+returns-in-Err-clause-writes g c =
+    line_failed _ _ _ _ _ c.run-end.ensures.ends _ (search rules) _ _ _ c.in-Err.ensures.err
 
 pub returns-in-Err-write_record-clause-writes : goal.returns-in-Err-write_record-clause-writes
 returns-in-Err-write_record-clause-writes g c =
-    record_failed _ _ _ _ _ c.run-end.ensures.ends _ (search rules) _ c.run-end.ensures.body _ (search rules) (search rules) _ _ _ _ c.in-Ok.ensures.ok c.in-Err-write_record.ensures.err
+    record_failed _ _ _ _ _ c.run-end.ensures.ends _ (search rules) _ c.run-end.ensures.body _
+    (search rules) (search rules) _ _ _ _ c.in-Ok.ensures.ok c.in-Err-write_record.ensures.err
 
 pub returns-in-Ok-write_record-clause-writes : goal.returns-in-Ok-write_record-clause-writes
 returns-in-Ok-write_record-clause-writes g c =
-    frame_sent _ _ _ _ _ c.run-end.ensures.ends _ (search rules) _ c.run-end.ensures.body _ (search rules) (search rules) _ _ _ _ c.in-Ok.ensures.ok c.in-Ok-write_record.ensures.ok
+    frame_sent _ _ _ _ _ c.run-end.ensures.ends _ (search rules) _ c.run-end.ensures.body _
+    (search rules) (search rules) _ _ _ _ c.in-Ok.ensures.ok c.in-Ok-write_record.ensures.ok
 
 pub returns-else-is_written-clause-writes : goal.returns-else-is_written-clause-writes
-returns-else-is_written-clause-writes g c = frame_kept _ _ _ _ _ c.run-end.ensures.ends _ (search rules) _ _ _ (search rules) c.in-Ok.ensures.ok
+returns-else-is_written-clause-writes g c =
+    frame_kept _ _ _ _ _ c.run-end.ensures.ends _ (search rules) _ _ _
+    (search rules) c.in-Ok.ensures.ok

@@ -6,13 +6,17 @@ use Rattle.host.proofs.engine.run_frames.Goals as goal
 pub returns-in-Err-clause-reports : goal.returns-in-Err-clause-reports
 returns-in-Err-clause-reports g c =
     magic_failed _ _ _ _ _ _ _ _ _ _ _ _ _ _
-    (begin_opens _ _ _ _ _ _ _ (search rules) (search rules) c.begin.ensures.opens c.begin.ensures.answers c.version_begun-stream.ensures) c.in-Err.ensures.err
+    (begin_opens _ _ _ _ _ _ _ (search rules)
+    (search rules) c.begin.ensures.opens c.begin.ensures.answers c.version_begun-stream.ensures)
+    c.in-Err.ensures.err
 
 pub turns-init : goal.turns-init
 turns-init g c = (
   _,
   no_turn _ _ _ _ _ _ _ _ _ _
-      (begin_opens _ _ _ _ _ _ _ (search rules) (search rules) c.begin.ensures.opens c.begin.ensures.answers c.version_begun-stream.ensures) refl c.in-Ok.ensures.ok,
+      (begin_opens _ _ _ _ _ _ _ (search rules)
+      (search rules) c.begin.ensures.opens c.begin.ensures.answers
+      c.version_begun-stream.ensures) refl c.in-Ok.ensures.ok,
   refl,
   refl,
   refl,
@@ -23,24 +27,31 @@ pub turns-preserved : goal.turns-preserved
 turns-preserved g c =
     let (frames, s, r, q, m, k) = c.turns.invariant in (
       _,
-      turn_more _ _ _ _ _ frames _ _ _ _ _ _ _ s _ c.in-Frame.ensures.finds _ _ (rw (← r) c.in-Ok-take_frame.ensures.writes) (rw (← r) c.in-Ok-take_frame.ensures.contents),
+      turn_more _ _ _ _ _ frames _ _ _ _ _ _ _ s _ c.in-Frame.ensures.finds _ _
+          (rw (← r) c.in-Ok-take_frame.ensures.writes)
+          (rw (← r) c.in-Ok-take_frame.ensures.contents),
       search rules,
       search rules,
       search rules,
-      noted_more _ _ _ _ frames _ _ _ _ _ _ m k s.numbered s.carried c.in-Ok-take_frame.ensures.noted,
+      noted_more _ _ _ _ frames _ _ _ _ _ _ m k s.numbered s.carried
+          c.in-Ok-take_frame.ensures.noted,
     )
 
 pub returns-in-Err-take_frame-clause-reports : goal.returns-in-Err-take_frame-clause-reports
 returns-in-Err-take_frame-clause-reports g c =
     let (frames, s, r, q, m, k) = c.turns.invariant in
-    turn_failed _ _ _ _ _ _ _ _ _ _ frames _ _ _ _ _ _ _ _ _ _ s c.in-Frame.ensures.finds (rw (← r) c.in-Err-take_frame.ensures.writes)
+    turn_failed _ _ _ _ _ _ _ _ _ _ frames _ _ _ _ _ _ _ _ _ _ s c.in-Frame.ensures.finds
+    (rw (← r) c.in-Err-take_frame.ensures.writes)
 
 pub returns-in-End-clause-reports : goal.returns-in-End-clause-reports
 returns-in-End-clause-reports g c =
     let (frames, s, r, q, m, k) = c.turns.invariant in
-    run_ended _ _ _ _ _ _ _ _ _ _ frames _ _ _ _ _ _ _ _ _ _ _ _ s c.in-End.ensures.finds (rw (← q) (c.end_run.ensures.writes _)) c.end_run.ensures.tally c.end_run.ensures.noted k
+    run_ended _ _ _ _ _ _ _ _ _ _ frames _ _ _ _ _ _ _ _ _ _ _ _ s c.in-End.ensures.finds
+    (rw (← q) (c.end_run.ensures.writes _)) c.end_run.ensures.tally c.end_run.ensures.noted k
 
 pub returns-in-Fault-clause-reports : goal.returns-in-Fault-clause-reports
 returns-in-Fault-clause-reports g c =
     let (frames, s, r, q, m, k) = c.turns.invariant in
-    run_ended _ _ _ _ _ _ _ _ _ _ frames _ _ _ _ _ _ _ _ _ _ _ _ s c.in-Fault.ensures.finds (rw (← q) (c.end_run-in-Fault.ensures.writes _)) c.end_run-in-Fault.ensures.tally c.end_run-in-Fault.ensures.noted k
+    run_ended _ _ _ _ _ _ _ _ _ _ frames _ _ _ _ _ _ _ _ _ _ _ _ s c.in-Fault.ensures.finds
+    (rw (← q) (c.end_run-in-Fault.ensures.writes _)) c.end_run-in-Fault.ensures.tally
+    c.end_run-in-Fault.ensures.noted k

@@ -1,5 +1,5 @@
 use Rattle.std.proofs.Common.{rules, ◌<◌, length, refl, arith}
-use Rattle.host.proofs.Listing.{no_piece, AreListed-map_at, map_written, entries_failed, maps_whole}
+use Rattle.host.proofs.Listing.{no_piece, AreListed-map_at, map_written, pairs_failed, maps_whole}
 use Rattle.host.proofs.listings.write_maps.Goals as goal
 
 pub loop-i-init : goal.loop-i-init
@@ -9,19 +9,25 @@ pub write_key_values-requires : goal.write_key_values-requires
 write_key_values-requires g c =
     let ms = c.args.maps.now in
     let inside : c.loop-i.i < length ms = omega arith in
-    rw (c.row-row.ensures, c.order.ensures.entries, c.loop-i.invariant.1) (AreListed-map_at ms c.loop-i.i inside c.count-i-end.ensures.maps)
+    rw (c.row-row.ensures, c.order.ensures.entries, c.loop-i.invariant.1)
+    (AreListed-map_at ms c.loop-i.i inside c.count-i-end.ensures.maps)
 
 pub loop-i-preserved : goal.loop-i-preserved
 loop-i-preserved g c =
     let ms = c.args.maps.now in
-    let inside : c.loop-i.i < length ms = omega arith in
-    (map_written ms c.loop-i.maps c.loop-i.i inside _ c.order.ensures.entries c.loop-i.invariant.1 _ _ _ c.loop-i.invariant.0 c.in-Ok.ensures.writes, search rules)
+    let inside : c.loop-i.i < length ms = omega arith in (
+      map_written ms c.loop-i.maps c.loop-i.i inside _ c.order.ensures.entries
+          c.loop-i.invariant.1 _ _ _ c.loop-i.invariant.0 c.in-Ok.ensures.writes,
+      search rules,
+    )
 
 pub returns-in-Err-clause-writes : goal.returns-in-Err-clause-writes
 returns-in-Err-clause-writes g c =
     let ms = c.args.maps.now in
     let inside : c.loop-i.i < length ms = omega arith in
-    entries_failed ms c.loop-i.maps c.loop-i.i inside _ c.order.ensures.entries c.loop-i.invariant.1 _ _ _ _ c.loop-i.invariant.0 c.in-Err.ensures.writes
+    pairs_failed ms c.loop-i.maps c.loop-i.i inside _ c.order.ensures.entries c.loop-i.invariant.1
+    _ _ _ _ c.loop-i.invariant.0 c.in-Err.ensures.writes
 
 pub returns-clause-writes : goal.returns-clause-writes
-returns-clause-writes g c = maps_whole c.args.maps.now c.loop-i.i _ _ (omega arith) c.loop-i.invariant.0
+returns-clause-writes g c =
+    maps_whole c.args.maps.now c.loop-i.i _ _ (omega arith) c.loop-i.invariant.0

@@ -25,12 +25,17 @@ record Grown (insns : List Insn) (k : ℕ) (next : Slots) : Type 0 where
   all : next ≡ slots (take k insns)
   code : IsCode false next
 
-grown : (insns : List Insn) (k : ℕ) (code next : Slots) → k < length insns → code ≡ slots (take k insns) → IsCode false code → InsnFits (get_or insns k none_such) → next ≡ code ++ slots (get_or insns k none_such ∷ []) → Grown insns (k + 1) next
+grown : (insns : List Insn) (k : ℕ) (code next : Slots) → k < length insns
+    → code ≡ slots (take k insns) → IsCode false code → InsnFits (get_or insns k none_such)
+    → next ≡ code ++ slots (get_or insns k none_such ∷ []) → Grown insns (k + 1) next
 grown insns k code next below all ok fits e =
     let i : Insn = get_or insns k none_such in
     record {
-      all = e ∙ ap (λ (l : Slots). l ++ slots (i ∷ [])) all ∙ sym (slots-append (take k insns) (i ∷ [])) ∙ ap (λ (l : List Insn). slots l) (sym (take_more insns k none_such below));
-      code = subst (λ (l : Slots). IsCode false l) (sym e) (IsCode-append code (slots (i ∷ [])) false ok (IsCode-one i fits));
+      all = e ∙ ap (λ (l : Slots). l ++ slots (i ∷ [])) all
+          ∙ sym (slots-append (take k insns) (i ∷ []))
+          ∙ ap (λ (l : List Insn). slots l) (sym (take_more insns k none_such below));
+      code = subst (λ (l : Slots). IsCode false l) (sym e)
+          (IsCode-append code (slots (i ∷ [])) false ok (IsCode-one i fits));
     }
 
 pub loop-insn-preserved : goal.loop-insn-preserved
@@ -42,14 +47,20 @@ loop-insn-preserved c =
     elim c.if-slots-eq2.branch [
       | then-slots-eq2+in_ok-push-2 w ↦
           let e : c.if-slots-eq2.code.items ≡ before ++ slots (i ∷ []) =
-          ap (λ v. v.items) w.code-is ∙ w.in_ok-push-2.ensures.items ∙ ap (λ (l : Slots). l ++ None ∷ []) c.in_ok-push.ensures.items ∙ append_assoc before (Some i ∷ []) (None ∷ [])
-          ∙ ap (λ (l : Slots). before ++ l) (sym (slots-two i (sym c.slots.ensures ∙ w.if-slots-eq2.true))) in
-          let g = grown insns k before c.if-slots-eq2.code.items c.loop-insn-test.true c.loop-insn.invariant.all c.loop-insn.invariant.code c.numbers_fit.ensures e in
+          ap (λ v. v.items) w.code-is ∙ w.in_ok-push-2.ensures.items
+          ∙ ap (λ (l : Slots). l ++ None ∷ []) c.in_ok-push.ensures.items
+          ∙ append_assoc before (Some i ∷ []) (None ∷ [])
+          ∙ ap (λ (l : Slots). before ++ l)
+          (sym (slots-two i (sym c.slots.ensures ∙ w.if-slots-eq2.true))) in
+          let g = grown insns k before c.if-slots-eq2.code.items c.loop-insn-test.true
+          c.loop-insn.invariant.all c.loop-insn.invariant.code c.numbers_fit.ensures e in
           record { all = g.all; code = g.code }
       | else-slots-eq2 w ↦
           let e : c.if-slots-eq2.code.items ≡ before ++ slots (i ∷ []) =
           ap (λ v. v.items) w.code-is ∙ c.in_ok-push.ensures.items
-          ∙ ap (λ (l : Slots). before ++ l) (sym (slots-one i (λ two. w.if-slots-eq2.false (c.slots.ensures ∙ two)))) in
-          let g = grown insns k before c.if-slots-eq2.code.items c.loop-insn-test.true c.loop-insn.invariant.all c.loop-insn.invariant.code c.numbers_fit.ensures e in
+          ∙ ap (λ (l : Slots). before ++ l)
+          (sym (slots-one i (λ two. w.if-slots-eq2.false (c.slots.ensures ∙ two)))) in
+          let g = grown insns k before c.if-slots-eq2.code.items c.loop-insn-test.true
+          c.loop-insn.invariant.all c.loop-insn.invariant.code c.numbers_fit.ensures e in
           record { all = g.all; code = g.code }
     ]

@@ -11,5 +11,9 @@ returns-clause-err g c =
     let insn = c.args.insn.now in
     let n = c.encode-length.result in
     let same : take n c.encode-length.new.out ≡ spelling_of insn =
-    ap (take n) c.encode-length.ensures.bytes ∙ take_at (spelling_of insn) _ n (length-spelling_of insn ∙ sym c.encode-length.ensures.length) in
-    subst (λ (l : List ℕ). OnErr c.write_bytes.result (AppendsBeginning (g.W.Write.contents c.args.writer.now) (g.W.Write.contents c.write_bytes.new.writer) l)) same c.write_bytes.ensures.err
+    ap (take n) c.encode-length.ensures.bytes
+    ∙ take_at (spelling_of insn) _ n
+    (length-spelling_of insn ∙ sym c.encode-length.ensures.length) in
+    subst (λ (l : List ℕ). OnErr c.write_bytes.result
+    (AppendsBeginning (g.W.Write.contents c.args.writer.now)
+    (g.W.Write.contents c.write_bytes.new.writer) l)) same c.write_bytes.ensures.err

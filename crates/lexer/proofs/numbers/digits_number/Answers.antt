@@ -4,5 +4,11 @@ use Rattle.lexer.specs.Lexing.{digits_number}
 use Rattle.lexer.proofs.numbers.digits_number.Goals as goal
 
 pub loop-c-preserved : goal.loop-c-preserved
-loop-c-preserved c =
-    (c.add_digit-n.ensures.low, c.loop-c.invariant.1 ∙ ap (digits_number c.args.base c.loop-c.n) (drop_more c.args.digits.now c.loop-c.c-index 0 c.loop-c-test.true) ∙ ap (λ n. digits_number c.args.base n (drop (c.loop-c.c-index + 1) c.args.digits.now)) (sym c.add_digit-n.ensures.value))
+loop-c-preserved c = (
+  c.add_digit-n.ensures.low,
+  c.loop-c.invariant.1
+      ∙ ap (digits_number c.args.base c.loop-c.n)
+      (drop_more c.args.digits.now c.loop-c.c-index 0 c.loop-c-test.true)
+      ∙ ap (λ n. digits_number c.args.base n (drop (c.loop-c.c-index + 1) c.args.digits.now))
+      (sym c.add_digit-n.ensures.value),
+)

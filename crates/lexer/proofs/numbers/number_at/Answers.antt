@@ -3,11 +3,18 @@ use Rattle.std.specs.Prelude.{IfErr}
 use Rattle.std.specs.List.{prefix_len}
 use Rattle.std.specs.Char.{is_digit}
 use Rattle.std.proofs.lemmas.List.{take_rest}
-use Rattle.lexer.specs.Lexing.{number_after, number_fault}
+use Rattle.lexer.specs.Lexing.{number_after, number_end}
 use Rattle.lexer.proofs.numbers.number_at.Goals as goal
 
 pub returns-clause-found : goal.returns-clause-found
-returns-clause-found c = c.number_after.ensures.found ∙ ap (number_after c.args.base c.args.skip c.args.text.now) (c.digits_len.ensures.value ∙ ap (prefix_len (λ b. is_digit b c.args.base)) (take_rest c.args.text.now c.args.skip))
+returns-clause-found c = c.number_after.ensures.found
+    ∙ ap (number_after c.args.base c.args.skip c.args.text.now)
+    (c.digits_len.ensures.value
+    ∙ ap (prefix_len (λ b. is_digit b c.args.base)) (take_rest c.args.text.now c.args.skip))
 
 pub returns-clause-fault : goal.returns-clause-fault
-returns-clause-fault c = subst (λ n. IfErr c.number_after.result (λ at. at ≡ number_fault c.args.skip n)) (c.digits_len.ensures.value ∙ ap (prefix_len (λ b. is_digit b c.args.base)) (take_rest c.args.text.now c.args.skip)) c.number_after.ensures.fault
+returns-clause-fault c = subst
+    (λ n. IfErr c.number_after.result (λ at. at ≡ number_end c.args.skip n))
+    (c.digits_len.ensures.value
+    ∙ ap (prefix_len (λ b. is_digit b c.args.base))
+    (take_rest c.args.text.now c.args.skip)) c.number_after.ensures.fault

@@ -11,7 +11,8 @@ returns-in_err-place g c =
     let size = (g.S.MapStore.row_of s).value_size in
     let block = g.S.MapStore.block s in
     ap option_copied c.from_residual.ensures
-    ∙ sym (at_key-content size (g.S.MapStore.places s) block c.args.key.now ∙ ap (option_map (row_at size block)) (sym c.in_err-place.ensures))
+    ∙ sym (at_key-content size (g.S.MapStore.places s) block c.args.key.now
+    ∙ ap (option_map (row_at size block)) (sym c.in_err-place.ensures))
 
 pub returns : goal.returns
 returns g c =
@@ -19,4 +20,5 @@ returns g c =
     let size = (g.S.MapStore.row_of s).value_size in
     let block = g.S.MapStore.block s in
     ap Some c.value.ensures
-    ∙ sym (at_key-content size (g.S.MapStore.places s) block c.args.key.now ∙ ap (option_map (row_at size block)) (sym c.in_ok-place.ensures))
+    ∙ sym (at_key-content size (g.S.MapStore.places s) block c.args.key.now
+    ∙ ap (option_map (row_at size block)) (sym c.in_ok-place.ensures))

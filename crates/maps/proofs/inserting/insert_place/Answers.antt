@@ -15,12 +15,13 @@ room_left : (c : goal.After-insert-inserted)
     → vec_len c.args.list.now < vec_capacity c.args.list.now
 room_left c =
     let s = c.args.index.now in
-    let P = places s.keys.slots in
+    let P = places s.keys.by_place in
     let all = c.count_below-at.ensures.inserted c.args.place c.requires.place in
     let more = length-inserted c.as_slice.result.now c.count_below-at.result c.args.place in
     let lists = ap length all in
     let listed = ap length c.as_slice.ensures.value in
-    let few = scan_few s.keys.slots (length s.keys.slots - length s.free.items) s.index.scan in
+    let few =
+    scan_few s.keys.by_place (length s.keys.by_place - length s.free.items) s.index.scan in
     let counted = len-entries P in
     let long = length-values_of P in
     let ok = c.args.list.now.ok.0 in

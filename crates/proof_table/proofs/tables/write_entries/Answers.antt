@@ -10,23 +10,32 @@ loop-index-init g c = GainsEntries-none c.args.image.now _
 
 pub returns-in_default-clause-err : goal.returns-in_default-clause-err
 returns-in_default-clause-err g c =
-    BeginsEntries-some c.args.image.now c.loop-index.index c.args.count _ _ c.recall.ensures c.loop-index-test.true c.loop-index.invariant
+    BeginsEntries-some c.args.image.now c.loop-index.index c.args.count _ _ c.recall.ensures
+    c.loop-index-test.true c.loop-index.invariant
 
 pub returns-in_err-spell_explored-clause-err : goal.returns-in_err-spell_explored-clause-err
 returns-in_err-spell_explored-clause-err g c =
     on_err _ c.from_residual.result
-    (BeginsEntries-some c.args.image.now c.loop-index.index c.args.count _ _ c.recall.ensures c.loop-index-test.true c.loop-index.invariant)
+    (BeginsEntries-some c.args.image.now c.loop-index.index c.args.count _ _ c.recall.ensures
+    c.loop-index-test.true c.loop-index.invariant)
 
 pub returns-in_err-write_all-clause-err : goal.returns-in_err-write_all-clause-err
 returns-in_err-write_all-clause-err g c =
-    let part = subst (λ (l : List ℕ). AppendsBeginning (g.W.Write.contents c.loop-index.writer) (g.W.Write.contents c.write_all.new.writer) l) c.deref.ensures.value
+    let part = subst
+    (λ (l : List ℕ). AppendsBeginning (g.W.Write.contents c.loop-index.writer)
+    (g.W.Write.contents c.write_all.new.writer) l) c.deref.ensures.value
     c.in_err-write_all.ensures.err in
     on_err _ c.from_residual-in_err-write_all.result
-    (BeginsEntries-part c.args.image.now c.loop-index.index c.args.count _ _ _ _ c.spell_explored.new.buffer.items c.recall.ensures c.loop-index-test.true c.loop-index.invariant
+    (BeginsEntries-part c.args.image.now c.loop-index.index c.args.count _ _ _ _
+    c.spell_explored.new.buffer.items c.recall.ensures c.loop-index-test.true
+    c.loop-index.invariant
     c.in_ok-spell_explored.ensures.ok part)
 
 pub loop-index-preserved : goal.loop-index-preserved
 loop-index-preserved g c =
-    let whole = subst (λ (l : List ℕ). Appends (g.W.Write.contents c.loop-index.writer) (g.W.Write.contents c.write_all.new.writer) l) c.deref.ensures.value
+    let whole = subst
+    (λ (l : List ℕ). Appends (g.W.Write.contents c.loop-index.writer)
+    (g.W.Write.contents c.write_all.new.writer) l) c.deref.ensures.value
     c.in_ok-write_all.ensures.ok in
-    GainsEntries-more c.args.image.now c.loop-index.index _ _ _ _ c.spell_explored.new.buffer.items c.loop-index.invariant c.in_ok-spell_explored.ensures.ok whole
+    GainsEntries-more c.args.image.now c.loop-index.index _ _ _ _ c.spell_explored.new.buffer.items
+    c.loop-index.invariant c.in_ok-spell_explored.ensures.ok whole

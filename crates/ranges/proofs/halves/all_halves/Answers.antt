@@ -29,4 +29,5 @@ returns-in-Full16-clause-contains c = λ x.
     rw c.in-Full16.is (c.signed_between-in-Full16.ensures.members _ (half_below Full16 x) h.0 h.1)
 
 pub returns-in-Full32-clause-contains : goal.returns-in-Full32-clause-contains
-returns-in-Full32-clause-contains c = λ x. (c.any.ensures.members _).1 (half_below c.args.extension x)
+returns-in-Full32-clause-contains c =
+    λ x. (c.any.ensures.members _).1 (half_below c.args.extension x)

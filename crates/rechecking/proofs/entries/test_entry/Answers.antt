@@ -4,4 +4,7 @@ use Rattle.rechecking.proofs.entries.test_entry.Goals as goal
 pub returns-in-Ok-clause-known : goal.returns-in-Ok-clause-known
 returns-in-Ok-clause-known c =
     let p = c.args.image.now in
-    c.turned.ensures p (entry_at p c.test_standing-in-Second.new.growing.table) c.test_standing-in-Second.new.state c.test_standing-in-Second.new.room c.in-Ok.ensures.known
+    c.swapped.ensures p
+    (entry_at p c.test_read_entry-in-Second.new.growing.table)
+    c.test_read_entry-in-Second.new.state c.test_read_entry-in-Second.new.room
+    c.in-Ok.ensures.known

@@ -2,7 +2,7 @@ use Rattle.std.proofs.Common.{◌∙◌, ◌++◌, ap, inr}
 use Rattle.std.specs.String.{string_bytes}
 use Rattle.isa_model.specs.Code.Instructions.{fetch}
 use Rattle.refusal_texts.specs.Texts.{program_front, insn_end}
-use Rattle.refusal_texts.proofs.Telling.{joined}
+use Rattle.refusal_texts.proofs.TextParts.{joined}
 use Rattle.refusal_texts.proofs.texts.program_text.Goals as goal
 
 pub returns-in-Ok-extend_from_slice : goal.returns-in-Ok-extend_from_slice

@@ -4,7 +4,8 @@ use Rattle.reg_state.proofs.comparisons.related_low.Goals as goal
 
 pub returns-in_err-left-clause-common : goal.returns-in_err-left-clause-common
 returns-in_err-left-clause-common g c = λ x y hx hy e.
-    absurd (c.in_err-left.ensures.common x y hx hy (goes c.args.comparison Low32 c.args.taken x y e))
+    absurd (c.in_err-left.ensures.common x y hx hy
+    (goes c.args.comparison Low32 c.args.taken x y e))
 
 pub returns-then-not-reads_whole-clause-common : goal.returns-then-not-reads_whole-clause-common
 returns-then-not-reads_whole-clause-common g c = λ x y hx hy e.
@@ -12,24 +13,31 @@ returns-then-not-reads_whole-clause-common g c = λ x y hx hy e.
 
 pub returns-in_err-whole_left-clause-common : goal.returns-in_err-whole_left-clause-common
 returns-in_err-whole_left-clause-common g c = λ x y hx hy e.
-    absurd (c.in_err-whole_left.ensures.common x y hx hy (c.reads_whole.ensures.sound c.if-not-reads_whole.false x y hx hy c.args.taken e))
+    absurd (c.in_err-whole_left.ensures.common x y hx hy
+    (c.reads_whole.ensures.sound c.if-not-reads_whole.false x y hx hy c.args.taken e))
 
 pub returns-in_err-first-clause-common : goal.returns-in_err-first-clause-common
 returns-in_err-first-clause-common g c = λ x y hx hy e.
-    let half = c.in_ok-left.ensures.common x y hx hy (goes c.args.comparison Low32 c.args.taken x y e) in
-    let whole = c.in_ok-whole_left.ensures.common x y hx hy (c.reads_whole.ensures.sound c.if-not-reads_whole.false x y hx hy c.args.taken e) in
+    let half = c.in_ok-left.ensures.common x y hx hy
+    (goes c.args.comparison Low32 c.args.taken x y e) in
+    let whole = c.in_ok-whole_left.ensures.common x y hx hy
+    (c.reads_whole.ensures.sound c.if-not-reads_whole.false x y hx hy c.args.taken e) in
     absurd (c.in_err-first.ensures.common x half.0 whole.0)
 
 pub returns-in_err-second-clause-common : goal.returns-in_err-second-clause-common
 returns-in_err-second-clause-common g c = λ x y hx hy e.
-    let half = c.in_ok-left.ensures.common x y hx hy (goes c.args.comparison Low32 c.args.taken x y e) in
-    let whole = c.in_ok-whole_left.ensures.common x y hx hy (c.reads_whole.ensures.sound c.if-not-reads_whole.false x y hx hy c.args.taken e) in
+    let half = c.in_ok-left.ensures.common x y hx hy
+    (goes c.args.comparison Low32 c.args.taken x y e) in
+    let whole = c.in_ok-whole_left.ensures.common x y hx hy
+    (c.reads_whole.ensures.sound c.if-not-reads_whole.false x y hx hy c.args.taken e) in
     absurd (c.in_err-second.ensures.common y half.1 whole.1)
 
 pub returns-clause-common : goal.returns-clause-common
 returns-clause-common g c = λ x y hx hy e.
-    let half = c.in_ok-left.ensures.common x y hx hy (goes c.args.comparison Low32 c.args.taken x y e) in
-    let whole = c.in_ok-whole_left.ensures.common x y hx hy (c.reads_whole.ensures.sound c.if-not-reads_whole.false x y hx hy c.args.taken e) in
+    let half = c.in_ok-left.ensures.common x y hx hy
+    (goes c.args.comparison Low32 c.args.taken x y e) in
+    let whole = c.in_ok-whole_left.ensures.common x y hx hy
+    (c.reads_whole.ensures.sound c.if-not-reads_whole.false x y hx hy c.args.taken e) in
     (c.in_ok-first.ensures.common x half.0 whole.0, c.in_ok-second.ensures.common y half.1 whole.1)
 
 pub returns-clause-left : goal.returns-clause-left

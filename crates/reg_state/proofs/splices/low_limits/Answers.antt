@@ -7,7 +7,8 @@ use Rattle.reg_state.proofs.splices.low_limits.Goals as goal
 most_is : (count : ℕ) → count ≤ 64 → (2 ^ 64 - 1) / 2 ^ (64 - count) + 1 ≡ 2 ^ count
 most_is count h =
     let ones = ones_shr 64 (64 - count) (omega arith) in
-    let same : 2 ^ (64 - (64 - count)) ≡ 2 ^ count = ap (λ k. 2 ^ k) (let e : 64 - (64 - count) ≡ count = omega arith in e) in
+    let same : 2 ^ (64 - (64 - count)) ≡ 2 ^ count =
+    ap (λ k. 2 ^ k) (let e : 64 - (64 - count) ≡ count = omega arith in e) in
     let some = pow_pos count in
     omega arith
 

@@ -1,6 +1,6 @@
 use Rattle.std.proofs.Common.{ℕ, List, length, ap, ◌∙◌}
 use Rattle.verdict_calls.specs.Crossing.{filled}
-use Rattle.run_calls.specs.Streams.{told}
+use Rattle.run_calls.specs.Streams.{streamed_of}
 use Rattle.run_calls.proofs.streaming.run_stream.Goals as goal
 
 pub returns-clause-ran : goal.returns-clause-ran
@@ -12,13 +12,22 @@ returns-clause-ran c = λ _.
     let sent_size = c.fill-forwarded.ensures.count ∙ ap (λ (l : List ℕ). length l) sent in
     record {
       bound = c.in-Ok.verified.bound;
-      accepts = record { program = c.in-Ok.verified.program; spelled = c.in-Ok.ensures.spelled; verified = c.in-Ok.ensures.verified };
+      accepts =
+          record {
+            program = c.in-Ok.verified.program;
+            spelled = c.in-Ok.ensures.spelled;
+            verified = c.in-Ok.ensures.verified;
+          };
       report = written.report.items;
       sent = written.sent.items;
       tally = written.tally;
       writes = c.in-Some.ensures;
-      report_is = c.fill-reported.ensures.filled ∙ ap (λ (l : List ℕ). filled c.args.report.now l) report;
-      sent_is = c.fill-forwarded.ensures.filled ∙ ap (λ (l : List ℕ). filled c.args.sent.now l) sent;
-      told_is = c.told.ensures ∙ ap (λ (n : ℕ). told written.tally n c.fill-forwarded.result) report_size
-          ∙ ap (λ (n : ℕ). told written.tally (length written.report.items) n) sent_size;
+      report_is =
+          c.fill-reported.ensures.filled ∙ ap (λ (l : List ℕ). filled c.args.report.now l) report;
+      sent_is =
+          c.fill-forwarded.ensures.filled ∙ ap (λ (l : List ℕ). filled c.args.sent.now l) sent;
+      out_is =
+          c.streamed_of.ensures
+          ∙ ap (λ (n : ℕ). streamed_of written.tally n c.fill-forwarded.result) report_size
+          ∙ ap (λ (n : ℕ). streamed_of written.tally (length written.report.items) n) sent_size;
     }

@@ -1,10 +1,10 @@
-//! Commands on any store, and the numbers that they answer.
+//! Updates, deletes and look-ups on any map store, and their answers.
 
 use maps::{MapStore, delete, lookup, update};
 
 pub const E2BIG: u64 = 0xffff_ffff_ffff_fff9;
 
-/// No command answers this: a key or a value has not the map's size.
+/// This is no answer of a store: a key or a value does not have the map's size.
 pub const WRONG_SIZE: u64 = 1;
 
 /// The answer to an update with these flags, or without any to a delete.

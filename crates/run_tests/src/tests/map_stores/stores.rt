@@ -1,17 +1,18 @@
-//! The stores, each by itself and next to others.
+//! Each map store by itself, and compared with another.
 
 use super::answers::{E2BIG, answer, value_of};
 use maps::{ArrayMap, HashMapChain, HashMapScan, MapStore};
 use std::process::Abort;
 use std::test::Fail;
 
-/// The answer where a number gets itself as its value.
+/// The answer to an update with a number as the key and as the value.
 fn put(chain: &mut HashMapChain, number: u32) -> u64 {
     let value = u64::from(number).to_le_bytes();
     answer(chain, &number.to_be_bytes(), &value, Some(0))
 }
 
-/// Whether a number has that value, the answer to its delete, and whether it has no value then.
+/// Whether a number is a key with itself as the value, the answer to its delete, and whether it has
+/// no value then.
 fn deleted(chain: &mut HashMapChain, number: u32) -> (bool, u64, bool) {
     let key = number.to_be_bytes();
     let value = u64::from(number).to_le_bytes();
@@ -39,28 +40,28 @@ fn full_map_takes_a_key_once_all_are_gone(rt: HostRuntime) -> Result<(), Fail> {
     Ok(())
 }
 
-/// The next of a long list of numbers, which repeats late.
+/// The next number of a sequence that repeats late.
 fn next(number: u64) -> u64 {
     number
         .wrapping_mul(6_364_136_223_846_793_005)
         .wrapping_add(1_442_695_040_888_963_407)
 }
 
-/// The answer to an update with these flags, or to a delete, and the value of 4 bytes then.
+/// The answer to an update with these flags, or to a delete, and then the value of 4 bytes.
 fn done<S: MapStore>(
     store: &mut S,
     key: &[u8],
-    turn: u32,
+    round: u32,
     flags: Option<u64>,
 ) -> (u64, Option<[u8; 4]>) {
-    let found = answer(store, key, &turn.to_le_bytes(), flags);
+    let found = answer(store, key, &round.to_le_bytes(), flags);
     match value_of(store, key) {
         Some([a, b, c, d]) => (found, Some([*a, *b, *c, *d])),
         _ => (found, None),
     }
 }
 
-/// The flags that a number of the list asks for.
+/// The flags of the update that a number of the sequence asks for; `None` is a delete.
 fn flags_of(number: u64) -> Option<u64> {
     let part = number >> 40 & 7;
     if part < 5 { Some(part & 3) } else { None }
@@ -69,12 +70,12 @@ fn flags_of(number: u64) -> Option<u64> {
 /// Both stores answer the same over a long list of updates and deletes.
 fn agree(rt: &impl Abort, chain: &mut HashMapChain, scan: &mut HashMapScan) {
     let mut number = 1;
-    for turn in 0..20_000u32 {
+    for round in 0..20_000u32 {
         number = next(number);
         let key = [(number >> 58) as u8, 5];
         let flags = flags_of(number);
-        let wanted = done(scan, &key, turn, flags);
-        assert_eq!(rt; done(chain, &key, turn, flags), wanted, "{turn}");
+        let wanted = done(scan, &key, round, flags);
+        assert_eq!(rt; done(chain, &key, round, flags), wanted, "{round}");
     }
 }
 
@@ -86,7 +87,7 @@ fn stores_agree_over_a_long_list(rt: HostRuntime) -> Result<(), Fail> {
     Ok(())
 }
 
-/// Gives the keys 0 to 39 values, and says whether each was taken.
+/// Updates the keys 0 to 39, and returns whether each update was done.
 fn is_filled(chain: &mut HashMapChain) -> bool {
     let mut is_taken = true;
     for index in 0..40u32 {
@@ -100,12 +101,12 @@ fn is_filled(chain: &mut HashMapChain) -> bool {
 fn array_agrees(rt: &impl Abort, array: &mut ArrayMap, chain: &mut HashMapChain) {
     assert!(rt; is_filled(chain));
     let mut number = 1;
-    for turn in 0..2_000u32 {
+    for round in 0..2_000u32 {
         number = next(number);
         let key = [(number >> 58) as u8, 0, 0, 0];
         let flags = Some(number >> 40 & 1);
-        let wanted = done(chain, &key, turn, flags);
-        assert_eq!(rt; done(array, &key, turn, flags), wanted, "{turn}");
+        let wanted = done(chain, &key, round, flags);
+        assert_eq!(rt; done(array, &key, round, flags), wanted, "{round}");
     }
 }
 

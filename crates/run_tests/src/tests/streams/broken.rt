@@ -1,4 +1,5 @@
-//! Runs on streams of which a read fails after some bytes, and into outputs that fail in the magic.
+//! Programs on streams whose reads fail after some bytes, and frames out that fail within the
+//! magic.
 
 use super::cases::{Case, ENDLESS, MAGIC, ONE, PASSES, Room, TWO, TWO_WITH_REASONS, ends_so};
 use failing_io::FAILURES;
@@ -7,12 +8,12 @@ use isa_model::Fault;
 use std::process::Abort;
 use std::test::Fail;
 
-// A stream, whether a read fails after its last byte, and the room of the frames out; then what is
-// answered, and what both outputs have.
+// A stream, whether a read fails after its last byte, and the room for the frames out; then the
+// result, and what both outputs got.
 fn ends_with(
     rt: &(impl AllocGlobal + Abort),
     (given, is_broken, out): (&[u8], bool, Room),
-    answer: Result<Tally, HostError>,
+    ended: Result<Tally, HostError>,
     lines: &[u8],
     sent: &[u8],
 ) -> Result<(), Fail> {
@@ -23,15 +24,15 @@ fn ends_with(
         is_broken,
         report: ENDLESS,
         out,
-        answer,
+        ended,
         lines,
         sent,
     };
     ends_so(rt, &case)
 }
 
-// From which length of a stream of two records on: how many of them are run, where the read fails,
-// the report and the frames out.
+// For streams from this length on, up to two records: on how many the program is run, where the
+// read fails, the report and the frames out.
 type Stop = (usize, u32, u64, &'static [u8], &'static [u8]);
 
 #[rattlefmt::skip]
@@ -55,7 +56,7 @@ const BROKEN_WITH_REASONS: [Stop; 4] = [
 
 const STREAMS: [(&[u8], &[Stop]); 2] = [(TWO, &BROKEN), (TWO_WITH_REASONS, &BROKEN_WITH_REASONS)];
 
-// The last of the stops that is not past the length.
+// The last stop that is not past the length.
 fn stop_at(stops: &[Stop], length: usize) -> Option<Stop> {
     let mut found = None;
     for stop in stops {
@@ -71,12 +72,12 @@ fn breaks_at(
     given: &'static [u8],
     stops: &[Stop],
 ) -> Result<(), Fail> {
-    let Some((_, frames, place, lines, sent)) = stop_at(stops, given.len()) else {
+    let Some((_, frames, offset, lines, sent)) = stop_at(stops, given.len()) else {
         return Err("no such stop".into());
     };
-    let fault = Some((Fault::ReadFailed, place));
-    let answer = Ok(Tally { frames, fault });
-    ends_with(rt, (given, true, ENDLESS), answer, lines, sent)
+    let fault = Some((Fault::ReadFailed, offset));
+    let ended = Ok(Tally { frames, fault });
+    ends_with(rt, (given, true, ENDLESS), ended, lines, sent)
 }
 
 fn each_front_breaks(
@@ -98,7 +99,8 @@ fn broken_streams(rt: HostRuntime) -> Result<(), Fail> {
     Ok(())
 }
 
-// A stream without records, and the magic of the frames out, also where the stream has none.
+// A stream without records, and the magic of the frames out, which is there even if the stream's is
+// wrong.
 const MAGICS: [(&[u8], &[u8]); 4] = [
     (b"XPF1", b"XPF1"),
     (b"XPF2", b"XPF2"),

@@ -1,4 +1,4 @@
-//! Writers whose first bytes go through at once.
+//! Writers with a buffer whose first bytes are written at once.
 
 use exact_io::{PromptWriter, write_bytes};
 use failing_io::{FAILURES, Failure, Writer};
@@ -20,7 +20,7 @@ fn taken_of(alloc: Global, step: usize, is_flushed: bool) -> Result<Vec<u8>, Fai
     Ok(writer.taken)
 }
 
-/// Three bytes go through at once, also in parts; the others wait for a flush, and are not written
+/// Three bytes are written at once, even in parts; the others wait for a flush, and are not written
 /// without one.
 #[test]
 fn waits(rt: HostRuntime) -> Result<(), Fail> {
@@ -33,7 +33,8 @@ fn waits(rt: HostRuntime) -> Result<(), Fail> {
     Ok(())
 }
 
-/// Whether the text is written to a writer that fails after some bytes, and what that took.
+/// Whether writing the text succeeds if the writer fails after some bytes, and what the writer
+/// took.
 fn written_to(alloc: Global, room: usize, failing: Failure) -> Result<(bool, Vec<u8>), Fail> {
     let mut writer = Writer::new(alloc, 7, room, Some(failing));
     let mut prompt = PromptWriter::new(alloc, 16, 3, &mut writer)?;
@@ -42,8 +43,8 @@ fn written_to(alloc: Global, room: usize, failing: Failure) -> Result<(bool, Vec
     Ok((is_written, writer.taken))
 }
 
-/// A writer that fails at once is found by the first write, and one that fails later by the flush;
-/// it keeps what it took.
+/// The first write finds a writer that fails within three bytes, and the flush one that fails
+/// later; the writer keeps what it took.
 #[test]
 fn fails(rt: HostRuntime) -> Result<(), Fail> {
     for room in 0..7usize {

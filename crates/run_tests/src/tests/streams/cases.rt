@@ -1,4 +1,4 @@
-//! Runs of small programs on streams, and what they answer and write.
+//! Small programs that are run on streams: the result, the report and the frames out.
 
 use crate::tests::programs::image_of;
 use explorer::verify;
@@ -18,10 +18,10 @@ pub const TWO: &[u8] = b"XPF1\
     \0\0\0\0\0\0\0\0\0\0\0\0\0\0\0\0\0\0\0\0\
     \0\0\0\0\0\0\0\0\0\0\0\0\0\0\0\0\0\0\0\0";
 
-/// The magic and one of them.
+/// The magic and one empty record.
 pub const ONE: &[u8] = b"XPF1\0\0\0\0\0\0\0\0\0\0\0\0\0\0\0\0\0\0\0\0";
 
-/// Two such records with reasons.
+/// The magic and two empty records with reasons.
 pub const TWO_WITH_REASONS: &[u8] = b"XPF2\
     \0\0\0\0\0\0\0\0\0\0\0\0\0\0\0\0\0\0\0\0\0\0\0\0\
     \0\0\0\0\0\0\0\0\0\0\0\0\0\0\0\0\0\0\0\0\0\0\0\0";
@@ -34,23 +34,23 @@ pub type Room = (usize, Option<Failure>);
 /// An output that takes all.
 pub const ENDLESS: Room = (0, None);
 
-/// A program's run on a stream, and what it answers and writes.
+/// A program that is run on a stream, with the result, the report and the frames out.
 #[derive(Drop)]
 pub struct Case<'a> {
     pub text: &'a str,
-    /// The most steps on a frame where every access is tested. Without one the program is verified.
+    /// The limit of steps of runs with checks. Without one the program is verified.
     pub limit: Option<u32>,
     pub given: &'a [u8],
     /// Whether a read fails after the last byte.
     pub is_broken: bool,
     pub report: Room,
     pub out: Room,
-    pub answer: Result<Tally, HostError>,
+    pub ended: Result<Tally, HostError>,
     pub lines: &'a [u8],
     pub sent: &'a [u8],
 }
 
-/// The answer of a run, the report and the frames out.
+/// The result, the report and the frames out.
 type Written = (Result<Tally, HostError>, Vec<u8>, Vec<u8>);
 
 // A writer that takes at most 5 bytes at a call.
@@ -58,7 +58,7 @@ fn writer_of(alloc: Global, room: Room) -> Writer {
     Writer::new(alloc, 5, room.0, room.1)
 }
 
-// Gives at most 3 bytes at a call, and an error after the last; or all at once.
+// A reader of at most 3 bytes at a call, which fails after the last; or of all bytes at once.
 fn reader_of<'a>(case: &Case<'a>) -> Reader<'a> {
     Reader {
         left: case.given,
@@ -86,8 +86,8 @@ fn verified(alloc: Global, image: Image, case: &Case<'_>) -> Result<Written, Fai
     let program = verify(alloc, image)?;
     let mut report = writer_of(alloc, case.report);
     let mut out = writer_of(alloc, case.out);
-    let answer = run(alloc, program, reader_of(case), &mut report, &mut out);
-    Ok((answer, report.taken, out.taken))
+    let ended = run(alloc, program, reader_of(case), &mut report, &mut out);
+    Ok((ended, report.taken, out.taken))
 }
 
 fn written(alloc: Global, case: &Case<'_>) -> Result<Written, Fail> {
@@ -98,13 +98,13 @@ fn written(alloc: Global, case: &Case<'_>) -> Result<Written, Fail> {
     }
 }
 
-/// The run answers and writes what the case says.
+/// Tests that the result, the report and the frames out are those of the case.
 pub fn ends_so(rt: &(impl AllocGlobal + Abort), case: &Case<'_>) -> Result<(), Fail> {
-    let (answer, lines, sent) = written(rt.alloc(), case)?;
+    let (ended, lines, sent) = written(rt.alloc(), case)?;
     let text = case.text;
     assert_eq!(rt;
-        (answer, lines.as_slice(), sent.as_slice()),
-        (case.answer, case.lines, case.sent),
+        (ended, lines.as_slice(), sent.as_slice()),
+        (case.ended, case.lines, case.sent),
         "{text}"
     );
     Ok(())

@@ -1,4 +1,4 @@
-//! Runs into outputs that fail after each of their bytes.
+//! Programs that are run on streams, while one output fails after each of its bytes.
 
 use super::cases::{Case, ENDLESS, MAGIC, ONE, PASSES, TWO, TWO_WITH_REASONS, ends_so};
 use failing_io::{FAILURES, Failure};
@@ -6,7 +6,7 @@ use host::{HostError, Tally};
 use std::process::Abort;
 use std::test::Fail;
 
-// A run of which one output fails.
+// A program on a stream, and what both outputs get if none fails.
 struct Whole {
     text: &'static str,
     limit: Option<u32>,
@@ -14,7 +14,7 @@ struct Whole {
     frames: u32,
     lines: &'static [u8],
     sent: &'static [u8],
-    // from which byte of the report on how many bytes of the frames out come before it
+    // from a byte of the report on, how many bytes of the frames out are written before it
     sent_before: &'static [(usize, usize)],
     // and the other way round
     lines_before: &'static [(usize, usize)],
@@ -30,8 +30,8 @@ const COUNTS: &str = "
     r0 = *(u8 *)(r10 + 0); exit
     put: r1 = map_by_idx(0); r4 = 0; call 2; exit";
 
-// What two frames leave: a trap takes nothing back, and the second frame finds what the first left.
-// The key-value pairs come after the frames, in the order of their keys.
+// The report on two packet frames: a trap undoes nothing, and the second run finds what the first
+// one left. The key-value pairs come after the frames, in the order of their keys.
 const COUNTED: &[u8] = b"0 TRAP access 0 24\n1 TRAP access 0 24\nmap 0 10 0102\nmap 0 fe 0102\n\
 map 1 00000000 0200000000000000\nend 2\n";
 
@@ -82,7 +82,7 @@ const WHOLES: [Whole; 5] = [
         sent_before: &[(0, 4), (13, 28), (26, 52)],
         lines_before: &[(0, 0), (4, 13), (28, 26), (52, 32)],
     },
-    // a report that fails among the key-value pairs is a beginning
+    // a report that fails among the key-value pairs ends there
     Whole {
         text: COUNTS,
         limit: Some(100),
@@ -95,7 +95,7 @@ const WHOLES: [Whole; 5] = [
     },
 ];
 
-// The second number of the last row whose first one is not past what was reached.
+// The second number of the last row whose first number is not past what was reached.
 fn count_at(rows: &[(usize, usize)], reached: usize) -> usize {
     let mut count = 0;
     for (from, there) in rows {
@@ -110,13 +110,8 @@ fn front(bytes: &'static [u8], count: usize) -> &'static [u8] {
     bytes.get(..count).unwrap_or(bytes)
 }
 
-// The answer where an output that is to have some bytes fails after some of them.
-fn answer_of(
-    whole: &Whole,
-    room: usize,
-    size: usize,
-    error: HostError,
-) -> Result<Tally, HostError> {
+// The result if an output of this size fails after `room` bytes.
+fn end_of(whole: &Whole, room: usize, size: usize, error: HostError) -> Result<Tally, HostError> {
     if room < size {
         return Err(error);
     }
@@ -139,7 +134,7 @@ fn report_fails(
         is_broken: false,
         report: (room, Some(failing)),
         out: ENDLESS,
-        answer: answer_of(whole, room, whole.lines.len(), HostError::Report),
+        ended: end_of(whole, room, whole.lines.len(), HostError::Report),
         lines: front(whole.lines, room),
         sent: front(whole.sent, count_at(whole.sent_before, room)),
     };
@@ -159,7 +154,7 @@ fn frames_fail(
         is_broken: false,
         report: ENDLESS,
         out: (room, Some(failing)),
-        answer: answer_of(whole, room, whole.sent.len(), HostError::Frames),
+        ended: end_of(whole, room, whole.sent.len(), HostError::Frames),
         lines: front(whole.lines, count_at(whole.lines_before, room)),
         sent: front(whole.sent, room),
     };
@@ -180,7 +175,7 @@ fn outputs_fail(
     Ok(())
 }
 
-// Also where they do not, since they have room for all.
+// In the last turn of each loop the output has room for all bytes, and does not fail.
 #[test]
 fn outputs_that_fail(rt: HostRuntime) -> Result<(), Fail> {
     for whole in WHOLES.iter() {

@@ -1,4 +1,4 @@
-//! Records from readers and to writers that fail at each byte, and the magic.
+//! Records of readers and writers that fail after each byte, and the magic.
 
 use failing_io::{FAILURES, Failure, Reader, Writer};
 use frames::{FrameReader, Next, write_frame};
@@ -22,7 +22,7 @@ const HEAD: FrameHead = FrameHead {
 const RECORD: [u8; 29] =
     *b"XPF1\x01\x02\x03\x04\x05\x06\x07\x08\x09\x0a\x0b\x0c\x0d\x0e\x0f\x10\x05\0\0\0hello";
 
-// How many records come before the stop, the stop, and the answer of the call after it.
+// How many records come before the stop, the stop, and the result of the call after it.
 fn stop_of(source: Reader<'_>) -> (u32, Next, Next) {
     let mut reader = FrameReader::new(source);
     let mut buffer = [0; 9216];
@@ -41,7 +41,7 @@ const STEPS: [usize; 4] = [1, 2, 3, 7];
 // From which length or room on: how many records are read, and how the stream stops.
 type Stop = (usize, u32, Next);
 
-// The last of the stops that is not past what was reached.
+// The last stop that is not past what was reached.
 fn stop_at(stops: &[Stop], reached: usize) -> (u32, Next) {
     let mut found = (3, Next::End);
     for (from, count, stop) in stops {
@@ -52,7 +52,7 @@ fn stop_at(stops: &[Stop], reached: usize) -> (u32, Next) {
     found
 }
 
-// The bytes stop so at each size of the steps.
+// The stream stops so, however many bytes move at a call.
 fn stops_so(
     rt: &impl Abort,
     left: &[u8],
@@ -112,8 +112,8 @@ fn failure_of_writing(writer: &mut Writer) -> Option<ErrorKind> {
     }
 }
 
-// How a failure is told, if the record is longer than that many bytes.
-fn told(room: usize, failing: Failure) -> Option<ErrorKind> {
+// How a failure is reported, if the record is longer than that many bytes.
+fn reported(room: usize, failing: Failure) -> Option<ErrorKind> {
     match failing {
         _ if room >= 25 => None,
         Failure::Error(kind) => Some(kind),
@@ -126,7 +126,7 @@ fn fails_in_writing(rt: &(impl AllocGlobal + Abort), step: usize, room: usize, f
     let failure = failure_of_writing(&mut writer);
     assert_eq!(rt;
         (failure, Some(writer.taken.as_slice())),
-        (told(room, failing), RECORD[4..].get(..room)),
+        (reported(room, failing), RECORD[4..].get(..room)),
         "{room} bytes"
     );
 }
@@ -142,7 +142,8 @@ fn failing_writes(rt: HostRuntime) {
     }
 }
 
-const TOLD: &[u8] = b"XPF2\x09\0\0\0\0\0\0\0\x02\0\0\0\x07\0\0\0\x05\0\0\0\x01\x02\x03\x04hello";
+const REASONED: &[u8] =
+    b"XPF2\x09\0\0\0\0\0\0\0\x02\0\0\0\x07\0\0\0\x05\0\0\0\x01\x02\x03\x04hello";
 
 const FRAME: Next = Next::Frame(
     FrameHead {
@@ -156,11 +157,11 @@ const FRAME: Next = Next::Frame(
 
 type Begun = Result<u8, (Fault, u64)>;
 
-// A stream, the answer for its magic, what follows it, and the answers after that.
+// A stream, the result for its magic, what follows it, and the results after that.
 const BEGUN: [(&[u8], Begun, Next, Begun); 7] = [
     (b"XPF1", Ok(1), Next::End, Ok(1)),
     (b"XPF2", Ok(2), Next::End, Ok(2)),
-    (TOLD, Ok(2), FRAME, Ok(2)),
+    (REASONED, Ok(2), FRAME, Ok(2)),
     (
         b"XPF2\0",
         Ok(2),
@@ -187,7 +188,7 @@ const BEGUN: [(&[u8], Begun, Next, Begun); 7] = [
     ),
 ];
 
-// What the calls answer: begin that many times, next, and begin twice more.
+// The results of `begin` that many times, of `next`, and of `begin` twice more.
 fn calls_of(given: &[u8], times: u32) -> (Begun, Next, Begun, Begun) {
     let mut reader = FrameReader::new(given);
     let mut buffer = [0; 9216];

@@ -1,4 +1,4 @@
-//! Reads and writes of a few bytes at each call, which fail at each byte.
+//! Reads and writes of a few bytes at a call, which fail after each byte.
 
 use exact_io::{Filled, fill, write_bytes};
 use failing_io::{FAILURES, Failure, Reader, Writer};
@@ -19,7 +19,7 @@ fn failure_of_writing(writer: &mut Writer, bytes: &[u8]) -> Option<ErrorKind> {
 }
 
 /// How a failure after that many bytes is reported, if there are more.
-fn told(room: usize, failing: Failure) -> Option<ErrorKind> {
+fn reported(room: usize, failing: Failure) -> Option<ErrorKind> {
     match failing {
         _ if room >= 7 => None,
         Failure::Error(kind) => Some(kind),
@@ -32,7 +32,7 @@ fn fails_in_writing(rt: &(impl AllocGlobal + Abort), step: usize, room: usize, f
     let failure = failure_of_writing(&mut writer, TEXT);
     assert_eq!(rt;
         (failure, Some(writer.taken.as_slice())),
-        (told(room, failing), TEXT.get(..room)),
+        (reported(room, failing), TEXT.get(..room)),
         "at {room}"
     );
 }
@@ -93,7 +93,7 @@ fn is_written_to_none(bytes: &[u8]) -> bool {
     write_bytes(&mut writer, bytes).is_ok()
 }
 
-/// What filling a buffer from a slice answers, and how many bytes are left.
+/// The result of filling a buffer from a slice, and how many bytes are left.
 fn filled_from(bytes: &[u8], buffer: &mut [u8]) -> (Filled, usize) {
     let mut left = bytes;
     let found = filled_of_slice(&mut left, buffer);

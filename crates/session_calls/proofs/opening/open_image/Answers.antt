@@ -3,6 +3,11 @@ use Rattle.session_calls.proofs.opening.open_image.Goals as goal
 pub returns-in-Ok-clause-opened : goal.returns-in-Ok-clause-opened
 returns-in-Ok-clause-opened c = λ ok. record {
   bound = c.in-Ok.verified.bound;
-  accepts = record { program = c.in-Ok.verified.program; spelled = c.in-Ok.ensures.spelled; verified = c.in-Ok.ensures.verified };
+  accepts =
+      record {
+        program = c.in-Ok.verified.program;
+        spelled = c.in-Ok.ensures.spelled;
+        verified = c.in-Ok.ensures.verified;
+      };
   is = c.open.ensures.opened ok;
 }

@@ -5,15 +5,27 @@ use Rattle.session_calls.proofs.opening.run_session.Goals as goal
 
 pub returns-clause-ran : goal.returns-clause-ran
 returns-clause-ran c = λ _.
-    let head : FrameHead = record { time = c.args.head.now.time; interface = c.args.head.now.interface; queue = c.args.head.now.queue } in
+    let head : FrameHead = record {
+      time = c.args.head.now.time;
+      interface = c.args.head.now.interface;
+      queue = c.args.head.now.queue;
+    } in
     let machine = c.deref_mut.result.now in
     let left = c.run-exit.new.self.contents in
     record {
       machine = machine;
       left = left;
       coming = λ _. c.run-exit.new.clock.time;
-      was = sym c.in-Some.ensures.machine ∙ ap (λ (r : Running). Some r) (sym c.deref_mut.ensures.value);
-      is = c.put.ensures ∙ (λ i. Some (record { program = c.run-exit.ensures.program i; bound = c.run-exit.ensures.bound i; contents = left }));
-      answers = subst (λ (t : ℕ). AnswersRun machine head c.args.packet.now (λ _. t) c.run-exit.result c.run-exit.new.packet left (λ _. c.run-exit.new.clock.time))
+      was = sym c.in-Some.ensures.machine
+          ∙ ap (λ (r : Running). Some r) (sym c.deref_mut.ensures.value);
+      is = c.put.ensures
+          ∙ (λ i. Some (record {
+            program = c.run-exit.ensures.program i;
+            bound = c.run-exit.ensures.bound i;
+            contents = left;
+          }));
+      answers =
+          subst (λ (t : ℕ). AnswersRun machine head c.args.packet.now
+          (λ _. t) c.run-exit.result c.run-exit.new.packet left (λ _. c.run-exit.new.clock.time))
           c.clock_at-clock.ensures c.run-exit.ensures.answers;
     }

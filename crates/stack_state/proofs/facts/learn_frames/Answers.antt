@@ -13,6 +13,9 @@ loop-index-preserved c =
     let x = get_or ys i c.index-frames-index.result in
     record {
       length = length-set ys i c.learn_frame.new.frame ∙ c.loop-index.invariant.length;
-      done = ap (set ys i) c.learn_frame.ensures ∙ map_over_more (with_kinds (learned c.args.fact)) xs ys i x (omega arith) c.loop-index.invariant.done
+      done =
+          ap (set ys i) c.learn_frame.ensures
+          ∙ map_over_more (with_kinds (learned c.args.fact)) xs ys i x
+          (omega arith) c.loop-index.invariant.done
           (get_or_default ys i c.index-frames-index.result x (omega arith));
     }

@@ -12,6 +12,8 @@ loop-index-preserved c =
     let x = get_or ys i c.index-kinds-index.result in
     record {
       length = length-set ys i c.learn_kind.new.kind ∙ c.loop-index.invariant.length;
-      done = ap (set ys i) c.learn_kind.ensures ∙ map_over_more (learned c.args.fact) xs ys i x (omega arith) c.loop-index.invariant.done
+      done =
+          ap (set ys i) c.learn_kind.ensures
+          ∙ map_over_more (learned c.args.fact) xs ys i x (omega arith) c.loop-index.invariant.done
           (get_or_default ys i c.index-kinds-index.result x (omega arith));
     }

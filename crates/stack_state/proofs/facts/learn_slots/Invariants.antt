@@ -6,5 +6,6 @@ use Rattle.stack_state.proofs.facts.learn_slots.Given as goal
 abbrev pub invariant-loop-index : goal.invariant-loop-index
 invariant-loop-index l = record {
   length : length l.slots ≡ length l.fn.slots;
-  done : l.slots ≡ map (with_spilled (learned l.fact)) (take l.index l.fn.slots) ++ drop l.index l.fn.slots;
+  done : l.slots
+      ≡ map (with_spilled (learned l.fact)) (take l.index l.fn.slots) ++ drop l.index l.fn.slots;
 }

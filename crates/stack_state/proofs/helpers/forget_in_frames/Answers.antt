@@ -4,15 +4,16 @@ use Rattle.std.proofs.lemmas.List.Edits.{map_over_more}
 use Rattle.stack_state.specs.Effects.{forgotten_frame}
 use Rattle.stack_state.proofs.helpers.forget_in_frames.Goals as goal
 
-pub loop-place-preserved : goal.loop-place-preserved
-loop-place-preserved c =
+pub loop-i-preserved : goal.loop-i-preserved
+loop-i-preserved c =
     let xs = c.args.frames.now in
-    let ys = c.loop-place.frames in
-    let i = c.loop-place.place in
-    let x = get_or ys i c.index-frames-place.result in
+    let ys = c.loop-i.frames in
+    let i = c.loop-i.i in
+    let x = get_or ys i c.index-frames-i.result in
     record {
-      length = length-set ys i c.forget_in_frame.new.frame ∙ c.loop-place.invariant.length;
+      length = length-set ys i c.forget_in_frame.new.frame ∙ c.loop-i.invariant.length;
       done = ap (set ys i) c.forget_in_frame.ensures
-          ∙ map_over_more (forgotten_frame c.args.index) xs ys i x (omega arith) c.loop-place.invariant.done
-          (get_or_default ys i c.index-frames-place.result x (omega arith));
+          ∙ map_over_more (forgotten_frame c.args.index) xs ys i x
+          (omega arith) c.loop-i.invariant.done
+          (get_or_default ys i c.index-frames-i.result x (omega arith));
     }

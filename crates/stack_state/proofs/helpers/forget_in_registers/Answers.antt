@@ -3,14 +3,15 @@ use Rattle.std.proofs.lemmas.List.Edits.{map_over_more}
 use Rattle.stack_state.specs.Effects.{forgotten_register}
 use Rattle.stack_state.proofs.helpers.forget_in_registers.Goals as goal
 
-pub loop-place-preserved : goal.loop-place-preserved
-loop-place-preserved c =
+pub loop-i-preserved : goal.loop-i-preserved
+loop-i-preserved c =
     let xs = c.args.kinds.now in
-    let ys = c.loop-place.kinds in
-    let i = c.loop-place.place in
-    let x = c.index-kinds-place.result in
+    let ys = c.loop-i.kinds in
+    let i = c.loop-i.i in
+    let x = c.index-kinds-i.result in
     record {
-      length = length-set ys i c.forgotten_kind.result ∙ c.loop-place.invariant.length;
+      length = length-set ys i c.forgotten_kind.result ∙ c.loop-i.invariant.length;
       done = ap (set ys i) c.forgotten_kind.ensures
-          ∙ map_over_more (forgotten_register c.args.index) xs ys i x (omega arith) c.loop-place.invariant.done c.index-kinds-place.is;
+          ∙ map_over_more (forgotten_register c.args.index) xs ys i x
+          (omega arith) c.loop-i.invariant.done c.index-kinds-i.is;
     }

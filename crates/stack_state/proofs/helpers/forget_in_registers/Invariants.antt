@@ -2,8 +2,9 @@ use Rattle.std.proofs.Common.{◌≡◌, ◌++◌, map, take, drop, length}
 use Rattle.stack_state.specs.Effects.{forgotten_register}
 use Rattle.stack_state.proofs.helpers.forget_in_registers.Given as goal
 
-abbrev pub invariant-loop-place : goal.invariant-loop-place
-invariant-loop-place l = record {
+abbrev pub invariant-loop-i : goal.invariant-loop-i
+invariant-loop-i l = record {
   length : length l.kinds ≡ length l.fn.kinds;
-  done : l.kinds ≡ map (forgotten_register l.index) (take l.place l.fn.kinds) ++ drop l.place l.fn.kinds;
+  done : l.kinds
+      ≡ map (forgotten_register l.index) (take l.i l.fn.kinds) ++ drop l.i l.fn.kinds;
 }

@@ -7,8 +7,10 @@ use Rattle.stack_state.specs.Slots.{IsAny}
 use Rattle.stack_state.proofs.slots.is_any.Goals as goal
 
 -- whatever numbers b has are among all
-any_encloses : (a b : Scalar) → b.range.wide.greatest < 2 ^ 64 → FitsSigned w64 b.range.wide.signed_least
-    → FitsSigned w64 b.range.wide.signed_greatest → b.range.low.greatest < 2 ^ 32 → FitsSigned w32 b.range.low.signed_least
+any_encloses : (a b : Scalar) → b.range.wide.greatest < 2 ^ 64
+    → FitsSigned w64 b.range.wide.signed_least
+    → FitsSigned w64 b.range.wide.signed_greatest → b.range.low.greatest < 2 ^ 32
+    → FitsSigned w32 b.range.low.signed_least
     → FitsSigned w32 b.range.low.signed_greatest → IsAny a → Encloses a b
 any_encloses a b greatest signed_least signed_greatest low_greatest low_least low_most all =
     let none = all 0 (omega arith) in
@@ -37,6 +39,8 @@ any_encloses a b greatest signed_least signed_greatest low_greatest low_least lo
 pub returns : goal.returns
 returns c = (
   λ yes x h. c.covers.ensures.yes yes x ((c.any.ensures x).1 h),
-  λ all. c.covers.ensures.exact.1 (any_encloses c.args.numbers c.any.result (omega arith) (omega (arith, ints)) (omega (arith, ints))
+  λ all. c.covers.ensures.exact.1
+      (any_encloses c.args.numbers c.any.result (omega arith) (omega (arith, ints))
+      (omega (arith, ints))
       (omega arith) (omega (arith, ints)) (omega (arith, ints)) all),
 )

@@ -6,34 +6,40 @@ use Rattle.state_index.proofs.parts.push_slots.Goals.{then-not-are_blank+else-lo
 
 pub loop-number-preserved : goal.loop-number-preserved
 loop-number-preserved c =
-    let b : ℕ = c.loop-block.block in
+    let b : ℕ = c.loop-group.group in
     let k : ℕ = c.loop-number.number in
-    slot_parts-from c.push_slot.new.parts.items _ c.args.slots.now (8 * b + k + 1) (8 * b + (k + 1)) (omega arith)
-    (slot_parts-more c.loop-number.parts.items c.push_slot.new.parts.items _ c.args.slots.now (8 * b + k) c.index-slots-index.result
+    slot_parts-from c.push_slot.new.parts.items _ c.args.slots.now (8 * b + k + 1) (8 * b + (k + 1))
+    (omega arith)
+    (slot_parts-more c.loop-number.parts.items c.push_slot.new.parts.items _ c.args.slots.now
+    (8 * b + k) c.index-slots-index.result
     (omega arith) c.in_ok-push_slot.ensures c.loop-number.invariant)
 
 pub loop-number-init : goal.loop-number-init
 loop-number-init c =
-    let b : ℕ = c.loop-block.block in
-    slot_parts-from c.loop-block.parts.items _ c.args.slots.now (8 * b) (8 * b + 0) (omega arith) c.loop-block.invariant
+    let b : ℕ = c.loop-group.group in
+    slot_parts-from c.loop-group.parts.items _ c.args.slots.now (8 * b) (8 * b + 0)
+    (omega arith) c.loop-group.invariant
 
 pub returns-clause-pushed : goal.returns-clause-pushed
 returns-clause-pushed c =
-    slot_parts-all c.loop-block.parts.items _ c.args.slots.now (8 * c.loop-block.block) (omega arith) c.loop-block.invariant
+    slot_parts-all c.loop-group.parts.items _ c.args.slots.now (8 * c.loop-group.group)
+    (omega arith) c.loop-group.invariant
 
-pub loop-block-preserved : goal.loop-block-preserved
-loop-block-preserved c =
+pub loop-group-preserved : goal.loop-group-preserved
+loop-group-preserved c =
     let ts = c.args.slots.now in
-    let b : ℕ = c.loop-block.block in
+    let b : ℕ = c.loop-group.group in
     elim c.if-not-are_blank.branch [
       | then-not-are_blank+else-loop-number-test w ↦
           let k : ℕ = w.loop-number.number in
           rw w.parts-is
-          (slot_parts-from w.loop-number.parts.items _ ts (8 * b + k) (8 * (b + 1)) (omega arith) w.loop-number.invariant)
+          (slot_parts-from w.loop-number.parts.items _ ts (8 * b + k) (8 * (b + 1))
+          (omega arith) w.loop-number.invariant)
       | else-not-are_blank w ↦
           rw w.parts-is
-          (slot_parts-from c.loop-block.parts.items _ ts (8 * b + 8) (8 * (b + 1)) (omega arith)
-          (slot_parts-skip_all c.loop-block.parts.items _ ts (8 * b) 8 (omega arith) (c.are_blank.ensures w.if-not-are_blank.false) c.loop-block.invariant))
+          (slot_parts-from c.loop-group.parts.items _ ts (8 * b + 8) (8 * (b + 1)) (omega arith)
+          (slot_parts-skip_all c.loop-group.parts.items _ ts (8 * b) 8 (omega arith)
+          (c.are_blank.ensures w.if-not-are_blank.false) c.loop-group.invariant))
     ]
 
 pub returns-then-is_empty-clause-pushed : goal.returns-then-is_empty-clause-pushed
@@ -41,5 +47,6 @@ returns-then-is_empty-clause-pushed c =
     let items = c.args.parts.now.items in
     let wide : length c.args.slots.now ≡ 64 = search rules in
     let none = slot_parts-blank c.args.slots.now 0
-    (λ j below. c.requires j (omega (arith, below, wide)) (c.is_empty.ensures.none c.if-is_empty.true j)) in
+    (λ j below. c.requires j (omega (arith, below, wide))
+    (c.is_empty.ensures.none c.if-is_empty.true j)) in
     sym (append-nil items) ∙ ap (λ l. items ++ l) (sym none)

@@ -6,7 +6,9 @@ returns c =
     let registers = c.in_ok-push_registers.ensures in
     let slots = c.in_ok-push_slots.ensures in
     record {
-      all = kept_parts c.args.frame.now c.clear.new.self.items c.push_registers.new.parts.items c.push_slots.new.parts.items c.clear.ensures.items registers.pushed slots.pushed;
+      all =
+          kept_parts c.args.frame.now c.clear.new.self.items c.push_registers.new.parts.items
+          c.push_slots.new.parts.items c.clear.ensures.items registers.pushed slots.pushed;
       ten = registers.ten;
       wide = slots.wide;
     }

@@ -4,8 +4,8 @@ use Rattle.survey_rows.specs.declared.rows.Counts.{Counts}
 use Rattle.surveys.proofs.Verdicts.{says_of, sizes_kept}
 use Rattle.surveys.proofs.judging.judge_image.Goals as goal
 
-pub verify_with-answer-requires : goal.verify_with-answer-requires
-verify_with-answer-requires g c = record { untold = (start, tt) }
+pub verify_with-found-requires : goal.verify_with-found-requires
+verify_with-found-requires g c = record { untold = (start, tt) }
 
 pub returns-in-Ok : goal.returns-in-Ok
 returns-in-Ok g c = record {

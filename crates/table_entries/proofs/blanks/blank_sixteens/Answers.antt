@@ -12,7 +12,9 @@ loop-group-preserved c =
     record {
       zeros = subst (λ (k : ℕ). AreZeros k bytes) more
           (AreZeros-more n 32 bytes c.loop-group.invariant.zeros
-          (subst (λ (xs : List ℕ). AreZeros 32 xs) c.loop-group.invariant.rest_is (c.begins_blank.ensures c.if-not-begins_blank.false)));
+          (subst (λ (xs : List ℕ). AreZeros 32 xs) c.loop-group.invariant.rest_is
+          (c.begins_blank.ensures c.if-not-begins_blank.false)));
       rest_is =
-          c.skip-rest.ensures ∙ ap (drop 32) c.loop-group.invariant.rest_is ∙ drop-drop 32 n bytes ∙ ap (λ (k : ℕ). drop k bytes) more;
+          c.skip-rest.ensures ∙ ap (drop 32) c.loop-group.invariant.rest_is ∙ drop-drop 32 n bytes
+          ∙ ap (λ (k : ℕ). drop k bytes) more;
     }

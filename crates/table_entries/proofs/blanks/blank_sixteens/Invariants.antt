@@ -4,4 +4,9 @@ use Rattle.table_entries.proofs.blanks.blank_sixteens.Given as goal
 
 -- the groups of sixteen stack slots before it are zeros
 abbrev pub invariant-loop-group : goal.invariant-loop-group
-invariant-loop-group l = record { zeros : AreZeros (32 * l.group) l.bytes; rest_is : l.rest ≡ drop (32 * l.group) l.bytes }
+invariant-loop-group l =
+    record {
+      zeros : AreZeros (32 * l.group) l.bytes;
+      rest_is : l.rest
+          ≡ drop (32 * l.group) l.bytes;
+    }

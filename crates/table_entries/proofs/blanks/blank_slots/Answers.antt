@@ -21,11 +21,14 @@ pub loop-group-preserved : goal.loop-group-preserved
 loop-group-preserved c =
     let bytes = c.args.bytes.now in
     let n = 2 * c.blank_sixteens-sixteens.result + 8 * c.loop-group.group in
-    let more : n + 8 ≡ 2 * c.blank_sixteens-sixteens.result + 8 * (c.loop-group.group + 1) = omega arith in
+    let more : n + 8 ≡ 2 * c.blank_sixteens-sixteens.result + 8 * (c.loop-group.group + 1) =
+    omega arith in
     record {
       zeros = subst (λ (k : ℕ). AreZeros k bytes) more
           (AreZeros-more n 8 bytes c.loop-group.invariant.zeros
-          (subst (λ (xs : List ℕ). AreZeros 8 xs) c.loop-group.invariant.rest_is (c.begins_with_four.ensures c.if-not-begins_with_four.false)));
+          (subst (λ (xs : List ℕ). AreZeros 8 xs) c.loop-group.invariant.rest_is
+          (c.begins_with_four.ensures c.if-not-begins_with_four.false)));
       rest_is =
-          c.skip-rest-in-loop-group.ensures ∙ ap (drop 8) c.loop-group.invariant.rest_is ∙ drop-drop 8 n bytes ∙ ap (λ (k : ℕ). drop k bytes) more;
+          c.skip-rest-in-loop-group.ensures ∙ ap (drop 8) c.loop-group.invariant.rest_is
+          ∙ drop-drop 8 n bytes ∙ ap (λ (k : ℕ). drop k bytes) more;
     }

@@ -8,7 +8,9 @@ use Rattle.table_entries.proofs.frames.read_callers.Goals as goal
 pub loop-holder-init : goal.loop-holder-init
 loop-holder-init c =
     record {
-      so_far = rw c.clear.ensures (many-begins (λ k. frame_in c.args.rows k true) c.args.count c.args.bytes.now);
+      so_far =
+          rw c.clear.ensures
+          (many-begins (λ k. frame_in c.args.rows k true) c.args.count c.args.bytes.now);
       long = rw c.clear.ensures;
     }
 
@@ -19,9 +21,17 @@ loop-holder-preserved c =
     let frame = c.read_frame.new.frame in
     record {
       so_far =
-          rw (c.both-allowed.ensures, c.push.ensures.items, kept-both c.loop-holder.allowed c.in_ok-fits.fits items frame)
-          (many-goes_on one (kept c.loop-holder.allowed items) c.args.count c.loop-holder.holder c.loop-holder.rest.now (kept c.in_ok-fits.fits frame)
-          c.in_ok-fits.after.now _ (omega arith) c.in_ok-fits.ensures c.loop-holder.invariant.so_far);
+          rw (
+            c.both-allowed.ensures,
+            c.push.ensures.items,
+            kept-both c.loop-holder.allowed
+                c.in_ok-fits.fits items frame,
+          )
+          (many-goes_on one
+          (kept c.loop-holder.allowed items) c.args.count c.loop-holder.holder
+          c.loop-holder.rest.now (kept c.in_ok-fits.fits frame)
+          c.in_ok-fits.after.now _
+          (omega arith) c.in_ok-fits.ensures c.loop-holder.invariant.so_far);
       long = omega arith;
     }
 
@@ -29,10 +39,13 @@ pub returns-in_err-fits : goal.returns-in_err-fits
 returns-in_err-fits c =
     let p = err_from_is_err_and c.from_residual.result c.from_residual.ensures.1 in
     rw (p.1, p.2)
-    (many-stops (λ k. frame_in c.args.rows k true) (kept c.loop-holder.allowed c.loop-holder.callers.items) c.args.count c.loop-holder.holder
-    c.loop-holder.rest.now c.in_err-fits.field-0.0 _ (omega arith) c.in_err-fits.ensures c.loop-holder.invariant.so_far)
+    (many-stops (λ k. frame_in c.args.rows k true)
+    (kept c.loop-holder.allowed c.loop-holder.callers.items) c.args.count c.loop-holder.holder
+    c.loop-holder.rest.now c.in_err-fits.field-0.0 _
+    (omega arith) c.in_err-fits.ensures c.loop-holder.invariant.so_far)
 
 pub returns : goal.returns
 returns c =
-    many-done (λ k. frame_in c.args.rows k true) (kept c.loop-holder.allowed c.loop-holder.callers.items) c.args.count c.loop-holder.holder
+    many-done (λ k. frame_in c.args.rows k true)
+    (kept c.loop-holder.allowed c.loop-holder.callers.items) c.args.count c.loop-holder.holder
     c.loop-holder.rest.now _ (omega arith) c.loop-holder.invariant.so_far

@@ -8,7 +8,8 @@ use Rattle.table_entries.proofs.frames.read_callers.Given as goal
 abbrev pub invariant-loop-holder : goal.invariant-loop-holder
 invariant-loop-holder l =
     record {
-      so_far : with_front (kept l.allowed l.callers.items) (many (λ k. frame_in l.rows k true) (l.count - l.holder) l.holder l.rest)
+      so_far : with_front (kept l.allowed l.callers.items)
+          (many (λ k. frame_in l.rows k true) (l.count - l.holder) l.holder l.rest)
           ≡ callers_in l.rows l.count l.bytes;
       long : length l.callers.items ≡ l.holder;
     }

@@ -4,6 +4,14 @@ use Rattle.table_entries.proofs.frames.read_frame.Goals as goal
 
 pub returns : goal.returns
 returns c =
-    rw (c.both-2.ensures, c.both.ensures, c.frame_allowed-fits.ensures, c.from-frame.ensures, c.u16_at.ensures)
-    (frame_in-read c.args.rows c.args.holder c.args.outer c.args.bytes.now c.in_ok-values.values c.read_registers.new.registers c.in_ok-values.rest.now
-    c.in_ok-slots.slots c.read_slots.new.slots c.in_ok-slots.rest.now (omega arith) (rw (← c.skip.ensures) c.in_ok-values.ensures) c.in_ok-slots.ensures)
+    rw (
+      c.both-2.ensures,
+      c.both.ensures,
+      c.frame_allowed-fits.ensures,
+      c.from-frame.ensures,
+      c.u16_at.ensures,
+    )
+    (frame_in-read c.args.rows c.args.holder c.args.outer c.args.bytes.now c.in_ok-kinds.kinds
+    c.read_registers.new.registers c.in_ok-kinds.rest.now
+    c.in_ok-slots.slots c.read_slots.new.slots c.in_ok-slots.rest.now (omega arith)
+    (rw (← c.skip.ensures) c.in_ok-kinds.ensures) c.in_ok-slots.ensures)

@@ -10,6 +10,7 @@ loop-index-preserved c =
     record {
       so_far =
           take_more_set xs c.loop-index.index x (omega arith)
-          ∙ rw (c.mark.ensures, c.loop-index.invariant.so_far) (replicate_more c.loop-index.index (Written 0));
+          ∙ rw (c.mark.ensures, c.loop-index.invariant.so_far)
+          (replicate_more c.loop-index.index (Written 0));
       long = length-set xs c.loop-index.index x ∙ c.loop-index.invariant.long;
     }

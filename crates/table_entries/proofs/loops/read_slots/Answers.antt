@@ -5,7 +5,7 @@ use Rattle.stack_state.specs.Slots.{frame_slots}
 use Rattle.table_entries.specs.Values.{slot_in}
 use Rattle.table_entries.specs.Reading.{kept}
 use Rattle.table_entries.proofs.BlankSlots.{blank_so_far}
-use Rattle.table_entries.proofs.Many.{places-goes_on, many-stops, places-done}
+use Rattle.table_entries.proofs.Many.{kept-goes_on, many-stops, kept-done}
 use Rattle.table_entries.proofs.loops.read_slots.Goals as goal
 
 pub loop-index-init : goal.loop-index-init
@@ -13,7 +13,8 @@ loop-index-init c = record {
   so_far =
       let blank : take c.blank_slots-blank.result c.clear.new.slots ≡ _ = c.clear.ensures in
       rw (blank, c.skip-rest.ensures)
-      (blank_so_far c.args.rows c.args.holder frame_slots c.blank_slots-blank.result c.args.bytes.now c.blank_slots-blank.ensures.most c.blank_slots-blank.ensures.zeros);
+      (blank_so_far c.args.rows c.args.holder frame_slots c.blank_slots-blank.result
+      c.args.bytes.now c.blank_slots-blank.ensures.most c.blank_slots-blank.ensures.zeros);
   long = omega arith;
 }
 
@@ -24,8 +25,10 @@ loop-index-preserved c =
     record {
       so_far =
           rw c.both-allowed.ensures
-          (places-goes_on (λ k. slot_in c.args.rows c.args.holder) c.loop-index.allowed c.in_ok-fits.fits xs frame_slots c.loop-index.index c.loop-index.rest.now x
-          c.in_ok-fits.after.now _ (omega arith) (omega arith) c.in_ok-fits.ensures c.loop-index.invariant.so_far);
+          (kept-goes_on (λ k. slot_in c.args.rows c.args.holder) c.loop-index.allowed
+          c.in_ok-fits.fits xs frame_slots c.loop-index.index c.loop-index.rest.now x
+          c.in_ok-fits.after.now _ (omega arith)
+          (omega arith) c.in_ok-fits.ensures c.loop-index.invariant.so_far);
       long = length-set xs c.loop-index.index x ∙ c.loop-index.invariant.long;
     }
 
@@ -33,10 +36,14 @@ pub returns-in_err-fits : goal.returns-in_err-fits
 returns-in_err-fits c =
     let p = err_from_is_err_and c.from_residual.result c.from_residual.ensures.1 in
     rw (p.1, p.2)
-    (many-stops (λ k. slot_in c.args.rows c.args.holder) (kept c.loop-index.allowed (take c.loop-index.index c.loop-index.slots)) frame_slots c.loop-index.index
-    c.loop-index.rest.now c.in_err-fits.field-0.0 _ (omega arith) c.in_err-fits.ensures c.loop-index.invariant.so_far)
+    (many-stops (λ k. slot_in c.args.rows c.args.holder)
+    (kept c.loop-index.allowed (take c.loop-index.index c.loop-index.slots)) frame_slots
+    c.loop-index.index
+    c.loop-index.rest.now c.in_err-fits.field-0.0 _
+    (omega arith) c.in_err-fits.ensures c.loop-index.invariant.so_far)
 
 pub returns : goal.returns
 returns c =
-    places-done (λ k. slot_in c.args.rows c.args.holder) c.loop-index.allowed c.loop-index.slots frame_slots c.loop-index.index c.loop-index.rest.now _ (omega arith)
+    kept-done (λ k. slot_in c.args.rows c.args.holder) c.loop-index.allowed c.loop-index.slots
+    frame_slots c.loop-index.index c.loop-index.rest.now _ (omega arith)
     (omega arith) c.loop-index.invariant.so_far

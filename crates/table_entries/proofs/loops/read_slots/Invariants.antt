@@ -9,7 +9,8 @@ use Rattle.table_entries.proofs.loops.read_slots.Given as goal
 abbrev pub invariant-loop-index : goal.invariant-loop-index
 invariant-loop-index l =
     record {
-      so_far : with_front (kept l.allowed (take l.index l.slots)) (many (λ k. slot_in l.rows l.holder) (frame_slots - l.index) l.index l.rest)
+      so_far : with_front (kept l.allowed (take l.index l.slots))
+          (many (λ k. slot_in l.rows l.holder) (frame_slots - l.index) l.index l.rest)
           ≡ many (λ k. slot_in l.rows l.holder) frame_slots 0 l.bytes;
       long : length l.slots ≡ frame_slots;
     }

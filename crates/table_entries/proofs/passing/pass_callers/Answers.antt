@@ -13,17 +13,20 @@ loop-holder-init c =
 pub loop-holder-preserved : goal.loop-holder-preserved
 loop-holder-preserved c =
     rw c.both-allowed.ensures
-    (seen-goes_on (λ k. frame_in c.args.rows k true) c.loop-holder.allowed c.args.count c.loop-holder.holder c.loop-holder.rest.now c.in_ok-fits.fits
+    (seen-goes_on (λ k. frame_in c.args.rows k true) c.loop-holder.allowed c.args.count
+    c.loop-holder.holder c.loop-holder.rest.now c.in_ok-fits.fits
     c.in_ok-fits.after.now _ (omega arith) c.in_ok-fits.ensures c.loop-holder.invariant)
 
 pub returns-in_err-fits : goal.returns-in_err-fits
 returns-in_err-fits c =
     let p = err_from_is_err_and c.from_residual.result c.from_residual.ensures.1 in
     rw (p.1, p.2)
-    (seen-stops (λ k. frame_in c.args.rows k true) c.loop-holder.allowed c.args.count c.loop-holder.holder c.loop-holder.rest.now c.in_err-fits.field-0.0 _
+    (seen-stops (λ k. frame_in c.args.rows k true) c.loop-holder.allowed c.args.count
+    c.loop-holder.holder c.loop-holder.rest.now c.in_err-fits.field-0.0 _
     (omega arith) c.in_err-fits.ensures c.loop-holder.invariant)
 
 pub returns : goal.returns
 returns c =
-    seen-done (λ k. frame_in c.args.rows k true) c.loop-holder.allowed c.args.count c.loop-holder.holder c.loop-holder.rest.now _ (omega arith)
+    seen-done (λ k. frame_in c.args.rows k true) c.loop-holder.allowed c.args.count
+    c.loop-holder.holder c.loop-holder.rest.now _ (omega arith)
     c.loop-holder.invariant

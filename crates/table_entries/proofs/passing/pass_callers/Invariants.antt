@@ -7,4 +7,6 @@ use Rattle.table_entries.proofs.passing.pass_callers.Given as goal
 -- what was passed over, and what is left
 abbrev pub invariant-loop-holder : goal.invariant-loop-holder
 invariant-loop-holder l =
-    and_seen l.allowed (seen (many (λ k. frame_in l.rows k true) (l.count - l.holder) l.holder l.rest)) ≡ seen (callers_in l.rows l.count l.bytes)
+    and_seen l.allowed
+    (seen (many (λ k. frame_in l.rows k true) (l.count - l.holder) l.holder l.rest))
+    ≡ seen (callers_in l.rows l.count l.bytes)

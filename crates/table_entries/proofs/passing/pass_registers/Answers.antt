@@ -10,21 +10,32 @@ pub returns-then-bytes-lt2 : goal.returns-then-bytes-lt2
 unfolding frame_in
 returns-then-bytes-lt2 c = rw (lt-ltb (length c.args.bytes.now) 2 c.if-bytes-lt2.true)
 
-pub returns-in_err-values : goal.returns-in_err-values
-returns-in_err-values c =
+pub returns-in_err-kinds : goal.returns-in_err-kinds
+returns-in_err-kinds c =
     let p = err_from_is_err_and c.from_residual.result c.from_residual.ensures.1 in
     rw (p.1, p.2)
-    (ap seen (stop-caller c.args.rows c.args.holder true c.args.bytes.now c.in_err-values.field-0.0 c.if-bytes-lt2.false (rw (← c.skip.ensures) c.in_err-values.ensures)))
+    (ap seen (stop-caller c.args.rows c.args.holder true c.args.bytes.now c.in_err-kinds.field-0.0
+    c.if-bytes-lt2.false (rw (← c.skip.ensures) c.in_err-kinds.ensures)))
 
 pub returns-in_err-slots : goal.returns-in_err-slots
 returns-in_err-slots c =
-    let p = err_from_is_err_and c.from_residual-in_err-slots.result c.from_residual-in_err-slots.ensures.1 in
+    let p =
+    err_from_is_err_and c.from_residual-in_err-slots.result
+    c.from_residual-in_err-slots.ensures.1 in
     rw (p.1, p.2)
-    (seen-caller c.args.rows c.args.holder true c.args.bytes.now c.in_ok-values.values c.read_registers.new.registers c.in_ok-values.rest.now c.if-bytes-lt2.false
-    (rw (← c.skip.ensures) c.in_ok-values.ensures) ∙ rw c.in_err-slots.ensures)
+    (seen-caller c.args.rows c.args.holder true c.args.bytes.now c.in_ok-kinds.kinds
+    c.read_registers.new.registers c.in_ok-kinds.rest.now c.if-bytes-lt2.false
+    (rw (← c.skip.ensures) c.in_ok-kinds.ensures) ∙ rw c.in_err-slots.ensures)
 
 pub returns : goal.returns
 returns c =
-    rw (c.both-2.ensures, c.both.ensures, c.frame_allowed-fits.ensures, c.from.ensures, c.u16_at.ensures)
-    (seen-caller c.args.rows c.args.holder true c.args.bytes.now c.in_ok-values.values c.read_registers.new.registers c.in_ok-values.rest.now c.if-bytes-lt2.false
-    (rw (← c.skip.ensures) c.in_ok-values.ensures) ∙ rw c.in_ok-slots.ensures)
+    rw (
+      c.both-2.ensures,
+      c.both.ensures,
+      c.frame_allowed-fits.ensures,
+      c.from.ensures,
+      c.u16_at.ensures,
+    )
+    (seen-caller c.args.rows c.args.holder true c.args.bytes.now c.in_ok-kinds.kinds
+    c.read_registers.new.registers c.in_ok-kinds.rest.now c.if-bytes-lt2.false
+    (rw (← c.skip.ensures) c.in_ok-kinds.ensures) ∙ rw c.in_ok-slots.ensures)

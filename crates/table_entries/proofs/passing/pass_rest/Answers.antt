@@ -7,11 +7,20 @@ use Rattle.table_entries.proofs.passing.pass_rest.Goals as goal
 pub returns-in_err-callers : goal.returns-in_err-callers
 returns-in_err-callers c =
     let p = err_from_is_err_and c.from_residual.result c.from_residual.ensures.1 in
-    rw (p.1, p.2, seen-rest c.args.image.now c.args.number c.args.slot c.args.outer c.args.bytes.now, ← c.maps-rows.ensures, c.in_err-callers.ensures)
+    rw (
+      p.1,
+      p.2,
+      seen-rest c.args.image.now c.args.number c.args.slot c.args.outer
+          c.args.bytes.now,
+      ← c.maps-rows.ensures,
+      c.in_err-callers.ensures,
+    )
 
 pub returns-in_err-innermost : goal.returns-in_err-innermost
 returns-in_err-innermost c =
-    let p = err_from_is_err_and c.from_residual-in_err-innermost.result c.from_residual-in_err-innermost.ensures.1 in
+    let p =
+    err_from_is_err_and c.from_residual-in_err-innermost.result
+    c.from_residual-in_err-innermost.ensures.1 in
     rw (
       p.1,
       p.2,
@@ -23,7 +32,9 @@ returns-in_err-innermost c =
 
 pub returns-in_err-rest : goal.returns-in_err-rest
 returns-in_err-rest c =
-    let p = err_from_is_err_and c.from_residual-in_err-rest.result c.from_residual-in_err-rest.ensures.1 in
+    let p =
+    err_from_is_err_and c.from_residual-in_err-rest.result
+    c.from_residual-in_err-rest.ensures.1 in
     rw (
       p.1,
       p.2,
@@ -38,5 +49,13 @@ pub returns : goal.returns
 returns c =
     let named = ap seen c.in_ok-rest.ensures in
     seen-rest c.args.image.now c.args.number c.args.slot c.args.outer c.args.bytes.now
-    ∙ rw (← c.maps-rows.ensures, c.in_ok-callers.ensures, c.in_ok-innermost.ensures, named, c.both-2.ensures, c.both.ensures, c.head_allowed-fits.ensures)
+    ∙ rw (
+      ← c.maps-rows.ensures,
+      c.in_ok-callers.ensures,
+      c.in_ok-innermost.ensures,
+      named,
+      c.both-2.ensures,
+      c.both.ensures,
+      c.head_allowed-fits.ensures,
+    )
     (ap (λ (b : Bool). Ok (b, c.in_ok-rest.rest.now)) (sym (and-named _)))

@@ -7,5 +7,6 @@ use Rattle.table_entries.proofs.spelling.after_callers.Given as goal
 -- what was spelled, and what is left to read
 abbrev pub invariant-loop-holder : goal.invariant-loop-holder
 invariant-loop-holder l =
-    with_front (Some (take l.holder l.callers)) (many (λ k. frame_in l.rows k true) (length l.callers - l.holder) l.holder l.rest)
+    with_front (Some (take l.holder l.callers))
+    (many (λ k. frame_in l.rows k true) (length l.callers - l.holder) l.holder l.rest)
     ≡ callers_in l.rows (length l.callers) l.bytes

@@ -9,7 +9,8 @@ are_low-requires c = rw c.skip-2.ensures (let long = length-drop 48 c.args.bytes
 pub returns : goal.returns
 returns c = (
   c.if-bytes-lt64.false,
-  scalar-spelled c.args.bytes.now c.args.numbers.now (c.are_bits.ensures c.if-not-are_bits.false) (rw (← c.skip.ensures) (c.are_wide.ensures c.if-not-are_wide.false))
+  scalar-spelled c.args.bytes.now c.args.numbers.now (c.are_bits.ensures c.if-not-are_bits.false)
+      (rw (← c.skip.ensures) (c.are_wide.ensures c.if-not-are_wide.false))
       (rw (← c.skip-2.ensures) (c.are_low.ensures c.if-not-are_low.false)),
   c.skip-3.ensures,
 )

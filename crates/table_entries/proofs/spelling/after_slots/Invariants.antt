@@ -8,4 +8,6 @@ use Rattle.table_entries.proofs.spelling.after_slots.Given as goal
 -- what was spelled, and what is left to read
 abbrev pub invariant-loop-index : goal.invariant-loop-index
 invariant-loop-index l =
-    with_front (Some (take l.index l.slots)) (many (λ k. slot_in l.rows l.holder) (frame_slots - l.index) l.index l.rest) ≡ many (λ k. slot_in l.rows l.holder) frame_slots 0 l.bytes
+    with_front (Some (take l.index l.slots))
+    (many (λ k. slot_in l.rows l.holder) (frame_slots - l.index) l.index l.rest)
+    ≡ many (λ k. slot_in l.rows l.holder) frame_slots 0 l.bytes

@@ -7,7 +7,8 @@ use Rattle.table_entries.proofs.tables.places_in.Given as goal
 abbrev pub invariant-loop-index : goal.invariant-loop-index
 invariant-loop-index l =
     record {
-      so_far : with_entries (map (entry_from l.image l.bytes) l.places.items) (entries_in l.image (l.count - l.index) l.index l.rest)
+      so_far : with_entries (map (entry_from l.image l.bytes) l.places.items)
+          (entries_in l.image (l.count - l.index) l.index l.rest)
           ≡ entries_in l.image l.count 0 (drop 8 l.bytes);
       first_is : l.first ≡ first_none 0 (map (entry_from l.image l.bytes) l.places.items);
       long : length l.places.items ≡ l.index;

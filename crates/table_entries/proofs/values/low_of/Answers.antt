@@ -13,7 +13,8 @@ pub returns-then-signed_greatest-signed_least : goal.returns-then-signed_greates
 returns-then-signed_greatest-signed_least c =
     let a = c.args in
     let past = c.if-signed_greatest-signed_least.true in
-    sym (low_of-none a.least a.greatest a.signed_least a.signed_greatest (λ o p. omega (arith, ints)))
+    sym (low_of-none a.least a.greatest a.signed_least a.signed_greatest
+    (λ o p. omega (arith, ints)))
 
 pub returns : goal.returns
 returns c = low_of-made _ _ _ _ _ _ _ _ (omega (arith, ints)) (omega (arith, ints))

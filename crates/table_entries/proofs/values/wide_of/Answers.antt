@@ -13,7 +13,8 @@ pub returns-then-signed_least-signed_greatest : goal.returns-then-signed_least-s
 returns-then-signed_least-signed_greatest c =
     let a = c.args in
     let past = c.if-signed_least-signed_greatest.true in
-    sym (wide_of-none a.least a.greatest a.signed_least a.signed_greatest (λ o p. omega (arith, ints)))
+    sym (wide_of-none a.least a.greatest a.signed_least a.signed_greatest
+    (λ o p. omega (arith, ints)))
 
 pub returns : goal.returns
 returns c = wide_of-made _ _ _ _ _ _ _ _ (omega (arith, ints)) (omega (arith, ints))

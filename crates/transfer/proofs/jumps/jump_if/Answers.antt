@@ -27,6 +27,9 @@ returns c = λ p count.
       goes = goes g;
       go = left_in cond a g;
       taken_there = c.outcome_of-go.ensures.refines;
-      sides = subst (λ n. Sides (goes h) (goes g) (go_to (left_in cond a h) (a.slot + 1)) (go_to (left_in cond a g) n) c.part.result c.part.new.state c.part.new.other)
-          leads c.part.ensures;
+      sides =
+          subst (λ n.
+          Sides (goes h) (goes g) (go_to (left_in cond a h) (a.slot + 1))
+          (go_to (left_in cond a g) n) c.split.result c.split.new.state c.split.new.other)
+          leads c.split.ensures;
     }

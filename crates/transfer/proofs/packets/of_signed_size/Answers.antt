@@ -18,8 +18,14 @@ returns c =
     record {
       members = λ x. (
         λ h. let m = (range.members x).0 h.1 in (m.0, (fits (cast_signed w64 x)).0 (m.1, m.2)),
-        λ h. let m = (fits (cast_signed w64 x)).1 h.1 in ((c.any.ensures x).1 h.0, (range.members x).1 (h.0, m.0, m.1)),
+        λ h. let m =
+            (fits (cast_signed w64 x)).1 h.1 in
+            ((c.any.ensures x).1 h.0, (range.members x).1 (h.0, m.0, m.1)),
       );
-      signed_least = subst (FitsSigned kind) (sym limits.0) ((fits c.signed_limits-least.result.0).0 (search rules, ordered));
-      signed_greatest = subst (FitsSigned kind) (sym limits.1) ((fits c.signed_limits-least.result.1).0 (ordered, search rules));
+      signed_least =
+          subst (FitsSigned kind) (sym limits.0)
+          ((fits c.signed_limits-least.result.0).0 (search rules, ordered));
+      signed_greatest =
+          subst (FitsSigned kind) (sym limits.1)
+          ((fits c.signed_limits-least.result.1).0 (ordered, search rules));
     }

@@ -14,12 +14,19 @@ returns c =
     record {
       members = λ x. (
         λ h. let to = h.1.0.to in omega arith,
-        λ below. (bits.contains x (omega arith) (omega arith), (range.members x).1 (omega arith, omega arith)),
+        λ below. (
+          bits.contains x (omega arith) (omega arith),
+          (range.members x).1 (omega arith, omega arith),
+        ),
       );
       unknown = λ i one. of_size_unknown size most i is (bits.sharp i one);
       least = limits.0;
       greatest = omega arith;
-      signed_least = λ narrow. (range.signed (greatest_signed size most is narrow).0).0 ∙ (greatest_signed size most is narrow).2;
-      signed_greatest = λ narrow. (range.signed (greatest_signed size most is narrow).0).1 ∙ (greatest_signed size most is narrow).1
+      signed_least =
+          λ narrow. (range.signed (greatest_signed size most is narrow).0).0
+          ∙ (greatest_signed size most is narrow).2;
+      signed_greatest =
+          λ narrow. (range.signed (greatest_signed size most is narrow).0).1
+          ∙ (greatest_signed size most is narrow).1
           ∙ ap pos (sym limits.1);
     }

@@ -11,7 +11,9 @@ returns-in-Some c =
     inl (record {
       number = c.in-Some.number;
       alone = (c.in-Some.ensures.value c.in-Some.number).0 refl;
-      moves = subst (λ z. MovesBy c.args.state.now c.args.back c.args.pointer z c.moved.result) c.cast_signed.ensures moves;
+      moves =
+          subst (λ z. MovesBy c.args.state.now c.args.back c.args.pointer z c.moved.result)
+          c.cast_signed.ensures moves;
     })
 
 pub returns-in-None : goal.returns-in-None

@@ -6,7 +6,8 @@ use Rattle.transfer.proofs.packets.still_proved.Goals.{then-proved-eq0-via-then-
 pub returns-then-proved-eq0 : goal.returns-then-proved-eq0
 returns-then-proved-eq0 c =
     elim c.then-proved-eq0.branch [
-      | then-proved-eq0-via-then-proved-eq0 w ↦ record { some = λ s. absurd (omega arith); none = λ z some. absurd (omega arith) }
+      | then-proved-eq0-via-then-proved-eq0 w ↦
+          record { some = λ s. absurd (omega arith); none = λ z some. absurd (omega arith) }
       | then-proved-eq0-via-else-proved-eq0+then-left-lt0 w ↦
           let below = w.if-left-lt0.true in
           record { some = λ s. absurd (omega arith); none = λ z some. inl (omega (arith, ints)) }
@@ -20,4 +21,7 @@ pub returns : goal.returns
 returns c =
     let some = c.if-left-lt0.false in
     let most = c.if-left-from.false in
-    record { some = λ s. (omega arith, omega (arith, ints)); none = λ z before. inl (omega (arith, ints)) }
+    record {
+      some = λ s. (omega arith, omega (arith, ints));
+      none = λ z before. inl (omega (arith, ints));
+    }

@@ -9,7 +9,8 @@ use Rattle.transfer.specs.Results.{LeavesNumber}
 use Rattle.transfer.specs.Values.{nearest, farthest, ValueMoves}
 use Rattle.transfer.proofs.pointers.moved.Goals as goal
 
-leaves : (by : Scalar) (o : Option ℕ) → ((n : ℕ) → ((o ≡ Some n) ↔ IsNumber by n)) → LeavesNumber by o
+leaves : (by : Scalar) (o : Option ℕ) → ((n : ℕ) → ((o ≡ Some n) ↔ IsNumber by n))
+    → LeavesNumber by o
 leaves by (Some n) says = (says n).0 refl
 leaves by None says = λ n is. none-some n ((says n).1 is)
 
@@ -17,7 +18,8 @@ pub returns-in-Stack : goal.returns-in-Stack
 returns-in-Stack c =
     let narrow : SFits w32 c.in-Stack.offset = search rules in
     let made = simp to_z-of_z at c.moved_frame.ensures in
-    rw c.in-Stack.is (c.number.result, leaves c.args.by c.number.result c.number.ensures.value, made)
+    rw c.in-Stack.is
+    (c.number.result, leaves c.args.by c.number.result c.number.ensures.value, made)
 
 pub returns-in-Packet : goal.returns-in-Packet
 returns-in-Packet c =
@@ -35,7 +37,12 @@ returns-in-MapValue c =
     let near : SFits w64 c.nearest-near.result = search rules in
     let far : SFits w64 c.farthest-far.result = search rules in
     let made = simp to_z-of_z at c.value_moved.ensures in
-    let moves : ValueMoves c.args.back c.in-MapValue.index c.in-MapValue.least c.in-MapValue.greatest (nearest c.args.by o) (farthest c.args.by o) c.value_moved.result =
-    subst (λ z. ValueMoves c.args.back c.in-MapValue.index c.in-MapValue.least c.in-MapValue.greatest z (farthest c.args.by o) c.value_moved.result) c.nearest-near.ensures
-    (subst (λ z. ValueMoves c.args.back c.in-MapValue.index c.in-MapValue.least c.in-MapValue.greatest c.nearest-near.result z c.value_moved.result) c.farthest-far.ensures made) in
+    let moves : ValueMoves c.args.back c.in-MapValue.index c.in-MapValue.least
+    c.in-MapValue.greatest (nearest c.args.by o) (farthest c.args.by o) c.value_moved.result =
+    subst (λ z. ValueMoves c.args.back c.in-MapValue.index c.in-MapValue.least
+    c.in-MapValue.greatest z (farthest c.args.by o) c.value_moved.result)
+    c.nearest-near.ensures
+    (subst (λ z.
+    ValueMoves c.args.back c.in-MapValue.index c.in-MapValue.least c.in-MapValue.greatest
+    c.nearest-near.result z c.value_moved.result) c.farthest-far.ensures made) in
     rw c.in-MapValue.is (o, leaves c.args.by o c.number-number.ensures.value, moves)

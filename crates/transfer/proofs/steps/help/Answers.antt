@@ -8,7 +8,9 @@ returns c = (
   refl,
   record {
     left = c.call_helper.new.state;
-    leaving = subst (λ (n : ℤ). CallsHelper c.args.maps.now c.args.state.now n c.call_helper.new.state (Ok tt))
+    leaving =
+        subst (λ (n : ℤ).
+        CallsHelper c.args.maps.now c.args.state.now n c.call_helper.new.state (Ok tt))
         (to_z-of_z w32 c.args.number c.ranges.number) c.in_ok-call_helper.ensures;
     next = refl;
   },

@@ -1,4 +1,4 @@
-use Rattle.walks.proofs.Forgotten.{callers_none}
+use Rattle.walks.proofs.ForgettingLoops.{callers_none}
 use Rattle.walks.proofs.forgetting.forget_caller.Goals as goal
 
 pub returns-then-not-has_called : goal.returns-then-not-has_called

@@ -1,4 +1,4 @@
-use Rattle.walks.proofs.Forgotten.{AreSlotsKept-left}
+use Rattle.walks.proofs.ForgettingLoops.{AreSlotsKept-left}
 use Rattle.walks.proofs.forgetting.forget_places.Goals as goal
 
 pub returns-clause-slots : goal.returns-clause-slots

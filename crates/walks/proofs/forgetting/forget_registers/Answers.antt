@@ -2,7 +2,7 @@ use Rattle.std.proofs.Common.{◌≡◌, Some, sym, ◌∙◌, arith}
 use Rattle.std.proofs.lemmas.Bool.{iff_false}
 use Rattle.isa_model.specs.Code.Registers.{reg_numbered}
 use Rattle.control_flow.proofs.RegisterLaws.{number_of}
-use Rattle.walks.proofs.Forgotten.{kept_more_live, kept_more_dead}
+use Rattle.walks.proofs.ForgettingLoops.{kept_more_live, kept_more_dead}
 use Rattle.walks.proofs.forgetting.forget_registers.Goals as goal
 use Rattle.walks.proofs.forgetting.forget_registers.Goals.{then-not-has, else-not-has}
 
@@ -17,8 +17,10 @@ loop-number-preserved c =
     elim c.if-not-has.branch [
       | then-not-has w ↦
           rw (w.registers-is, w.from.ensures, w.unset.ensures)
-          (kept_more_dead p slot n r c.args.registers.now c.loop-number.registers is (omega arith) (c.is_join.ensures.join.0 c.if-not-is_join.false)
-          (λ live. iff_false c.has.ensures w.if-not-has.true ((c.live-live.ensures r).1 live)) c.loop-number.invariant)
+          (kept_more_dead p slot n r c.args.registers.now c.loop-number.registers is (omega arith)
+          (c.is_join.ensures.join.0 c.if-not-is_join.false)
+          (λ live. iff_false c.has.ensures w.if-not-has.true ((c.live-live.ensures r).1 live))
+          c.loop-number.invariant)
       | else-not-has w ↦
           rw w.registers-is
           (kept_more_live p slot n r c.args.registers.now c.loop-number.registers is

@@ -1,4 +1,4 @@
-use Rattle.walks.proofs.Forgotten.{KeptBelow}
+use Rattle.walks.proofs.ForgettingLoops.{KeptBelow}
 use Rattle.walks.proofs.forgetting.forget_registers.Given as goal
 
 abbrev pub invariant-loop-number : goal.invariant-loop-number

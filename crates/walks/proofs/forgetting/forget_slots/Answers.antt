@@ -2,7 +2,7 @@ use Rattle.std.proofs.Common.{◌≡◌, ℕ, ◌+◌, ◌*◌, List, arith, rul
 use Rattle.std.proofs.lemmas.Bool.{iff_false}
 use Rattle.isa_model.specs.Code.Instructions.{Program}
 use Rattle.stack_state.specs.declared.slots.StackSlot.{StackSlot}
-use Rattle.walks.proofs.Forgotten.{SlotsLeftBelow, slots_left_live, slots_left_dead, slots_left_full, slots_left_empty}
+use Rattle.walks.proofs.ForgettingLoops.{SlotsLeftBelow, slots_left_live, slots_left_dead, slots_left_full, slots_left_empty}
 use Rattle.walks.proofs.forgetting.forget_slots.Goals as goal
 use Rattle.walks.proofs.forgetting.forget_slots.Goals.{then-not-has, else-not-has, then-is_empty_in+else-loop-place-test, else-is_empty_in+else-loop-place-else-is_empty_in-test}
 
@@ -13,12 +13,14 @@ left_to p slot n m old new same left = subst (λ k. SlotsLeftBelow p slot k old 
 pub loop-place-init : goal.loop-place-init
 loop-place-init c =
     let b : ℕ = c.loop-block.block in
-    left_to c.args.flow.now c.args.slot (8 * b) (8 * b + 0) c.args.slots.now c.loop-block.slots (omega arith) c.loop-block.invariant
+    left_to c.args.flow.now c.args.slot (8 * b) (8 * b + 0) c.args.slots.now c.loop-block.slots
+    (omega arith) c.loop-block.invariant
 
 pub loop-place-else-is_empty_in-init : goal.loop-place-else-is_empty_in-init
 loop-place-else-is_empty_in-init c =
     let b : ℕ = c.loop-block.block in
-    left_to c.args.flow.now c.args.slot (8 * b) (8 * b + 0) c.args.slots.now c.loop-block.slots (omega arith) c.loop-block.invariant
+    left_to c.args.flow.now c.args.slot (8 * b) (8 * b + 0) c.args.slots.now c.loop-block.slots
+    (omega arith) c.loop-block.invariant
 
 -- all eight are dead
 pub loop-place-preserved : goal.loop-place-preserved
@@ -31,7 +33,8 @@ loop-place-preserved c =
     rw (c.from.ensures, c.clear.ensures)
     (left_to p slot (n + 1) (8 * b + (k + 1)) c.args.slots.now _ (omega arith)
     (slots_left_dead p slot n c.args.slots.now c.loop-place.slots (omega arith)
-    (λ live. c.is_empty_in.ensures.none c.if-is_empty_in.true n (omega arith) (omega arith) ((c.live_slots-live.ensures n).1 live))
+    (λ live. c.is_empty_in.ensures.none c.if-is_empty_in.true n (omega arith) (omega arith)
+    ((c.live_slots-live.ensures n).1 live))
     c.loop-place.invariant))
 
 -- the next one is dead or live
@@ -48,7 +51,8 @@ loop-place-else-is_empty_in-preserved c =
           rw (w.slots-is, w.from-then-not-has.ensures, w.clear-then-not-has.ensures)
           (left_to p slot (n + 1) (8 * b + (k + 1)) c.args.slots.now _ (omega arith)
           (slots_left_dead p slot n c.args.slots.now at.slots (omega arith)
-          (λ live. iff_false c.has.ensures w.if-not-has.true ((c.live_slots-live.ensures n).1 live)) at.invariant))
+          (λ live. iff_false c.has.ensures w.if-not-has.true ((c.live_slots-live.ensures n).1 live))
+          at.invariant))
       | else-not-has w ↦
           rw w.slots-is
           (left_to p slot (n + 1) (8 * b + (k + 1)) c.args.slots.now _ (omega arith)
@@ -63,11 +67,13 @@ loop-block-preserved c =
       | then-is_empty_in+else-loop-place-test w ↦
           let k : ℕ = w.loop-place.place in
           rw w.slots-is
-          (left_to c.args.flow.now c.args.slot (8 * b + k) (8 * (b + 1)) c.args.slots.now _ (omega arith) w.loop-place.invariant)
+          (left_to c.args.flow.now c.args.slot (8 * b + k) (8 * (b + 1)) c.args.slots.now _
+          (omega arith) w.loop-place.invariant)
       | else-is_empty_in+else-loop-place-else-is_empty_in-test w ↦
           let k : ℕ = w.loop-place-else-is_empty_in.place in
           rw w.slots-is
-          (left_to c.args.flow.now c.args.slot (8 * b + k) (8 * (b + 1)) c.args.slots.now _ (omega arith) w.loop-place-else-is_empty_in.invariant)
+          (left_to c.args.flow.now c.args.slot (8 * b + k) (8 * (b + 1)) c.args.slots.now _
+          (omega arith) w.loop-place-else-is_empty_in.invariant)
     ]
 
 pub returns-then-is_full : goal.returns-then-is_full

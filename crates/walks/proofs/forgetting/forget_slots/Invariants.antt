@@ -1,5 +1,5 @@
 use Rattle.std.proofs.Common.{◌+◌, ◌*◌}
-use Rattle.walks.proofs.Forgotten.{SlotsLeftBelow}
+use Rattle.walks.proofs.ForgettingLoops.{SlotsLeftBelow}
 use Rattle.walks.proofs.forgetting.forget_slots.Given as goal
 
 abbrev pub invariant-loop-block : goal.invariant-loop-block
@@ -9,4 +9,5 @@ abbrev pub invariant-loop-place : goal.invariant-loop-place
 invariant-loop-place l = SlotsLeftBelow l.flow l.slot (8 * l.block + l.place) l.fn.slots l.slots
 
 abbrev pub invariant-loop-place-else-is_empty_in : goal.invariant-loop-place-else-is_empty_in
-invariant-loop-place-else-is_empty_in l = SlotsLeftBelow l.flow l.slot (8 * l.block + l.place) l.fn.slots l.slots
+invariant-loop-place-else-is_empty_in l =
+    SlotsLeftBelow l.flow l.slot (8 * l.block + l.place) l.fn.slots l.slots

@@ -13,4 +13,5 @@ loop-argument-preserved c =
     let lt : c.loop-argument.argument-index < length c.args.arguments.now = omega arith in
     c.in_ok-command.ensures.shape c.wanted.ensures.local
     ∙ (ap₂ with_rule c.loop-argument.invariant c.wanted.ensures.rule
-    ∙ sym (wanted-more (λ (x : Argument). x.name.now) _ c.args.arguments.now c.loop-argument.argument-index _ lt))
+    ∙ sym (wanted-more
+    (λ (x : Argument). x.name.now) _ c.args.arguments.now c.loop-argument.argument-index _ lt))

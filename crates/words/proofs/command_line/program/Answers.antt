@@ -8,7 +8,8 @@ use Rattle.words.proofs.command_line.program.Goals as goal
 pub returns : goal.returns
 unfolding line.program line.asm line.dis line.verify line.run line.trace line.prove line.recheck
 returns c =
-    let more : (a b : App) (command : App) → a ≡ b → with_command a command ≡ with_command b command =
+    let more : (a b : App) (command : App) → a ≡ b
+    → with_command a command ≡ with_command b command =
     λ a b command h. ap (λ p. with_command p command) h in
     let with-asm = c.in_ok-with_asm.ensures ∙ more _ _ line.asm c.in_ok-empty.ensures in
     let with-dis = c.in_ok-with_dis.ensures ∙ more _ _ line.dis with-asm in
@@ -16,4 +17,5 @@ returns c =
     let with-run = c.in_ok-with_run.ensures ∙ more _ _ line.run with-verify in
     let with-trace = c.in_ok-with_trace.ensures ∙ more _ _ line.trace with-run in
     let with-prove = c.in_ok-with_prove.ensures ∙ more _ _ line.prove with-trace in
-    IfOk-weaker c.with_command-5.result _ _ (λ made h. h ∙ more _ _ line.recheck with-prove) c.with_command-5.ensures
+    IfOk-weaker c.with_command-5.result _ _
+    (λ made h. h ∙ more _ _ line.recheck with-prove) c.with_command-5.ensures

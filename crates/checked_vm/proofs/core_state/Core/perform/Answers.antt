@@ -2,7 +2,7 @@ use Rattle.std.proofs.Common.{FitsSigned, w32, rules, sym, subst, ◌∙◌}
 use Rattle.std.proofs.lemmas.Int.{to_z-of_z}
 use Rattle.isa_model.specs.Machine.Steps.{StepResult}
 use Rattle.checked_vm.specs.Machine.{state_of}
-use Rattle.checked_vm.specs.Outcomes.{IsStep}
+use Rattle.checked_vm.specs.StepResults.{IsStep}
 use Rattle.checked_vm.proofs.Acts.{performed_acts}
 use Rattle.checked_vm.proofs.core_state.Core.perform.Goals as goal
 
@@ -12,8 +12,11 @@ returns-in-CallHelper-clause-step c = λ p clock count rows version.
     let old = state_of c.args.self.now c.args.packet.now in
     let step = simp to_z-of_z at c.call_helper.ensures.step p clock rows in
     let same =
-    performed_acts p clock old c.args.insn.now _ c.in-CallHelper.is (sym c.reads_unset.ensures ∙ c.if-reads_unset.false) (sym c.writes_frame_pointer.ensures ∙ c.if-writes_frame_pointer.false) in
-    subst (λ (r : StepResult). IsStep clock r c.call_helper.result old (state_of c.call_helper.new.self c.args.packet.now)) (sym same) step
+    performed_acts p clock old c.args.insn.now _ c.in-CallHelper.is
+    (sym c.is_reading_unset.ensures ∙ c.if-is_reading_unset.false)
+    (sym c.writes_frame_pointer.ensures ∙ c.if-writes_frame_pointer.false) in
+    subst (λ (r : StepResult). IsStep clock r c.call_helper.result old
+    (state_of c.call_helper.new.self c.args.packet.now)) (sym same) step
 
 pub returns-in-Err : goal.returns-in-Err
 returns-in-Err c = search rules

@@ -12,7 +12,10 @@ loop-done-init g c = record {
   rows = refl;
   serial = omega arith;
   calls = let none = c.requires.calls in omega arith;
-  clock = λ k. let none = c.requires.calls in let same : k ≡ c.args.self.now.clock_calls + k = omega arith in ap (g.C.Clock.at c.args.clock.now) same;
+  clock = λ k.
+      let none = c.requires.calls in
+      let same : k ≡ c.args.self.now.clock_calls + k = omega arith in
+      ap (g.C.Clock.at c.args.clock.now) same;
 }
 
 pub loop-done-preserved : goal.loop-done-preserved
@@ -21,7 +24,8 @@ loop-done-preserved g c =
     let e = c.in-Went.ensures in
     record {
       so_far = λ p code rows version.
-          progress-next p (g.C.Clock.at c.args.clock.now) c.loop-done.done _ _ _ (inv.so_far p code rows version)
+          progress-next p (g.C.Clock.at c.args.clock.now) c.loop-done.done _ _ _
+          (inv.so_far p code rows version)
           (e.step p (g.C.Clock.at c.args.clock.now) code (rows ∙ sym inv.rows) version inv.clock);
       running = e.running;
       rows = e.rows ∙ inv.rows;
@@ -35,7 +39,8 @@ returns-in-Ended-clause-turn g c = λ p code rows version.
     let inv = c.loop-done.invariant in
     let clock = g.C.Clock.at c.args.clock.now in
     let went = c.in-Ended.ensures.step p clock code (rows ∙ sym inv.rows) version inv.clock in
-    turn_of-finished p clock c.loop-done.done c.args.limit c.in-Ended.number _ _ (inv.so_far p code rows version) went.0 (omega arith)
+    turn_of-finished p clock c.loop-done.done c.args.limit c.in-Ended.number _ _
+    (inv.so_far p code rows version) went.0 (omega arith)
     ∙ ap (left (Exit c.in-Ended.number (c.loop-done.done + 1))) (sym went.1)
 
 pub returns-in-Stopped-clause-turn : goal.returns-in-Stopped-clause-turn
@@ -43,25 +48,30 @@ returns-in-Stopped-clause-turn g c = λ p code rows version.
     let inv = c.loop-done.invariant in
     let clock = g.C.Clock.at c.args.clock.now in
     let went = c.in-Stopped.ensures.step p clock code (rows ∙ sym inv.rows) version inv.clock in
-    turn_of-trapped p clock c.loop-done.done c.args.limit c.in-Stopped.reason _ _ (inv.so_far p code rows version) went.0 (omega arith)
+    turn_of-trapped p clock c.loop-done.done c.args.limit c.in-Stopped.reason _ _
+    (inv.so_far p code rows version) went.0 (omega arith)
     ∙ ap (left (Trap c.in-Stopped.reason c.loop-done.done)) (sym went.1)
 
 pub returns-in-Ended-clause-clock : goal.returns-in-Ended-clause-clock
-returns-in-Ended-clause-clock g c = c.in-Ended.ensures.clock (g.C.Clock.at c.args.clock.now) c.loop-done.invariant.clock
+returns-in-Ended-clause-clock g c =
+    c.in-Ended.ensures.clock (g.C.Clock.at c.args.clock.now) c.loop-done.invariant.clock
 
 pub returns-in-Stopped-clause-clock : goal.returns-in-Stopped-clause-clock
-returns-in-Stopped-clause-clock g c = c.in-Stopped.ensures.clock (g.C.Clock.at c.args.clock.now) c.loop-done.invariant.clock
+returns-in-Stopped-clause-clock g c =
+    c.in-Stopped.ensures.clock (g.C.Clock.at c.args.clock.now) c.loop-done.invariant.clock
 
 pub returns-in-Ended-clause-stop : goal.returns-in-Ended-clause-stop
 returns-in-Ended-clause-stop g c = λ p code rows version.
     let inv = c.loop-done.invariant in
     let clock = g.C.Clock.at c.args.clock.now in
     let went = c.in-Ended.ensures.step p clock code (rows ∙ sym inv.rows) version inv.clock in
-    state_at-finished p clock c.loop-done.done c.args.limit c.in-Ended.number _ _ (inv.so_far p code rows version) went.0 (omega arith) ∙ sym went.1
+    state_at-finished p clock c.loop-done.done c.args.limit c.in-Ended.number _ _
+    (inv.so_far p code rows version) went.0 (omega arith) ∙ sym went.1
 
 pub returns-in-Stopped-clause-stop : goal.returns-in-Stopped-clause-stop
 returns-in-Stopped-clause-stop g c = λ p code rows version.
     let inv = c.loop-done.invariant in
     let clock = g.C.Clock.at c.args.clock.now in
     let went = c.in-Stopped.ensures.step p clock code (rows ∙ sym inv.rows) version inv.clock in
-    state_at-trapped p clock c.loop-done.done c.args.limit c.in-Stopped.reason _ _ (inv.so_far p code rows version) went.0 (omega arith) ∙ sym went.1
+    state_at-trapped p clock c.loop-done.done c.args.limit c.in-Stopped.reason _ _
+    (inv.so_far p code rows version) went.0 (omega arith) ∙ sym went.1

@@ -2,13 +2,15 @@ use Rattle.std.proofs.Common.{◌≡◌, ◌+◌, ◌≤◌}
 use Rattle.isa_model.specs.Code.Instructions.{Program}
 use Rattle.isa_model.specs.Running.Runs.{GoesOn, progress}
 use Rattle.checked_vm.specs.Machine.{state_of, IsRunning}
-use Rattle.checked_vm.specs.Outcomes.{ClockAnswers}
+use Rattle.checked_vm.specs.StepResults.{ClockAnswers}
 use Rattle.checked_vm.proofs.core_state.Core.steps.Given as goal
 
 abbrev pub invariant-loop-done : goal.invariant-loop-done
 invariant-loop-done g l = record {
-  so_far : (p : Program) → p.insns ≡ l.insns → p.maps ≡ l.initial.self.maps.rows → p.version ≡ l.version
-      → progress p (g.C.Clock.at l.initial.clock) l.done (state_of l.initial.self l.initial.packet) ≡ GoesOn (state_of l.self l.packet);
+  so_far : (p : Program) → p.insns ≡ l.insns → p.maps ≡ l.initial.self.maps.rows
+      → p.version ≡ l.version
+      → progress p (g.C.Clock.at l.initial.clock) l.done (state_of l.initial.self l.initial.packet)
+      ≡ GoesOn (state_of l.self l.packet);
   running : IsRunning l.self;
   rows : l.self.maps.rows ≡ l.initial.self.maps.rows;
   serial : l.self.maps.next_serial ≤ l.initial.self.maps.next_serial + l.done;

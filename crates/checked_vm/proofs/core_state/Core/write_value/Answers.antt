@@ -10,5 +10,8 @@ pub returns-clause-wrote : goal.returns-clause-wrote
 returns-clause-wrote c = λ packet.
     let value = c.in-Some.value.now in
     let place = sym (c.in_ok-i.ensures.place (map Byte value) (length-map value Byte)) in
-    write_value_part (state_of c.args.self.now packet) c.args.index c.args.serial c.args.at c.args.new.now value c.in_ok-i.i (sym c.in-Some.ensures) place
-    ∙ ap (λ (maps : Live). Ok (state_of (record c.args.self.now { maps = maps }) packet)) (sym c.write.ensures)
+    write_value_part
+    (state_of c.args.self.now packet) c.args.index c.args.serial c.args.at c.args.new.now value
+    c.in_ok-i.i (sym c.in-Some.ensures) place
+    ∙ ap (λ (maps : Live). Ok (state_of (record c.args.self.now { maps = maps }) packet))
+    (sym c.write.ensures)

@@ -6,5 +6,7 @@ use Rattle.commands.proofs.endings.Ending.say.Goals as goal
 pub returns-in-Some-clause-err : goal.returns-in-Some-clause-err
 returns-in-Some-clause-err g c =
     rw c.in-Some.is
-    (err_behind _ _ _ _ (message_of c.args.self.now.outcome) (string_bytes c.in-Some.why) _ refl c.in_ok-say.ensures.ok
-    (err_text _ _ _ _ (string_bytes c.in-Some.why) c.as_bytes.ensures.value c.write_bytes.ensures.err))
+    (err_behind _ _ _ _ (message_of c.args.self.now.outcome)
+    (string_bytes c.in-Some.why) _ refl c.in_ok-say.ensures.ok
+    (err_text _ _ _ _
+    (string_bytes c.in-Some.why) c.as_bytes.ensures.value c.write_bytes.ensures.err))

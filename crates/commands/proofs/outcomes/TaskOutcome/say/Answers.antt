@@ -7,17 +7,23 @@ use Rattle.commands.proofs.outcomes.TaskOutcome.say.Goals as goal
 pub returns-in_ok-write_bytes-in-WrongWords-clause-err : goal.returns-in_ok-write_bytes-in-WrongWords-clause-err
 returns-in_ok-write_bytes-in-WrongWords-clause-err g c =
     rw c.in-WrongWords.is
-    (err_behind _ _ _ _ c.in-WrongWords.text.now usage _ c.as_bytes.ensures.value c.in_ok-write_bytes-in-WrongWords.ensures.ok
-    (err_text _ _ _ _ usage c.as_bytes-in-WrongWords.ensures.value c.write_bytes-in-WrongWords.ensures.err))
+    (err_behind _ _ _ _ c.in-WrongWords.text.now usage _ c.as_bytes.ensures.value
+    c.in_ok-write_bytes-in-WrongWords.ensures.ok
+    (err_text _ _ _ _ usage c.as_bytes-in-WrongWords.ensures.value
+    c.write_bytes-in-WrongWords.ensures.err))
 
 pub returns-in-CannotRead-clause-ok : goal.returns-in-CannotRead-clause-ok
 returns-in-CannotRead-clause-ok g c =
     rw c.in-CannotRead.is
-    (ok_text _ _ _ _ (codes "cannot read " ++ (c.in-CannotRead.path.now ++ cause_line c.in-CannotRead.kind))
-    (ap (λ (l : List ℕ). codes "cannot read " ++ (c.in-CannotRead.path.now ++ l)) c.cause_line.ensures) c.write_texts.ensures.ok)
+    (ok_text _ _ _ _
+    (codes "cannot read " ++ (c.in-CannotRead.path.now ++ cause_line c.in-CannotRead.kind))
+    (ap (λ (l : List ℕ). codes "cannot read " ++ (c.in-CannotRead.path.now ++ l))
+    c.cause_line.ensures) c.write_texts.ensures.ok)
 
 pub returns-in-CannotRead-clause-err : goal.returns-in-CannotRead-clause-err
 returns-in-CannotRead-clause-err g c =
     rw c.in-CannotRead.is
-    (err_text _ _ _ _ (codes "cannot read " ++ (c.in-CannotRead.path.now ++ cause_line c.in-CannotRead.kind))
-    (ap (λ (l : List ℕ). codes "cannot read " ++ (c.in-CannotRead.path.now ++ l)) c.cause_line.ensures) c.write_texts.ensures.err)
+    (err_text _ _ _ _
+    (codes "cannot read " ++ (c.in-CannotRead.path.now ++ cause_line c.in-CannotRead.kind))
+    (ap (λ (l : List ℕ). codes "cannot read " ++ (c.in-CannotRead.path.now ++ l))
+    c.cause_line.ensures) c.write_texts.ensures.err)

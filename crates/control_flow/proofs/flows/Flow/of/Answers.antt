@@ -8,10 +8,13 @@ pub returns-in_err-test_all-clause-only : goal.returns-in_err-test_all-clause-on
 returns-in_err-test_all-clause-only c = λ flow.
     let refusal = c.in_err-test_all.field-0.0 in
     let given = err_from_is_err_and c.from_residual.result c.from_residual.ensures.1 in
-    rw (given.1, given.2) (only_memory c.args.image.now refusal.0 refusal.1 flow c.in_err-test_all.ensures.refused)
+    rw (given.1, given.2)
+    (only_memory c.args.image.now refusal.0 refusal.1 flow c.in_err-test_all.ensures.refused)
 
 pub joins_of-requires : goal.joins_of-requires
-joins_of-requires c = λ slot h. IsFlow-Fails c.args.image.now TargetOutside slot c.in_ok-test_all.ensures.good h
+joins_of-requires c =
+    λ slot h. IsFlow-Fails c.args.image.now TargetOutside slot c.in_ok-test_all.ensures.good h
 
 pub live_homes-requires : goal.live_homes-requires
-live_homes-requires c = λ slot h. IsFlow-Fails c.args.image.now TargetOutside slot c.in_ok-test_all.ensures.good h
+live_homes-requires c =
+    λ slot h. IsFlow-Fails c.args.image.now TargetOutside slot c.in_ok-test_all.ensures.good h

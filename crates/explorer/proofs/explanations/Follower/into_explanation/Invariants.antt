@@ -4,7 +4,9 @@ use Rattle.explorer.specs.Followed.{HasFollowed}
 use Rattle.explorer.proofs.Following.{LedAt}
 use Rattle.explorer.proofs.explanations.Follower.into_explanation.Given as goal
 
--- the way leads to the state before that of the index, along any path that was followed
+-- the last jumps lead to the state before that of the index, along any path that was followed
 abbrev pub invariant-loop-index : goal.invariant-loop-index
 invariant-loop-index l =
-    (path : List State) (last : State) → HasFollowed l.self.image.now l.self.slots.items l.self.slot l.self.turns l.self.image.now path last → LedAt l.self.image.now path l.index l.way.items
+    (path : List State) (last : State)
+    → HasFollowed l.self.image.now l.self.slots.items l.self.slot l.self.turns l.self.image.now
+    path last → LedAt l.self.image.now path l.index l.way.items

@@ -2,7 +2,7 @@ use Rattle.std.proofs.Common.{rules, ◌≡◌, ◌++◌, ◌∙◌, ap, sym}
 use Rattle.std.proofs.lemmas.List.{append-nil}
 use Rattle.state_index.specs.Parts.{unset_frame, all_written, parts_of, register_parts, slot_parts}
 use Rattle.state_index.proofs.PartLaws.{all_written-parts_of}
-use Rattle.explorer.specs.Pieces.{whole, few_of, pieces_of}
+use Rattle.explorer.specs.Groups.{whole, few_of, groups_of}
 use Rattle.explorer.proofs.kept_frames.KeptFrame.is_frame.Goals as goal
 
 pub returns : goal.returns
@@ -10,13 +10,16 @@ unfolding parts_of
 returns c = λ yes.
     let frame = c.args.frame.now in
     let slot : c.self.inside.return_slot ≡ frame.return_slot = search rules in
-    let all : few_of c.self.inside.parts ++ whole (pieces_of c.self.inside.parts) ≡ parts_of frame =
+    let all : few_of c.self.inside.parts ++ whole (groups_of c.self.inside.parts) ≡ parts_of frame =
     sym c.of-rest.ensures
     ∙ c.are_registers.ensures.same c.if-not-are_registers.false
     ∙ ap (λ l. register_parts 0 frame.registers ++ l)
-    (c.are_slots.ensures.same c.if-not-are_slots.false ∙ ap (λ l. slot_parts 0 frame.stack.slots ++ l) (c.is_empty.ensures yes)
+    (c.are_slots.ensures.same c.if-not-are_slots.false
+    ∙ ap (λ l. slot_parts 0 frame.stack.slots ++ l) (c.is_empty.ensures yes)
     ∙ append-nil (slot_parts 0 frame.stack.slots)) in
     sym c.self.view_is
-    ∙ ap (λ n. all_written (unset_frame n) (few_of c.self.inside.parts ++ whole (pieces_of c.self.inside.parts))) slot
-    ∙ all_written-parts_of frame (few_of c.self.inside.parts ++ whole (pieces_of c.self.inside.parts))
+    ∙ ap (λ n. all_written (unset_frame n)
+    (few_of c.self.inside.parts ++ whole (groups_of c.self.inside.parts))) slot
+    ∙ all_written-parts_of frame
+    (few_of c.self.inside.parts ++ whole (groups_of c.self.inside.parts))
     c.are_registers.ensures.ten c.are_slots.ensures.wide all

@@ -1,31 +1,36 @@
 use Rattle.std.proofs.Common.{◌∙◌, ℕ, ◌+◌, drop, ap, sym, arith}
 use Rattle.std.proofs.lemmas.List.{drop_all}
 use Rattle.state_index.specs.Parts.{unset_frame, all_written}
-use Rattle.explorer.specs.Pieces.{whole, few_of, pieces_of}
+use Rattle.explorer.specs.Groups.{whole, few_of, groups_of}
 use Rattle.state_index.proofs.PartLaws.{all_written-append}
-use Rattle.explorer.proofs.PieceLaws.{with_part-next}
+use Rattle.explorer.proofs.GroupLaws.{with_part-next}
 use Rattle.explorer.proofs.kept_frames.KeptFrame.restore.Goals as goal
 
 pub loop-index-init : goal.loop-index-init
 loop-index-init c =
     let slot : ℕ = c.self.inside.return_slot in
     let few = (few_of c.self.inside.parts) in
-    let pieces = c.pieces-pieces.result.now in
-    ap (λ f. all_written f (whole pieces)) (c.write_all.ensures ∙ ap (λ f. all_written f c.few.result.now) c.clear_frame.ensures ∙ ap (all_written (unset_frame slot)) c.few.ensures)
-    ∙ ap (λ ps. all_written (all_written (unset_frame slot) few) (whole ps)) c.pieces-pieces.ensures
-    ∙ sym (all_written-append (unset_frame slot) few (whole (pieces_of c.self.inside.parts)))
+    let groups = c.groups-groups.result.now in
+    ap (λ f. all_written f (whole groups))
+    (c.write_all.ensures ∙ ap (λ f. all_written f c.few.result.now) c.clear_frame.ensures
+    ∙ ap (all_written (unset_frame slot)) c.few.ensures)
+    ∙ ap (λ ps. all_written (all_written (unset_frame slot) few) (whole ps)) c.groups-groups.ensures
+    ∙ sym (all_written-append (unset_frame slot) few (whole (groups_of c.self.inside.parts)))
     ∙ c.self.view_is
 
 pub loop-index-preserved : goal.loop-index-preserved
 loop-index-preserved c =
-    let pieces = c.pieces-pieces.result.now in
+    let groups = c.groups-groups.result.now in
     let i : ℕ = c.loop-index.index in
-    ap (λ f. all_written f (whole (drop (i + 1) pieces))) (c.write_all-in-loop-index.ensures ∙ ap (all_written c.loop-index.frame) c.parts.ensures)
-    ∙ sym (with_part-next c.loop-index.frame pieces i c.index-pieces-index.result (omega arith) c.index-pieces-index.is)
+    ap (λ f. all_written f (whole (drop (i + 1) groups)))
+    (c.write_all-in-loop-index.ensures ∙ ap (all_written c.loop-index.frame) c.parts.ensures)
+    ∙ sym (with_part-next c.loop-index.frame groups i c.index-groups-index.result
+    (omega arith) c.index-groups-index.is)
     ∙ c.loop-index.invariant
 
 pub returns : goal.returns
 unfolding all_written
 returns c =
-    let pieces = c.pieces-pieces.result.now in
-    sym (ap (λ ps. all_written c.loop-index.frame (whole ps)) (drop_all c.loop-index.index pieces (omega arith))) ∙ c.loop-index.invariant
+    let groups = c.groups-groups.result.now in
+    sym (ap (λ ps. all_written c.loop-index.frame (whole ps))
+    (drop_all c.loop-index.index groups (omega arith))) ∙ c.loop-index.invariant

@@ -1,9 +1,9 @@
 use Rattle.std.proofs.Common.{◌≡◌, drop}
 use Rattle.state_index.specs.Parts.{all_written}
-use Rattle.explorer.specs.Pieces.{whole}
+use Rattle.explorer.specs.Groups.{whole}
 use Rattle.explorer.proofs.kept_frames.KeptFrame.restore.Given as goal
 
 -- the shared parts from here on are still to be written
 abbrev pub invariant-loop-index : goal.invariant-loop-index
 invariant-loop-index l =
-    all_written l.frame (whole (drop l.index l.pieces)) ≡ l.self
+    all_written l.frame (whole (drop l.index l.groups)) ≡ l.self

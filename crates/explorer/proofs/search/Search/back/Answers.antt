@@ -9,20 +9,26 @@ use Rattle.explorer.proofs.Steps.{step_back, comes_aside}
 use Rattle.explorer.proofs.search.Search.back.Goals as goal
 use Rattle.explorer.proofs.search.Search.back.Goals.{In-Some}
 
-last_of : (c : In-Some) → LastVisit c.args.flow.now c.args.self.now.finished c.args.self.now.stored.entries.items c.requires.at.at.first c.pop.new.self.items c.in-Some.visit c.requires.at.state
+last_of : (c : In-Some)
+    → LastVisit c.args.flow.now c.args.self.now.finished c.args.self.now.stored.states.items
+    c.requires.at.at.first c.pop.new.self.items c.in-Some.visit c.requires.at.state
 last_of c =
     let p = c.args.flow.now in
     let search = c.args.self.now in
     let at = c.requires.at in
-    Path-pop p search.finished search.stored.entries.items c.pop.new.self.items c.in-Some.visit at.at.first at.state
-    (subst (λ (x : List Visit). Path p search.finished search.stored.entries.items at.at.first x at.state) c.in-Some.ensures.items at.at.path)
+    Path-pop p search.finished search.stored.states.items c.pop.new.self.items c.in-Some.visit
+    at.at.first at.state
+    (subst (λ (x : List Visit). Path p search.finished search.stored.states.items at.at.first x
+    at.state) c.in-Some.ensures.items at.at.path)
 
 pub returns-in_default-clause-moves : goal.returns-in_default-clause-moves
 returns-in_default-clause-moves c =
     let p = c.args.flow.now in
     let search = c.args.self.now in
     let at = c.requires.at in
-    let same = Path-none p search.finished search.stored.entries.items search.path.items at.at.first at.state (omega (arith, c.in_default.ensures.cases.0)) at.at.path in
+    let same =
+    Path-none p search.finished search.stored.states.items search.path.items at.at.first
+    at.state (omega (arith, c.in_default.ensures.cases.0)) at.at.path in
     let settled = subst (λ x. Settles p x c.args.ended) same at.within in
     (Settles-start p at.at.first c.args.ended at.at.begins settled, at.some, at.most)
 
@@ -40,21 +46,34 @@ pub returns-in_default-pending-clause-moves : goal.returns-in_default-pending-cl
 returns-in_default-pending-clause-moves c =
     let p = c.args.flow.now in
     let search = c.args.self.now in
-    let entries = search.stored.entries.items in
+    let states = search.stored.states.items in
     let path = c.pop.new.self.items in
     let visit = c.in-Some.visit in
     let at = c.requires.at in
     let last = last_of (goal.at.returns-in_default-pending-clause-moves c).In-Some in
-    let on_path = OnPath-pop entries path search.path.items visit c.in-Some.ensures.items at.on_path in
-    let back = step_back p search.finished entries c.finish.new.self.entries.items at.at.first path visit at.state c.args.ended c.max-best.result
-    at.at.begins at.at.fine last on_path at.within at.most c.in_default-pending.is c.max-best.ensures c.finish.ensures in
-    let same : search.finished + length search.path.items ≡ search.finished + 1 + length path = omega (arith, c.in-Some.ensures.cases) in
+    let on_path =
+    OnPath-pop states path search.path.items visit c.in-Some.ensures.items at.on_path in
+    let back = step_back p search.finished states c.finish.new.self.states.items at.at.first path
+    visit at.state c.args.ended c.max-best.result
+    at.at.begins at.at.fine last on_path at.within at.most c.in_default-pending.is
+    c.max-best.ensures c.finish.ensures in
+    let same : search.finished + length search.path.items ≡ search.finished + 1 + length path =
+    omega (arith, c.in-Some.ensures.cases) in
     record {
       state = back.state;
-      at = record { fine = back.fine; first = at.at.first; begins = at.at.begins; path = back.before };
+      at =
+          record {
+            fine = back.fine;
+            first = at.at.first;
+            begins = at.at.begins;
+            path = back.before;
+          };
       on_path = back.on_path;
       within = back.within;
-      spent = subst (λ n. HasSpent p at.at.first path n) same (spent_back p at.at.first path search.path.items visit (search.finished + length search.path.items) c.in-Some.ensures.items at.spent);
+      spent =
+          subst (λ n. HasSpent p at.at.first path n) same
+          (spent_back p at.at.first path search.path.items visit
+          (search.finished + length search.path.items) c.in-Some.ensures.items at.spent);
       some = omega arith;
       most = back.most;
     }
@@ -63,6 +82,8 @@ pub come-requires-clause-comes : goal.come-requires-clause-comes
 come-requires-clause-comes c =
     let visit = c.in-Some.visit in
     let rest : Visit = record { pending = None; best = c.max-best.result; stored = visit.stored } in
-    comes_aside c.args.flow.now c.args.self.now c.pop.new.self.items visit rest c.push.new.self c.args.ended c.restore.new.state c.requires.at
+    comes_aside c.args.flow.now c.args.self.now c.pop.new.self.items visit rest c.push.new.self
+    c.args.ended c.restore.new.state c.requires.at
     c.in-Some.ensures.items (c.in-Some-pending.is ∙ ap Some (sym c.restore.ensures))
-    (ap (λ (b : ℕ). record { pending = None; best = b; stored = visit.stored }) c.max-best.ensures) c.in-Ok.ensures.items
+    (ap (λ (b : ℕ). record { pending = None; best = b; stored = visit.stored }) c.max-best.ensures)
+    c.in-Ok.ensures.items

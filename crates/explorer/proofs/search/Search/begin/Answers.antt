@@ -5,25 +5,34 @@ use Rattle.walks.proofs.Forgotten.{Forgets-forgotten}
 use Rattle.explorer.proofs.Counting.{CountsTo-here}
 use Rattle.explorer.proofs.Paths.{Path-here}
 use Rattle.explorer.proofs.Unfinished.{OnPath-start}
-use Rattle.explorer.proofs.Steps.{empty_fine, starts_ready}
+use Rattle.explorer.proofs.Starts.{empty_fine, starts_ready}
 use Rattle.explorer.proofs.search.Search.begin.Goals as goal
 
 pub come-requires-clause-comes : goal.come-requires-clause-comes
 come-requires-clause-comes c =
     let p = c.args.flow.now in
     let search = c.args.self.now in
-    let entries = search.stored.entries.items in
+    let states = search.stored.states.items in
     let path = search.path.items in
     let s = c.forget_dead.new.state in
     let new = c.requires.new in
     let begins = subst (λ x. Forgets p x s) new.current c.forget_dead.ensures in
     record {
-      at = record { fine = empty_fine p search.finished entries new.stored; first = s; begins = begins; path = Path-here p search.finished entries path s s new.path refl };
-      on_path = OnPath-start entries path new.stored new.path;
-      spent = CountsTo-here p path s s (search.finished + length path) new.path refl (omega (arith, new.finished, ap (λ (x : List Visit). length x) new.path));
+      at =
+          record {
+            fine = empty_fine p search.finished states new.stored;
+            first = s;
+            begins = begins;
+            path = Path-here p search.finished states path s s new.path refl;
+          };
+      on_path = OnPath-start states path new.stored new.path;
+      spent =
+          CountsTo-here p path s s (search.finished + length path) new.path refl
+          (omega (arith, new.finished, ap (λ (x : List Visit). length x) new.path));
       ready = starts_ready p p s refl c.requires.whole begins;
     }
 
 pub come-requires-clause-forgotten : goal.come-requires-clause-forgotten
 come-requires-clause-forgotten c = λ new.
-    Forgets-forgotten c.args.flow.now c.args.self.now.current c.forget_dead.new.state c.forget_dead.ensures
+    Forgets-forgotten c.args.flow.now c.args.self.now.current c.forget_dead.new.state
+    c.forget_dead.ensures

@@ -9,14 +9,21 @@ pub returns-clause-moves : goal.returns-clause-moves
 returns-clause-moves c =
     let p = c.args.flow.now in
     let old = c.args.self.now in
-    IfOk-weaker c.arrive.result (λ made. Arrives p old.stored.entries.items old.current made c.arrive.new.stored.entries.items)
-    (λ made. AfterMove p (record old { stored = c.arrive.new.stored; scratch = c.arrive.new.scratch }) made)
-    (λ made arrives. comes_to p old c.arrive.new.stored c.arrive.new.scratch made c.requires.comes arrives) c.arrive.ensures.arrives
+    IfOk-weaker c.arrive.result
+    (λ made. Arrives p old.stored.states.items old.current made
+    c.arrive.new.stored.states.items)
+    (λ made. AfterMove p
+    (record old { stored = c.arrive.new.stored; scratch = c.arrive.new.scratch }) made)
+    (λ made arrives. comes_to p old c.arrive.new.stored c.arrive.new.scratch made c.requires.comes
+    arrives) c.arrive.ensures.arrives
 
 pub returns-clause-stops : goal.returns-clause-stops
 returns-clause-stops c =
     let p = c.args.flow.now in
     let old = c.args.self.now in
     let at = c.requires.comes.at in
-    IfErr-weaker c.arrive.result (λ r. TurnsBack p old.stored.entries.items old.current r.0 r.1) (λ r. StopsAt p r.0 r.1)
-    (λ r back. turned_back p old.finished old.stored.entries.items old.path.items at.first old.current r.0 r.1 at.begins at.path c.requires.comes.on_path back) c.arrive.ensures.refused
+    IfErr-weaker c.arrive.result (λ r. TurnsBack p old.stored.states.items old.current r.0 r.1)
+    (λ r. StopsAt p r.0 r.1)
+    (λ r back. turned_back p old.finished old.stored.states.items old.path.items at.first
+    old.current r.0 r.1 at.begins at.path c.requires.comes.on_path back)
+    c.arrive.ensures.refused

@@ -13,7 +13,9 @@ returns-in-Explore-turn-clause-stops g c =
       record {
         state = search.current;
         steps = length search.path.items;
-        walk = Path-walks p search.finished search.stored.entries.items search.path.items goes.at.first search.current goes.at.begins goes.at.path;
+        walk =
+            Path-walks p search.finished search.stored.states.items search.path.items goes.at.first
+            search.current goes.at.begins goes.at.path;
         slot_is = refl;
         begins = goes.ready.begins;
       },
@@ -21,7 +23,9 @@ returns-in-Explore-turn-clause-stops g c =
         goes.at.first,
         goes.at.begins,
         subst (λ n. Takes p goes.at.first n) (omega (arith, c.loop-explored.invariant.explored))
-            (CountsTo-takes p search.path.items goes.at.first search.current (search.finished + length search.path.items) 1 goes.spent (ItsOwn search.current 1 goes.ready.begins refl)),
+            (CountsTo-takes p search.path.items goes.at.first search.current
+            (search.finished + length search.path.items) 1 goes.spent
+            (ItsOwn search.current 1 goes.ready.begins refl)),
       ),
     )
 

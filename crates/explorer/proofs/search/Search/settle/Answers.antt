@@ -9,13 +9,20 @@ pub returns-in-New-clause-told : goal.returns-in-New-clause-told
 returns-in-New-clause-told g c =
     let p = c.args.flow.now in
     let path = c.moves.self.path.items in
-    let told : HearsMove p (g.L.Listener.follows c.tell.new.listener p) path c.moves.self.current c.moves.made = c.in_default.ensures p path c.moves.invariant.untold in
-    subst (HearsMove p (g.L.Listener.follows c.tell.new.listener p) path c.moves.self.current) c.in-New.is told
+    let told : HearsMove p
+    (g.L.Listener.follows c.tell.new.listener p) path c.moves.self.current c.moves.made =
+    c.in_default.ensures p path c.moves.invariant.untold in
+    subst (HearsMove p (g.L.Listener.follows c.tell.new.listener p) path c.moves.self.current)
+    c.in-New.is told
 
 pub back-requires-clause-at : goal.back-requires-clause-at
 back-requires-clause-at g c = elim c.match-made.branch [
-  | in-Covered w ↦ has_ended c.args.flow.now c.moves.self c.moves.made w.in-Covered.number c.match-made.ended w.in-Covered.is w.ended-is c.moves.invariant.moves
-  | in-Covered-2 w ↦ has_ended c.args.flow.now c.moves.self c.moves.made w.in-Covered.number c.match-made.ended w.in-Covered.is w.ended-is c.moves.invariant.moves
+  | in-Covered w ↦
+      has_ended c.args.flow.now c.moves.self c.moves.made w.in-Covered.number c.match-made.ended
+      w.in-Covered.is w.ended-is c.moves.invariant.moves
+  | in-Covered-2 w ↦
+      has_ended c.args.flow.now c.moves.self c.moves.made w.in-Covered.number c.match-made.ended
+      w.in-Covered.is w.ended-is c.moves.invariant.moves
 ]
 
 pub moves-smaller : goal.moves-smaller
@@ -24,7 +31,8 @@ moves-smaller g c =
     let new = c.back.new.self.path.items in
     let now = c.back.new.self.current in
     let returns : IfReturns old c.in-Ok-Some.field-0 new now = c.in-Ok-Some.ensures.returns in
-    returns_less old new now c.in-Ok-Some.next (subst (λ o. IfReturns old o new now) c.in-Ok-Some.field-0-is returns)
+    returns_less old new now c.in-Ok-Some.next
+    (subst (λ o. IfReturns old o new now) c.in-Ok-Some.field-0-is returns)
 
 pub moves-preserved : goal.moves-preserved
 moves-preserved g c =
@@ -34,16 +42,26 @@ moves-preserved g c =
     let new = c.back.new.self.path.items in
     let now = c.back.new.self.current in
     let next = c.in-Ok-Some.next in
-    let moves : AfterMoveOrEnd p c.back.new.self c.match-made.ended c.in-Ok-Some.field-0 = c.in-Ok-Some.ensures.moves in
+    let moves : AfterMoveOrEnd p c.back.new.self c.match-made.ended c.in-Ok-Some.field-0 =
+    c.in-Ok-Some.ensures.moves in
     let returns : IfReturns old c.in-Ok-Some.field-0 new now = c.in-Ok-Some.ensures.returns in
-    let told : HearsMove p tale old c.moves.self.current c.moves.made = c.in_default.ensures p old c.moves.invariant.untold in
+    let told : HearsMove p tale old c.moves.self.current c.moves.made =
+    c.in_default.ensures p old c.moves.invariant.untold in
     let follows : HeardPath p tale old = elim c.match-made.branch [
-      | in-Covered w ↦ follows_end p tale old c.moves.self.current c.moves.made w.in-Covered.number w.in-Covered.is told
-      | in-Covered-2 w ↦ follows_end p tale old c.moves.self.current c.moves.made w.in-Covered.number w.in-Covered.is told
+      | in-Covered w ↦
+          follows_end p tale old c.moves.self.current c.moves.made w.in-Covered.number
+          w.in-Covered.is told
+      | in-Covered-2 w ↦
+          follows_end p tale old c.moves.self.current c.moves.made w.in-Covered.number
+          w.in-Covered.is told
     ] in
     record {
-      moves = subst (λ o. AfterMoveOrEnd p c.back.new.self c.match-made.ended o) c.in-Ok-Some.field-0-is moves;
-      untold = told_back p tale old new now next follows (subst (λ o. IfReturns old o new now) c.in-Ok-Some.field-0-is returns);
+      moves =
+          subst (λ o. AfterMoveOrEnd p c.back.new.self c.match-made.ended o) c.in-Ok-Some.field-0-is
+          moves;
+      untold =
+          told_back p tale old new now next follows
+          (subst (λ o. IfReturns old o new now) c.in-Ok-Some.field-0-is returns);
       explored = omega (arith, c.in-Ok-Some.ensures.explored, c.moves.invariant.explored);
     }
 
@@ -52,9 +70,16 @@ returns-in-Err-back-clause-ends g c =
     let p = c.args.flow.now in
     let tale = g.L.Listener.follows c.tell.new.listener p in
     let old = c.moves.self.path.items in
-    let told : HearsMove p tale old c.moves.self.current c.moves.made = c.in_default.ensures p old c.moves.invariant.untold in
+    let told : HearsMove p tale old c.moves.self.current c.moves.made =
+    c.in_default.ensures p old c.moves.invariant.untold in
     let follows : HeardPath p tale old = elim c.match-made.branch [
-      | in-Covered w ↦ follows_end p tale old c.moves.self.current c.moves.made w.in-Covered.number w.in-Covered.is told
-      | in-Covered-2 w ↦ follows_end p tale old c.moves.self.current c.moves.made w.in-Covered.number w.in-Covered.is told
+      | in-Covered w ↦
+          follows_end p tale old c.moves.self.current c.moves.made w.in-Covered.number
+          w.in-Covered.is told
+      | in-Covered-2 w ↦
+          follows_end p tale old c.moves.self.current c.moves.made w.in-Covered.number
+          w.in-Covered.is told
     ] in
-    c.halt.ensures.ends p (refused_back p tale old c.back.new.self.current c.in-Err-back.refused.0 c.in-Err-back.refused.1 follows c.in-Err-back.ensures.fails)
+    c.halt.ensures.ends p
+    (refused_back p tale old c.back.new.self.current c.in-Err-back.refused.0
+    c.in-Err-back.refused.1 follows c.in-Err-back.ensures.fails)

@@ -25,11 +25,14 @@ returns-in-Err-clause-stops c =
     let s = c.args.self.now.current in
     let at = c.requires.at in
     let (i, here) = fetched p s at.ready in
-    let there : fetch q s.slot ≡ Some i = subst (λ x. fetch x s.slot ≡ Some i) c.requires.image here in
+    let there : fetch q s.slot ≡ Some i =
+    subst (λ x. fetch x s.slot ≡ Some i) c.requires.image here in
     record {
       state = s;
       steps = length c.args.self.now.path.items;
-      walk = Path-walks p c.args.self.now.finished c.args.self.now.stored.entries.items c.args.self.now.path.items at.at.first s at.at.begins at.at.path;
+      walk =
+          Path-walks p c.args.self.now.finished c.args.self.now.stored.states.items
+          c.args.self.now.path.items at.at.first s at.at.begins at.at.path;
       slot_is = refl;
       begins = at.ready.begins;
       insn = i;
@@ -49,27 +52,44 @@ returns-in-None-clause-moves c =
     let at = c.requires.at in
     let total = search.finished + length search.path.items in
     let (i, here) = fetched p s at.ready in
-    let into = into_by p q s a b a b c.in-Ok.ways ways.None c.requires.image c.in-Ok.ensures.steps i here c.in-None.is tt in
-    let back = step_ends p q search.finished search.stored.entries.items c.finish.new.self.entries.items at.at.first search.path.items c.args.stored s a b c.in-Ok.ways
-    at.at.begins c.requires.image at.at.fine at.at.path at.stored_at at.on_path c.in-Ok.ensures.leads into c.in-None.is c.finish.ensures in
+    let into =
+    into_by p q s a b a b c.in-Ok.ways ways.None c.requires.image c.in-Ok.ensures.steps i here
+    c.in-None.is tt in
+    let back = step_ends p q search.finished search.stored.states.items
+    c.finish.new.self.states.items at.at.first search.path.items c.args.stored s a b
+    c.in-Ok.ways
+    at.at.begins c.requires.image at.at.fine at.at.path at.stored_at at.on_path
+    c.in-Ok.ensures.leads into c.in-None.is c.finish.ensures in
     record {
       state = back.state;
-      at = record { fine = back.fine; first = at.at.first; begins = at.at.begins; path = back.before };
+      at =
+          record {
+            fine = back.fine;
+            first = at.at.first;
+            begins = at.at.begins;
+            path = back.before;
+          };
       on_path = back.on_path;
       within = back.within;
-      spent = spent_here p at.at.first search.path.items s total 1 (search.finished + 1 + length search.path.items) at.spent (ItsOwn s 1 at.ready.begins refl) (omega arith);
+      spent =
+          spent_here p at.at.first search.path.items s total 1
+          (search.finished + 1 + length search.path.items) at.spent
+          (ItsOwn s 1 at.ready.begins refl) (omega arith);
       some = omega arith;
       most = back.most;
     }
 
--- ---- where the step goes on
+-- ---- where the path continues
 
-entered_of : (c : After-push) → Entered c.args.flow.now c.args.self.now.finished c.args.self.now.stored.entries.items (record { pending = c.match-ways.pending; best = 0; stored = c.args.stored }) c.args.self.now.current c.forget_dead-2.new.state
+entered_of : (c : After-push)
+    → Entered c.args.flow.now c.args.self.now.finished c.args.self.now.stored.states.items
+    (record { pending = c.match-ways.pending; best = 0; stored = c.args.stored })
+    c.args.self.now.current c.forget_dead-2.new.state
 entered_of c =
     let p = c.args.flow.now in
     let q = c.args.image.now in
     let m = c.args.self.now.finished in
-    let entries = c.args.self.now.stored.entries.items in
+    let states = c.args.self.now.stored.states.items in
     let s = c.args.self.now.current in
     let a = c.step_in_place.new.state in
     let b = c.step_in_place.new.other in
@@ -78,17 +98,25 @@ entered_of c =
     let pending = c.match-ways.pending in
     elim c.match-ways.branch [
       | in-One w ↦
-          let forgets : Forgets p a first = subst (λ (x : Search). Forgets p x.current first) w.self-is c.forget_dead-2.ensures in
-          one_way p q m entries c.args.stored s a b first c.in-Ok.ways pending
-          c.requires.image c.requires.good at.ready at.stored_at c.in-Ok.ensures.leads c.in-Ok.ensures.steps c.in-Ok.ensures.follows forgets w.in-One.is w.pending-is
+          let forgets : Forgets p a first =
+          subst (λ (x : Search). Forgets p x.current first) w.self-is c.forget_dead-2.ensures in
+          one_way p q m states c.args.stored s a b first c.in-Ok.ways pending
+          c.requires.image c.requires.good at.ready at.stored_at c.in-Ok.ensures.leads
+          c.in-Ok.ensures.steps c.in-Ok.ensures.follows forgets w.in-One.is w.pending-is
       | in-Two+in-Ok-of_forgotten w ↦
           let other = w.forget_dead.new.state in
-          let forgets : Forgets p a first = subst (λ (x : Search). Forgets p x.current first) w.self-is c.forget_dead-2.ensures in
-          two_ways p q m entries c.args.stored s a b first other c.in-Ok.ways pending
-          c.requires.image c.requires.good at.ready at.stored_at c.in-Ok.ensures.leads c.in-Ok.ensures.steps c.in-Ok.ensures.follows forgets w.forget_dead.ensures w.in-Two.is (w.pending-is ∙ ap Some w.in-Ok-of_forgotten.ensures)
+          let forgets : Forgets p a first =
+          subst (λ (x : Search). Forgets p x.current first) w.self-is c.forget_dead-2.ensures in
+          two_ways p q m states c.args.stored s a b first other c.in-Ok.ways pending
+          c.requires.image c.requires.good at.ready at.stored_at c.in-Ok.ensures.leads
+          c.in-Ok.ensures.steps c.in-Ok.ensures.follows forgets w.forget_dead.ensures
+          w.in-Two.is (w.pending-is ∙ ap Some w.in-Ok-of_forgotten.ensures)
     ]
 
-search_of : (c : After-push) → (scratch : State) × (c.match-ways.self ≡ record c.args.self.now { current = c.step_in_place.new.state; scratch = scratch })
+search_of : (c : After-push)
+    → (scratch : State)
+    × (c.match-ways.self
+    ≡ record c.args.self.now { current = c.step_in_place.new.state; scratch = scratch })
 search_of c = elim c.match-ways.branch [
   | in-One w ↦ (c.step_in_place.new.other, w.self-is)
   | in-Two+in-Ok-of_forgotten w ↦ (w.forget_dead.new.state, w.self-is)
@@ -98,34 +126,49 @@ pub come-requires-clause-comes : goal.come-requires-clause-comes
 come-requires-clause-comes c =
     let w = (goal.at.come-requires-clause-comes c).After-push in
     let (scratch, same) = search_of w in
-    comes_into c.args.flow.now c.args.self.now c.match-ways.self c.args.stored c.match-ways.pending c.push.new.self c.step_in_place.new.state scratch c.forget_dead-2.new.state same c.requires.at
+    comes_into c.args.flow.now c.args.self.now c.match-ways.self c.args.stored c.match-ways.pending
+    c.push.new.self c.step_in_place.new.state scratch c.forget_dead-2.new.state same
+    c.requires.at
     (entered_of w) c.in-Ok-push.ensures.items
 
 pub of_forgotten-requires : goal.of_forgotten-requires
 of_forgotten-requires c = λ j below none.
-    let forgotten = Forgets-forgotten c.args.flow.now c.step_in_place.new.other c.forget_dead.new.state c.forget_dead.ensures in
+    let forgotten =
+    Forgets-forgotten c.args.flow.now c.step_in_place.new.other c.forget_dead.new.state
+    c.forget_dead.ensures in
     forgotten.1 j below (c.kept_slots-known.ensures j below none)
 
 pub come-requires-clause-forgotten : goal.come-requires-clause-forgotten
 come-requires-clause-forgotten c = λ new.
-    Forgets-forgotten c.args.flow.now c.match-ways.self.current c.forget_dead-2.new.state c.forget_dead-2.ensures
+    Forgets-forgotten c.args.flow.now c.match-ways.self.current c.forget_dead-2.new.state
+    c.forget_dead-2.ensures
 
 pub returns-in_err-made-clause-fails : goal.returns-in_err-made-clause-fails
 returns-in_err-made-clause-fails c =
     let w = (goal.at.returns-in_err-made-clause-fails c).After-push in
     let refusal = c.in_err-made.field-0.0 in
     let given = err_from_is_err_and c.from_residual.result c.from_residual.ensures.1 in
-    rw (given.1, given.2) (step_fails c.args.flow.now c.args.self.now.current c.forget_dead-2.new.state c.come.new.self.current refusal.0 refusal.1 c.come.ensures.current (entered_of w).waiting.steps c.in_err-made.ensures.fails)
+    rw (given.1, given.2)
+    (step_fails c.args.flow.now c.args.self.now.current c.forget_dead-2.new.state
+    c.come.new.self.current refusal.0 refusal.1 c.come.ensures.current
+    (entered_of w).waiting.steps c.in_err-made.ensures.fails)
 
 pub returns-clause-steps : goal.returns-clause-steps
 returns-clause-steps c =
     let w = (goal.at.returns-clause-steps c).After-push in
-    let visit : Visit = record { pending = c.match-ways.pending; best = 0; stored = c.args.stored } in
+    let visit : Visit =
+    record { pending = c.match-ways.pending; best = 0; stored = c.args.stored } in
     let (scratch, same) = search_of w in
     let entered = entered_of w in
-    steps_by_arrival c.args.flow.now c.args.self.now.current c.args.self.now.path.items c.come.new.self.path.items c.come.new.self.current c.in_ok-made.made c.in_ok-made.ensures.arrival (record {
+    steps_by_arrival c.args.flow.now c.args.self.now.current c.args.self.now.path.items
+    c.come.new.self.path.items c.come.new.self.current c.in_ok-made.made
+    c.in_ok-made.ensures.arrival (record {
       visit = visit;
-      pushed = ap (λ (x : Visits). x.items) c.come.ensures.path ∙ (c.in-Ok-push.ensures.items ∙ ap (λ (x : Search). x.path.items ++ visit ∷ []) same);
-      steps = subst (StepsTo c.args.flow.now c.args.self.now.current) (sym c.come.ensures.current) entered.waiting.steps;
+      pushed =
+          ap (λ (x : Visits). x.items) c.come.ensures.path
+          ∙ (c.in-Ok-push.ensures.items ∙ ap (λ (x : Search). x.path.items ++ visit ∷ []) same);
+      steps =
+          subst (StepsTo c.args.flow.now c.args.self.now.current)
+          (sym c.come.ensures.current) entered.waiting.steps;
       aside = entered.waiting.steps_aside;
     })

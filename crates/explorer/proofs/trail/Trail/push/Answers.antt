@@ -9,20 +9,38 @@ use Rattle.explorer.proofs.trail.Trail.push.Goals as goal
 pub returns-clause-items : goal.returns-clause-items
 returns-clause-items c =
     let visit : Visit = c.args.visit in
-    visits_of-more c.self.inside.steps.items c.push.new.self.items (record { best = visit.best; stored = c.in_ok-stored.stored; waits = c.is_some-waits.result })
-    c.self.inside.pending.items c.put_pending.new.pending.items visit.pending c.self.invariant c.in-Ok.ensures.items c.in_ok-put_pending.ensures.items c.is_some-waits.ensures
-    ∙ ap (λ (v : Visits). v.items ++ record { pending = visit.pending; best = visit.best; stored = c.in_ok-stored.stored } ∷ []) c.self.view_is
-    ∙ ap (λ s. c.args.self.now.items ++ record { pending = visit.pending; best = visit.best; stored = s } ∷ []) c.in_ok-stored.ensures
+    visits_of-more c.self.inside.visits.items c.push.new.self.items
+    (record {
+      best = visit.best;
+      stored = c.in_ok-stored.stored;
+      waits = c.is_some-waits.result;
+    })
+    c.self.inside.pending.items c.put_pending.new.pending.items visit.pending c.self.invariant
+    c.in-Ok.ensures.items c.in_ok-put_pending.ensures.items c.is_some-waits.ensures
+    ∙ ap (λ (v : Visits). v.items
+    ++ record { pending = visit.pending; best = visit.best; stored = c.in_ok-stored.stored } ∷ [])
+    c.self.view_is
+    ∙ ap (λ s. c.args.self.now.items
+    ++ record { pending = visit.pending; best = visit.best; stored = s } ∷ [])
+    c.in_ok-stored.ensures
 
 pub returns-clause-len : goal.returns-clause-len
-returns-clause-len c = ap length (returns-clause-items c) ∙ length-append c.args.self.now.items (c.args.visit ∷ [])
+returns-clause-len c =
+    ap length (returns-clause-items c) ∙ length-append c.args.self.now.items (c.args.visit ∷ [])
 
 pub invariant_of-self-in-Ok : goal.invariant_of-self-in-Ok
 invariant_of-self-in-Ok c =
-    waiting_count-more c.self.inside.steps.items c.push.new.self.items (record { best = c.args.visit.best; stored = c.in_ok-stored.stored; waits = c.is_some-waits.result })
-    c.self.inside.pending.items c.put_pending.new.pending.items c.args.visit.pending c.self.invariant c.in-Ok.ensures.items c.in_ok-put_pending.ensures.items c.is_some-waits.ensures
+    waiting_count-more c.self.inside.visits.items c.push.new.self.items
+    (record {
+      best = c.args.visit.best;
+      stored = c.in_ok-stored.stored;
+      waits = c.is_some-waits.result;
+    })
+    c.self.inside.pending.items c.put_pending.new.pending.items c.args.visit.pending
+    c.self.invariant c.in-Ok.ensures.items c.in_ok-put_pending.ensures.items
+    c.is_some-waits.ensures
 
--- ---- a step for which there is no room
+-- ---- a visit for which there is no room
 
 one_more : (before all : List State) (o : Option State) (b : Bool)
     → all ≡ before ++ option_to_list o → b ≡ is_some o → one_if b ≤ length all
@@ -63,9 +81,9 @@ take_pending-state-requires c =
 
 pub invariant_of-self-in_default : goal.invariant_of-self-in_default
 invariant_of-self-in_default c =
-    let same : c.push.new.self.items ≡ c.self.inside.steps.items = search rules in
+    let same : c.push.new.self.items ≡ c.self.inside.visits.items = search rules in
     ap waiting_count same
-    ∙ put_back (waiting_count c.self.inside.steps.items) c.self.inside.pending.items
+    ∙ put_back (waiting_count c.self.inside.visits.items) c.self.inside.pending.items
     c.put_pending.new.pending.items c.take_pending-state.new.pending.items
     c.args.visit.pending c.take_pending-state.result c.is_some-waits.result
     c.self.invariant c.in_ok-put_pending.ensures.items c.take_pending-state.ensures.items

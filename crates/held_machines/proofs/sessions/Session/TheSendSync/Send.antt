@@ -1,4 +1,4 @@
--- A session may go to another thread, since what it owns says the same to each.
+-- A session may be moved to another thread, since what it owns means the same to each.
 use mir.Raw.{raw}
 use base.Fraction.{full_share}
 use base.Shift.{Keyless}
@@ -22,11 +22,17 @@ quiet to (leaves L l S s r₀) q = λ d. q (to d)
 
 owns : (held : Option Running) (p : Ptr) → Keyless (session_owns held p)
 owns None p = λ _. tt
-owns (Some r) (block_ptr b o) = λ a. (part_keyless machine.the_row the_send full_share r b o, heap.frees.frees a (raw (lone machine.the_row.mir)) (block_ptr b o))
+owns (Some r) (block_ptr b o) =
+    λ a. (
+      part_keyless machine.the_row the_send full_share r b o,
+      heap.frees.frees a
+          (raw (lone machine.the_row.mir)) (block_ptr b o),
+    )
 owns (Some r) null_ptr = λ a. (tt, heap.frees.frees a (raw (lone machine.the_row.mir)) null_ptr)
 
 pub send : IsSend the_row
 send =
     let all : AllSend (fields the_type) = (search sendable, tt) in
     owning_send the_type all (λ d. owns d.held d.at)
-    (λ k. quiet (to the_type) (exits_of k (fields the_type)) ((struct_send (shape the_type) all).leaving k))
+    (λ k. quiet (to the_type) (exits_of k (fields the_type))
+    ((struct_send (shape the_type) all).leaving k))

@@ -32,5 +32,7 @@ closed_spec 𝓤 𝓛 𝓜 𝓡 wired =
     enter ! 𝓣.C 𝓣.Λ code.function [] Post $ alloc_all ! (λ l. pass_all ! refl tt $
     sets ! (agg ! (and_then ! (lit ! tt) (no_more !))) refl (tt, (record { fits = lit< tt }, tt)) $
     nothing ! $ fpack ! (null_ptr ≡ null_ptr) (λ _. ftrue) refl $ session_in ! d $
-    use0 𝓛 (raw (fact 𝓤 (d.held ≡ None))) (fact_i 𝓤 (d.held ≡ None) (emp 𝓤) refl) $ nothing ! $ nothing ! $
-    returns ! (look_at ! 0 refl) $ free_all ! refl $ keep ! (0 ∷ 1 ∷ 3 ∷ 2 ∷ []) $ by ! (leaves 𝓛 ended hs c z w d tt tt)))
+    use0 𝓛 (raw (fact 𝓤 (d.held ≡ None)))
+    (fact_i 𝓤 (d.held ≡ None) (emp 𝓤) refl) $ nothing ! $ nothing ! $
+    returns ! (look_at ! 0 refl) $ free_all ! refl $ keep ! (0 ∷ 1 ∷ 3 ∷ 2 ∷ []) $ by !
+    (leaves 𝓛 ended hs c z w d tt tt)))

@@ -4,15 +4,21 @@ use Rattle.host.proofs.verified.MachineRunnerRunner.run.Goals as goal
 
 pub returns-clause-ends : goal.returns-clause-ends
 returns-clause-ends c =
-    let (ends, packet, contents) = turn-AnswersRun c.args.self.now.machine c.args.head c.args.body.now (λ k. c.args.head.time) c.run-exit.result _ _ _ c.run-exit.ensures.answers in
+    let (ends, packet, contents) = turn-AnswersRun c.args.self.now.machine c.args.head
+    c.args.body.now
+    (λ k. c.args.head.time) c.run-exit.result _ _ _ c.run-exit.ensures.answers in
     sym ends
 
 pub returns-clause-body : goal.returns-clause-body
 returns-clause-body c =
-    let (ends, packet, contents) = turn-AnswersRun c.args.self.now.machine c.args.head c.args.body.now (λ k. c.args.head.time) c.run-exit.result _ _ _ c.run-exit.ensures.answers in
+    let (ends, packet, contents) = turn-AnswersRun c.args.self.now.machine c.args.head
+    c.args.body.now
+    (λ k. c.args.head.time) c.run-exit.result _ _ _ c.run-exit.ensures.answers in
     sym packet
 
 pub returns-clause-contents : goal.returns-clause-contents
 returns-clause-contents c =
-    let (ends, packet, contents) = turn-AnswersRun c.args.self.now.machine c.args.head c.args.body.now (λ k. c.args.head.time) c.run-exit.result _ _ _ c.run-exit.ensures.answers in
+    let (ends, packet, contents) = turn-AnswersRun c.args.self.now.machine c.args.head
+    c.args.body.now
+    (λ k. c.args.head.time) c.run-exit.result _ _ _ c.run-exit.ensures.answers in
     sym contents

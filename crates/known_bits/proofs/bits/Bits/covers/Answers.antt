@@ -9,19 +9,25 @@ use Rattle.known_bits.proofs.bits.Bits.covers.Goals as goal
 pub returns-then-other-self-eq0-clause-inclusion : goal.returns-then-other-self-eq0-clause-inclusion
 returns-then-other-self-eq0-clause-inclusion c =
     let ka = known c.args.self (omega arith) (omega arith) in
-    let kb = known c.args.other (omega arith) (omega arith) in
-    (λ same x hx. covers_contains ka kb c.if-other-self-eq0.true (eqb-true _ 0 same) x hx, λ within. eq-eqb _ 0 (included_value ka kb within))
+    let kb = known c.args.other (omega arith) (omega arith) in (
+      λ same x hx. covers_contains ka kb c.if-other-self-eq0.true (eqb-true _ 0 same) x hx,
+      λ within. eq-eqb _ 0 (included_value ka kb within),
+    )
 
 pub returns-then-other-self-eq0-clause-equal : goal.returns-then-other-self-eq0-clause-equal
 returns-then-other-self-eq0-clause-equal c = λ e.
-    eq-eqb _ 0 (ap (λ (b : Bits). without (bit_xor c.args.self.value b.value) c.args.self.mask) (sym e) ∙ without_same c.args.self.value c.args.self.mask)
+    eq-eqb _ 0 (ap (λ (b : Bits). without (bit_xor c.args.self.value b.value) c.args.self.mask)
+    (sym e) ∙ without_same c.args.self.value c.args.self.mask)
 
 pub returns-else-other-self-eq0-clause-inclusion : goal.returns-else-other-self-eq0-clause-inclusion
 returns-else-other-self-eq0-clause-inclusion c =
     let ka = known c.args.self (omega arith) (omega arith) in
-    let kb = known c.args.other (omega arith) (omega arith) in
-    (λ same. absurd (search (arith, same)), λ within. absurd (c.if-other-self-eq0.false (included_mask ka kb within)))
+    let kb = known c.args.other (omega arith) (omega arith) in (
+      λ same. absurd (search (arith, same)),
+      λ within. absurd (c.if-other-self-eq0.false (included_mask ka kb within)),
+    )
 
 pub returns-else-other-self-eq0-clause-equal : goal.returns-else-other-self-eq0-clause-equal
 returns-else-other-self-eq0-clause-equal c = λ e.
-    eq-eqb _ 0 (ap (λ (b : Bits). without b.mask c.args.self.mask) (sym e) ∙ without_self c.args.self.mask (omega arith))
+    eq-eqb _ 0 (ap (λ (b : Bits). without b.mask c.args.self.mask) (sym e)
+    ∙ without_self c.args.self.mask (omega arith))

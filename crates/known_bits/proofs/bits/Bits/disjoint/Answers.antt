@@ -8,19 +8,23 @@ use Rattle.known_bits.proofs.bits.Bits.disjoint.Goals as goal
 pub returns-in_err-left-clause-common : goal.returns-in_err-left-clause-common
 returns-in_err-left-clause-common c = λ x y hx hy none.
     let kb = known c.args.other (omega arith) (omega arith) in
-    absurd (c.in_err-left.ensures.common x hx (c.outside.ensures.contains x hx.below (and_value_zero x kb hy none)))
+    absurd (c.in_err-left.ensures.common x hx
+    (c.outside.ensures.contains x hx.below (and_value_zero x kb hy none)))
 
 pub returns-in_err-right-clause-common : goal.returns-in_err-right-clause-common
 returns-in_err-right-clause-common c = λ x y hx hy none.
     let ka = known c.args.self (omega arith) (omega arith) in
-    absurd (c.in_err-right.ensures.common y hy (c.outside-2.ensures.contains y hy.below (and_value_zero y ka hx (and_comm y x ∙ none))))
+    absurd (c.in_err-right.ensures.common y hy
+    (c.outside-2.ensures.contains y hy.below (and_value_zero y ka hx (and_comm y x ∙ none))))
 
 pub returns-clause-common : goal.returns-clause-common
 returns-clause-common c = λ x y hx hy none.
     let ka = known c.args.self (omega arith) (omega arith) in
     let kb = known c.args.other (omega arith) (omega arith) in (
-      c.in_ok-left.ensures.common x hx (c.outside.ensures.contains x hx.below (and_value_zero x kb hy none)),
-      c.in_ok-right.ensures.common y hy (c.outside-2.ensures.contains y hy.below (and_value_zero y ka hx (and_comm y x ∙ none))),
+      c.in_ok-left.ensures.common x hx
+          (c.outside.ensures.contains x hx.below (and_value_zero x kb hy none)),
+      c.in_ok-right.ensures.common y hy
+          (c.outside-2.ensures.contains y hy.below (and_value_zero y ka hx (and_comm y x ∙ none))),
     )
 
 pub returns-clause-found : goal.returns-clause-found

@@ -10,14 +10,20 @@ invariant_of-result c =
     let ka = known c.args.self (omega arith) (omega arith) in
     let k = c.args.count in
     let e : c.ones-ones.result ≡ 2 ^ k - 1 = omega arith in
-    record { apart = rw (e, and_mask c.args.self.value k, and_mask c.args.self.mask k) (low_known ka k).apart; fits = let le = and_le_l c.args.self.mask c.ones-ones.result in omega arith }
+    record {
+      apart = rw (e, and_mask c.args.self.value k, and_mask c.args.self.mask k)
+          (low_known ka k).apart;
+      fits = let le = and_le_l c.args.self.mask c.ones-ones.result in
+          omega arith;
+    }
 
 pub returns-clause-contains : goal.returns-clause-contains
 returns-clause-contains c =
     let ka = known c.args.self (omega arith) (omega arith) in
     let k = c.args.count in
     let e : c.ones-ones.result ≡ 2 ^ k - 1 = omega arith in
-    λ x hx. rw (e, and_mask c.args.self.value k, and_mask c.args.self.mask k) (low_contains ka k x hx)
+    λ x hx. rw (e, and_mask c.args.self.value k, and_mask c.args.self.mask k)
+    (low_contains ka k x hx)
 
 pub returns-clause-value : goal.returns-clause-value
 returns-clause-value c =

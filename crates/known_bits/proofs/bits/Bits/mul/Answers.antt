@@ -14,8 +14,11 @@ returns-clause-product c =
     let zero = c.product_zeros.ensures.contains _ _ x y in
     let both = c.with-limited.ensures.common _ term limit in
     record {
-      zeros = λ j k z fits hj hk h. c.product_zeros.ensures.zeros j k z fits hj hk (c.with.ensures.within _ z both zero h).1;
+      zeros =
+          λ j k z fits hj hk h.
+          c.product_zeros.ensures.zeros j k z fits hj hk (c.with.ensures.within _ z both zero h).1;
       limit = λ l z small h.
           let limited = (c.with.ensures.within _ z both zero h).0 in
-          c.product_limit.ensures.limit l z small (c.with-limited.ensures.within _ z term limit limited).1;
+          c.product_limit.ensures.limit l z small
+          (c.with-limited.ensures.within _ z term limit limited).1;
     }

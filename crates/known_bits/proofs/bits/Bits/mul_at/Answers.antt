@@ -7,7 +7,10 @@ use Rattle.known_bits.proofs.ProductZeros.{low-multiple, low-limit}
 use Rattle.known_bits.proofs.bits.Bits.mul_at.Goals as goal
 
 pub returns-clause-contains : goal.returns-clause-contains
-returns-clause-contains c = λ x y hx hy. rw (low_wrapped c.args.width (x * y)) at (c.truncate.ensures.contains _ (c.mul.ensures.contains x y hx hy))
+returns-clause-contains c =
+    λ x y hx hy.
+    rw (low_wrapped c.args.width (x * y)) at
+    (c.truncate.ensures.contains _ (c.mul.ensures.contains x y hx hy))
 
 pub returns-clause-product : goal.returns-clause-product
 returns-clause-product c =

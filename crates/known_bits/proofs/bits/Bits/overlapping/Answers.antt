@@ -5,7 +5,7 @@ use Rattle.std.proofs.lemmas.Nat.Bits.{bit_at-trailing_zeros}
 use Rattle.known_bits.specs.declared.bits.Bits.{Bits}
 use Rattle.known_bits.specs.Member.{IsMember}
 use Rattle.known_bits.proofs.Members.{Apart, known}
-use Rattle.known_bits.proofs.Overlaps.{and_shared, shared_bit, same_place, one_place}
+use Rattle.known_bits.proofs.Overlaps.{and_shared, shared_bit, same_position, one_position}
 use Rattle.known_bits.proofs.Sharp.{most_member}
 use Rattle.known_bits.proofs.bits.Bits.overlapping.Goals as goal
 
@@ -97,13 +97,15 @@ pub returns-clause-left_only : goal.returns-clause-left_only
 returns-clause-left_only c = λ x i alone h.
     let ka = known c.args.self (omega arith) (omega arith) in
     let one = lone c.args.self c.args.other ka c.if-shared-eq0.false c.if-shared-lowest.false in
-    rw (same_place i (lowest c.args.self c.args.other) (sym alone ∙ one)) (c.having.ensures.only x (c.in_ok-left.ensures.right x h))
+    rw (same_position i (lowest c.args.self c.args.other) (sym alone ∙ one))
+    (c.having.ensures.only x (c.in_ok-left.ensures.right x h))
 
 pub returns-clause-right_only : goal.returns-clause-right_only
 returns-clause-right_only c = λ y i alone h.
     let ka = known c.args.self (omega arith) (omega arith) in
     let one = lone c.args.self c.args.other ka c.if-shared-eq0.false c.if-shared-lowest.false in
-    rw (same_place i (lowest c.args.self c.args.other) (sym alone ∙ one)) (c.having-2.ensures.only y (c.in_ok-right.ensures.right y h))
+    rw (same_position i (lowest c.args.self c.args.other) (sym alone ∙ one))
+    (c.having-2.ensures.only y (c.in_ok-right.ensures.right y h))
 
 pub returns-then-shared-lowest-clause-found : goal.returns-then-shared-lowest-clause-found
 returns-then-shared-lowest-clause-found c =
@@ -121,10 +123,10 @@ pub returns-then-shared-lowest-clause-left_only : goal.returns-then-shared-lowes
 returns-then-shared-lowest-clause-left_only c = λ x i alone h.
     let ka = known c.args.self (omega arith) (omega arith) in
     let fits = shared_fits c.args.self c.args.other ka in
-    absurd (c.if-shared-lowest.true (one_place (shared c.args.self c.args.other) i fits alone))
+    absurd (c.if-shared-lowest.true (one_position (shared c.args.self c.args.other) i fits alone))
 
 pub returns-then-shared-lowest-clause-right_only : goal.returns-then-shared-lowest-clause-right_only
 returns-then-shared-lowest-clause-right_only c = λ y i alone h.
     let ka = known c.args.self (omega arith) (omega arith) in
     let fits = shared_fits c.args.self c.args.other ka in
-    absurd (c.if-shared-lowest.true (one_place (shared c.args.self c.args.other) i fits alone))
+    absurd (c.if-shared-lowest.true (one_position (shared c.args.self c.args.other) i fits alone))

@@ -28,14 +28,18 @@ returns-clause-contains c = λ x y hx hy.
     c.outside.ensures.contains ((x * y) % 2 ^ 64) (omega arith)
     (and_ones ((x * y) % 2 ^ 64) c.min.result c.ones.result c.ones.ensures
     (mod-mod_pow (x * y) c.min.result 64
-    (mod-pow_smaller (x * y) c.min.result (trailing_zeros w64 c.greatest.result + trailing_zeros w64 c.greatest-2.result)
-    (mod-pow-mul x y (trailing_zeros w64 c.greatest.result) (trailing_zeros w64 c.greatest-2.result) zx zy)
+    (mod-pow_smaller (x * y) c.min.result
+    (trailing_zeros w64 c.greatest.result + trailing_zeros w64 c.greatest-2.result)
+    (mod-pow-mul x y (trailing_zeros w64 c.greatest.result)
+    (trailing_zeros w64 c.greatest-2.result) zx zy)
     (let m = c.min.ensures in omega arith))))
 
 pub returns-clause-zeros : goal.returns-clause-zeros
 returns-clause-zeros c = λ j k z fits hj hk h.
-    let a = trailing_zeros-multiple c.greatest.result j c.greatest.type_inv (omega arith) (rw c.greatest.ensures.value hj) in
-    let b = trailing_zeros-multiple c.greatest-2.result k c.greatest-2.type_inv (omega arith) (rw c.greatest-2.ensures.value hk) in
+    let a = trailing_zeros-multiple c.greatest.result j c.greatest.type_inv (omega arith)
+    (rw c.greatest.ensures.value hj) in
+    let b = trailing_zeros-multiple c.greatest-2.result k c.greatest-2.type_inv (omega arith)
+    (rw c.greatest-2.ensures.value hk) in
     mod-pow_smaller z (j + k) c.min.result
     (and_ones_back z c.min.result c.ones.result c.ones.ensures (c.outside.ensures.only z h))
     (let m = c.min.ensures in omega arith)

@@ -8,7 +8,8 @@ use Rattle.known_bits.proofs.bits.Bits.reorder.Goals as goal
 pub returns-clause-contains : goal.returns-clause-contains
 returns-clause-contains c = λ x hx.
     let ka = known c.args.a (omega arith) (omega arith) in
-    rw (c.reorder.ensures, c.reorder-2.ensures) (copied_contains (reorder_copies c.args.order c.args.span) ka x hx)
+    rw (c.reorder.ensures, c.reorder-2.ensures)
+    (copied_contains (reorder_copies c.args.order c.args.span) ka x hx)
 
 pub returns-clause-sharp : goal.returns-clause-sharp
 returns-clause-sharp c = λ i h.
@@ -18,19 +19,27 @@ returns-clause-sharp c = λ i h.
 pub returns-clause-fits : goal.returns-clause-fits
 returns-clause-fits c = λ x h.
     let ka = known c.args.a (omega arith) (omega arith) in
-    copied_fits (reorder_copies c.args.order c.args.span) ka (rw (c.reorder.ensures, c.reorder-2.ensures) at h)
+    copied_fits (reorder_copies c.args.order c.args.span) ka
+    (rw (c.reorder.ensures, c.reorder-2.ensures) at h)
 
 pub invariant_of-result : goal.invariant_of-result
 invariant_of-result c =
     let ka = known c.args.a (omega arith) (omega arith) in
-    record { apart = rw (c.reorder.ensures, c.reorder-2.ensures) ((copied_known (reorder_copies c.args.order c.args.span) ka).apart); fits = omega arith }
+    record {
+      apart = rw (c.reorder.ensures, c.reorder-2.ensures)
+          ((copied_known (reorder_copies c.args.order c.args.span) ka).apart);
+      fits = omega arith;
+    }
 
 pub returns-clause-exact : goal.returns-clause-exact
 returns-clause-exact c = λ u h.
     let order = c.args.order in
-    let span = c.args.span in
-    (c.reorder.ensures ∙ ap (reordered order span) h.0, c.reorder-2.ensures ∙ ap (reordered order span) h.1 ∙ reordered_zero order span)
+    let span = c.args.span in (
+      c.reorder.ensures ∙ ap (reordered order span) h.0,
+      c.reorder-2.ensures ∙ ap (reordered order span) h.1 ∙ reordered_zero order span,
+    )
 
 pub returns-clause-little : goal.returns-clause-little
 unfolding reordered
-returns-clause-little c = λ is. c.reorder-2.ensures ∙ ap (λ o. reordered o c.args.span c.args.a.mask) is
+returns-clause-little c =
+    λ is. c.reorder-2.ensures ∙ ap (λ o. reordered o c.args.span c.args.a.mask) is

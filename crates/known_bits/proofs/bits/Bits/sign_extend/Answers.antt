@@ -7,7 +7,8 @@ use Rattle.known_bits.proofs.bits.Bits.sign_extend.Goals as goal
 pub returns-clause-contains : goal.returns-clause-contains
 returns-clause-contains c = λ x hx.
     let ka = known c.args.a (omega arith) (omega arith) in
-    rw (c.sign_extend.ensures, c.sign_extend-2.ensures) (copied_contains (extension_copies c.args.extension) ka x hx)
+    rw (c.sign_extend.ensures, c.sign_extend-2.ensures)
+    (copied_contains (extension_copies c.args.extension) ka x hx)
 
 pub returns-clause-sharp : goal.returns-clause-sharp
 returns-clause-sharp c = λ i h.
@@ -17,14 +18,21 @@ returns-clause-sharp c = λ i h.
 pub returns-clause-fits : goal.returns-clause-fits
 returns-clause-fits c = λ x h.
     let ka = known c.args.a (omega arith) (omega arith) in
-    copied_fits (extension_copies c.args.extension) ka (rw (c.sign_extend.ensures, c.sign_extend-2.ensures) at h)
+    copied_fits (extension_copies c.args.extension) ka
+    (rw (c.sign_extend.ensures, c.sign_extend-2.ensures) at h)
 
 pub invariant_of-result : goal.invariant_of-result
 invariant_of-result c =
     let ka = known c.args.a (omega arith) (omega arith) in
-    record { apart = rw (c.sign_extend.ensures, c.sign_extend-2.ensures) ((copied_known (extension_copies c.args.extension) ka).apart); fits = omega arith }
+    record {
+      apart = rw (c.sign_extend.ensures, c.sign_extend-2.ensures)
+          ((copied_known (extension_copies c.args.extension) ka).apart);
+      fits = omega arith;
+    }
 
 pub returns-clause-exact : goal.returns-clause-exact
 returns-clause-exact c = λ u h.
-    let e = c.args.extension in
-    (c.sign_extend.ensures ∙ ap (sign_extended e) h.0, c.sign_extend-2.ensures ∙ ap (sign_extended e) h.1 ∙ extended_zero e)
+    let e = c.args.extension in (
+      c.sign_extend.ensures ∙ ap (sign_extended e) h.0,
+      c.sign_extend-2.ensures ∙ ap (sign_extended e) h.1 ∙ extended_zero e,
+    )

@@ -29,16 +29,21 @@ returns-then-self-ge-SIGN-clause-limit c = λ x hx.
     let top = bit_or c.args.self.value c.args.self.mask in
     let o = or_lt 64 c.args.self.value c.args.self.mask k.value_in k.mask_in in
     let same = of_z-to_z w64 (top - 2 ^ 63) (omega arith) in
-    simp (c.cast_signed.ensures, c.greatest.ensures.value, same) (signed_greatest_unknown k c.if-self-ge-SIGN.true hx)
+    simp (c.cast_signed.ensures, c.greatest.ensures.value, same)
+    (signed_greatest_unknown k c.if-self-ge-SIGN.true hx)
 
 pub returns-else-self-ge-SIGN-clause-member : goal.returns-else-self-ge-SIGN-clause-member
 returns-else-self-ge-SIGN-clause-member c =
     let k = known c.args.self (omega arith) (omega arith) in
-    let same = of_z-to_z w64 (bit_or c.args.self.value c.args.self.mask) (or_lt 64 c.args.self.value c.args.self.mask k.value_in k.mask_in) in
-    simp (c.cast_signed-else-self-ge-SIGN.ensures, c.greatest-else-self-ge-SIGN.ensures.value, same) (most_member k)
+    let same = of_z-to_z w64 (bit_or c.args.self.value c.args.self.mask)
+    (or_lt 64 c.args.self.value c.args.self.mask k.value_in k.mask_in) in
+    simp (c.cast_signed-else-self-ge-SIGN.ensures, c.greatest-else-self-ge-SIGN.ensures.value, same)
+    (most_member k)
 
 pub returns-else-self-ge-SIGN-clause-limit : goal.returns-else-self-ge-SIGN-clause-limit
 returns-else-self-ge-SIGN-clause-limit c = λ x hx.
     let k = known c.args.self (omega arith) (omega arith) in
-    let same = of_z-to_z w64 (bit_or c.args.self.value c.args.self.mask) (or_lt 64 c.args.self.value c.args.self.mask k.value_in k.mask_in) in
-    simp (c.cast_signed-else-self-ge-SIGN.ensures, c.greatest-else-self-ge-SIGN.ensures.value, same) (signed_greatest_known k c.if-self-ge-SIGN.false hx)
+    let same = of_z-to_z w64 (bit_or c.args.self.value c.args.self.mask)
+    (or_lt 64 c.args.self.value c.args.self.mask k.value_in k.mask_in) in
+    simp (c.cast_signed-else-self-ge-SIGN.ensures, c.greatest-else-self-ge-SIGN.ensures.value, same)
+    (signed_greatest_known k c.if-self-ge-SIGN.false hx)

@@ -11,23 +11,27 @@ returns-then-self-ge-SIGN-clause-member c =
     let v_in = sign_unknown k c.if-self-ge-SIGN.true in
     let same = of_z-to_z w64 (c.args.self.value + 2 ^ 63) (omega arith) in
     simp (c.cast_signed.ensures, c.least.ensures.value, same)
-    (other_sign (c.args.self.value + 2 ^ 63) k c.if-self-ge-SIGN.true (least_member k) (omega arith) (omega arith))
+    (other_sign (c.args.self.value + 2 ^ 63) k c.if-self-ge-SIGN.true (least_member k) (omega arith)
+    (omega arith))
 
 pub returns-then-self-ge-SIGN-clause-limit : goal.returns-then-self-ge-SIGN-clause-limit
 returns-then-self-ge-SIGN-clause-limit c = λ x hx.
     let k = known c.args.self (omega arith) (omega arith) in
     let v_in = sign_unknown k c.if-self-ge-SIGN.true in
     let same = of_z-to_z w64 (c.args.self.value + 2 ^ 63) (omega arith) in
-    simp (c.cast_signed.ensures, c.least.ensures.value, same) (signed_least_unknown k c.if-self-ge-SIGN.true hx)
+    simp (c.cast_signed.ensures, c.least.ensures.value, same)
+    (signed_least_unknown k c.if-self-ge-SIGN.true hx)
 
 pub returns-else-self-ge-SIGN-clause-member : goal.returns-else-self-ge-SIGN-clause-member
 returns-else-self-ge-SIGN-clause-member c =
     let k = known c.args.self (omega arith) (omega arith) in
     let same = of_z-to_z w64 c.args.self.value (omega arith) in
-    simp (c.cast_signed-else-self-ge-SIGN.ensures, c.least-else-self-ge-SIGN.ensures.value, same) (least_member k)
+    simp (c.cast_signed-else-self-ge-SIGN.ensures, c.least-else-self-ge-SIGN.ensures.value, same)
+    (least_member k)
 
 pub returns-else-self-ge-SIGN-clause-limit : goal.returns-else-self-ge-SIGN-clause-limit
 returns-else-self-ge-SIGN-clause-limit c = λ x hx.
     let k = known c.args.self (omega arith) (omega arith) in
     let same = of_z-to_z w64 c.args.self.value (omega arith) in
-    simp (c.cast_signed-else-self-ge-SIGN.ensures, c.least-else-self-ge-SIGN.ensures.value, same) (signed_least_known k c.if-self-ge-SIGN.false hx)
+    simp (c.cast_signed-else-self-ge-SIGN.ensures, c.least-else-self-ge-SIGN.ensures.value, same)
+    (signed_least_known k c.if-self-ge-SIGN.false hx)

@@ -8,10 +8,14 @@ invariant_of-result c =
     let a = known c.args.self (omega arith) (omega arith) in
     let b = known c.args.other (omega arith) (omega arith) in
     let k = spliced_known a b c.args.from c.args.count (omega arith) in
-    record { apart = rw (c.spliced.ensures, c.spliced-2.ensures) k.apart; fits = rw c.spliced-2.ensures k.mask_in }
+    record {
+      apart = rw (c.spliced.ensures, c.spliced-2.ensures) k.apart;
+      fits = rw c.spliced-2.ensures k.mask_in;
+    }
 
 pub returns-clause-contains : goal.returns-clause-contains
 returns-clause-contains c = λ x y hx hy.
     let a = known c.args.self (omega arith) (omega arith) in
     let b = known c.args.other (omega arith) (omega arith) in
-    rw (c.spliced.ensures, c.spliced-2.ensures) (spliced_contains a b c.args.from c.args.count x y (omega arith) hx hy)
+    rw (c.spliced.ensures, c.spliced-2.ensures)
+    (spliced_contains a b c.args.from c.args.count x y (omega arith) hx hy)

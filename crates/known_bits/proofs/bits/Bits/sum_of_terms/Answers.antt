@@ -8,7 +8,8 @@ loop-i-init c = λ x y hx hy. rw (product_none x y) c.constant-sum.ensures.conta
 
 pub loop-i-preserved : goal.loop-i-preserved
 loop-i-preserved c = λ x y hx hy.
-    rw (product_more x y c.loop-i.i) at (c.add-sum.ensures.contains _ _ (c.loop-i.invariant x y hx hy) (c.term.ensures x y hx hy))
+    rw (product_more x y c.loop-i.i) at
+    (c.add-sum.ensures.contains _ _ (c.loop-i.invariant x y hx hy) (c.term.ensures x y hx hy))
 
 pub returns : goal.returns
 returns c = λ x y hx hy.

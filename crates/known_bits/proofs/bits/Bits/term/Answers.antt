@@ -10,16 +10,21 @@ pub returns-then-self-i-eq1 : goal.returns-then-self-i-eq1
 returns-then-self-i-eq1 c = λ x y hx hy.
     let ka = known c.args.self (omega arith) (omega arith) in
     let b = bits_between ka hx c.args.i c.requires in
-    let v : bit_at c.args.self.value c.args.i ≡ 1 = sym (shr_and_one c.args.self.value c.args.i) ∙ c.if-self-i-eq1.true in
+    let v : bit_at c.args.self.value c.args.i ≡ 1 = sym (shr_and_one c.args.self.value c.args.i)
+    ∙ c.if-self-i-eq1.true in
     let l = bit_at-lt x c.args.i in
-    rw (term_one (bit_at x c.args.i) y (2 ^ c.args.i) (omega arith)) (c.shift_left-moved.ensures.contains y hy)
+    rw (term_one (bit_at x c.args.i) y (2 ^ c.args.i) (omega arith))
+    (c.shift_left-moved.ensures.contains y hy)
 
 pub returns-then-self-i-eq1-2 : goal.returns-then-self-i-eq1-2
 returns-then-self-i-eq1-2 c = λ x y hx hy.
     let l = bit_at-lt x c.args.i in
     elim (cases_lt 0 (bit_at x c.args.i)) [
-      | inl one ↦ rw (term_one (bit_at x c.args.i) y (2 ^ c.args.i) (omega arith)) (c.or_zero.ensures.contains _ (c.shift_left-moved.ensures.contains y hy))
-      | inr none ↦ rw (term_zero (bit_at x c.args.i) y (2 ^ c.args.i) (omega arith)) c.or_zero.ensures.zero
+      | inl one ↦
+          rw (term_one (bit_at x c.args.i) y (2 ^ c.args.i) (omega arith))
+          (c.or_zero.ensures.contains _ (c.shift_left-moved.ensures.contains y hy))
+      | inr none ↦
+          rw (term_zero (bit_at x c.args.i) y (2 ^ c.args.i) (omega arith)) c.or_zero.ensures.zero
     ]
 
 pub returns-else-self-i-eq1-2 : goal.returns-else-self-i-eq1-2

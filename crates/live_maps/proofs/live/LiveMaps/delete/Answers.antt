@@ -10,7 +10,7 @@ use Rattle.live_maps.proofs.ContentLaws.{live_of}
 use Rattle.live_maps.proofs.LiveLaws.{live-removed, live-same, deleted_there, delete_answer-live}
 use Rattle.live_maps.proofs.SearchLaws.{lookup-present}
 use Rattle.live_maps.proofs.OrderLaws.{AreOrders-changed, IsOrder-listed, order_found, values-removed}
-use Rattle.live_maps.proofs.OneChanged.{OneChanged, one_changed, row_told, still_kept}
+use Rattle.live_maps.proofs.OneChanged.{OneChanged, one_changed, row_seen, still_kept}
 use Rattle.live_maps.proofs.live.LiveMaps.delete.Goals as goal
 use Rattle.live_maps.proofs.live.LiveMaps.delete.Goals.{In-Some, In_default, Else-answer-eq0}
 
@@ -50,7 +50,7 @@ answered : (next : ℕ) (maps new : List MapState) (all : List Serials) (now : L
     → Deleted key result (map_at maps m) (map_at new m)
     → IsSomeAnd (slice_get now.rows m) (λ row. result ≡ delete_answer row (content_at now m) key)
 answered next maps new all now view m key result h d others del =
-    row_told (λ l row. result ≡ delete_answer row (content_at l m) key) next maps all now view m
+    row_seen (λ l row. result ≡ delete_answer row (content_at l m) key) next maps all now view m
     d.inside
     (del.answer ∙ delete_answer-live next maps all m new d.inside h others key)
 
@@ -70,7 +70,7 @@ left c =
     let all = c.self.inside.serials.items in
     slice_set all c.args.map (slice_set (serials_at all c.args.map) c.in-Some.place None)
 
--- what lives on without the key
+-- the maps and their serials without the key
 lives : (c : In-Some) → OneChanged (Size c.args.key.now) c.self.inside.maps c.delete-answer.new.maps
     c.args.map
     → AreLive c.self.inside.next c.delete-answer.new.maps (left c)

@@ -12,7 +12,10 @@ pub serial_at-requires-clause-index : goal.serial_at-requires-clause-index
 serial_at-requires-clause-index c =
     let i = c.self.inside in
     let P : MapDef → Type 0 = λ row. length c.args.key.now ≡ row.key_size in
-    let known = rows_of-known P i.maps c.args.map (subst (λ (l : Live). IsSomeAnd (slice_get l.rows c.args.map) P) (sym c.self.view_is) c.requires) in
+    let known =
+    rows_of-known P i.maps c.args.map
+    (subst (λ (l : Live). IsSomeAnd (slice_get l.rows c.args.map) P)
+    (sym c.self.view_is) c.requires) in
     let inside = known.0 in
     let long = c.self.invariant.2.long in
     let items = i.serials.ok.0 in
@@ -22,22 +25,38 @@ pub serial_at-requires-clause-place : goal.serial_at-requires-clause-place
 serial_at-requires-clause-place c =
     let i = c.self.inside in
     let P : MapDef → Type 0 = λ row. length c.args.key.now ≡ row.key_size in
-    let known = rows_of-known P i.maps c.args.map (subst (λ (l : Live). IsSomeAnd (slice_get l.rows c.args.map) P) (sym c.self.view_is) c.requires) in
-    (lookup-present i.next i.maps i.serials.items c.args.map c.self.invariant.2 known.0 c.args.key.now c.in_ok-place.place (sym c.in_ok-place.ensures.place)).0
+    let known =
+    rows_of-known P i.maps c.args.map
+    (subst (λ (l : Live). IsSomeAnd (slice_get l.rows c.args.map) P)
+    (sym c.self.view_is) c.requires) in
+    (lookup-present i.next i.maps i.serials.items c.args.map c.self.invariant.2 known.0
+    c.args.key.now c.in_ok-place.place (sym c.in_ok-place.ensures.place)).0
 
 pub returns-clause-serial : goal.returns-clause-serial
 returns-clause-serial c =
     let i = c.self.inside in
     let P : MapDef → Type 0 = λ row. length c.args.key.now ≡ row.key_size in
-    let known = rows_of-known P i.maps c.args.map (subst (λ (l : Live). IsSomeAnd (slice_get l.rows c.args.map) P) (sym c.self.view_is) c.requires) in
-    let r = lookup-present i.next i.maps i.serials.items c.args.map c.self.invariant.2 known.0 c.args.key.now c.in_ok-place.place (sym c.in_ok-place.ensures.place) in
-    c.serial_at.ensures ∙ sym r.1 ∙ ap (λ (l : Live). option_map (λ v. v.serial) (at_key c.args.key.now (content_at l c.args.map))) c.self.view_is
+    let known =
+    rows_of-known P i.maps c.args.map
+    (subst (λ (l : Live). IsSomeAnd (slice_get l.rows c.args.map) P)
+    (sym c.self.view_is) c.requires) in
+    let r =
+    lookup-present i.next i.maps i.serials.items c.args.map c.self.invariant.2 known.0
+    c.args.key.now c.in_ok-place.place (sym c.in_ok-place.ensures.place) in
+    c.serial_at.ensures ∙ sym r.1
+    ∙ ap (λ (l : Live). option_map (λ v. v.serial)
+    (at_key c.args.key.now (content_at l c.args.map))) c.self.view_is
 
 pub returns-in_err-place-clause-serial : goal.returns-in_err-place-clause-serial
 returns-in_err-place-clause-serial c =
     let i = c.self.inside in
     let P : MapDef → Type 0 = λ row. length c.args.key.now ≡ row.key_size in
-    let known = rows_of-known P i.maps c.args.map (subst (λ (l : Live). IsSomeAnd (slice_get l.rows c.args.map) P) (sym c.self.view_is) c.requires) in
+    let known =
+    rows_of-known P i.maps c.args.map
+    (subst (λ (l : Live). IsSomeAnd (slice_get l.rows c.args.map) P)
+    (sym c.self.view_is) c.requires) in
     let none : c.from_residual.result ≡ None = search rules in
-    none ∙ sym (lookup-absent i.next i.maps i.serials.items c.args.map c.self.invariant.2 known.0 c.args.key.now (sym c.in_err-place.ensures.place))
-    ∙ ap (λ (l : Live). option_map (λ v. v.serial) (at_key c.args.key.now (content_at l c.args.map))) c.self.view_is
+    none ∙ sym (lookup-absent i.next i.maps i.serials.items c.args.map c.self.invariant.2 known.0
+    c.args.key.now (sym c.in_err-place.ensures.place))
+    ∙ ap (λ (l : Live). option_map (λ v. v.serial)
+    (at_key c.args.key.now (content_at l c.args.map))) c.self.view_is

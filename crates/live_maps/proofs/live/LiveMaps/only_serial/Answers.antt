@@ -12,7 +12,10 @@ pub serial_at-requires-clause-index : goal.serial_at-requires-clause-index
 serial_at-requires-clause-index c =
     let i = c.self.inside in
     let P : MapDef → Type 0 = λ row. (row.kind ≡ Array) × (row.entries ≡ 1) in
-    let known = rows_of-known P i.maps c.args.map (subst (λ (l : Live). IsSomeAnd (slice_get l.rows c.args.map) P) (sym c.self.view_is) c.requires) in
+    let known =
+    rows_of-known P i.maps c.args.map
+    (subst (λ (l : Live). IsSomeAnd (slice_get l.rows c.args.map) P)
+    (sym c.self.view_is) c.requires) in
     let inside = known.0 in
     let long = c.self.invariant.2.long in
     let items = i.serials.ok.0 in
@@ -22,13 +25,23 @@ pub serial_at-requires-clause-place : goal.serial_at-requires-clause-place
 serial_at-requires-clause-place c =
     let i = c.self.inside in
     let P : MapDef → Type 0 = λ row. (row.kind ≡ Array) × (row.entries ≡ 1) in
-    let known = rows_of-known P i.maps c.args.map (subst (λ (l : Live). IsSomeAnd (slice_get l.rows c.args.map) P) (sym c.self.view_is) c.requires) in
-    (only-present i.next i.maps i.serials.items c.args.map c.self.invariant.2 known.0 known.1.0 known.1.1).0
+    let known =
+    rows_of-known P i.maps c.args.map
+    (subst (λ (l : Live). IsSomeAnd (slice_get l.rows c.args.map) P)
+    (sym c.self.view_is) c.requires) in
+    (only-present i.next i.maps i.serials.items c.args.map c.self.invariant.2 known.0 known.1.0
+    known.1.1).0
 
 pub returns : goal.returns
 returns c =
     let i = c.self.inside in
     let P : MapDef → Type 0 = λ row. (row.kind ≡ Array) × (row.entries ≡ 1) in
-    let known = rows_of-known P i.maps c.args.map (subst (λ (l : Live). IsSomeAnd (slice_get l.rows c.args.map) P) (sym c.self.view_is) c.requires) in
-    let r = only-present i.next i.maps i.serials.items c.args.map c.self.invariant.2 known.0 known.1.0 known.1.1 in
-    c.unwrap_or.ensures ∙ ap (λ (o : Option ℕ). unwrap_or o 0) c.serial_at.ensures ∙ r.1 ∙ ap (λ (l : Live). one_serial (content_at l c.args.map)) c.self.view_is
+    let known =
+    rows_of-known P i.maps c.args.map
+    (subst (λ (l : Live). IsSomeAnd (slice_get l.rows c.args.map) P)
+    (sym c.self.view_is) c.requires) in
+    let r =
+    only-present i.next i.maps i.serials.items c.args.map c.self.invariant.2 known.0 known.1.0
+    known.1.1 in
+    c.unwrap_or.ensures ∙ ap (λ (o : Option ℕ). unwrap_or o 0) c.serial_at.ensures ∙ r.1
+    ∙ ap (λ (l : Live). one_serial (content_at l c.args.map)) c.self.view_is

@@ -33,10 +33,25 @@ returns-clause-numbered c =
     let maps = i.maps in
     let all = c.number_all-count.new.all.items in
     let done = c.number_all-count.ensures in
-    let numbered : List KeyValues → Live = λ es. record { rows = rows_of maps; contents = numbered_maps 0 es; next_serial = count_values es } in
+    let numbered : List KeyValues
+    → Live = λ es.
+    record {
+      rows = rows_of maps;
+      contents = numbered_maps 0 es;
+      next_serial = count_values es;
+    } in
     let new : live_of maps all c.number_all-count.result ≡ numbered (contents_of maps) =
-    λ j. record { rows = rows_of maps; contents = numbered-all maps all done.numbered.are j; next_serial = done.numbered.counted j } in
-    let plain : contents_of maps ≡ map key_values_of (live_of maps i.serials.items i.next).contents =
+    λ j. record {
+      rows = rows_of maps;
+      contents = numbered-all maps all done.numbered.are j;
+      next_serial = done.numbered.counted j;
+    } in
+    let plain : contents_of maps
+    ≡ map key_values_of (live_of maps i.serials.items i.next).contents =
     sym (key_values_of-live_contents maps i.serials.items c.self.invariant.2.long) in
     new ∙ ap numbered plain
-    ∙ ap (λ (l : Live). record l { contents = numbered_maps 0 (map key_values_of l.contents); next_serial = count_values (map key_values_of l.contents) }) c.self.view_is
+    ∙ ap (λ (l : Live). record l {
+      contents = numbered_maps 0 (map key_values_of l.contents);
+      next_serial = count_values
+          (map key_values_of l.contents);
+    }) c.self.view_is

@@ -10,7 +10,7 @@ use Rattle.live_maps.specs.Orders.{AreLiveMaps, IsOrder, KeyOrder}
 use Rattle.live_maps.proofs.ContentLaws.{live_of}
 use Rattle.live_maps.proofs.LiveLaws.{live-updated, live-added, live-same, not_zero, updated_there, place_if_new-Some, place_if_new-None, update_answer-live}
 use Rattle.live_maps.proofs.OrderLaws.{AreOrders-changed, AreOrders-set, IsOrder-listed, order_found, remove-added}
-use Rattle.live_maps.proofs.OneChanged.{OneChanged, one_changed, row_told, still_kept}
+use Rattle.live_maps.proofs.OneChanged.{OneChanged, one_changed, row_seen, still_kept}
 use Rattle.live_maps.proofs.live.LiveMaps.update.Goals as goal
 use Rattle.live_maps.proofs.live.LiveMaps.update.Goals.{In-Some, In_default, Else-answer-eq0}
 
@@ -55,7 +55,7 @@ answered : (next : ℕ) (maps new : List MapState) (all : List Serials) (now : L
     → IsSomeAnd (slice_get now.rows m) (λ row. result ≡ update_answer row
     (content_at now m) key flags)
 answered next maps new all now view m key value flags result h d others u =
-    row_told (λ l row. result ≡ update_answer row (content_at l m) key flags) next maps all now view
+    row_seen (λ l row. result ≡ update_answer row (content_at l m) key flags) next maps all now view
     m d.inside
     (u.answer ∙ update_answer-live next maps all m new d.inside h others key flags)
 
@@ -82,7 +82,7 @@ given c =
     slice_set all c.args.map (slice_set (serials_at all c.args.map) c.in-Some.place
     (Some c.self.inside.next))
 
--- what lives with the new key
+-- the maps and their serials with the new key
 added : (c : In-Some) → OneChanged (Sizes c.args.key.now c.args.value.now) c.self.inside.maps
     c.update-answer.new.maps c.args.map
     → AreLive (suc c.self.inside.next) c.update-answer.new.maps (given c)
@@ -113,7 +113,7 @@ had c =
     place_if_new-None (get x.places key) (get y.places key) none
     (updated_there x y key c.args.value.now c.args.flags u)
 
--- what lives with another value of the key
+-- the maps and their serials with another value of the key
 written : (c : In_default) → OneChanged (Sizes c.args.key.now c.args.value.now) c.self.inside.maps
     c.update-answer.new.maps c.args.map
     → AreLive c.self.inside.next c.update-answer.new.maps c.self.inside.serials.items

@@ -6,23 +6,29 @@ use Rattle.live_maps.proofs.live.LiveMaps.value.Goals as goal
 pub value-requires-clause-map : goal.value-requires-clause-map
 value-requires-clause-map c =
     let i = c.self.inside in
-    searched-inside i.next i.maps i.serials.items c.args.map c.args.serial c.self.invariant.2 c.in-Some.place (sym c.find_serial.ensures ∙ c.in-Some.is)
+    searched-inside i.next i.maps i.serials.items c.args.map c.args.serial c.self.invariant.2
+    c.in-Some.place (sym c.find_serial.ensures ∙ c.in-Some.is)
 
 pub value-requires-clause-place : goal.value-requires-clause-place
 value-requires-clause-place c =
     let i = c.self.inside in
-    (searched-some i.next i.maps i.serials.items c.args.map c.args.serial c.self.invariant.2 c.in-Some.place (sym c.find_serial.ensures ∙ c.in-Some.is)).0
+    (searched-some i.next i.maps i.serials.items c.args.map c.args.serial c.self.invariant.2
+    c.in-Some.place (sym c.find_serial.ensures ∙ c.in-Some.is)).0
 
 pub returns-in-Some : goal.returns-in-Some
 returns-in-Some c =
     let i = c.self.inside in
-    let r = searched-some i.next i.maps i.serials.items c.args.map c.args.serial c.self.invariant.2 c.in-Some.place (sym c.find_serial.ensures ∙ c.in-Some.is) in
-    ap Some c.value.ensures ∙ sym r.1 ∙ ap (λ (l : Live). value_bytes (content_at l c.args.map) c.args.serial) c.self.view_is
+    let r =
+    searched-some i.next i.maps i.serials.items c.args.map c.args.serial c.self.invariant.2
+    c.in-Some.place (sym c.find_serial.ensures ∙ c.in-Some.is) in
+    ap Some c.value.ensures ∙ sym r.1
+    ∙ ap (λ (l : Live). value_bytes (content_at l c.args.map) c.args.serial) c.self.view_is
 
 pub returns-in-None : goal.returns-in-None
 returns-in-None c =
     let i = c.self.inside in
-    sym (searched-none i.next i.maps i.serials.items c.args.map c.args.serial c.self.invariant.2 (sym c.find_serial.ensures ∙ c.in-None.is))
+    sym (searched-none i.next i.maps i.serials.items c.args.map c.args.serial c.self.invariant.2
+    (sym c.find_serial.ensures ∙ c.in-None.is))
     ∙ ap (λ (l : Live). value_bytes (content_at l c.args.map) c.args.serial) c.self.view_is
 
 pub find_serial-requires : goal.find_serial-requires

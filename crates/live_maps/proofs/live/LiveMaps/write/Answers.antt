@@ -19,7 +19,7 @@ found c =
     c.in-Some.place (c.args.at + length c.args.bytes.now)
     c.self.invariant.2 (sym c.find_serial.ensures ∙ c.in-Some.is) c.requires
 
--- what lives with the bytes written
+-- the maps and their serials with the bytes written
 written : (c : After-say_fits) → Found c.self.inside.maps c.args.map c.in-Some.place
     (c.args.at + length c.args.bytes.now)
     → AreLive c.self.inside.next c.write_value.new.self c.self.inside.serials.items

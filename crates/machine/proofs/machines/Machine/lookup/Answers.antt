@@ -8,5 +8,9 @@ returns-clause-size c =
     let bound = c.self.inside.bound in
     let maps = c.self.inside.memory.maps in
     let ready = c.self.invariant in
-    value_size_is maps c.say_fits.ensures c.args.map (inside p bound maps ready.rows c.args.self.now c.self.view_is c.args.map c.requires.map) c.args.key.now
-    (row_at c.args.self.now c.args.map) c.lookup.result (row_is p bound maps ready.rows c.args.self.now c.self.view_is c.args.map c.requires.map) c.lookup.ensures
+    value_size_is maps c.say_fits.ensures c.args.map
+    (inside p bound maps ready.rows c.args.self.now c.self.view_is c.args.map c.requires.map)
+    c.args.key.now
+    (row_at c.args.self.now c.args.map) c.lookup.result
+    (row_is p bound maps ready.rows c.args.self.now c.self.view_is c.args.map c.requires.map)
+    c.lookup.ensures

@@ -6,8 +6,10 @@ use Rattle.machine.proofs.machines.Machine.run.Goals as goal
 
 pub run-answer-requires-clause-ends : goal.run-answer-requires-clause-ends
 run-answer-requires-clause-ends g c =
-    run_ends c.self.inside.program c.self.inside.bound c.self.inside.memory c.self.invariant c.args.head c.args.packet.now (g.C.Clock.at c.args.clock.now)
-    (g.met.C.Clock.within c.args.clock.now) c.requires c.in_range.ensures.bytes c.in_range.ensures.interface c.in_range.ensures.queue c.say_fits.ensures
+    run_ends c.self.inside.program c.self.inside.bound c.self.inside.memory c.self.invariant
+    c.args.head c.args.packet.now (g.C.Clock.at c.args.clock.now)
+    (g.met.C.Clock.within c.args.clock.now) c.requires c.in_range.ensures.bytes
+    c.in_range.ensures.interface c.in_range.ensures.queue c.say_fits.ensures
 
 pub run-answer-requires-clause-top : goal.run-answer-requires-clause-top
 run-answer-requires-clause-top g c =
@@ -17,16 +19,26 @@ run-answer-requires-clause-top g c =
 pub invariant_of-self : goal.invariant_of-self
 invariant_of-self g c =
     let (at, asked, exits, comes) = c.run-answer.ensures.exits in
-    still_ready c.self.inside.program c.self.inside.bound c.self.inside.memory c.self.invariant c.args.head c.args.packet.now (g.C.Clock.at c.args.clock.now)
-    (g.met.C.Clock.within c.args.clock.now) c.requires c.in_range.ensures.bytes c.in_range.ensures.interface c.in_range.ensures.queue c.say_fits.ensures
-    c.run-answer.result.number c.run-answer.result.steps at asked c.run-answer.new.regs c.run-answer.new.memory c.run-answer.new.packet exits c.run-answer.ensures.kept
+    still_ready c.self.inside.program c.self.inside.bound c.self.inside.memory c.self.invariant
+    c.args.head c.args.packet.now (g.C.Clock.at c.args.clock.now)
+    (g.met.C.Clock.within c.args.clock.now) c.requires c.in_range.ensures.bytes
+    c.in_range.ensures.interface c.in_range.ensures.queue c.say_fits.ensures
+    c.run-answer.result.number c.run-answer.result.steps at asked c.run-answer.new.regs
+    c.run-answer.new.memory c.run-answer.new.packet exits c.run-answer.ensures.kept
 
 pub returns-clause-answers : goal.returns-clause-answers
 returns-clause-answers g c =
     let (at, asked, exits, comes) = c.run-answer.ensures.exits in
-    subst (λ (r : Running). AnswersRun r c.args.head c.args.packet.now (g.C.Clock.at c.args.clock.now)
-    (record { r0 = c.run-answer.result.number; steps = c.run-answer.result.steps }) c.run-answer.new.packet (contents_of c.run-answer.new.memory.maps) (g.C.Clock.at c.run-answer.new.clock))
+    subst (λ (r : Running). AnswersRun r c.args.head c.args.packet.now
+    (g.C.Clock.at c.args.clock.now)
+    (record { r0 = c.run-answer.result.number; steps = c.run-answer.result.steps })
+    c.run-answer.new.packet (contents_of c.run-answer.new.memory.maps)
+    (g.C.Clock.at c.run-answer.new.clock))
     c.self.view_is
-    (run_answers c.self.inside.program c.self.inside.bound c.self.inside.memory c.self.invariant c.args.head c.args.packet.now (g.C.Clock.at c.args.clock.now)
-    (g.met.C.Clock.within c.args.clock.now) c.requires c.in_range.ensures.bytes c.in_range.ensures.interface c.in_range.ensures.queue c.say_fits.ensures
-    c.run-answer.result.number c.run-answer.result.steps at asked c.run-answer.new.regs c.run-answer.new.memory c.run-answer.new.packet exits (g.C.Clock.at c.run-answer.new.clock) comes)
+    (run_answers c.self.inside.program c.self.inside.bound c.self.inside.memory c.self.invariant
+    c.args.head c.args.packet.now (g.C.Clock.at c.args.clock.now)
+    (g.met.C.Clock.within c.args.clock.now) c.requires c.in_range.ensures.bytes
+    c.in_range.ensures.interface c.in_range.ensures.queue c.say_fits.ensures
+    c.run-answer.result.number c.run-answer.result.steps at asked c.run-answer.new.regs
+    c.run-answer.new.memory c.run-answer.new.packet exits
+    (g.C.Clock.at c.run-answer.new.clock) comes)

@@ -8,10 +8,13 @@ invariant_of-self c =
     let memory = c.self.inside.memory in
     let new = c.update-answer.new.self in
     ready_again p bound memory new c.self.invariant
-    (keeps_rows p bound memory.maps c.self.invariant.rows c.args.self.now c.self.view_is c.args.map c.requires.map new c.update-answer.ensures.others c.update-answer.ensures.updated.row)
+    (keeps_rows p bound memory.maps c.self.invariant.rows c.args.self.now c.self.view_is c.args.map
+    c.requires.map new c.update-answer.ensures.others c.update-answer.ensures.updated.row)
     c.say_fits-2.ensures
 
 pub returns : goal.returns
 returns c =
-    updates c.self.inside.program c.self.inside.bound c.self.inside.memory.maps c.self.invariant.rows c.args.self.now c.self.view_is c.args.map c.requires.map
-    c.update-answer.new.self c.update-answer.ensures.others c.args.key.now c.args.value.now c.args.flags c.update-answer.result c.update-answer.ensures.updated
+    updates c.self.inside.program c.self.inside.bound c.self.inside.memory.maps
+    c.self.invariant.rows c.args.self.now c.self.view_is c.args.map c.requires.map
+    c.update-answer.new.self c.update-answer.ensures.others c.args.key.now c.args.value.now
+    c.args.flags c.update-answer.result c.update-answer.ensures.updated

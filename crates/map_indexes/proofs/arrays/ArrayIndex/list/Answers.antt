@@ -14,6 +14,8 @@ returns-clause-places c =
     let moved = c.sort_by_key.ensures.permutation in
     let all = c.as_mut_slice.ensures.value ∙ c.list_indexes.ensures.indexes in
     let long : length sorted ≡ list.len =
-    length_permutation c.as_mut_slice.result.now sorted moved ∙ ap length c.as_mut_slice.ensures.value ∙ sym list.ok.0 in
+    length_permutation c.as_mut_slice.result.now sorted moved
+    ∙ ap length c.as_mut_slice.ensures.value ∙ sym list.ok.0 in
     lent_whole sorted list.items list.len long
-    ∙ indexes-sorted n (omega arith) sorted (subst (λ (xs : List ℕ). IsPermutation xs sorted) all moved) c.sort_by_key.ensures.sorted
+    ∙ indexes-sorted n (omega arith) sorted
+    (subst (λ (xs : List ℕ). IsPermutation xs sorted) all moved) c.sort_by_key.ensures.sorted

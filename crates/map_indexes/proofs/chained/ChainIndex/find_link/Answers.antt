@@ -2,9 +2,10 @@ use Rattle.std.proofs.Common.{◌≡◌, ◌<◌, ℕ, List, Option, Some, true,
 use Rattle.std.specs.Prelude.{is_some, nat_eq}
 use Rattle.std.specs.Cmp.Lexicographic.{pointwise, bytes_decides}
 use Rattle.map_indexes.specs.declared.chains.Link.{Link}
-use Rattle.map_indexes.specs.PlaceKeys.{slot}
+use Rattle.map_indexes.specs.PlaceKeys.{key_in}
 use Rattle.map_indexes.specs.Chains.{in_chain, link_in, height}
-use Rattle.map_indexes.proofs.ChainLaws.{link_in-is, lower}
+use Rattle.map_indexes.proofs.ChainLaws.{lower}
+use Rattle.map_indexes.proofs.ListedLinks.{link_in-is}
 use Rattle.map_indexes.proofs.ChainIndexesLaws.{Left, next_there, left_next, not_found}
 use Rattle.map_indexes.proofs.chained.ChainIndex.find_link.Goals as goal
 use Rattle.map_indexes.proofs.chained.ChainIndex.find_link.Goals.{In-Some}
@@ -12,14 +13,14 @@ use Rattle.map_indexes.proofs.chained.ChainIndex.find_link.Goals.{In-Some}
 -- the link that the loop is at, and the key of its place
 here : (c : In-Some) → (l : Link) × (link_in c.args.self.now.chains.chains
     c.args.self.now.chains.nexts c.in-Some.at ≡ Some l)
-    × (q : List ℕ) × (slot c.args.self.now.keys.slots c.in-Some.at ≡ Some q)
+    × (q : List ℕ) × (key_in c.args.self.now.keys.by_place c.in-Some.at ≡ Some q)
 here c =
     let s = c.args.self.now in
     let links = link_in s.chains.chains s.chains.nexts in
-    let n = next_there s.keys.slots s.free.items s.chains.count links s.index c.args.key.now
+    let n = next_there s.keys.by_place s.free.items s.chains.count links s.index c.args.key.now
     c.loop-next.next c.loop-next.invariant c.in-Some.at c.in-Some.is in
     let place = (link_in-is s.chains.chains s.chains.nexts c.in-Some.at n.0 n.1).1 in
-    (n.0, n.1, n.3, sym (ap (slot s.keys.slots) place) ∙ n.4)
+    (n.0, n.1, n.3, sym (ap (key_in s.keys.by_place) place) ∙ n.4)
 
 pub key-requires : goal.key-requires
 key-requires c = ap is_some (here (goal.at.key-requires c).In-Some).3
@@ -40,7 +41,7 @@ returns-then-are_same-clause-found c =
     record {
       link = h.0;
       there = h.1;
-      has = ap (slot s.keys.slots) place ∙ c.key.ensures.key ∙ ap Some
+      has = ap (key_in s.keys.by_place) place ∙ c.key.ensures.key ∙ ap Some
           ((bytes_decides c.key.result.now c.args.key.now).0 t);
     }
 
@@ -61,15 +62,16 @@ loop-next-preserved c =
     let links = link_in s.chains.chains s.chains.nexts in
     let h = here (goal.at.loop-next-preserved c).In-Some in
     let is = link_in-is s.chains.chains s.chains.nexts c.in-Some.at h.0 h.1 in
-    subst (λ (o : Option ℕ). Left s.keys.slots s.chains.count links c.args.key.now o) (is.2
+    subst (λ (o : Option ℕ). Left s.keys.by_place s.chains.count links c.args.key.now o) (is.2
     ∙ sym c.next-next.ensures)
-    (left_next s.keys.slots s.free.items s.chains.count links s.index c.args.key.now
+    (left_next s.keys.by_place s.free.items s.chains.count links s.index c.args.key.now
     c.loop-next.next c.loop-next.invariant c.in-Some.at h.0 c.in-Some.is h.1
     (λ e.
     let f : Some c.key.result.now ≡ Some c.args.key.now = sym c.key.ensures.key ∙ ap
-    (slot s.keys.slots) (sym is.1) ∙ e in
+    (key_in s.keys.by_place) (sym is.1) ∙ e in
     let same : c.key.result.now ≡ c.args.key.now = cc in
-    let t : pointwise nat_eq c.key.result.now c.args.key.now ≡ true = (bytes_decides c.key.result.now c.args.key.now).1 same in
+    let t : pointwise nat_eq c.key.result.now c.args.key.now ≡ true =
+    (bytes_decides c.key.result.now c.args.key.now).1 same in
     let g = c.are_same.ensures in
     let no = c.if-are_same.false in
     cc)
@@ -79,6 +81,6 @@ pub returns-clause-absent : goal.returns-clause-absent
 returns-clause-absent c = λ e.
     let s = c.args.self.now in
     let links = link_in s.chains.chains s.chains.nexts in
-    not_found s.keys.slots s.free.items s.chains.count links s.index c.args.key.now
-    (subst (Left s.keys.slots s.chains.count links c.args.key.now) c.in_default.is
+    not_found s.keys.by_place s.free.items s.chains.count links s.index c.args.key.now
+    (subst (Left s.keys.by_place s.chains.count links c.args.key.now) c.in_default.is
     c.loop-next.invariant)

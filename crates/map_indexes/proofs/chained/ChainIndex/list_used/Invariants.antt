@@ -5,7 +5,7 @@ use Rattle.map_indexes.proofs.chained.ChainIndex.list_used.Given as goal
 
 abbrev pub invariant-loop-i : goal.invariant-loop-i
 invariant-loop-i l = record {
-  places : l.list.items ≡ used_places 0 (take l.i l.self.keys.slots);
+  places : l.list.items ≡ used_places 0 (take l.i l.self.keys.by_place);
   few : length l.list.items ≤ l.i;
   capacity : vec_capacity l.list ≡ vec_capacity l.fn.list;
 }

@@ -12,13 +12,17 @@ invariant_of-result-clause-index c =
     let chains = c.in_ok-chains.chains in
     let free = c.in_ok-free.free in
     let spots = λ (k : ℕ). spot (link_in chains.chains chains.nexts k) in
-    subst (λ (x : PlaceKeys). IsChainIndex x free.items chains.count spots) (sym c.in_ok-keys.ensures.empty)
-    (chain_index-none c.args.entries chains.count free.items spots c.in_ok-free.ensures.len c.in_ok-free.ensures.places (λ k. ap spot (c.in_ok-chains.ensures.empty k)))
+    subst (λ (x : PlaceKeys). IsChainIndex x free.items chains.count spots)
+    (sym c.in_ok-keys.ensures.empty)
+    (chain_index-none c.args.entries chains.count free.items spots c.in_ok-free.ensures.len
+    c.in_ok-free.ensures.places (λ k. ap spot (c.in_ok-chains.ensures.empty k)))
 
 pub invariant_of-result-clause-sized : goal.invariant_of-result-clause-sized
 invariant_of-result-clause-sized c =
     let size = c.in_ok-keys.keys.size in
-    subst (λ (x : PlaceKeys). AreKeys size x) (sym c.in_ok-keys.ensures.empty) (AreKeys-none size c.args.entries)
+    subst (λ (x : PlaceKeys). AreKeys size x) (sym c.in_ok-keys.ensures.empty)
+    (AreKeys-none size c.args.entries)
 
 pub returns-clause-empty : goal.returns-clause-empty
-returns-clause-empty c = ap (λ (x : PlaceKeys). places x) c.in_ok-keys.ensures.empty ∙ places-none c.args.entries
+returns-clause-empty c =
+    ap (λ (x : PlaceKeys). places x) c.in_ok-keys.ensures.empty ∙ places-none c.args.entries

@@ -2,7 +2,8 @@ use Rattle.std.proofs.Common.{◌≡◌, ℕ, length, Option, Some, ◌<◌, ◌
 use Rattle.map_indexes.specs.declared.chains.Link.{Link}
 use Rattle.map_indexes.proofs.LastBelowLaws.{last_is}
 use Rattle.map_indexes.specs.Chains.{in_chain, link_in, height}
-use Rattle.map_indexes.proofs.ChainLaws.{limit, link_of, link_in-is, Passed, stands, passed_next, lower}
+use Rattle.map_indexes.proofs.ChainLaws.{number_or, link_of, Passed, is_behind, passed_next, lower}
+use Rattle.map_indexes.proofs.ListedLinks.{link_in-is}
 use Rattle.map_indexes.proofs.chains.Chains.behind.Goals as goal
 use Rattle.map_indexes.proofs.chains.Chains.behind.Goals.{In-Some}
 
@@ -13,7 +14,7 @@ here c =
     let s = c.args.self.now in
     let links = link_in s.chains s.nexts in
     let i = c.loop-next.invariant in
-    let r = last_is (in_chain links c.args.chain) (limit
+    let r = last_is (in_chain links c.args.chain) (number_or
     (length s.chains) c.loop-next.from) c.in-Some.k (sym i.is ∙ c.in-Some.is) in
     let t = link_of links c.args.chain c.in-Some.k r.1 in
     (t.0, t.1)
@@ -21,9 +22,10 @@ here c =
 pub returns-then-k-at : goal.returns-then-k-at
 returns-then-k-at c =
     let s = c.args.self.now in
-    stands (length s.chains) (link_in s.chains s.nexts) c.args.chain c.args.at s.chained.within
+    is_behind (length s.chains) (link_in s.chains s.nexts) c.args.chain c.args.at s.chained.within
     c.loop-next.from c.loop-next.next c.loop-next.invariant
-    (λ k e. let f = c.in-Some.is in let same : c.in-Some.k ≡ k = cc in let l = c.if-k-at.true in omega arith)
+    (λ k e. let f = c.in-Some.is in let same : c.in-Some.k
+    ≡ k = cc in let l = c.if-k-at.true in omega arith)
 
 pub at-next-requires : goal.at-next-requires
 at-next-requires c =
@@ -52,13 +54,13 @@ loop-next-preserved c =
     let next = c.at-next.ensures ∙ sym (link_in-is s.chains s.nexts c.in-Some.k h.0 h.1).2 in
     subst (λ (o : Option ℕ). Passed (length s.chains) links c.args.chain c.args.at
     (Some c.in-Some.k) o) (sym next)
-    (passed_next (length s.chains) links c.args.chain c.args.at s.chained.falls (limit
+    (passed_next (length s.chains) links c.args.chain c.args.at s.chained.falls (number_or
     (length s.chains) c.loop-next.from) c.in-Some.k h.0
     (sym c.in-Some.is ∙ i.is) h.1 c.if-k-at.false)
 
 pub returns : goal.returns
 returns c =
     let s = c.args.self.now in
-    stands (length s.chains) (link_in s.chains s.nexts) c.args.chain c.args.at s.chained.within
+    is_behind (length s.chains) (link_in s.chains s.nexts) c.args.chain c.args.at s.chained.within
     c.loop-next.from c.loop-next.next c.loop-next.invariant
     (λ k e. let f = c.in_default.is in absurd (cc))

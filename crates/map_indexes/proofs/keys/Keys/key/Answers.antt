@@ -3,15 +3,17 @@ use Rattle.std.proofs.lemmas.List.{length-take, length-drop}
 use Rattle.std.specs.Prelude.{is_some}
 use Rattle.map_indexes.specs.Rows.{row_at}
 use Rattle.map_indexes.specs.RowLaws.{row_end}
-use Rattle.map_indexes.specs.PlaceKeys.{KeyTable, slot, keys_by_place}
-use Rattle.map_indexes.proofs.KeyLaws.{slot-used, used_inside}
+use Rattle.map_indexes.specs.PlaceKeys.{KeysByPlace, key_in, keys_by_place}
+use Rattle.map_indexes.proofs.KeyLaws.{key_in-used, used_inside}
 use Rattle.map_indexes.proofs.keys.Keys.key.Goals as goal
 
 -- the row of a place with a key ends in the block
-row_fits : (size : ℕ) (block : List ℕ) (used : List Bool) (t : KeyTable) (place : ℕ) → record { size = size; slots = keys_by_place size block 0 used } ≡ t
-    → is_some (slot t.slots place) ≡ true → length block ≡ length used * size → place * size + size ≤ length block
+row_fits : (size : ℕ) (block : List ℕ) (used : List Bool) (t : KeysByPlace) (place : ℕ)
+    → record { size = size; by_place = keys_by_place size block 0 used } ≡ t
+    → is_some (key_in t.by_place place) ≡ true → length block ≡ length used * size
+    → place * size + size ≤ length block
 row_fits size block used t place is some whole =
-    let here = ap (λ (t : KeyTable). is_some (slot t.slots place)) is ∙ some in
+    let here = ap (λ (t : KeysByPlace). is_some (key_in t.by_place place)) is ∙ some in
     let h = row_end place (length used) size (used_inside size block 0 used place here) in
     omega arith
 
@@ -21,7 +23,9 @@ part a n xs ys e = let h : a + n - a ≡ n = omega arith in λ i. take (h i) (dr
 pub overflow_mul-start : goal.overflow_mul-start
 overflow_mul-start c =
     let k = c.self.inside in
-    let h = row_fits k.size k.block.items k.used.items c.args.self.now c.args.place c.self.view_is c.requires c.self.invariant.0 in
+    let h =
+    row_fits k.size k.block.items k.used.items c.args.self.now c.args.place c.self.view_is
+    c.requires c.self.invariant.0 in
     let f = k.block.ok.0 in
     let g = k.block.small in
     omega arith
@@ -29,7 +33,9 @@ overflow_mul-start c =
 pub overflow_add-result : goal.overflow_add-result
 overflow_add-result c =
     let k = c.self.inside in
-    let h = row_fits k.size k.block.items k.used.items c.args.self.now c.args.place c.self.view_is c.requires c.self.invariant.0 in
+    let h =
+    row_fits k.size k.block.items k.used.items c.args.self.now c.args.place c.self.view_is
+    c.requires c.self.invariant.0 in
     let f = k.block.ok.0 in
     let g = k.block.small in
     omega arith
@@ -37,7 +43,9 @@ overflow_add-result c =
 pub slice_bounds-result-end : goal.slice_bounds-result-end
 slice_bounds-result-end c =
     let k = c.self.inside in
-    let h = row_fits k.size k.block.items k.used.items c.args.self.now c.args.place c.self.view_is c.requires c.self.invariant.0 in
+    let h =
+    row_fits k.size k.block.items k.used.items c.args.self.now c.args.place c.self.view_is
+    c.requires c.self.invariant.0 in
     let e = ap length c.deref.ensures.value in
     omega arith
 
@@ -45,9 +53,11 @@ pub returns-clause-size : goal.returns-clause-size
 returns-clause-size c =
     let k = c.self.inside in
     let start = c.args.place * k.size in
-    let h = row_fits k.size k.block.items k.used.items c.args.self.now c.args.place c.self.view_is c.requires c.self.invariant.0 in
+    let h =
+    row_fits k.size k.block.items k.used.items c.args.self.now c.args.place c.self.view_is
+    c.requires c.self.invariant.0 in
     let e = ap length c.deref.ensures.value in
-    let f = ap (λ (t : KeyTable). t.size) c.self.view_is in
+    let f = ap (λ (t : KeysByPlace). t.size) c.self.view_is in
     let t = length-take (start + k.size - start) (drop start c.deref.result.now) in
     let d = length-drop start c.deref.result.now in
     omega arith
@@ -55,8 +65,12 @@ returns-clause-size c =
 pub returns-clause-key : goal.returns-clause-key
 returns-clause-key c =
     let k = c.self.inside in
-    let here = ap (λ (t : KeyTable). is_some (slot t.slots c.args.place)) c.self.view_is ∙ c.requires in
-    sym (ap (λ (t : KeyTable). slot t.slots c.args.place) c.self.view_is)
-    ∙ slot-used k.size k.block.items 0 k.used.items c.args.place here
-    ∙ ap Some (let z : 0 + c.args.place ≡ c.args.place = omega arith in ap (row_at k.size k.block.items) z
-    ∙ sym (part (c.args.place * k.size) k.size k.block.items c.deref.result.now c.deref.ensures.value))
+    let here =
+    ap (λ (t : KeysByPlace). is_some (key_in t.by_place c.args.place)) c.self.view_is
+    ∙ c.requires in
+    sym (ap (λ (t : KeysByPlace). key_in t.by_place c.args.place) c.self.view_is)
+    ∙ key_in-used k.size k.block.items 0 k.used.items c.args.place here
+    ∙ ap Some (let z : 0 + c.args.place
+    ≡ c.args.place = omega arith in ap (row_at k.size k.block.items) z
+    ∙ sym (part (c.args.place * k.size) k.size k.block.items c.deref.result.now
+    c.deref.ensures.value))

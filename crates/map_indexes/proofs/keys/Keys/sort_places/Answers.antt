@@ -8,5 +8,6 @@ use Rattle.map_indexes.proofs.keys.Keys.sort_places.Goals as goal
 
 pub returns-clause-sorted : goal.returns-clause-sorted
 returns-clause-sorted c =
-    let key = key_or_none c.args.self.now.slots in
-    c.sort_unstable_by.ensures.sorted (λ x y. is_lt (key_order (key x) (key y))) (ranks_by nat_list_cmp_total key) (always_returns_same _ _ _ (λ a r q k. search rules))
+    let key = key_or_none c.args.self.now.by_place in
+    c.sort_unstable_by.ensures.sorted (λ x y. is_lt (key_order (key x) (key y)))
+    (ranks_by nat_list_cmp_total key) (always_returns_same _ _ _ (λ a r q k. search rules))

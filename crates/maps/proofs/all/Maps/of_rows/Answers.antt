@@ -29,18 +29,31 @@ loop-i-preserved c =
     let made = c.in_ok-over.ensures in
     let pushed = c.push_reserved.ensures in
     let places = ap places_of made.index ∙ c.in_ok-index.ensures.places in
-    let same : state x ≡ starting_map (slice_index_or rows i none) = λ k. record { row = made.row k; places = places k; block = made.zeros k } in
+    let same : state x
+    ≡ starting_map
+    (slice_index_or rows i none) = λ k.
+    record { row = made.row k; places = places k; block = made.zeros k } in
     let cap = vec_capacity c.in_ok-list.list in
     let row = c.requires i none c.loop-i-test.true in
     let listed : IsListed cap x = record {
       is_row = subst IsRow (sym made.row) row;
-      listed = subst (λ (r : MapDef). r.kind ≡ Hash → r.entries ≤ cap) (sym made.row) (λ e. let m = c.most_keys.ensures.enough i none c.loop-i-test.true e in let o = c.in_ok-list.ensures.capacity in omega arith);
+      listed =
+          subst (λ (r : MapDef). r.kind ≡ Hash → r.entries ≤ cap) (sym made.row)
+          (λ e. let m = c.most_keys.ensures.enough i none c.loop-i-test.true
+          e in let o = c.in_ok-list.ensures.capacity in omega arith);
     } in
     record {
-      made = ap (map state) pushed.items ∙ map-append state c.loop-i.stores.items (x ∷ []) ∙ (λ k. inv.made k ++ same k ∷ []) ∙ sym (map_more starting_map rows i none c.loop-i-test.true);
-      count = ap length pushed.items ∙ length-append c.loop-i.stores.items (x ∷ []) ∙ ap (λ (n : ℕ). n + 1) inv.count;
+      made =
+          ap (map state) pushed.items ∙ map-append state c.loop-i.stores.items (x ∷ [])
+          ∙ (λ k. inv.made k ++ same k ∷ [])
+          ∙ sym (map_more starting_map rows i none c.loop-i-test.true);
+      count =
+          ap length pushed.items ∙ length-append c.loop-i.stores.items (x ∷ [])
+          ∙ ap (λ (n : ℕ). n + 1) inv.count;
       room = let r = inv.room in let p = pushed.capacity in omega arith;
-      listed = subst (All (IsListed cap)) (sym pushed.items) (All-push (IsListed cap) c.loop-i.stores.items x inv.listed listed);
+      listed =
+          subst (All (IsListed cap)) (sym pushed.items)
+          (All-push (IsListed cap) c.loop-i.stores.items x inv.listed listed);
     }
 
 pub invariant_of-result : goal.invariant_of-result
@@ -48,10 +61,19 @@ invariant_of-result c =
     let rows = c.args.rows.now in
     let inv = c.loop-i.invariant in
     let all = take_all c.loop-i.i rows (omega arith) in
-    let are = rows-stores c.loop-i.stores.items ∙ ap rows_of inv.made ∙ rows_of-starting (take c.loop-i.i rows) ∙ all in
+    let are =
+    rows-stores c.loop-i.stores.items ∙ ap rows_of inv.made
+    ∙ rows_of-starting (take c.loop-i.i rows) ∙ all in
     let room = c.in_ok-list.ensures.exact in
     record {
       listed = inv.listed;
-      least = λ n few. let m = c.most_keys.ensures.least n (subst (All (λ (row : MapDef). row.kind ≡ Hash → row.entries ≤ n)) are few) in omega arith;
-      exact = let r = inv.room in let n = inv.count in let end = c.loop-i-test.false in let within = c.loop-i.auto.i-end in omega arith;
+      least =
+          λ n few. let m =
+          c.most_keys.ensures.least n
+          (subst (All (λ (row : MapDef). row.kind ≡ Hash → row.entries ≤ n)) are
+          few) in omega arith;
+      exact =
+          let r = inv.room in
+          let n = inv.count in
+          let end = c.loop-i-test.false in let within = c.loop-i.auto.i-end in omega arith;
     }

@@ -9,7 +9,13 @@ returns c =
     let stores = c.args.self.now.all.items in
     let long = length-map stores state in
     let low : c.args.at < length (map state stores) = let l = c.requires.at in omega arith in
-    let here = map_at-state (map state stores) stores refl c.args.at low c.index-3.result.now c.index-3.ensures in (
+    let here =
+    map_at-state (map state stores) stores refl c.args.at low c.index-3.result.now
+    c.index-3.ensures in (
       (refl, λ _. tt, (refl, c.list.ensures.capacity)),
-      record { entries = c.new.ensures ∙ ap (λ (m : MapState). ordered_in m) (sym here); stay = tt },
+      record {
+        entries = c.new.ensures
+            ∙ ap (λ (m : MapState). ordered_in m) (sym here);
+        stay = tt;
+      },
     )

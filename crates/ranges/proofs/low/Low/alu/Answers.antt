@@ -29,8 +29,10 @@ returns-in-Sub-clause-limits c = λ e f he hf.
 pub returns-in-Sub-clause-signed : goal.returns-in-Sub-clause-signed
 returns-in-Sub-clause-signed c = λ e f he hf.
     let has = rw c.in-Sub.is at (c.unsigned_alu-in-Sub.ensures.contains e f he hf) in
-    let other = c.with-in-Sub.ensures.other _ has (c.signed_difference.ensures.contains e f he hf) in
-    rw c.in-Sub.is (kept_signed_limits Sub c.args.a c.args.b c.signed_difference.result c.with-in-Sub.result
+    let other = c.with-in-Sub.ensures.other _ has
+    (c.signed_difference.ensures.contains e f he hf) in
+    rw c.in-Sub.is
+    (kept_signed_limits Sub c.args.a c.args.b c.signed_difference.result c.with-in-Sub.result
     other (c.signed_difference.ensures.signed e f he hf))
 
 pub returns-in-Arsh-clause-limits : goal.returns-in-Arsh-clause-limits
@@ -42,29 +44,38 @@ pub returns-in-Arsh-clause-signed : goal.returns-in-Arsh-clause-signed
 returns-in-Arsh-clause-signed c = λ e f he hf.
     let has = rw c.in-Arsh.is at (c.unsigned_alu-in-Arsh.ensures.contains e f he hf) in
     let other = c.with-in-Arsh.ensures.other _ has (c.shift_signed.ensures.contains e f he hf) in
-    rw c.in-Arsh.is (kept_signed_limits Arsh c.args.a c.args.b c.shift_signed.result c.with-in-Arsh.result
+    rw c.in-Arsh.is
+    (kept_signed_limits Arsh c.args.a c.args.b c.shift_signed.result c.with-in-Arsh.result
     other (c.shift_signed.ensures.signed e f he hf))
 
 pub returns-in-SignedDiv-clause-limits : goal.returns-in-SignedDiv-clause-limits
 returns-in-SignedDiv-clause-limits c = λ e f he hf.
-    kept_limits c.args.op c.args.a c.args.b c.unsigned_alu-in-SignedDiv.result c.with-in-SignedDiv.result
+    kept_limits c.args.op c.args.a c.args.b c.unsigned_alu-in-SignedDiv.result
+    c.with-in-SignedDiv.result
     c.with-in-SignedDiv.ensures.enclosed (c.unsigned_alu-in-SignedDiv.ensures.limits e f he hf)
 
 pub returns-in-SignedDiv-clause-signed : goal.returns-in-SignedDiv-clause-signed
 returns-in-SignedDiv-clause-signed c = λ e f he hf.
     let has = rw c.in-SignedDiv.is at (c.unsigned_alu-in-SignedDiv.ensures.contains e f he hf) in
-    let other = c.with-in-SignedDiv.ensures.other _ has (c.signed_quotient.ensures.contains e f he hf) in
-    rw c.in-SignedDiv.is (kept_signed_limits SignedDiv c.args.a c.args.b c.signed_quotient.result c.with-in-SignedDiv.result
+    let other = c.with-in-SignedDiv.ensures.other _ has
+    (c.signed_quotient.ensures.contains e f he hf) in
+    rw c.in-SignedDiv.is
+    (kept_signed_limits SignedDiv c.args.a c.args.b c.signed_quotient.result
+    c.with-in-SignedDiv.result
     other (c.signed_quotient.ensures.signed e f he hf))
 
 pub returns-in-SignedMod-clause-limits : goal.returns-in-SignedMod-clause-limits
 returns-in-SignedMod-clause-limits c = λ e f he hf.
-    kept_limits c.args.op c.args.a c.args.b c.unsigned_alu-in-SignedMod.result c.with-in-SignedMod.result
+    kept_limits c.args.op c.args.a c.args.b c.unsigned_alu-in-SignedMod.result
+    c.with-in-SignedMod.result
     c.with-in-SignedMod.ensures.enclosed (c.unsigned_alu-in-SignedMod.ensures.limits e f he hf)
 
 pub returns-in-SignedMod-clause-signed : goal.returns-in-SignedMod-clause-signed
 returns-in-SignedMod-clause-signed c = λ e f he hf.
     let has = rw c.in-SignedMod.is at (c.unsigned_alu-in-SignedMod.ensures.contains e f he hf) in
-    let other = c.with-in-SignedMod.ensures.other _ has (c.signed_remainder.ensures.contains e f he hf) in
-    rw c.in-SignedMod.is (kept_signed_limits SignedMod c.args.a c.args.b c.signed_remainder.result c.with-in-SignedMod.result
+    let other = c.with-in-SignedMod.ensures.other _ has
+    (c.signed_remainder.ensures.contains e f he hf) in
+    rw c.in-SignedMod.is
+    (kept_signed_limits SignedMod c.args.a c.args.b c.signed_remainder.result
+    c.with-in-SignedMod.result
     other (c.signed_remainder.ensures.signed e f he hf))

@@ -8,16 +8,22 @@ pub returns-then-self-all-clause-contains : goal.returns-then-self-all-clause-co
 returns-then-self-all-clause-contains c = λ x h.
     let s = c.args.self in
     let o = s.signed_ordered in
-    let least = (c.all_halves-all.ensures.signed s.signed_least).0 (omega (arith, ints), omega (arith, ints)) in
-    let greatest = (c.all_halves-all.ensures.signed s.signed_greatest).0 (omega (arith, ints), omega (arith, ints)) in
-    subst (Has s) (sym (extended_half c.args.extension x s.signed_least s.signed_greatest least greatest h.signed_from h.signed_to)) h
+    let least = (c.all_halves-all.ensures.signed s.signed_least).0
+    (omega (arith, ints), omega (arith, ints)) in
+    let greatest =
+    (c.all_halves-all.ensures.signed s.signed_greatest).0
+    (omega (arith, ints), omega (arith, ints)) in
+    subst (Has s)
+    (sym (extended_half c.args.extension x s.signed_least s.signed_greatest least greatest
+    h.signed_from h.signed_to)) h
 
 pub returns-then-self-all-clause-signed : goal.returns-then-self-all-clause-signed
 returns-then-self-all-clause-signed c = λ e h.
     let s = c.args.self in
     let o = s.signed_ordered in (
       (c.all_halves-all.ensures.signed s.signed_least).0 (omega (arith, ints), omega (arith, ints)),
-      (c.all_halves-all.ensures.signed s.signed_greatest).0 (omega (arith, ints), omega (arith, ints)),
+      (c.all_halves-all.ensures.signed s.signed_greatest).0
+          (omega (arith, ints), omega (arith, ints)),
     )
 
 pub returns-else-all-self-clause-contains : goal.returns-else-all-self-clause-contains

@@ -12,7 +12,13 @@ pub returns-clause-left : goal.returns-clause-left
 returns-clause-left c = λ x h.
     let e = low_signed_equation x h.below in
     let m = (c.between.ensures.members x).0 h in
-    record { below = h.below; from = omega (arith, m); to = omega (arith, ints, clamps, m); signed_from = omega (arith, ints, clamps, m); signed_to = omega (arith, ints, clamps, m) }
+    record {
+      below = h.below;
+      from = omega (arith, m);
+      to = omega (arith, ints, clamps, m);
+      signed_from = omega (arith, ints, clamps, m);
+      signed_to = omega (arith, ints, clamps, m);
+    }
 
 pub returns-clause-alike : goal.returns-clause-alike
 returns-clause-alike c =

@@ -16,7 +16,8 @@ use Rattle.ranges.proofs.LowQuotientLaws.{low_remainder, low_remainder_limits, h
 use Rattle.ranges.proofs.low.Low.signed_remainder.Goals as goal
 
 pub returns-then-other-clause-contains : goal.returns-then-other-clause-contains
-returns-then-other-clause-contains c = λ e f he hf. (c.any.ensures.members _).1 (alu_below SignedMod Low32 e f)
+returns-then-other-clause-contains c =
+    λ e f he hf. (c.any.ensures.members _).1 (alu_below SignedMod Low32 e f)
 
 pub returns-clause-contains : goal.returns-clause-contains
 unfolding alu
@@ -28,10 +29,16 @@ returns-clause-contains c = λ e f he hf.
     let wide = widened (cast_signed w32 e) fe in
     let fb : FitsSigned w32 c.cast_signed.result = search rules in
     let fw : FitsSigned w64 c.from-by.result = search rules in
-    let by : c.from-by.result ≡ cast_signed w32 f = simp to_z-of_z at c.from-by.ensures ∙ c.cast_signed.ensures ∙ ap (cast_signed w32) (sym one) in
-    let has = simp to_z-of_z at (c.signed_remainder.ensures.contains _ (c.sign_extended.ensures.contains e he)) in
-    let is = subst (λ z. W.Has c.signed_remainder.result (cast_unsigned w64 (int_rem (cast_signed w32 e) z))) by has in
-    rw (low_same Low32 e he.below, low_same Low32 f hf.below) (subst (Has c.low_limits.result) (low_remainder e f he.below fe) (c.low_limits.ensures.contains _ is))
+    let by : c.from-by.result ≡ cast_signed w32 f = simp to_z-of_z at c.from-by.ensures
+    ∙ c.cast_signed.ensures ∙ ap (cast_signed w32) (sym one) in
+    let has = simp to_z-of_z at
+    (c.signed_remainder.ensures.contains _ (c.sign_extended.ensures.contains e he)) in
+    let is = subst (λ z.
+    W.Has c.signed_remainder.result (cast_unsigned w64 (int_rem (cast_signed w32 e) z))) by
+    has in
+    rw (low_same Low32 e he.below, low_same Low32 f hf.below)
+    (subst (Has c.low_limits.result) (low_remainder e f he.below fe)
+    (c.low_limits.ensures.contains _ is))
 
 pub returns-clause-signed : goal.returns-clause-signed
 returns-clause-signed c = λ e f he hf one.
@@ -41,10 +48,15 @@ returns-clause-signed c = λ e f he hf one.
     let f2 : FitsSigned w32 s.signed_greatest = search rules in
     let fb : FitsSigned w32 c.cast_signed.result = search rules in
     let fw : FitsSigned w64 c.from-by.result = search rules in
-    let by : c.from-by.result ≡ cast_signed w32 c.args.other.least = simp to_z-of_z at c.from-by.ensures ∙ c.cast_signed.ensures in
+    let by : c.from-by.result ≡ cast_signed w32 c.args.other.least =
+    simp to_z-of_z at c.from-by.ensures ∙ c.cast_signed.ensures in
     let has = c.signed_remainder.ensures.contains _ (c.sign_extended.ensures.contains e he) in
     let limits = rw (x.0, x.1) at (simp to_z-of_z at c.signed_remainder.ensures.limits) in
-    let fits : FitsSigned w32 (cast_signed w32 c.args.other.least) = subst (FitsSigned w32) c.cast_signed.ensures fb in
-    low_remainder_limits c.signed_remainder.result c.low_limits.result s.signed_least s.signed_greatest (unsigned_abs (cast_signed w32 c.args.other.least))
+    let fits : FitsSigned w32 (cast_signed w32 c.args.other.least) =
+    subst (FitsSigned w32) c.cast_signed.ensures fb in
+    low_remainder_limits c.signed_remainder.result c.low_limits.result s.signed_least
+    s.signed_greatest (unsigned_abs (cast_signed w32 c.args.other.least))
     (half_divisor c.args.other.least fits) f1 f2 (λ is. c.low_limits.ensures.signed _ has is)
-    (subst (λ z. KeepsSignedRemainder s.signed_least s.signed_greatest (unsigned_abs z) (W.IsSignedBetween c.signed_remainder.result)) by limits)
+    (subst (λ z.
+    KeepsSignedRemainder s.signed_least s.signed_greatest (unsigned_abs z)
+    (W.IsSignedBetween c.signed_remainder.result)) by limits)

@@ -8,7 +8,8 @@ pub returns-clause-contains : goal.returns-clause-contains
 returns-clause-contains c = λ e f he hf.
     let hx = c.sign_extended-x.ensures.contains e he in
     let hy = c.sign_extended-y.ensures.contains f hf in
-    subst (Has c.low_limits.result) (low_of_extended Add e f c.sign_extended-y.result he.below hf.below hx.below hy tt)
+    subst (Has c.low_limits.result)
+    (low_of_extended Add e f c.sign_extended-y.result he.below hf.below hx.below hy tt)
     (c.low_limits.ensures.contains _ (c.alu.ensures.contains _ _ hx hy))
 
 pub returns-clause-signed : goal.returns-clause-signed

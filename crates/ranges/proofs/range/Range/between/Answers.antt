@@ -9,4 +9,6 @@ returns-clause-tight c =
     let fl : FitsSigned w64 r.signed_least = search rules in
     let fg : FitsSigned w64 r.signed_greatest = search rules in
     c.within_limits.ensures.tight
-    (between_tight r c.args.least c.args.greatest c.requires (omega arith) fl fg c.between.ensures.members c.between.ensures.limits c.between.ensures.signed)
+    (between_tight r c.args.least c.args.greatest c.requires
+    (omega arith) fl fg c.between.ensures.members c.between.ensures.limits
+    c.between.ensures.signed)

@@ -13,10 +13,14 @@ pub returns-clause-left : goal.returns-clause-left
 returns-clause-left c =
     let common = c.in_ok-common.ensures.enclosed in
     IfSome_then c.tightened.result c.tightened.ensures.enclosed
-    (λ m h x has. enclosed_has c.args.self m x (wide_trans c.args.self.wide c.in_ok-common.common m.wide common.0 h.0, h.1) has)
+    (λ m h x has.
+    enclosed_has c.args.self m x
+    (wide_trans c.args.self.wide c.in_ok-common.common m.wide common.0 h.0, h.1) has)
 
 pub returns-clause-right : goal.returns-clause-right
 returns-clause-right c =
     let common = c.in_ok-common.ensures.enclosed in
     IfSome_then c.tightened.result c.tightened.ensures.enclosed
-    (λ m h x has. enclosed_wide c.args.wide m.wide x (wide_trans c.args.wide c.in_ok-common.common m.wide common.1 h.0) has.0)
+    (λ m h x has.
+    enclosed_wide c.args.wide m.wide x
+    (wide_trans c.args.wide c.in_ok-common.common m.wide common.1 h.0) has.0)

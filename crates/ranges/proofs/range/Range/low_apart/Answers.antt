@@ -2,7 +2,8 @@ use Rattle.std.proofs.Common.{sym}
 use Rattle.ranges.proofs.range.Range.low_apart.Goals as goal
 
 pub returns-in_err-left-clause-common : goal.returns-in_err-left-clause-common
-returns-in_err-left-clause-common c = λ x y hx hy differs. absurd (c.in_err-left.ensures.common x y hx hy differs)
+returns-in_err-left-clause-common c =
+    λ x y hx hy differs. absurd (c.in_err-left.ensures.common x y hx hy differs)
 
 pub returns-in_err-right-clause-common : goal.returns-in_err-right-clause-common
 returns-in_err-right-clause-common c = λ x y hx hy differs.
@@ -15,4 +16,5 @@ returns-clause-common c = λ x y hx hy differs. (
 )
 
 pub returns-clause-tight : goal.returns-clause-tight
-returns-clause-tight c = λ left right. (c.in_ok-left.ensures.tight left, c.in_ok-right.ensures.tight right)
+returns-clause-tight c =
+    λ left right. (c.in_ok-left.ensures.tight left, c.in_ok-right.ensures.tight right)

@@ -14,9 +14,11 @@ returns-clause-common c = λ x y hx hy h.
 pub returns-clause-left_limit : goal.returns-clause-left_limit
 returns-clause-left_limit c =
     IfSome_then c.both_low_limited.result c.both_low_limited.ensures.left_limits
-    (λ p within x h. let b = (c.between-left.ensures.members _).0 (within x h) in omega (arith, b.1))
+    (λ p within x h. let b = (c.between-left.ensures.members _).0 (within x h) in
+    omega (arith, b.1))
 
 pub returns-clause-right_limit : goal.returns-clause-right_limit
 returns-clause-right_limit c =
     IfSome_then c.both_low_limited.result c.both_low_limited.ensures.right_limits
-    (λ p within y h. let b = (c.between-right.ensures.members _).0 (within y h) in omega (arith, b.0))
+    (λ p within y h. let b = (c.between-right.ensures.members _).0 (within y h) in
+    omega (arith, b.0))

@@ -9,7 +9,8 @@ returns-clause-common c = λ x y hx hy h.
     let to = hy.1.signed_to in
     c.both_low_limited.ensures.common x y hx hy
     (c.signed_between-left.ensures.members _ hx.1.below (omega (arith, ints)) (omega (arith, ints)))
-    (c.signed_between-right.ensures.members _ hy.1.below (omega (arith, ints)) (omega (arith, ints)))
+    (c.signed_between-right.ensures.members _ hy.1.below (omega (arith, ints))
+    (omega (arith, ints)))
 
 pub returns-clause-left_limit : goal.returns-clause-left_limit
 returns-clause-left_limit c =

@@ -19,4 +19,5 @@ returns-clause-right c =
     let f : FitsSigned w32 c.args.least = c.ranges.least in
     let g : FitsSigned w32 c.args.greatest = c.ranges.greatest in
     let s = simp to_z-of_z at c.signed_between.ensures.limits in
-    let p = within x h in (omega (arith, ints, p.signed_from, s.0), omega (arith, ints, p.signed_to, s.1)))
+    let p = within x h in
+    (omega (arith, ints, p.signed_from, s.0), omega (arith, ints, p.signed_to, s.1)))

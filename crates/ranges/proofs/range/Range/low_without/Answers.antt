@@ -4,7 +4,8 @@ use Rattle.std.proofs.lemmas.Int.{ints}
 use Rattle.ranges.proofs.range.Range.low_without.Goals as goal
 
 pub returns-in_err-unsigned-clause-common : goal.returns-in_err-unsigned-clause-common
-returns-in_err-unsigned-clause-common c = λ x h differs. absurd (c.in_err-unsigned.ensures.common x h differs)
+returns-in_err-unsigned-clause-common c =
+    λ x h differs. absurd (c.in_err-unsigned.ensures.common x h differs)
 
 pub returns-in_err-left-clause-common : goal.returns-in_err-left-clause-common
 returns-in_err-left-clause-common c = λ x h differs.
@@ -28,11 +29,13 @@ returns-clause-limit c = λ is x h equal.
       | inr limit ↦ elim limit [
         | inl least ↦
             let from = rw equal at within.1.signed_from in
-            let same : unsigned.low.signed_least ≡ signed = omega (arith, ints, from, enclosed.1.2) in
+            let same : unsigned.low.signed_least ≡ signed =
+            omega (arith, ints, from, enclosed.1.2) in
             c.in_ok-left.ensures.limit (inl same) x h equal
         | inr greatest ↦
             let to = rw equal at within.1.signed_to in
-            let same : unsigned.low.signed_greatest ≡ signed = omega (arith, ints, to, enclosed.1.3) in
+            let same : unsigned.low.signed_greatest ≡ signed =
+            omega (arith, ints, to, enclosed.1.3) in
             c.in_ok-left.ensures.limit (inr same) x h equal
       ]
     ]

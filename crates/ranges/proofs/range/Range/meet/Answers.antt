@@ -7,7 +7,8 @@ use Rattle.ranges.proofs.range.Range.meet.Goals as goal
 
 -- what is within the common limits is within each
 both_enclosed : (a b m : Range) → Encloses a b → Encloses b m → Encloses a m
-both_enclosed a b m h k = (wide_trans a.wide b.wide m.wide h.0 k.0, low_trans a.low b.low m.low h.1 k.1)
+both_enclosed a b m h k =
+    (wide_trans a.wide b.wide m.wide h.0 k.0, low_trans a.low b.low m.low h.1 k.1)
 
 pub returns-clause-enclosed : goal.returns-clause-enclosed
 returns-clause-enclosed c =
@@ -15,7 +16,10 @@ returns-clause-enclosed c =
     let wide = c.in_ok-wide.ensures.enclosed in
     let low = c.in_ok-low.ensures.enclosed in
     IfSome_then c.tightened.result c.tightened.ensures.enclosed
-    (λ m h. (both_enclosed c.args.self both m (wide.0, low.0) h, both_enclosed c.args.other both m (wide.1, low.1) h))
+    (λ m h. (
+      both_enclosed c.args.self both m (wide.0, low.0) h,
+      both_enclosed c.args.other both m (wide.1, low.1) h,
+    ))
 
 pub returns-clause-left : goal.returns-clause-left
 returns-clause-left c =
@@ -23,7 +27,8 @@ returns-clause-left c =
     let wide = c.in_ok-wide.ensures.enclosed in
     let low = c.in_ok-low.ensures.enclosed in
     IfSome_then c.tightened.result c.tightened.ensures.enclosed
-    (λ m h x has. enclosed_has c.args.self m x (both_enclosed c.args.self both m (wide.0, low.0) h) has)
+    (λ m h x has.
+    enclosed_has c.args.self m x (both_enclosed c.args.self both m (wide.0, low.0) h) has)
 
 pub returns-clause-right : goal.returns-clause-right
 returns-clause-right c =
@@ -31,4 +36,5 @@ returns-clause-right c =
     let wide = c.in_ok-wide.ensures.enclosed in
     let low = c.in_ok-low.ensures.enclosed in
     IfSome_then c.tightened.result c.tightened.ensures.enclosed
-    (λ m h x has. enclosed_has c.args.other m x (both_enclosed c.args.other both m (wide.1, low.1) h) has)
+    (λ m h x has.
+    enclosed_has c.args.other m x (both_enclosed c.args.other both m (wide.1, low.1) h) has)

@@ -21,5 +21,7 @@ returns-clause-low_signed c = λ x hx fits.
     let a = c.args.a.low in
     let f : FitsSigned w32 a.signed_greatest = search rules in
     let k = c.constant.ensures.constant.1 in
-    let keeps = rw (k.2, k.3) at (c.alu.ensures.low_signed 0 x c.constant.ensures.contains hx (reads_difference c.args.width c.args.a.wide)) in
+    let keeps = rw (k.2, k.3) at
+    (c.alu.ensures.low_signed 0 x c.constant.ensures.contains hx
+    (reads_difference c.args.width c.args.a.wide)) in
     keeps (negative_fits w32 a.signed_least a.signed_greatest a.signed_ordered f fits) fits

@@ -10,7 +10,8 @@ use Rattle.ranges.proofs.RangeLaws.{constant_tight}
 use Rattle.ranges.proofs.range.Range.reorder.Goals as goal
 
 -- low bytes that hold the low half are the low half
-low_part_same : (span : SwapWidth) (x : ℕ) → x % 2 ^ 32 < 2 ^ span_bits span → (x % 2 ^ span_bits span) % 2 ^ 32 ≡ x % 2 ^ 32
+low_part_same : (span : SwapWidth) (x : ℕ) → x % 2 ^ 32 < 2 ^ span_bits span
+    → (x % 2 ^ span_bits span) % 2 ^ 32 ≡ x % 2 ^ 32
 low_part_same B16 x h = omega arith
 low_part_same B32 x h = omega arith
 low_part_same B64 x h = omega arith
@@ -45,7 +46,8 @@ returns-then-a-clause-low_little c = λ x h little small.
     let from = h.0.from in
     let to = h.0.to in
     let one : x ≡ c.args.a.wide.least = omega arith in
-    let is : c.reorder.result ≡ x % 2 ^ span_bits c.args.span = rw one (rw little at c.reorder.ensures) in
+    let is : c.reorder.result ≡ x % 2 ^ span_bits c.args.span =
+    rw one (rw little at c.reorder.ensures) in
     let half = low_part_same c.args.span x (let e = h.1.to in omega arith) in
     let k = c.constant.ensures.constant.1 in
     let v = ap (λ n. n % 2 ^ 32) is ∙ half in
@@ -55,7 +57,8 @@ returns-then-a-clause-low_little c = λ x h little small.
 
 pub returns-then-a-clause-tight : goal.returns-then-a-clause-tight
 returns-then-a-clause-tight c = λ x h.
-    constant_tight c.constant.result c.reorder.result c.constant.ensures.constant c.constant.ensures.contains
+    constant_tight c.constant.result c.reorder.result c.constant.ensures.constant
+    c.constant.ensures.contains
 
 pub returns-in-Little-clause-tight : goal.returns-in-Little-clause-tight
 returns-in-Little-clause-tight c = λ x h.
@@ -64,7 +67,9 @@ returns-in-Little-clause-tight c = λ x h.
 pub returns-in-Little-clause-contains : goal.returns-in-Little-clause-contains
 unfolding reordered
 returns-in-Little-clause-contains c = λ x h.
-    rw c.in-Little.is (c.settled.ensures.contains _ (c.low.ensures.contains x h.0, c.low_part.ensures.contains x h.1))
+    rw c.in-Little.is
+    (c.settled.ensures.contains _
+    (c.low.ensures.contains x h.0, c.low_part.ensures.contains x h.1))
 
 pub returns-in_default-clause-contains : goal.returns-in_default-clause-contains
 returns-in_default-clause-contains c = λ x h.

@@ -8,15 +8,19 @@ returns-clause-common c = λ x y hx hy h.
     let from = hx.0.signed_from in
     let to = hy.0.signed_to in
     c.both_limited.ensures.common x y hx hy
-    ((c.signed_between-left.ensures.members x).1 (hx.0.below, omega (arith, ints), omega (arith, ints)))
-    ((c.signed_between-right.ensures.members y).1 (hy.0.below, omega (arith, ints), omega (arith, ints)))
+    ((c.signed_between-left.ensures.members x).1
+    (hx.0.below, omega (arith, ints), omega (arith, ints)))
+    ((c.signed_between-right.ensures.members y).1
+    (hy.0.below, omega (arith, ints), omega (arith, ints)))
 
 pub returns-clause-left_limit : goal.returns-clause-left_limit
 returns-clause-left_limit c =
     IfSome_then c.both_limited.result c.both_limited.ensures.left_limits
-    (λ p within x h. let b = (c.signed_between-left.ensures.members x).0 (within x h) in omega (arith, ints, b.2))
+    (λ p within x h. let b = (c.signed_between-left.ensures.members x).0 (within x h) in
+    omega (arith, ints, b.2))
 
 pub returns-clause-right_limit : goal.returns-clause-right_limit
 returns-clause-right_limit c =
     IfSome_then c.both_limited.result c.both_limited.ensures.right_limits
-    (λ p within y h. let b = (c.signed_between-right.ensures.members y).0 (within y h) in omega (arith, ints, b.1))
+    (λ p within y h. let b = (c.signed_between-right.ensures.members y).0 (within y h) in
+    omega (arith, ints, b.1))

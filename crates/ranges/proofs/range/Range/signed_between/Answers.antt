@@ -26,5 +26,6 @@ returns-clause-tight c =
     let limits = simp to_z-of_z at c.signed_between.ensures.limits in
     let unsigned = simp to_z-of_z at c.signed_between.ensures.unsigned in
     c.within_limits.ensures.tight
-    (signed_between_tight c.signed_between.result c.args.least c.args.greatest c.requires f g (omega arith)
+    (signed_between_tight c.signed_between.result c.args.least c.args.greatest c.requires f g
+    (omega arith)
     (λ x. simp to_z-of_z at (c.signed_between.ensures.members x)) limits unsigned)

@@ -11,7 +11,8 @@ returns-clause-members c = λ x. (λ h. h.0, λ h. (h, c.low_limits.ensures.cont
 pub returns-clause-tight : goal.returns-clause-tight
 returns-clause-tight c = λ t.
     let r : Range = record { wide = c.args.wide; low = c.low_limits.result } in
-    let has : (x : ℕ) → W.Has c.args.wide x → Has r x = λ x h. (h, c.low_limits.ensures.contains x h) in (
+    let has : (x : ℕ) → W.Has c.args.wide x → Has r x =
+    λ x h. (h, c.low_limits.ensures.contains x h) in (
       has _ t.0,
       has _ t.1,
       has _ t.2,

@@ -4,7 +4,8 @@ use Rattle.std.proofs.lemmas.Int.{ints}
 use Rattle.ranges.proofs.range.Range.without.Goals as goal
 
 pub returns-in_err-unsigned-clause-common : goal.returns-in_err-unsigned-clause-common
-returns-in_err-unsigned-clause-common c = λ x h differs. absurd (c.in_err-unsigned.ensures.common x h differs)
+returns-in_err-unsigned-clause-common c =
+    λ x h differs. absurd (c.in_err-unsigned.ensures.common x h differs)
 
 pub returns-in_err-left-clause-common : goal.returns-in_err-left-clause-common
 returns-in_err-left-clause-common c = λ x h differs.
@@ -27,10 +28,12 @@ returns-clause-limit c = λ is h.
       | inl plain ↦ c.in_ok-unsigned.ensures.limit plain within
       | inr limit ↦ elim limit [
         | inl least ↦
-            let same : unsigned.wide.signed_least ≡ signed = omega (arith, ints, within.0.signed_from, enclosed.0.2) in
+            let same : unsigned.wide.signed_least ≡ signed =
+            omega (arith, ints, within.0.signed_from, enclosed.0.2) in
             c.in_ok-left.ensures.limit (inl same) h
         | inr greatest ↦
-            let same : unsigned.wide.signed_greatest ≡ signed = omega (arith, ints, within.0.signed_to, enclosed.0.3) in
+            let same : unsigned.wide.signed_greatest ≡ signed =
+            omega (arith, ints, within.0.signed_to, enclosed.0.3) in
             c.in_ok-left.ensures.limit (inr same) h
       ]
     ]

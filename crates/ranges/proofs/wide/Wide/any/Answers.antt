@@ -14,4 +14,6 @@ returns-clause-tight c =
     let r = c.between.result in
     let fl : FitsSigned w64 r.signed_least = search rules in
     let fg : FitsSigned w64 r.signed_greatest = search rules in
-    between_tight r 0 c.greatest_of.result (omega arith) (omega arith) fl fg c.between.ensures.members c.between.ensures.limits c.between.ensures.signed
+    between_tight r 0 c.greatest_of.result (omega arith)
+    (omega arith) fl fg c.between.ensures.members c.between.ensures.limits
+    c.between.ensures.signed

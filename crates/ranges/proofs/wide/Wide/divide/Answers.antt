@@ -10,5 +10,6 @@ returns-then-other-eq0-clause-contains c = λ x y hx hy.
 
 pub returns-else-other-eq0-clause-contains : goal.returns-else-other-eq0-clause-contains
 returns-else-other-eq0-clause-contains c = λ x y hx hy.
-    let d = div_apart x y c.args.self.least c.args.self.greatest c.args.other.least c.args.other.greatest (omega arith) hx.from hx.to hy.from hy.to in
+    let d = div_apart x y c.args.self.least c.args.self.greatest c.args.other.least
+    c.args.other.greatest (omega arith) hx.from hx.to hy.from hy.to in
     (c.between-else-other-eq0.ensures.members (cond (nat_eq y 0) 0 (x / y))).1 (d.0, d.1)

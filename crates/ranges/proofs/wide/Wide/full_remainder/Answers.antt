@@ -14,10 +14,13 @@ returns-then-other-clause-contains c = λ x y hx hy.
     let to = hy.to in
     let one : y ≡ c.args.other.least = omega arith in
     let f : FitsSigned w64 c.cast_signed.result = search rules in
-    let by : c.cast_signed.result ≡ cast_signed w64 y = c.cast_signed.ensures ∙ ap (cast_signed w64) (sym one) in
+    let by : c.cast_signed.result ≡ cast_signed w64 y = c.cast_signed.ensures
+    ∙ ap (cast_signed w64) (sym one) in
     subst (Has c.signed_remainder.result) (sym (remainder_is Full64 x y hx.below))
-    (subst (λ z. Has c.signed_remainder.result (cast_unsigned w64 (int_rem (cast_signed w64 x) z))) by
+    (subst (λ z. Has c.signed_remainder.result (cast_unsigned w64 (int_rem (cast_signed w64 x) z)))
+    by
     (simp to_z-of_z at (c.signed_remainder.ensures.contains x hx)))
 
 pub returns-else-other-clause-contains : goal.returns-else-other-clause-contains
-returns-else-other-clause-contains c = λ x y hx hy. (c.any.ensures.members _).1 (result_below SignedMod Full64 x y hx.below hy.below)
+returns-else-other-clause-contains c =
+    λ x y hx hy. (c.any.ensures.members _).1 (result_below SignedMod Full64 x y hx.below hy.below)

@@ -21,13 +21,19 @@ returns-then-all-self-clause-sound c = λ t x hx.
     let all = c.all_extended-all.result in
     let f1 : FitsSigned w64 c.args.self.signed_greatest = search rules in
     let f2 : FitsSigned w64 all.signed_greatest = search rules in
-    let top : c.args.self.signed_greatest ≤ℤ all.signed_greatest = test_le _ _ (simp to_z-of_z at t) in
+    let top : c.args.self.signed_greatest ≤ℤ all.signed_greatest =
+    test_le _ _ (simp to_z-of_z at t) in
     let full : extension_width c.args.extension ≡ Full64 = sym c.in-Full64.ensures in
     let ordered = all.signed_ordered in
-    let least = (c.all_extended-all.ensures.signed full all.signed_least).0 (omega (arith, ints), ordered) in
-    let greatest = (c.all_extended-all.ensures.signed full all.signed_greatest).0 (ordered, omega (arith, ints)) in
-    extended_same c.args.extension x all.signed_least all.signed_greatest full hx.below least greatest
-    (let from = hx.signed_from in omega (arith, ints)) (let to = hx.signed_to in omega (arith, ints))
+    let least = (c.all_extended-all.ensures.signed full all.signed_least).0
+    (omega (arith, ints), ordered) in
+    let greatest =
+    (c.all_extended-all.ensures.signed full all.signed_greatest).0
+    (ordered, omega (arith, ints)) in
+    extended_same c.args.extension x all.signed_least all.signed_greatest full hx.below least
+    greatest
+    (let from = hx.signed_from in omega (arith, ints))
+    (let to = hx.signed_to in omega (arith, ints))
 
 pub returns-then-all-self-clause-signed : goal.returns-then-all-self-clause-signed
 returns-then-all-self-clause-signed c = λ full is.

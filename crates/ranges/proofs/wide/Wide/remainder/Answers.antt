@@ -11,4 +11,5 @@ returns-then-other-eq0-clause-contains c = λ x y hx hy.
 pub returns-else-other-eq0-clause-contains : goal.returns-else-other-eq0-clause-contains
 returns-else-other-eq0-clause-contains c = λ x y hx hy.
     let d = mod_apart x y (omega arith) in
-    (c.between-else-other-eq0.ensures.members (cond (nat_eq y 0) x (x % y))).1 (omega arith, omega arith)
+    (c.between-else-other-eq0.ensures.members (cond (nat_eq y 0) x (x % y))).1
+    (omega arith, omega arith)

@@ -25,7 +25,8 @@ returns-clause-members c = λ x small low high from to.
     let greatest = c.min-greatest.ensures.value in
     let down = c.min.ensures.value in
     let up = c.max.ensures.value in
-    (c.signed_between.ensures.members x).1 (small, omega (arith, ints, clamps), omega (arith, ints, clamps))
+    (c.signed_between.ensures.members x).1
+    (small, omega (arith, ints, clamps), omega (arith, ints, clamps))
 
 pub returns-clause-near : goal.returns-clause-near
 returns-clause-near c =

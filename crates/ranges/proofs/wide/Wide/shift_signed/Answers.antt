@@ -23,7 +23,8 @@ returns-clause-contains c = λ x hx.
     let g2 = shr_fits a.signed_greatest c.args.by f2 in
     let f = cast_fits x hx.below in
     let g = shr_fits (cast_signed w64 x) c.args.by f in
-    (c.signed_between.ensures.members (cast_unsigned w64 (int_shr (cast_signed w64 x) c.args.by))).1 (
+    (c.signed_between.ensures.members
+    (cast_unsigned w64 (int_shr (cast_signed w64 x) c.args.by))).1 (
       signed_below_64 (int_shr (cast_signed w64 x) c.args.by) g,
       simp to_z-of_z (shr_mono _ _ (2 ^ c.args.by) hx.signed_from),
       simp to_z-of_z (shr_mono _ _ (2 ^ c.args.by) hx.signed_to),

@@ -29,7 +29,8 @@ returns-then-a-clause-kept c = λ x hx full is.
     let a = c.args.a in
     let one : x ≡ a.least = omega arith in
     let h = rw one at hx in
-    let same = extended_same c.args.extension a.least a.signed_least a.signed_greatest full h.below is.0 is.1 h.signed_from h.signed_to in
+    let same = extended_same c.args.extension a.least a.signed_least a.signed_greatest full h.below
+    is.0 is.1 h.signed_from h.signed_to in
     let u : c.sign_extend.result ≡ a.least = c.sign_extend.ensures ∙ same in
     let k = c.constant.ensures.constant in
     let l = k.0 in

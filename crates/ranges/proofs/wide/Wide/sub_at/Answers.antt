@@ -6,12 +6,16 @@ use Rattle.ranges.proofs.wide.Wide.sub_at.Goals as goal
 
 pub returns-clause-contains : goal.returns-clause-contains
 returns-clause-contains c = λ x y y_in hx hy.
-    rw (low_difference c.args.width x y y_in) at (c.truncate.ensures.contains _ (c.with.ensures.common _ (c.sub_unsigned-unsigned.ensures.contains x y hx hy) (c.sub_signed-signed.ensures.contains x y hx hy)))
+    rw (low_difference c.args.width x y y_in) at
+    (c.truncate.ensures.contains _
+    (c.with.ensures.common _ (c.sub_unsigned-unsigned.ensures.contains x y hx hy)
+    (c.sub_signed-signed.ensures.contains x y hx hy)))
 
 pub returns-clause-signed : goal.returns-clause-signed
 returns-clause-signed c = λ x y hx hy full fl fg.
     let small : c.with.result.greatest < 2 ^ width_bits c.args.width = rw full (omega arith) in
-    let e = c.with.ensures.other _ (c.sub_unsigned-unsigned.ensures.contains x y hx hy) (c.sub_signed-signed.ensures.contains x y hx hy) in
+    let e = c.with.ensures.other _ (c.sub_unsigned-unsigned.ensures.contains x y hx hy)
+    (c.sub_signed-signed.ensures.contains x y hx hy) in
     let l = c.sub_signed-signed.ensures.limits fl fg in
     let from = e.2 in
     let to = e.3 in

@@ -12,7 +12,13 @@ pub returns-clause-left : goal.returns-clause-left
 returns-clause-left c = λ x h.
     let e = signed_equation x h.below in
     let m = (c.between.ensures.members x).0 h in
-    record { below = h.below; from = omega (arith, m); to = omega (arith, ints, clamps, m); signed_from = omega (arith, ints, clamps, m); signed_to = omega (arith, ints, clamps, m) }
+    record {
+      below = h.below;
+      from = omega (arith, m);
+      to = omega (arith, ints, clamps, m);
+      signed_from = omega (arith, ints, clamps, m);
+      signed_to = omega (arith, ints, clamps, m);
+    }
 
 pub returns-clause-alike : goal.returns-clause-alike
 returns-clause-alike c =
@@ -27,5 +33,9 @@ returns-clause-enclosed c =
     let l = c.between.ensures.limits in
     let e = signed_equation c.max-least.result (omega arith) in
     let f = signed_equation c.min-greatest.result (omega arith) in
-    let s = c.between.ensures.signed (omega (arith, ints, clamps)) in
-    (omega (arith, clamps), omega (arith, clamps), omega (arith, ints, clamps), omega (arith, ints, clamps))
+    let s = c.between.ensures.signed (omega (arith, ints, clamps)) in (
+      omega (arith, clamps),
+      omega (arith, clamps),
+      omega (arith, ints, clamps),
+      omega (arith, ints, clamps),
+    )

@@ -7,4 +7,10 @@ returns-then-least-greatest-clause-common c = λ x hx hy. grind (arith, ints, cl
 
 pub returns-clause-common : goal.returns-clause-common
 returns-clause-common c = λ x hx hy.
-    record { below = hx.below; from = omega arith; to = omega arith; signed_from = omega (arith, ints, clamps); signed_to = omega (arith, ints, clamps) }
+    record {
+      below = hx.below;
+      from = omega arith;
+      to = omega arith;
+      signed_from = omega (arith, ints, clamps);
+      signed_to = omega (arith, ints, clamps);
+    }

@@ -6,4 +6,6 @@ pub returns-clause-constant : goal.returns-clause-constant
 returns-clause-constant c = λ u h. (c.number.ensures u).1 h
 
 pub returns-clause-only : goal.returns-clause-only
-returns-clause-only c = if_some c.number.result _ (λ n e x h. bits_constant_only c.args.self n x ((c.number.ensures n).0 e) h)
+returns-clause-only c =
+    if_some c.number.result _
+    (λ n e x h. bits_constant_only c.args.self n x ((c.number.ensures n).0 e) h)

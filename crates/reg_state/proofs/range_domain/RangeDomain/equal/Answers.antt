@@ -8,14 +8,18 @@ use Rattle.reg_state.proofs.range_domain.RangeDomain.equal.Goals as goal
 
 pub returns-in-Full64-clause-common : goal.returns-in-Full64-clause-common
 returns-in-Full64-clause-common c = λ x y hx hy h.
-    let e : x ≡ y = rw (c.in-Full64.is, low_same Full64 x hx.0.below, low_same Full64 y hy.0.below) at h in
-    subst (λ (n : ℕ). IsSomeAnd c.same.result (λ p. Has p.0 x × Has p.1 n)) e (c.same.ensures.common x hx (subst (Has c.args.other) (sym e) hy))
+    let e : x ≡ y =
+    rw (c.in-Full64.is, low_same Full64 x hx.0.below, low_same Full64 y hy.0.below) at h in
+    subst (λ (n : ℕ). IsSomeAnd c.same.result (λ p. Has p.0 x × Has p.1 n)) e
+    (c.same.ensures.common x hx (subst (Has c.args.other) (sym e) hy))
 
 pub returns-in-Full64-clause-left : goal.returns-in-Full64-clause-left
-returns-in-Full64-clause-left c = IfSome_then c.same.result c.same.ensures.left (λ p within x h. (within x h).0)
+returns-in-Full64-clause-left c =
+    IfSome_then c.same.result c.same.ensures.left (λ p within x h. (within x h).0)
 
 pub returns-in-Full64-clause-right : goal.returns-in-Full64-clause-right
-returns-in-Full64-clause-right c = IfSome_then c.same.result c.same.ensures.right (λ p within y h. (within y h).1)
+returns-in-Full64-clause-right c =
+    IfSome_then c.same.result c.same.ensures.right (λ p within y h. (within y h).1)
 
 pub returns-in-Full64-clause-left_allowed : goal.returns-in-Full64-clause-left_allowed
 returns-in-Full64-clause-left_allowed c =
@@ -28,7 +32,8 @@ returns-in-Full64-clause-right_allowed c =
     (λ p within y h. subst (Has c.args.self) (sym (low_same Full64 y h.0.below)) (within y h).0))
 
 pub returns-in-Low32-clause-common : goal.returns-in-Low32-clause-common
-returns-in-Low32-clause-common c = λ x y hx hy h. c.low_equal.ensures.common x y hx hy (rw c.in-Low32.is at h)
+returns-in-Low32-clause-common c =
+    λ x y hx hy h. c.low_equal.ensures.common x y hx hy (rw c.in-Low32.is at h)
 
 pub returns-in-Low32-clause-left_allowed : goal.returns-in-Low32-clause-left_allowed
 returns-in-Low32-clause-left_allowed c = rw c.in-Low32.is c.low_equal.ensures.left_limit

@@ -22,19 +22,29 @@ ones-not_power i e =
 
 pub returns-in-Full64-clause-common : goal.returns-in-Full64-clause-common
 returns-in-Full64-clause-common c = λ x y hx hy h.
-    c.overlapping.ensures.common x y hx hy (rw (c.in-Full64.is, low_same Full64 x hx.0.below, low_same Full64 y hy.0.below) at h)
+    c.overlapping.ensures.common x y hx hy
+    (rw (c.in-Full64.is, low_same Full64 x hx.0.below, low_same Full64 y hy.0.below) at h)
 
 pub returns-in-Low32-clause-common : goal.returns-in-Low32-clause-common
-returns-in-Low32-clause-common c = λ x y hx hy h. c.low_overlapping.ensures.common x y hx hy (rw c.in-Low32.is at h)
+returns-in-Low32-clause-common c =
+    λ x y hx hy h. c.low_overlapping.ensures.common x y hx hy (rw c.in-Low32.is at h)
 
 pub returns-in-Full64-clause-left_only : goal.returns-in-Full64-clause-left_only
-returns-in-Full64-clause-left_only c = λ full. IfSome_then c.overlapping.result c.overlapping.ensures.left (λ p within x i one h. absurd (ones-not_power i (sym (and_mask (2 ^ 64 - 1) 64) ∙ one)))
+returns-in-Full64-clause-left_only c =
+    λ full. IfSome_then c.overlapping.result c.overlapping.ensures.left
+    (λ p within x i one h. absurd (ones-not_power i (sym (and_mask (2 ^ 64 - 1) 64) ∙ one)))
 
 pub returns-in-Full64-clause-right_only : goal.returns-in-Full64-clause-right_only
-returns-in-Full64-clause-right_only c = λ full. IfSome_then c.overlapping.result c.overlapping.ensures.right (λ p within y i one h. absurd (ones-not_power i (sym (and_mask (2 ^ 64 - 1) 64) ∙ one)))
+returns-in-Full64-clause-right_only c =
+    λ full. IfSome_then c.overlapping.result c.overlapping.ensures.right
+    (λ p within y i one h. absurd (ones-not_power i (sym (and_mask (2 ^ 64 - 1) 64) ∙ one)))
 
 pub returns-in-Low32-clause-left_only : goal.returns-in-Low32-clause-left_only
-returns-in-Low32-clause-left_only c = λ full. IfSome_then c.low_overlapping.result c.low_overlapping.ensures.left (λ p within x i one h. absurd (ones-not_power i (sym (and_mask (2 ^ 64 - 1) 64) ∙ one)))
+returns-in-Low32-clause-left_only c =
+    λ full. IfSome_then c.low_overlapping.result c.low_overlapping.ensures.left
+    (λ p within x i one h. absurd (ones-not_power i (sym (and_mask (2 ^ 64 - 1) 64) ∙ one)))
 
 pub returns-in-Low32-clause-right_only : goal.returns-in-Low32-clause-right_only
-returns-in-Low32-clause-right_only c = λ full. IfSome_then c.low_overlapping.result c.low_overlapping.ensures.right (λ p within y i one h. absurd (ones-not_power i (sym (and_mask (2 ^ 64 - 1) 64) ∙ one)))
+returns-in-Low32-clause-right_only c =
+    λ full. IfSome_then c.low_overlapping.result c.low_overlapping.ensures.right
+    (λ p within y i one h. absurd (ones-not_power i (sym (and_mask (2 ^ 64 - 1) 64) ∙ one)))

@@ -8,6 +8,7 @@ returns-then-covers c = (
     c.covers-then-covers.ensures.yes yes c.args.number c.constant-then-covers.ensures.contains,
   ),
   λ h. c.covers-then-covers.ensures.limits.1 (
-      range_constant_enclosed c.args.self.range c.constant-then-covers.result c.args.number c.constant-then-covers.ensures.constant h.1
+      range_constant_enclosed c.args.self.range c.constant-then-covers.result c.args.number
+      c.constant-then-covers.ensures.constant h.1
       ),
 )

@@ -4,7 +4,8 @@ use Rattle.reg_state.proofs.scalars.Scalar.limited.Goals as goal
 pub returns-clause-contains : goal.returns-clause-contains
 returns-clause-contains c = λ x h least greatest.
     let inside = c.shown-least.ensures.contains x h least greatest in
-    c.single.ensures.contains x (inside.0, (c.between-range.ensures.members x).1 (inside.1, inside.2))
+    c.single.ensures.contains x
+    (inside.0, (c.between-range.ensures.members x).1 (inside.1, inside.2))
 
 pub returns-clause-narrower : goal.returns-clause-narrower
 returns-clause-narrower c = λ x h.

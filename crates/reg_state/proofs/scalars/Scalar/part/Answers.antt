@@ -23,6 +23,7 @@ returns c = record {
       (omega (arith, kept.0, from), omega (arith, kept.1, to));
   bits = λ i x y inside hx hy zero one.
       let fits : c.part-2.result.mask < 2 ^ 64 = omega arith in
-      ap (λ m. bit_at m i) (sym c.part-2.ensures.mask) ∙ bit_at-differing c.part-2.result.value c.part-2.result.mask x y i fits
+      ap (λ m. bit_at m i) (sym c.part-2.ensures.mask)
+      ∙ bit_at-differing c.part-2.result.value c.part-2.result.mask x y i fits
       (c.limited.ensures.narrower x hx).0 (c.limited.ensures.narrower y hy).0 inside zero one;
 }

@@ -7,10 +7,14 @@ use Rattle.reg_state.proofs.scalars.ScalarDomain.alu.Goals as goal
 
 pub returns-clause-contains : goal.returns-clause-contains
 returns-clause-contains c = λ x y hx hy.
-    c.settled.ensures.contains _ (c.alu.ensures.contains x y hx.0 hy.0, c.alu-2.ensures.contains x y hx.1 hy.1)
+    c.settled.ensures.contains _
+    (c.alu.ensures.contains x y hx.0 hy.0, c.alu-2.ensures.contains x y hx.1 hy.1)
 
 pub returns-clause-exact : goal.returns-clause-exact
-returns-clause-exact c = λ u v ha hb. c.settled.ensures.constant _ (c.alu.ensures.exact u v ha.0 hb.0, c.alu-2.ensures.exact u v ha.1 hb.1)
+returns-clause-exact c =
+    λ u v ha hb.
+    c.settled.ensures.constant _
+    (c.alu.ensures.exact u v ha.0 hb.0, c.alu-2.ensures.exact u v ha.1 hb.1)
 
 pub returns-clause-fits : goal.returns-clause-fits
 returns-clause-fits c = λ x h. c.alu.ensures.fits x (c.settled.ensures.narrower x h).0
@@ -20,14 +24,16 @@ returns-clause-limits c = λ fa fb.
     let a = c.args.a.range.wide in
     let b = c.args.b.range.wide in
     keeps_map c.args.op c.args.width a.least a.greatest b.least b.greatest _ _
-    (λ least greatest kept x h. let r = (c.settled.ensures.narrower x h).1.0 in let from = r.from in let to = r.to in (omega arith, omega arith))
+    (λ least greatest kept x h. let r = (c.settled.ensures.narrower x h).1.0 in
+    let from = r.from in let to = r.to in (omega arith, omega arith))
     (c.alu-2.ensures.limits fa fb)
 
 pub returns-clause-signed : goal.returns-clause-signed
 returns-clause-signed c = λ x y hx hy full.
     let a = c.args.a.range.wide in
     let b = c.args.b.range.wide in
-    keeps_signed_map c.args.op Full64 a.signed_least a.signed_greatest b.signed_least b.signed_greatest b.least b.greatest _ _
+    keeps_signed_map c.args.op Full64 a.signed_least a.signed_greatest b.signed_least
+    b.signed_greatest b.least b.greatest _ _
     (λ least greatest kept z h.
     let r = (c.settled.ensures.narrower z h).1.0 in
     let from = r.signed_from in
@@ -40,14 +46,16 @@ returns-clause-low_limits c = λ x y hx hy reads.
     let a = c.args.a.range.low in
     let b = c.args.b.range.low in
     keeps_map c.args.op Low32 a.least a.greatest b.least b.greatest _ _
-    (λ least greatest kept z h. let r = (c.settled.ensures.narrower z h).1.1 in let from = r.from in let to = r.to in (omega arith, omega arith))
+    (λ least greatest kept z h. let r = (c.settled.ensures.narrower z h).1.1 in
+    let from = r.from in let to = r.to in (omega arith, omega arith))
     (c.alu-2.ensures.low_limits x y hx.1 hy.1 reads)
 
 pub returns-clause-low_signed : goal.returns-clause-low_signed
 returns-clause-low_signed c = λ x y hx hy reads.
     let a = c.args.a.range.low in
     let b = c.args.b.range.low in
-    keeps_signed_map c.args.op Low32 a.signed_least a.signed_greatest b.signed_least b.signed_greatest b.least b.greatest _ _
+    keeps_signed_map c.args.op Low32 a.signed_least a.signed_greatest b.signed_least
+    b.signed_greatest b.least b.greatest _ _
     (λ least greatest kept z h.
     let r = (c.settled.ensures.narrower z h).1.1 in
     let from = r.signed_from in
@@ -81,6 +89,7 @@ pub returns-clause-product : goal.returns-clause-product
 returns-clause-product c = λ is.
     let product = c.alu.ensures.product is in
     record {
-      zeros = λ j k z fits hj hk h. product.zeros j k z fits hj hk (c.settled.ensures.narrower z h).0;
+      zeros =
+          λ j k z fits hj hk h. product.zeros j k z fits hj hk (c.settled.ensures.narrower z h).0;
       limit = λ l z small h. product.limit l z small (c.settled.ensures.narrower z h).0;
     }

@@ -9,8 +9,10 @@ returns-clause-common c = λ x y hx hy h.
 
 pub returns-clause-left_limit : goal.returns-clause-left_limit
 returns-clause-left_limit c =
-    IfSome_then c.joined.result c.joined.ensures.left (λ p within x h. c.in_ok-ranges.ensures.left_limit x (within x h).1)
+    IfSome_then c.joined.result c.joined.ensures.left
+    (λ p within x h. c.in_ok-ranges.ensures.left_limit x (within x h).1)
 
 pub returns-clause-right_limit : goal.returns-clause-right_limit
 returns-clause-right_limit c =
-    IfSome_then c.joined.result c.joined.ensures.right (λ p within y h. c.in_ok-ranges.ensures.right_limit y (within y h).1)
+    IfSome_then c.joined.result c.joined.ensures.right
+    (λ p within y h. c.in_ok-ranges.ensures.right_limit y (within y h).1)

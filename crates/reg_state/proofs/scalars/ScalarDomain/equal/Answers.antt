@@ -8,7 +8,8 @@ use Rattle.reg_state.specs.declared.scalars.Scalar.{Scalar}
 use Rattle.reg_state.proofs.scalars.ScalarDomain.equal.Goals as goal
 
 -- what both parts allow
-both_allow : (w : Width) (s : Scalar) (x : ℕ) → bits_allows w s.bits x → range_allows w s.range x → allows w s x
+both_allow : (w : Width) (s : Scalar) (x : ℕ) → bits_allows w s.bits x → range_allows w s.range x
+    → allows w s x
 both_allow Full64 s x b r = (b, r)
 both_allow Low32 s x b r = r
 
@@ -23,11 +24,13 @@ returns-clause-left_allowed c =
     IfSome_then c.joined.result c.joined.ensures.left
     (λ p within x h.
     let w = within x h in
-    both_allow c.args.width c.args.other _ (c.in_ok-bits.ensures.left_allowed x w.0) (c.in_ok-ranges.ensures.left_allowed x w.1))
+    both_allow c.args.width c.args.other _ (c.in_ok-bits.ensures.left_allowed x w.0)
+    (c.in_ok-ranges.ensures.left_allowed x w.1))
 
 pub returns-clause-right_allowed : goal.returns-clause-right_allowed
 returns-clause-right_allowed c =
     IfSome_then c.joined.result c.joined.ensures.right
     (λ p within y h.
     let w = within y h in
-    both_allow c.args.width c.args.self _ (c.in_ok-bits.ensures.right_allowed y w.0) (c.in_ok-ranges.ensures.right_allowed y w.1))
+    both_allow c.args.width c.args.self _ (c.in_ok-bits.ensures.right_allowed y w.0)
+    (c.in_ok-ranges.ensures.right_allowed y w.1))

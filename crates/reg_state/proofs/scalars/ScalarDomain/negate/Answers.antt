@@ -4,10 +4,14 @@ use Rattle.known_bits.proofs.MemberLaws.{bit_at-differing}
 use Rattle.reg_state.proofs.scalars.ScalarDomain.negate.Goals as goal
 
 pub returns-clause-contains : goal.returns-clause-contains
-returns-clause-contains c = λ x h. c.settled.ensures.contains _ (c.negate.ensures.contains x h.0, c.negate-2.ensures.contains x h.1)
+returns-clause-contains c =
+    λ x h. c.settled.ensures.contains _
+    (c.negate.ensures.contains x h.0, c.negate-2.ensures.contains x h.1)
 
 pub returns-clause-exact : goal.returns-clause-exact
-returns-clause-exact c = λ u h. c.settled.ensures.constant _ (c.negate.ensures.exact u h.0, c.negate-2.ensures.exact u h.1)
+returns-clause-exact c =
+    λ u h. c.settled.ensures.constant _
+    (c.negate.ensures.exact u h.0, c.negate-2.ensures.exact u h.1)
 
 pub returns-clause-fits : goal.returns-clause-fits
 returns-clause-fits c = λ x h. c.negate.ensures.fits x (c.settled.ensures.narrower x h).0

@@ -9,5 +9,7 @@ use Rattle.stack_state.proofs.stacks.StackState.fill.Goals as goal
 pub returns-clause-meant : goal.returns-clause-meant
 returns-clause-meant c =
     let slots = c.args.self.now.slots in
-    let same = get_or_default slots c.args.slot c.index-self-slot.result (Written 0) (omega arith) in
-    fills slots c.args.slot c.filled.result c.requires (subst (λ (s : StackSlot). IsFill s c.filled.result) same c.filled.ensures)
+    let same = get_or_default slots c.args.slot c.index-self-slot.result (Written 0)
+    (omega arith) in
+    fills slots c.args.slot c.filled.result c.requires
+    (subst (λ (s : StackSlot). IsFill s c.filled.result) same c.filled.ensures)

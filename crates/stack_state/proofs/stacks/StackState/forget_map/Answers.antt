@@ -17,7 +17,11 @@ loop-slot-preserved c =
     let wide : length ys ≡ frame_slots = c.loop-slot.invariant.length in
     record {
       length = length-set ys i c.forgotten.result ∙ wide;
-      done = ap (set ys i) c.forgotten.ensures ∙ map_over_more (forgotten_slot c.args.map) xs ys i x (omega arith) c.loop-slot.invariant.done (get_or_default ys i c.index-self-slot.result x (omega arith));
+      done =
+          ap (set ys i) c.forgotten.ensures
+          ∙ map_over_more (forgotten_slot c.args.map) xs ys i x
+          (omega arith) c.loop-slot.invariant.done
+          (get_or_default ys i c.index-self-slot.result x (omega arith));
     }
 
 pub returns : goal.returns
@@ -25,5 +29,10 @@ returns c =
     let xs = c.args.self.now.slots in
     let count : length xs ≡ frame_slots = omega arith in
     let over : length xs ≤ c.loop-slot.slot = omega arith in
-    let all : c.loop-slot.self.slots ≡ forgotten c.args.map xs = c.loop-slot.invariant.done ∙ (rw (take_all, drop_all, append-nil)) in
-    record { exact = all; meant = subst (λ (s : List StackSlot). ForgetsMap c.args.map xs s) (sym all) (forgets xs c.args.map count) }
+    let all : c.loop-slot.self.slots ≡ forgotten c.args.map xs = c.loop-slot.invariant.done
+    ∙ (rw (take_all, drop_all, append-nil)) in
+    record {
+      exact = all;
+      meant = subst (λ (s : List StackSlot). ForgetsMap c.args.map xs s) (sym all)
+          (forgets xs c.args.map count);
+    }

@@ -5,5 +5,6 @@ use Rattle.stack_state.proofs.stacks.StackState.forget_map.Given as goal
 abbrev pub invariant-loop-slot : goal.invariant-loop-slot
 invariant-loop-slot l = record {
   length : length l.self.slots ≡ frame_slots;
-  done : l.self.slots ≡ map (forgotten_slot l.map) (take l.slot l.fn.self.slots) ++ drop l.slot l.fn.self.slots;
+  done : l.self.slots
+      ≡ map (forgotten_slot l.map) (take l.slot l.fn.self.slots) ++ drop l.slot l.fn.self.slots;
 }

@@ -13,8 +13,10 @@ returns-then-is_bytes-clause-meant c =
     let at : ℕ = c.args.at in
     let same = get_or_default slots (at / 8) c.index-self-at.result (Written 0) (omega arith) in
     loads slots at c.args.size (Some c.numbers.result) c.requires.inside c.requires.in_slot (
-      subst (λ (n : ℕ). AreMarked slots at (at + n)) c.bytes.ensures.value (c.is_bytes.ensures.exact.0 c.if-is_bytes.true),
-      subst (λ (s : StackSlot). AreNumbers s (at % 8) c.args.size c.numbers.result) same c.numbers.ensures,
+      subst (λ (n : ℕ). AreMarked slots at (at + n)) c.bytes.ensures.value
+          (c.is_bytes.ensures.exact.0 c.if-is_bytes.true),
+      subst (λ (s : StackSlot). AreNumbers s (at % 8) c.args.size c.numbers.result) same
+          c.numbers.ensures,
     )
 
 pub returns-else-is_bytes-clause-meant : goal.returns-else-is_bytes-clause-meant

@@ -10,8 +10,12 @@ returns-clause-meant c =
     let slots = c.args.self.now.slots in
     let at : ℕ = c.args.at in
     let marks : c.marks.result ≡ marks_of (slot_at slots (at / 8)) =
-    c.marks.ensures ∙ ap marks_of (get_or_default slots (at / 8) c.index-self-at.result (Written 0) (omega arith)) in
-    let mask = c.mask.ensures ∙ ap (λ (n : ℕ). mask_of (at % 8) (at % 8 + n)) c.bytes.ensures.value in
+    c.marks.ensures
+    ∙ ap marks_of
+    (get_or_default slots (at / 8) c.index-self-at.result (Written 0) (omega arith)) in
+    let mask = c.mask.ensures
+    ∙ ap (λ (n : ℕ). mask_of (at % 8) (at % 8 + n)) c.bytes.ensures.value in
     stores slots _ at c.args.size (omega arith) c.requires.inside c.requires.in_slot
     (ap (λ (m : ℕ). set slots (at / 8) (Written (bit_or m c.mask.result))) marks
-    ∙ ap (λ (m : ℕ). set slots (at / 8) (Written (bit_or (marks_of (slot_at slots (at / 8))) m))) mask)
+    ∙ ap (λ (m : ℕ). set slots (at / 8) (Written (bit_or (marks_of (slot_at slots (at / 8))) m)))
+    mask)

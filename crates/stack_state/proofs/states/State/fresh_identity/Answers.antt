@@ -14,9 +14,15 @@ pub returns : goal.returns
 returns c =
     let a = c.args.self.now in
     let none : List Bool = replicate 594 false in
-    let callers : Marks (AreFree (IsFreshAt c.args.names a.callers.items) (length a.callers.items)) (74 * length a.callers.items) none c.mark_frames.new.named =
-    subst (λ fs. Marks (AreFree (IsFreshAt c.args.names fs) (length fs)) (74 * length fs) none c.mark_frames.new.named)
+    let callers : Marks (AreFree (IsFreshAt c.args.sort a.callers.items) (length a.callers.items))
+    (74 * length a.callers.items) none c.mark_frames.new.named =
+    subst (λ fs.
+    Marks (AreFree (IsFreshAt c.args.sort fs) (length fs))
+    (74 * length fs) none c.mark_frames.new.named)
     c.as_slice.ensures.value c.mark_frames.ensures in
     let first = c.first_free.ensures in
-    IsLeastFresh-marks c.args.names a (74 * length a.callers.items) 74 c.first_free.result none c.mark_frames.new.named c.mark_frame.new.named
-    callers c.mark_frame.ensures (is_marked-replicate 594) first.some (omega arith) first.free first.least
+    IsLeastFresh-marks c.args.sort a
+    (74 * length a.callers.items) 74 c.first_free.result none c.mark_frames.new.named
+    c.mark_frame.new.named
+    callers c.mark_frame.ensures (is_marked-replicate 594) first.some
+    (omega arith) first.free first.least

@@ -17,8 +17,14 @@ returns c =
     let some = c.in-Some.ensures.len in
     let caller : c.in-Some.caller ≡ abstract_frame_at b n =
     sym (abstract_frame_at-caller b n (omega arith)
-    ∙ get_or_from_slice_get b.callers.items n c.in-Some.caller no_frame (sym c.pop.ensures.value ∙ c.in-Some.is)) in
-    let callee : State = record { slot = b.innermost.return_slot; callers = record { items = take n b.callers.items }; innermost = c.resume.new.self } in
+    ∙ get_or_from_slice_get b.callers.items n c.in-Some.caller no_frame
+    (sym c.pop.ensures.value ∙ c.in-Some.is)) in
+    let callee : State =
+    record {
+      slot = b.innermost.return_slot;
+      callers = record { items = take n b.callers.items };
+      innermost = c.resume.new.self;
+    } in
     ap (λ l. record callee { callers = record { items = l } }) c.pop.ensures.rest
     ∙ ap (λ f. record callee { innermost = f }) (c.resume.ensures
     ∙ ap (resumed_of c.in-Some.caller) c.kind_of-answer.ensures

@@ -11,11 +11,13 @@ use Rattle.stack_state.specs.Effects.{with_slots, with_frame}
 use Rattle.stack_state.proofs.states.State.store_number.Goals as goal
 
 -- another caller
-with_caller : (a : State) (j : ℕ) (f : AbstractFrame) → j < length a.callers.items → with_frame a j f ≡ record a { callers = with_item a.callers j f }
+with_caller : (a : State) (j : ℕ) (f : AbstractFrame) → j < length a.callers.items
+    → with_frame a j f ≡ record a { callers = with_item a.callers j f }
 with_caller a j f inside =
     let n : ℕ = length a.callers.items in
     elim (j == n) as (λ b. (j == n) ≡ b
-    → (if b then record a { innermost = f } else record a { callers = with_item a.callers j f }) ≡ record a { callers = with_item a.callers j f }) [
+    → (if b then record a { innermost = f } else record a { callers = with_item a.callers j f })
+    ≡ record a { callers = with_item a.callers j f }) [
       | true ↦ λ e. absurd (let same : n ≡ j = grind (arith, nat_tests) in omega arith)
       | false ↦ λ e. refl
     ] refl
@@ -32,10 +34,20 @@ returns-in-Some c =
     record {
       slot = s;
       stored = grind (arith, common_steps);
-      left = ap (λ i. record a { callers = with_item a.callers i (record f { stack = c.store_number.new.self }) }) place
-          ∙ ap (λ l. record a { callers = with_item a.callers c.args.frame (with_slots f l) }) c.store_number.ensures.others
-          ∙ ap (λ g. record a { callers = with_item a.callers c.args.frame (with_slots g (slice_set g.stack.slots k s)) }) (sym same)
-          ∙ sym (with_caller a c.args.frame (with_slots (abstract_frame_at a c.args.frame) (slice_set (stack_slots_of a c.args.frame) k s)) inside);
+      left =
+          ap (λ i.
+          record a
+          { callers = with_item a.callers i (record f { stack = c.store_number.new.self }) }) place
+          ∙ ap (λ l. record a { callers = with_item a.callers c.args.frame (with_slots f l) })
+          c.store_number.ensures.others
+          ∙ ap (λ g.
+          record a {
+            callers = with_item a.callers c.args.frame
+                (with_slots g (slice_set g.stack.slots k s));
+          }) (sym same)
+          ∙ sym (with_caller a c.args.frame
+          (with_slots (abstract_frame_at a c.args.frame)
+          (slice_set (stack_slots_of a c.args.frame) k s)) inside);
       meant = grind (arith, common_steps);
     }
 

@@ -8,12 +8,16 @@ pub returns-in-Some : goal.returns-in-Some
 returns-in-Some c =
     let f = c.args.left.now in
     let g = c.args.right.now in
-    let step = find-append (λ place. is_named c.args.self c.args.identity place.0) (zip f.registers g.registers) (zip (spilled_kinds f.stack.slots) (spilled_kinds g.stack.slots)) in
+    let step = find-append (λ place. is_named c.args.self c.args.identity place.0)
+    (zip f.registers g.registers)
+    (zip (spilled_kinds f.stack.slots) (spilled_kinds g.stack.slots)) in
     sym (rw (← c.in-Some.ensures) at step)
 
 pub returns : goal.returns
 returns c =
     let f = c.args.left.now in
     let g = c.args.right.now in
-    let step = find-append (λ place. is_named c.args.self c.args.identity place.0) (zip f.registers g.registers) (zip (spilled_kinds f.stack.slots) (spilled_kinds g.stack.slots)) in
+    let step = find-append (λ place. is_named c.args.self c.args.identity place.0)
+    (zip f.registers g.registers)
+    (zip (spilled_kinds f.stack.slots) (spilled_kinds g.stack.slots)) in
     c.find_in_slots.ensures ∙ sym (rw (← c.in_default.ensures) at step)

@@ -1,0 +1,11 @@
+use Rattle.std.specs.Prelude.{IsTrue}
+use Rattle.isa_model.specs.declared.registers.Reg.TheVariants.{R10}
+use Rattle.control_flow.specs.Masks.{HasRegister}
+use Rattle.control_flow.proofs.StackUses.{others_take_address}
+use Rattle.control_flow.proofs.stack_accesses.takes_address.Goals as goal
+
+pub returns-in_default : goal.returns-in_default
+returns-in_default c =
+    others_take_address c.args.insn.now c.in_default.not-Load c.in_default.not-LoadSx
+    c.in_default.not-StoreConstant c.in_default.not-Store
+    (IsTrue c.has.result) (HasRegister c.args.read R10) c.has.ensures c.requires

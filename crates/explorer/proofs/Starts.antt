@@ -1,0 +1,54 @@
+-- The start of a search, and the starts of the machine that its state means.
+use Rattle.std.proofs.Common.{◌≡◌, [], ℕ, Option, List, arith, refl, sym, subst}
+use Rattle.std.specs.Prelude.{IsSome}
+use Rattle.std.specs.List.{All}
+use Rattle.std.proofs.lemmas.List.Elements.{All-nil, All-cons}
+use Rattle.isa_model.specs.declared.instructions.Insn.{Insn}
+use Rattle.isa_model.specs.Code.Instructions.{Program}
+use Rattle.image.specs.Images.{IsImage}
+use Rattle.image.proofs.ImageLaws.{fetch-zero}
+use Rattle.image.proofs.Programs.{IsProgram-IsImage}
+use Rattle.isa_model.specs.Running.Runs.{start_state}
+use Rattle.stack_state.specs.Starts.{start}
+use Rattle.stack_state.proofs.StartsLaws.{Means-start}
+use Rattle.stack_state.specs.declared.states.State.{State}
+use Rattle.isa_model.specs.Running.Outcomes.{StartsEnd}
+use Rattle.stack_state.specs.Meaning.{Within}
+use Rattle.control_flow.specs.Graph.{BeginsInsn}
+use Rattle.explorer.specs.declared.stored_states.StoredState.{StoredState}
+use Rattle.explorer.specs.Search.{AllSettled, IsAtInsns}
+use Rattle.walks.specs.Forgetting.{Forgets}
+use Rattle.walks.proofs.Forgotten.{Forgets-slot, Forgets-returns}
+
+pub empty_fine : (p : Program) (m : ℕ) (states : List StoredState) → states ≡ []
+    → AllSettled p m states
+unfolding AllSettled
+empty_fine p m states e = subst (λ x. AllSettled p m x) (sym e) (λ k d h. absurd (omega arith))
+
+start_ready : (p : Program) → IsImage p → IsAtInsns p start
+unfolding start
+start_ready p image =
+    let first = fetch-zero p image in
+    let begins : BeginsInsn p 0 = subst (λ (o : Option Insn). IsSome o) (sym first.1) refl in
+    record {
+      begins = begins;
+      returns = All-cons (BeginsInsn p) 0 [] begins
+          (All-nil (BeginsInsn p));
+    }
+
+IsAtInsns-forgets : (p : Program) (a b : State) → Forgets p a b → IsAtInsns p a → IsAtInsns p b
+IsAtInsns-forgets p a b f ready = record {
+  begins = subst (BeginsInsn p) (sym (Forgets-slot p a b f)) ready.begins;
+  returns = subst (All (BeginsInsn p)) (sym (Forgets-returns p a b f)) ready.returns;
+}
+
+pub starts_ready : (p q : Program) (s : State) → p ≡ q → IsImage q → Forgets p start s
+    → IsAtInsns p s
+starts_ready p q s same image begins =
+    IsAtInsns-forgets p start s begins (start_ready p (subst IsImage (sym same) image))
+
+pub starts_end : (p q : Program) (n : ℕ) → p ≡ q → IsImage q → Within p start n → StartsEnd q n
+unfolding Within StartsEnd
+starts_end p q n same image within = λ clock head packet contents fits given.
+    subst (λ x. Within x start n) same within clock fits (start_state head packet contents)
+    (Means-start q head packet contents (IsProgram-IsImage q image) given)

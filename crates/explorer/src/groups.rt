@@ -1,0 +1,323 @@
+//! Parts in groups, which kept states share with one another.
+
+ghost use Rattle.std.specs.Prelude.{◌≡◌, ◌++◌, [], IfOk, IsTrue, OnOk, option_to_list};
+ghost use Rattle.std.specs.List.{All};
+ghost use Rattle.state_index.specs.Parts.{IsPartOf, all_written, register_part, slot_part};
+ghost use Rattle.explorer.specs.Groups.{whole, few_of, groups_of};
+
+use reg_state::Kind;
+use stack_state::{AbstractFrame, StackSlot};
+use state_index::{Part, are_same, may_cover_part, write};
+use std::alloc::{AllocError, Global};
+use std::marker::Model;
+use std::rc::Rc;
+
+/// How many parts of a call frame are not put into groups, if these are all.
+pub const FEW: usize = 4;
+
+/// How many registers or stack slots a group has at most.
+const REGISTERS: u8 = 3;
+
+const SLOTS: u8 = 8;
+
+/// How many words of 8 bytes a part takes, and a group besides its parts.
+const PART_WORDS: usize = 10;
+
+const GROUP_WORDS: usize = 9;
+
+/// How many words parts take.
+pub fn words_of(parts: &[Part]) -> usize {
+    parts.len().saturating_mul(PART_WORDS)
+}
+
+/// Adjacent parts of a frame. States that know the same there share the group.
+///
+/// Contracts see the parts.
+#[derive(Drop)]
+pub struct SharedParts {
+    parts: Rc<Vec<Part>>,
+}
+
+impl Model for SharedParts {
+    ghost use Rattle.std.specs.Prelude.{List};
+    ghost use Rattle.state_index.specs.declared.parts.Part.{Part};
+
+    ghost Value = { List Part };
+
+    ghost view = { λ group. group.parts.value.items };
+}
+
+impl SharedParts {
+    /// A group of its own.
+    fn of(alloc: Global, parts: &[Part]) -> Result<Self, AllocError>
+        ensures { IfOk result (λ group. group ≡ parts.now) }
+    {
+        let parts = Vec::from_slice(alloc, parts)?;
+        match Rc::new(alloc, parts) {
+            Ok(parts) => Ok(SharedParts { parts }),
+            Err(_) => Err(AllocError),
+        }
+    }
+
+    /// The same group once more.
+    fn share(&self) -> Result<Self, AllocError>
+        ensures { IfOk result (λ group. group ≡ self.now) }
+    {
+        let parts = self.parts.clone()?;
+        Ok(SharedParts { parts })
+    }
+
+    /// How many words it takes in a state that has it, as long as no other one shares it.
+    pub fn own_words(&self) -> usize {
+        match Rc::strong_count(&self.parts) {
+            1 => GROUP_WORDS.saturating_add(words_of(self.parts())),
+            _ => 1,
+        }
+    }
+
+    /// Its parts.
+    pub fn parts(&self) -> &[Part]
+        ensures { result.now ≡ self.now }
+    {
+        self.parts.as_ref().as_slice()
+    }
+}
+
+/// The key of a group: the numbers of its registers or stack slots.
+fn group_key(part: &Part) -> u8 {
+    match part {
+        Part::InRegister(place, _) => *place / REGISTERS,
+        Part::InSlot(place, _) => 16 + *place / SLOTS % 8,
+    }
+}
+
+/// How many of some parts the first group has.
+fn first_group(parts: &[Part]) -> usize {
+    let mut count: usize = 0;
+    let mut key = 0;
+    for part in parts {
+        if count == 0 {
+            key = group_key(part);
+        }
+        if group_key(part) != key {
+            return count;
+        }
+        count = count.saturating_add(1);
+    }
+    count
+}
+
+/// A group that has these parts, one of the others if there is one.
+fn group_with(
+    alloc: Global,
+    parts: &[Part],
+    others: &[SharedParts],
+) -> Result<SharedParts, AllocError>
+    ensures { IfOk result (λ group. group ≡ parts.now) }
+{
+    for index in 0..others.len() {
+        if are_same(others[index].parts(), parts) {
+            return others[index].share();
+        }
+    }
+    SharedParts::of(alloc, parts)
+}
+
+/// The first group of parts, and those after it.
+fn split_first(parts: &[Part]) -> (&[Part], &[Part])
+    ensures { parts.now ≡ result.0.now ++ result.1.now }
+{
+    match parts.split_at_checked(first_group(parts)) {
+        Some(halves) => halves,
+        None => (parts, &[]),
+    }
+}
+
+/// Puts a group after others.
+fn push_group(
+    alloc: Global,
+    groups: &mut Vec<SharedParts>,
+    parts: &[Part],
+    others: &[SharedParts],
+) -> Result<(), AllocError>
+    ensures { OnOk result (whole groups.new.items ≡ whole groups.old.items ++ parts.now) }
+{
+    let group = group_with(alloc, parts, others)?;
+    groups.push(group)?;
+    Ok(())
+}
+
+/// The parts of a kept frame.
+#[derive(Drop)]
+pub enum KeptParts {
+    /// All of them, if they are few.
+    Few(Vec<Part>),
+    /// All of them in groups, if they are more.
+    Many(Vec<SharedParts>),
+}
+
+impl KeptParts {
+    /// The parts, some of whose groups may be shared with another state. They are split into groups
+    /// if they are more than that.
+    pub fn of(
+        alloc: Global,
+        parts: &[Part],
+        others: &[SharedParts],
+        few: usize,
+    ) -> Result<Self, AllocError>
+        ensures { IfOk result (λ kept. few_of kept ++ whole (groups_of kept) ≡ parts.now) }
+    {
+        if parts.len() <= few {
+            return Ok(KeptParts::Few(Vec::from_slice(alloc, parts)?));
+        }
+        Ok(KeptParts::Many(cut(alloc, parts, others)?))
+    }
+
+    /// The parts that are in no group.
+    #[inline(always)]
+    pub fn few(&self) -> &[Part]
+        ensures { result.now ≡ few_of self.now }
+    {
+        match self {
+            KeptParts::Few(parts) => parts.as_slice(),
+            KeptParts::Many(_) => &[],
+        }
+    }
+
+    /// The groups.
+    #[inline(always)]
+    pub fn groups(&self) -> &[SharedParts]
+        ensures { result.now ≡ groups_of self.now }
+    {
+        match self {
+            KeptParts::Few(_) => &[],
+            KeptParts::Many(groups) => groups.as_slice(),
+        }
+    }
+}
+
+/// The parts in groups. Another state may share some of them.
+fn cut(
+    alloc: Global,
+    parts: &[Part],
+    others: &[SharedParts],
+) -> Result<Vec<SharedParts>, AllocError>
+    ensures { IfOk result (λ groups. whole groups.items ≡ parts.now) }
+{
+    let mut groups = Vec::new(alloc);
+    let mut rest = parts;
+    for _group in 0..parts.len() {
+        let (first, more) = split_first(rest);
+        push_group(alloc, &mut groups, first, others)?;
+        rest = more;
+        if rest.is_empty() {
+            return Ok(groups);
+        }
+    }
+    push_group(alloc, &mut groups, rest, others)?;
+    Ok(groups)
+}
+
+/// The parts of a kept frame that are still to be read.
+///
+/// Contracts see the parts.
+#[derive(Drop)]
+pub struct Rest<'a> {
+    parts: &'a [Part],
+    groups: &'a [SharedParts],
+}
+
+impl<'a> Model for Rest<'a> {
+    ghost use Rattle.std.specs.Prelude.{List, ◌++◌};
+    ghost use Rattle.state_index.specs.declared.parts.Part.{Part};
+    ghost use Rattle.explorer.specs.Groups.{whole};
+
+    ghost Value = { List Part };
+
+    ghost view = { λ rest. rest.parts.now ++ whole rest.groups.now };
+}
+
+impl<'a> Rest<'a> {
+    /// All parts.
+    pub fn of(parts: &'a KeptParts) -> Self
+        ensures { result ≡ few_of parts.now ++ whole (groups_of parts.now) }
+    {
+        Rest {
+            parts: parts.few(),
+            groups: parts.groups(),
+        }
+    }
+
+    /// Whether there are no parts; a wrong false is possible.
+    pub fn is_empty(&self) -> bool
+        ensures { IsTrue result → self.now ≡ [] }
+    {
+        self.parts.is_empty() && self.groups.is_empty()
+    }
+
+    /// Takes the next part, if it is found.
+    #[inline(always)]
+    fn next(&mut self) -> &'a [Part]
+        ensures { self.old ≡ result.now ++ self.new }
+    {
+        if self.parts.is_empty() {
+            let [group, others @ ..] = self.groups else {
+                return &[];
+            };
+            self.parts = group.parts();
+            self.groups = others;
+        }
+        match self.parts.split_at_checked(1) {
+            Some((first, others)) => {
+                self.parts = others;
+                first
+            }
+            None => &[],
+        }
+    }
+
+    /// Takes what is known of a register, if the next part says just that.
+    #[inline(always)]
+    pub fn is_register(&mut self, place: u8, kind: &Kind) -> bool
+        ensures { IsTrue result
+            → self.old ≡ option_to_list (register_part place kind.now) ++ self.new }
+    {
+        match kind {
+            Kind::Unset => true,
+            kind => are_same(self.next(), &[Part::InRegister(place, *kind)]),
+        }
+    }
+
+    /// Takes what is known of a stack slot, if the next part says just that.
+    #[inline(always)]
+    pub fn is_slot(&mut self, place: u8, slot: &StackSlot) -> bool
+        ensures { IsTrue result → self.old ≡ option_to_list (slot_part place slot.now) ++ self.new }
+    {
+        match slot {
+            StackSlot::Written(0) => true,
+            slot => are_same(self.next(), &[Part::InSlot(place, *slot)]),
+        }
+    }
+}
+
+/// Writes parts where they belong.
+pub fn write_all(frame: &mut AbstractFrame, parts: &[Part])
+    ensures { frame.new ≡ all_written frame.old parts.now }
+{
+    for index in 0..parts.len() {
+        write(frame, &parts[index]);
+    }
+}
+
+/// Whether what is known of parts may cover what a frame knows of them: false means that it does
+/// not.
+pub fn may_cover_all(parts: &[Part], frame: &AbstractFrame) -> bool
+    ensures { All (IsPartOf frame.now) parts.now → IsTrue result }
+{
+    for index in 0..parts.len() {
+        if !may_cover_part(&parts[index], frame) {
+            return false;
+        }
+    }
+    true
+}

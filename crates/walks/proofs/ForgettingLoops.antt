@@ -1,0 +1,275 @@
+-- The loops that forget dead registers and dead stack slots: what is forgotten after some of them,
+-- and after all; what is forgotten of callers.
+use Rattle.std.proofs.Common.{◌≡◌, ◌≢◌, ◌<◌, ◌≤◌, ◌+◌, ℕ, List, length, replicate, get_or, set, refl, sym, ap, ◌∙◌, subst, arith, inl, inr}
+use Rattle.std.proofs.lemmas.Bool.{cases_eq}
+use Rattle.std.proofs.lemmas.List.{length-replicate, get_or-replicate, length-set, get_or-set_same, get_or-set_other}
+use Rattle.isa_model.specs.declared.registers.Reg.{Reg}
+use Rattle.isa_model.specs.declared.registers.Reg.TheVariants.{R10}
+use Rattle.isa_model.specs.Code.Registers.{reg_number}
+use Rattle.isa_model.specs.Code.Instructions.{Program}
+use Rattle.reg_state.specs.declared.kinds.Kind.{Kind}
+use Rattle.reg_state.specs.declared.kinds.Kind.TheVariants.{Unset}
+use Rattle.stack_state.specs.declared.slots.StackSlot.{StackSlot}
+use Rattle.stack_state.specs.declared.slots.StackSlot.TheVariants.{Written}
+use Rattle.stack_state.specs.Slots.{slot_at, frame_slots}
+use Rattle.stack_state.specs.declared.states.AbstractFrame.{AbstractFrame}
+use Rattle.stack_state.specs.declared.states.State.{State}
+use Rattle.stack_state.specs.Meaning.{abstract_frame_at, kind_at, no_frame}
+use Rattle.stack_state.proofs.MeaningLaws.{abstract_frame_at-caller, abstract_frame_at-innermost}
+use Rattle.isa_model.proofs.RegisterLaws.{same_number}
+use Rattle.control_flow.specs.Flows.{IsJoin}
+use Rattle.control_flow.specs.Liveness.{IsLive, IsSlotLive}
+use Rattle.walks.specs.Forgetting.{IsKept, AreKept, IsSlotLeft, AreSlotsLeft, AreSlotsKept, IsCallerKept, AreCallersKept, CallersForgotten, Forgets}
+use Rattle.walks.proofs.OnNumbers.{below_ten}
+
+-- ---- the loop
+
+-- the registers with numbers below n are as when a path reaches the slot, and the rest as before
+pub record KeptBelow (p : Program) (slot n : ℕ) (old new : List Kind) : Type 0 where
+  pub ten : length new ≡ 10
+  pub below : (r : Reg) → r ≢ R10 → reg_number r < n
+      → IsKept p slot r (kind_at old (reg_number r)) (kind_at new (reg_number r))
+  pub above : (k : ℕ) → n ≤ k → kind_at new k ≡ kind_at old k
+
+pub kept_none : (p : Program) (slot : ℕ) (old : List Kind) → length old ≡ 10
+    → KeptBelow p slot 0 old old
+kept_none p slot old ten =
+    record { ten = ten; below = λ r own low. absurd (omega arith); above = λ k high. refl }
+
+-- the next register is live
+pub kept_more_live : (p : Program) (slot n : ℕ) (r : Reg) (old new : List Kind) → reg_number r ≡ n
+    → IsLive p r slot → KeptBelow p slot n old new → KeptBelow p slot (n + 1) old new
+kept_more_live p slot n r old new is live m = record {
+  ten = m.ten;
+  below = λ q own low. elim (cases_eq (reg_number q) n) [
+    | inl e ↦
+        let same : q ≡ r = same_number q r (e ∙ sym is) in
+        inl (
+          λ dead. dead.1 (subst (λ (x : Reg). IsLive p x slot) (sym same) live),
+          m.above (reg_number q) (omega arith),
+        )
+    | inr apart ↦ m.below q own (omega arith)
+  ];
+  above = λ k high. m.above k (omega arith);
+}
+
+-- the next register is dead
+pub kept_more_dead : (p : Program) (slot n : ℕ) (r : Reg) (old new : List Kind) → reg_number r ≡ n
+    → n < 10 → IsJoin p slot → (IsLive p r slot → ⊥)
+    → KeptBelow p slot n old new → KeptBelow p slot (n + 1) old (set new n Unset)
+kept_more_dead p slot n r old new is within join dead m =
+    let inside : n < length new = let ten = m.ten in omega arith in record {
+      ten = length-set new n Unset ∙ m.ten;
+      below = λ q own low. elim (cases_eq (reg_number q) n) [
+        | inl e ↦
+            let same : q ≡ r = same_number q r (e ∙ sym is) in
+            let gone : kind_at (set new n Unset) (reg_number q) ≡ Unset =
+            ap (kind_at (set new n Unset)) e ∙ get_or-set_same new n Unset Unset inside in
+            inr ((join, λ live. dead (subst (λ (x : Reg). IsLive p x slot) same live)), gone)
+        | inr apart ↦
+            subst (IsKept p slot q (kind_at old (reg_number q)))
+            (sym (get_or-set_other new n (reg_number q) Unset Unset apart))
+            (m.below q own (omega arith))
+      ];
+      above =
+          λ k high. get_or-set_other new n k Unset Unset (λ e. absurd (omega arith))
+          ∙ m.above k (omega arith);
+    }
+
+pub AreKept-below : (p : Program) (slot n : ℕ) (old new : List Kind) → 10 ≤ n
+    → KeptBelow p slot n old new → AreKept p slot old new
+AreKept-below p slot n old new all m =
+    record { ten = m.ten; each = λ r own. m.below r own (let low = below_ten r own in omega arith) }
+
+-- away from joins nothing is forgotten
+pub kept_alone : (p : Program) (slot : ℕ) (old : List Kind) → length old ≡ 10 → (IsJoin p slot → ⊥)
+    → AreKept p slot old old
+kept_alone p slot old ten alone =
+    record { ten = ten; each = λ r own. inl (λ dead. alone dead.0, refl) }
+
+-- ---- the loop through stack slots
+
+-- the stack slots below n are left as they are or forgotten, and the rest is as before
+pub record SlotsLeftBelow (p : Program) (slot n : ℕ) (old new : List StackSlot) : Type 0 where
+  pub all : length new ≡ 64
+  pub below : (j : ℕ) → j < n → IsSlotLeft p slot j (slot_at old j) (slot_at new j)
+  pub above : (k : ℕ) → n ≤ k → slot_at new k ≡ slot_at old k
+
+pub slots_left_none : (p : Program) (slot : ℕ) (old : List StackSlot) → length old ≡ 64
+    → SlotsLeftBelow p slot 0 old old
+slots_left_none p slot old all =
+    record { all = all; below = λ j low. absurd (omega arith); above = λ k high. refl }
+
+-- the next stack slot is live
+pub slots_left_live : (p : Program) (slot n : ℕ) (old new : List StackSlot) → IsSlotLive p n slot
+    → SlotsLeftBelow p slot n old new
+    → SlotsLeftBelow p slot (n + 1) old new
+slots_left_live p slot n old new live m = record {
+  all = m.all;
+  below = λ j low. elim (cases_eq j n) [
+    | inl e ↦ inl (subst (λ (k : ℕ). IsSlotLive p k slot) (sym e) live, m.above j (omega arith))
+    | inr apart ↦ m.below j (omega arith)
+  ];
+  above = λ k high. m.above k (omega arith);
+}
+
+-- the next stack slot is dead
+pub slots_left_dead : (p : Program) (slot n : ℕ) (old new : List StackSlot) → n < 64
+    → (IsSlotLive p n slot → ⊥)
+    → SlotsLeftBelow p slot n old new → SlotsLeftBelow p slot (n + 1) old (set new n (Written 0))
+slots_left_dead p slot n old new within dead m =
+    let inside : n < length new = let all = m.all in omega arith in record {
+      all = length-set new n (Written 0) ∙ m.all;
+      below = λ j low. elim (cases_eq j n) [
+        | inl e ↦
+            let gone : slot_at (set new n (Written 0)) j ≡ Written 0 =
+            ap (slot_at (set new n (Written 0))) e
+            ∙ get_or-set_same new n (Written 0) (Written 0) inside in
+            inr (λ live. dead (subst (λ (k : ℕ). IsSlotLive p k slot) e live), gone)
+        | inr apart ↦
+            subst (IsSlotLeft p slot j (slot_at old j))
+            (sym (get_or-set_other new n j (Written 0) (Written 0) apart))
+            (m.below j (omega arith))
+      ];
+      above =
+          λ k high. get_or-set_other new n k (Written 0) (Written 0) (λ e. absurd (omega arith))
+          ∙ m.above k (omega arith);
+    }
+
+pub AreSlotsLeft-below : (p : Program) (slot n : ℕ) (old new : List StackSlot) → 64 ≤ n
+    → SlotsLeftBelow p slot n old new → AreSlotsLeft p slot old new
+AreSlotsLeft-below p slot n old new every m =
+    record { all = m.all; each = λ j below. m.below j (omega arith) }
+
+-- all of them are live
+pub slots_left_full : (p : Program) (slot : ℕ) (old : List StackSlot) → length old ≡ 64
+    → ((j : ℕ) → j < 64 → IsSlotLive p j slot) → AreSlotsLeft p slot old old
+slots_left_full p slot old all live =
+    record { all = all; each = λ j below. inl (live j below, refl) }
+
+-- and none of them
+pub slots_left_empty : (p : Program) (slot : ℕ) (old : List StackSlot)
+    → ((j : ℕ) → IsSlotLive p j slot → ⊥)
+    → AreSlotsLeft p slot old (replicate frame_slots (Written 0))
+slots_left_empty p slot old dead = record {
+  all = length-replicate frame_slots (Written 0);
+  each = λ j below. inr (dead j, get_or-replicate frame_slots j (Written 0) (Written 0) below);
+}
+
+-- away from joins nothing is forgotten
+pub slots_kept_alone : (p : Program) (slot : ℕ) (old : List StackSlot) → length old ≡ 64
+    → (IsJoin p slot → ⊥) → AreSlotsKept p slot old old
+slots_kept_alone p slot old all alone =
+    record { all = all; each = λ j below. inl (λ dead. alone dead.0, refl) }
+
+-- at a join the dead stack slots are
+pub AreSlotsKept-left : (p : Program) (slot : ℕ) (old new : List StackSlot) → IsJoin p slot
+    → AreSlotsLeft p slot old new → AreSlotsKept p slot old new
+AreSlotsKept-left p slot old new join left = record {
+  all = left.all;
+  each = λ j below. elim (left.each j below) [
+    | inl same ↦ inl (λ dead. dead.1 same.0, same.1)
+    | inr gone ↦ inr ((join, gone.0), gone.1)
+  ];
+}
+
+-- ---- callers
+
+-- all callers as they are
+callers_kept_all : (p : Program) (a : State) → AreCallersKept p a a
+callers_kept_all p a =
+    record {
+      as_many = refl;
+      each = λ k below. record { rest = refl; slots = λ j inside. inl refl };
+    }
+
+pub callers_none : (p : Program) (a : State) → CallersForgotten p a a
+callers_none p a = record { rest = refl; callers = callers_kept_all p a }
+
+-- the last one with other stack slots, which are left as they are or forgotten
+pub caller_left : (p : Program) (a b : State) (n : ℕ) (f g : AbstractFrame)
+    → n + 1 ≡ length a.callers.items → f ≡ abstract_frame_at a n
+    → b ≡ record a { callers = record { items = set a.callers.items n g } }
+    → g ≡ record f { stack = record { slots = g.stack.slots } }
+    → AreSlotsLeft p a.innermost.return_slot f.stack.slots g.stack.slots → CallersForgotten p a b
+caller_left p a b n f g last there is rest left = record {
+  rest = is ∙ ap (λ (x : State). record a { callers = x.callers }) (sym is);
+  callers = record {
+    as_many = ap (λ (x : State). length x.callers.items) is ∙ length-set a.callers.items n g;
+    each = λ k below.
+        let long : length b.callers.items ≡ length a.callers.items =
+        ap (λ (x : State). length x.callers.items) is ∙ length-set a.callers.items n g in
+        let now : abstract_frame_at b k ≡ get_or (set a.callers.items n g) k no_frame =
+        abstract_frame_at-caller b k (omega (arith, below, long))
+        ∙ ap (λ (x : State). get_or x.callers.items k no_frame) is in
+        elim (cases_eq k n) [
+          | inl e ↦
+              let own : abstract_frame_at b k ≡ g =
+              now ∙ ap (λ (i : ℕ). get_or (set a.callers.items n g) i no_frame) e
+              ∙ get_or-set_same a.callers.items n g no_frame (omega (arith, last)) in
+              let before : f ≡ abstract_frame_at a k = there ∙ ap (abstract_frame_at a) (sym e) in
+              let after : abstract_frame_at a (k + 1) ≡ a.innermost =
+              ap (abstract_frame_at a) (ap (λ (i : ℕ). i + 1) e ∙ last)
+              ∙ abstract_frame_at-innermost a in
+              let kept : IsCallerKept p a.innermost.return_slot f g = record {
+                rest = rest;
+                slots = λ j inside. elim (left.each j inside) [
+                  | inl same ↦ inl same.1
+                  | inr gone ↦ inr gone
+                ];
+              } in
+              subst (λ (x : AbstractFrame).
+              IsCallerKept p (abstract_frame_at a (k + 1)).return_slot
+              (abstract_frame_at a k) x) (sym own)
+              (subst (λ (x : AbstractFrame). IsCallerKept p x.return_slot (abstract_frame_at a k) g)
+              (sym after)
+              (subst (λ (x : AbstractFrame). IsCallerKept p a.innermost.return_slot x g) before
+              kept))
+          | inr apart ↦
+              let same : abstract_frame_at b k ≡ abstract_frame_at a k =
+              now ∙ get_or-set_other a.callers.items n k g no_frame apart
+              ∙ sym (abstract_frame_at-caller a k (omega arith)) in
+              subst (λ (x : AbstractFrame).
+              IsCallerKept p (abstract_frame_at a (k + 1)).return_slot
+              (abstract_frame_at a k) x) (sym same)
+              (record { rest = refl; slots = λ j inside. inl refl })
+        ];
+  };
+}
+
+-- what is forgotten of callers first, and of the innermost frame then
+pub Forgets-both : (p : Program) (a m b : State) (ks : List Kind) (slots : List StackSlot)
+    → CallersForgotten p a m → b ≡ record m
+    { innermost = record m.innermost { registers = ks; stack = record { slots = slots } } }
+    → AreKept p m.slot m.innermost.registers ks
+    → AreSlotsKept p m.slot m.innermost.stack.slots slots → Forgets p a b
+Forgets-both p a m b ks slots callers is registers own =
+    let whole : State = record a {
+      callers = m.callers;
+      innermost = record a.innermost { registers = ks; stack = record { slots = slots } };
+    } in
+    let same : b ≡ whole =
+    is ∙ ap (λ (x : State).
+    record x
+    { innermost = record x.innermost { registers = ks; stack = record { slots = slots } } })
+    callers.rest in
+    let forgets : Forgets p a whole = record {
+      rest = refl;
+      callers = record {
+        as_many = callers.callers.as_many;
+        each = λ k below.
+            let there : abstract_frame_at whole k ≡ abstract_frame_at m k =
+            abstract_frame_at-caller whole k (omega (arith, below, callers.callers.as_many))
+            ∙ sym (abstract_frame_at-caller m k (omega (arith, below, callers.callers.as_many))) in
+            subst (λ (x : AbstractFrame).
+            IsCallerKept p (abstract_frame_at a (k + 1)).return_slot
+            (abstract_frame_at a k) x) (sym there)
+            (callers.callers.each k below);
+      };
+      registers =
+          subst (λ (x : State). AreKept p x.slot x.innermost.registers ks) callers.rest registers;
+      slots =
+          subst (λ (x : State). AreSlotsKept p x.slot x.innermost.stack.slots slots) callers.rest
+          own;
+    } in
+    subst (Forgets p a) (sym same) forgets
