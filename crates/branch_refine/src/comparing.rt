@@ -10,7 +10,7 @@ use reg_state::Kind;
 use stack_state::State;
 
 /// What a condition compares.
-#[derive(Clone, Copy, PartialEq, Eq, Debug)]
+#[derive(Clone, Copy, PartialEq, Eq)]
 pub enum Compared {
     /// Two numbers.
     Numbers,

@@ -10,7 +10,7 @@ use stack_state::{Fact, State};
 
 /// What a conditional jump shows of a state on one of its two edges: where its test is true, or
 /// where it is false.
-#[derive(Clone, Copy, PartialEq, Eq, Debug)]
+#[derive(Clone, Copy)]
 pub enum BranchOutcome {
     /// No member takes this edge.
     Never,

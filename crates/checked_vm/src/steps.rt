@@ -16,7 +16,7 @@ use crate::core_state::Core;
 use isa_model::{Insn, MAX_CALL_FRAMES, Reg, Region, TrapReason, Value, Version, destination};
 
 /// The result of a step.
-#[derive(Clone, Copy, PartialEq, Eq, Debug)]
+#[derive(Clone, Copy)]
 pub enum Stepped {
     Went,
     /// The last exit, with r0.

@@ -8,7 +8,7 @@ use crate::masks::RegisterMask;
 use crate::slot_masks::SlotMask;
 
 /// A set of registers and of stack slots.
-#[derive(Clone, Copy, PartialEq, Eq, Debug)]
+#[derive(Clone, Copy, PartialEq, Eq)]
 pub struct HomeMask {
     pub registers: RegisterMask,
     pub slots: SlotMask,

@@ -6,7 +6,7 @@ ghost use Rattle.isa_model.specs.declared.registers.Reg.{Reg as TheReg};
 use isa_model::Reg;
 
 /// A set of registers, r0 in the lowest bit.
-#[derive(Clone, Copy, PartialEq, Eq, Debug)]
+#[derive(Clone, Copy, PartialEq, Eq)]
 pub struct RegisterMask {
     bits: u16,
 }

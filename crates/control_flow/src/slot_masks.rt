@@ -4,7 +4,7 @@ ghost use Rattle.std.specs.Prelude.{◌≡◌, ℕ, ◌+◌, ◌*◌, ◌/◌, �
 ghost use Rattle.isa_model.specs.Code.Limits.{frame_size};
 
 /// A set of stack slots of 8 bytes, the one at offset -512 from the frame's end in the lowest bit.
-#[derive(Clone, Copy, PartialEq, Eq, Debug)]
+#[derive(Clone, Copy, PartialEq, Eq)]
 pub struct SlotMask {
     bits: u64,
 }

@@ -13,7 +13,7 @@ use std::io;
 use std::io::Write;
 
 /// A writer returned an error, or took none of the bytes. The error itself is not kept.
-#[derive(Clone, Copy, PartialEq, Eq, Debug)]
+#[derive(Clone, Copy)]
 pub struct Unwritten;
 
 /// Writes all the bytes. Nothing is tried again after a failure.

@@ -18,7 +18,7 @@ pub struct Request<'a> {
 }
 
 /// What a helper answers.
-#[derive(Clone, Copy, PartialEq, Eq, Debug)]
+#[derive(Clone, Copy)]
 pub enum Answer {
     Number(u64),
     /// The key that was looked up has its value at this place of the map.

@@ -4,7 +4,7 @@ ghost use Rattle.std.specs.Prelude.{◌<◌, ◌^◌};
 use isa_model::Clock;
 
 /// A clock whose every answer is the same time, in nanoseconds.
-#[derive(Clone, Copy, PartialEq, Eq, Debug)]
+#[derive(Clone, Copy)]
 pub struct FrameClock {
     pub time: u64,
     ghost fits_64_bits: { time < 2 ^ 64 },

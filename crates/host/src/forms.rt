@@ -3,7 +3,7 @@
 use isa_model::Version;
 
 /// The most steps of a run, and the versions of the program and of the stream.
-#[derive(Clone, Copy, PartialEq, Eq, Debug)]
+#[derive(Clone, Copy)]
 pub struct ReportForm {
     pub limit: u32,
     pub program: Version,

@@ -9,7 +9,7 @@ use isa_model::{Operand, Place, Reg};
 
 /// A slot's fields, the opcode aside, once both registers are known. `offset` and `imm` are
 /// unsigned.
-#[derive(Clone, Copy, PartialEq, Eq, Debug)]
+#[derive(Clone, Copy)]
 pub struct Fields {
     pub dst: Reg,
     pub src: Reg,

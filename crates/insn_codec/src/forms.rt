@@ -6,7 +6,7 @@ ghost use Rattle.insn_codec.specs.Forms.{alu_code_numbered, has_selector, compar
 use isa_model::{ByteOrder, Comparison, SignedSize, Size, Width};
 
 /// The operations by their codes in an opcode. A selector says whether a division is signed.
-#[derive(Clone, Copy, PartialEq, Eq, Debug)]
+#[derive(Clone, Copy)]
 pub enum AluCode {
     Add,
     Sub,
@@ -23,7 +23,7 @@ pub enum AluCode {
 }
 
 /// A form, with the parts of it that the opcode has.
-#[derive(Clone, Copy, PartialEq, Eq, Debug)]
+#[derive(Clone, Copy)]
 pub enum Form {
     AluConstant(Width, AluCode),
     /// Every operation but MOV.
@@ -46,7 +46,7 @@ pub enum Form {
 }
 
 /// Which fields a form uses, as operands or as selectors.
-#[derive(Clone, Copy, PartialEq, Eq, Debug)]
+#[derive(Clone, Copy)]
 pub struct Uses {
     pub dst: bool,
     pub src: bool,

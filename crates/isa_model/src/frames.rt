@@ -14,7 +14,7 @@ pub struct FrameHead {
 }
 
 /// What is done with a frame. Linux, `enum xdp_action`; `Invalid` is every other result.
-#[derive(Clone, Copy, PartialEq, Eq, Debug)]
+#[derive(Clone, Copy)]
 pub enum Action {
     Aborted,
     Drop,

@@ -7,7 +7,7 @@ ghost use Rattle.isa_model.specs.Code.Helpers.{helper_numbered, arguments_of};
 use crate::registers::Reg;
 
 /// A helper, by its name in `linux/bpf.h`. The arguments are in r1 to r5, the answer is in r0.
-#[derive(Clone, Copy, PartialEq, Eq, Debug)]
+#[derive(Clone, Copy)]
 pub enum Helper {
     /// (map, key): a pointer to the key's value, or 0.
     MapLookupElem,

@@ -11,7 +11,7 @@ use crate::registers::Reg;
 use crate::sizes::{ByteOrder, Extension, SignedSize, Size, SwapWidth, Width};
 
 /// The operations of arithmetic on two numbers.
-#[derive(Clone, Copy, PartialEq, Eq, Debug)]
+#[derive(Clone, Copy, Debug)]
 pub enum AluOp {
     Add,
     Sub,
@@ -30,7 +30,7 @@ pub enum AluOp {
 }
 
 /// The right operand: a constant (K), in which `imm` is sign-extended, or a register (X).
-#[derive(Clone, Copy, PartialEq, Eq, Debug)]
+#[derive(Clone, Copy)]
 pub enum Operand {
     Constant(i32),
     Register(Reg),
@@ -49,7 +49,7 @@ impl Operand {
 }
 
 /// The comparisons of conditional jumps, the destination register on the left.
-#[derive(Clone, Copy, PartialEq, Eq, Debug)]
+#[derive(Clone, Copy, Debug)]
 pub enum Comparison {
     Equal,
     NotEqual,
@@ -66,7 +66,7 @@ pub enum Comparison {
 }
 
 /// The whole test of a conditional jump.
-#[derive(Clone, Copy, PartialEq, Eq, Debug)]
+#[derive(Clone, Copy)]
 pub struct Cond {
     pub width: Width,
     pub comparison: Comparison,
@@ -75,14 +75,14 @@ pub struct Cond {
 }
 
 /// A place in memory: a base register and an offset in bytes.
-#[derive(Clone, Copy, PartialEq, Eq, Debug)]
+#[derive(Clone, Copy)]
 pub struct Place {
     pub base: Reg,
     pub offset: i16,
 }
 
 /// What an atomic instruction does to memory.
-#[derive(Clone, Copy, PartialEq, Eq, Debug)]
+#[derive(Clone, Copy)]
 pub enum AtomicOp {
     Add,
     Or,
@@ -91,7 +91,7 @@ pub enum AtomicOp {
 }
 
 /// An instruction. Distances of jumps count 8-byte slots from the slot after the instruction.
-#[derive(Clone, Copy, PartialEq, Eq, Debug)]
+#[derive(Clone, Copy)]
 pub enum Insn {
     /// destination = destination op source; MOV is the source only.
     Alu(Width, AluOp, Reg, Operand),

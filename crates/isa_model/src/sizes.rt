@@ -4,7 +4,7 @@ ghost use Rattle.std.specs.Prelude.{◌≡◌, ◌≤◌};
 ghost use Rattle.isa_model.specs.Code.Sizes.{size_bytes, width_size, width_bits};
 
 /// The class of an arithmetic instruction or of a jump: 32 bits (ALU, JMP32) or 64 (ALU64, JMP).
-#[derive(Clone, Copy, PartialEq, Eq, Debug)]
+#[derive(Clone, Copy)]
 pub enum Width {
     Low32,
     Full64,
@@ -33,7 +33,7 @@ impl Width {
 }
 
 /// How many bytes a load or store moves: 1, 2, 4 or 8.
-#[derive(Clone, Copy, PartialEq, Eq, Debug)]
+#[derive(Clone, Copy)]
 pub enum Size {
     U8,
     U16,
@@ -57,7 +57,7 @@ impl Size {
 }
 
 /// The sizes that a sign-extending load (MEMSX) has.
-#[derive(Clone, Copy, PartialEq, Eq, Debug)]
+#[derive(Clone, Copy)]
 pub enum SignedSize {
     S8,
     S16,
@@ -65,7 +65,7 @@ pub enum SignedSize {
 }
 
 /// The sign extensions of MOVSX: from the low 8, 16 or 32 bits, to 32 bits (ALU) or to 64 (ALU64).
-#[derive(Clone, Copy, PartialEq, Eq, Debug)]
+#[derive(Clone, Copy)]
 pub enum Extension {
     Low8,
     Low16,
@@ -75,7 +75,7 @@ pub enum Extension {
 }
 
 /// How many of the low bits a byte swap instruction (END) takes.
-#[derive(Clone, Copy, PartialEq, Eq, Debug)]
+#[derive(Clone, Copy)]
 pub enum SwapWidth {
     B16,
     B32,
@@ -85,7 +85,7 @@ pub enum SwapWidth {
 /// What a byte swap instruction does with the low bytes: `le` keeps their order, `be` and `bswap`
 /// reverse it. On a little-endian machine `be` and `bswap` give the same number; they are spelled
 /// apart.
-#[derive(Clone, Copy, PartialEq, Eq, Debug)]
+#[derive(Clone, Copy)]
 pub enum ByteOrder {
     Little,
     Big,

@@ -2,7 +2,7 @@
 
 /// The fields of a slot, as its bytes have them: `offset` and `imm` are the unsigned numbers of
 /// their two's complement.
-#[derive(Clone, Copy, PartialEq, Eq, Debug)]
+#[derive(Clone, Copy)]
 pub struct Slot {
     pub opcode: u8,
     /// `dst_reg`, the low four bits of the register byte.

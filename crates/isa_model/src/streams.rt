@@ -67,7 +67,7 @@ impl Error for Fault {}
 
 /// How a stream ends: at its end, or by a fault in the record that begins at an offset in bytes (0
 /// while the magic is read).
-#[derive(Clone, Copy, PartialEq, Eq, Debug)]
+#[derive(Clone, Copy)]
 pub enum Finish {
     End,
     Fault(Fault, u64),

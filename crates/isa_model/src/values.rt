@@ -4,7 +4,7 @@ use crate::limits::FRAME_SIZE;
 
 /// What a pointer points into. The serials of call frames and of map values are never used again,
 /// so a pointer to one that has ended is dead for ever.
-#[derive(Clone, Copy, PartialEq, Eq, Debug)]
+#[derive(Clone, Copy)]
 pub enum Region {
     /// The context, `struct xdp_md`.
     Context,
@@ -21,7 +21,7 @@ pub enum Region {
 }
 
 /// What a register holds.
-#[derive(Clone, Copy, PartialEq, Eq, Debug)]
+#[derive(Clone, Copy)]
 pub enum Value {
     Unset,
     Num(u64),
@@ -30,7 +30,7 @@ pub enum Value {
 }
 
 /// What a byte of a call frame holds. A pointer lies there as its eight pieces, 0 to 7.
-#[derive(Clone, Copy, PartialEq, Eq, Debug)]
+#[derive(Clone, Copy)]
 pub enum Cell {
     Unwritten,
     Byte(u8),

@@ -8,7 +8,7 @@ use crate::limits::{MAX_PACKET, MAX_SHORT_PACKET};
 
 /// The version of an image or of a frame stream, which its magic says: `XBP1` and `XPF1`, or `XBP2`
 /// and `XPF2`.
-#[derive(Clone, Copy, PartialEq, Eq, Debug)]
+#[derive(Clone, Copy, PartialEq, Eq)]
 pub enum Version {
     One,
     Two,

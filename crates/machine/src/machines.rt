@@ -21,7 +21,7 @@ use word_machine::memory::Memory;
 use word_machine::run::run;
 
 /// How a run ended: the number in r0, and how many steps it took.
-#[derive(Clone, Copy, PartialEq, Eq, Debug)]
+#[derive(Clone, Copy)]
 pub struct Exit {
     pub r0: u64,
     pub steps: u32,

@@ -18,7 +18,7 @@ use table_entries::{EntryHead, Growing, NamedEntries, Table};
 use transfer::{Ways, step_in_place};
 
 /// An entry whose state is in one of two rooms, by its index: it is not read again.
-#[derive(Clone, Copy, PartialEq, Eq, Debug, Drop)]
+#[derive(Clone, Copy, Drop)]
 pub enum Known {
     None,
     First(usize, EntryHead),

@@ -10,7 +10,7 @@ use table_entries::TableRefusal;
 use transfer::Refusal;
 
 /// Why a table is refused; entries by their index.
-#[derive(Clone, Copy, PartialEq, Eq, Debug, Drop)]
+#[derive(Clone, Copy, Debug, Drop)]
 pub enum TableError {
     /// The program's control flow is not good, with the slot: G1 to G6.
     Flow(FlowError, usize),

@@ -10,7 +10,7 @@ use crate::states::{AbstractFrame, State};
 use reg_state::{Kind, Scalar};
 
 /// What a test shows of an identity, or what an exit leaves of the frame that ends.
-#[derive(Clone, Copy, PartialEq, Eq, Debug)]
+#[derive(Clone, Copy)]
 pub enum Fact {
     /// `bytes` bytes after its variable part are in the packet.
     Proved {

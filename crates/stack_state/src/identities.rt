@@ -11,7 +11,7 @@ use crate::states::{AbstractFrame, State};
 use reg_state::Kind;
 
 /// The sorts of identities.
-#[derive(Clone, Copy, PartialEq, Eq, Debug)]
+#[derive(Clone, Copy)]
 pub enum IdentitySort {
     /// Those of packet pointers.
     Packets,

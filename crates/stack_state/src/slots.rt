@@ -9,7 +9,7 @@ use isa_model::{Size, Width};
 use reg_state::{Domain, Kind, Scalar};
 
 /// What is known of eight bytes of a call frame.
-#[derive(Clone, Copy, PartialEq, Eq, Debug)]
+#[derive(Clone, Copy, PartialEq, Eq)]
 pub enum StackSlot {
     /// Bit i says that byte i is a written number byte. Nothing is known of the other bytes.
     Written(u8),

@@ -18,7 +18,7 @@ pub const FRAME_SLOTS: usize = FRAME_SIZE / 8;
 
 /// What is known of the bytes of a call frame: slot 0 is its first, the farthest from the frame's
 /// end.
-#[derive(Clone, Copy, PartialEq, Eq, Debug, Drop)]
+#[derive(Clone, Copy, Drop)]
 pub struct StackState {
     pub slots: [StackSlot; FRAME_SLOTS],
 }

@@ -14,7 +14,7 @@ use reg_state::Kind;
 pub const MAX_CALLERS: usize = MAX_CALL_FRAMES - 1;
 
 /// What is known of a call frame.
-#[derive(Clone, Copy, PartialEq, Eq, Debug, Default, Drop)]
+#[derive(Clone, Copy, Default, Drop)]
 pub struct AbstractFrame {
     /// The slot of the code to which its exit leads; 0 in the first frame.
     pub return_slot: usize,

@@ -15,7 +15,7 @@ use isa_model::{MAX_CALL_FRAMES, MAX_STEPS};
 use stack_state::State;
 
 /// The entries that an entry names, the fall-through first.
-#[derive(Clone, Copy, PartialEq, Eq, Debug, Drop)]
+#[derive(Clone, Copy, Drop)]
 pub enum NamedEntries {
     None,
     One(u32),
@@ -23,7 +23,7 @@ pub enum NamedEntries {
 }
 
 /// What an entry says besides its state.
-#[derive(Clone, Copy, PartialEq, Eq, Debug, Drop)]
+#[derive(Clone, Copy, Drop)]
 pub struct EntryHead {
     /// How many steps a run makes at most from the state on.
     pub number: u32,

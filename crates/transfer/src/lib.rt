@@ -31,7 +31,7 @@ pub use refusals::Refusal;
 use stack_state::State;
 
 /// How many successors an instruction has.
-#[derive(Clone, Copy, PartialEq, Eq, Debug, Drop)]
+#[derive(Clone, Copy, Drop)]
 pub enum Ways {
     /// It exits, or no member goes on.
     None,
