@@ -201,7 +201,7 @@ def of_read(words, found, good):
     *lines, last = found.out.splitlines()
     of_frames = [line for line in lines if not line.startswith(b"map ")]
     made = found.made or b""
-    # if the magic of the frames was not read, the frames out are of the first form
+    # if the magic of the frames was not read, the frames out are XPF1
     begun = (good.made or b"").startswith(made) or (last == b"fault F5 at 0" and made == b"XPF1")
     begun = begun and good.out.splitlines()[:len(of_frames)] == of_frames
     whole = lines[len(of_frames):] == map_lines(words, len(of_frames))

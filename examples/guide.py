@@ -25,7 +25,7 @@ is what `prove` writes for NAME.image, and each NAME.report is what `run` prints
 pipe and into a file. The last rows read crates.txt, the crates and the pages: what `run` and
 `recheck` depend on, that the clauses which pages name exist, that each crate has its row, and that
 each link leads somewhere. Each NAME.frames is what frames.py makes from NAME.pcapng, if there is
-one; frame streams of both forms become texts and captures, and those the same streams again. Each
+one; frame streams of XPF1 and XPF2 become texts and captures, and those the same streams again. Each
 filter of examples/filters is answered as it says (filters.py). The exit status is 0 if every result
 is the one wanted, else 1.
 """

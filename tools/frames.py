@@ -10,10 +10,10 @@ show which. OUT gets the format that its name ends in, or the KIND that is given
 becomes a frame stream. `-` is standard input or standard output. Files are read and written frame
 by frame, so a capture may be of any size, or not yet at its end.
 
-A frame stream is of the first form, XPF1, with frames of up to 4,096 bytes. With --reasons it is of the second one,
-XPF2, with frames of up to 9,216 bytes and a reason for each: why it was dropped, or 0. Longer frames are left out of
-the first form, so that later ones have a smaller number than in the capture; in the second form an empty frame with the
-reason 4294967295 takes the place of each, so that numbers stay. A message says both. A pcapng has a
+A frame stream is XPF1, with frames of up to 4,096 bytes. With --reasons it is XPF2, with frames of up to 9,216 bytes
+and a reason for each: why it was dropped, or 0. Longer frames are left out of XPF1, so that later ones have a smaller
+number than in the capture; in XPF2 an empty frame with the reason 4294967295 takes the place of each, so that numbers
+stay. A message says both. A pcapng has a
 reason as a comment of its packet, `reason 7`, in and out.
 
 A capture that ends in the middle of a frame, for example because it is still being written, leads
@@ -467,7 +467,7 @@ def main():
     parser.add_argument("--to", choices=["pcap", "pcapng", "frames", "txt"], help="what OUT is to be, whatever its name")
     parser.add_argument("--interface", type=number, help="of all frames")
     parser.add_argument("--queue", type=number, help="of all frames")
-    parser.add_argument("--reasons", action="store_true", help="a frame stream of the second form")
+    parser.add_argument("--reasons", action="store_true", help="a frame stream of XPF2, with reasons")
     parser.add_argument("--strict", action="store_true", help="status 1 where IN ends in the middle of a frame")
     parser.add_argument("files", nargs="+", metavar="FILE")
     words = parser.parse_args()

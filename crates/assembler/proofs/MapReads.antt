@@ -1,4 +1,5 @@
--- Canonical lines of map rows and of loads of maps are read back, and with them each line is.
+-- Canonical lines of map rows and of loads of maps are read back. With these, the line of every
+-- instruction is.
 use Rattle.std.proofs.Common.{◌≡◌, ℕ, ◌<◌, ◌≤◌, ◌^◌, List, [], ◌∷◌, ◌++◌, refl, ap, ◌∙◌, arith, lit<, le-leb, Bool, true, false, nat_le, Result, Ok}
 use Rattle.std.specs.Prelude.{codes, decimal, Some}
 use Rattle.isa_model.specs.declared.registers.Reg.{Reg}

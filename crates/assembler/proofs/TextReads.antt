@@ -1,4 +1,4 @@
--- The canonical text of an image is read as its instructions.
+-- The canonical text of an image is read back: it spells that image.
 use Rattle.std.proofs.lemmas.List.Sums.{sum_by-append, sum_by-cons}
 use Rattle.std.proofs.lemmas.List.Elements.{All-nil, All-cons, All-head, All-tail}
 use Rattle.std.proofs.Common.{◌≡◌, ℕ, suc, ◌+◌, ◌≤◌, ◌==◌, nat_lt, nat_le, lt-ltb, le-leb, sum_by, All, Bool, true, false, not, if◌then◌else◌, is_none, List, [], ◌∷◌, ◌++◌, length, Option, Some, None, Result, Ok, Err, refl, sym, ap, ◌∙◌, arith, append_assoc, append-nil, length-append, le-ltb, ne_eqb}
@@ -43,12 +43,12 @@ row-taken before rows row h few room =
     ≡ sum_by room_of before
     + (room_of row + sum_by room_of rows) = sum_by-append room_of before (row ∷ rows)
     ∙ ap (λ n. sum_by room_of before + n) (sum_by-cons room_of row rows) in
-    let place : nat_lt (length before) max_maps ≡ true =
+    let another : nat_lt (length before) max_maps ≡ true =
     lt-ltb (length before) max_maps (omega (arith, long, few)) in
     let fits : row_fits row ≡ true = row_fits-IsRow row h in
     let spare : nat_le (sum_by room_of before + room_of row) max_map_room ≡ true =
     le-leb (sum_by room_of before + room_of row) max_map_room (omega (arith, sum, room)) in
-    rw (place, fits, spare) refl
+    rw (another, fits, spare) refl
 
 rows-read : (v : Version) (rows before : List MapDef) (rest : List ℕ) → All IsRow rows
     → length (before ++ rows) ≤ max_maps → sum_by room_of (before ++ rows) ≤ max_map_room

@@ -246,7 +246,7 @@ pub fn fits_form(tokens: &[Token]) -> bool
         || statement_of(tokens).is_ok()
 }
 
-/// What the tokens of a statement spell, which follow the `label` tokens of its label.
+/// What the tokens of a statement spell that follow its label, which has `label` tokens.
 pub fn spelled_behind(label: usize, tokens: &[Token]) -> Result<Statement, Wrong>
     ensures { result ≡ spelled_behind label tokens.now }
 {

@@ -127,7 +127,7 @@ pub record Refines (cond : Cond) (taken : Bool) (a : State) (some : Bool) (b : S
 
 -- ---- branches
 
--- the same, of the answer of `refine`
+-- the same, of the result of `refine`
 abbrev pub IsRefined : Cond → Bool → State → Branch → Type 0
 IsRefined cond taken a Never = Refines cond taken a false a
 IsRefined cond taken a (Goes b) = Refines cond taken a true b

@@ -3,9 +3,9 @@
 //!
 //! `checked` is the machine that callers see. Under it are whole runs (`runs`), single steps with
 //! the tests before them (`steps`), one function for each form of instruction (`forms`), what these
-//! do to memory (`memory`), and the machine's registers and call frames (`core_state`). `values`,
-//! `comparisons`, `cells` and `places` compute on values only. Each function returns what the
-//! definition of its name in `isa_model` says.
+//! read and write in memory (`reads`, `memory`), and the machine's registers and call frames
+//! (`core_state`). `values`, `comparisons`, `cells` and `places` compute without a machine. Each
+//! function returns what the definition of its name in `isa_model` says.
 #![tactic(auto)]
 
 mod cells;

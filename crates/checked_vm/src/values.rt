@@ -68,7 +68,7 @@ fn number_and_pointer(
     }
 }
 
-/// The low bits of a number.
+/// The low half of a number, or all of it, by the width.
 pub fn low(width: Width, n: u64) -> u64
     ensures { result ≡ low width n }
 {

@@ -60,8 +60,8 @@ abbrev pub OpensNone : RunFiles → Option (List ℕ) → Option (List ℕ) → 
 OpensNone files old new result =
     ReadsNone files.frames old new result ⊎ MakesNone files.out old new result
 
--- a program is traced on some source, whose first bytes have some form; the frames out are written
--- to the file at the path
+-- a program is traced on some source, whose first bytes have some file form; the frames out are
+-- written to the file at the path
 pub record TracesSome (p : Program) (limit : ℕ) (out : List ℕ) (old new : Option (List ℕ))
     (result : Ending) : Type 0 where
   pub source : Option (List ℕ)

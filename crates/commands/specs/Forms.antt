@@ -35,7 +35,7 @@ file_form_by front =
 unfoldable pub file_form_of : List ℕ → FileForm
 file_form_of bs = file_form_by (front_of bs)
 
--- the form of these bytes, or unknown
+-- the file form of these bytes, or unknown
 abbrev pub IsFileFormOf : List ℕ → FileForm → Type 0
 IsFileFormOf bytes form = (form ≡ Unknown) ⊎ (form ≡ file_form_of bytes)
 

@@ -23,13 +23,13 @@ use Rattle.commands.specs.declared.outcomes.TaskOutcome.TheVariants.{Done, Fault
 use Rattle.commands.specs.Statuses.{IsOutputFailure, IsWriteFailureBy}
 use Rattle.commands.specs.Stopped.{TellsStopsOf, at_end}
 
--- how a task ends after a stream of this form that came to its end, or had a fault
+-- how a task ends after a stream of this file form that came to its end, or had a fault
 abbrev pub outcome_at : FileForm → Option (Fault × ℕ) → TaskOutcome
 outcome_at form None = Done
 outcome_at form (Some (fault, at)) = Faulted fault form
 
--- how a task ends, from the result on a stream of this form; the frames out are written to the file
--- with this name, and `cause` is why that failed, if it did
+-- how a task ends, from the result on a stream of this file form; the frames out are written to the
+-- file with this name, and `cause` is why that failed, if it did
 abbrev pub EndsBy : List ℕ → Option ErrorKind → FileForm → Result Tally HostError → TaskOutcome
     → Type 0
 EndsBy name cause form (Ok tally) result = result ≡ outcome_at form tally.fault

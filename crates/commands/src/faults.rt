@@ -35,8 +35,8 @@ fn fault_rest(fault: Fault) -> &'static str
     }
 }
 
-/// Says why a frame stream whose first bytes have this form ended early, and in the next line a
-/// hint.
+/// Says why a frame stream whose first bytes have this file form ended early, and in the next line
+/// a hint.
 pub fn say_fault<W: Write>(err: &mut W, fault: Fault, form: FileForm) -> io::Result<()>
     ensures ok { OnOk result
         (Appends (W.contents err.old) (W.contents err.new) (fault_lines fault form)) }

@@ -32,7 +32,7 @@ pub enum TaskOutcome<'a> {
     WrongWords(&'a str),
     /// The image, the program, the table or the text was refused, as standard output says.
     Refused(Rejection),
-    /// The report ended in this fault; the stream's first bytes have this form.
+    /// The report ended in this fault; the stream's first bytes have this file form.
     Faulted(Fault, FileForm),
     /// The file at the path cannot be read.
     CannotRead(&'a str, ErrorKind),

@@ -25,7 +25,7 @@ use table_entries::TableRefusal;
 /// What is refused, and why.
 #[derive(Clone, Copy)]
 pub enum Rejection {
-    /// The bytes are not an image; their form is what they look like.
+    /// The bytes are not an image; their file form is what they look like.
     Image(ImageError, FileForm),
     /// The program is not accepted, at a slot. The instruction is the one that begins there.
     Program(Refusal, usize, Option<Insn>),

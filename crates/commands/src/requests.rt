@@ -1,4 +1,4 @@
-//! The function that does each task.
+//! Which function does each task.
 
 ghost use Rattle.std.specs.Prelude.{Some, option_map};
 ghost use Rattle.words.specs.Requests.{Run, files_of, request_of};

@@ -46,9 +46,9 @@ fn outcome_of<'a, W: Write + Drop>(
     }
 }
 
-/// Runs a program on a frame stream of this form, with checks. The report is written to `out` as it
-/// is made, and the frames out through a buffer to a file that was opened by this path. If the
-/// report was completed, `why` says where the first runs stopped that ended without an action.
+/// Runs a program on a frame stream of this file form, with checks. The report is written to `out`
+/// as it is made, and the frames out through a buffer to a file that was opened by this path. If
+/// the report was completed, `why` says where the first runs stopped that ended without an action.
 pub fn trace_stream<'a, R: Read + Drop, W1: Write, W2: Write + Drop>(
     alloc: Global,
     image: Image,
@@ -72,8 +72,8 @@ pub fn trace_stream<'a, R: Read + Drop, W1: Write, W2: Write + Drop>(
     }
 }
 
-/// Runs an accepted program on a frame stream of this form. The report is written to `out` as it is
-/// made, and the frames out through a buffer to a file that was opened by this path.
+/// Runs an accepted program on a frame stream of this file form. The report is written to `out` as
+/// it is made, and the frames out through a buffer to a file that was opened by this path.
 pub fn run_stream<'a, R: Read + Drop, W1: Write, W2: Write + Drop>(
     alloc: Global,
     verified: Verified,

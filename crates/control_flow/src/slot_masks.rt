@@ -53,14 +53,14 @@ impl SlotMask {
         self.bits == u64::MAX
     }
 
-    /// Whether none of eight stack slots is one of them, from a multiple of eight on.
-    pub fn is_empty_in(self, block: u8) -> bool
-        requires { block < 8 }
-        ensures exact { IsTrue result ↔ (bit_and (self.bits / 2 ^ (8 * block)) 255 ≡ 0) }
+    /// Whether none of eight stack slots, those of a byte of the mask, is one of them.
+    pub fn is_empty_in(self, byte: u8) -> bool
+        requires { byte < 8 }
+        ensures exact { IsTrue result ↔ (bit_and (self.bits / 2 ^ (8 * byte)) 255 ≡ 0) }
         ensures none { IsTrue result
-            → (j : ℕ) → 8 * block ≤ j → j < 8 * block + 8 → ¬ HasSlot self j }
+            → (j : ℕ) → 8 * byte ≤ j → j < 8 * byte + 8 → ¬ HasSlot self j }
     {
-        (self.bits >> (8 * block)) & 255 == 0
+        (self.bits >> (8 * byte)) & 255 == 0
     }
 
     /// Whether a stack slot is one of them.

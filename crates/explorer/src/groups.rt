@@ -12,7 +12,7 @@ use std::alloc::{AllocError, Global};
 use std::marker::Model;
 use std::rc::Rc;
 
-/// How many parts of a call frame are not put into groups, if these are all.
+/// A call frame with at most this many parts has them in no groups.
 pub const FEW: usize = 4;
 
 /// How many registers or stack slots a group has at most.
@@ -67,7 +67,7 @@ impl SharedParts {
         Ok(SharedParts { parts })
     }
 
-    /// How many words it takes in a state that has it, as long as no other one shares it.
+    /// How many words it takes in a state that has it: one, where another state shares it.
     pub fn own_words(&self) -> usize {
         match Rc::strong_count(&self.parts) {
             1 => GROUP_WORDS.saturating_add(words_of(self.parts())),
@@ -83,23 +83,23 @@ impl SharedParts {
     }
 }
 
-/// The key of a group: the numbers of its registers or stack slots.
-fn group_key(part: &Part) -> u8 {
+/// Which group a part belongs to: a number that it shares with the parts of its group only.
+fn group_of(part: &Part) -> u8 {
     match part {
         Part::InRegister(place, _) => *place / REGISTERS,
         Part::InSlot(place, _) => 16 + *place / SLOTS % 8,
     }
 }
 
-/// How many of some parts the first group has.
+/// How many of the parts, from the first one on, are of one group.
 fn first_group(parts: &[Part]) -> usize {
     let mut count: usize = 0;
-    let mut key = 0;
+    let mut first = 0;
     for part in parts {
         if count == 0 {
-            key = group_key(part);
+            first = group_of(part);
         }
-        if group_key(part) != key {
+        if group_of(part) != first {
             return count;
         }
         count = count.saturating_add(1);
@@ -107,7 +107,7 @@ fn first_group(parts: &[Part]) -> usize {
     count
 }
 
-/// A group that has these parts, one of the others if there is one.
+/// A group that has these parts: one of the others, where one has just these.
 fn group_with(
     alloc: Global,
     parts: &[Part],
@@ -157,8 +157,8 @@ pub enum KeptParts {
 }
 
 impl KeptParts {
-    /// The parts, some of whose groups may be shared with another state. They are split into groups
-    /// if they are more than that.
+    /// The parts, in groups if they are more than `few`. The groups of another state that have the
+    /// same parts are shared.
     pub fn of(
         alloc: Global,
         parts: &[Part],

@@ -73,8 +73,8 @@ impl Listener for Countdown {
 }
 
 /// Verifies a program as `verify` does, but explores no more instructions than the limit. If the
-/// limit suffices, the answer has each clause of `verify`'s. With a limit of `MAX_EXPLORED` or more
-/// the answer is that of `verify`.
+/// limit suffices, the result has each clause of `verify`'s. With a limit of `MAX_EXPLORED` or more
+/// the result is that of `verify`.
 pub fn verify_within(alloc: Global, image: Image, limit: u32) -> Result<Verified, NoBound>
     ensures program { IfOk result (λ verified. verified.program ≡ image) }
     ensures verified { IfOk result IsVerified }

@@ -50,7 +50,7 @@ fn bound_with<L: Listener>(
 
 /// Verifies a program as `verify` does, and calls a listener during the search. There is no search
 /// if the program is refused for its control flow, or if memory runs out before it. Unless the
-/// listener stops the search, the answer has each clause of `verify`'s.
+/// listener stops the search, the result has each clause of `verify`'s.
 pub fn verify_with<L: Listener>(
     alloc: Global,
     image: Image,

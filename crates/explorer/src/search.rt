@@ -257,9 +257,9 @@ impl Search {
         requires room { self.old.finished + length self.old.path.items ≤ MAX_EXPLORED }
         requires untold { IsToTell flow.now (L.follows listener.old flow.now)
             self.old.path.items self.old.current first }
-        ensures goes { IfOk result (λ turn. IsNext flow.now self.new turn) }
-        ensures told { IfOk result (λ turn. FollowsNext flow.now (L.follows listener.new flow.now)
-            self.new.path.items self.new.current turn) }
+        ensures goes { IfOk result (λ next. IsNext flow.now self.new next) }
+        ensures told { IfOk result (λ next. FollowsNext flow.now (L.follows listener.new flow.now)
+            self.new.path.items self.new.current next) }
         ensures stops { IfErr result (λ h. IfRefused h (StopsAt flow.now)) }
         ensures not_long { IfErr result (λ h. IfRefused h (λ e _. e ≢ Refusal.TooLong)) }
         ensures ends { IfErr result (λ h. IfRefused h
@@ -301,9 +301,9 @@ impl Search {
         requires room { self.old.finished + length self.old.path.items < MAX_EXPLORED }
         requires told { FollowsTo flow.now (L.follows listener.old flow.now)
             self.old.path.items self.old.current }
-        ensures goes { IfOk result (λ turn. IsNext flow.now self.new turn) }
-        ensures told { IfOk result (λ turn. FollowsNext flow.now (L.follows listener.new flow.now)
-            self.new.path.items self.new.current turn) }
+        ensures goes { IfOk result (λ next. IsNext flow.now self.new next) }
+        ensures told { IfOk result (λ next. FollowsNext flow.now (L.follows listener.new flow.now)
+            self.new.path.items self.new.current next) }
         ensures stops { IfErr result (λ h. IfRefused h (StopsAt flow.now)) }
         ensures not_long { IfErr result (λ h. IfRefused h (λ e _. e ≢ Refusal.TooLong)) }
         ensures ends { IfErr result (λ h. IfRefused h
@@ -347,16 +347,16 @@ impl Search {
             Ok(made) => made,
             Err(refused) => return Err(halt(listener, &self.current, refused)),
         };
-        let mut turn = self.settle(alloc, flow, made, listener)?;
+        let mut next_move = self.settle(alloc, flow, made, listener)?;
         for _explored in 0..MAX_EXPLORED {
-            match turn {
+            match next_move {
                 NextMove::Done(number) => return Ok(number),
                 NextMove::Explore(stored) => {
-                    turn = self.advance(alloc, image, flow, stored, room, listener)?;
+                    next_move = self.advance(alloc, image, flow, stored, room, listener)?;
                 }
             }
         }
-        match turn {
+        match next_move {
             NextMove::Done(number) => Ok(number),
             NextMove::Explore(_) => Err(Halt::Refused(Refusal::TooLong, self.current.slot)),
         }

@@ -9,7 +9,7 @@ use std::marker::Model;
 
 /// How many words of 8 bytes the pending states of a path may take, shared ones not counted. A path
 /// that takes more is out of memory, however much the machine has, so that every machine gives the
-/// same answer.
+/// same verdict.
 const MOST_WORDS: u64 = 18_000_000;
 
 /// An instruction on the path, and what is still to be explored after it.

@@ -1,4 +1,4 @@
--- The position of a frame reader, by its fields.
+-- The stages of a frame reader: the position of each, and which comes next.
 use Rattle.std.specs.Prelude.{◌≡◌, ℕ, ◌+◌, ◌*◌, ◌<◌, ◌≤◌}
 use Rattle.isa_model.specs.declared.streams.Finish.TheVariants as finish
 use Rattle.isa_model.specs.declared.versions.Version.{Version}
@@ -17,22 +17,23 @@ position_of stage.Fresh = Fresh
 position_of (stage.At version number offset) = At version number offset
 position_of (stage.Done version stop) = Done version stop
 
--- bytes of the longest record
+-- how many bytes the longest record has
 abbrev pub max_record : ℕ
 max_record = head_size Two + max_packet
 
+-- the offset is no further than the magic and this number of longest records reach
 abbrev pub FitsRecord : Stage → Type 0
 FitsRecord stage.Fresh = Unit {0}
 FitsRecord (stage.At version number offset) = offset ≤ 4 + max_record * number
 FitsRecord (stage.Done version stop) = Unit {0}
 
--- a record that was found has a number below the last, and a body that fits
+-- a record that was found is not beyond the most that a stream may have, and its body fits
 abbrev pub HasRoomForRecord : ℕ → Next → Type 0
 HasRoomForRecord number (next.Frame head n reason) = (number < max_frames) × (n ≤ max_packet)
 HasRoomForRecord number next.End = Unit {0}
 HasRoomForRecord number (next.Fault f offset) = Unit {0}
 
--- the stage after what was found where a record may begin
+-- the stage of a reader that was where a record may begin, after it found this
 abbrev pub IsStageAfter : Version → ℕ → ℕ → Next → Stage → Type 0
 IsStageAfter version number offset (next.Frame head n reason) after =
     after ≡ stage.At version (number + 1) (offset + (head_size version + n))

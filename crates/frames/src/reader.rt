@@ -129,7 +129,7 @@ fn stage_begun<R: Read>(source: &mut R, stage: Stage) -> Stage
     }
 }
 
-// The position after what was found where a record may begin.
+// The stage of a reader that was where a record may begin, after it found this.
 #[inline(always)]
 fn stage_after(version: Version, number: u32, offset: u64, next: &Next) -> Stage
     requires room { HasRoomForRecord number next.now }

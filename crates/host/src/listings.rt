@@ -1,4 +1,4 @@
-//! The lines of maps, written key by key and map by map. It takes no memory.
+//! The report's lines of maps, written map by map and key by key. No memory is taken.
 ghost use Rattle.std.specs.Prelude.{◌≡◌, ◌≢◌, ◌≤◌, [], ◌∷◌, length, map, take};
 ghost use Rattle.isa_model.specs.Code.Limits.{max_key_size, max_value_size};
 ghost use Rattle.isa_model.specs.Reporting.Reports.{ToReport, map_line, maps_pieces};

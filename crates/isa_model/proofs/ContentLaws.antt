@@ -1,5 +1,5 @@
 -- Laws of a map's content with one key put or removed: it still fits its row, and which serials it
--- has.
+-- has. Which answers change it, and that answers have 64 bits.
 use Rattle.std.specs.Prelude.{◌≡◌, ℕ, suc, ◌+◌, ◌^◌, ◌<◌, ◌≤◌, ◌==◌, ◌⊎◌, Bool, true, false, not, ◌&&◌, cond, nat_lt, nat_le, if◌then◌else◌, List, [], ◌∷◌, map, length, filter, is_some, All, Option, Some, None, T, refl}
 use Rattle.std.specs.List.Sorted.{IsStrictlySortedBy}
 use Rattle.std.specs.List.{AllByRecursion}
@@ -107,7 +107,7 @@ keys-with_key key x (e ∷ es) h =
       | Greater ↦ λ h. ap (λ l. e.0 ∷ l) (keys-with_key key x es (omega arith))
     ] h
 
--- a content has room for a key that is there, and a hash map that is not full for any key
+-- a content has room for a key that is there; that of a hash map that is not full, for any key
 abbrev pub HasRoomForKey : MapDef → List ℕ → KeyValues → Type 0
 HasRoomForKey row key es = (has_key key es ≡ true) ⊎ ((row.kind ≡ Hash) × (length es < row.entries))
 

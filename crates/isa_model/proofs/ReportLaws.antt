@@ -1,4 +1,5 @@
--- Laws of reports: where all runs exit in time the checked one is the report, and the only one.
+-- Laws of reports: where all runs exit in time the checked one is the report, and the only one. The
+-- packet frames that are read from a stream can be spelled.
 use Rattle.std.specs.Prelude.{◌≡◌, ℕ, zero, suc, ◌+◌, ◌<◌, ◌≤◌, ◌==◌, List, [], ◌∷◌, ◌++◌, drop, length, if◌then◌else◌, Bool, true, false, All, Option, Some, None, Result, Ok, Err, refl}
 use Rattle.std.proofs.Common.{sym, ap, ◌∙◌, subst, arith}
 use Rattle.std.proofs.lemmas.List.{length-take}

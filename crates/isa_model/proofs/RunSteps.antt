@@ -103,7 +103,7 @@ step_unset p clock t i here unset =
     rw unset (UnsetRead, refl) in
     (traps.0, ap (performed_at p clock t) here ∙ traps.1)
 
--- ---- only exits end a run
+-- ---- a step that finishes is an exit
 
 sets_on : (s : State) (i : Insn) (d : Reg) (r : Result Value TrapReason) (b : ℕ)
     → sets s i d r ≡ Finished b → ⊥

@@ -32,21 +32,21 @@ use Rattle.isa_model.specs.Machine.MachineStates.{AreBytes, IsOffset, IsRegion, 
 
 -- ---- results
 
--- if P holds of an answer, and Q of the result after any such answer, Q holds of both in a row
+-- if P holds of a result, and Q of what comes after any such result, Q holds of both in a row
 pub IfOk-and_then : {A B : Type 0} (P : A → Type 0) (Q : B → Type 0) (r : Result A TrapReason)
     (go : A → Result B TrapReason)
     → IfOk r P → ((a : A) → P a → IfOk (go a) Q) → IfOk (and_then r go) Q
 IfOk-and_then P Q (Ok a) go h k = k a h
 IfOk-and_then P Q (Err e) go h k = tt
 
--- Q holds of two results in a row if it holds of the second one after any answer
+-- Q holds of two results in a row if it holds of the second one after any first one
 pub IfOk-then : {A B : Type 0} (Q : B → Type 0) (r : Result A TrapReason)
     (go : A → Result B TrapReason)
     → ((a : A) → IfOk (go a) Q) → IfOk (and_then r go) Q
 IfOk-then Q (Ok a) go h = h a
 IfOk-then Q (Err e) go h = tt
 
--- a test before an answer
+-- a test before a result
 pub IfOk-if : {A : Type 0} (P : A → Type 0) (b : Bool) (x y : Result A TrapReason)
     → (b ≡ true → IfOk x P) → (b ≡ false → IfOk y P) → IfOk (if b then x else y) P
 IfOk-if P true x y h k = h refl

@@ -4,8 +4,8 @@ ghost use Rattle.std.specs.Prelude.{◌≡◌, ◌<◌, ◌^◌, unwrap_or};
 ghost use Rattle.isa_model.specs.Machine.Steps.{target};
 
 /// The slot at a distance from an instruction at `slot`, in a program of `slots` slots: distances
-/// count from the slot after the instruction. If it is before slot 0 the answer is `slots`, where
-/// no instruction begins.
+/// count from the slot after the instruction. For one before slot 0 `slots` is returned, where no
+/// instruction begins.
 pub fn destination(slot: usize, by: i32, slots: usize) -> usize
     requires { slot < 2 ^ 63 }
     ensures { result ≡ unwrap_or (target slot by) slots }

@@ -1,4 +1,4 @@
-//! Numbers and other runs of bytes.
+//! Numbers, and how long words and lines are.
 
 ghost use Rattle.std.specs.Prelude.{◌≡◌, ◌+◌, ◌<◌, ◌≤◌, ◌^◌, length, slice_index, IfErr};
 ghost use Rattle.std.specs.List.{prefix_len};

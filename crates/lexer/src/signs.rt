@@ -1,4 +1,4 @@
-//! Signs, the longest that fits.
+//! The longest sign that some bytes begin with.
 
 ghost use Rattle.std.specs.Prelude.{◌≡◌, ◌+◌, ◌<◌, Some};
 ghost use Rattle.lexer.specs.declared.tokens.Lexeme.TheVariants as Lexeme;

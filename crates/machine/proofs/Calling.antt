@@ -32,12 +32,12 @@ get_last : {X : Type 0} (xs : List X) (x d : X) → slice_index_or (xs ++ x ∷ 
 get_last [] x d = refl
 get_last (y ∷ xs) x d = get_last xs x d
 
-pub cells_unset : (a : Layout) (bs : List ℕ) (n : ℕ) → length bs ≡ n
+pub cells_unwritten : (a : Layout) (bs : List ℕ) (n : ℕ) → length bs ≡ n
     → RepresentsCells a (replicate n Unwritten) bs
-cells_unset a [] zero e = tt
-cells_unset a [] (suc n) e = absurd (omega arith)
-cells_unset a (b ∷ bs) zero e = absurd (omega arith)
-cells_unset a (b ∷ bs) (suc n) e = (tt, cells_unset a bs n (omega arith))
+cells_unwritten a [] zero e = tt
+cells_unwritten a [] (suc n) e = absurd (omega arith)
+cells_unwritten a (b ∷ bs) zero e = absurd (omega arith)
+cells_unwritten a (b ∷ bs) (suc n) e = (tt, cells_unwritten a bs n (omega arith))
 
 -- a fact about each index: of the eleven registers, and of all others
 pub by_register : (P : ℕ → Type 0) → P 0 → P 1 → P 2 → P 3 → P 4 → P 5 → P 6 → P 7 → P 8 → P 9
@@ -134,7 +134,7 @@ module _ (p : Program) (a : Layout) (s : State) (w : Words) (R : Related p a s w
   abbrev next : ℕ
   next = s.next_serial
 
-  -- the new call frame's serial is at the depth of the call frames before it
+  -- the new call frame's depth is the number of call frames before it
   abbrev b : Layout
   b = with_depth a next n
 
@@ -196,7 +196,7 @@ module _ (p : Program) (a : Layout) (s : State) (w : Words) (R : Related p a s w
         (record {
           depth = put_at-there next n a.depth;
           cells =
-              cells_unset b (bytes_at w.frames (n * frame_size) frame_size) frame_size
+              cells_unwritten b (bytes_at w.frames (n * frame_size) frame_size) frame_size
               (length-bytes_at w.frames (n * frame_size) frame_size (omega arith));
         }))
   ]

@@ -67,7 +67,7 @@ context_not x h = grind (arith, nat_tests)
 
 module _ (p : Program) (a : Layout) (s : State) (w : Words) (R : Related p a s w)
     (K : IsState p s) where
-  -- what a read that finds its cells means for the blocks
+  -- a read that finds its cells is inside the packet or a block, and the bytes there represent them
   abbrev pub OkRead : ℕ → Result (List Cell) TrapReason → ℕ → Type 0
   OkRead n (Ok cs) x =
       IsInside w (spot_of x) n × RepresentsCells a cs (get w (spot_of x) n) × (8589934592 ≤ x)

@@ -1,4 +1,4 @@
--- A step of a state is a move of the words.
+-- Where a machine state makes a step, words that represent it make a move.
 use Rattle.std.proofs.Common.{◌≡◌, ℕ, ◌+◌, ◌<◌, List, length, refl, sym, ap, subst, ◌∙◌, arith, add-zero, ℤ, Ok, Err, Result, Bool, true, false, Option, Some, None}
 use Rattle.std.proofs.lemmas.Bool.Decides.{nat_tests}
 use Rattle.std.specs.Prelude.{if◌then◌else◌, ◌==◌, IfOk}
@@ -64,7 +64,7 @@ on_number_shown a f (Ptr r z) x h = tt
 
 module _ (p : Program) (clock : ℕ → ℕ) (a : Layout) (s : State) (w : Words) (R : Related p a s w)
     (K : IsState p s) where
-  -- what a step means for the words
+  -- what holds of the words where a step of an instruction has this result
   abbrev pub OkMove : Insn → StepResult → Type 0
   OkMove i (Next t) = AccessesFit w i × Going w i
       × ((v : Words) → WordStep p clock w i v → (b : Layout) × Related p b t v)
@@ -376,9 +376,8 @@ module _ (p : Program) (clock : ℕ → ℕ) (a : Layout) (s : State) (w : Words
       same : j ≡ i
       same = cc
 
-  -- in a related state a step goes on only where the move's needs are met, and then each of its
-  -- moves is related to the next state; it finishes only at the first call frame's exit, and r0's
-  -- word is the number
+  -- where a step goes on, the words can move, and each move leads to words that represent the next
+  -- state; where it finishes, it is the first call frame's exit, and r0's word is the answer
   pub moves : (i : Insn) → fetch p s.slot ≡ Some i → IsProgram p → OkMove i (step p clock s)
   unfolding step
   moves i e h = performs (fetch p s.slot) i e (h.fits s.slot i e) (h.named s.slot i e)

@@ -21,7 +21,7 @@ use Rattle.maps.proofs.MapLaws.{length-rows_of}
 use Rattle.maps.specs.Maps.{MapState, IsMap, map_at, rows_of, content_in, contents_of}
 use Rattle.maps.proofs.ReportOrderLaws.{get_at}
 use Rattle.machine.specs.Related.{Layout, Represents, RepresentsFrame, by_place, Related}
-use Rattle.machine.proofs.Calling.{by_register, cells_unset}
+use Rattle.machine.proofs.Calling.{by_register, cells_unwritten}
 use Rattle.machine.specs.Starting.{start_of, start_words}
 use Rattle.word_machine.specs.Addresses.{frames_size}
 
@@ -135,7 +135,7 @@ start_related p head packet frames maps few short whole are rows = record {
     frame zero h =
         record {
           depth = refl;
-          cells = cells_unset (start_layout packet maps)
+          cells = cells_unwritten (start_layout packet maps)
               (bytes_at frames 0 frame_size) frame_size
               (length-bytes_at frames 0 frame_size (omega arith));
         }

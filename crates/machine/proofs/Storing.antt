@@ -192,7 +192,8 @@ module _ (p : Program) (a : Layout) (s : State) (w : Words) (R : Related p a s w
       }) (record w { packet = l })) new
       (with_packet (splice s.packet i (i + length (map Byte bs)) (map byte_in (map Byte bs))) same)
 
-  -- what a write that does not trap means for the blocks
+  -- a write that does not trap is inside the packet or a block, and the words then represent the
+  -- state that it leaves
   abbrev pub OkStore : Result State TrapReason → ℕ → List ℕ → Type 0
   OkStore (Ok t) x bs =
       IsInside w (spot_of x) (length bs) × Related p a t (put_bytes w (spot_of x) bs)

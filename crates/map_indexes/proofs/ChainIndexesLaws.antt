@@ -10,7 +10,7 @@ use Rattle.std.specs.FinMap.{get}
 use Rattle.map_indexes.specs.declared.chains.Link.{Link}
 use Rattle.map_indexes.specs.LastBelow.{last_below}
 use Rattle.map_indexes.proofs.LastBelowLaws.{last_is, none_below}
-use Rattle.map_indexes.specs.Chains.{in_chain, spot}
+use Rattle.map_indexes.specs.Chains.{in_chain, chain_place}
 use Rattle.map_indexes.proofs.ChainLaws.{link_of, in_chain-is}
 use Rattle.map_indexes.specs.Hashing.{chain_of}
 use Rattle.map_indexes.specs.PlaceKeys.{PlaceKeys, key_in, places, IsScan}
@@ -48,10 +48,11 @@ key_in-none (suc n) zero = refl
 key_in-none (suc n) (suc i) = key_in-none n i
 
 -- places without keys are free
-pub chain_index-none : (n chains : ℕ) (free : List ℕ) (spots : ℕ → Option (ℕ × ℕ)) → length free ≡ n
-    → ((i : ℕ) → i < n → free_at free i ≡ n - 1 - i) → ((k : ℕ) → spots k ≡ None)
-    → IsChainIndex (replicate n None) free chains spots
-chain_index-none n chains free spots long down none =
+pub chain_index-none : (n chains : ℕ) (free : List ℕ) (chain_places : ℕ → Option (ℕ × ℕ))
+    → length free ≡ n → ((i : ℕ) → i < n → free_at free i ≡ n - 1 - i)
+    → ((k : ℕ) → chain_places k ≡ None)
+    → IsChainIndex (replicate n None) free chains chain_places
+chain_index-none n chains free chain_places long down none =
     let whole : length (replicate {A = Option (List ℕ)} n None) ≡ n = length-replicate n None in
     record {
       few = omega arith;
@@ -66,13 +67,13 @@ chain_index-none n chains free spots long down none =
       apart = λ j k b c p e f. let g = none j in absurd (cc);
     }
 
-module _ (keys : PlaceKeys) (free : List ℕ) (chains : ℕ) (spots : ℕ → Option (ℕ × ℕ))
-    (is : IsChainIndex keys free chains spots) where
+module _ (keys : PlaceKeys) (free : List ℕ) (chains : ℕ) (chain_places : ℕ → Option (ℕ × ℕ))
+    (is : IsChainIndex keys free chains chain_places) where
   abbrev pub keys_here : ℕ
   keys_here = length keys - length free
 
   -- the key at the place of a link
-  key_there : (k chain p : ℕ) → spots k ≡ Some (chain, p)
+  key_there : (k chain p : ℕ) → chain_places k ≡ Some (chain, p)
       → (key : List ℕ) × (key_in keys p ≡ Some key) × (chain ≡ chain_of key chains)
   key_there k chain p e = key_of chains (key_in keys p) chain (is.sound k chain p e)
 
@@ -101,9 +102,9 @@ module _ (keys : PlaceKeys) (free : List ℕ) (chains : ℕ) (spots : ℕ → Op
     last_free = last_unused.1
 
     module _ (key : List ℕ) (absent : get (places keys) key ≡ None) (new : ℕ → Option (ℕ × ℕ))
-        (at : ℕ) (vacant : spots at ≡ None)
+        (at : ℕ) (vacant : chain_places at ≡ None)
         (here : new at ≡ Some (chain_of key chains, p))
-        (others : (j : ℕ) → (j ≡ at → ⊥) → new j ≡ spots j) where
+        (others : (j : ℕ) → (j ≡ at → ⊥) → new j ≡ chain_places j) where
       abbrev S : PlaceKeys
       S = slice_set keys p (Some key)
 
@@ -164,7 +165,7 @@ module _ (keys : PlaceKeys) (free : List ℕ) (chains : ℕ) (spots : ℕ → Op
                 r.0,
                 others r.0
                     (λ s. let f : None ≡ Some (chain_of k chains, q) =
-                    sym vacant ∙ ap spots (sym s) ∙ r.1 in
+                    sym vacant ∙ ap chain_places (sym s) ∙ r.1 in
                     cc) ∙ r.1,
               ))
         ];
@@ -185,10 +186,10 @@ module _ (keys : PlaceKeys) (free : List ℕ) (chains : ℕ) (spots : ℕ → Op
             ];
       }
 
-  module _ (key : List ℕ) (p at chain : ℕ) (there : spots at ≡ Some (chain, p))
+  module _ (key : List ℕ) (p at chain : ℕ) (there : chain_places at ≡ Some (chain, p))
       (present : key_in keys p ≡ Some key)
       (new : ℕ → Option (ℕ × ℕ)) (gone : new at ≡ None)
-      (others : (j : ℕ) → (j ≡ at → ⊥) → new j ≡ spots j) where
+      (others : (j : ℕ) → (j ≡ at → ⊥) → new j ≡ chain_places j) where
     abbrev R : PlaceKeys
     R = slice_set keys p None
 
@@ -259,7 +260,7 @@ module _ (keys : PlaceKeys) (free : List ℕ) (chains : ℕ) (spots : ℕ → Op
           ];
           sound = λ k c q e.
               let d = not_at k (c, q) e in
-              let f : spots k ≡ Some (c, q) = sym (others k d) ∙ e in
+              let f : chain_places k ≡ Some (c, q) = sym (others k d) ∙ e in
               let r = key_there k c q f in
               let other : q ≡ p
               → ⊥ = λ s. d (is.apart k at c chain p (f ∙ (λ i. Some (c, s i))) there) in
@@ -273,7 +274,7 @@ module _ (keys : PlaceKeys) (free : List ℕ) (chains : ℕ) (spots : ℕ → Op
                 r.0,
                 others r.0
                     (λ s. other (second_is (chain_of k chains) q chain p
-                    (sym r.1 ∙ ap spots s ∙ there))) ∙ r.1,
+                    (sym r.1 ∙ ap chain_places s ∙ there))) ∙ r.1,
               ));
           apart = λ j k b c q e f.
               is.apart j k b c q (sym (others j (not_at j (b, q) e)) ∙ e)
@@ -288,11 +289,11 @@ pub record Left (keys : PlaceKeys) (chains : ℕ) (links : ℕ → Option Link) 
   pub passed : (j : ℕ) → m ≤ j → HasKey keys links key j → ⊥
 
 module _ (keys : PlaceKeys) (free : List ℕ) (chains : ℕ) (links : ℕ → Option Link)
-    (is : IsChainIndex keys free chains (λ k. spot (links k))) (key : List ℕ) where
+    (is : IsChainIndex keys free chains (λ k. chain_place (links k))) (key : List ℕ) where
   link_sound : (k : ℕ) (l : Link) → links k ≡ Some l
       → (q : List ℕ) × (key_in keys l.place ≡ Some q) × (l.chain ≡ chain_of q chains)
   link_sound k l e =
-      key_of chains (key_in keys l.place) l.chain (is.sound k l.chain l.place (ap spot e))
+      key_of chains (key_in keys l.place) l.chain (is.sound k l.chain l.place (ap chain_place e))
 
   -- the next link is there, and its place has a key
   pub next_there : (next : Option ℕ) → Left keys chains links key next → (k : ℕ) → next ≡ Some k
@@ -344,7 +345,7 @@ module _ (keys : PlaceKeys) (free : List ℕ) (chains : ℕ) (links : ℕ → Op
   -- at the end of the chain, no place has the key
   pub not_found : Left keys chains links key None → get (places keys) key ≡ None
   not_found left = get_none keys key (λ p e. ∥∥₁_elim (is.complete p key e) (λ x y. absurd x) (λ r.
-      elim (links r.0) as (λ o. links r.0 ≡ o → spot o ≡ Some (chain_of key chains, p) → ⊥) [
+      elim (links r.0) as (λ o. links r.0 ≡ o → chain_place o ≡ Some (chain_of key chains, p) → ⊥) [
         | None ↦ λ f g. cc
         | Some l ↦ λ f g.
             let same : l.place ≡ p = second_is l.chain l.place (chain_of key chains) p g in

@@ -5,13 +5,14 @@ use Rattle.map_indexes.specs.declared.chains.Link.{Link}
 use Rattle.map_indexes.specs.LastBelow.{last_below}
 use Rattle.map_indexes.proofs.LastBelowLaws.{last_is}
 use Rattle.map_indexes.proofs.PlaceKeysLaws.{same_or_not}
-use Rattle.map_indexes.specs.Chains.{in_chain, IsChained, IsBehind, spot, heads_led, next_led, link_led, link_with, link_in, nexts_led, led_from}
+use Rattle.map_indexes.specs.Chains.{in_chain, IsChained, IsBehind, chain_place, heads_led, next_led, link_led, link_with, link_in, nexts_led, led_from}
 use Rattle.map_indexes.proofs.ChainLaws.{number_or, link_of, head_set, head_other, length-head_set}
 use Rattle.map_indexes.proofs.ChainChanges.{chained_added, chained_removed}
 
-spot-led : (from to : Option ℕ) (j : ℕ) (o : Option Link) → spot (link_led from to j o) ≡ spot o
-spot-led from to j None = refl
-spot-led from to j (Some l) = refl
+chain_place-led : (from to : Option ℕ) (j : ℕ) (o : Option Link)
+    → chain_place (link_led from to j o) ≡ chain_place o
+chain_place-led from to j None = refl
+chain_place-led from to j (Some l) = refl
 
 -- the link before another one is there
 pub behind_there : (links : ℕ → Option Link) (chain at : ℕ) (from : Option ℕ)
@@ -170,13 +171,15 @@ module _ (heads chains nexts : List (Option ℕ)) (is : IsChained heads (length 
         ∙ ap (λ (n : Option ℕ). Some (record { chain = chain; place = at; next = n })) (led_itself
         (in_chain (link_in chains nexts) chain) at from (Some at) next behind)
 
-    pub added_spot : spot (link_in more (nexts_led from (Some at) written) at) ≡ Some (chain, at)
-    added_spot = ap spot added_here
+    pub added_chain_place : chain_place (link_in more (nexts_led from (Some at) written) at)
+        ≡ Some (chain, at)
+    added_chain_place = ap chain_place added_here
 
-    pub added_spots : (j : ℕ) → (j ≡ at → ⊥) → spot (link_in more (nexts_led from
-        (Some at) written) j) ≡ spot (link_in chains nexts j)
-    added_spots j d =
-        ap spot (added_others j d) ∙ spot-led from (Some at) j (link_in chains nexts j)
+    pub added_chain_places : (j : ℕ) → (j ≡ at → ⊥) → chain_place (link_in more (nexts_led from
+        (Some at) written) j) ≡ chain_place (link_in chains nexts j)
+    added_chain_places j d =
+        ap chain_place (added_others j d)
+        ∙ chain_place-led from (Some at) j (link_in chains nexts j)
 
     pub lists_added : chain < length heads → link_in chains nexts at ≡ None
         → next ≡ last_below (in_chain (link_in chains nexts) chain) (number_or (length chains) from)
@@ -201,9 +204,10 @@ module _ (heads chains nexts : List (Option ℕ)) (is : IsChained heads (length 
         ap (λ (o : Option ℕ). link_with at o (slice_index_or (nexts_led from next nexts) at None))
         (head_set chains at None low)
 
-    pub gone_spots : (j : ℕ) → (j ≡ at → ⊥) → spot (link_in (slice_set chains at None)
-        (nexts_led from next nexts) j) ≡ spot (link_in chains nexts j)
-    gone_spots j d = ap spot (gone_others j d) ∙ spot-led from next j (link_in chains nexts j)
+    pub gone_chain_places : (j : ℕ) → (j ≡ at → ⊥) → chain_place (link_in (slice_set chains at None)
+        (nexts_led from next nexts) j) ≡ chain_place (link_in chains nexts j)
+    gone_chain_places j d =
+        ap chain_place (gone_others j d) ∙ chain_place-led from next j (link_in chains nexts j)
 
     pub lists_removed : (place : ℕ) → link_in chains nexts at ≡ Some
         (record { chain = chain; place = place; next = next })

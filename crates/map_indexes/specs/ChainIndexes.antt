@@ -12,17 +12,17 @@ free_at free i = slice_index_or free i 0
 
 -- each key's place has one link, in the key's chain, and the free places are all others, each once
 pub record IsChainIndex (keys : PlaceKeys) (free : List ℕ) (chains : ℕ)
-    (spots : ℕ → Option (ℕ × ℕ)) : Type 0 where
+    (chain_places : ℕ → Option (ℕ × ℕ)) : Type 0 where
   pub few : length free ≤ length keys
   pub scan : IsScan keys (length keys - length free)
   pub unused : (i : ℕ) → i < length free
       → (free_at free i < length keys) × (key_in keys (free_at free i) ≡ None)
   pub once : (i j : ℕ) → i < length free → j < length free → free_at free i ≡ free_at free j → i ≡ j
-  pub sound : (k chain p : ℕ) → spots k ≡ Some (chain, p)
+  pub sound : (k chain p : ℕ) → chain_places k ≡ Some (chain, p)
       → option_map (λ key. chain_of key chains) (key_in keys p) ≡ Some chain
   pub complete : (p : ℕ) (key : List ℕ) → key_in keys p ≡ Some key
-      → ∥ ((k : ℕ) × (spots k ≡ Some (chain_of key chains, p))) ∥₁
-  pub apart : (j k b c p : ℕ) → spots j ≡ Some (b, p) → spots k ≡ Some (c, p) → j ≡ k
+      → ∥ ((k : ℕ) × (chain_places k ≡ Some (chain_of key chains, p))) ∥₁
+  pub apart : (j k b c p : ℕ) → chain_places j ≡ Some (b, p) → chain_places k ≡ Some (c, p) → j ≡ k
 
 -- ---- look-ups
 

@@ -27,9 +27,9 @@ IsBehind test at None = (j : ℕ) → at < j → test j ≡ false
 IsBehind test at (Some k) = (at < k) × (test k ≡ true) × ((j : ℕ) → at < j → j < k → test j ≡ false)
 
 -- a link's chain and place
-abbrev pub spot : Option Link → Option (ℕ × ℕ)
-spot None = None
-spot (Some link) = Some (link.chain, link.place)
+abbrev pub chain_place : Option Link → Option (ℕ × ℕ)
+chain_place None = None
+chain_place (Some link) = Some (link.chain, link.place)
 
 -- one more than a link's number, or 0 at the end of a chain
 abbrev pub height : Option ℕ → ℕ

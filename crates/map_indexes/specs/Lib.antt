@@ -9,5 +9,5 @@ pub mod ArrayLaws
 pub mod LastBelow
 pub mod Chains
 pub mod Hashing
-pub mod PlaceNumbers
+pub mod OptionalNumbers
 pub mod ChainIndexes

@@ -1,11 +1,11 @@
-//! Keys found by chains.
+//! An index of a hash map that finds keys by chains.
 
 ghost use Rattle.std.specs.Prelude.{◌≡◌, ℕ, ◌+◌, ◌-◌, ◌<◌, ◌≤◌, length, None, IfOk, IfSome, slice_index_or, vec_capacity, is_some, true, Some};
 ghost use Rattle.std.specs.FinMap as map;
 ghost use Rattle.isa_model.specs.declared.map_defs.MapType.TheVariants.{Hash};
 ghost use Rattle.map_indexes.specs.PlaceKeys.{places, key_in, AreKeys};
 ghost use Rattle.map_indexes.specs.KeyOrder.{used_places};
-ghost use Rattle.map_indexes.specs.Chains.{spot, link_in};
+ghost use Rattle.map_indexes.specs.Chains.{chain_place, link_in};
 ghost use Rattle.map_indexes.specs.ChainIndexes.{IsChainIndex, HasKey};
 
 use crate::chains::Chains;
@@ -36,7 +36,7 @@ pub struct ChainIndex {
     chains: Chains,
     free: Vec<u32>,
     ghost index: { IsChainIndex keys.by_place free.items chains.count
-        (λ k. spot (link_in chains.chains chains.nexts k)) },
+        (λ k. chain_place (link_in chains.chains chains.nexts k)) },
     ghost sized: { AreKeys keys.size keys.by_place },
     ghost chained: { 0 < chains.count },
     ghost spread: { length keys.by_place ≤ chains.count },
@@ -89,7 +89,7 @@ impl ChainIndex {
         self.keys.sort_places(list.as_mut_slice());
     }
 
-    // The number of the link whose place has the key.
+    // The link of a key, by its number, which is the place of the key.
     fn find_link(&self, key: &[u8]) -> Option<usize>
         requires { length key.now ≡ self.now.keys.size }
         ensures found { IfSome result (HasKey self.now.keys.by_place

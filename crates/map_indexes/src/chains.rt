@@ -2,9 +2,9 @@
 
 ghost use Rattle.std.specs.Prelude.{◌≡◌, ◌≢◌, ◌+◌, ◌<◌, ◌^◌, ℕ, length, None, Some, IfOk, IfSome, IsSome, replicate, slice_index_or};
 ghost use Rattle.map_indexes.specs.LastBelow.{last_below};
-ghost use Rattle.map_indexes.specs.Chains.{in_chain, spot, IsChained, IsBehind, heads_led, nexts_led, led_from, link_in};
+ghost use Rattle.map_indexes.specs.Chains.{in_chain, chain_place, IsChained, IsBehind, heads_led, nexts_led, led_from, link_in};
 
-use crate::numbers::PlaceNumbers;
+use crate::numbers::OptionalNumbers;
 use std::alloc::{AllocError, Global};
 
 /// A link: its chain, its place, which is its number, and the number of the next link.
@@ -17,8 +17,8 @@ pub struct Link {
 
 // Makes a link of a chain, or its start, lead to another link.
 fn lead(
-    heads: &mut PlaceNumbers,
-    nexts: &mut PlaceNumbers,
+    heads: &mut OptionalNumbers,
+    nexts: &mut OptionalNumbers,
     chain: usize,
     from: Option<usize>,
     to: Option<usize>,
@@ -39,10 +39,10 @@ fn lead(
 #[derive(Drop)]
 pub struct Chains {
     count: u32,
-    heads: PlaceNumbers,
+    heads: OptionalNumbers,
     // By number of a link: its chain, and the next link of that.
-    chains: PlaceNumbers,
-    nexts: PlaceNumbers,
+    chains: OptionalNumbers,
+    nexts: OptionalNumbers,
     ghost counted: { length heads ≡ count },
     ghost small: { count < 2 ^ 32 },
     ghost few: { length chains < 2 ^ 32 },
@@ -57,9 +57,9 @@ impl Chains {
         ensures empty { IfOk result (λ c. (k : ℕ) → link_in c.chains c.nexts k ≡ None) }
         ensures room { IfOk result (λ c. length c.chains ≡ room) }
     {
-        let heads = PlaceNumbers::new(alloc, count)?;
-        let chains = PlaceNumbers::new(alloc, room)?;
-        let nexts = PlaceNumbers::new(alloc, room)?;
+        let heads = OptionalNumbers::new(alloc, count)?;
+        let chains = OptionalNumbers::new(alloc, room)?;
+        let nexts = OptionalNumbers::new(alloc, room)?;
         Ok(Chains {
             count,
             heads,
@@ -126,9 +126,9 @@ impl Chains {
         requires chain { chain < self.old.count }
         requires at { at < length self.old.chains }
         requires free { link_in self.old.chains self.old.nexts at ≡ None }
-        ensures added { spot (link_in self.new.chains self.new.nexts at) ≡ Some (chain, at) }
-        ensures others { (j : ℕ) → j ≢ at → spot (link_in self.new.chains self.new.nexts j)
-            ≡ spot (link_in self.old.chains self.old.nexts j) }
+        ensures added { chain_place (link_in self.new.chains self.new.nexts at) ≡ Some (chain, at) }
+        ensures others { (j : ℕ) → j ≢ at → chain_place (link_in self.new.chains self.new.nexts j)
+            ≡ chain_place (link_in self.old.chains self.old.nexts j) }
         ensures room { length self.new.chains ≡ length self.old.chains }
         ensures count { self.new.count ≡ self.old.count }
     {
@@ -149,8 +149,8 @@ impl Chains {
     pub fn remove(&mut self, at: usize)
         requires { IsSome (link_in self.old.chains self.old.nexts at) }
         ensures removed { link_in self.new.chains self.new.nexts at ≡ None }
-        ensures others { (j : ℕ) → j ≢ at → spot (link_in self.new.chains self.new.nexts j)
-            ≡ spot (link_in self.old.chains self.old.nexts j) }
+        ensures others { (j : ℕ) → j ≢ at → chain_place (link_in self.new.chains self.new.nexts j)
+            ≡ chain_place (link_in self.old.chains self.old.nexts j) }
         ensures room { length self.new.chains ≡ length self.old.chains }
         ensures count { self.new.count ≡ self.old.count }
     {

@@ -14,7 +14,7 @@ use byteorder::{ByteOrder, LittleEndian};
 use std::alloc::{AllocError, Global};
 use std::marker::Model;
 
-/// Writes bytes from a place on.
+/// Writes bytes into a block, from an index on.
 pub fn put_bytes(block: &mut [u8], at: usize, new: &[u8])
     requires { at + length new.now ≤ length block.old }
     ensures { block.new ≡ splice block.old at (at + length new.now) new.now }

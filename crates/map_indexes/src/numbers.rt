@@ -1,24 +1,24 @@
 //! Lists of numbers in four bytes each.
 
 ghost use Rattle.std.specs.Prelude.{◌≡◌, ◌+◌, ◌<◌, ◌^◌, length, None, IfOk, IfSome, replicate, slice_index_or, slice_set};
-ghost use Rattle.map_indexes.specs.PlaceNumbers.{number_of as the_number_of};
+ghost use Rattle.map_indexes.specs.OptionalNumbers.{number_of as the_number_of};
 
 use crate::rooms::exact;
 use std::alloc::{AllocError, Global};
 use std::marker::Model;
 
-/// A list that has a number at each place, or none. It has room for no more.
+/// A list that has at each index a number, or none. It has room for no more.
 ///
 /// Contracts see the numbers.
 #[derive(Drop)]
-pub struct PlaceNumbers {
+pub struct OptionalNumbers {
     // one more than the number, or 0 where there is none
     codes: Vec<u32>,
 }
 
-impl Model for PlaceNumbers {
+impl Model for OptionalNumbers {
     ghost use Rattle.std.specs.Prelude.{◌≡◌, ℕ, List, Option, length, map, vec_capacity};
-    ghost use Rattle.map_indexes.specs.PlaceNumbers.{number_of};
+    ghost use Rattle.map_indexes.specs.OptionalNumbers.{number_of};
 
     ghost Value = { List (Option ℕ) };
 
@@ -27,32 +27,32 @@ impl Model for PlaceNumbers {
     ghost invariant = { λ l. vec_capacity l.codes ≡ length l.codes.items };
 }
 
-impl PlaceNumbers {
+impl OptionalNumbers {
     /// A list without numbers.
     pub fn new(alloc: Global, count: u32) -> Result<Self, AllocError>
         ensures { IfOk result (λ l. l ≡ replicate count None) }
     {
         let zeros = vec![in alloc; 0; count as usize]?;
         let codes = exact(zeros)?;
-        Ok(PlaceNumbers { codes })
+        Ok(OptionalNumbers { codes })
     }
 
-    /// The number at a place.
+    /// The number at an index.
     #[inline(always)]
-    pub fn at(&self, place: usize) -> Option<usize>
-        requires { place < length self.now }
-        ensures { result ≡ slice_index_or self.now place None }
+    pub fn at(&self, i: usize) -> Option<usize>
+        requires { i < length self.now }
+        ensures { result ≡ slice_index_or self.now i None }
     {
-        number_of(self.codes[place])
+        number_of(self.codes[i])
     }
 
-    /// Writes the number at a place.
-    pub fn set(&mut self, place: usize, number: Option<usize>)
-        requires place { place < length self.old }
+    /// Writes the number at an index.
+    pub fn set(&mut self, i: usize, number: Option<usize>)
+        requires inside { i < length self.old }
         requires small { IfSome number (λ n. n + 1 < 2 ^ 32) }
-        ensures { self.new ≡ slice_set self.old place number }
+        ensures { self.new ≡ slice_set self.old i number }
     {
-        self.codes[place] = code_of(number);
+        self.codes[i] = code_of(number);
     }
 }
 

@@ -13,13 +13,13 @@ pub record WritesPair (size : ℕ) (key value : List ℕ) (P : Places) (B : List
   pub taken : get P key ≡ None → TakesPlace P key place P'
   pub written : B' ≡ with_row size B place value
 
--- what an update with this answer does, of values of this size: an error changes nothing
+-- what an update does, by its answer, where values have this size: an error changes nothing
 pub record Updates (size answer : ℕ) (key value : List ℕ) (P : Places) (B : List ℕ) (P' : Places)
     (B' : List ℕ) : Type 0 where
   pub writes : answer ≡ 0 → WritesPair size key value P B P' B'
   pub stays : answer ≢ 0 → (P' ≡ P) × (B' ≡ B)
 
--- what a delete with this answer does: the values stay where they are
+-- what a delete does, by its answer: the block of values stays as it is
 pub record Deletes (answer : ℕ) (key : List ℕ) (P : Places) (B : List ℕ) (P' : Places)
     (B' : List ℕ) : Type 0 where
   pub removes : answer ≡ 0 → P' ≡ remove P key

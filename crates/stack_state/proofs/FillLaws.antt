@@ -27,8 +27,8 @@ pub any_number : (e : Assigned) (k : Kind) (n : ℕ) → n < 2 ^ 64 → IsAnyNum
 any_number e (Number numbers) n below any = (n, refl, any n below)
 any_number e k n below any = absurd any
 
-fills_written : (slots : List StackSlot) (k marks : ℕ) (answer : Option Kind) → k < frame_slots
-    → slot_at slots k ≡ Written marks → IsWrittenFill marks answer → LoadsSlot slots k answer
+fills_written : (slots : List StackSlot) (k marks : ℕ) (loaded : Option Kind) → k < frame_slots
+    → slot_at slots k ≡ Written marks → IsWrittenFill marks loaded → LoadsSlot slots k loaded
 unfolding LoadsSlot
 fills_written slots k marks None within here is = tt
 fills_written slots k marks (Some kind) within here is = λ e rows next cells fit m.
@@ -72,16 +72,16 @@ fills_kind slots k (MapValue m l g) within here =
 fills_kind slots k (MapValueOrNull m i) within here =
     fills_spilled slots k (MapValueOrNull m i) within (λ e. cc e) here
 
-fills_slot : (slots : List StackSlot) (k : ℕ) (s : StackSlot) (answer : Option Kind)
-    → k < frame_slots → slot_at slots k ≡ s → IsFill s answer → LoadsSlot slots k answer
-fills_slot slots k (Written marks) answer within here is =
-    fills_written slots k marks answer within here is
-fills_slot slots k (Spilled kind) answer within here is =
+fills_slot : (slots : List StackSlot) (k : ℕ) (s : StackSlot) (loaded : Option Kind)
+    → k < frame_slots → slot_at slots k ≡ s → IsFill s loaded → LoadsSlot slots k loaded
+fills_slot slots k (Written marks) loaded within here is =
+    fills_written slots k marks loaded within here is
+fills_slot slots k (Spilled kind) loaded within here is =
     subst (λ (o : Option Kind). LoadsSlot slots k o) (sym is) (fills_kind slots k kind within here)
 
-pub fills : (slots : List StackSlot) (k : ℕ) (answer : Option Kind) → k < frame_slots
-    → IsFill (slot_at slots k) answer → LoadsSlot slots k answer
-fills slots k answer within is = fills_slot slots k (slot_at slots k) answer within refl is
+pub fills : (slots : List StackSlot) (k : ℕ) (loaded : Option Kind) → k < frame_slots
+    → IsFill (slot_at slots k) loaded → LoadsSlot slots k loaded
+fills slots k loaded within is = fills_slot slots k (slot_at slots k) loaded within refl is
 
 -- ---- forgotten
 

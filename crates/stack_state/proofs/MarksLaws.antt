@@ -111,12 +111,12 @@ Marks-more Free k m n old mid new =
     (λ i before here. below_more (λ j. Free j i) k before here)
     (λ i all j below. all j (omega arith)) (λ i all. all k (omega arith))
 
--- Unset names none
+-- `Unset` names no identity
 unset_names : (sort : IdentitySort) (i : ℕ) → named_by sort Unset ≢ Some i
 unset_names Packets i = λ e. absurd (cc)
 unset_names Nulls i = λ e. absurd (cc)
 
--- past the last register, and past the last slot, no kind names one
+-- past the last register, and past the last slot, no kind names an identity
 pub Marks-registers : (sort : IdentitySort) (kinds : List Kind) (n m : ℕ) (old new : List Bool)
     → length kinds ≤ n → Marks (AreFree (NamesOther sort kinds) n) m old new
     → Marks (λ i. (k : ℕ) → NamesOther sort kinds k i) m old new
@@ -166,7 +166,7 @@ Marks-named sort k i marks is inside = record {
   long = length-set marks i true;
 }
 
--- of a kind that names none so low
+-- of a kind that names no identity that the marks are for
 pub Marks-other : (sort : IdentitySort) (k : Kind) (marks : List Bool)
     → ((i : ℕ) → i < length marks → named_by sort k ≢ Some i)
     → Marks (λ j. named_by sort k ≢ Some j) 1 marks marks
@@ -178,7 +178,7 @@ Marks-other sort k marks none =
       long = refl;
     }
 
--- an empty frame names none
+-- an empty frame names no identity
 nothing_names : (sort : IdentitySort) (i : ℕ) → IsFreshIn sort no_frame i
 nothing_names sort i =
     record { registers = λ k. unset_names sort i; slots = λ k. unset_names sort i }

@@ -246,47 +246,47 @@ part_is_chunk cells at inside =
     let same : at ≡ 8 * (at / 8) = omega arith in
     ap (λ (i : ℕ). part_of cells i 8) same
 
-whole_part : (e : Assigned) (numbers answer : Scalar) (cells : List Cell) (at : ℕ) → at % 8 + 8 ≤ 8
-    → answer ≡ numbers → SlotMeans e (Spilled (Number numbers)) (chunk_of (at / 8) cells)
-    → Has answer (number_of (part_of cells at 8))
-whole_part e numbers answer cells at inside same h =
+whole_part : (e : Assigned) (numbers loaded : Scalar) (cells : List Cell) (at : ℕ) → at % 8 + 8 ≤ 8
+    → loaded ≡ numbers → SlotMeans e (Spilled (Number numbers)) (chunk_of (at / 8) cells)
+    → Has loaded (number_of (part_of cells at 8))
+whole_part e numbers loaded cells at inside same h =
     subst (λ (s : Scalar). Has s (number_of (part_of cells at 8))) (sym same)
     (subst (λ (cs : List Cell). Has numbers (number_of cs)) (sym (part_is_chunk cells at inside))
     (whole_number e numbers _ h))
 
 -- of some of its bytes, the number that they are
-spelled_part : (e : Assigned) (numbers answer : Scalar) (cells : List Cell) (at : ℕ) (size : Size)
-    → at % 8 + size_bytes size ≤ 8 → IsPart (8 * (at % 8)) (8 * size_bytes size) numbers answer
+spelled_part : (e : Assigned) (numbers loaded : Scalar) (cells : List Cell) (at : ℕ) (size : Size)
+    → at % 8 + size_bytes size ≤ 8 → IsPart (8 * (at % 8)) (8 * size_bytes size) numbers loaded
     → SlotMeans e (Spilled (Number numbers)) (chunk_of (at / 8) cells)
-    → Has answer (number_of (part_of cells at (size_bytes size)))
-spelled_part e numbers answer cells at size inside are h =
+    → Has loaded (number_of (part_of cells at (size_bytes size)))
+spelled_part e numbers loaded cells at size inside are h =
     let bytes : List Cell = chunk_of (at / 8) cells in
     let here : part_of cells at (size_bytes size) ≡ part_of bytes (at % 8) (size_bytes size) =
     part_of-chunk cells at (size_bytes size) inside in
     let stays : bytes ≡ stored_cells (Num h.1.0) = h.2 ∙ ap stored_cells h.1.1 in
     let spelled = ap (λ (cs : List Cell). number_of (part_of cs (at % 8) (size_bytes size))) stays
     ∙ number_of-part h.1.0 (at % 8) size h.1.2.0.below inside in
-    subst (Has answer) (sym (ap number_of here ∙ spelled)) (are.contains h.1.0 h.1.2)
+    subst (Has loaded) (sym (ap number_of here ∙ spelled)) (are.contains h.1.0 h.1.2)
 
 part_number : (e : Assigned) (s : StackSlot) (cells : List Cell) (at : ℕ) (size : Size)
-    (answer : Scalar) → at % 8 + size_bytes size ≤ 8
-    → AreNumbers s (at % 8) size answer → SlotMeans e s (chunk_of (at / 8) cells)
+    (loaded : Scalar) → at % 8 + size_bytes size ≤ 8
+    → AreNumbers s (at % 8) size loaded → SlotMeans e s (chunk_of (at / 8) cells)
     → number_of (part_of cells at (size_bytes size)) < 2 ^ (8 * size_bytes size)
-    → Has answer (number_of (part_of cells at (size_bytes size)))
-part_number e (Written marks) cells at size answer inside are h below = (are _).1 below
-part_number e (Spilled (Number numbers)) cells at U8 answer inside are h below =
-    spelled_part e numbers answer cells at U8 inside are h
-part_number e (Spilled (Number numbers)) cells at U16 answer inside are h below =
-    spelled_part e numbers answer cells at U16 inside are h
-part_number e (Spilled (Number numbers)) cells at U32 answer inside are h below =
-    spelled_part e numbers answer cells at U32 inside are h
-part_number e (Spilled (Number numbers)) cells at U64 answer inside are h below =
-    whole_part e numbers answer cells at inside are h
-part_number e (Spilled k) cells at size answer inside are h below = (are _).1 below
+    → Has loaded (number_of (part_of cells at (size_bytes size)))
+part_number e (Written marks) cells at size loaded inside are h below = (are _).1 below
+part_number e (Spilled (Number numbers)) cells at U8 loaded inside are h below =
+    spelled_part e numbers loaded cells at U8 inside are h
+part_number e (Spilled (Number numbers)) cells at U16 loaded inside are h below =
+    spelled_part e numbers loaded cells at U16 inside are h
+part_number e (Spilled (Number numbers)) cells at U32 loaded inside are h below =
+    spelled_part e numbers loaded cells at U32 inside are h
+part_number e (Spilled (Number numbers)) cells at U64 loaded inside are h below =
+    whole_part e numbers loaded cells at inside are h
+part_number e (Spilled k) cells at size loaded inside are h below = (are _).1 below
 
-pub loads : (slots : List StackSlot) (at : ℕ) (size : Size) (answer : Option Scalar)
+pub loads : (slots : List StackSlot) (at : ℕ) (size : Size) (loaded : Option Scalar)
     → at < frame_size → at % 8 + size_bytes size ≤ 8
-    → IsLoad slots at size answer → LoadsNumber slots at size answer
+    → IsLoad slots at size loaded → LoadsNumber slots at size loaded
 unfolding LoadsNumber
 loads slots at size None below inside is = tt
 loads slots at size (Some numbers) below inside is = λ e rows next cells fit m.

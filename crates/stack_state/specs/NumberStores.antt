@@ -22,12 +22,12 @@ use Rattle.stack_state.specs.Effects.{with_frame_slots}
 
 -- the numbers that the eight bytes of a slot may spell
 abbrev pub AreKindWhole : Kind → Scalar → Type 0
-AreKindWhole (Number numbers) answer = answer ≡ numbers
-AreKindWhole k answer = IsAny answer
+AreKindWhole (Number numbers) spelled = spelled ≡ numbers
+AreKindWhole k spelled = IsAny spelled
 
 abbrev pub AreWhole : StackSlot → Scalar → Type 0
-AreWhole (Written marks) answer = IsAny answer
-AreWhole (Spilled k) answer = AreKindWhole k answer
+AreWhole (Written marks) spelled = IsAny spelled
+AreWhole (Spilled k) spelled = AreKindWhole k spelled
 
 -- the marks of a slot after bytes from one on are written
 abbrev pub marks_after : StackSlot → ℕ → Size → ℕ

@@ -68,29 +68,29 @@ IsAnyNumber k = ⊥
 
 -- every number that the bytes may spell, and no other
 abbrev pub AreAll : Size → Scalar → Type 0
-AreAll size answer = (x : ℕ) → (Has answer x ↔ (x < 2 ^ (8 * size_bytes size)))
+AreAll size loaded = (x : ℕ) → (Has loaded x ↔ (x < 2 ^ (8 * size_bytes size)))
 
 -- those that the bytes of a spilled number may spell, from one byte on; all its bytes spell the
 -- number itself
 abbrev pub ArePart : Scalar → ℕ → Size → Scalar → Type 0
-ArePart numbers from U64 answer = answer ≡ numbers
-ArePart numbers from size answer = IsPart (8 * from) (8 * size_bytes size) numbers answer
+ArePart numbers from U64 loaded = loaded ≡ numbers
+ArePart numbers from size loaded = IsPart (8 * from) (8 * size_bytes size) numbers loaded
 
 abbrev pub AreSpilled : Kind → ℕ → Size → Scalar → Type 0
-AreSpilled (Number numbers) from size answer = ArePart numbers from size answer
-AreSpilled k from size answer = AreAll size answer
+AreSpilled (Number numbers) from size loaded = ArePart numbers from size loaded
+AreSpilled k from size loaded = AreAll size loaded
 
 -- the numbers that marked bytes of a slot, from one on, may spell
 abbrev pub AreNumbers : StackSlot → ℕ → Size → Scalar → Type 0
-AreNumbers (Written marks) from size answer = AreAll size answer
-AreNumbers (Spilled k) from size answer = AreSpilled k from size answer
+AreNumbers (Written marks) from size loaded = AreAll size loaded
+AreNumbers (Spilled k) from size loaded = AreSpilled k from size loaded
 
 -- the bytes can be loaded if all of them are marked
 abbrev pub IsLoad : List StackSlot → ℕ → Size → Option Scalar → Type 0
 IsLoad slots at size None = ¬ AreMarked slots at (at + size_bytes size)
-IsLoad slots at size (Some answer) =
+IsLoad slots at size (Some loaded) =
     AreMarked slots at (at + size_bytes size)
-    × AreNumbers (slot_at slots (at / 8)) (at % 8) size answer
+    × AreNumbers (slot_at slots (at / 8)) (at % 8) size loaded
 
 -- ---- whole values
 
@@ -116,8 +116,8 @@ spilled_kind k = Some k
 
 -- the kind of the value that is read back whole from a slot
 abbrev pub IsFill : StackSlot → Option Kind → Type 0
-IsFill (Written marks) answer = IsWrittenFill marks answer
-IsFill (Spilled k) answer = answer ≡ spilled_kind k
+IsFill (Written marks) loaded = IsWrittenFill marks loaded
+IsFill (Spilled k) loaded = loaded ≡ spilled_kind k
 
 -- ---- forgotten maps
 

@@ -58,20 +58,20 @@ fn push_registers(parts: &mut Vec<Part>, registers: &[Kind; 10]) -> Result<(), A
     Ok(())
 }
 
-/// Whether nothing is known of eight stack slots, from a multiple of eight on. Nothing is known of
-/// a stack slot that is not in `known`.
+/// Whether nothing is known of eight stack slots, those of a byte of `known`. Nothing is known of a
+/// stack slot that is not in `known`.
 #[inline(always)]
-fn are_blank(slots: &[StackSlot; FRAME_SLOTS], known: SlotMask, group: usize) -> bool
-    requires inside { group < 8 }
+fn are_blank(slots: &[StackSlot; FRAME_SLOTS], known: SlotMask, byte: usize) -> bool
+    requires inside { byte < 8 }
     requires blank { AreBlankBeside known slots.now }
-    ensures { IsTrue result → (j : ℕ) → 8 * group ≤ j → j < 8 * group + 8
+    ensures { IsTrue result → (j : ℕ) → 8 * byte ≤ j → j < 8 * byte + 8
         → slot_at slots.now j ≡ StackSlot.Written 0 }
 {
-    if known.is_empty_in(group as u8) {
+    if known.is_empty_in(byte as u8) {
         return true;
     }
     for number in 0..8 {
-        let StackSlot::Written(0) = &slots[8 * group + number] else {
+        let StackSlot::Written(0) = &slots[8 * byte + number] else {
             return false;
         };
     }
@@ -92,10 +92,10 @@ fn push_slots(
     if known.is_empty() {
         return Ok(());
     }
-    for group in 0..FRAME_SLOTS / 8 {
-        if !are_blank(slots, known, group) {
+    for byte in 0..FRAME_SLOTS / 8 {
+        if !are_blank(slots, known, byte) {
             for number in 0..8 {
-                let index = 8 * group + number;
+                let index = 8 * byte + number;
                 push_slot(parts, index as u8, &slots[index])?;
             }
         }

@@ -157,16 +157,16 @@ impl TreeSets {
     pub fn gather(&self, known: u64, indexes: &mut Vec<u32>) -> Result<usize, AllocError> {
         let (trees, _) = self.trees(known);
         let mut left = trees.len();
-        for _group in 0..trees.len() {
+        for _merged in 0..trees.len() {
             let Some(start) = left.checked_sub(3) else {
                 break;
             };
-            let group = trees.get(start..left).unwrap_or(&[]);
-            match group.first() {
+            let three = trees.get(start..left).unwrap_or(&[]);
+            match three.first() {
                 Some(tree) if tree.indexes().len() / 2 <= indexes.len() => {}
                 _ => break,
             }
-            for tree in group {
+            for tree in three {
                 indexes.extend_from_slice(tree.indexes())?;
             }
             left = start;

@@ -13,7 +13,8 @@ pub const FAN: usize = 4;
 
 const FAN_BITS: u32 = 2;
 
-/// For each word of a row, the least with which a stored state may cover the state that is sought.
+/// What is sought for a state: for each word of a row, the least that a stored state has there if
+/// it may cover the state.
 pub type Sought = [u64; WIDTH];
 
 /// Stored states, those with like limits beside one another.
@@ -57,8 +58,8 @@ fn reaches(row: &[u64], sought: &[u64]) -> bool {
 fn level_above(alloc: Global, level: &[u64], width: usize) -> Result<Vec<u64>, AllocError> {
     let mut above = Vec::new(alloc);
     let rows = level.len().checked_div(width).unwrap_or(0);
-    for group in 0..rows.saturating_add(FAN - 1) / FAN {
-        let first = group.saturating_mul(FAN);
+    for node in 0..rows.saturating_add(FAN - 1) / FAN {
+        let first = node.saturating_mul(FAN);
         for column in 0..width {
             let mut greatest: u64 = 0;
             for number in first..first.saturating_add(FAN) {
@@ -149,17 +150,17 @@ impl Tree {
         None
     }
 
-    /// The stored state after the ones to pass over: those of the highest row that begins at this
-    /// one and does not reach the words, if there is such a row.
+    /// The stored state after those to pass over: all of the highest row that begins at this one
+    /// and does not reach the words. None: there is no such row.
     fn barred_from(&self, number: usize, sought: &Sought, effort: &mut Effort) -> Option<usize> {
         for level in (0..self.levels.len()).rev() {
             let shift = FAN_BITS.wrapping_mul(u32::try_from(level).unwrap_or(0));
-            let group = number.wrapping_shr(shift);
-            if group.wrapping_shl(shift) == number {
-                let row = row(self.levels.get(level)?, width(&self.measures), group)?;
+            let node = number.wrapping_shr(shift);
+            if node.wrapping_shl(shift) == number {
+                let row = row(self.levels.get(level)?, width(&self.measures), node)?;
                 effort.spend_test();
                 if !reaches(row, sought) {
-                    return Some(group.wrapping_add(1).wrapping_shl(shift));
+                    return Some(node.wrapping_add(1).wrapping_shl(shift));
                 }
             }
         }

@@ -47,8 +47,8 @@ fn row_unread<W: Write>(
     })
 }
 
-/// How an image is judged. For one that is accepted, but without the table that is wanted, memory
-/// ran out.
+/// How an image is judged. If it is accepted and has not got the table that is wanted, memory ran
+/// out.
 fn verdict_of(judged: &Judged, has_table: bool) -> Judgement {
     match judged.verdict {
         Judgement::Accepted if has_table && judged.table.is_none() => Judgement::NoMemory,

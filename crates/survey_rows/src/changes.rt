@@ -159,7 +159,7 @@ fn files_of(alloc: Global, rows: &[Row]) -> Result<IndexSet<&[u8]>, AllocError> 
 }
 
 /// The differences from an earlier survey, which is given as the bytes of its CSV: a row for each
-/// value that changed, for each image that is new, and for each one that is gone. Times are not
+/// cell that changed, for each image that is new, and for each one that is gone. Times are not
 /// compared.
 pub fn changes_since(alloc: Global, bytes: &[u8], surveyed: &[Row]) -> Result<Grid, EarlierError> {
     let earlier = Earlier::read(alloc, bytes)?;

@@ -6,7 +6,7 @@ ghost use Rattle.survey_rows.specs.Columns.{name_of};
 /// A column of a survey.
 #[derive(Clone, Copy, PartialEq, Eq, Debug, Drop)]
 pub enum Column {
-    /// The path of the image.
+    /// The path of the image's file.
     File,
     /// `ok`, the code of the refusal, `unreadable` or `memory`.
     Verdict,
@@ -14,6 +14,7 @@ pub enum Column {
     Slot,
     /// How many slots the code has.
     Slots,
+    /// How many maps it has.
     Maps,
     /// The most steps of a run.
     Bound,
@@ -104,8 +105,8 @@ impl Column {
         )
     }
 
-    /// Its width in a grid for people, in characters: enough for its name, and for all values
-    /// except a path.
+    /// Its width in a grid for people, in characters: enough for its name, and for all its cells
+    /// except the path of a file.
     pub fn width(self) -> usize {
         match self {
             Column::Verdict => "unreadable".len(),

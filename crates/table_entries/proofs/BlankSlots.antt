@@ -15,31 +15,31 @@ use Rattle.table_entries.proofs.Seen.{and_seen, seen-begins}
 
 -- ---- zeros
 
-word_zeros : (xs : List ℕ) → little_number 8 xs ≡ 0 → (k : ℕ) → k < 8 → get_or xs k 0 ≡ 0
-word_zeros xs h zero lt = omega arith
-word_zeros xs h (suc zero) lt = omega arith
-word_zeros xs h (suc (suc zero)) lt = omega arith
-word_zeros xs h (suc (suc (suc zero))) lt = omega arith
-word_zeros xs h (suc (suc (suc (suc zero)))) lt = omega arith
-word_zeros xs h (suc (suc (suc (suc (suc zero))))) lt = omega arith
-word_zeros xs h (suc (suc (suc (suc (suc (suc zero)))))) lt = omega arith
-word_zeros xs h (suc (suc (suc (suc (suc (suc (suc zero))))))) lt = omega arith
-word_zeros xs h (suc (suc (suc (suc (suc (suc (suc (suc k)))))))) lt = absurd (omega arith)
+eight_zeros : (xs : List ℕ) → little_number 8 xs ≡ 0 → (k : ℕ) → k < 8 → get_or xs k 0 ≡ 0
+eight_zeros xs h zero lt = omega arith
+eight_zeros xs h (suc zero) lt = omega arith
+eight_zeros xs h (suc (suc zero)) lt = omega arith
+eight_zeros xs h (suc (suc (suc zero))) lt = omega arith
+eight_zeros xs h (suc (suc (suc (suc zero)))) lt = omega arith
+eight_zeros xs h (suc (suc (suc (suc (suc zero))))) lt = omega arith
+eight_zeros xs h (suc (suc (suc (suc (suc (suc zero)))))) lt = omega arith
+eight_zeros xs h (suc (suc (suc (suc (suc (suc (suc zero))))))) lt = omega arith
+eight_zeros xs h (suc (suc (suc (suc (suc (suc (suc (suc k)))))))) lt = absurd (omega arith)
 
 zeros_at : (xs : List ℕ) (d : ℕ) → little_number 8 (drop d xs) ≡ 0 → (k : ℕ) → d ≤ k → k < d + 8
     → get_or xs k 0 ≡ 0
 zeros_at xs d h k from to =
     let place : d + (k - d) ≡ k = omega arith in
-    let zero : get_or (drop d xs) (k - d) 0 ≡ 0 = word_zeros (drop d xs) h (k - d) (omega arith) in
+    let zero : get_or (drop d xs) (k - d) 0 ≡ 0 = eight_zeros (drop d xs) h (k - d) (omega arith) in
     ap (λ (j : ℕ). get_or xs j 0) (sym place) ∙ sym (get_or-drop d xs (k - d) 0) ∙ zero
 
-pub AreZeros-words : (xs : List ℕ) → 32 ≤ length xs → little_number 8 xs ≡ 0
+pub AreZeros-thirty_two : (xs : List ℕ) → 32 ≤ length xs → little_number 8 xs ≡ 0
     → little_number 8 (drop 8 xs) ≡ 0 → little_number 8 (drop 16 xs) ≡ 0
     → little_number 8 (drop 24 xs) ≡ 0 → AreZeros 32 xs
-AreZeros-words xs long a b c d = record { inside = long; zeros = each } where
+AreZeros-thirty_two xs long a b c d = record { inside = long; zeros = each } where
   each : (k : ℕ) → k < 32 → get_or xs k 0 ≡ 0
   each k lt = elim (cases_lt k 8) [
-    | inl h ↦ word_zeros xs a k h
+    | inl h ↦ eight_zeros xs a k h
     | inr h ↦ elim (cases_lt k 16) [
       | inl i ↦ zeros_at xs 8 b k (omega arith) (omega arith)
       | inr i ↦ elim (cases_lt k 24) [
@@ -49,8 +49,8 @@ AreZeros-words xs long a b c d = record { inside = long; zeros = each } where
     ]
   ]
 
-pub AreZeros-word : (xs : List ℕ) → 8 ≤ length xs → little_number 8 xs ≡ 0 → AreZeros 8 xs
-AreZeros-word xs long a = record { inside = long; zeros = λ k lt. word_zeros xs a k lt }
+pub AreZeros-eight : (xs : List ℕ) → 8 ≤ length xs → little_number 8 xs ≡ 0 → AreZeros 8 xs
+AreZeros-eight xs long a = record { inside = long; zeros = λ k lt. eight_zeros xs a k lt }
 
 six_zeros : (xs : List ℕ) → little_number 4 (drop 2 xs) ≡ 0 → little_number 2 (drop 6 xs) ≡ 0
     → (k : ℕ) → k < 6 → get_or (drop 2 xs) k 0 ≡ 0

@@ -1,4 +1,4 @@
--- Numbers in bytes, the lowest byte first.
+-- What the standard library reads from 2, 4 or 8 bytes is their number, the lowest byte first.
 use Rattle.std.specs.Prelude.{◌≡◌, ℕ, List, take}
 use Rattle.std.specs.Int.{w16, w32, w64, from_le_bytes}
 use Rattle.std.proofs.Common.{arith, lit<}

@@ -67,7 +67,7 @@ swapped_goes p e a s frame z by size register b v new m own base h =
     let c : Scalar = swapped.old in
     let (n, read, has) =
     number_read p e a s frame at serial z by size c m found place swapped.loaded in
-    let answer : load_number s size v by ≡ Ok n = ap (λ x. load_number s size x by) is ∙ read in
+    let loaded : load_number s size v by ≡ Ok n = ap (λ x. load_number s size x by) is ∙ read in
     let stored : ContinuesIn p e swapped.after (store_number s size v by (new n)) =
     ContinuesIn-left p e swapped.after (store_number s size v by (new n))
     (subst (λ x. IfLeft p e swapped.after (store_number s size x by (new n))) (sym is)
@@ -80,7 +80,7 @@ swapped_goes p e a s frame z by size register b v new m own base h =
     (and_then r
     (λ old.
     and_then (store_number s size v by (new old)) (λ t. Ok (keep_old register old t)))))
-    (sym answer)
+    (sym loaded)
     (subst (λ d.
     ContinuesIn p e d
     (and_then (store_number s size v by (new n)) (λ t. Ok (keep_old register n t))))
@@ -120,7 +120,7 @@ value_swapped_goes : (p : Program) (e : Assigned) (a : State) (s : Machine.State
     (λ old. and_then (store_number s size v by (new old)) (λ t. Ok (keep_old register old t))))
 value_swapped_goes p e a s j least greatest by size register b v new m own base
     (inside, (old, is, left)) =
-    let (n, answer, has) =
+    let (n, loaded, has) =
     value_number_read p e a s size j least greatest by old v m inside base is in
     let stored = value_stored p e a s size j least greatest by (new n) v m inside base in
     let kept = value_kept_goes p register old n a
@@ -129,7 +129,7 @@ value_swapped_goes p e a s j least greatest by size register b v new m own base
     (and_then r
     (λ old.
     and_then (store_number s size v by (new old)) (λ t. Ok (keep_old register old t)))))
-    (sym answer)
+    (sym loaded)
     (subst (λ d.
     GoesIntoSome p d
     (and_then (store_number s size v by (new n)) (λ t. Ok (keep_old register n t))))

@@ -29,7 +29,7 @@ Yields e k (Err reason) = ⊥
 
 -- under some assignment the state means what it did, and the kind allows the value
 abbrev pub YieldsUnder : Program → State → Machine.State → Kind → Result Value TrapReason → Type 0
-YieldsUnder p a s k answer = (f : Assigned) × MeansBy p f a s × Yields f k answer
+YieldsUnder p a s k result = (f : Assigned) × MeansBy p f a s × Yields f k result
 
 -- ---- numbers
 

@@ -92,7 +92,7 @@ pub just_allowed : (e : Assigned) (k : Kind) (n : ℕ) → IsJust k n → Allows
 just_allowed e (kind.Number c) n h = (n, refl, h.0)
 just_allowed e k n h = absurd h
 
--- what a form puts into its register is there, and its kind allows it
+-- what a form sets its register to is allowed by the kind of the result
 puts_yields : (p : Program) (clock : ℕ → ℕ) (e : Assigned) (a : State) (s : Machine.State)
     (i : Insn) (d : Reg) (k : Kind) → InsnFits i
     → MeansBy p e a s → list_any (unset_in s) (reads i) ≡ false → writes i ≡ Some d
@@ -183,7 +183,7 @@ below_eleven : (r : Reg) → reg_number r < 11
 below_eleven R0 = omega arith
 below_eleven r = omega arith
 
--- if it is, the machine's next state is a member of the state with that kind in the register
+-- if so, the machine's next state is a member of the state with that kind in the register
 sets_goes : (p : Program) (clock : ℕ → ℕ) (e : Assigned) (a : State) (s : Machine.State) (i : Insn)
     (d : Reg) (k : Kind) (r : Result Value TrapReason)
     → IfNext (act p clock s i) (IsState p) → MeansBy p e a s → d ≢ R10

@@ -104,12 +104,12 @@ live_value : (p : Program) (s : Machine.State) (m n : ℕ) (o : Option MapDef)
 live_value p s m n None here is live some = absurd (omega arith)
 live_value p s m n (Some row) here is live some =
     let (j, within, found) = live_key_value (content_of s m) n live in
-    let entry = key_value_there p s m n j row here is within in (
+    let pair = key_value_there p s m n j row here is within in (
       j,
       record {
         found = found;
-        size = entry.value_size ∙ ap value_size (sym here);
-        bytes = entry.value;
+        size = pair.value_size ∙ ap value_size (sym here);
+        bytes = pair.value;
       },
     )
 

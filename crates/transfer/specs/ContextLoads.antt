@@ -30,5 +30,5 @@ FieldLoads at (Err e) = (e ≡ ContextAccess) × ¬ IsField at
 
 -- each field is loaded by a load of 4 bytes, and nothing else can be loaded
 abbrev pub ContextLoads : Size → ℤ → Result Kind Refusal → Type 0
-ContextLoads U32 at answer = FieldLoads at answer
-ContextLoads size at answer = answer ≡ Err ContextAccess
+ContextLoads U32 at result = FieldLoads at result
+ContextLoads size at result = result ≡ Err ContextAccess

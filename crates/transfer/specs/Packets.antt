@@ -60,30 +60,30 @@ GivesIf refusal inside says (Ok k) = inside × IsNumberOf says k
 GivesIf refusal inside says (Err e) = (e ≡ refusal) × ¬ inside
 
 abbrev pub PacketLoads : Size → ℤ → ℤ → ℕ → ℤ → Result Kind Refusal → Type 0
-PacketLoads size fixed least proved by answer =
-    GivesIf PacketBytes (AreInPacket fixed least proved by (size_bytes size)) (IsOfSize size) answer
+PacketLoads size fixed least proved by result =
+    GivesIf PacketBytes (AreInPacket fixed least proved by (size_bytes size)) (IsOfSize size) result
 
 abbrev pub PacketLoadsSigned : SignedSize → ℤ → ℤ → ℕ → ℤ → Result Kind Refusal → Type 0
-PacketLoadsSigned size fixed least proved by answer =
+PacketLoadsSigned size fixed least proved by result =
     GivesIf PacketBytes (AreInPacket fixed least proved by (size_bytes (unsigned_size size)))
-    (IsOfSignedSize size) answer
+    (IsOfSignedSize size) result
 
 -- ---- stores
 
 -- a number is stored, and no pointer
 abbrev pub IsStoredNumber : Kind → Result (Unit {0}) Refusal → Type 0
-IsStoredNumber (Number numbers) answer = answer ≡ Ok tt
-IsStoredNumber (MapValueOrNull m identity) answer = answer ≡ Err NullNotTested
-IsStoredNumber k answer = answer ≡ Err PointerStored
+IsStoredNumber (Number numbers) result = result ≡ Ok tt
+IsStoredNumber (MapValueOrNull m identity) result = result ≡ Err NullNotTested
+IsStoredNumber k result = result ≡ Err PointerStored
 
 -- the bytes are tested first
 abbrev pub StoresIf : Refusal → Type 0 → Kind → Result (Unit {0}) Refusal → Type 0
-StoresIf refusal inside source answer =
-    (inside × IsStoredNumber source answer) ⊎ ((¬ inside) × (answer ≡ Err refusal))
+StoresIf refusal inside source result =
+    (inside × IsStoredNumber source result) ⊎ ((¬ inside) × (result ≡ Err refusal))
 
 abbrev pub PacketStores : Size → ℤ → ℤ → ℕ → ℤ → Kind → Result (Unit {0}) Refusal → Type 0
-PacketStores size fixed least proved by source answer =
-    StoresIf PacketBytes (AreInPacket fixed least proved by (size_bytes size)) source answer
+PacketStores size fixed least proved by source result =
+    StoresIf PacketBytes (AreInPacket fixed least proved by (size_bytes size)) source result
 
 -- ---- moves
 
@@ -191,16 +191,16 @@ MovesBy a back p by (Err e) =
 
 -- a known number is the distance of the move, read with a sign
 pub record MovesByNumber (a : State) (back : Bool) (p : PacketPointer) (by : Scalar)
-    (answer : Result Kind Refusal) : Type 0 where
+    (result : Result Kind Refusal) : Type 0 where
   pub number : ℕ
   pub alone : IsNumber by number
-  pub moves : MovesBy a back p (signed Full64 number) answer
+  pub moves : MovesBy a back p (signed Full64 number) result
 
 -- any other number by a distance between its signed limits
 pub record MovesByLimits (a : State) (back : Bool) (p : PacketPointer) (by : Scalar)
-    (answer : Result Kind Refusal) : Type 0 where
+    (result : Result Kind Refusal) : Type 0 where
   pub several : (n : ℕ) → ¬ IsNumber by n
-  pub moves : MovesBetween a back p by.range.wide.signed_least by.range.wide.signed_greatest answer
+  pub moves : MovesBetween a back p by.range.wide.signed_least by.range.wide.signed_greatest result
 
 abbrev pub PacketMoves : State → Bool → PacketPointer → Scalar → Result Kind Refusal → Type 0
-PacketMoves a back p by answer = MovesByNumber a back p by answer ⊎ MovesByLimits a back p by answer
+PacketMoves a back p by result = MovesByNumber a back p by result ⊎ MovesByLimits a back p by result

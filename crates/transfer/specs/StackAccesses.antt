@@ -42,8 +42,8 @@ IsNumberLoad slots at size (Some k) = ⊥
 
 -- a load of 8 bytes returns the value that was stored whole
 abbrev pub IsStackLoad : List StackSlot → ℕ → Size → Option Kind → Type 0
-IsStackLoad slots at U64 answer = IsFill (slot_at slots (at / 8)) answer
-IsStackLoad slots at size answer = IsNumberLoad slots at size answer
+IsStackLoad slots at U64 loaded = IsFill (slot_at slots (at / 8)) loaded
+IsStackLoad slots at size loaded = IsNumberLoad slots at size loaded
 
 -- the number, sign-extended
 abbrev pub IsSignedLoad : List StackSlot → ℕ → SignedSize → Option Kind → Type 0

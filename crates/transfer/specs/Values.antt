@@ -40,18 +40,18 @@ pub record AreInValue (room : ℕ) (least greatest by : ℤ) (bytes : ℕ) : Typ
 
 -- nothing is known of the bytes of a value
 abbrev pub ValueLoads : Size → ℕ → ℤ → ℤ → ℤ → Result Kind Refusal → Type 0
-ValueLoads size room least greatest by answer =
+ValueLoads size room least greatest by result =
     GivesIf MapValueBytes (AreInValue room least greatest by (size_bytes size))
-    (IsOfSize size) answer
+    (IsOfSize size) result
 
 abbrev pub ValueLoadsSigned : SignedSize → ℕ → ℤ → ℤ → ℤ → Result Kind Refusal → Type 0
-ValueLoadsSigned size room least greatest by answer =
+ValueLoadsSigned size room least greatest by result =
     GivesIf MapValueBytes (AreInValue room least greatest by (size_bytes (unsigned_size size)))
-    (IsOfSignedSize size) answer
+    (IsOfSignedSize size) result
 
 abbrev pub ValueStores : Size → ℕ → ℤ → ℤ → ℤ → Kind → Result (Unit {0}) Refusal → Type 0
-ValueStores size room least greatest by source answer =
-    StoresIf MapValueBytes (AreInValue room least greatest by (size_bytes size)) source answer
+ValueStores size room least greatest by source result =
+    StoresIf MapValueBytes (AreInValue room least greatest by (size_bytes size)) source result
 
 -- ---- moves
 

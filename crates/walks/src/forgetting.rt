@@ -56,9 +56,9 @@ fn clear(slot: &mut StackSlot)
 pub fn clear_slots(slots: &mut [StackSlot; FRAME_SLOTS])
     ensures { slots.new ≡ replicate frame_slots (StackSlot.Written 0) }
 {
-    for block in 0..FRAME_SLOTS / 8 {
-        for place in 0..8 {
-            clear(&mut slots[8 * block + place]);
+    for byte in 0..FRAME_SLOTS / 8 {
+        for number in 0..8 {
+            clear(&mut slots[8 * byte + number]);
         }
     }
 }
@@ -75,16 +75,16 @@ fn forget_slots(flow: &Flow<'_>, slot: usize, slots: &mut [StackSlot; FRAME_SLOT
         clear_slots(slots);
         return;
     }
-    for block in 0..(FRAME_SLOTS / 8) as u8 {
-        if live.is_empty_in(block) {
-            for place in 0..8u8 {
-                clear(&mut slots[usize::from(8 * block + place)]);
+    for byte in 0..(FRAME_SLOTS / 8) as u8 {
+        if live.is_empty_in(byte) {
+            for number in 0..8u8 {
+                clear(&mut slots[usize::from(8 * byte + number)]);
             }
         } else {
-            for place in 0..8u8 {
-                let number = 8 * block + place;
-                if !live.has(number) {
-                    clear(&mut slots[usize::from(number)]);
+            for number in 0..8u8 {
+                let index = 8 * byte + number;
+                if !live.has(index) {
+                    clear(&mut slots[usize::from(index)]);
                 }
             }
         }

@@ -1,5 +1,4 @@
-//! Addresses: the upper half says which region, and the middle of the lower half is the region's
-//! offset 0.
+//! Addresses: the upper half says which region; in the low half, 2 ^ 31 is the region's offset 0.
 
 ghost use Rattle.std.specs.Prelude.{◌≡◌, ◌-◌, ◌<◌, ◌≤◌, ◌^◌};
 ghost use Rattle.word_machine.specs.Addresses.{base, region_of, packet_index, block_map, block_index, first_frame, frame_index};

@@ -1,4 +1,4 @@
-//! What the program is to do, and why arguments ask for nothing, whatever form a command line has.
+//! What the program is to do, and why arguments ask for nothing, however a command line is written.
 
 ghost use Rattle.std.specs.Prelude.{◌≤◌};
 ghost use Rattle.isa_model.specs.Code.Limits.{max_steps};
@@ -18,9 +18,9 @@ pub enum Task<'a> {
     Prove(Proof<'a>),
     /// Test a proof table of a program.
     Recheck(Proof<'a>),
-    /// Make an image of the text in a file.
+    /// Make an image of the text that a file has.
     Assemble(Assembly<'a>),
-    /// Write the text of the image in a file.
+    /// Write the text of the image that a file has.
     Disassemble(&'a str),
 }
 

@@ -1,4 +1,4 @@
-//! xdpvm: runs BPF programs of the XDP kind on streams of packet frames.
+//! xdpvm: runs BPF programs of the type XDP on streams of packet frames.
 //!
 //! The program calls one function, `execute`, whose contract says what each command does and with
 //! which status it ends. `answer` and `buffered` state what can be stated of the calls around it.

@@ -5,8 +5,8 @@ use super::images::{ENDLESS, OTHER, PASS};
 use std::alloc::Global;
 use table_calls::rechecks::{Rechecked, recheck_table};
 
-/// The second entry of the table without its stack slots; the first entry has only zeros there. Its
-/// r0 is the number 2: value and mask, then its limits at 64 and 32 bits.
+/// The successors of the first entry, and the second entry up to its r1: all behind that is 0. In
+/// the second entry r0 is the number 2: value and mask, then the limits at 64 and at 32 bits.
 const SECOND: [u8; 80] = *b"\x01\x01\0\0\0\
     \x01\0\0\0\x01\0\x01\0\0\
     \x01\x02\0\0\0\0\0\0\0\0\0\0\0\0\0\0\0\

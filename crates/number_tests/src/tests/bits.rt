@@ -1,6 +1,6 @@
-//! How sharp known bits are: examples worked out by hand, of shapes that programs have.
+//! How sharp known bits are, on examples worked out by hand that are like what programs compute.
 
-use super::operations::{Part, Relation};
+use super::operations::{Relation, Unary};
 use isa_model::{AluOp, ByteOrder, Extension, SwapWidth, Width};
 use known_bits::Bits;
 use reg_state::Domain;
@@ -77,52 +77,52 @@ fn sums_products_logic_and_shifts(rt: HostRuntime) -> Result<(), Fail> {
 }
 
 /// An operation, its operand and the result.
-const PARTS: [(Part, Pair, Pair); 7] = [
+const UNARY_OPERATIONS: [(Unary, Pair, Pair); 7] = [
     (
-        Part::SignExtend(Extension::Full8),
+        Unary::SignExtend(Extension::Full8),
         (0x80, 0x7f),
         (0xffff_ffff_ffff_ff80, 0x7f),
     ),
-    (Part::SignExtend(Extension::Full8), (0, 0x7f), (0, 0x7f)),
+    (Unary::SignExtend(Extension::Full8), (0, 0x7f), (0, 0x7f)),
     (
-        Part::SignExtend(Extension::Low16),
+        Unary::SignExtend(Extension::Low16),
         (0x8000, 0),
         (0xffff_8000, 0),
     ),
     (
-        Part::Reorder(ByteOrder::Big, SwapWidth::B16),
+        Unary::Reorder(ByteOrder::Big, SwapWidth::B16),
         ANY,
         (0, 0xffff),
     ),
     (
-        Part::Reorder(ByteOrder::Little, SwapWidth::B32),
+        Unary::Reorder(ByteOrder::Little, SwapWidth::B32),
         ANY,
         (0, 0xffff_ffff),
     ),
     (
-        Part::Reorder(ByteOrder::Swap, SwapWidth::B16),
+        Unary::Reorder(ByteOrder::Swap, SwapWidth::B16),
         (0x1234, 0),
         (0x3412, 0),
     ),
-    (Part::Negate(LOW), (1, 0), (0xffff_ffff, 0)),
+    (Unary::Negate(LOW), (1, 0), (0xffff_ffff, 0)),
 ];
 
-fn part_of(part: &Part, a: Bits) -> Bits {
-    match part {
-        Part::Negate(width) => Domain::negate(*width, a),
-        Part::SignExtend(extension) => Domain::sign_extend(*extension, a),
-        Part::Reorder(order, span) => Domain::reorder(*order, *span, a),
+fn unary_of(operation: &Unary, a: Bits) -> Bits {
+    match operation {
+        Unary::Negate(width) => Domain::negate(*width, a),
+        Unary::SignExtend(extension) => Domain::sign_extend(*extension, a),
+        Unary::Reorder(order, span) => Domain::reorder(*order, *span, a),
     }
 }
 
-fn pair_of_part(part: &Part, a: Pair) -> Pair {
-    pair_of(part_of(part, bits_of(a)))
+fn pair_of_unary(operation: &Unary, a: Pair) -> Pair {
+    pair_of(unary_of(operation, bits_of(a)))
 }
 
 #[test]
-fn parts(rt: HostRuntime) -> Result<(), Fail> {
-    for (part, a, wanted) in PARTS.iter() {
-        assert_eq!(rt; pair_of_part(part, *a), *wanted);
+fn unary_operations(rt: HostRuntime) -> Result<(), Fail> {
+    for (operation, a, wanted) in UNARY_OPERATIONS.iter() {
+        assert_eq!(rt; pair_of_unary(operation, *a), *wanted);
     }
     Ok(())
 }

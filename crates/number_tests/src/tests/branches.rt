@@ -15,7 +15,7 @@ type Limits = (u64, u64);
 
 const ANY: Limits = (0, u64::MAX);
 
-const LOW_HALF: Limits = (0, 0xffff_ffff);
+const UNSIGNED_32: Limits = (0, 0xffff_ffff);
 
 const SEVEN: Limits = (7, 7);
 
@@ -49,7 +49,7 @@ const ROWS: [Row; 13] = [
     (Comparison::Less, LOW, R3, true, [(7, 100), (5, 10)], Some([(7, 9), (8, 10)])),
     // For a number whose upper half is not known, the comparison narrows the low half.
     (Comparison::Less, LOW, TEN, true, [ANY, ANY], Some([(0, 0xffff_ffff_0000_0009), ANY])),
-    (Comparison::Less, LOW, TEN, true, [LOW_HALF, ANY], Some([(0, 9), ANY])),
+    (Comparison::Less, LOW, TEN, true, [UNSIGNED_32, ANY], Some([(0, 9), ANY])),
     (Comparison::Equal, FULL, R3, true, [SEVEN, SEVEN], Some([SEVEN, SEVEN])),
     (Comparison::Equal, FULL, R3, false, [SEVEN, SEVEN], None),
     // Equal numbers are members of both sets.

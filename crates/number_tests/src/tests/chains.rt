@@ -2,7 +2,7 @@
 //! contract, so a row costs little; and none has a type parameter, since a call of a function over
 //! any domain costs as much as the whole trait.
 
-use super::operations::Part;
+use super::operations::Unary;
 use isa_model::{AluOp, Comparison, Width};
 use reg_state::{Domain, Scalar, refine};
 use std::process::Abort;
@@ -50,7 +50,7 @@ pub enum Change {
     Alu(AluOp, Width, u64),
     /// An operation with the set itself.
     Itself(AluOp, Width),
-    Part(Part),
+    Unary(Unary),
     /// The members for which the comparison with a number holds, or does not.
     Compare(Comparison, Width, bool, u64),
     /// The common members with a set.
@@ -59,11 +59,11 @@ pub enum Change {
     MeetMasked(u64),
 }
 
-fn part_of(part: &Part, a: Scalar) -> Scalar {
-    match part {
-        Part::Negate(width) => Scalar::negate(*width, a),
-        Part::SignExtend(extension) => Scalar::sign_extend(*extension, a),
-        Part::Reorder(order, span) => Scalar::reorder(*order, *span, a),
+fn unary_of(operation: &Unary, a: Scalar) -> Scalar {
+    match operation {
+        Unary::Negate(width) => Scalar::negate(*width, a),
+        Unary::SignExtend(extension) => Scalar::sign_extend(*extension, a),
+        Unary::Reorder(order, span) => Scalar::reorder(*order, *span, a),
     }
 }
 
@@ -73,7 +73,7 @@ fn next(change: &Change, set: Scalar) -> Option<Scalar> {
             Some(Scalar::alu(*op, *width, set, Scalar::constant(*number)))
         }
         Change::Itself(op, width) => Some(Scalar::alu(*op, *width, set, set)),
-        Change::Part(part) => Some(part_of(part, set)),
+        Change::Unary(operation) => Some(unary_of(operation, set)),
         Change::Compare(comparison, width, taken, number) => {
             refined(*comparison, *width, *taken, set, *number)
         }

@@ -68,7 +68,7 @@ const REGISTERS: [Row; 11] = [
     (IN_LAST, NOTHING, false),
     (IN_LAST, IN_LAST, true),
     (IN_LAST_LATER, IN_LAST, false),
-    // Numbers are covered by their limits.
+    // All numbers cover the number 7.
     (ANY_NUMBER, SEVEN, true),
     (SEVEN, ANY_NUMBER, false),
 ];

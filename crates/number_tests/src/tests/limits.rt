@@ -1,6 +1,6 @@
-//! How tight limits are: examples worked out by hand, of shapes that programs have.
+//! How tight limits are, on examples worked out by hand that are like what programs compute.
 
-use super::operations::{Part, Relation};
+use super::operations::{Relation, Unary};
 use isa_model::{AluOp, ByteOrder, Extension, SwapWidth, Width};
 use ranges::{Low, Range};
 use reg_state::Domain;
@@ -199,53 +199,57 @@ fn sums_products_logic_and_shifts(rt: HostRuntime) -> Result<(), Fail> {
 }
 
 /// An operation, its operand and the result.
-const PARTS: [(Part, Set, Set); 8] = [
-    (Part::Negate(FULL), BYTE, Set::Signed(-255, 0)),
+const UNARY_OPERATIONS: [(Unary, Set, Set); 8] = [
+    (Unary::Negate(FULL), BYTE, Set::Signed(-255, 0)),
     (
-        Part::Reorder(ByteOrder::Big, SwapWidth::B16),
+        Unary::Reorder(ByteOrder::Big, SwapWidth::B16),
         Set::Any,
         Set::Between(0, 0xffff),
     ),
-    (Part::Reorder(ByteOrder::Little, SwapWidth::B32), BYTE, BYTE),
     (
-        Part::SignExtend(Extension::Low8),
+        Unary::Reorder(ByteOrder::Little, SwapWidth::B32),
+        BYTE,
+        BYTE,
+    ),
+    (
+        Unary::SignExtend(Extension::Low8),
         Set::Between(3, 100),
         Set::Between(3, 100),
     ),
     (
-        Part::SignExtend(Extension::Full8),
+        Unary::SignExtend(Extension::Full8),
         Set::Any,
         Set::Signed(-128, 127),
     ),
     (
-        Part::SignExtend(Extension::Full16),
+        Unary::SignExtend(Extension::Full16),
         Set::Any,
         Set::Signed(-32768, 32767),
     ),
     (
-        Part::SignExtend(Extension::Full32),
+        Unary::SignExtend(Extension::Full32),
         Set::Any,
         Set::Signed(-2147483648, 2147483647),
     ),
     (
-        Part::SignExtend(Extension::Full8),
+        Unary::SignExtend(Extension::Full8),
         Set::Signed(-5, 3),
         Set::Signed(-5, 3),
     ),
 ];
 
-fn part_of(part: &Part, a: Range) -> Range {
-    match part {
-        Part::Negate(width) => Domain::negate(*width, a),
-        Part::SignExtend(extension) => Domain::sign_extend(*extension, a),
-        Part::Reorder(order, span) => Domain::reorder(*order, *span, a),
+fn unary_of(operation: &Unary, a: Range) -> Range {
+    match operation {
+        Unary::Negate(width) => Domain::negate(*width, a),
+        Unary::SignExtend(extension) => Domain::sign_extend(*extension, a),
+        Unary::Reorder(order, span) => Domain::reorder(*order, *span, a),
     }
 }
 
 #[test]
-fn parts(rt: HostRuntime) -> Result<(), Fail> {
-    for (part, a, wanted) in PARTS.iter() {
-        let (found, wanted) = (part_of(part, range_of(*a)), range_of(*wanted));
+fn unary_operations(rt: HostRuntime) -> Result<(), Fail> {
+    for (operation, a, wanted) in UNARY_OPERATIONS.iter() {
+        let (found, wanted) = (unary_of(operation, range_of(*a)), range_of(*wanted));
         assert_eq!(rt; found, wanted);
     }
     Ok(())

@@ -2,7 +2,7 @@
 //! worked out by hand.
 
 use super::chains::{Change, Look, Row, Set, are_seen, refined, set_of};
-use super::operations::Part;
+use super::operations::Unary;
 use isa_model::{AluOp, ByteOrder, Comparison, Extension, SwapWidth, Width};
 use reg_state::Scalar;
 use std::test::Fail;
@@ -143,7 +143,7 @@ const CASTS: [Row; 6] = [
     ),
     (
         EVERY,
-        &[BELOW_TEN, FROM_THREE, MINUS_FIVE, Change::Part(Part::SignExtend(Extension::Full32))],
+        &[BELOW_TEN, FROM_THREE, MINUS_FIVE, Change::Unary(Unary::SignExtend(Extension::Full32))],
         &[Look::Signed(-2, 4)],
     ),
     (
@@ -154,12 +154,12 @@ const CASTS: [Row; 6] = [
     // Known bits are narrowed by the limits of the whole number that these leave.
     (
         EVERY,
-        &[BELOW_TEN, FROM_THREE, Change::Part(Part::SignExtend(Extension::Low16))],
+        &[BELOW_TEN, FROM_THREE, Change::Unary(Unary::SignExtend(Extension::Low16))],
         &[Look::Mask(15)],
     ),
     (
         EVERY,
-        &[BELOW_TEN, FROM_THREE, Change::Part(Part::Reorder(ByteOrder::Little, SwapWidth::B32))],
+        &[BELOW_TEN, FROM_THREE, Change::Unary(Unary::Reorder(ByteOrder::Little, SwapWidth::B32))],
         &[Look::Mask(15)],
     ),
 ];

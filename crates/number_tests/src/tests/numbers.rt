@@ -1,6 +1,6 @@
 //! Vectors at the ends of the ranges, worked out from the rules of RFC 9669, sections 4.1 to 4.3.
 
-use super::operations::Part;
+use super::operations::Unary;
 use isa_model::numbers::{compare, compute, negate, reorder, sign_extend};
 use isa_model::{AluOp, ByteOrder, Comparison, Extension, SwapWidth, Width};
 use std::test::Fail;
@@ -163,32 +163,32 @@ const DIGITS: u64 = 0x0102_0304_0506_0708;
 
 // Operation, operand and result.
 #[rattlefmt::skip]
-const PARTS: [(Part, u64, u64); 25] = [
-    (Part::Negate(Width::Full64), 1, MINUS_ONE),
-    (Part::Negate(Width::Full64), LEAST, LEAST),
-    (Part::Negate(Width::Low32), 1, 0xffff_ffff),
-    (Part::Negate(Width::Low32), TWO_32, 0),
-    (Part::SignExtend(Extension::Low8), 0x1_0000_007f, 0x7f),
-    (Part::SignExtend(Extension::Low8), 0x80, 0xffff_ff80),
-    (Part::SignExtend(Extension::Low8), MINUS_ONE, 0xffff_ffff),
-    (Part::SignExtend(Extension::Low16), 0x7fff, 0x7fff),
-    (Part::SignExtend(Extension::Low16), 0xabcd_8000, 0xffff_8000),
-    (Part::SignExtend(Extension::Full8), 0x17f, 0x7f),
-    (Part::SignExtend(Extension::Full8), 0x80, 0xffff_ffff_ffff_ff80),
-    (Part::SignExtend(Extension::Full16), 0x1_7fff, 0x7fff),
-    (Part::SignExtend(Extension::Full16), 0x8000, 0xffff_ffff_ffff_8000),
-    (Part::SignExtend(Extension::Full32), TWO_31, 0xffff_ffff_8000_0000),
-    (Part::SignExtend(Extension::Full32), 0x1_7fff_ffff, 0x7fff_ffff),
-    (Part::SignExtend(Extension::Full32), TWO_32, 0),
-    (Part::Reorder(ByteOrder::Little, SwapWidth::B16), DIGITS, 0x0708),
-    (Part::Reorder(ByteOrder::Little, SwapWidth::B32), DIGITS, 0x0506_0708),
-    (Part::Reorder(ByteOrder::Little, SwapWidth::B64), DIGITS, DIGITS),
-    (Part::Reorder(ByteOrder::Big, SwapWidth::B16), DIGITS, 0x0807),
-    (Part::Reorder(ByteOrder::Big, SwapWidth::B32), DIGITS, 0x0807_0605),
-    (Part::Reorder(ByteOrder::Big, SwapWidth::B64), DIGITS, 0x0807_0605_0403_0201),
-    (Part::Reorder(ByteOrder::Swap, SwapWidth::B16), DIGITS, 0x0807),
-    (Part::Reorder(ByteOrder::Swap, SwapWidth::B32), DIGITS, 0x0807_0605),
-    (Part::Reorder(ByteOrder::Swap, SwapWidth::B64), DIGITS, 0x0807_0605_0403_0201),
+const UNARY_OPERATIONS: [(Unary, u64, u64); 25] = [
+    (Unary::Negate(Width::Full64), 1, MINUS_ONE),
+    (Unary::Negate(Width::Full64), LEAST, LEAST),
+    (Unary::Negate(Width::Low32), 1, 0xffff_ffff),
+    (Unary::Negate(Width::Low32), TWO_32, 0),
+    (Unary::SignExtend(Extension::Low8), 0x1_0000_007f, 0x7f),
+    (Unary::SignExtend(Extension::Low8), 0x80, 0xffff_ff80),
+    (Unary::SignExtend(Extension::Low8), MINUS_ONE, 0xffff_ffff),
+    (Unary::SignExtend(Extension::Low16), 0x7fff, 0x7fff),
+    (Unary::SignExtend(Extension::Low16), 0xabcd_8000, 0xffff_8000),
+    (Unary::SignExtend(Extension::Full8), 0x17f, 0x7f),
+    (Unary::SignExtend(Extension::Full8), 0x80, 0xffff_ffff_ffff_ff80),
+    (Unary::SignExtend(Extension::Full16), 0x1_7fff, 0x7fff),
+    (Unary::SignExtend(Extension::Full16), 0x8000, 0xffff_ffff_ffff_8000),
+    (Unary::SignExtend(Extension::Full32), TWO_31, 0xffff_ffff_8000_0000),
+    (Unary::SignExtend(Extension::Full32), 0x1_7fff_ffff, 0x7fff_ffff),
+    (Unary::SignExtend(Extension::Full32), TWO_32, 0),
+    (Unary::Reorder(ByteOrder::Little, SwapWidth::B16), DIGITS, 0x0708),
+    (Unary::Reorder(ByteOrder::Little, SwapWidth::B32), DIGITS, 0x0506_0708),
+    (Unary::Reorder(ByteOrder::Little, SwapWidth::B64), DIGITS, DIGITS),
+    (Unary::Reorder(ByteOrder::Big, SwapWidth::B16), DIGITS, 0x0807),
+    (Unary::Reorder(ByteOrder::Big, SwapWidth::B32), DIGITS, 0x0807_0605),
+    (Unary::Reorder(ByteOrder::Big, SwapWidth::B64), DIGITS, 0x0807_0605_0403_0201),
+    (Unary::Reorder(ByteOrder::Swap, SwapWidth::B16), DIGITS, 0x0807),
+    (Unary::Reorder(ByteOrder::Swap, SwapWidth::B32), DIGITS, 0x0807_0605),
+    (Unary::Reorder(ByteOrder::Swap, SwapWidth::B64), DIGITS, 0x0807_0605_0403_0201),
 ];
 
 // At 64 and at 32 bits.
@@ -223,18 +223,18 @@ fn comparisons_at_the_ends(rt: HostRuntime) -> Result<(), Fail> {
     Ok(())
 }
 
-fn part_of(part: &Part, a: u64) -> u64 {
-    match part {
-        Part::Negate(width) => negate(*width, a),
-        Part::SignExtend(extension) => sign_extend(*extension, a),
-        Part::Reorder(order, span) => reorder(*order, *span, a),
+fn unary_of(operation: &Unary, a: u64) -> u64 {
+    match operation {
+        Unary::Negate(width) => negate(*width, a),
+        Unary::SignExtend(extension) => sign_extend(*extension, a),
+        Unary::Reorder(order, span) => reorder(*order, *span, a),
     }
 }
 
 #[test]
-fn parts(rt: HostRuntime) -> Result<(), Fail> {
-    for (part, a, wanted) in PARTS.iter() {
-        assert_eq!(rt; part_of(part, *a), *wanted, "of {a:x}");
+fn unary_operations(rt: HostRuntime) -> Result<(), Fail> {
+    for (operation, a, wanted) in UNARY_OPERATIONS.iter() {
+        assert_eq!(rt; unary_of(operation, *a), *wanted, "of {a:x}");
     }
     Ok(())
 }

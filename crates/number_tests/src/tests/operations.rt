@@ -3,7 +3,7 @@
 use isa_model::{ByteOrder, Extension, SwapWidth, Width};
 
 /// An operation on one number.
-pub enum Part {
+pub enum Unary {
     Negate(Width),
     SignExtend(Extension),
     Reorder(ByteOrder, SwapWidth),

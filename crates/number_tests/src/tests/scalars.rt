@@ -2,7 +2,7 @@
 //! domain does with each of them.
 
 use super::chains::{Change, Look, Row, Set, are_seen, refined, set_of};
-use super::operations::Part;
+use super::operations::Unary;
 use isa_model::{AluOp, ByteOrder, Comparison, Extension, SwapWidth, Width};
 use known_bits::Bits;
 use ranges::Range;
@@ -40,20 +40,24 @@ const SUMS_AND_PRODUCTS: [Row; 5] = [
     ),
     (BYTE, &[Change::Alu(AluOp::Mul, FULL, 6)], &[Look::GreatestAtMost(1530), Look::Even]),
     (BYTE, &[Change::Alu(AluOp::Sub, FULL, 10)], &[Look::Signed(-10, 245)]),
-    (BYTE, &[Change::Part(Part::Negate(FULL))], &[Look::Signed(-255, 0)]),
+    (BYTE, &[Change::Unary(Unary::Negate(FULL))], &[Look::Signed(-255, 0)]),
 ];
 
 #[rattlefmt::skip]
-const PARTS: [Row; 8] = [
+const UNARY_OPERATIONS: [Row; 8] = [
     (ALL, &[Change::Alu(AluOp::And, FULL, 15)], &[Look::Wide(0, 15)]),
     (ALL, &[Change::Itself(AluOp::Mov, LOW)], &[Look::Wide(0, 0xffff_ffff)]),
-    (ALL, &[Change::Part(Part::Reorder(ByteOrder::Big, SwapWidth::B16))], &[Look::Wide(0, 0xffff)]),
+    (
+        ALL,
+        &[Change::Unary(Unary::Reorder(ByteOrder::Big, SwapWidth::B16))],
+        &[Look::Wide(0, 0xffff)],
+    ),
     (ALL, &[Change::Alu(AluOp::Rsh, FULL, 48)], &[Look::Wide(0, 0xffff)]),
     (BYTE, &[Change::Alu(AluOp::Xor, FULL, 0x30)], &[Look::Wide(0, 255)]),
-    (ALL, &[Change::Part(Part::SignExtend(Extension::Full8))], &[Look::Signed(-128, 127)]),
+    (ALL, &[Change::Unary(Unary::SignExtend(Extension::Full8))], &[Look::Signed(-128, 127)]),
     // An even number stays even. If the sign bit is not known, the least member has it and no other
     // bit.
-    (ALL, &[EVEN, Change::Part(Part::SignExtend(Extension::Full8))], &[Look::Even]),
+    (ALL, &[EVEN, Change::Unary(Unary::SignExtend(Extension::Full8))], &[Look::Even]),
     (
         ALL,
         &[Change::Alu(AluOp::And, FULL, 0x8000_0000_0000_000f)],
@@ -142,7 +146,7 @@ const LOW_HALVES: [Row; 6] = [
 #[test]
 fn operations(rt: HostRuntime) {
     are_seen(&rt, &SUMS_AND_PRODUCTS);
-    are_seen(&rt, &PARTS);
+    are_seen(&rt, &UNARY_OPERATIONS);
 }
 
 #[test]

@@ -1,4 +1,4 @@
-//! What is known of the bytes of a call frame, on frames filled by hand.
+//! What is known of the bytes of a call frame, on frames written by hand.
 
 use isa_model::{Size, Width};
 use reg_state::{Domain, Kind, Scalar};

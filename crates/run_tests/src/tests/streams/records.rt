@@ -1,4 +1,4 @@
-//! Records of readers and writers that fail after each byte, and the magic.
+//! Records from a reader and to a writer that fail after each byte, and the magic.
 
 use failing_io::{FAILURES, Failure, Reader, Writer};
 use frames::{FrameReader, Next, write_frame};

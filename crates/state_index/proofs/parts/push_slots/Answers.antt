@@ -6,7 +6,7 @@ use Rattle.state_index.proofs.parts.push_slots.Goals.{then-not-are_blank+else-lo
 
 pub loop-number-preserved : goal.loop-number-preserved
 loop-number-preserved c =
-    let b : ℕ = c.loop-group.group in
+    let b : ℕ = c.loop-byte.byte in
     let k : ℕ = c.loop-number.number in
     slot_parts-from c.push_slot.new.parts.items _ c.args.slots.now (8 * b + k + 1) (8 * b + (k + 1))
     (omega arith)
@@ -16,19 +16,19 @@ loop-number-preserved c =
 
 pub loop-number-init : goal.loop-number-init
 loop-number-init c =
-    let b : ℕ = c.loop-group.group in
-    slot_parts-from c.loop-group.parts.items _ c.args.slots.now (8 * b) (8 * b + 0)
-    (omega arith) c.loop-group.invariant
+    let b : ℕ = c.loop-byte.byte in
+    slot_parts-from c.loop-byte.parts.items _ c.args.slots.now (8 * b) (8 * b + 0)
+    (omega arith) c.loop-byte.invariant
 
 pub returns-clause-pushed : goal.returns-clause-pushed
 returns-clause-pushed c =
-    slot_parts-all c.loop-group.parts.items _ c.args.slots.now (8 * c.loop-group.group)
-    (omega arith) c.loop-group.invariant
+    slot_parts-all c.loop-byte.parts.items _ c.args.slots.now (8 * c.loop-byte.byte)
+    (omega arith) c.loop-byte.invariant
 
-pub loop-group-preserved : goal.loop-group-preserved
-loop-group-preserved c =
+pub loop-byte-preserved : goal.loop-byte-preserved
+loop-byte-preserved c =
     let ts = c.args.slots.now in
-    let b : ℕ = c.loop-group.group in
+    let b : ℕ = c.loop-byte.byte in
     elim c.if-not-are_blank.branch [
       | then-not-are_blank+else-loop-number-test w ↦
           let k : ℕ = w.loop-number.number in
@@ -37,9 +37,9 @@ loop-group-preserved c =
           (omega arith) w.loop-number.invariant)
       | else-not-are_blank w ↦
           rw w.parts-is
-          (slot_parts-from c.loop-group.parts.items _ ts (8 * b + 8) (8 * (b + 1)) (omega arith)
-          (slot_parts-skip_all c.loop-group.parts.items _ ts (8 * b) 8 (omega arith)
-          (c.are_blank.ensures w.if-not-are_blank.false) c.loop-group.invariant))
+          (slot_parts-from c.loop-byte.parts.items _ ts (8 * b + 8) (8 * (b + 1)) (omega arith)
+          (slot_parts-skip_all c.loop-byte.parts.items _ ts (8 * b) 8 (omega arith)
+          (c.are_blank.ensures w.if-not-are_blank.false) c.loop-byte.invariant))
     ]
 
 pub returns-then-is_empty-clause-pushed : goal.returns-then-is_empty-clause-pushed

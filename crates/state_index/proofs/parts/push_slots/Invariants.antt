@@ -8,8 +8,8 @@ use Rattle.state_index.proofs.parts.push_slots.Given as goal
 abbrev pub ArePushed : ℕ → List StackSlot → List Part → List Part → Type 0
 ArePushed n slots before parts = parts ++ slot_parts n (drop n slots) ≡ before ++ slot_parts 0 slots
 
-abbrev pub invariant-loop-group : goal.invariant-loop-group
-invariant-loop-group l = ArePushed (8 * l.group) l.slots l.fn.parts.items l.parts.items
+abbrev pub invariant-loop-byte : goal.invariant-loop-byte
+invariant-loop-byte l = ArePushed (8 * l.byte) l.slots l.fn.parts.items l.parts.items
 
 abbrev pub invariant-loop-number : goal.invariant-loop-number
-invariant-loop-number l = ArePushed (8 * l.group + l.number) l.slots l.fn.parts.items l.parts.items
+invariant-loop-number l = ArePushed (8 * l.byte + l.number) l.slots l.fn.parts.items l.parts.items

@@ -1,8 +1,8 @@
 use Rattle.std.proofs.Common.{sym, ◌∙◌}
-use Rattle.table_entries.proofs.BlankSlots.{AreZeros-word}
+use Rattle.table_entries.proofs.BlankSlots.{AreZeros-eight}
 use Rattle.table_entries.proofs.blanks.begins_with_four.Goals as goal
 
 pub returns : goal.returns
 returns c =
-    λ yes. AreZeros-word c.args.bytes.now c.if-bytes-lt8.false
+    λ yes. AreZeros-eight c.args.bytes.now c.if-bytes-lt8.false
     (sym c.u64_at.ensures ∙ c.if-u64_at-ne0.false)

@@ -5,8 +5,8 @@ use Rattle.walks.proofs.forgetting.clear_slots.Goals as goal
 
 pub returns : goal.returns
 returns c =
-    let i : ℕ = 8 * c.loop-block.block in
+    let i : ℕ = 8 * c.loop-byte.byte in
     let all : i ≡ 64 = omega arith in
-    sym (take_all i c.loop-block.slots (omega (arith, all, c.loop-block.invariant.0)))
-    ∙ c.loop-block.invariant.1
+    sym (take_all i c.loop-byte.slots (omega (arith, all, c.loop-byte.invariant.0)))
+    ∙ c.loop-byte.invariant.1
     ∙ ap (λ (n : ℕ). replicate n (Written 0)) all

@@ -8,8 +8,8 @@ use Rattle.walks.proofs.forgetting.clear_slots.Given as goal
 abbrev pub AreCleared : ℕ → List StackSlot → Type 0
 AreCleared n slots = (length slots ≡ frame_slots) × (take n slots ≡ replicate n (Written 0))
 
-abbrev pub invariant-loop-block : goal.invariant-loop-block
-invariant-loop-block l = AreCleared (8 * l.block) l.slots
+abbrev pub invariant-loop-byte : goal.invariant-loop-byte
+invariant-loop-byte l = AreCleared (8 * l.byte) l.slots
 
-abbrev pub invariant-loop-place : goal.invariant-loop-place
-invariant-loop-place l = AreCleared (8 * l.block + l.place) l.slots
+abbrev pub invariant-loop-number : goal.invariant-loop-number
+invariant-loop-number l = AreCleared (8 * l.byte + l.number) l.slots

@@ -5,11 +5,11 @@ use Rattle.explorer.proofs.Walking.{Path-walks}
 use Rattle.explorer.proofs.Telling.{told_begin, refused_begin}
 use Rattle.explorer.proofs.search.Search.run.Goals as goal
 
-pub returns-in-Explore-turn-clause-stops : goal.returns-in-Explore-turn-clause-stops
-returns-in-Explore-turn-clause-stops g c =
+pub returns-in-Explore-next_move-clause-stops : goal.returns-in-Explore-next_move-clause-stops
+returns-in-Explore-next_move-clause-stops g c =
     let p = c.args.flow.now in
     let search = c.loop-explored.self in
-    let goes = rw c.in-Explore-turn.is at c.loop-explored.invariant.goes in (
+    let goes = rw c.in-Explore-next_move.is at c.loop-explored.invariant.goes in (
       record {
         state = search.current;
         steps = length search.path.items;

@@ -5,8 +5,8 @@ use Rattle.explorer.proofs.search.Search.run.Given as goal
 
 abbrev pub invariant-loop-explored : goal.invariant-loop-explored
 invariant-loop-explored g l = record {
-  goes : IsNext l.flow l.self l.turn;
+  goes : IsNext l.flow l.self l.next_move;
   told : FollowsNext l.flow
-      (g.L.Listener.follows l.listener l.flow) l.self.path.items l.self.current l.turn;
+      (g.L.Listener.follows l.listener l.flow) l.self.path.items l.self.current l.next_move;
   explored : l.self.finished + length l.self.path.items ≡ l._explored;
 }

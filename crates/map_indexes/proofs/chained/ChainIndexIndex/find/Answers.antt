@@ -2,7 +2,7 @@ use Rattle.std.proofs.Common.{◌≡◌, ℕ, List, Option, Some, None, refl, sy
 use Rattle.std.specs.Prelude.{IfSome}
 use Rattle.std.specs.FinMap as map
 use Rattle.map_indexes.specs.PlaceKeys.{PlaceKeys, places}
-use Rattle.map_indexes.specs.Chains.{spot, link_in}
+use Rattle.map_indexes.specs.Chains.{chain_place, link_in}
 use Rattle.map_indexes.specs.ChainIndexes.{IsChainIndex, HasKey}
 use Rattle.map_indexes.proofs.ListedLinks.{link_in-is}
 use Rattle.map_indexes.proofs.ChainIndexesLaws.{found}
@@ -10,7 +10,7 @@ use Rattle.map_indexes.proofs.chained.ChainIndexIndex.find.Goals as goal
 
 -- the number of a link is its place
 placed : (keys : PlaceKeys) (free : List ℕ) (count : ℕ) (chains nexts : List (Option ℕ))
-    → IsChainIndex keys free count (λ k. spot (link_in chains nexts k))
+    → IsChainIndex keys free count (λ k. chain_place (link_in chains nexts k))
     → (key : List ℕ) (at : Option ℕ) → IfSome at (HasKey keys (link_in chains nexts) key) → (at
     ≡ None → map.get (places keys) key ≡ None)
     → at ≡ map.get (places keys) key

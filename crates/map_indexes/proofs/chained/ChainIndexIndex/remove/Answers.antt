@@ -6,7 +6,7 @@ use Rattle.map_indexes.proofs.KeyBytes.{AreKeys-cleared}
 use Rattle.map_indexes.proofs.PlaceKeysLaws.{places-emptied, remove_absent}
 use Rattle.map_indexes.specs.ScanLaws.{key_inside}
 use Rattle.map_indexes.proofs.ScanLaws.{scan_some}
-use Rattle.map_indexes.specs.Chains.{spot, link_in}
+use Rattle.map_indexes.specs.Chains.{chain_place, link_in}
 use Rattle.map_indexes.specs.ChainIndexes.{IsChainIndex}
 use Rattle.map_indexes.proofs.ListedLinks.{link_in-is}
 use Rattle.map_indexes.proofs.ChainIndexesLaws.{chain_index-removed, found}
@@ -38,16 +38,16 @@ invariant_of-self-clause-index c =
     let p : ℕ = c.in_ok-place.place in
     let e = c.remove.ensures in
     let at = (link_in-is s.chains.chains s.chains.nexts p h.link h.there).1 in
-    let new = λ (k : ℕ). spot (link_in t.chains t.nexts k) in
+    let new = λ (k : ℕ). chain_place (link_in t.chains t.nexts k) in
     subst (λ (x : PlaceKeys). IsChainIndex x c.push_reserved.new.self.items t.count new)
     (sym c.clear.ensures.keys)
     (subst (λ (x : List ℕ). IsChainIndex (slice_set keys p None) x t.count new)
     (sym c.push_reserved.ensures.items)
     (subst (λ (x : ℕ). IsChainIndex (slice_set keys p None) (free ++ p ∷ []) x new) (sym e.count)
-    (chain_index-removed keys free s.chains.count (λ (k : ℕ). spot
+    (chain_index-removed keys free s.chains.count (λ (k : ℕ). chain_place
     (link_in s.chains.chains s.chains.nexts k)) s.index c.args.key.now p p h.link.chain
-    (ap spot h.there ∙ (λ i. Some (h.link.chain, at i))) (has
-    (goal.at.invariant_of-self-clause-index c).In_ok-place) new (ap spot e.removed)
+    (ap chain_place h.there ∙ (λ i. Some (h.link.chain, at i))) (has
+    (goal.at.invariant_of-self-clause-index c).In_ok-place) new (ap chain_place e.removed)
     (λ j d. e.others j d))))
 
 pub invariant_of-self-clause-sized : goal.invariant_of-self-clause-sized

@@ -1,8 +1,8 @@
 use Rattle.std.proofs.Common.{◌≡◌, ℕ, ◌<◌, List, length, Option, Some, ap, sym, subst, ◌∙◌, arith}
 use Rattle.std.specs.Prelude.{IfSome, slice_set}
-use Rattle.map_indexes.specs.Chains.{link_in, heads_led, nexts_led, spot, IsChained}
+use Rattle.map_indexes.specs.Chains.{link_in, heads_led, nexts_led, chain_place, IsChained}
 use Rattle.map_indexes.proofs.ChainLaws.{number_or, length-heads_led, length-head_set, length-nexts_led}
-use Rattle.map_indexes.proofs.ListedLinks.{before_some, still_some, leads, fits, lists_added, added_spot, added_spots}
+use Rattle.map_indexes.proofs.ListedLinks.{before_some, still_some, leads, fits, lists_added, added_chain_place, added_chain_places}
 use Rattle.map_indexes.proofs.chains.Chains.add.Goals as goal
 
 pub after-next-requires-clause-from : goal.after-next-requires-clause-from
@@ -18,8 +18,8 @@ set-requires-clause-small c =
     let b = c.requires.chain in
     omega arith
 
-pub set-requires-2-clause-place : goal.set-requires-2-clause-place
-set-requires-2-clause-place c =
+pub set-requires-2-clause-inside : goal.set-requires-2-clause-inside
+set-requires-2-clause-inside c =
     let w = c.args.self.now.whole in
     let a = c.requires.at in
     omega arith
@@ -99,8 +99,8 @@ returns-clause-added c =
     let from = c.behind-from.result in
     let next = c.after-next.result in
     let nexts = c.lead.ensures.nexts ∙ ap (nexts_led from (Some c.args.at)) c.set-2.ensures in
-    (λ k. spot (link_in (c.set.ensures k) (nexts k) c.args.at))
-    ∙ added_spot s.heads s.chains s.nexts s.chained s.whole c.args.chain c.args.at from
+    (λ k. chain_place (link_in (c.set.ensures k) (nexts k) c.args.at))
+    ∙ added_chain_place s.heads s.chains s.nexts s.chained s.whole c.args.chain c.args.at from
     c.behind-from.ensures next c.requires.at
 
 pub returns-clause-others : goal.returns-clause-others
@@ -109,8 +109,8 @@ returns-clause-others c = λ j d.
     let from = c.behind-from.result in
     let next = c.after-next.result in
     let nexts = c.lead.ensures.nexts ∙ ap (nexts_led from (Some c.args.at)) c.set-2.ensures in
-    (λ k. spot (link_in (c.set.ensures k) (nexts k) j))
-    ∙ added_spots s.heads s.chains s.nexts s.chained s.whole c.args.chain c.args.at from
+    (λ k. chain_place (link_in (c.set.ensures k) (nexts k) j))
+    ∙ added_chain_places s.heads s.chains s.nexts s.chained s.whole c.args.chain c.args.at from
     c.behind-from.ensures next c.requires.at j d
 
 pub returns-clause-room : goal.returns-clause-room

@@ -1,9 +1,9 @@
 use Rattle.std.proofs.Common.{◌≡◌, ℕ, List, length, Option, Some, None, ap, sym, subst, ◌∙◌, arith}
 use Rattle.std.specs.Prelude.{slice_index_or, slice_set}
 use Rattle.map_indexes.specs.declared.chains.Link.{Link}
-use Rattle.map_indexes.specs.Chains.{link_with, link_in, heads_led, nexts_led, spot, IsChained}
+use Rattle.map_indexes.specs.Chains.{link_with, link_in, heads_led, nexts_led, chain_place, IsChained}
 use Rattle.map_indexes.proofs.ChainLaws.{length-heads_led, length-head_set, length-nexts_led}
-use Rattle.map_indexes.proofs.ListedLinks.{fits, lists_removed, gone_here, gone_spots}
+use Rattle.map_indexes.proofs.ListedLinks.{fits, lists_removed, gone_here, gone_chain_places}
 use Rattle.map_indexes.proofs.chains.Chains.remove.Goals as goal
 use Rattle.map_indexes.proofs.chains.Chains.remove.Goals.{After-at-next}
 
@@ -68,8 +68,8 @@ returns-clause-removed c =
 pub returns-clause-others : goal.returns-clause-others
 returns-clause-others c = λ j d.
     let s = c.args.self.now in
-    (λ k. spot (link_in (c.set.ensures k) (c.lead.ensures.nexts k) j))
-    ∙ gone_spots s.heads s.chains s.nexts s.chained s.whole c.in-Some.chain c.args.at
+    (λ k. chain_place (link_in (c.set.ensures k) (c.lead.ensures.nexts k) j))
+    ∙ gone_chain_places s.heads s.chains s.nexts s.chained s.whole c.in-Some.chain c.args.at
     c.behind-from.result c.behind-from.ensures c.at-next.result j d
 
 pub returns-clause-room : goal.returns-clause-room

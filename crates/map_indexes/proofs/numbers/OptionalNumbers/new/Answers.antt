@@ -1,7 +1,7 @@
 use Rattle.std.proofs.Common.{◌≡◌, ℕ, zero, suc, List, ◌∷◌, map, Option, None, refl, ap, ◌∙◌}
 use Rattle.std.specs.Prelude.{replicate}
-use Rattle.map_indexes.specs.PlaceNumbers.{number_of}
-use Rattle.map_indexes.proofs.numbers.PlaceNumbers.new.Goals as goal
+use Rattle.map_indexes.specs.OptionalNumbers.{number_of}
+use Rattle.map_indexes.proofs.numbers.OptionalNumbers.new.Goals as goal
 
 none : (n : ℕ) → map number_of (replicate n 0) ≡ replicate n None
 none zero = refl

@@ -1,8 +1,8 @@
 use Rattle.std.proofs.Common.{ℕ, List, length, Option, None, sym, ap, ◌∙◌, arith}
 use Rattle.std.proofs.lemmas.List.{get_or-map, get_or_read, length-map}
 use Rattle.std.specs.Prelude.{slice_index_or}
-use Rattle.map_indexes.specs.PlaceNumbers.{number_of}
-use Rattle.map_indexes.proofs.numbers.PlaceNumbers.at.Goals as goal
+use Rattle.map_indexes.specs.OptionalNumbers.{number_of}
+use Rattle.map_indexes.proofs.numbers.OptionalNumbers.at.Goals as goal
 
 pub index-requires : goal.index-requires
 index-requires c =
@@ -20,7 +20,7 @@ returns c =
     let same = length-map l.codes.items number_of in
     let h = c.requires in
     c.number_of.ensures
-    ∙ ap number_of (get_or_read l.codes.items c.args.place c.index.result.now
+    ∙ ap number_of (get_or_read l.codes.items c.args.i c.index.result.now
     (omega arith) c.index.ensures 0)
-    ∙ sym (get_or-map number_of l.codes.items c.args.place 0 None (omega arith))
-    ∙ ap (λ (xs : List (Option ℕ)). slice_index_or xs c.args.place None) c.self.view_is
+    ∙ sym (get_or-map number_of l.codes.items c.args.i 0 None (omega arith))
+    ∙ ap (λ (xs : List (Option ℕ)). slice_index_or xs c.args.i None) c.self.view_is
