@@ -69,6 +69,11 @@ fn difference(alloc: Global, old: &RowCell, new: &RowCell) -> Result<RowCell, Al
     }
 }
 
+/// A text as a cell.
+fn text_cell(alloc: Global, text: &str) -> Result<RowCell, AllocError> {
+    Ok(RowCell::Text(String::from_str(alloc, text)?))
+}
+
 /// A row that says what changed.
 fn change(
     alloc: Global,
@@ -78,15 +83,9 @@ fn change(
     new: RowCell,
 ) -> Result<Vec<RowCell>, AllocError> {
     let by = difference(alloc, &old, &new)?;
-    let file = RowCell::Text(String::from_str(alloc, file)?);
-    let column = RowCell::Text(String::from_str(alloc, column.name())?);
-    let mut cells = Vec::new(alloc);
-    cells.push(file)?;
-    cells.push(column)?;
-    cells.push(old)?;
-    cells.push(new)?;
-    cells.push(by)?;
-    Ok(cells)
+    let file = text_cell(alloc, file)?;
+    let column = text_cell(alloc, column.name())?;
+    Ok(vec![in alloc; file, column, old, new, by]?)
 }
 
 /// Adds what changed in a column.
@@ -158,25 +157,57 @@ fn files_of(alloc: Global, rows: &[Row]) -> Result<IndexSet<&[u8]>, AllocError> 
     Ok(files)
 }
 
+/// Adds what changed for each image, and each image that is new.
+fn add_surveyed(
+    alloc: Global,
+    earlier: &Earlier,
+    surveyed: &[Row],
+    rows: &mut Vec<Vec<RowCell>>,
+) -> Result<(), AllocError> {
+    let by_file = earlier.by_file(alloc)?;
+    for row in surveyed {
+        match by_file.get(row.file.as_bytes()) {
+            Some(old_row) => add_changes(alloc, earlier, *old_row, row, rows)?,
+            None => add_new(alloc, row, rows)?,
+        }
+    }
+    Ok(())
+}
+
+/// Adds each image that is gone.
+fn add_all_gone(
+    alloc: Global,
+    earlier: &Earlier,
+    surveyed: &[Row],
+    rows: &mut Vec<Vec<RowCell>>,
+) -> Result<(), AllocError> {
+    let files = files_of(alloc, surveyed)?;
+    for old_row in earlier.rows() {
+        if !files.contains(earlier.file(old_row)) {
+            add_gone(alloc, earlier, old_row, rows)?;
+        }
+    }
+    Ok(())
+}
+
+/// A row for each value that changed, for each image that is new, and for each one that is gone.
+fn rows_since(
+    alloc: Global,
+    earlier: &Earlier,
+    surveyed: &[Row],
+) -> Result<Vec<Vec<RowCell>>, AllocError> {
+    let mut rows = Vec::new(alloc);
+    add_surveyed(alloc, earlier, surveyed, &mut rows)?;
+    add_all_gone(alloc, earlier, surveyed, &mut rows)?;
+    Ok(rows)
+}
+
 /// The differences from an earlier survey, which is given as the bytes of its CSV: a row for each
 /// cell that changed, for each image that is new, and for each one that is gone. Times are not
 /// compared.
 pub fn changes_since(alloc: Global, bytes: &[u8], surveyed: &[Row]) -> Result<Grid, EarlierError> {
     let earlier = Earlier::read(alloc, bytes)?;
-    let by_file = earlier.by_file(alloc)?;
-    let files = files_of(alloc, surveyed)?;
-    let mut rows = Vec::new(alloc);
-    for row in surveyed {
-        match by_file.get(row.file.as_bytes()) {
-            Some(old_row) => add_changes(alloc, &earlier, *old_row, row, &mut rows)?,
-            None => add_new(alloc, row, &mut rows)?,
-        }
-    }
-    for old_row in earlier.rows() {
-        if !files.contains(earlier.file(old_row)) {
-            add_gone(alloc, &earlier, old_row, &mut rows)?;
-        }
-    }
+    let rows = rows_since(alloc, &earlier, surveyed)?;
     let heads = Vec::from_slice(alloc, &HEADS)?;
     Ok(Grid { heads, rows })
 }

@@ -7,7 +7,7 @@ use std::alloc::{AllocError, Global};
 use std::io;
 
 /// Why a survey cannot be compared with an earlier one.
-#[derive(Clone, Copy, PartialEq, Eq, Debug, Drop)]
+#[derive(Clone, Copy, Drop)]
 pub enum EarlierError {
     /// It is not CSV, or has no column `file`.
     Form,
@@ -70,26 +70,42 @@ fn index_of(names: &ByteRecord, column: Column) -> Option<usize> {
     None
 }
 
+/// The names of the columns, which are in the first row.
+fn names_in(alloc: Global, reader: &mut Reader<&[u8]>) -> Result<ByteRecord, EarlierError> {
+    let Some(names) = next(alloc, reader)? else {
+        return Err(EarlierError::Form);
+    };
+    if index_of(&names, Column::File).is_none() {
+        return Err(EarlierError::Form);
+    }
+    Ok(names)
+}
+
+/// The next rows: `most` of them, or all that are left if those are fewer.
+fn rows_in(
+    alloc: Global,
+    reader: &mut Reader<&[u8]>,
+    most: usize,
+) -> Result<Vec<ByteRecord>, EarlierError> {
+    let mut rows = Vec::new(alloc);
+    for _ in 0..most {
+        match next(alloc, reader)? {
+            Some(row) => keep(&mut rows, row)?,
+            None => break,
+        }
+    }
+    Ok(rows)
+}
+
 impl Earlier {
     /// The survey that bytes spell.
     pub fn read(alloc: Global, bytes: &[u8]) -> Result<Self, EarlierError> {
         let mut reader = ReaderBuilder::new()
             .has_headers(false)
             .from_reader(alloc, bytes);
-        let Some(names) = next(alloc, &mut reader)? else {
-            return Err(EarlierError::Form);
-        };
-        if index_of(&names, Column::File).is_none() {
-            return Err(EarlierError::Form);
-        }
-        let mut rows = Vec::new(alloc);
+        let names = names_in(alloc, &mut reader)?;
         // Each row has at least one byte.
-        for _ in 0..bytes.len() {
-            match next(alloc, &mut reader)? {
-                Some(row) => keep(&mut rows, row)?,
-                None => break,
-            }
-        }
+        let rows = rows_in(alloc, &mut reader, bytes.len())?;
         Ok(Earlier { names, rows })
     }
 
