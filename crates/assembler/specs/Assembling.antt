@@ -236,7 +236,8 @@ abbrev pub next_lexeme : ℕ → List ℕ → Result (Lexeme × ℕ) Refusal
 next_lexeme at bs =
     ok_or (lexeme_at bs) (record { kind = UnknownByte; offset = at + unknown_at bs })
 
--- the result of reading the bytes at that offset of a text, after the first k of them
+-- what was read when the text has ended, or the refusal: these bytes are left, from offset `at` on,
+-- and the first k of them are of a lexeme that is read already
 abbrev pub read_on : List ℕ → ℕ → ℕ → ReadSoFar → Result ReadSoFar Refusal
 read_on [] k at s = at_end s
 read_on (b ∷ bs) (suc k) at s = read_on bs k (at + 1) s
@@ -270,7 +271,7 @@ assembled text = error_in text (program_in text)
 
 -- ---- what calls return
 
--- a call returns, by its view, the wanted result or its refusal, or it is out of memory
-abbrev pub Answers : {A B : Type 0} → (A → B) → Result A Refusal → Result B Refusal → Type 0
-Answers view (Ok x) wanted = wanted ≡ Ok (view x)
-Answers view (Err e) wanted = (e.kind ≡ Memory) ⊎ (wanted ≡ Err e)
+-- the result of a call is, by its view, the wanted one or its refusal, or it is out of memory
+abbrev pub IsAsWanted : {A B : Type 0} → (A → B) → Result A Refusal → Result B Refusal → Type 0
+IsAsWanted view (Ok x) wanted = wanted ≡ Ok (view x)
+IsAsWanted view (Err e) wanted = (e.kind ≡ Memory) ⊎ (wanted ≡ Err e)

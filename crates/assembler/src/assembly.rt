@@ -5,7 +5,7 @@ ghost use Rattle.isa_model.specs.Code.Instructions.{Program};
 ghost use Rattle.isa_model.specs.Text.CanonicalText.{canonical_text};
 ghost use Rattle.image.specs.Images.{IsImage};
 ghost use Rattle.assembler.specs.declared.errors.AsmErrorKind.TheVariants as AsmErrorKind;
-ghost use Rattle.assembler.specs.Assembling.{start, read_on, program_of, finished, program_in, assembled, Answers};
+ghost use Rattle.assembler.specs.Assembling.{start, read_on, program_of, finished, program_in, assembled, IsAsWanted};
 ghost use Rattle.assembler.specs.Drafts.{progress_of};
 
 use super::draft::{Draft, Span};
@@ -34,7 +34,7 @@ fn after(bytes: &[u8], count: usize) -> &[u8]
 
 // Reads the whole text into the draft.
 fn read_into<'a>(draft: &mut Draft<'a>, text: &'a [u8]) -> Result<(), Refusal>
-    ensures { Answers (λ _. progress_of draft.new) result
+    ensures { IsAsWanted (λ _. progress_of draft.new) result
         (read_on text.now 0 0 (progress_of draft.old)) }
 {
     let mut rest = text;
@@ -61,7 +61,7 @@ fn read_into<'a>(draft: &mut Draft<'a>, text: &'a [u8]) -> Result<(), Refusal>
 
 // Reads the whole text.
 fn read<'a>(alloc: Global, text: &'a [u8]) -> Result<Draft<'a>, Refusal>
-    ensures { Answers (λ draft. progress_of draft) result (read_on text.now 0 0 start) }
+    ensures { IsAsWanted (λ draft. progress_of draft) result (read_on text.now 0 0 start) }
 {
     let mut draft = Draft::new(alloc);
     match read_into(&mut draft, text) {
@@ -78,7 +78,7 @@ fn image_with(
     maps: &[MapDef],
     insns: &[Insn],
 ) -> Result<Image, Refusal>
-    ensures { Answers (λ image. image) result (program_of version maps.now insns.now) }
+    ensures { IsAsWanted (λ image. image) result (program_of version maps.now insns.now) }
 {
     if insns.is_empty() {
         return Err(Refusal {
@@ -97,7 +97,7 @@ fn image_with(
 
 // The image of a text that was read.
 fn finish(alloc: Global, draft: Draft<'_>) -> Result<Image, Refusal>
-    ensures { Answers (λ image. image) result (finished (progress_of draft.entry)) }
+    ensures { IsAsWanted (λ image. image) result (finished (progress_of draft.entry)) }
 {
     let Draft {
         tokens: _,
@@ -114,7 +114,7 @@ fn finish(alloc: Global, draft: Draft<'_>) -> Result<Image, Refusal>
 }
 
 fn image_of(alloc: Global, text: &[u8]) -> Result<Image, Refusal>
-    ensures { Answers (λ image. image) result (program_in text.now) }
+    ensures { IsAsWanted (λ image. image) result (program_in text.now) }
 {
     match read(alloc, text) {
         Ok(draft) => finish(alloc, draft),

@@ -5,7 +5,7 @@ ghost use Rattle.lexer.specs.declared.tokens.Lexeme.TheVariants as Lexeme;
 ghost use Rattle.assembler.specs.declared.errors.AsmErrorKind.TheVariants as AsmErrorKind;
 ghost use Rattle.assembler.specs.declared.readings.Statement.TheVariants as Statement;
 ghost use Rattle.assembler.specs.Labelled.{is_label, label_length, has_form};
-ghost use Rattle.assembler.specs.Assembling.{start, accept, at_end, ended, added, named, is_first, with_use, refused_by, refusal_of, offset_or, Answers};
+ghost use Rattle.assembler.specs.Assembling.{start, accept, at_end, ended, added, named, is_first, with_use, refused_by, refusal_of, offset_or, IsAsWanted};
 ghost use Rattle.assembler.specs.Drafts.{span_of, progress_of};
 ghost use Rattle.assembler.specs.Naming.{use_of};
 
@@ -71,7 +71,7 @@ impl<'a> Draft<'a> {
 
     /// Takes the next lexeme of the text.
     pub fn accept(&mut self, lexeme: Lexeme, span: Span<'a>) -> Result<(), Refusal>
-        ensures { Answers (λ _. progress_of self.new) result
+        ensures { IsAsWanted (λ _. progress_of self.new) result
             (accept (progress_of self.old) lexeme (span_of span.entry)) }
     {
         match lexeme {
@@ -82,7 +82,7 @@ impl<'a> Draft<'a> {
     }
 
     fn take(&mut self, token: Token, span: Span<'a>) -> Result<(), Refusal>
-        ensures exact { Answers (λ _. progress_of self.new) result
+        ensures exact { IsAsWanted (λ _. progress_of self.new) result
             (accept (progress_of self.old) (Lexeme.Solid token) (span_of span.entry)) }
         ensures offset { IfErr result
             (λ e. e.offset
@@ -101,7 +101,7 @@ impl<'a> Draft<'a> {
     /// Ends the statement: an optional label, and nothing, a map line or an instruction; or a
     /// version line.
     pub fn close(&mut self) -> Result<(), Refusal>
-        ensures { Answers (λ _. progress_of self.new) result (at_end (progress_of self.old)) }
+        ensures { IsAsWanted (λ _. progress_of self.new) result (at_end (progress_of self.old)) }
     {
         let label = self.label_length();
         let statement = match spelled_behind(label, &self.tokens[label..]) {
@@ -119,7 +119,7 @@ impl<'a> Draft<'a> {
 
     // Ends a statement that tokens spell. Its label has `label` tokens.
     fn end(&mut self, statement: Statement, label: usize) -> Result<(), Refusal>
-        ensures { Answers (λ _. progress_of self.new) result
+        ensures { IsAsWanted (λ _. progress_of self.new) result
             (ended (progress_of self.old) label statement) }
     {
         match statement {
@@ -141,7 +141,7 @@ impl<'a> Draft<'a> {
 
     // Adds the row of the statement, a map line.
     fn add_row(&mut self, row: MapDef) -> Result<(), Refusal>
-        ensures exact { Answers (λ _. progress_of self.new) result
+        ensures exact { IsAsWanted (λ _. progress_of self.new) result
             (ended (progress_of self.old) 0 (Statement.Row row)) }
         ensures offset { IfErr result
             (λ e. e.offset ≡ offset_or (slice_get (map span_of self.old.spans.items) 0) 0) }
@@ -162,7 +162,7 @@ impl<'a> Draft<'a> {
 
     // Adds the instruction of the statement. Its tokens were read without the first `skipped` ones.
     fn add(&mut self, reading: Reading, skipped: usize) -> Result<(), Refusal>
-        ensures exact { Answers (λ _. progress_of self.new) result
+        ensures exact { IsAsWanted (λ _. progress_of self.new) result
             (added (progress_of self.old) skipped reading) }
         ensures offset { IfErr result
             (λ e. e.offset ≡ offset_or (slice_get (map span_of self.old.spans.items) 0) 0) }
@@ -238,7 +238,7 @@ impl<'a> Draft<'a> {
 
     // Defines the label of the statement, which has `label` tokens, if it has one.
     fn define_before(&mut self, label: usize) -> Result<(), Refusal>
-        ensures { Answers (λ _. progress_of self.new) result
+        ensures { IsAsWanted (λ _. progress_of self.new) result
             (if label == 0 then Ok (progress_of self.old) else named (progress_of self.old)) }
     {
         if label > 0 {
@@ -250,7 +250,7 @@ impl<'a> Draft<'a> {
 
     // The statement's first token is a name for the slot of the next instruction.
     fn define_label(&mut self) -> Result<(), Refusal>
-        ensures { Answers (λ _. progress_of self.new) result (named (progress_of self.old)) }
+        ensures { IsAsWanted (λ _. progress_of self.new) result (named (progress_of self.old)) }
     {
         let Some(span) = self.spans.get(0).copied() else {
             return Ok(());

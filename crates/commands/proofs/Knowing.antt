@@ -6,7 +6,7 @@ use Rattle.exact_io.specs.declared.buffering.PromptWriter.{PromptWriter}
 use Rattle.exact_io.specs.Waiting.{held}
 use Rattle.std.specs.declared.alloc.Global.{Global}
 use Rattle.isa_model.specs.{Program}
-use Rattle.words.specs.Requests.{TaskRequest, ProofFiles, Trace, Run, Verify, Prove, Recheck, Assemble, Disassemble}
+use Rattle.words.specs.Requests.{TaskRequest, TableFiles, Trace, Run, Verify, Prove, Recheck, Assemble, Disassemble}
 use Rattle.host.specs.declared.errors.HostError.{HostError}
 use Rattle.host.specs.declared.stops.Stops.{Stops}
 use Rattle.host.specs.declared.traced.Traced.{Traced}
@@ -28,7 +28,7 @@ Knows o why = (why ≡ None)
     ⊎ ((source : List ℕ) × TellsText source o why)))
 
 -- what is known if no bound was shown
-none_knows : (files : ProofFiles) (old new : Option (List ℕ)) (r : Ending)
+none_knows : (files : TableFiles) (old new : Option (List ℕ)) (r : Ending)
     → ShowsNone files old new r → Knows r.outcome r.why
 none_knows files old new r (inl h) = inl h.1
 none_knows files old new r (inr (p, is, inl h)) = inl h.1

@@ -1,4 +1,4 @@
--- That what a task did is what its command does, by how far it came: an image, a table, a text.
+-- What a task did is what its command does, by how far it came: with an image, a table, a text.
 use Rattle.std.proofs.Common.{◌≡◌, ℕ, List, Option, None, String, Result, Ok, Err, subst, sym, inl, inr, ◌⊎◌, ◌∙◌}
 use Rattle.std.specs.Prelude.{IfOk, IfErr}
 use Rattle.std.specs.declared.alloc.Global.{Global}
@@ -22,7 +22,7 @@ use Rattle.commands.specs.Lines.{bound_line, size_line}
 use Rattle.commands.specs.Judging.{Accepts, IsBoundOf, RefusesProgram, RefusesTable, Verifies, StoresImage}
 use Rattle.commands.specs.Streams.{RunsAccepted, Traces}
 use Rattle.commands.specs.Proving.{StoresTable}
-use Rattle.words.specs.Requests.{RunFiles, ProofFiles}
+use Rattle.words.specs.Requests.{RunFiles, TableFiles}
 use Rattle.commands.specs.Commands.{LoadsNone, ShowsNone, TracesFile, TracesSome, IsShown, VerifiesFile, RechecksFile, ProvesFile, ProvesSome, RunsFile, RunsOn, RunsShown, RunsSome, OpensNone, Assembles, AssemblesFile, StoresSome}
 
 -- the streams were not opened
@@ -184,16 +184,16 @@ shown_of : (p : Program) (bytes : List ℕ) (v : Bounded) → v.program ≡ p �
     → ShowsBound p bytes v.bound → IsShown v
 shown_of p bytes v same h shows = (bytes, record { verified = h; shows = rw same shows })
 
-pub shows_unloaded : (files : ProofFiles) (old new : Option (List ℕ)) (o : TaskOutcome) (r : Ending)
+pub shows_unloaded : (files : TableFiles) (old new : Option (List ℕ)) (o : TaskOutcome) (r : Ending)
     → LoadsNone files.image old new o → r.outcome ≡ o → r.why ≡ None → ShowsNone files old new r
 shows_unloaded files old new o r h same none = inl (unloaded files.image old new o r h same none)
 
-pub shows_unread : (files : ProofFiles) (old new : Option (List ℕ)) (p : Program) (o : TaskOutcome)
+pub shows_unread : (files : TableFiles) (old new : Option (List ℕ)) (p : Program) (o : TaskOutcome)
     (r : Ending) → new ≡ old → IsImage p → IsReadFailure files.table o → r.outcome ≡ o
     → r.why ≡ None → ShowsNone files old new r
 shows_unread files old new p o r e h failed same none = inr (p, h, inl ((rw same failed, e), none))
 
-shows_refused : (files : ProofFiles) (old mid new : Option (List ℕ)) (p : Program) (bytes : List ℕ)
+shows_refused : (files : TableFiles) (old mid new : Option (List ℕ)) (p : Program) (bytes : List ℕ)
     (r : Ending) → mid ≡ old → IsImage p → RefusesTable p bytes mid new r.outcome
     → IsKnownOfTable p bytes r → ShowsNone files old new r
 shows_refused files old mid new p bytes r e h refused known =
@@ -215,7 +215,7 @@ pub shown_if : (p : Program) (bytes : List ℕ) (r : Result Bounded Ending)
 shown_if p bytes (Ok v) same h shows = shown_of p bytes v same h shows
 shown_if p bytes (Err ending) same h shows = tt
 
-pub refused_if : (files : ProofFiles) (old mid new : Option (List ℕ)) (p : Program) (bytes : List ℕ)
+pub refused_if : (files : TableFiles) (old mid new : Option (List ℕ)) (p : Program) (bytes : List ℕ)
     (r : Result Bounded Ending) → mid ≡ old → IsImage p
     → IfErr r (λ e. RefusesTable p bytes mid new e.outcome)
     → IfErr r (λ e. IsKnownOfTable p bytes e) → IfErr r (λ e. ShowsNone files old new e)
@@ -223,7 +223,7 @@ refused_if files old mid new p bytes (Ok v) e h refused known = tt
 refused_if files old mid new p bytes (Err ending) e h refused known =
     shows_refused files old mid new p bytes ending e h refused known
 
-pub bound_said : (files : ProofFiles) (old mid new : Option (List ℕ)) (v : Bounded)
+pub bound_said : (files : TableFiles) (old mid new : Option (List ℕ)) (v : Bounded)
     (o : TaskOutcome) (r : Ending) → mid ≡ old → IsShown v → Accepts v mid new o → r.outcome ≡ o
     → r.why ≡ None → RechecksFile files old new r
 bound_said files old mid new v o r e is accepts same none =
@@ -256,17 +256,17 @@ shown_unopened files table old mid new v o r e f is failed same none =
 
 -- ---- `prove`
 
-pub prove_unloaded : (files : ProofFiles) (old new : Option (List ℕ)) (o : TaskOutcome) (r : Ending)
+pub prove_unloaded : (files : TableFiles) (old new : Option (List ℕ)) (o : TaskOutcome) (r : Ending)
     → LoadsNone files.image old new o → r.outcome ≡ o → r.why ≡ None → ProvesFile files old new r
 prove_unloaded files old new o r h same none = inl (unloaded files.image old new o r h same none)
 
-pub prove_refused : (files : ProofFiles) (old mid new : Option (List ℕ)) (p : Program) (r : Ending)
+pub prove_refused : (files : TableFiles) (old mid new : Option (List ℕ)) (p : Program) (r : Ending)
     → mid ≡ old → IsImage p → RefusesProgram p mid new r.outcome → IsKnownOfProgram p r
     → ProvesFile files old new r
 prove_refused files old mid new p r e h v known =
     inr (p, h, (inl (subst (λ (o : Option (List ℕ)). RefusesProgram p o new r.outcome) e v), known))
 
-pub prove_unmade : (files : ProofFiles) (old mid new : Option (List ℕ)) (v : Bounded)
+pub prove_unmade : (files : TableFiles) (old mid new : Option (List ℕ)) (v : Bounded)
     (o : TaskOutcome) (r : Ending) → mid ≡ old → new ≡ mid → IsBoundOf v.program v.bound
     → IsMakeFailure files.table o
     → r.outcome ≡ o → r.why ≡ None → ProvesFile files old new r
@@ -277,7 +277,7 @@ prove_unmade files old mid new v o r e f h failed same none =
       (inr (v.bound, h, inl (rw same failed, f ∙ e)), tells-none v.program r.outcome r.why none),
     )
 
-pub table_stored : (files : ProofFiles) (old mid now new before after : Option (List ℕ))
+pub table_stored : (files : TableFiles) (old mid now new before after : Option (List ℕ))
     (v : Bounded) (line : List ℕ) (o : TaskOutcome) (r : Ending) → mid ≡ old → now ≡ mid
     → IsBoundOf v.program v.bound
     → line ≡ bound_line v.bound → StoresTable v.program line files.table before after now new o

@@ -13,7 +13,7 @@ use Rattle.host.specs.declared.errors.HostError.TheVariants as failure
 use Rattle.host.specs.declared.tallies.Tally.{Tally}
 use Rattle.host.specs.declared.traced.Traced.{Traced}
 use Rattle.host.specs.Tallies.{tallied}
-use Rattle.words.specs.Requests.{TaskRequest, RunFiles, ProofFiles, Trace, Run, Verify, Prove, Recheck, Assemble, Disassemble}
+use Rattle.words.specs.Requests.{TaskRequest, RunFiles, TableFiles, Trace, Run, Verify, Prove, Recheck, Assemble, Disassemble}
 use Rattle.words.specs.declared.tasks.WordsError.{WordsError}
 use Rattle.words.specs.declared.tasks.WordsError.TheVariants.{Wrong, Memory}
 use Rattle.proof_table.specs.declared.errors.WriteTableError.{WriteTableError}
@@ -208,7 +208,7 @@ verify_silent path old new r (inl (loads, none)) e = loads_silent path old new r
 verify_silent path old new r (inr (p, is, (verdict, known))) e =
     verdict_silent p old new r.outcome verdict e
 
-shows_silent : (files : ProofFiles) (old new : Option (List ℕ)) (r : Ending)
+shows_silent : (files : TableFiles) (old new : Option (List ℕ)) (r : Ending)
     → ShowsNone files old new r → is_silent r.outcome ≡ true → new ≡ old
 shows_silent files old new r (inl (loads, none)) e = loads_silent _ old new r.outcome loads e
 shows_silent files old new r (inr (p, is, inl (reads, none))) e = reads.1
@@ -221,7 +221,7 @@ shown_silent files table old new r (inl shows) e = shows_silent _ old new r show
 shown_silent files table old new r (inr (v, is, (runs, none))) e =
     on_silent files v old new r.outcome runs e
 
-recheck_silent : (files : ProofFiles) (old new : Option (List ℕ)) (r : Ending)
+recheck_silent : (files : TableFiles) (old new : Option (List ℕ)) (r : Ending)
     → RechecksFile files old new r → is_silent r.outcome ≡ true → new ≡ old
 recheck_silent files old new r (inl shows) e = shows_silent files old new r shows e
 recheck_silent files old new r (inr (v, is, (accepts, none))) e =
@@ -250,7 +250,7 @@ written_silent p line name before after old new r stores e = by stores.ends
     by (inr (inl (gains, begins, fails, same))) = same
     by (inr (inr (begins, part, (error, ends)))) = unwritten_silent name error old new r ends e
 
-prove_silent : (files : ProofFiles) (old new : Option (List ℕ)) (r : Ending)
+prove_silent : (files : TableFiles) (old new : Option (List ℕ)) (r : Ending)
     → ProvesFile files old new r → is_silent r.outcome ≡ true → new ≡ old
 prove_silent files old new r (inl (loads, none)) e = loads_silent _ old new r.outcome loads e
 prove_silent files old new r (inr (p, is, (inl refuses, known))) e =

@@ -17,7 +17,7 @@ use Rattle.commands.specs.Saying.{Says}
 use Rattle.commands.specs.Judging.{Accepts, IsBoundOf, IsBoundShown, RefusesImage, RefusesProgram, RefusesTable, RefusesText, StoresImage, Verifies}
 use Rattle.commands.specs.Streams.{RunsAccepted, Traces}
 use Rattle.commands.specs.Proving.{StoresTable}
-use Rattle.words.specs.Requests.{TaskRequest, RunFiles, ProofFiles, Trace, Run, Verify, Prove, Recheck, Assemble, Disassemble}
+use Rattle.words.specs.Requests.{TaskRequest, RunFiles, TableFiles, Trace, Run, Verify, Prove, Recheck, Assemble, Disassemble}
 
 -- ---- files
 
@@ -40,7 +40,7 @@ ReadsImage P = (p : Program) × IsImage p × P p
 
 -- the image could not be read, or after it the table; or one of the two is refused, and the text at
 -- the end of the message says what is known
-abbrev pub ShowsNone : ProofFiles → Option (List ℕ) → Option (List ℕ) → Ending → Type 0
+abbrev pub ShowsNone : TableFiles → Option (List ℕ) → Option (List ℕ) → Ending → Type 0
 ShowsNone files old new result =
     Plainly (LoadsNone files.image old new) result
     ⊎ ReadsImage (λ p. Plainly (ReadsNone files.table old new) result
@@ -132,7 +132,7 @@ RunsShown files table old new result =
     ⊎ ShowsSome (λ v. Plainly (RunsOn files v old new) result)
 
 -- `recheck`: standard output says the bound that a table shows
-abbrev pub RechecksFile : ProofFiles → Option (List ℕ) → Option (List ℕ) → Ending → Type 0
+abbrev pub RechecksFile : TableFiles → Option (List ℕ) → Option (List ℕ) → Ending → Type 0
 RechecksFile files old new result =
     ShowsNone files old new result ⊎ ShowsSome (λ v. Plainly (Accepts v old new) result)
 
@@ -150,7 +150,7 @@ AcceptsAndProves table p old new result =
     × (MakesNone table old new result ⊎ ProvesSome p bound table old new result)
 
 -- `prove`: if the program is refused, the text at the end of the message says what is known
-abbrev pub ProvesFile : ProofFiles → Option (List ℕ) → Option (List ℕ) → Ending → Type 0
+abbrev pub ProvesFile : TableFiles → Option (List ℕ) → Option (List ℕ) → Ending → Type 0
 ProvesFile files old new result =
     Plainly (LoadsNone files.image old new) result
     ⊎ ReadsImage

@@ -47,16 +47,16 @@ Executes contents words old new result =
 
 -- the program does what the arguments ask for, returns the status of how that ended, and writes its
 -- messages to standard error
-abbrev pub AnswersWords : {W : Type 0} → (W → Option (List ℕ)) → List (List ℕ) → PromptWriter W
+abbrev pub ExecutesWords : {W : Type 0} → (W → Option (List ℕ)) → List (List ℕ) → PromptWriter W
     → PromptWriter W → Option (List ℕ) → Option (List ℕ) → ℕ → Type 0
-AnswersWords contents words old new before after status =
+ExecutesWords contents words old new before after status =
     (e : Ending) × (status ≡ status_of e.outcome) × Executes contents words old new e
     × AppendsPart before after (told_of e)
 
 -- the arguments could not be read: standard error says why, and nothing is done
-abbrev pub AnswersError : {W : Type 0} → WordsError → PromptWriter W → PromptWriter W
+abbrev pub TellsWordsError : {W : Type 0} → WordsError → PromptWriter W → PromptWriter W
     → Option (List ℕ) → Option (List ℕ) → ℕ → Type 0
-AnswersError error old new before after status =
+TellsWordsError error old new before after status =
     (o : TaskOutcome) × IsWordsEnd error o × (status ≡ status_of o) × (new ≡ old)
     × AppendsPart before after (message_of o)
 

@@ -7,14 +7,14 @@ use Rattle.commands.specs.declared.forms.FileForm.{FileForm}
 use Rattle.commands.specs.Forms.{stream_line}
 
 -- the end of the line with the sentence, and then a line with a hint
-abbrev pub fault_help : Fault → FileForm → List ℕ
-fault_help BadMagic form = stream_line form
-fault_help TruncatedHead form = codes "\nthe file was cut: make it again\n"
-fault_help TooLong form =
+abbrev pub fault_hint : Fault → FileForm → List ℕ
+fault_hint BadMagic form = stream_line form
+fault_hint TruncatedHead form = codes "\nthe file was cut: make it again\n"
+fault_hint TooLong form =
     codes "\nshorten the frame, or make a stream of XPF2 by frames.py --reasons\n"
-fault_help TruncatedBody form = codes "\nthe file was cut: make it again\n"
-fault_help ReadFailed form = codes "\nsee that it is a file, and that the disk is sound\n"
-fault_help TooManyRecords form = codes "\nsplit the stream\n"
+fault_hint TruncatedBody form = codes "\nthe file was cut: make it again\n"
+fault_hint ReadFailed form = codes "\nsee that it is a file, and that the disk is sound\n"
+fault_hint TooManyRecords form = codes "\nsplit the stream\n"
 
 -- what the frames out hold, if the stream's magic is wrong
 abbrev pub fault_rest : Fault → List ℕ
@@ -22,4 +22,4 @@ fault_rest BadMagic = codes "the frames out are a magic alone\n"
 fault_rest fault = codes ""
 
 abbrev pub fault_lines : Fault → FileForm → List ℕ
-fault_lines fault form = streams.sentence_of fault ++ (fault_help fault form ++ fault_rest fault)
+fault_lines fault form = streams.sentence_of fault ++ (fault_hint fault form ++ fault_rest fault)

@@ -43,8 +43,8 @@ text_position line column =
 
 -- ---- hints
 
-abbrev pub cure_line : ImageError → List ℕ
-cure_line error = image.cure_of error ++ codes "\n"
+abbrev pub hint_line : ImageError → List ℕ
+hint_line error = image.hint_of error ++ codes "\n"
 
 -- the hint where a table does not show a bound of the program, or an entry spells no state
 abbrev pub anew : List ℕ
@@ -82,11 +82,11 @@ map_line index = codes "map " ++ (decimal index ++ codes "\n")
 abbrev pub image_position : ImageError → FileForm → List ℕ
 image_position Magic form = file_line form
 image_position Memory form = []
-image_position (Code slot error) form = slot_line slot ++ cure_line (Code slot error)
-image_position (MapRow index) form = map_line index ++ cure_line (MapRow index)
-image_position (UnknownMap slot) form = slot_line slot ++ cure_line (UnknownMap slot)
-image_position (ValuePointer slot) form = slot_line slot ++ cure_line (ValuePointer slot)
-image_position error form = cure_line error
+image_position (Code slot error) form = slot_line slot ++ hint_line (Code slot error)
+image_position (MapRow index) form = map_line index ++ hint_line (MapRow index)
+image_position (UnknownMap slot) form = slot_line slot ++ hint_line (UnknownMap slot)
+image_position (ValuePointer slot) form = slot_line slot ++ hint_line (ValuePointer slot)
+image_position error form = hint_line error
 
 abbrev pub position_of : Rejection → List ℕ
 position_of (Image error form) = image_position error form

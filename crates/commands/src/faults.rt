@@ -3,7 +3,7 @@
 ghost use Rattle.std.specs.Prelude.{◌≡◌, OnOk, OnErr};
 ghost use Rattle.std.specs.Io.KnownBytes.{Appends};
 ghost use Rattle.exact_io.specs.Transfers.{AppendsBeginning};
-ghost use Rattle.commands.specs.Faults.{fault_help, fault_rest, fault_lines};
+ghost use Rattle.commands.specs.Faults.{fault_hint, fault_rest, fault_lines};
 
 use super::forms::FileForm;
 use super::texts::write_texts;
@@ -13,8 +13,8 @@ use std::io::Write;
 
 // The end of the line with the sentence, and then a line with a hint; for a file with another
 // magic, a line that says what the file is.
-fn fault_help(fault: Fault, form: FileForm) -> &'static str
-    ensures { result.now ≡ fault_help fault form }
+fn fault_hint(fault: Fault, form: FileForm) -> &'static str
+    ensures { result.now ≡ fault_hint fault form }
 {
     match fault {
         Fault::BadMagic => form.stream_line(),
@@ -46,7 +46,7 @@ pub fn say_fault<W: Write>(err: &mut W, fault: Fault, form: FileForm) -> io::Res
     write_texts(
         err,
         fault.sentence(),
-        fault_help(fault, form),
+        fault_hint(fault, form),
         fault_rest(fault),
     )
 }

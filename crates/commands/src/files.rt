@@ -22,7 +22,7 @@ use std::alloc::Global;
 use std::fs;
 use std::io::{BufReader, Write};
 use std::rt::{Clock, Files};
-use words::{Assembly, RunPaths, StepLimit};
+use words::{AssemblyPaths, RunPaths, StepLimit};
 
 // One byte more than the longest image has: its head, its map rows and its slots. A longer file is
 // refused whatever the rest of it is.
@@ -80,9 +80,9 @@ pub fn load_image<'a, R: Files, W: Write>(
     image_of(alloc, bytes.as_slice(), out)
 }
 
-/// Opens the frames, and then the frames out, which may not replace a file that is read. The buffer
-/// of each is made before any of its bytes is read or written. At the end the first bytes of the
-/// frames are read ahead.
+/// Opens the frame stream, and then makes the file of the frames out, which may not replace a file
+/// that is read. The buffer of each is made before any of its bytes is read or written. At the end
+/// the first bytes of the frame stream are read ahead.
 pub fn open_streams<'a, 'b, R: Files + Clock>(
     rt: &'b R,
     alloc: Global,
@@ -199,7 +199,7 @@ fn assemble_text<'a, R: Files, W: Write>(
     rt: &R,
     alloc: Global,
     text: &[u8],
-    paths: Assembly<'a>,
+    paths: AssemblyPaths<'a>,
     out: &mut W,
 ) -> TaskOutcome<'a>
     ensures { Assembles text.now paths.entry.image.now (W.contents out.old) (W.contents out.new)
@@ -223,7 +223,7 @@ fn assemble_text<'a, R: Files, W: Write>(
 pub fn assemble_file<'a, R: Files, W: Write>(
     rt: &R,
     alloc: Global,
-    paths: Assembly<'a>,
+    paths: AssemblyPaths<'a>,
     out: &mut W,
 ) -> Ending<'a>
     ensures { AssemblesFile paths.entry.text.now paths.entry.image.now (W.contents out.old)

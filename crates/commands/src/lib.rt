@@ -2,10 +2,10 @@
 //! does for its arguments.
 #![tactic(auto)]
 
-mod answering;
 mod buffering;
 mod causes;
 mod endings;
+mod executing;
 mod faults;
 mod files;
 mod forms;
@@ -26,9 +26,9 @@ mod tables;
 mod texts;
 mod verdicts;
 
-pub use answering::{answer, execute};
 pub use buffering::buffered;
 pub use endings::Ending;
+pub use executing::{execute, execute_given};
 pub use forms::FileForm;
 pub use outcomes::TaskOutcome;
 pub use rejections::Rejection;

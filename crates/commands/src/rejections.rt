@@ -5,7 +5,7 @@ ghost use Rattle.std.specs.Io.KnownBytes.{Appends};
 ghost use Rattle.isa_model.specs.Text.CanonicalText as canonical;
 ghost use Rattle.exact_io.specs.Transfers.{AppendsBeginning};
 ghost use Rattle.commands.specs.Forms.{file_line};
-ghost use Rattle.commands.specs.Messages.{sentence_of, cure_line, image_position, insn_position, text_position, position_of, entry_position, anew, entry_anew, step_position, table_position, reason_of};
+ghost use Rattle.commands.specs.Messages.{sentence_of, hint_line, image_position, insn_position, text_position, position_of, entry_position, anew, entry_anew, step_position, table_position, reason_of};
 
 use super::forms::FileForm;
 use super::texts::write_texts;
@@ -102,24 +102,29 @@ fn say_number<W: Write>(err: &mut W, unit: &str, number: usize) -> io::Result<()
 }
 
 // Writes a hint where bytes are not an image.
-fn say_cure<W: Write>(err: &mut W, error: ImageError) -> io::Result<()>
+fn say_hint<W: Write>(err: &mut W, error: ImageError) -> io::Result<()>
     ensures ok { OnOk result (Appends (W.contents err.old) (W.contents err.new)
-        (cure_line error)) }
+        (hint_line error)) }
     ensures err { OnErr result (AppendsBeginning (W.contents err.old) (W.contents err.new)
-        (cure_line error)) }
+        (hint_line error)) }
 {
-    write_texts(err, "", error.cure(), "\n")
+    write_texts(err, "", error.hint(), "\n")
 }
 
 // Writes a unit with a number, and a hint.
-fn say_cured<W: Write>(err: &mut W, unit: &str, number: usize, error: ImageError) -> io::Result<()>
+fn say_with_hint<W: Write>(
+    err: &mut W,
+    unit: &str,
+    number: usize,
+    error: ImageError,
+) -> io::Result<()>
     ensures ok { OnOk result (Appends (W.contents err.old) (W.contents err.new)
-        ((unit.now ++ (decimal number ++ codes "\n")) ++ cure_line error)) }
+        ((unit.now ++ (decimal number ++ codes "\n")) ++ hint_line error)) }
     ensures err { OnErr result (AppendsBeginning (W.contents err.old) (W.contents err.new)
-        ((unit.now ++ (decimal number ++ codes "\n")) ++ cure_line error)) }
+        ((unit.now ++ (decimal number ++ codes "\n")) ++ hint_line error)) }
 {
     say_number(err, unit, number)?;
-    say_cure(err, error)
+    say_hint(err, error)
 }
 
 // Writes where bytes are not an image, and a hint.
@@ -132,10 +137,10 @@ fn say_image_position<W: Write>(err: &mut W, error: ImageError, form: FileForm) 
     match error {
         ImageError::Magic => say_form(err, form),
         ImageError::Memory => Ok(()),
-        ImageError::MapRow(index) => say_cured(err, "map ", index, error),
+        ImageError::MapRow(index) => say_with_hint(err, "map ", index, error),
         ImageError::Code(slot, _) | ImageError::UnknownMap(slot) | ImageError::ValuePointer(slot) =>
-            say_cured(err, "slot ", slot, error),
-        _ => say_cure(err, error),
+            say_with_hint(err, "slot ", slot, error),
+        _ => say_hint(err, error),
     }
 }
 

@@ -43,8 +43,8 @@ pub fn serve<'a, R: Files + Clock, W: Write>(
         Task::Trace(paths, limit) => trace(rt, alloc, paths, limit, out),
         Task::Run(paths, table) => run(rt, alloc, paths, table, out),
         Task::Verify(path) => verify_file(rt, alloc, path, out),
-        Task::Prove(proof) => prove_file(rt, alloc, proof, out),
-        Task::Recheck(proof) => recheck_file(rt, alloc, proof, out),
+        Task::Prove(paths) => prove_file(rt, alloc, paths, out),
+        Task::Recheck(paths) => recheck_file(rt, alloc, paths, out),
         Task::Assemble(paths) => assemble_file(rt, alloc, paths, out),
         Task::Disassemble(path) => Ending {
             outcome: disassemble_file(rt, alloc, path, out),

@@ -2,7 +2,7 @@
 
 ghost use Rattle.std.specs.Prelude.{◌≡◌, IfOk, IfErr, OnOk};
 ghost use Rattle.bounds.specs.Bounds.{IsVerified};
-ghost use Rattle.words.specs.Requests.{files_of, proof_files_of};
+ghost use Rattle.words.specs.Requests.{files_of, table_files_of};
 ghost use Rattle.commands.specs.Commands.{ShowsNone, IsShown, RechecksFile, RunsShown, ProvesFile};
 ghost use Rattle.commands.specs.Statuses.{IsMakeFailure};
 
@@ -19,28 +19,28 @@ use explorer::Verified;
 use std::alloc::Global;
 use std::io::Write;
 use std::rt::{Clock, Files};
-use words::{Proof, RunPaths};
+use words::{RunPaths, TablePaths};
 
 // The program of an image with the bound that a table shows, or how the task ends without one: the
 // image is read and judged, then the table.
 fn load_shown<'a, R: Files, W: Write>(
     rt: &R,
     alloc: Global,
-    proof: Proof<'a>,
+    paths: TablePaths<'a>,
     out: &mut W,
 ) -> Result<Verified, Ending<'a>>
     ensures ok { OnOk result (W.contents out.new ≡ W.contents out.old) }
     ensures shown { IfOk result IsShown }
-    ensures none { IfErr result (λ ended. ShowsNone (proof_files_of proof.entry)
+    ensures none { IfErr result (λ ended. ShowsNone (table_files_of paths.entry)
         (W.contents out.old) (W.contents out.new) ended) }
 {
-    let image = match load_image(rt, alloc, proof.image, out) {
+    let image = match load_image(rt, alloc, paths.image, out) {
         Ok(image) => image,
         Err(outcome) => return Err(Ending::plain(outcome)),
     };
-    match read_file(rt, alloc, proof.table) {
+    match read_file(rt, alloc, paths.table) {
         Ok(bytes) => shown(alloc, image, bytes.as_slice(), out),
-        Err(error) => Err(Ending::plain(TaskOutcome::of_read(proof.table, &error))),
+        Err(error) => Err(Ending::plain(TaskOutcome::of_read(paths.table, &error))),
     }
 }
 
@@ -49,13 +49,13 @@ fn load_shown<'a, R: Files, W: Write>(
 pub fn recheck_file<'a, R: Files, W: Write>(
     rt: &R,
     alloc: Global,
-    proof: Proof<'a>,
+    paths: TablePaths<'a>,
     out: &mut W,
 ) -> Ending<'a>
-    ensures { RechecksFile (proof_files_of proof.entry)
+    ensures { RechecksFile (table_files_of paths.entry)
         (W.contents out.old) (W.contents out.new) result }
 {
-    match load_shown(rt, alloc, proof, out) {
+    match load_shown(rt, alloc, paths, out) {
         Ok(verified) => Ending::plain(accepted(alloc, &verified, out)),
         Err(ending) => ending,
     }
@@ -75,7 +75,7 @@ pub fn run_shown<'a, R: Files + Clock, W: Write>(
         (W.contents out.old) (W.contents out.new) result }
 {
     let image = paths.image;
-    let verified = match load_shown(rt, alloc, Proof { image, table }, out) {
+    let verified = match load_shown(rt, alloc, TablePaths { image, table }, out) {
         Ok(verified) => verified,
         Err(ending) => return ending,
     };
@@ -92,11 +92,11 @@ pub fn run_shown<'a, R: Files + Clock, W: Write>(
 fn create_table<'a, R: Files>(
     rt: &R,
     alloc: Global,
-    proof: Proof<'a>,
+    paths: TablePaths<'a>,
 ) -> Result<PromptWriter<R::File>, TaskOutcome<'a>>
-    ensures { IfErr result (IsMakeFailure proof.entry.table.now) }
+    ensures { IfErr result (IsMakeFailure paths.entry.table.now) }
 {
-    let file = create_file(rt, proof.table, &[proof.image])?;
+    let file = create_file(rt, paths.table, &[paths.image])?;
     match PromptWriter::new(alloc, BUFFER, 0, file) {
         Ok(file) => Ok(file),
         Err(_) => Err(TaskOutcome::NoMemory),
@@ -108,13 +108,13 @@ fn create_table<'a, R: Files>(
 pub fn prove_file<'a, R: Files + Clock, W: Write>(
     rt: &R,
     alloc: Global,
-    proof: Proof<'a>,
+    paths: TablePaths<'a>,
     out: &mut W,
 ) -> Ending<'a>
-    ensures { ProvesFile (proof_files_of proof.entry)
+    ensures { ProvesFile (table_files_of paths.entry)
         (W.contents out.old) (W.contents out.new) result }
 {
-    let image = match load_image(rt, alloc, proof.image, out) {
+    let image = match load_image(rt, alloc, paths.image, out) {
         Ok(image) => image,
         Err(outcome) => return Ending::plain(outcome),
     };
@@ -125,9 +125,9 @@ pub fn prove_file<'a, R: Files + Clock, W: Write>(
     let Ok(line) = bound_line(alloc, &verified) else {
         return Ending::plain(TaskOutcome::NoMemory);
     };
-    match create_table(rt, alloc, proof) {
+    match create_table(rt, alloc, paths) {
         Ok(mut file) => {
-            let outcome = store_table(alloc, &verified, line.as_str(), proof.table, out, &mut file);
+            let outcome = store_table(alloc, &verified, line.as_str(), paths.table, out, &mut file);
             Ending::plain(outcome)
         }
         Err(outcome) => Ending::plain(outcome),

@@ -153,25 +153,25 @@ exit_line callers =
 
 -- ---- what helps, whatever the state is
 
-abbrev pub cure_line : StepRefusal → List ℕ
-cure_line UnsetRegister = codes "set it on every path that leads here\n"
-cure_line ReadOnlyRegister = codes "copy it and change the copy: r2 = r10\n"
-cure_line PointerOperand =
+abbrev pub hint_line : StepRefusal → List ℕ
+hint_line UnsetRegister = codes "set it on every path that leads here\n"
+hint_line ReadOnlyRegister = codes "copy it and change the copy: r2 = r10\n"
+hint_line PointerOperand =
     codes "stack, packet and value pointers move by += and -= of a number, at 64 bits\n"
-cure_line PointerOffset =
+hint_line PointerOffset =
     codes "a frame pointer moves by constants, any pointer by at most 536870912 bytes\n"
-cure_line NotMemory =
+hint_line NotMemory =
     codes "memory is reached by r1 of the start, r10, a packet or a value pointer\n"
-cure_line StackBytes = codes "write the bytes first; a stored pointer is read whole, with 8 bytes\n"
-cure_line NullNotTested =
+hint_line StackBytes = codes "write the bytes first; a stored pointer is read whole, with 8 bytes\n"
+hint_line NullNotTested =
     codes "test it first, as by if r0 == 0 goto .., and use it where it is not 0\n"
-cure_line PointerStored =
+hint_line PointerStored =
     codes "store it with 8 bytes into the function's own stack: *(u64 *)(r10 - 8) = r1\n"
-cure_line Comparison =
+hint_line Comparison =
     codes "compare a packet pointer with the packet end, a value pointer with 0, at 64 bits\n"
-cure_line TooManyFrames = codes "write the function's instructions in place of the call\n"
-cure_line PacketAtomic = codes "load, compute and store instead\n"
-cure_line refusal = []
+hint_line TooManyFrames = codes "write the function's instructions in place of the call\n"
+hint_line PacketAtomic = codes "load, compute and store instead\n"
+hint_line refusal = []
 
 -- ---- cases
 
@@ -182,6 +182,6 @@ case_line rows a i (Step MapValueBytes) = place_line rows a i
 case_line rows a i (Step HelperArgument) = helper_line a i
 case_line rows a i (Step HelperBytes) = sizes_line rows a
 case_line rows a i (Step ExitValue) = exit_line (length a.callers.items)
-case_line rows a i (Step refusal) = cure_line refusal
+case_line rows a i (Step refusal) = hint_line refusal
 case_line rows a i Repeats = codes "change a register in the loop that its test reads\n"
 case_line rows a i e = []

@@ -7,7 +7,7 @@ ghost use Rattle.isa_model.specs.Code.Helpers.{helper_numbered};
 ghost use Rattle.isa_model.specs.Code.Sizes.{unsigned_size};
 ghost use Rattle.transfer.specs.HelperCalls.{points_to_bytes};
 ghost use Rattle.explanations.specs.Cases as spec;
-ghost use Rattle.explanations.specs.Cases.{access, needs_words, last_byte, span_words, behind_words, frame_line, packet_line, value_line, is_map, key_line, update_line, argument_line, row_size, exit_line, cure_line};
+ghost use Rattle.explanations.specs.Cases.{access, needs_words, last_byte, span_words, behind_words, frame_line, packet_line, value_line, is_map, key_line, update_line, argument_line, row_size, exit_line, hint_line};
 
 use explorer::Refusal;
 use isa_model::{Helper, Insn, MapDef, Place, Reg, SignedSize, Size};
@@ -282,8 +282,8 @@ fn exit_line(callers: usize) -> &'static str
 }
 
 // What helps, whatever the state is.
-fn cure_line(refusal: StepRefusal) -> &'static str
-    ensures { result.now ≡ cure_line refusal }
+fn hint_line(refusal: StepRefusal) -> &'static str
+    ensures { result.now ≡ hint_line refusal }
 {
     match refusal {
         StepRefusal::UnsetRegister => "set it on every path that leads here\n",
@@ -328,7 +328,7 @@ pub fn case_line(
         Refusal::Step(StepRefusal::ExitValue) => {
             String::from_str(alloc, exit_line(state.callers.len()))
         }
-        Refusal::Step(step) => String::from_str(alloc, cure_line(step)),
+        Refusal::Step(step) => String::from_str(alloc, hint_line(step)),
         Refusal::Repeats => {
             String::from_str(alloc, "change a register in the loop that its test reads\n")
         }

@@ -1,4 +1,4 @@
-//! What is said of an entry of a table whose step was tested.
+//! What is said of an entry whose step or successors are why a proof table is refused.
 
 ghost use Rattle.std.specs.Prelude.{◌≡◌, IfOk, IfSome, length};
 ghost use Rattle.std.specs.String.{string_bytes};

@@ -5,7 +5,7 @@ pub mod Steps
 pub mod Starts
 pub mod Unfinished
 pub mod Walking
-pub mod Ways
+pub mod LastJumps
 pub mod Counting
 pub mod Telling
 pub mod Following

@@ -2,11 +2,11 @@
 use Rattle.std.specs.Prelude.{ℕ, ◌-◌, min, Option, Some, None}
 use Rattle.failing_io.specs.declared.Failure.{Failure}
 
--- how many of `most` bytes a call moves, if it does not fail: at most `step`, and no more than are
+-- how many of `most` bytes a call moves, if it does not fail: at most `chunk`, and no more than are
 -- left before the failure
 abbrev pub count_of : ℕ → ℕ → ℕ → Option Failure → ℕ
-count_of most step room None = min most step
-count_of most step room (Some failing) = min (min most step) room
+count_of most chunk room None = min most chunk
+count_of most chunk room (Some failing) = min (min most chunk) room
 
 -- how many bytes are left before the failure, after a call that moved `count`
 abbrev pub room_after : ℕ → ℕ → Option Failure → ℕ

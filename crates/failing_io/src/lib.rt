@@ -27,7 +27,7 @@ pub const FAILURES: [Failure; 3] = [
     Failure::Nothing,
 ];
 
-fn answer_of(failing: Failure) -> io::Result<usize>
+fn result_of(failing: Failure) -> io::Result<usize>
     ensures { MatchResult result (λ count. (failing ≡ Failure.Nothing) × (count ≡ 0))
         (λ e. failing ≡ Failure.Error (error_kind e)) }
 {
@@ -37,27 +37,27 @@ fn answer_of(failing: Failure) -> io::Result<usize>
     }
 }
 
-/// Takes at most `step` bytes a call. If it is to fail, it fails once, after `room` bytes, and
+/// Takes at most `chunk` bytes a call. If it is to fail, it fails once, after `room` bytes, and
 /// takes more after that.
 #[derive(Drop)]
 pub struct Writer {
     pub taken: Vec<u8>,
-    pub step: usize,
+    pub chunk: usize,
     pub room: usize,
     pub failing: Option<Failure>,
 }
 
 impl Writer {
     /// A writer that has taken nothing yet.
-    pub fn new(alloc: Global, step: usize, room: usize, failing: Option<Failure>) -> Writer
+    pub fn new(alloc: Global, chunk: usize, room: usize, failing: Option<Failure>) -> Writer
         ensures nothing { result.taken.items ≡ [] }
-        ensures steps { result.step ≡ step }
+        ensures chunks { result.chunk ≡ chunk }
         ensures rooms { result.room ≡ room }
         ensures fails { result.failing ≡ failing }
     {
         Writer {
             taken: Vec::new(alloc),
-            step,
+            chunk,
             room,
             failing,
         }
@@ -72,7 +72,7 @@ impl Write for Writer {
         ensures bytes { WriteAppends (Some self.old.taken.items)
             (Some self.new.taken.items) result buf.now }
         ensures count { IfOk result
-            (λ n. n ≡ count_of (length buf.now) self.old.step self.old.room self.old.failing) }
+            (λ n. n ≡ count_of (length buf.now) self.old.chunk self.old.room self.old.failing) }
         ensures due { (kind : ErrorKind) → self.old.failing ≡ Some (Failure.Error kind)
             → self.old.room ≡ 0 → IsErr result }
         ensures room { IfOk result
@@ -80,13 +80,13 @@ impl Write for Writer {
         ensures waits { 1 ≤ self.old.room → self.new.failing ≡ self.old.failing }
         ensures once { (failing : Failure) → self.old.failing ≡ Some failing → self.old.room ≡ 0
             → self.new.failing ≡ None }
-        ensures step { self.new.step ≡ self.old.step }
+        ensures chunk { self.new.chunk ≡ self.old.chunk }
     {
-        let mut count = buf.len().min(self.step);
+        let mut count = buf.len().min(self.chunk);
         if let Some(failing) = self.failing {
             if self.room == 0 {
                 self.failing = None;
-                return answer_of(failing);
+                return result_of(failing);
             }
             count = count.min(self.room);
             self.room -= count;
@@ -100,12 +100,12 @@ impl Write for Writer {
     }
 }
 
-/// Returns at most `step` bytes a call. If it is to fail, it fails once, after `room` bytes, and
+/// Returns at most `chunk` bytes a call. If it is to fail, it fails once, after `room` bytes, and
 /// returns more after that.
 #[derive(Drop)]
 pub struct Reader<'a> {
     pub left: &'a [u8],
-    pub step: usize,
+    pub chunk: usize,
     pub room: usize,
     pub failing: Option<Failure>,
 }
@@ -121,7 +121,7 @@ impl Read for Reader<'_> {
         ensures count { IfOk result
             (λ n. n ≡ count_of
             (min (length buf.old)
-            (length self.old.left.now)) self.old.step self.old.room self.old.failing) }
+            (length self.old.left.now)) self.old.chunk self.old.room self.old.failing) }
 
         // The failure is returned, and no byte is lost.
         ensures error { IfErr result
@@ -134,13 +134,13 @@ impl Read for Reader<'_> {
         ensures waits { 1 ≤ self.old.room → self.new.failing ≡ self.old.failing }
         ensures once { (failing : Failure) → self.old.failing ≡ Some failing → self.old.room ≡ 0
             → self.new.failing ≡ None }
-        ensures step { self.new.step ≡ self.old.step }
+        ensures chunk { self.new.chunk ≡ self.old.chunk }
     {
-        let mut count = buf.len().min(self.left.len()).min(self.step);
+        let mut count = buf.len().min(self.left.len()).min(self.chunk);
         if let Some(failing) = self.failing {
             if self.room == 0 {
                 self.failing = None;
-                return answer_of(failing);
+                return result_of(failing);
             }
             count = count.min(self.room);
             self.room -= count;

@@ -70,7 +70,7 @@ unopened_error bytes None h = absurd h.1
 unopened_error bytes (Some rest) h =
     unopened_read bytes h.0 rest ByError ReadFailed h.1 (λ e. cc) (λ _. refl) h.2
 
--- Where no magic can be read, that fault was read.
+-- where no magic can be read, that fault was read
 pub unopened_from : (old new : Option (List ℕ)) (fault : Fault) → ReadsMagic old new (Err fault)
     → MayOpen (Err fault) → AreReadFrom old (unopened fault)
 unopened_from None new fault r may =
@@ -204,7 +204,7 @@ abbrev input_of : Version → List PacketFrame → List ℕ → InputEnding → 
 input_of v frames rest e =
     record { bytes = stream_magic v ++ (records_bytes v frames ++ rest); ending = e }
 
--- Where the reader stops, the frames that it found and that end or fault were read.
+-- where the reader stops, the frames that it found and that end or fault were read
 pub HasFound-stops : (v : Version) (frames : List PacketFrame) (old known new : Option (List ℕ))
     (p : Position) (stop : Finish) → HasFound v frames old known p
     → FindsNext p known new (Stopped stop)
@@ -241,7 +241,7 @@ HasFound-stops v frames (Some bytes) known new p stop s r can =
       stream = same;
     }
 
--- Where nothing more is read, the source begins with the frames that were found.
+-- where nothing more is read, the source begins with the frames that were found
 pub HasFound-begins : (v : Version) (frames : List PacketFrame) (old known : Option (List ℕ))
     (p : Position) → HasFound v frames old known p → IsBegunBy old v frames
 HasFound-begins v frames None known p s = tt

@@ -35,7 +35,7 @@ IsBegunBy source v frames =
 
 -- ---- a reader that has begun
 
--- the version of the stream that was begun, by the answer of `begin`: version 1 where there is no
+-- the version of the stream that was begun, by what `begin` returned: version 1 where there is no
 -- magic
 abbrev pub IsBegunVersion : Result ℕ (Fault × ℕ) → Version → Type 0
 IsBegunVersion (Ok number) v = (w : Version) → number ≡ version_number w → v ≡ w

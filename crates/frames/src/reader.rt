@@ -70,7 +70,7 @@ impl<R: Read> FrameReader<R> {
     pub fn begin(&mut self) -> Result<u8, (Fault, u64)>
         ensures opens { OpensStream self.old.position (R.remaining self.old.source)
             (R.remaining self.new.source) self.new.position }
-        ensures answers { result ≡ begun_at self.new.position }
+        ensures begun { result ≡ begun_at self.new.position }
         ensures again { self.old.position ≢ Fresh → self.new ≡ self.old }
     {
         self.stage = stage_begun(&mut self.source, self.stage);

@@ -1,4 +1,4 @@
-//! A box as its pointer.
+//! A box that is held as its pointer.
 
 ghost use Rattle.std.specs.Prelude.{◌≡◌};
 ghost use Rattle.std.specs.Box.Ownership.{box_owns};
@@ -6,7 +6,7 @@ ghost use Rattle.std.specs.Box.Ownership.{box_owns};
 use std::alloc::Allocator;
 use std::marker::Model;
 
-/// A box as its pointer.
+/// A box as the pointer and the allocator that it was taken apart into.
 pub struct Loose<T, A: Allocator> {
     pub at: *mut T,
     pub alloc: A,

@@ -36,7 +36,7 @@ found None = Number 0
 abbrev pub ChangesOne : ℕ → List MapState → List MapState → Type 0
 ChangesOne m old new = new ≡ slice_set old m (map_at new m)
 
--- an update and a delete answer 0 or an error
+-- the answer is a number, of which P holds: an update and a delete answer 0 or an error
 abbrev pub IsNumberAnswer : Answer → (ℕ → Type 0) → Type 0
 IsNumberAnswer (Number n) P = P n
 IsNumberAnswer (Value place) P = ⊥

@@ -1,4 +1,4 @@
--- What the runs of a program write.
+-- From what the runs of a program write to its report.
 use Rattle.std.proofs.Common.{◌≡◌, ℕ, ◌+◌, List, [], ◌∷◌, ◌++◌, length, Option, Result, Ok, Err, IfOk, refl, sym, ap, ◌∙◌, subst, append_assoc, ◌⊎◌, inl, inr}
 use Rattle.isa_model.specs.declared.frames.FrameHead.{FrameHead}
 use Rattle.isa_model.specs.declared.map_defs.MapDef.{MapDef}
@@ -18,7 +18,7 @@ use Rattle.isa_model.proofs.ReportLaws.{IsReport-checked}
 use Rattle.image.proofs.Programs.{IsProgram-IsImage, IsImage-starting_contents}
 use Rattle.bounds.specs.Bounds.{Bounded, IsVerified}
 use Rattle.machine.specs.declared.machines.Exit.{Exit as TheExit}
-use Rattle.machine.specs.Running.{Running, AnswersRun}
+use Rattle.machine.specs.Running.{Running, ReturnsOutcome}
 use Rattle.checked_vm.specs.Machines.{LoadedProgram as Checking}
 use Rattle.host.specs.declared.errors.HostError.{HostError}
 use Rattle.host.specs.declared.tallies.Tally.{Tally}
@@ -32,14 +32,14 @@ use Rattle.host.proofs.Pieces.{WroteBefore-more}
 use Rattle.host.proofs.Turns.{turns_pieces-append}
 use Rattle.host.proofs.Fronts.{first_pieces}
 
--- a machine's answer is the turn of its program
-pub turn-AnswersRun : (r : Running) (head : FrameHead) (packet : List ℕ) (clock : ℕ → ℕ)
+-- what a machine returns of a run is the turn of its program
+pub turn-ReturnsOutcome : (r : Running) (head : FrameHead) (packet : List ℕ) (clock : ℕ → ℕ)
     (exit : TheExit) (after : List ℕ) (left : List KeyValues) (coming : ℕ → ℕ)
-    → AnswersRun r head packet clock exit after left coming
+    → ReturnsOutcome r head packet clock exit after left coming
     → ((turn r.program r.bound clock head packet r.contents).ends ≡ Exit exit.r0 exit.steps)
     × ((turn r.program r.bound clock head packet r.contents).packet ≡ after)
     × ((turn r.program r.bound clock head packet r.contents).contents ≡ left)
-turn-AnswersRun r head packet clock exit after left coming h =
+turn-ReturnsOutcome r head packet clock exit after left coming h =
     let o = h.outcome in
     let same = turn-outcome r.program head packet r.contents clock o r.bound h.found h.few in
     let numbers : Exit o.number o.steps ≡ Exit exit.r0 exit.steps =
@@ -51,7 +51,7 @@ turn-AnswersRun r head packet clock exit after left coming h =
 
 -- ---- from what a machine writes to the reports
 
--- However a stream goes on after these packet frames, its checked report begins with their pieces.
+-- however a stream goes on after these packet frames, its checked report begins with their pieces
 front_goes_on : (limit : ℕ) (program : Version) (rows : List MapDef) (rule : Rule)
     (contents : List KeyValues) (v : Version) (frames more : List PacketFrame) (finish : Finish)
     → (rest : List OutputPart)

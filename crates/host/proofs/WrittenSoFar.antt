@@ -8,7 +8,7 @@ use Rattle.frames.proofs.InputsLaws.{HasBegun}
 use Rattle.host.specs.Writing.{Outputs, Wrote}
 use Rattle.host.specs.Reported.{front_in}
 
--- These frames were found and taken, and their pieces were written.
+-- these frames were found and taken, and their pieces were written
 pub record WrittenSoFar (form : ReportForm) (rule : Rule) (start : List KeyValues)
     (source : Option (List ℕ)) (before : Outputs) (frames : List PacketFrame)
     (known : Option (List ℕ)) (position : Position) (number : ℕ) (contents : List KeyValues)

@@ -52,7 +52,7 @@ abbrev pub front_in : ReportForm → Rule → List KeyValues → List PacketFram
 front_in form rule contents frames =
     ToFrames (stream_magic form.stream) ∷ turns_pieces form rule 0 contents frames
 
--- An output failed at one of the magic and these frames' pieces, and no more was read.
+-- an output failed at the magic or at a piece of these frames, and no more was read
 pub record StopsAtFrame (source : Option (List ℕ)) (limit : ℕ) (program : Version) (rule : Rule)
     (contents : List KeyValues) (old new : Outputs) (error : HostError) : Type 0 where
   pub version : Version

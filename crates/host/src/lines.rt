@@ -75,7 +75,7 @@ fn push_reason(line: &mut ReportLine, stream: Version, reason: u32)
     }
 }
 
-/// The line of the frame with this number, by how its run ended and how many bytes it has.
+/// The line of the frame with this number, by how its run ended and how many bytes the frame has.
 #[tactic(auto, unfolding(isa_model::specs::Reporting::Reports::frame_line))]
 #[inline(always)]
 pub fn line_of_frame(form: ReportForm, number: u32, end: End, size: usize) -> ReportLine

@@ -1,4 +1,4 @@
--- The code of each refusal, the sentence that says what is wrong, and the cure.
+-- The code of each refusal, the sentence that says what is wrong, and the hint.
 use Rattle.std.specs.Prelude.{ℕ, List, [], codes}
 use Rattle.insn_codec.specs.Messages as codec
 use Rattle.image.specs.declared.errors.ImageError.{ImageError}
@@ -32,19 +32,19 @@ sentence_of (UnknownMap slot) = codes "the instruction names a map that has no r
 sentence_of (ValuePointer slot) =
     codes "the map is no array of one entry, or the offset is not within its value"
 
--- another magic and running out of memory have no cure
-abbrev pub cure_of : ImageError → List ℕ
-cure_of (Code slot error) = codec.cure_of error
-cure_of Magic = []
-cure_of Short = codes "the file was cut: make it again"
-cure_of Long = codes "remove what follows the last slot, or make it again"
-cure_of TooManyMaps =
+-- another magic and running out of memory have no hint
+abbrev pub hint_of : ImageError → List ℕ
+hint_of (Code slot error) = codec.hint_of error
+hint_of Magic = []
+hint_of Short = codes "the file was cut: make it again"
+hint_of Long = codes "remove what follows the last slot, or make it again"
+hint_of TooManyMaps =
     codes "join maps with the same sizes of keys and values, or remove unused ones"
-cure_of (MapRow index) =
+hint_of (MapRow index) =
     codes "type 1 hash, 2 array; keys to 64 bytes, arrays 4; values to 4096, entries to 65536"
-cure_of SlotCount =
+hint_of SlotCount =
     codes "the least program is r0 = 2 and exit; a longer one needs fewer instructions"
-cure_of MapRoom = codes "take fewer entries, or smaller values"
-cure_of Memory = []
-cure_of (UnknownMap slot) = codes "maps are counted from 0: add the row, or correct the index"
-cure_of (ValuePointer slot) = codes "look the value up by helper 1, or correct the offset"
+hint_of MapRoom = codes "take fewer entries, or smaller values"
+hint_of Memory = []
+hint_of (UnknownMap slot) = codes "maps are counted from 0: add the row, or correct the index"
+hint_of (ValuePointer slot) = codes "look the value up by helper 1, or correct the offset"

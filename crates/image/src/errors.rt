@@ -1,7 +1,7 @@
 //! Why bytes are no image.
 
 ghost use Rattle.std.specs.Prelude.{◌≡◌, Some};
-ghost use Rattle.image.specs.Messages.{code_of, cure_of, sentence_of};
+ghost use Rattle.image.specs.Messages.{code_of, hint_of, sentence_of};
 
 use insn_codec::CodecError;
 use std::alloc::{AllocError, AllocFailed};
@@ -81,12 +81,12 @@ impl ImageError {
         }
     }
 
-    /// The cure, in a line without its line feed; empty for another magic and for memory.
-    pub fn cure(self) -> &'static str
-        ensures { result.now ≡ cure_of self }
+    /// The hint, in a line without its line feed; empty for another magic and for memory.
+    pub fn hint(self) -> &'static str
+        ensures { result.now ≡ hint_of self }
     {
         match self {
-            ImageError::Code(_slot, error) => error.cure(),
+            ImageError::Code(_slot, error) => error.hint(),
             ImageError::Magic => "",
             ImageError::Short => "the file was cut: make it again",
             ImageError::Long => "remove what follows the last slot, or make it again",

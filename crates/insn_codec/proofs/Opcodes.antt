@@ -1,4 +1,5 @@
--- The opcode of each form, and that no other opcode names the form: all 256 are tried.
+-- The opcode of each form, and that no other opcode names the form; the same of registers and their
+-- numbers. All 256 opcodes and 16 numbers are tried.
 use Rattle.std.proofs.Common.{◌≡◌, ℕ, ◌+◌, ◌<◌, Bool, true, Option, Some, refl, subst}
 use Rattle.std.specs.Prelude.{◌==◌}
 use Rattle.std.specs.Option.{option_map_or}

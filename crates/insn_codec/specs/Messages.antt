@@ -1,4 +1,4 @@
--- The code of each refusal, the sentence that says what is wrong, and the cure.
+-- The code of each refusal, the sentence that says what is wrong, and the hint.
 use Rattle.std.specs.Prelude.{ℕ, List, codes}
 use Rattle.insn_codec.specs.declared.errors.CodecError.{CodecError}
 use Rattle.insn_codec.specs.declared.errors.CodecError.TheVariants.{Short, UnknownOpcode, UnknownRegister, UnusedField, UnknownSelector, SecondSlot}
@@ -20,14 +20,14 @@ sentence_of UnknownSelector = codes "the selector is unknown"
 sentence_of SecondSlot =
     codes "the second slot of the wide load is missing, or a field that it does not use is not 0"
 
-abbrev pub cure_of : CodecError → List ℕ
-cure_of Short = codes "the file was cut: make it again"
-cure_of UnknownOpcode =
+abbrev pub hint_of : CodecError → List ℕ
+hint_of Short = codes "the file was cut: make it again"
+hint_of UnknownOpcode =
     codes "no instruction begins with this byte; legacy packet loads become loads by a pointer"
-cure_of UnknownRegister = codes "registers are 0 to 10; the second byte has two, 4 bits each"
-cure_of UnusedField =
+hint_of UnknownRegister = codes "registers are 0 to 10; the second byte has two, 4 bits each"
+hint_of UnusedField =
     codes "set each field to 0 that the form does not use, as src_reg beside a constant"
-cure_of UnknownSelector =
+hint_of UnknownSelector =
     codes "no form has this offset, imm or src_reg; a call has src_reg 0 or 1"
-cure_of SecondSlot =
+hint_of SecondSlot =
     codes "a wide load has a second slot: 4 bytes 0, then the upper half, 0 for a map"

@@ -1,7 +1,7 @@
 //! Why bytes are no instruction.
 
 ghost use Rattle.std.specs.Prelude.{◌≡◌, Some};
-ghost use Rattle.insn_codec.specs.Messages.{code_of, cure_of, sentence_of};
+ghost use Rattle.insn_codec.specs.Messages.{code_of, hint_of, sentence_of};
 
 use std::error::Error;
 use std::fmt;
@@ -54,9 +54,9 @@ impl CodecError {
         }
     }
 
-    /// The cure, in a line without its line feed.
-    pub fn cure(self) -> &'static str
-        ensures { result.now ≡ cure_of self }
+    /// The hint, in a line without its line feed.
+    pub fn hint(self) -> &'static str
+        ensures { result.now ≡ hint_of self }
     {
         match self {
             CodecError::Short => "the file was cut: make it again",

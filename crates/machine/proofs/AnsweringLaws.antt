@@ -20,7 +20,7 @@ use Rattle.machine.proofs.TrackingLaws.{related_Ends, related_Exits}
 use Rattle.machine.specs.Starting.{start_of}
 use Rattle.machine.proofs.StartingLaws.{start_layout, start_related}
 use Rattle.machine.proofs.LiveValues.{contents_are}
-use Rattle.machine.specs.Answering.{AnswersAsModel, IsStart}
+use Rattle.machine.specs.Answering.{ReturnsAsModel, IsStart}
 
 changed-twice : {X Y Z : Type 0} (g : Y → Z) (f : X → Y) (es : List (List ℕ × X))
     → changed g (changed f es) ≡ changed (λ x. g (f x)) es
@@ -82,7 +82,7 @@ module _ (p : Program) (clock : ℕ → ℕ) (n : ℕ) (head : FrameHead) (packe
   -- and what it leaves is the outcome
   pub start_Answers : (number steps : ℕ) (v : Words)
       → Exits p clock (start_of head packet frames maps) number steps v
-      → AnswersAsModel p clock n head packet maps number steps v
+      → ReturnsAsModel p clock n head packet maps number steps v
   start_Answers number steps v e =
       let F = related_Exits p clock h.program h.answers n (start_layout packet maps) first
       (start_of head packet frames maps) v number steps related is_state in_time e in

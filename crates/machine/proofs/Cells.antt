@@ -75,7 +75,7 @@ module _ (a : Layout) where
   shows-bytes [] = tt
   shows-bytes (b ∷ bs) = (refl, shows-bytes bs)
 
-  -- byte cells have their bytes
+  -- bytes that represent number bytes are these
   pub bytes-shown : (cs : List Cell) (bs : List ℕ) → list_all is_byte cs ≡ true
       → RepresentsCells a cs bs → bs ≡ map byte_in cs
   bytes-shown [] [] e s = refl

@@ -18,9 +18,9 @@ use Rattle.word_machine.specs.Words.{Words}
 use Rattle.word_machine.specs.Machine.{words_of}
 use Rattle.word_machine.specs.Runs.{EndsSafely, EndsInTime, Exits}
 use Rattle.machine.specs.Starting.{start_words, start_of}
-use Rattle.machine.specs.Answering.{IsStart, AnswersAsModel as WordAnswers}
+use Rattle.machine.specs.Answering.{IsStart, ReturnsAsModel as WordReturns}
 use Rattle.machine.proofs.AnsweringLaws.{start_Ends, start_Answers}
-use Rattle.machine.specs.Running.{RunsWithinBound, AnswersRun}
+use Rattle.machine.specs.Running.{RunsWithinBound, ReturnsOutcome}
 use Rattle.machine.specs.Ready.{IsReady}
 
 -- the machine of an accepted program, whose maps fit its rows
@@ -90,27 +90,27 @@ module _ (p : Program) (bound : ℕ) (memory : Memory) (ready : IsReady p bound 
     abbrev last : Words
     last = words_of slot regs left after asked
 
-    word_answers : WordAnswers p clock bound head packet memory.maps number steps last
-    word_answers =
+    word_returns : WordReturns p clock bound head packet memory.maps number steps last
+    word_returns =
         start_Answers p clock bound head packet memory.frames.items memory.maps is_start number
         steps last
         (subst (λ w. Exits p clock w number steps last) at_start exits)
 
     -- what it leaves is the outcome
-    pub run_answers : (coming : ℕ → ℕ) → ((k : ℕ) → coming k ≡ clock (asked + k))
-        → AnswersRun
+    pub run_returns : (coming : ℕ → ℕ) → ((k : ℕ) → coming k ≡ clock (asked + k))
+        → ReturnsOutcome
         (record { program = p; bound = bound; contents = contents_of memory.maps }) head packet
         clock
         (record { r0 = number; steps = steps }) after (contents_of left.maps) coming
-    run_answers coming comes = record {
-      outcome = word_answers.outcome;
-      found = word_answers.found;
-      few = word_answers.few;
-      number_is = word_answers.number_is;
-      steps_are = word_answers.steps_are;
-      packet_is = word_answers.packet_is;
-      contents_are = word_answers.contents_are;
-      clock_is = λ k. comes k ∙ ap (λ n. clock (n + k)) word_answers.clock_calls_are;
+    run_returns coming comes = record {
+      outcome = word_returns.outcome;
+      found = word_returns.found;
+      few = word_returns.few;
+      number_is = word_returns.number_is;
+      steps_are = word_returns.steps_are;
+      packet_is = word_returns.packet_is;
+      contents_are = word_returns.contents_are;
+      clock_is = λ k. comes k ∙ ap (λ n. clock (n + k)) word_returns.clock_calls_are;
     }
 
     -- and the machine can run again
@@ -121,14 +121,14 @@ module _ (p : Program) (bound : ℕ) (memory : Memory) (ready : IsReady p bound 
         ends = ready.running.ends;
         some = ready.running.some;
         most = ready.running.most;
-        fits = subst (FitRows p.maps) (sym word_answers.contents_are)
+        fits = subst (FitRows p.maps) (sym word_returns.contents_are)
             (FitRows-HasOutcome p head packet
-            (contents_of memory.maps) clock word_answers.outcome ready.running.is_program fits
-            given word_answers.found);
+            (contents_of memory.maps) clock word_returns.outcome ready.running.is_program fits
+            given word_returns.found);
       };
       few = ready.few;
-      rows = word_answers.rows;
-      whole = word_answers.whole;
-      outer = nil_from_length left.saved.items word_answers.back;
+      rows = word_returns.rows;
+      whole = word_returns.whole;
+      outer = nil_from_length left.saved.items word_returns.back;
       room = room;
     }

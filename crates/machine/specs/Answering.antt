@@ -28,7 +28,7 @@ pub record IsStart (p : Program) (clock : ℕ → ℕ) (n : ℕ) (head : FrameHe
 
 -- the number, the steps and what is left are those of the run's outcome, which has at most n steps;
 -- the first call frame is the only one again, and the maps are still those of the rows
-pub record AnswersAsModel (p : Program) (clock : ℕ → ℕ) (n : ℕ) (head : FrameHead) (packet : List ℕ)
+pub record ReturnsAsModel (p : Program) (clock : ℕ → ℕ) (n : ℕ) (head : FrameHead) (packet : List ℕ)
     (maps : List MapState) (number steps : ℕ) (v : Words) : Type 0 where
   pub outcome : Outcome
   pub found : HasOutcome p head packet (contents_of maps) clock outcome

@@ -12,7 +12,7 @@ use Rattle.machine.specs.Related.{Layout, Related}
 use Rattle.maps.specs.Maps.{MapState}
 use Rattle.machine.specs.Tracking.{Tracks, Finishes}
 use Rattle.machine.specs.Starting.{start_of}
-use Rattle.machine.specs.Answering.{IsStart, AnswersAsModel}
+use Rattle.machine.specs.Answering.{IsStart, ReturnsAsModel}
 
 -- a run that ends in the model within n steps ends in words within n moves
 abbrev pub EndsInWords : Type 0
@@ -49,4 +49,4 @@ ExitsAreOutcomes =
     (maps : List MapState)
     → IsStart p clock n head packet frames maps → (number steps : ℕ) (v : Words)
     → Exits p clock (start_of head packet frames maps) number steps v
-    → AnswersAsModel p clock n head packet maps number steps v
+    → ReturnsAsModel p clock n head packet maps number steps v

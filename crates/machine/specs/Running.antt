@@ -25,7 +25,7 @@ pub record RunsWithinBound (r : Running) : Type 0 where
 
 -- a run returns its outcome, which has no more steps than the bound: the number and the steps, the
 -- packet and the contents that it leaves, and the clock's next answers
-pub record AnswersRun (r : Running) (head : FrameHead) (packet : List ℕ) (clock : ℕ → ℕ)
+pub record ReturnsOutcome (r : Running) (head : FrameHead) (packet : List ℕ) (clock : ℕ → ℕ)
     (exit : Exit) (after : List ℕ) (left : List KeyValues) (coming : ℕ → ℕ) : Type 0 where
   pub outcome : Outcome
   pub found : HasOutcome r.program head packet r.contents clock outcome

@@ -6,7 +6,7 @@ ghost use Rattle.isa_model.specs.{max_packet};
 ghost use Rattle.isa_model.specs.Machine.MachineStates.{AreBytes};
 ghost use Rattle.isa_model.specs.Machine.MapContents.{at_key};
 ghost use Rattle.maps.specs.Maps.{rows_of, contents_of};
-ghost use Rattle.machine.specs.Running.{AnswersRun, RunsWithinBound};
+ghost use Rattle.machine.specs.Running.{ReturnsOutcome, RunsWithinBound};
 ghost use Rattle.machine.specs.BetweenRuns.{row_at, content_at, ordered_at, AnswersUpdate, AnswersDelete, CopiesKeyValue};
 
 use crate::VmError;
@@ -189,7 +189,7 @@ impl Machine {
     /// Runs the program on a packet from the start, to its exit. It takes no memory.
     pub fn run<C: Clock>(&mut self, head: FrameHead, packet: &mut [u8], clock: &mut C) -> Exit
         requires { length packet.old ≤ max_packet }
-        ensures answers { AnswersRun self.old head packet.old (C.at clock.old)
+        ensures outcome { ReturnsOutcome self.old head packet.old (C.at clock.old)
             result packet.new self.new.contents (C.at clock.new) }
         ensures program { self.new.program ≡ self.old.program }
         ensures bound { self.new.bound ≡ self.old.bound }

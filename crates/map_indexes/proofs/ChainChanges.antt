@@ -7,7 +7,7 @@ use Rattle.map_indexes.specs.LastBelow.{last_below}
 use Rattle.map_indexes.proofs.LastBelowLaws.{last_same, last_skip, last_here, last_above}
 use Rattle.map_indexes.proofs.PlaceKeysLaws.{same_or_not}
 use Rattle.map_indexes.specs.Chains.{is_in, in_chain, IsChained, IsBehind, heads_led, next_led, link_led}
-use Rattle.map_indexes.proofs.ChainLaws.{number_or, is_in-led, in_chain-is, link_of, not_in, elsewhere, head_set, head_other, length-heads_led}
+use Rattle.map_indexes.proofs.ChainLaws.{place_or, is_in-led, in_chain-is, link_of, not_in, elsewhere, head_set, head_other, length-heads_led}
 
 module _ (heads : List (Option ℕ)) (room : ℕ) (links new : ℕ → Option Link)
     (is : IsChained heads room links)
@@ -17,7 +17,7 @@ module _ (heads : List (Option ℕ)) (room : ℕ) (links new : ℕ → Option Li
     (here : (l : Link) → new at ≡ Some l
     → (l.chain ≡ chain) × (l.next ≡ last_below (in_chain links chain) at))
     (apart : (h : ℕ) → (h ≡ chain → ⊥) → in_chain new h at ≡ in_chain links h at)
-    (leads : last_below (in_chain new chain) (number_or room from) ≡ to) where
+    (leads : last_below (in_chain new chain) (place_or room from) ≡ to) where
   rest : (h j : ℕ) → (j ≡ at → ⊥) → in_chain new h j ≡ in_chain links h j
   rest h j d = ap (is_in h) (others j d) ∙ is_in-led from to j h (links j)
 
@@ -59,7 +59,7 @@ module _ (heads : List (Option ℕ)) (room : ℕ) (links new : ℕ → Option Li
             | inl same ↦
                 let eq : nat_eq k b ≡ true = grind arith in
                 ap (λ (q : Bool). if q then to else next) eq ∙ sym leads
-                ∙ ap (λ (o : Option ℕ). last_below (in_chain new chain) (number_or room o)) f
+                ∙ ap (λ (o : Option ℕ). last_below (in_chain new chain) (place_or room o)) f
                 ∙ ap (last_below (in_chain new chain)) (sym same)
             | inr n ↦ elim (cases_lt k b) [
               | inl l ↦ let no = s.2 k (omega (d, arith)) l in absurd (cc)
@@ -134,7 +134,7 @@ module _ (heads : List (Option ℕ)) (room : ℕ) (links new : ℕ → Option Li
           | None ↦ λ f s.
               ap (λ (x : ℕ). slice_index_or (slice_set heads chain to) x None) same
               ∙ head_set heads chain to inside ∙ sym leads
-              ∙ ap (λ (o : Option ℕ). last_below (in_chain new chain) (number_or room o)) f
+              ∙ ap (λ (o : Option ℕ). last_below (in_chain new chain) (place_or room o)) f
               ∙ ap (λ (x : ℕ). last_below (in_chain new x) room) (sym same)
           | Some b ↦ λ f s.
               let l = link_of links chain b s.1 in
@@ -177,24 +177,24 @@ module _ (heads : List (Option ℕ)) (room : ℕ) (links new : ℕ → Option Li
         ];
       }
 
--- a link is put in at a number that no link had
+-- a link is put in at a place that no link had
 pub chained_added : (heads : List (Option ℕ)) (room : ℕ) (links new : ℕ → Option Link)
     → IsChained heads room links
     → (at : ℕ) (link : Link) (from : Option ℕ) → link.chain < length heads → at < room
     → links at ≡ None
     → IsBehind (in_chain links link.chain) at from
-    → link.next ≡ last_below (in_chain links link.chain) (number_or room from)
+    → link.next ≡ last_below (in_chain links link.chain) (place_or room from)
     → new at ≡ Some link → ((j : ℕ) → (j ≡ at → ⊥) → new j ≡ link_led from (Some at) j (links j))
     → IsChained (heads_led from link.chain (Some at) heads) room new
 chained_added heads room links new is at link from inside low free behind next here others =
     let chain : ℕ = link.chain in
     let rest : (j : ℕ) → (j ≡ at → ⊥) → in_chain new chain j ≡ in_chain links chain j =
     λ j d. ap (is_in chain) (others j d) ∙ is_in-led from (Some at) j chain (links j) in
-    let top : (at < number_or room from)
-    × ((j : ℕ) → at < j → j < number_or room from → in_chain links chain j ≡ false) =
+    let top : (at < place_or room from)
+    × ((j : ℕ) → at < j → j < place_or room from → in_chain links chain j ≡ false) =
     elim from as (λ o. IsBehind (in_chain links chain) at o
-    → (at < number_or room o)
-    × ((j : ℕ) → at < j → j < number_or room o → in_chain links chain j ≡ false)) [
+    → (at < place_or room o)
+    × ((j : ℕ) → at < j → j < place_or room o → in_chain links chain j ≡ false)) [
       | None ↦ λ s. (low, λ j a b. s j a)
       | Some k ↦ λ s. (s.0, s.2)
     ] behind in
@@ -205,14 +205,14 @@ chained_added heads room links new is at link from inside low free behind next h
     let same : link ≡ l = cc in (
       sym (ap (λ (x : Link). x.chain) same),
       sym (ap (λ (x : Link). x.next) same) ∙ next
-          ∙ last_skip (in_chain links chain) at (number_or room from) (omega arith)
+          ∙ last_skip (in_chain links chain) at (place_or room from) (omega arith)
           (λ j a b. elim (same_or_not j at) [
             | inl e ↦ not_in links chain j (ap links e ∙ free)
             | inr d ↦ top.1 j (omega (d, arith)) b
           ]),
     ))
     (λ h d. ap (is_in h) here ∙ elsewhere link h (λ e. d (sym e)) ∙ sym (not_in links h at free))
-    (last_here (in_chain new chain) at (number_or room from) up
+    (last_here (in_chain new chain) at (place_or room from) up
     (in_chain-is new at link chain here refl)
     (λ j a b. rest j (λ e. omega arith) ∙ top.1 j a b))
 
@@ -228,11 +228,11 @@ chained_removed heads room links new is at link from there behind gone others =
     let low = is.within at link there in
     let rest : (j : ℕ) → (j ≡ at → ⊥) → in_chain new chain j ≡ in_chain links chain j =
     λ j d. ap (is_in chain) (others j d) ∙ is_in-led from link.next j chain (links j) in
-    let top : (at < number_or room from)
-    × ((j : ℕ) → at < j → j < number_or room from → in_chain links chain j ≡ false) =
+    let top : (at < place_or room from)
+    × ((j : ℕ) → at < j → j < place_or room from → in_chain links chain j ≡ false) =
     elim from as (λ o. IsBehind (in_chain links chain) at o
-    → (at < number_or room o)
-    × ((j : ℕ) → at < j → j < number_or room o → in_chain links chain j ≡ false)) [
+    → (at < place_or room o)
+    × ((j : ℕ) → at < j → j < place_or room o → in_chain links chain j ≡ false)) [
       | None ↦ λ s. (low, λ j a b. s j a)
       | Some k ↦ λ s. (s.0, s.2)
     ] behind in
@@ -241,7 +241,7 @@ chained_removed heads room links new is at link from there behind gone others =
     (is.known at link there) low behind others
     (λ l e. let g : None ≡ Some l = sym gone ∙ e in absurd (cc))
     (λ h d. not_in new h at gone ∙ sym (ap (is_in h) there ∙ elsewhere link h (λ e. d (sym e))))
-    (last_skip (in_chain new chain) at (number_or room from) (omega arith)
+    (last_skip (in_chain new chain) at (place_or room from) (omega arith)
     (λ j a b. elim (same_or_not j at) [
       | inl e ↦ not_in new chain j (ap new e ∙ gone)
       | inr d ↦ rest j d ∙ top.1 j (omega (d, arith)) b

@@ -1,4 +1,4 @@
--- Chains: the links of each, the way down to a link, and chains without links.
+-- Chains: the links of each, the links above a place, and chains without links.
 use Rattle.std.proofs.Common.{◌≡◌, ℕ, zero, suc, ◌+◌, ◌<◌, ◌≤◌, List, [], ◌∷◌, length, Option, Some, None, Bool, true, false, refl, sym, ap, ◌∙◌, arith, inl, inr}
 use Rattle.std.proofs.lemmas.Bool.{cases_lt}
 use Rattle.std.specs.Prelude.{nat_eq, slice_index_or, slice_set, replicate}
@@ -7,10 +7,10 @@ use Rattle.map_indexes.specs.LastBelow.{last_below}
 use Rattle.map_indexes.proofs.LastBelowLaws.{last_is, none_below, last_skip}
 use Rattle.map_indexes.specs.Chains.{is_in, in_chain, IsChained, IsBehind, height, heads_led, link_led, nexts_led}
 
--- the number of the link, or the size of the room if there is no link
-abbrev pub number_or : ℕ → Option ℕ → ℕ
-number_or room None = room
-number_or room (Some k) = k
+-- the place of the link, or the size of the room if there is no link
+abbrev pub place_or : ℕ → Option ℕ → ℕ
+place_or room None = room
+place_or room (Some k) = k
 
 -- a link that gets another next link stays in its chain
 pub is_in-led : (from to : Option ℕ) (j chain : ℕ) (o : Option Link)
@@ -22,7 +22,7 @@ pub in_chain-is : (links : ℕ → Option Link) (k : ℕ) (l : Link) (chain : �
     → l.chain ≡ chain → in_chain links chain k ≡ true
 in_chain-is links k l chain e f = ap (is_in chain) e ∙ grind arith
 
--- a number that is in a chain is a link of it
+-- a place that is in a chain has a link of it
 pub link_of : (links : ℕ → Option Link) (chain k : ℕ) → in_chain links chain k ≡ true
     → (l : Link) × (links k ≡ Some l) × (l.chain ≡ chain)
 link_of links chain k e =
@@ -77,7 +77,7 @@ length-nexts_led (Some k) to nexts = length-head_set nexts k to
 module _ (room : ℕ) (links : ℕ → Option Link) (chain at : ℕ) where
   -- the links above `at` were passed, down to this one
   pub record Passed (from next : Option ℕ) : Type 0 where
-    pub is : next ≡ last_below (in_chain links chain) (number_or room from)
+    pub is : next ≡ last_below (in_chain links chain) (place_or room from)
     pub above : (k : ℕ) → from ≡ Some k → (at < k) × (in_chain links chain k ≡ true)
 
   -- the next one is at or below `at`, or there is none
@@ -85,17 +85,17 @@ module _ (room : ℕ) (links : ℕ → Option Link) (chain at : ℕ) where
       → Passed from next
       → ((k : ℕ) → next ≡ Some k → k ≤ at) → IsBehind (in_chain links chain) at from
   is_behind within from next p low =
-      let between : (j : ℕ) → at < j → j < number_or room from → in_chain links chain j ≡ false =
+      let between : (j : ℕ) → at < j → j < place_or room from → in_chain links chain j ≡ false =
       λ j a b. elim next as (λ o. next ≡ o → in_chain links chain j ≡ false) [
-        | None ↦ λ e. none_below (in_chain links chain) (number_or room from) (sym p.is ∙ e) j b
+        | None ↦ λ e. none_below (in_chain links chain) (place_or room from) (sym p.is ∙ e) j b
         | Some k ↦
             λ e. let l =
-            low k e in (last_is (in_chain links chain) (number_or room from) k (sym p.is ∙ e)).2
+            low k e in (last_is (in_chain links chain) (place_or room from) k (sym p.is ∙ e)).2
             j (omega arith) b
       ] refl in
       elim from as (λ o. from ≡ o → IsBehind (in_chain links chain) at o) [
         | None ↦ λ e. λ j a. elim (cases_lt j room) [
-          | inl l ↦ between j a (let s = ap (number_or room) e in omega arith)
+          | inl l ↦ between j a (let s = ap (place_or room) e in omega arith)
           | inr g ↦ elim (links j) as (λ o. links j ≡ o → is_in chain o ≡ false) [
             | None ↦ λ t. refl
             | Some l ↦ λ t. let w = within j l t in absurd (omega arith)
@@ -107,7 +107,7 @@ module _ (room : ℕ) (links : ℕ → Option Link) (chain at : ℕ) where
               u.0,
               u.1,
               λ j a b. between j a
-                  (let s = ap (number_or room) e in omega arith),
+                  (let s = ap (place_or room) e in omega arith),
             )
       ] refl
 

@@ -11,7 +11,7 @@ pub block_places : (size : ℕ) (block : List ℕ) (used : List Bool) (t : KeysB
 block_places size block used t is =
     sym (ap (λ (t : KeysByPlace). length t.by_place) is) ∙ length-keys_by_place size block 0 used
 
--- a whole block that was lent is what came back
+-- after a block was lent whole, it is what came back
 pub lent_whole : (back block : List ℕ) (n : ℕ) → length back ≡ n
     → take n (back ++ drop (length back) block) ≡ back
 lent_whole back block n e = take_at back (drop (length back) block) n e

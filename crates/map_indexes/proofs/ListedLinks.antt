@@ -6,7 +6,7 @@ use Rattle.map_indexes.specs.LastBelow.{last_below}
 use Rattle.map_indexes.proofs.LastBelowLaws.{last_is}
 use Rattle.map_indexes.proofs.PlaceKeysLaws.{same_or_not}
 use Rattle.map_indexes.specs.Chains.{in_chain, IsChained, IsBehind, chain_place, heads_led, next_led, link_led, link_with, link_in, nexts_led, led_from}
-use Rattle.map_indexes.proofs.ChainLaws.{number_or, link_of, head_set, head_other, length-head_set}
+use Rattle.map_indexes.proofs.ChainLaws.{place_or, link_of, head_set, head_other, length-head_set}
 use Rattle.map_indexes.proofs.ChainChanges.{chained_added, chained_removed}
 
 chain_place-led : (from to : Option ℕ) (j : ℕ) (o : Option Link)
@@ -94,7 +94,7 @@ link_in-gone : (chains nexts : List (Option ℕ)) (at j : ℕ) → (j ≡ at →
 link_in-gone chains nexts at j d = λ i. link_with j (head_other chains at j None d i)
     (slice_index_or nexts j None)
 
--- a link that others lead to is one of the links, so its number fits
+-- a link that others lead to is one of the links, so its place fits
 pub fits : (heads chains nexts : List (Option ℕ)) → IsChained heads (length chains)
     (link_in chains nexts) → length chains < 2 ^ 32
     → (chain m : ℕ) (next : Option ℕ) → next ≡ last_below (in_chain
@@ -125,10 +125,10 @@ module _ (heads chains nexts : List (Option ℕ)) (is : IsChained heads (length 
 
   -- what a new link leads to: what the link before it led to, or the start of the chain
   pub leads : chain < length heads → led_from from chain heads nexts ≡ last_below (in_chain
-      (link_in chains nexts) chain) (number_or (length chains) from)
+      (link_in chains nexts) chain) (place_or (length chains) from)
   leads inside =
       let test = in_chain (link_in chains nexts) chain in
-      elim from as (λ o. from ≡ o → led_from o chain heads nexts ≡ last_below test (number_or
+      elim from as (λ o. from ≡ o → led_from o chain heads nexts ≡ last_below test (place_or
       (length chains) o)) [
         | None ↦ λ e. is.first chain inside
         | Some k ↦ λ e.
@@ -182,7 +182,7 @@ module _ (heads chains nexts : List (Option ℕ)) (is : IsChained heads (length 
         ∙ chain_place-led from (Some at) j (link_in chains nexts j)
 
     pub lists_added : chain < length heads → link_in chains nexts at ≡ None
-        → next ≡ last_below (in_chain (link_in chains nexts) chain) (number_or (length chains) from)
+        → next ≡ last_below (in_chain (link_in chains nexts) chain) (place_or (length chains) from)
         → IsChained (heads_led from chain (Some at) heads) (length chains) (link_in more
         (nexts_led from (Some at) written))
     lists_added inside free leads =

@@ -1,5 +1,5 @@
--- Chains: links by number, and the first link of each chain. The links of a chain are in descending
--- order of their numbers.
+-- Chains: links by place, and the first link of each chain. The links of a chain are in descending
+-- order of their places.
 use Rattle.std.specs.Prelude.{◌≡◌, ℕ, ◌<◌, List, length, slice_index_or, slice_set, Option, Some, None, Bool, true, false, nat_eq, ◌+◌, if◌then◌else◌}
 use Rattle.map_indexes.specs.declared.chains.Link.{Link}
 use Rattle.map_indexes.specs.LastBelow.{last_below}
@@ -11,8 +11,8 @@ is_in chain (Some link) = nat_eq link.chain chain
 abbrev pub in_chain : (ℕ → Option Link) → ℕ → ℕ → Bool
 in_chain links chain k = is_in chain (links k)
 
--- each chain begins with its link of the highest number, and each link leads to the one of the next
--- lower number; room is above all numbers
+-- each chain begins with its link at the highest place, and each link leads to the one at the next
+-- lower place; room is above all places
 pub record IsChained (heads : List (Option ℕ)) (room : ℕ) (links : ℕ → Option Link) : Type 0 where
   pub first : (chain : ℕ) → chain < length heads
       → slice_index_or heads chain None ≡ last_below (in_chain links chain) room
@@ -21,7 +21,7 @@ pub record IsChained (heads : List (Option ℕ)) (room : ℕ) (links : ℕ → O
   pub within : (k : ℕ) (link : Link) → links k ≡ Some link → k < room
   pub known : (k : ℕ) (link : Link) → links k ≡ Some link → link.chain < length heads
 
--- the number `at` belongs right behind this link of a chain; None: at the front of the chain
+-- a link at the place `at` belongs right behind this one of a chain; None: at the chain's front
 abbrev pub IsBehind : (ℕ → Bool) → ℕ → Option ℕ → Type 0
 IsBehind test at None = (j : ℕ) → at < j → test j ≡ false
 IsBehind test at (Some k) = (at < k) × (test k ≡ true) × ((j : ℕ) → at < j → j < k → test j ≡ false)
@@ -31,7 +31,7 @@ abbrev pub chain_place : Option Link → Option (ℕ × ℕ)
 chain_place None = None
 chain_place (Some link) = Some (link.chain, link.place)
 
--- one more than a link's number, or 0 at the end of a chain
+-- one more than a link's place, or 0 at the end of a chain
 abbrev pub height : Option ℕ → ℕ
 height None = 0
 height (Some k) = k + 1
@@ -50,10 +50,10 @@ abbrev pub link_led : Option ℕ → Option ℕ → ℕ → Option Link → Opti
 link_led from to j None = None
 link_led from to j (Some link) = Some (record link { next = next_led from to j link.next })
 
--- ---- links by number, in two lists: of the chain of each number that has a link, and of the
--- number of the next one
+-- ---- links by place, in two lists: of the chain of each place that has a link, and of the place
+-- of the next one
 
--- the number of a link is its place
+-- the link at place k, if it is in a chain
 abbrev pub link_with : ℕ → Option ℕ → Option ℕ → Option Link
 link_with k None next = None
 link_with k (Some chain) next = Some (record { chain = chain; place = k; next = next })

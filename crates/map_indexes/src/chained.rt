@@ -89,7 +89,7 @@ impl ChainIndex {
         self.keys.sort_places(list.as_mut_slice());
     }
 
-    // The link of a key, by its number, which is the place of the key.
+    // The place of the link of a key, which is the place of the key.
     fn find_link(&self, key: &[u8]) -> Option<usize>
         requires { length key.now ≡ self.now.keys.size }
         ensures found { IfSome result (HasKey self.now.keys.by_place

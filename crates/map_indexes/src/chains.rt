@@ -7,7 +7,7 @@ ghost use Rattle.map_indexes.specs.Chains.{in_chain, chain_place, IsChained, IsB
 use crate::numbers::OptionalNumbers;
 use std::alloc::{AllocError, Global};
 
-/// A link: its chain, its place, which is its number, and the number of the next link.
+/// A link: its chain, its place, and the place of the next link.
 #[derive(Clone, Copy)]
 pub struct Link {
     pub chain: u32,
@@ -35,12 +35,12 @@ fn lead(
     }
 }
 
-/// Chains of links. The links of a chain are in descending order of their numbers.
+/// Chains of links. The links of a chain are in descending order of their places.
 #[derive(Drop)]
 pub struct Chains {
     count: u32,
     heads: OptionalNumbers,
-    // By number of a link: its chain, and the next link of that.
+    // By place of a link: its chain, and the place of the next link in that.
     chains: OptionalNumbers,
     nexts: OptionalNumbers,
     ghost counted: { length heads ≡ count },
@@ -51,7 +51,7 @@ pub struct Chains {
 }
 
 impl Chains {
-    /// Chains without links, and room for links of this many numbers.
+    /// Chains without links, and room for links at this many places.
     pub fn new(alloc: Global, count: u32, room: u32) -> Result<Self, AllocError>
         ensures count { IfOk result (λ c. c.count ≡ count) }
         ensures empty { IfOk result (λ c. (k : ℕ) → link_in c.chains c.nexts k ≡ None) }
@@ -84,7 +84,7 @@ impl Chains {
         self.heads.at(chain as usize)
     }
 
-    /// The link after one with a number, in its chain.
+    /// The place of the link after the one at a place, in its chain.
     pub fn next(&self, at: usize) -> Option<usize>
         requires { at < length self.now.chains }
         ensures { result ≡ slice_index_or self.now.nexts at None }
@@ -92,7 +92,8 @@ impl Chains {
         self.nexts.at(at)
     }
 
-    // The link of a chain right behind which a number belongs. None: at the front of the chain.
+    // The link of a chain right behind which a link at a place belongs. None: at the front of the
+    // chain.
     fn behind(&self, chain: u32, at: usize) -> Option<usize>
         requires { chain < self.now.count }
         ensures { IsBehind (in_chain (link_in self.now.chains self.now.nexts) chain) at result }
@@ -121,7 +122,7 @@ impl Chains {
         }
     }
 
-    /// Puts a link with a new number into a chain.
+    /// Puts a link at a free place into a chain.
     pub fn add(&mut self, chain: u32, at: usize)
         requires chain { chain < self.old.count }
         requires at { at < length self.old.chains }
@@ -145,7 +146,7 @@ impl Chains {
         );
     }
 
-    /// Takes the link with a number out of its chain.
+    /// Takes the link at a place out of its chain.
     pub fn remove(&mut self, at: usize)
         requires { IsSome (link_in self.old.chains self.old.nexts at) }
         ensures removed { link_in self.new.chains self.new.nexts at ≡ None }

@@ -5,7 +5,7 @@ ghost use Rattle.std.specs.Prelude.{◌≡◌, length, IfOk, vec_capacity};
 use std::alloc::AllocError;
 
 /// The list, if its elements fill all its room, which `vec!` does not promise. For a list with more
-/// room the answer is that memory ran out.
+/// room the error is that memory ran out.
 pub fn exact<T: Drop>(list: Vec<T>) -> Result<Vec<T>, AllocError>
     ensures same { IfOk result (λ l. l ≡ list) }
     ensures room { IfOk result (λ l. vec_capacity l ≡ length l.items) }

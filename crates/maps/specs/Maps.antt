@@ -57,7 +57,7 @@ rows_of maps = map (λ m. m.row) maps
 abbrev pub contents_of : List MapState → List KeyValues
 contents_of maps = map content_in maps
 
--- ---- rows
+-- ---- what holds of each map
 
 -- each place is below `entries`, no two keys have one place, there are no more keys than `entries`,
 -- and the block has a value for each place; keys are keys of the row's size, and values are bytes;

@@ -16,8 +16,8 @@ use map_indexes::rooms::exact;
 use map_indexes::{ArrayIndex, ChainIndex, Index, ScanIndex, put_bytes};
 use std::alloc::{AllocError, Global};
 
-/// The keys and values of a map by its row. Each key has a place, which it keeps until it is
-/// removed, and the value of the key is the row of the block at its place.
+/// The keys and values of a map, by its map row. Each key has a place, which it keeps until it is
+/// removed, and its value is what the block of values has at that place.
 pub trait MapStore {
     ghost row_of: { Self → MapDef };
 
@@ -28,7 +28,7 @@ pub trait MapStore {
     // The map with other bytes for the value at a place.
     ghost with_value: { Self → ℕ → List ℕ → Self };
 
-    /// The map's row.
+    /// The map row.
     fn row(&self) -> MapDef
         ensures { result ≡ row_of self.now };
 
@@ -37,6 +37,7 @@ pub trait MapStore {
         requires { length key.now ≡ (row_of self.now).key_size }
         ensures { result ≡ map.get (places self.now) key.now };
 
+    /// Whether the map has as many keys as it may have.
     fn is_full(&self) -> bool
         ensures { result ≡ nat_le (row_of self.now).entries (map.len (places self.now)) };
 
@@ -106,7 +107,7 @@ pub trait MapStore {
 
     ghost whole: { (s : Self) → length (block s) ≡ (row_of s).entries * (row_of s).value_size };
 
-    // What is written into a value changes its row of the block, and nothing else.
+    // What is written into a value changes its bytes of the block, and nothing else.
     ghost written_row: { (s : Self) (p : ℕ) (v : List ℕ) → row_of (with_value s p v) ≡ row_of s };
 
     ghost written_places: { (s : Self) (p : ℕ) (v : List ℕ)
@@ -250,7 +251,7 @@ impl<I: Index> MapStore for Store<I> {
     ghost written = { λ s p v inside size. stored_at-with_row s p v inside size };
 }
 
-// The row of a hash map.
+// The map row of a hash map.
 fn hash_row(key_size: u16, value_size: u32, entries: u32) -> MapDef
     ensures { result ≡ hash_row key_size value_size entries }
 {
@@ -287,7 +288,7 @@ impl Store<ArrayIndex> {
     }
 }
 
-/// A hash map whose look-ups scan all its places, to be compared with.
+/// A hash map whose look-ups scan all its places; tests compare the chains with it.
 pub type HashMapScan = Store<ScanIndex>;
 
 impl Store<ScanIndex> {

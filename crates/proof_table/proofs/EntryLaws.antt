@@ -11,7 +11,7 @@ use Rattle.isa_model.specs.Code.Limits.{max_call_frames}
 use Rattle.table_entries.specs.Entries.{Entry, named_in, head_allowed, rest_in, entry_in}
 use Rattle.proof_table.specs.Spelling.{frame_bytes, named_bytes, entry_bytes}
 use Rattle.proof_table.specs.Fitting.{EntryFits}
-use Rattle.proof_table.proofs.ValueLaws.{byte-reads, sized-reads}
+use Rattle.proof_table.proofs.KindLaws.{byte-reads, sized-reads}
 use Rattle.proof_table.proofs.FrameLaws.{frame_in-reads, callers_in-reads}
 
 named_in-reads : (xs rest : List ℕ) → length xs ≤ 2 → All (λ i. i < 2 ^ 32) xs

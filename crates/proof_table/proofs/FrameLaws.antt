@@ -8,11 +8,11 @@ use Rattle.byteorder.specs.Numbers.{little_number-reads_back}
 use Rattle.stack_state.specs.declared.states.AbstractFrame.{AbstractFrame}
 use Rattle.stack_state.specs.Slots.{frame_slots}
 use Rattle.table_entries.specs.Reading.{Read, then_read, joined, many}
-use Rattle.table_entries.specs.Values.{kind_in, slot_in}
+use Rattle.table_entries.specs.Kinds.{kind_in, slot_in}
 use Rattle.table_entries.specs.Frames.{frame_in, callers_in}
 use Rattle.proof_table.specs.Spelling.{kind_bytes, slot_bytes, frame_bytes}
 use Rattle.proof_table.specs.Fitting.{KindFits, SlotFits, FrameFits}
-use Rattle.proof_table.proofs.ValueLaws.{kind_in-reads, slot_in-reads}
+use Rattle.proof_table.proofs.KindLaws.{kind_in-reads, slot_in-reads}
 
 -- what is spelled one after the other is read one after the other, from the k-th on
 pub many-reads : {X : Type 0} (one : ℕ → List ℕ → Read X) (spell : X → List ℕ) (P : ℕ → X → Type 0)

@@ -1,5 +1,5 @@
 pub mod FittingLaws
-pub mod ValueLaws
+pub mod KindLaws
 pub mod FrameLaws
 pub mod EntryLaws
 pub mod TableLaws

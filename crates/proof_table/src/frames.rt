@@ -5,7 +5,7 @@ ghost use Rattle.std.specs.List.{flat_map};
 ghost use Rattle.byteorder.specs.Endian.{little_bytes};
 ghost use Rattle.proof_table.specs.Spelling.{kind_bytes, slot_bytes, frame_bytes};
 
-use crate::values::{spell_kind, spell_slot};
+use crate::kinds::{spell_kind, spell_slot};
 use reg_state::Kind;
 use stack_state::{AbstractFrame, FRAME_SLOTS, StackSlot};
 use std::alloc::AllocError;

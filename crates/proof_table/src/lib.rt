@@ -10,8 +10,8 @@ pub mod entries;
 pub mod errors;
 pub mod fitting;
 pub mod frames;
+pub mod kinds;
 pub mod tables;
-pub mod values;
 
 pub use errors::WriteTableError;
 pub use rechecking::{TableError, recheck};

@@ -35,7 +35,7 @@ slot_position slot = codes "slot " ++ decimal slot
 abbrev pub map_position : ℕ → List ℕ
 map_position index = codes "map " ++ decimal index
 
--- the text for bytes that are no image, without the cure
+-- the text for bytes that are no image, without the hint
 abbrev pub image_front : ImageError → List ℕ
 image_front (Code slot error) =
     refused_at (image.code_of (Code slot error)) (slot_position slot)
@@ -52,11 +52,11 @@ image_front (ValuePointer slot) =
 image_front error = codes "refused "
     ++ (image.code_of error ++ (codes "\n" ++ (image.sentence_of error ++ codes "\n")))
 
--- and with the cure; another magic and memory have none
+-- and with the hint; another magic and memory have none
 abbrev pub image_text : ImageError → List ℕ
 image_text Magic = image_front Magic
 image_text Memory = image_front Memory
-image_text error = image_front error ++ (image.cure_of error ++ codes "\n")
+image_text error = image_front error ++ (image.hint_of error ++ codes "\n")
 
 -- the position in a text
 abbrev pub text_position : ℕ → ℕ → List ℕ

@@ -88,14 +88,14 @@ fn with_line(alloc: Global, text: &str, line: &str) -> Result<String, AllocError
     format!(in alloc; "{text}{line}\n")
 }
 
-/// Why bytes are no image, where, and the cure; another magic and memory have none.
+/// Why bytes are no image, where, and the hint; another magic and memory have none.
 pub fn image_text(alloc: Global, error: ImageError) -> Result<String, AllocError>
     ensures { IfOk result (λ text. string_bytes text ≡ image_text error) }
 {
     let front = image_front(alloc, error)?;
     match error {
         ImageError::Magic | ImageError::Memory => Ok(front),
-        _ => with_line(alloc, front.as_str(), error.cure()),
+        _ => with_line(alloc, front.as_str(), error.hint()),
     }
 }
 

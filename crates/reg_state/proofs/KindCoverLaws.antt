@@ -8,7 +8,7 @@ use Rattle.reg_state.specs.declared.kinds.Kind.TheVariants.{Unset, Number, Conte
 use Rattle.reg_state.specs.Kinds.{Assigned, Allows, AllowsPacket, AllowsMapValue}
 use Rattle.reg_state.specs.KindCover.{KindCovers}
 
--- the assignment in which each identity is read as the one that the maps call it
+-- the assignment in which each identity is read as the one that the renamings call it
 abbrev pub renamed : (ℕ → ℕ) → (ℕ → ℕ) → Assigned → Assigned
 renamed packet null e =
     record e { offset = λ i. e.offset (packet i); value = λ i. e.value (null i) }

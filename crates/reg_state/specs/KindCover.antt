@@ -1,4 +1,4 @@
--- When a kind covers another, by maps from its identities to the other's.
+-- When a kind covers another, by renamings of its identities to the other's.
 use Rattle.std.specs.Prelude.{◌≡◌, ℕ, ◌≤◌, ◌≤ℤ◌, Option, Some, None, IfSome}
 use Rattle.reg_state.specs.declared.kinds.Kind.{Kind}
 use Rattle.reg_state.specs.declared.kinds.Kind.TheVariants.{Unset, Number, Context, Stack, Packet, PacketEnd, Map, MapValue, MapValueOrNull}
@@ -14,7 +14,7 @@ abbrev pub null_identity_of : Kind → Option ℕ
 null_identity_of (MapValueOrNull m identity) = Some identity
 null_identity_of k = None
 
--- the maps of identities take the one that the kind names to this one
+-- the renamings give this name to the identity that the kind names
 pub record IsCalled (packet null : ℕ → ℕ) (k : Kind) (name : ℕ) : Type 0 where
   pub packet_name : IfSome (packet_identity_of k) (λ i. packet i ≡ name)
   pub null_name : IfSome (null_identity_of k) (λ i. null i ≡ name)

@@ -23,8 +23,8 @@ IsConstant s x = B.IsConstant s.bits x × R.IsConstant s.range x
 abbrev pub IsNumber : Scalar → ℕ → Type 0
 IsNumber s x = B.IsConstant s.bits x ⊎ ((s.bits.mask ≢ 0) × R.LeavesOnly s.range x)
 
--- the number of the width is one that its members may be read as: at 32 bits between the limits of
--- their low halves
+-- a member may be read as this number, at this width: at 32 bits, the number is between the limits
+-- of low halves
 abbrev pub allows : Width → Scalar → ℕ → Type 0
 allows Full64 s x = Has s x
 allows Low32 s x = L.Has s.range.low x

@@ -4,7 +4,7 @@ use Rattle.isa_model.specs.declared.frames.FrameHead.{FrameHead}
 use Rattle.isa_model.specs.Machine.States.{KeyValues}
 use Rattle.isa_model.specs.Reporting.Reports.{starting_contents}
 use Rattle.machine.specs.declared.machines.Exit.{Exit}
-use Rattle.machine.specs.Running.{AnswersRun}
+use Rattle.machine.specs.Running.{ReturnsOutcome}
 use Rattle.verdict_calls.specs.Verdicts.{IsAcceptedImage}
 
 -- the bytes are an accepted image, and the run of its program on this packet, on maps as they
@@ -15,7 +15,7 @@ pub record RunsProgram (bytes : List ℕ) (head : FrameHead) (packet : List ℕ)
   pub accepts : IsAcceptedImage bytes bound
   pub left : List KeyValues
   pub coming : ℕ → ℕ
-  pub answers : AnswersRun
+  pub returns : ReturnsOutcome
       (record {
         program = accepts.program;
         bound = bound;

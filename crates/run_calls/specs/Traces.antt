@@ -33,7 +33,7 @@ end_of Limit limit = record { r0 = 0; steps = limit; kind = 2; reason = 0 }
 
 -- the bytes are an image, and the run of its program within the limit, on maps as they start, ends
 -- in this way and leaves this packet
-pub record AnswersTrace (bytes : List ℕ) (head : FrameHead) (packet : List ℕ) (limit : ℕ)
+pub record ReturnsTrace (bytes : List ℕ) (head : FrameHead) (packet : List ℕ) (limit : ℕ)
     (end : TracedEnd) (after : List ℕ) : Type 0 where
   pub program : Program
   pub spelled : bytes ≡ image_bytes program

@@ -5,7 +5,7 @@ ghost use Rattle.isa_model.specs.{max_packet};
 ghost use Rattle.isa_model.specs.Code.Limits.{max_steps};
 ghost use Rattle.verdict_calls.specs.Crossing.{IsStatus};
 ghost use Rattle.verdict_calls.specs.Verdicts.{IsNoImage};
-ghost use Rattle.run_calls.specs.Traces.{AnswersTrace, trap_number, end_of};
+ghost use Rattle.run_calls.specs.Traces.{ReturnsTrace, trap_number, end_of};
 
 use crate::clocks::clock_at;
 use crate::running::Head;
@@ -80,7 +80,7 @@ pub fn trace_once(
     limit: u32,
     out: &mut TracedEnd,
 ) -> u32
-    ensures traced { result ≡ 0 → AnswersTrace image.now (record {
+    ensures traced { result ≡ 0 → ReturnsTrace image.now (record {
       time = head.now.time;
       interface = head.now.interface;
       queue = head.now.queue;

@@ -4,7 +4,7 @@ use Rattle.isa_model.specs.declared.frames.FrameHead.{FrameHead}
 use Rattle.isa_model.specs.Machine.States.{KeyValues}
 use Rattle.isa_model.specs.Reporting.Reports.{starting_contents}
 use Rattle.machine.specs.declared.machines.Exit.{Exit}
-use Rattle.machine.specs.Running.{Running, AnswersRun}
+use Rattle.machine.specs.Running.{Running, ReturnsOutcome}
 use Rattle.machine.specs.BetweenRuns.{row_at}
 use Rattle.verdict_calls.specs.Verdicts.{IsAcceptedImage}
 
@@ -42,7 +42,7 @@ pub record RunsSession (old new : Option Running) (head : FrameHead) (packet : L
   pub coming : ℕ → ℕ
   pub was : old ≡ Some machine
   pub is : new ≡ Some (record machine { contents = left })
-  pub answers : AnswersRun machine head packet (λ _. head.time) exit after left coming
+  pub returns : ReturnsOutcome machine head packet (λ _. head.time) exit after left coming
 
 -- ---- maps between runs
 

@@ -42,7 +42,7 @@ fn open(alloc: Global, verified: Verified, session: &mut Session) -> u32
 
 // Whether a session holds a machine.
 fn is_open(alloc: Global, session: &mut Session) -> bool
-    ensures answer { result ≡ is_some session.old.held }
+    ensures says { result ≡ is_some session.old.held }
     ensures same { session.new.held ≡ session.old.held }
 {
     match session.take(alloc) {

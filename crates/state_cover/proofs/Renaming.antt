@@ -22,7 +22,7 @@ use Rattle.state_cover.specs.FrameCover.{SlotEncloses, SlotsEnclose, StateEnclos
 
 -- ---- one place
 
--- the counterpart has the name that the map gives
+-- the second kind has the name that the renaming gives
 abbrev IsOpposite : Sort → (ℕ → ℕ) → Kind → Kind → Type 0
 IsOpposite s m x y = IfSome (identity_of s x) (λ i. identity_of s y ≡ Some (m i))
 
@@ -147,7 +147,7 @@ opposite_slots s m packet null xs ys each c = λ k.
 
 -- ---- call frames
 
--- kinds in registers and slots correspond to those of the other frame
+-- so it is with the kinds in registers and slots of two frames
 record FramesOpposite (s : Sort) (m : ℕ → ℕ) (f g : AbstractFrame) : Type 0 where
   registers : AreOpposite s m f.registers g.registers
   slots : AreOpposite s m (spilled_kinds f.stack.slots) (spilled_kinds g.stack.slots)
@@ -202,7 +202,7 @@ no_frame_names : (s : Sort) (i : ℕ) → NamedIn s no_frame i → ⊥
 no_frame_names s i (inl named) = unset_names s i named.1
 no_frame_names s i (inr named) = unset_names s i named.1
 
--- what has no counterpart names nothing
+-- a frame with no frame opposite names nothing
 none_opposite : (s : Sort) (m : ℕ → ℕ) (i : ℕ) (f : AbstractFrame) → FramesOpposite s m f no_frame
     → NamedIn s f i → ⊥
 none_opposite s m i f h (inl named) =
@@ -235,7 +235,7 @@ name_at-counterpart : (s : Sort) (m : ℕ → ℕ) (i : ℕ) (found : Option (Ki
 name_at-counterpart s m i None some h = absurd (cc)
 name_at-counterpart s m i (Some place) some h = rw h refl
 
--- an identity that a frame names has the name that the map gives
+-- an identity that a frame names has the name that the renaming gives
 name_of-opposite : (s : Sort) (m : ℕ → ℕ) (i : ℕ) (a b : State) (j : ℕ)
     → AllOpposite s m (frames_of a) (frames_of b)
     → NamedIn s (abstract_frame_at a j) i → name_of s a b i ≡ m i
@@ -272,7 +272,7 @@ renamed_kind packet null names nulls (MapValueOrNull m i) (MapValueOrNull m' i')
     (c.0, values ∙ c.1)
 renamed_kind packet null names nulls x y packets values c = absurd c
 
--- the two names agree with the maps on what a kind names
+-- what a kind names gets the same names from `names` and `nulls` as from `packet` and `null`
 record AgreeOn (packet null names nulls : ℕ → ℕ) (x : Kind) : Type 0 where
   packets : IfSome (packet_identity_of x) (λ i. names i ≡ packet i)
   values : IfSome (null_identity_of x) (λ i. nulls i ≡ null i)
@@ -321,7 +321,7 @@ agree packet null a b j x c named = record {
       (named sort.Null i e));
 }
 
--- the names at the first places serve where other maps do
+-- the names at the first places serve where other renamings do
 pub StateEncloses-names : (packet null : ℕ → ℕ) (a b : State) → StateEncloses packet null a b
     → StateEncloses (packet_name a b) (null_name a b) a b
 StateEncloses-names packet null a b c = record {

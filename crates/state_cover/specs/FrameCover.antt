@@ -1,5 +1,5 @@
--- When a call frame covers another, by maps of identities; and when a test of registers and slots
--- has to find that a state covers another.
+-- When a call frame covers another, by renamings of identities; and when a test of registers and
+-- slots has to find that a state covers another.
 use Rattle.std.specs.Prelude.{◌≡◌, ℕ, ◌<◌, List, map}
 use Rattle.std.specs.Int.{bit_at}
 use Rattle.reg_state.specs.declared.kinds.Kind.{Kind}
@@ -56,7 +56,7 @@ SlotsEnclose packet null xs ys = (k : ℕ) → SlotEncloses packet null (slot_at
 
 -- ---- states
 
--- each register and slot of a covers its counterpart of b, numbers by their bits and limits, under
+-- each register and slot of a covers the same one of b, numbers by their bits and limits, under
 -- these names of identities
 pub record StateEncloses (packet null : ℕ → ℕ) (a b : State) : Type 0 where
   pub none : packet 0 ≡ 0

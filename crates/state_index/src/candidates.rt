@@ -65,8 +65,8 @@ pub struct FinishedCandidates<'a> {
     pub known: u64,
     pub limits: &'a [PartLimits],
     pub trees: &'a [Tree],
-    /// A stored state of the first tree, and what is sought there once it is known.
-    pub number: usize,
+    /// A row of the first tree's lowest level, and what is sought there once it is known.
+    pub row_index: usize,
     pub sought: Option<Sought>,
     /// The first stored state of a bucket.
     pub next: Option<u32>,
@@ -85,7 +85,7 @@ impl<'a> FinishedCandidates<'a> {
                 Some(index) => return Some(index),
                 None => {
                     self.trees = others;
-                    self.number = 0;
+                    self.row_index = 0;
                     self.sought = None;
                 }
             }
@@ -100,10 +100,10 @@ impl<'a> FinishedCandidates<'a> {
             None => tree.sought(self.limits)?,
         };
         sought[0] = !(before.checked_sub(1)? as u64);
-        let number = tree.next_from(self.number, &sought, effort)?;
-        self.number = number.saturating_add(1);
+        let row_index = tree.next_from(self.row_index, &sought, effort)?;
+        self.row_index = row_index.saturating_add(1);
         self.sought = Some(sought);
-        tree.index_at(number)
+        tree.index_at(row_index)
     }
 
     /// The next stored state of the bucket.

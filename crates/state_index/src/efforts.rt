@@ -12,7 +12,7 @@ const TREE: usize = 256;
 const TREE_PART: usize = 16;
 
 /// What looking up has cost, as a count of comparisons of parts. It does not depend on time, so
-/// that the same program is always answered in the same way.
+/// that the same program always has the same verdict.
 #[derive(Clone, Copy, Drop)]
 pub struct Effort {
     spent: u64,

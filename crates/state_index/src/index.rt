@@ -102,7 +102,7 @@ impl StateIndex {
             known,
             limits,
             trees,
-            number: 0,
+            row_index: 0,
             sought: None,
             next,
             is_ordered,
@@ -179,7 +179,7 @@ impl StateIndex {
         }
     }
 
-    /// The number of a state's shape, which is a new one where no stored state of its slot has it.
+    /// The index of a state's shape, which is a new one where no stored state of its slot has it.
     fn shape_of(
         &mut self,
         alloc: Global,
@@ -188,10 +188,10 @@ impl StateIndex {
         effort: &mut Effort,
     ) -> Result<usize, AllocError> {
         let mut shapes = 0usize;
-        for number in self.shapes_at(slot) {
+        for index in self.shapes_at(slot) {
             effort.spend_search(key.parts.len());
-            if self.has_shape(number, key) {
-                return Ok(number);
+            if self.has_shape(index, key) {
+                return Ok(index);
             }
             shapes = shapes.wrapping_add(1);
         }
@@ -199,21 +199,21 @@ impl StateIndex {
             // the newest one, which knows nothing
             return Ok(self.shapes_at(slot).next().unwrap_or(0));
         }
-        let number = self.shapes.len();
+        let index = self.shapes.len();
         let mut next = None;
         if let Some(first) = self.first_shapes.get_mut(slot) {
-            next = mem::replace(first, u32::try_from(number).ok());
+            next = mem::replace(first, u32::try_from(index).ok());
         }
         let shape = match shapes < SHAPES {
             true => Shape::of(alloc, key)?,
             false => Shape::blank(alloc),
         };
         self.shapes.push(ShapeLink { shape, next })?;
-        Ok(number)
+        Ok(index)
     }
 
-    fn has_shape(&self, number: usize, key: &Key) -> bool {
-        match self.shapes.get(number) {
+    fn has_shape(&self, index: usize, key: &Key) -> bool {
+        match self.shapes.get(index) {
             Some(link) => link.shape.is_of(key),
             None => false,
         }

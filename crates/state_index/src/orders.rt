@@ -9,22 +9,22 @@ const SAMPLE: usize = 16;
 /// How often a size is doubled or halved at most: once for each bit of its word.
 const WORD: usize = 64;
 
-/// A row by its number, and its word by which it is put into order.
+/// A row by its index, and its word by which it is put into order.
 #[derive(Clone, Copy, Drop)]
 struct Row {
-    number: usize,
+    index: usize,
     word: u64,
 }
 
-/// Rows in an order, by their numbers.
+/// Rows in an order, by their indexes.
 #[derive(Drop)]
 pub struct RowOrder {
     order: Vec<Row>,
 }
 
 /// The word of a row in a column.
-fn word_at(rows: &[u64], width: usize, number: usize, column: usize) -> u64 {
-    let index = number.saturating_mul(width).saturating_add(column);
+fn word_at(rows: &[u64], width: usize, row_index: usize, column: usize) -> u64 {
+    let index = row_index.saturating_mul(width).saturating_add(column);
     rows.get(index).copied().unwrap_or(0)
 }
 
@@ -33,9 +33,9 @@ fn differ(order: &[Row], rows: &[u64], width: usize, column: usize) -> bool {
     let Some(first) = order.first() else {
         return false;
     };
-    let word = word_at(rows, width, first.number, column);
+    let word = word_at(rows, width, first.index, column);
     for row in order.iter().step_by(order.len() / SAMPLE + 1) {
-        if word_at(rows, width, row.number, column) != word {
+        if word_at(rows, width, row.index, column) != word {
             return true;
         }
     }
@@ -70,17 +70,17 @@ fn split(order: &mut [Row], half: usize, turn: usize, rows: &[u64], width: usize
         return;
     };
     for row in order.iter_mut() {
-        row.word = word_at(rows, width, row.number, column);
+        row.word = word_at(rows, width, row.index, column);
     }
     let _halves = order.select_nth_unstable_by_key(half, |row| row.word);
 }
 
 impl RowOrder {
-    /// This number of rows, in the order that they have.
+    /// This many rows, in the order that they have.
     pub fn of(alloc: Global, count: usize) -> Result<Self, AllocError> {
         let mut order = Vec::with_capacity(alloc, count)?;
-        for number in 0..count {
-            order.push(Row { number, word: 0 })?;
+        for index in 0..count {
+            order.push(Row { index, word: 0 })?;
         }
         Ok(RowOrder { order })
     }
@@ -104,9 +104,9 @@ impl RowOrder {
         }
     }
 
-    /// The number of the row with this index in the order.
-    pub fn number(&self, index: usize) -> Option<usize> {
-        let row = self.order.get(index)?;
-        Some(row.number)
+    /// The index of the row that is the next one after so many in the order.
+    pub fn row_index(&self, before: usize) -> Option<usize> {
+        let row = self.order.get(before)?;
+        Some(row.index)
     }
 }

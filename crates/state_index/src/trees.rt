@@ -39,8 +39,8 @@ fn width(measures: &[Measure]) -> usize {
 }
 
 /// A row of a level.
-fn row(level: &[u64], width: usize, number: usize) -> Option<&[u64]> {
-    let rest = level.get(number.saturating_mul(width)..)?;
+fn row(level: &[u64], width: usize, index: usize) -> Option<&[u64]> {
+    let rest = level.get(index.saturating_mul(width)..)?;
     rest.get(..width)
 }
 
@@ -62,8 +62,8 @@ fn level_above(alloc: Global, level: &[u64], width: usize) -> Result<Vec<u64>, A
         let first = node.saturating_mul(FAN);
         for column in 0..width {
             let mut greatest: u64 = 0;
-            for number in first..first.saturating_add(FAN) {
-                if let Some(word) = level.get(number.saturating_mul(width).saturating_add(column)) {
+            for index in first..first.saturating_add(FAN) {
+                if let Some(word) = level.get(index.saturating_mul(width).saturating_add(column)) {
                     greatest = greatest.max(*word);
                 }
             }
@@ -99,10 +99,10 @@ impl Tree {
         let mut indexes = Vec::with_capacity(alloc, count)?;
         let mut nodes = Vec::with_capacity(alloc, rows.words.len())?;
         for index in 0..count {
-            let number = order.number(index).unwrap_or(0);
-            if let Some(index) = rows.stored.get(number) {
+            let row_index = order.row_index(index).unwrap_or(0);
+            if let Some(index) = rows.stored.get(row_index) {
                 indexes.push(*index)?;
-                nodes.extend_from_slice(row(&rows.words, width, number).unwrap_or(&[]))?;
+                nodes.extend_from_slice(row(&rows.words, width, row_index).unwrap_or(&[]))?;
             }
         }
         let levels = levels_over(alloc, nodes, width)?;
@@ -129,34 +129,40 @@ impl Tree {
         Some(sought)
     }
 
-    /// The index of a stored state.
-    pub fn index_at(&self, number: usize) -> Option<usize> {
-        let index = *self.indexes.get(number)?;
+    /// The index of the stored state that a row of the lowest level is of.
+    pub fn index_at(&self, row_index: usize) -> Option<usize> {
+        let index = *self.indexes.get(row_index)?;
         Some(index as usize)
     }
 
-    /// The first stored state, from this one on, that may cover a state by the words of its row.
-    pub fn next_from(&self, number: usize, sought: &Sought, effort: &mut Effort) -> Option<usize> {
-        let mut number = number;
+    /// The first row of the lowest level, from this one on, whose stored state may cover a state by
+    /// the words of the row.
+    pub fn next_from(
+        &self,
+        row_index: usize,
+        sought: &Sought,
+        effort: &mut Effort,
+    ) -> Option<usize> {
+        let mut row_index = row_index;
         for _tried in 0..self.indexes.len() {
-            if number >= self.indexes.len() {
+            if row_index >= self.indexes.len() {
                 return None;
             }
-            match self.barred_from(number, sought, effort) {
-                Some(next) => number = next,
-                None => return Some(number),
+            match self.barred_from(row_index, sought, effort) {
+                Some(next) => row_index = next,
+                None => return Some(row_index),
             }
         }
         None
     }
 
-    /// The stored state after those to pass over: all of the highest row that begins at this one
-    /// and does not reach the words. None: there is no such row.
-    fn barred_from(&self, number: usize, sought: &Sought, effort: &mut Effort) -> Option<usize> {
+    /// The row of the lowest level after those to pass over: all that are summarized by the highest
+    /// row which begins at this one and does not reach the words. None: there is no such row.
+    fn barred_from(&self, row_index: usize, sought: &Sought, effort: &mut Effort) -> Option<usize> {
         for level in (0..self.levels.len()).rev() {
             let shift = FAN_BITS.wrapping_mul(u32::try_from(level).unwrap_or(0));
-            let node = number.wrapping_shr(shift);
-            if node.wrapping_shl(shift) == number {
+            let node = row_index.wrapping_shr(shift);
+            if node.wrapping_shl(shift) == row_index {
                 let row = row(self.levels.get(level)?, width(&self.measures), node)?;
                 effort.spend_test();
                 if !reaches(row, sought) {

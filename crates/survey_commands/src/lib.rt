@@ -1,7 +1,7 @@
 //! The program `xdpvm_survey`, on any runtime and any outputs.
 #![tactic(auto)]
 
-mod answering;
+mod executing;
 mod failures;
 mod files;
 mod folders;
@@ -11,4 +11,4 @@ mod surveying;
 mod tables;
 mod writing;
 
-pub use answering::{answer, execute};
+pub use executing::{execute, execute_given};

@@ -14,12 +14,13 @@ use Rattle.verdict_calls.specs.Crossing.{FillsBuffer}
 use Rattle.refusal_texts.specs.Texts.{image_text, IsTableText}
 use Rattle.verdict_calls.specs.Verdicts.{IsAcceptedImage, IsNoImage}
 
--- an answer that is a bound, and says nothing of a refusal
+-- what is returned for a bound, and says nothing of a refusal
 abbrev pub only_bound : ℕ → Rechecked
 only_bound bound = record { said = 0; bound = bound; rule = 0; entry = 0 }
 
--- the bytes are an accepted image, and the answer is the bound that the table shows of its program
-pub record AnswersShownBound (bytes table : List ℕ) (out : Rechecked) : Type 0 where
+-- the bytes are an accepted image, and what is returned is the bound that the table shows of its
+-- program
+pub record ReturnsShownBound (bytes table : List ℕ) (out : Rechecked) : Type 0 where
   pub accepts : IsAcceptedImage bytes out.bound
   pub shows : ShowsBound accepts.program table out.bound
   pub alone : out ≡ only_bound out.bound

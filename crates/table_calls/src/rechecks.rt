@@ -6,7 +6,7 @@ ghost use Rattle.bounds.specs.Bounds.{IsVerified};
 ghost use Rattle.rechecking.specs.Refusing.{ShowsBound};
 ghost use Rattle.verdict_calls.specs.Crossing.{IsVerdict};
 ghost use Rattle.verdict_calls.specs.declared.statuses.NotAccepted.TheVariants as NotAccepted;
-ghost use Rattle.table_calls.specs.Tables.{AnswersShownBound, only_bound, FillsTableRefusal, FillsRefusedTable, IsRefusedTable, broken, is_table_memory};
+ghost use Rattle.table_calls.specs.Tables.{ReturnsShownBound, only_bound, FillsTableRefusal, FillsRefusedTable, IsRefusedTable, broken, is_table_memory};
 
 use bounds::Verified;
 use control_flow::FlowError;
@@ -138,7 +138,7 @@ pub fn recheck_table(
     why: &mut [u8],
     out: &mut Rechecked,
 ) -> u32
-    ensures accepted { result ≡ 0 → AnswersShownBound image.now table.now out.new }
+    ensures accepted { result ≡ 0 → ReturnsShownBound image.now table.now out.new }
     ensures refused { result ≡ 2
         → FillsTableRefusal image.now table.now why.old why.new out.new }
     ensures why_kept { result ≢ 2 → why.new ≡ why.old }

@@ -9,7 +9,7 @@ use Rattle.stack_state.specs.declared.slots.StackSlot.{StackSlot}
 use Rattle.stack_state.specs.declared.slots.StackSlot.TheVariants.{Written}
 use Rattle.table_entries.specs.Blanks.{AreZeros}
 use Rattle.table_entries.specs.Reading.{Read, seen, many}
-use Rattle.table_entries.specs.Values.{slot_in}
+use Rattle.table_entries.specs.Kinds.{slot_in}
 use Rattle.table_entries.proofs.Many.{appended, with_front, many-goes_on, many-begins}
 use Rattle.table_entries.proofs.Seen.{and_seen, seen-begins}
 

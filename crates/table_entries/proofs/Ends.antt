@@ -10,7 +10,7 @@ use Rattle.table_entries.specs.declared.stops.StopReason.TheVariants.{Form}
 use Rattle.isa_model.specs.Code.Instructions.{Program}
 use Rattle.table_entries.specs.Deciding.{decide}
 use Rattle.table_entries.specs.Reading.{Read, sized, then_read, joined, many}
-use Rattle.table_entries.specs.Values.{scalar_in, stack_in, packet_in, map_in, value_in, null_in, fields_in, kind_in, slot_in, marks_in, spilled}
+use Rattle.table_entries.specs.Kinds.{scalar_in, stack_in, packet_in, map_in, value_in, null_in, fields_in, kind_in, slot_in, marks_in, spilled}
 use Rattle.table_entries.specs.Frames.{frame_in, callers_in}
 use Rattle.table_entries.specs.Entries.{Entry, named_in, rest_in, entry_in}
 use Rattle.table_entries.specs.Growing.{IsEnd}

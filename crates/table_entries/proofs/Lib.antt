@@ -9,5 +9,5 @@ pub mod Seen
 pub mod BlankSlots
 pub mod UnsetCallers
 pub mod NumberSlots
-pub mod ValueLaws
+pub mod KindLaws
 pub mod GrowingLaws

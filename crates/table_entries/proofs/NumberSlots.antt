@@ -3,7 +3,7 @@ use Rattle.std.specs.Prelude.{◌≡◌, Option, Some, None, refl}
 use Rattle.std.specs.Option.{is_some, option_map}
 use Rattle.reg_state.specs.declared.scalars.Scalar.{Scalar}
 use Rattle.reg_state.specs.declared.kinds.Kind.TheVariants.{Number}
-use Rattle.table_entries.specs.Values.{spilled}
+use Rattle.table_entries.specs.Kinds.{spilled}
 
 pub number_there : (x : Option Scalar) → is_some (option_map Number x) ≡ is_some x
 number_there (Some x) = refl

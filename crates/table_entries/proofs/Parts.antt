@@ -13,7 +13,7 @@ use Rattle.stack_state.specs.Slots.{frame_slots}
 use Rattle.table_entries.specs.declared.entries.NamedEntries.{NamedEntries}
 use Rattle.table_entries.specs.declared.entries.EntryHead.{EntryHead}
 use Rattle.table_entries.specs.Reading.{kept, many}
-use Rattle.table_entries.specs.Values.{kind_in, slot_in}
+use Rattle.table_entries.specs.Kinds.{kind_in, slot_in}
 use Rattle.table_entries.specs.Frames.{frame_allowed, allowed_frame, frame_in, callers_in}
 use Rattle.table_entries.specs.Entries.{Entry, list_of, entry_of, named_in, head_allowed, entry_with, rest_in}
 

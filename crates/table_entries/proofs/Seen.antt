@@ -11,7 +11,7 @@ use Rattle.stack_state.specs.declared.states.AbstractFrame.{AbstractFrame}
 use Rattle.stack_state.specs.Slots.{frame_slots}
 use Rattle.table_entries.specs.declared.stops.StopReason.{StopReason}
 use Rattle.table_entries.specs.Reading.{Read, kept, seen, then_read, joined, many}
-use Rattle.table_entries.specs.Values.{kind_in, slot_in}
+use Rattle.table_entries.specs.Kinds.{kind_in, slot_in}
 use Rattle.table_entries.specs.Frames.{frame_allowed, allowed_frame, frame_in, callers_in}
 use Rattle.table_entries.specs.Entries.{named_in, head_allowed, entry_with, rest_in}
 

@@ -8,8 +8,8 @@ use Rattle.known_bits.specs.declared.bits.Bits.{Bits}
 use Rattle.ranges.specs.declared.wide.Wide.{Wide}
 use Rattle.ranges.specs.declared.low.Low.{Low}
 use Rattle.reg_state.specs.declared.scalars.Scalar.{Scalar}
-use Rattle.table_entries.specs.Values.{bits_of, wide_of, low_of, bits_in, wide_in, low_in, scalar_in}
-use Rattle.table_entries.proofs.ValueLaws.{bits_of-is, wide_of-is, low_of-is}
+use Rattle.table_entries.specs.Kinds.{bits_of, wide_of, low_of, bits_in, wide_in, low_in, scalar_in}
+use Rattle.table_entries.proofs.KindLaws.{bits_of-is, wide_of-is, low_of-is}
 
 -- a signed number that is compared by its bits
 pub signed-spelled : (w : Width) (n : ℕ) (z s : ℤ) → n < 2 ^ bits w → SFits w s → z ≡ to_z w n

@@ -11,7 +11,7 @@ use Rattle.stack_state.specs.Slots.{frame_slots}
 use Rattle.table_entries.specs.declared.stops.StopReason.TheVariants.{Short}
 use Rattle.table_entries.specs.Blanks.{AreZeros}
 use Rattle.table_entries.specs.Reading.{Read, then_read, joined, many}
-use Rattle.table_entries.specs.Values.{kind_in, fields_in, slot_in}
+use Rattle.table_entries.specs.Kinds.{kind_in, fields_in, slot_in}
 use Rattle.table_entries.specs.Frames.{allowed_frame, frame_in}
 
 -- the first j kinds that were read are unset

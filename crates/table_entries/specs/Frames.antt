@@ -10,7 +10,7 @@ use Rattle.stack_state.specs.Meaning.{kind_at}
 use Rattle.stack_state.specs.Slots.{frame_slots}
 use Rattle.table_entries.specs.declared.stops.StopReason.TheVariants.{Short}
 use Rattle.table_entries.specs.Reading.{Read, then_read, many}
-use Rattle.table_entries.specs.Values.{kind_in, slot_in}
+use Rattle.table_entries.specs.Kinds.{kind_in, slot_in}
 
 abbrev pub is_unset : Kind → Bool
 is_unset Unset = true

@@ -1,7 +1,7 @@
 pub mod Deciding
 pub mod Reading
 pub mod Blanks
-pub mod Values
+pub mod Kinds
 pub mod Frames
 pub mod Entries
 pub mod Tables

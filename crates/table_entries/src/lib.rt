@@ -9,6 +9,7 @@ pub mod blanks;
 pub mod entries;
 pub mod frames;
 pub mod growing;
+pub mod kinds;
 pub mod loops;
 pub mod passing;
 pub mod refusals;
@@ -16,7 +17,6 @@ pub mod slices;
 pub mod spelling;
 pub mod stops;
 pub mod tables;
-pub mod values;
 
 pub use entries::{EntryHead, NamedEntries};
 pub use growing::Growing;

@@ -2,13 +2,13 @@
 
 ghost use Rattle.std.specs.Prelude.{◌≡◌, ◌≤◌, ◌&&◌, take, replicate};
 ghost use Rattle.stack_state.specs.Slots.{frame_slots};
-ghost use Rattle.table_entries.specs.Values.{kind_in, slot_in};
+ghost use Rattle.table_entries.specs.Kinds.{kind_in, slot_in};
 ghost use Rattle.table_entries.specs.Reading.{ReturnsRead, kept, many};
 
 use crate::blanks::blank_slots;
+use crate::kinds::{kind_in, slot_in};
 use crate::slices::skip;
 use crate::stops::StopReason;
-use crate::values::{kind_in, slot_in};
 use reg_state::Kind;
 use stack_state::{FRAME_SLOTS, StackSlot};
 
@@ -21,7 +21,7 @@ pub fn both(first: bool, second: bool) -> bool
 
 /// A kind, read into the room for it: whether it is allowed, and the bytes after it.
 #[inline(always)]
-#[tactic(auto, unfolding(crate::specs::Values::kind_in, crate::specs::Values::fields_in))]
+#[tactic(auto, unfolding(crate::specs::Kinds::kind_in, crate::specs::Kinds::fields_in))]
 fn read_kind<'a>(
     rows: usize,
     holder: usize,
@@ -65,7 +65,7 @@ fn mark(slot: &mut StackSlot, marks: u8)
 /// Nothing is known of most stack slots: they are read several at a time, since they are most of a
 /// table.
 #[inline(always)]
-#[tactic(auto, unfolding(crate::specs::Values::slot_in))]
+#[tactic(auto, unfolding(crate::specs::Kinds::slot_in))]
 fn read_slot<'a>(
     rows: usize,
     holder: usize,

@@ -3,7 +3,7 @@
 ghost use Rattle.std.specs.Prelude.{◌≡◌, ◌==◌, ◌||◌, ◌≤◌, not, false, true, length};
 ghost use Rattle.std.specs.Option.{is_some};
 ghost use Rattle.stack_state.specs.Slots.{frame_slots};
-ghost use Rattle.table_entries.specs.Values.{kind_in, slot_in, stack_in};
+ghost use Rattle.table_entries.specs.Kinds.{kind_in, slot_in, stack_in};
 ghost use Rattle.table_entries.specs.Frames.{frame_in, callers_in};
 ghost use Rattle.table_entries.specs.Entries.{rest_in, entry_in};
 ghost use Rattle.table_entries.specs.Reading.{ReturnsRead, seen, many};
@@ -11,10 +11,10 @@ ghost use Rattle.table_entries.specs.Reading.{ReturnsRead, seen, many};
 use crate::blanks::{begins_unset, blank_slots};
 use crate::entries::{head_allowed, named_in};
 use crate::frames::frame_allowed;
+use crate::kinds::{kind_in, packet_in, scalar_in, slot_in};
 use crate::loops::{both, read_registers};
 use crate::slices::{skip, u16_at, u32_at};
 use crate::stops::StopReason;
-use crate::values::{kind_in, packet_in, scalar_in, slot_in};
 use image::Image;
 use isa_model::MAX_CALL_FRAMES;
 use reg_state::Kind;
@@ -31,7 +31,7 @@ fn pass_other(rows: usize, holder: usize, bytes: &[u8]) -> Result<(bool, &[u8]),
 
 // Whether the bytes begin with a call frame up to the one that holds a pointer into it.
 #[inline(always)]
-#[tactic(auto, unfolding(crate::specs::Values::stack_in))]
+#[tactic(auto, unfolding(crate::specs::Kinds::stack_in))]
 fn is_stack(holder: usize, bytes: &[u8]) -> bool
     requires { 5 ≤ length bytes.now }
     ensures { result ≡ is_some (stack_in holder bytes.now) }
@@ -44,7 +44,7 @@ fn is_stack(holder: usize, bytes: &[u8]) -> bool
 }
 
 #[inline(always)]
-#[tactic(auto, using(crate::proofs::NumberSlots::number_there), unfolding(crate::specs::Values::kind_in, crate::specs::Values::fields_in))]
+#[tactic(auto, using(crate::proofs::NumberSlots::number_there), unfolding(crate::specs::Kinds::kind_in, crate::specs::Kinds::fields_in))]
 fn pass_kind(rows: usize, holder: usize, bytes: &[u8]) -> Result<(bool, &[u8]), StopReason>
     ensures { ReturnsRead (λ x. (x.0, x.1.now)) result (seen (kind_in rows holder bytes.now)) }
 {
@@ -84,7 +84,7 @@ fn pass_spilled(rows: usize, holder: usize, bytes: &[u8]) -> Result<(bool, &[u8]
 }
 
 #[inline(always)]
-#[tactic(auto, using(crate::proofs::NumberSlots::spilled_number), unfolding(crate::specs::Values::slot_in, crate::specs::Values::kind_in, crate::specs::Values::fields_in))]
+#[tactic(auto, using(crate::proofs::NumberSlots::spilled_number), unfolding(crate::specs::Kinds::slot_in, crate::specs::Kinds::kind_in, crate::specs::Kinds::fields_in))]
 fn pass_slot(rows: usize, holder: usize, bytes: &[u8]) -> Result<(bool, &[u8]), StopReason>
     ensures { ReturnsRead (λ x. (x.0, x.1.now)) result (seen (slot_in rows holder bytes.now)) }
 {

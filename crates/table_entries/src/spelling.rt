@@ -1,11 +1,11 @@
-//! Entries compared with a state byte by byte, without reading an entry that spells it.
+//! Entries compared with a state byte by byte: one that spells the state is not read as well.
 //!
 //! Each function returns the bytes after the spelling of its argument, if the bytes begin with
 //! that spelling. Nothing follows from None.
 
 ghost use Rattle.std.specs.Prelude.{◌≡◌, ◌≤◌, Some, Ok, IfSome, IsTrue, length, drop};
 ghost use Rattle.stack_state.specs.Slots.{frame_slots};
-ghost use Rattle.table_entries.specs.Values.{bits_in, wide_in, low_in, scalar_in, kind_in, packet_in, slot_in, stack_in};
+ghost use Rattle.table_entries.specs.Kinds.{bits_in, wide_in, low_in, scalar_in, kind_in, packet_in, slot_in, stack_in};
 ghost use Rattle.table_entries.specs.Frames.{frame_in, callers_in};
 ghost use Rattle.table_entries.specs.Entries.{entry_in, entry_of, rest_in};
 ghost use Rattle.table_entries.specs.Reading.{many};
@@ -13,8 +13,8 @@ ghost use Rattle.table_entries.specs.Reading.{many};
 use crate::blanks::{are_blank, blank_slots};
 use crate::entries::{EntryHead, head_allowed, named_in};
 use crate::frames::frame_allowed;
+use crate::kinds::{kind_in, packet_in, stack_in};
 use crate::slices::{skip, u16_at, u32_at, u64_at};
-use crate::values::{kind_in, packet_in, stack_in};
 use image::Image;
 use known_bits::Bits;
 use ranges::{Low, Wide};
@@ -228,7 +228,7 @@ fn after_other<'a>(rows: usize, holder: usize, bytes: &'a [u8], kind: &Kind) -> 
 }
 
 #[inline(always)]
-#[tactic(auto, unfolding(crate::specs::Values::kind_in, crate::specs::Values::fields_in))]
+#[tactic(auto, unfolding(crate::specs::Kinds::kind_in, crate::specs::Kinds::fields_in))]
 fn after_kind<'a>(rows: usize, holder: usize, bytes: &'a [u8], kind: &Kind) -> Option<&'a [u8]>
     ensures { IfSome result
         (λ rest. kind_in rows holder bytes.now ≡ Ok (Some kind.now, rest.now)) }
@@ -245,7 +245,7 @@ fn after_kind<'a>(rows: usize, holder: usize, bytes: &'a [u8], kind: &Kind) -> O
 }
 
 #[inline(always)]
-#[tactic(auto, unfolding(crate::specs::Values::slot_in))]
+#[tactic(auto, unfolding(crate::specs::Kinds::slot_in))]
 fn after_slot<'a>(rows: usize, holder: usize, bytes: &'a [u8], slot: &StackSlot) -> Option<&'a [u8]>
     ensures { IfSome result
         (λ rest. slot_in rows holder bytes.now ≡ Ok (Some slot.now, rest.now)) }
@@ -329,7 +329,8 @@ fn after_callers<'a>(rows: usize, bytes: &'a [u8], callers: &[AbstractFrame]) ->
     Some(rest)
 }
 
-// The call frames, and then what the entry says besides its state, and the bytes after it.
+// What the entry says besides its state, and the bytes after it, if the bytes spell the call frames
+// of the state. They come after the number, the slot and the count of call frames.
 fn after_rest<'a>(
     image: &Image,
     number: u32,

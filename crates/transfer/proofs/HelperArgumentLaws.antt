@@ -158,7 +158,7 @@ value_points : (p : Program) (s : Machine.State) (m serial n : ℕ) (z : ℤ)
     → HasBytesAt p s m serial z n → Points s (Ptr (region.MapValue m serial) z) n
 value_points p s m serial n z h =
     let at : BytesArgument = record { region = region.MapValue m serial; offset = z } in
-    let all : List ℕ = (key_value_at (content_of s m) h.place).1.bytes in
+    let all : List ℕ = (key_value_at (content_of s m) h.nth).1.bytes in
     let long : length (map Byte all) ≡ length all = length-map all Byte in
     let inside = h.inside in
     let yes : nat_le (h.index + n) (length (map Byte all)) ≡ true =

@@ -82,10 +82,10 @@ live_key_value content n live =
     (j, first, ap (λ b. cond b (Some j) None) yes)
 
 -- the index of a live value in its map's content, and its bytes
-pub record IsLiveValue (p : Program) (s : Machine.State) (m n : ℕ) (place : ℕ) : Type 0 where
-  pub found : index_of_serial (content_of s m) n ≡ Some place
-  pub size : length (key_value_at (content_of s m) place).1.bytes ≡ value_size (slice_get p.maps m)
-  pub bytes : AreBytes (key_value_at (content_of s m) place).1.bytes
+pub record IsLiveValue (p : Program) (s : Machine.State) (m n : ℕ) (nth : ℕ) : Type 0 where
+  pub found : index_of_serial (content_of s m) n ≡ Some nth
+  pub size : length (key_value_at (content_of s m) nth).1.bytes ≡ value_size (slice_get p.maps m)
+  pub bytes : AreBytes (key_value_at (content_of s m) nth).1.bytes
 
 key_value_there : (p : Program) (s : Machine.State) (m n j : ℕ) (row : MapDef)
     → slice_get p.maps m ≡ Some row → IsState p s → j < length (content_of s m) → IsKeyValue row
@@ -132,11 +132,11 @@ some_bytes U64 = omega arith
 
 -- where the bytes of a pointer to a value are
 pub record HasBytesAt (p : Program) (s : Machine.State) (m n : ℕ) (z : ℤ) (bytes : ℕ) : Type 0 where
-  pub place : ℕ
-  pub live : IsLiveValue p s m n place
+  pub nth : ℕ
+  pub live : IsLiveValue p s m n nth
   pub index : ℕ
   pub found : index_from z ≡ Some index
-  pub inside : index + bytes ≤ length (key_value_at (content_of s m) place).1.bytes
+  pub inside : index + bytes ≤ length (key_value_at (content_of s m) nth).1.bytes
 
 -- some bytes that are known to be in a value are there
 pub at_value : (p : Program) (e : Assigned) (a : State) (s : Machine.State) (m : ℕ)
@@ -152,7 +152,7 @@ at_value p e a s m least greatest by v bytes some means h inside =
     let (j, value) =
     live_value p s m h.serial (slice_get p.maps m) refl means.is_state live (omega arith) in
     let long = value.size in
-    record { place = j; live = value; index = i; found = found; inside = omega arith }
+    record { nth = j; live = value; index = i; found = found; inside = omega arith }
 
 -- ---- loads
 
@@ -162,33 +162,33 @@ bytes_from s m j i n = take n (drop i (key_value_at (content_of s m) j).1.bytes)
 value_number : (p : Program) (s : Machine.State) (size : Size) (m n : ℕ) (z by : ℤ)
     (h : HasBytesAt p s m n (z +ℤ by) (size_bytes size))
     → load_number s size (Ptr (region.MapValue m n) z) by
-    ≡ Ok (number_from (bytes_from s m h.place h.index (size_bytes size)))
+    ≡ Ok (number_from (bytes_from s m h.nth h.index (size_bytes size)))
 value_number p s size m n z by h =
-    let bytes : List ℕ = (key_value_at (content_of s m) h.place).1.bytes in
+    let bytes : List ℕ = (key_value_at (content_of s m) h.nth).1.bytes in
     let long : length (map Byte bytes) ≡ length bytes = length-map bytes Byte in
     let inside = h.inside in
     let yes : nat_le (h.index + size_bytes size) (length (map Byte bytes)) ≡ true =
     le-leb (h.index + size_bytes size) (length (map Byte bytes)) (omega arith) in
     rw (h.live.found, h.found, yes, take-drop-Byte bytes h.index (size_bytes size))
-    (number_in-Byte (bytes_from s m h.place h.index (size_bytes size)))
+    (number_in-Byte (bytes_from s m h.nth h.index (size_bytes size)))
 
 value_whole : (p : Program) (s : Machine.State) (m n : ℕ) (z by : ℤ)
     (h : HasBytesAt p s m n (z +ℤ by) 8)
     → load s U64 (Ptr (region.MapValue m n) z) by
-    ≡ Ok (Num (number_from (bytes_from s m h.place h.index 8)))
+    ≡ Ok (Num (number_from (bytes_from s m h.nth h.index 8)))
 value_whole p s m n z by h =
-    let bytes : List ℕ = (key_value_at (content_of s m) h.place).1.bytes in
+    let bytes : List ℕ = (key_value_at (content_of s m) h.nth).1.bytes in
     let long : length (map Byte bytes) ≡ length bytes = length-map bytes Byte in
     let inside = h.inside in
     let yes : nat_le (h.index + 8) (length (map Byte bytes)) ≡ true =
     le-leb (h.index + 8) (length (map Byte bytes)) (omega arith) in
     rw (h.live.found, h.found, yes, take-drop-Byte bytes h.index 8)
-    (value_in-Byte (bytes_from s m h.place h.index 8))
+    (value_in-Byte (bytes_from s m h.nth h.index 8))
 
 value_load : (p : Program) (s : Machine.State) (size : Size) (m n : ℕ) (z by : ℤ)
     (h : HasBytesAt p s m n (z +ℤ by) (size_bytes size))
     → load s size (Ptr (region.MapValue m n) z) by
-    ≡ Ok (Num (number_from (bytes_from s m h.place h.index (size_bytes size))))
+    ≡ Ok (Num (number_from (bytes_from s m h.nth h.index (size_bytes size))))
 value_load p s U64 m n z by h = value_whole p s m n z by h
 value_load p s U8 m n z by h = rw (value_number p s U8 m n z by h)
 value_load p s U16 m n z by h = rw (value_number p s U16 m n z by h)
@@ -197,15 +197,15 @@ value_load p s U32 m n z by h = rw (value_number p s U32 m n z by h)
 -- a number of that many bytes
 value_number_below : (p : Program) (s : Machine.State) (size : Size) (m n : ℕ) (z : ℤ)
     (h : HasBytesAt p s m n z (size_bytes size))
-    → number_from (bytes_from s m h.place h.index (size_bytes size)) < 2 ^ (8 * size_bytes size)
+    → number_from (bytes_from s m h.nth h.index (size_bytes size)) < 2 ^ (8 * size_bytes size)
 value_number_below p s size m n z h =
-    let bytes : List ℕ = (key_value_at (content_of s m) h.place).1.bytes in
+    let bytes : List ℕ = (key_value_at (content_of s m) h.nth).1.bytes in
     let inside = h.inside in
     let dropped : length (drop h.index bytes) ≡ length bytes - h.index =
     length-drop h.index bytes in
-    let long : length (bytes_from s m h.place h.index (size_bytes size)) ≡ size_bytes size =
+    let long : length (bytes_from s m h.nth h.index (size_bytes size)) ≡ size_bytes size =
     length-take-le (size_bytes size) (drop h.index bytes) (omega arith) in
-    number_from_below size (bytes_from s m h.place h.index (size_bytes size)) long
+    number_from_below size (bytes_from s m h.nth h.index (size_bytes size)) long
     (EachByte-take (size_bytes size) (drop h.index bytes)
     (EachByte-drop h.index bytes (slice_index_fits bytes h.live.bytes)))
 
@@ -216,7 +216,7 @@ pub value_load_yields : (p : Program) (e : Assigned) (a : State) (s : Machine.St
 value_load_yields p e a s size m least greatest by k v means (inside, number) allowed =
     let h = at_value p e a s m least greatest by v (size_bytes size)
     (some_bytes size) means allowed inside in
-    let x : ℕ = number_from (bytes_from s m h.place h.index (size_bytes size)) in
+    let x : ℕ = number_from (bytes_from s m h.nth h.index (size_bytes size)) in
     rw (allowed.points, value_load p s size m allowed.serial allowed.offset by h)
     (number_yields e (IsOfSize size) k x
     (λ c is.
@@ -231,7 +231,7 @@ pub value_load_signed_yields : (p : Program) (e : Assigned) (a : State) (s : Mac
 value_load_signed_yields p e a s size m least greatest by k v means (inside, number) allowed =
     let h = at_value p e a s m least greatest by v (size_bytes (unsigned_size size))
     (some_bytes (unsigned_size size)) means allowed inside in
-    let n : ℕ = number_from (bytes_from s m h.place h.index (size_bytes (unsigned_size size))) in
+    let n : ℕ = number_from (bytes_from s m h.nth h.index (size_bytes (unsigned_size size))) in
     let x : ℕ = sign_extended (size_extension size) n in
     rw (allowed.points, value_number p s (unsigned_size size) m allowed.serial allowed.offset by h)
     (number_yields e (IsOfSignedSize size) k x
@@ -267,7 +267,7 @@ value_stored p e a s size m least greatest by x v means inside allowed =
     let h = at_value p e a s m least greatest by v (size_bytes size)
     (some_bytes size) means allowed inside in
     let n : ℕ = allowed.serial in
-    let bytes : List ℕ = (key_value_at (content_of s m) h.place).1.bytes in
+    let bytes : List ℕ = (key_value_at (content_of s m) h.nth).1.bytes in
     let new : List Cell = map Byte (bytes_of size x) in
     let count : length new ≡ size_bytes size = length-map (bytes_of size x) Byte
     ∙ length-bytes_of size x in
@@ -275,7 +275,7 @@ value_stored p e a s size m least greatest by x v means inside allowed =
     let room = h.inside in
     let yes : nat_le (h.index + length new) (length (map Byte bytes)) ≡ true =
     le-leb (h.index + length new) (length (map Byte bytes)) (omega arith) in
-    let content : Content = put_value (content_of s m) (Some h.place) h.index (map byte_in new) in
+    let content : Content = put_value (content_of s m) (Some h.nth) h.index (map byte_in new) in
     let maps : List Content = slice_set s.maps m content in
     let t : Machine.State = record s { maps = maps } in
     let went : store_number s size (Ptr (region.MapValue m n) allowed.offset) by x ≡ Ok t =
@@ -285,7 +285,7 @@ value_stored p e a s size m least greatest by x v means inside allowed =
     let is : IsState p t =
     subst (λ r. IfOk r (IsState p)) goes (store_number_keeps p s size v by x means.is_state) in
     let live = kept_live s.maps m content
-    (put_value_serials (content_of s m) (Some h.place) h.index (map byte_in new)) in (
+    (put_value_serials (content_of s m) (Some h.nth) h.index (map byte_in new)) in (
       with_maps e maps,
       subst (ContinuesIn p (with_maps e maps) a) (sym goes)
           (MeansBy-values p e a s maps live is means),
@@ -319,7 +319,7 @@ pub value_number_read : (p : Program) (e : Assigned) (a : State) (s : Machine.St
 value_number_read p e a s size m least greatest by c v means inside allowed is =
     let h = at_value p e a s m least greatest by v (size_bytes size)
     (some_bytes size) means allowed inside in
-    let x : ℕ = number_from (bytes_from s m h.place h.index (size_bytes size)) in (
+    let x : ℕ = number_from (bytes_from s m h.nth h.index (size_bytes size)) in (
       x,
       ap (λ u. load_number s size u by) allowed.points
           ∙ value_number p s size m allowed.serial allowed.offset by h,

@@ -30,11 +30,11 @@ pub fn are_in_packet(fixed: i32, least: i32, proved: u32, by: i16, count: u32) -
     if proved == 0 {
         return false;
     }
-    let place = sum(fixed, i32::from(by));
-    if moved_by(false, place, i64::from(least)) < 0 {
+    let offset = sum(fixed, i32::from(by));
+    if moved_by(false, offset, i64::from(least)) < 0 {
         return false;
     }
-    if moved_by(false, place, i64::from(count)) > i128::from(proved) {
+    if moved_by(false, offset, i64::from(count)) > i128::from(proved) {
         return false;
     }
     true
@@ -57,8 +57,8 @@ pub fn are_in_value(room: u32, least: i32, greatest: i32, by: i16, count: u32) -
     if sum(least, i32::from(by)) < 0 {
         return false;
     }
-    let place = sum(greatest, i32::from(by));
-    if moved_by(false, place, i64::from(count)) > i128::from(room) {
+    let offset = sum(greatest, i32::from(by));
+    if moved_by(false, offset, i64::from(count)) > i128::from(room) {
         return false;
     }
     true

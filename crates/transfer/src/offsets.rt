@@ -14,13 +14,13 @@ pub fn sum(left: i32, right: i32) -> i64
 }
 
 /// The offset after a move, back or forward.
-pub fn moved_by(back: bool, place: i64, distance: i64) -> i128
-    ensures { result ≡ moved_by back place distance }
+pub fn moved_by(back: bool, offset: i64, distance: i64) -> i128
+    ensures { result ≡ moved_by back offset distance }
 {
     if back {
-        i128::from(place) - i128::from(distance)
+        i128::from(offset) - i128::from(distance)
     } else {
-        i128::from(place) + i128::from(distance)
+        i128::from(offset) + i128::from(distance)
     }
 }
 

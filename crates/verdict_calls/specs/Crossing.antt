@@ -1,4 +1,4 @@
--- What every call returns and writes.
+-- What calls return and write: statuses, bytes in a buffer, the version, actions as numbers.
 use Rattle.std.specs.Prelude.{◌≡◌, ℕ, Bool, true, false, List, ◌++◌, length, take, drop, codes, ◌⊎◌}
 use Rattle.isa_model.specs.declared.frames.Action.{Action}
 use Rattle.isa_model.specs.declared.frames.Action.TheVariants as action

@@ -34,7 +34,7 @@ only_bound bound = record { said = 0; slot = 0; bound = bound }
 -- the bytes are an accepted image, and the verdict has the bound of its program and nothing else.
 -- The bound is the number of the start state; that of a program which must be accepted is as small
 -- as `BoundsAll` says
-pub record AnswersBound (bytes : List ℕ) (out : Verdict) : Type 0 where
+pub record ReturnsBound (bytes : List ℕ) (out : Verdict) : Type 0 where
   pub accepts : IsAcceptedImage bytes out.bound
   pub number : HasNumber accepts.program start out.bound
   pub bounds : BoundsAll accepts.program out.bound
@@ -83,7 +83,7 @@ abbrev pub FillsAssembledImage : List ℕ → List ℕ → List ℕ → ℕ → 
 FillsAssembledImage source old new size =
     (p : Program) × (assembled source ≡ Ok p) × FillsBuffer old new size (image_bytes p)
 
--- the answer for an image: its size, and no line or column
+-- what is returned for a text that is accepted: the size of its image, and no line or column
 abbrev pub only_size : ℕ → Assembled
 only_size size = record { size = size; line = 0; column = 0 }
 

@@ -9,7 +9,7 @@ ghost use Rattle.walks.specs.Refused.{IsRefused};
 ghost use Rattle.walks.specs.Accepting.{BoundsAll};
 ghost use Rattle.walks.specs.Counts.{HasNumber};
 ghost use Rattle.verdict_calls.specs.Crossing.{IsDecision, is_memory};
-ghost use Rattle.verdict_calls.specs.Verdicts.{AnswersBound, only_bound, IsRefusedImage, FillsImageRefusal, FillsProgramRefusal, IsUndecided};
+ghost use Rattle.verdict_calls.specs.Verdicts.{ReturnsBound, only_bound, IsRefusedImage, FillsImageRefusal, FillsProgramRefusal, IsUndecided};
 ghost use Rattle.verdict_calls.specs.declared.statuses.NotAccepted.TheVariants as NotAccepted;
 
 use crate::filling::fill;
@@ -138,7 +138,7 @@ pub fn verify_image(
     why: &mut [u8],
     out: &mut Verdict,
 ) -> u32
-    ensures accepted { result ≡ 0 → AnswersBound image.now out.new }
+    ensures accepted { result ≡ 0 → ReturnsBound image.now out.new }
     ensures wrong { (result ≡ 1) ↔ ((limit ≡ 0) ⊎ (max_explored < limit)) }
     ensures refused { result ≡ 2
         → FillsImageRefusal image.now out.new.slot why.old why.new out.new.said }

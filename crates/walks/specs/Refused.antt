@@ -16,7 +16,8 @@ use Rattle.walks.specs.declared.refusals.Refusal.TheVariants.{Flow, Step, Repeat
 abbrev pub StartTakes : Program → ℕ → Type 0
 StartTakes p n = (first : State) × Forgets p start first × Takes p first n
 
--- where the search stops with a refusal: one instruction after the most that are explored
+-- where the search stops with a refusal; with `TooLong`, one instruction after the most that are
+-- explored
 abbrev pub StopsAt : Program → Refusal → ℕ → Type 0
 StopsAt p (Flow e) slot = ⊥
 StopsAt p (Step e) slot = IsStuck p e slot

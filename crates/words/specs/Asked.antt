@@ -11,7 +11,7 @@ use Rattle.clap.specs.Faults.{fault_of}
 use Rattle.words.specs.declared.tasks.Task.{Task}
 use Rattle.words.specs.declared.tasks.WordsError.{WordsError}
 use Rattle.words.specs.declared.tasks.WordsError.TheVariants.{Wrong, Memory}
-use Rattle.words.specs.Requests.{TaskRequest, RunFiles, ProofFiles, Trace, Run, Verify, Prove, Recheck, Assemble, Disassemble, request_of}
+use Rattle.words.specs.Requests.{TaskRequest, RunFiles, TableFiles, Trace, Run, Verify, Prove, Recheck, Assemble, Disassemble, request_of}
 use Rattle.isa_model.specs.Code.Limits.{max_steps}
 use Rattle.words.specs.CommandLine.{program}
 
@@ -26,8 +26,8 @@ files_in rows =
     (first_of (codes "out") rows)) (first_of (codes "frames") rows)) (first_of (codes "image") rows)
 
 -- the image and the proof table of `prove` or `recheck`
-abbrev pub proof_in : List Row → Option ProofFiles
-proof_in rows =
+abbrev pub table_files_in : List Row → Option TableFiles
+table_files_in rows =
     option_and_then
     (λ image. option_map (λ table. record { image = image; table = table })
     (first_of (codes "table") rows))
@@ -69,8 +69,8 @@ request_by name rows =
     else if bytes_eq name (codes "trace") then trace_of rows
     else if bytes_eq name (codes "asm") then assembly_of rows
     else if bytes_eq name (codes "dis") then option_map Disassemble (first_of (codes "image") rows)
-    else if bytes_eq name (codes "prove") then option_map Prove (proof_in rows)
-    else if bytes_eq name (codes "recheck") then option_map Recheck (proof_in rows)
+    else if bytes_eq name (codes "prove") then option_map Prove (table_files_in rows)
+    else if bytes_eq name (codes "recheck") then option_map Recheck (table_files_in rows)
     else None
 
 -- ---- what the arguments ask for

@@ -1,7 +1,7 @@
 -- The parts of a request, and the request that a task makes.
 use Rattle.std.specs.Prelude.{ℕ, List, Option, option_map}
 use Rattle.words.specs.declared.tasks.RunPaths.{RunPaths}
-use Rattle.words.specs.declared.tasks.Proof.{Proof}
+use Rattle.words.specs.declared.tasks.TablePaths.{TablePaths}
 use Rattle.words.specs.declared.tasks.Task.{Task}
 use Rattle.words.specs.declared.tasks.Task.TheVariants as task
 
@@ -12,7 +12,7 @@ pub record RunFiles : Type 0 where
   pub out : List ℕ
 
 -- the files of `prove` and `recheck`, by their paths
-pub record ProofFiles : Type 0 where
+pub record TableFiles : Type 0 where
   pub image : List ℕ
   pub table : List ℕ
 
@@ -22,8 +22,8 @@ pub data TaskRequest : Type 0 where
   -- if a proof table is given, it is tested in place of verifying the program
   Run : RunFiles → Option (List ℕ) → TaskRequest
   Verify : List ℕ → TaskRequest
-  Prove : ProofFiles → TaskRequest
-  Recheck : ProofFiles → TaskRequest
+  Prove : TableFiles → TaskRequest
+  Recheck : TableFiles → TaskRequest
   -- the text, and the image that is made of it
   Assemble : List ℕ → List ℕ → TaskRequest
   Disassemble : List ℕ → TaskRequest
@@ -33,14 +33,14 @@ pub data TaskRequest : Type 0 where
 abbrev pub files_of : RunPaths → RunFiles
 files_of paths = record { image = paths.image.now; frames = paths.frames.now; out = paths.out.now }
 
-abbrev pub proof_files_of : Proof → ProofFiles
-proof_files_of proof = record { image = proof.image.now; table = proof.table.now }
+abbrev pub table_files_of : TablePaths → TableFiles
+table_files_of paths = record { image = paths.image.now; table = paths.table.now }
 
 abbrev pub request_of : Task → TaskRequest
 request_of (task.Trace paths limit) = Trace (files_of paths) limit.steps
 request_of (task.Run paths table) = Run (files_of paths) (option_map (λ path. path.now) table)
 request_of (task.Verify path) = Verify path.now
-request_of (task.Prove proof) = Prove (proof_files_of proof)
-request_of (task.Recheck proof) = Recheck (proof_files_of proof)
+request_of (task.Prove paths) = Prove (table_files_of paths)
+request_of (task.Recheck paths) = Recheck (table_files_of paths)
 request_of (task.Assemble paths) = Assemble paths.text.now paths.image.now
 request_of (task.Disassemble path) = Disassemble path.now

@@ -5,11 +5,11 @@ ghost use Rattle.std.specs.List.{list_all};
 ghost use Rattle.std.specs.Char.{is_ascii_digit};
 ghost use Rattle.std.specs.String.{string_bytes};
 ghost use Rattle.clap.specs.Words.{first_of, found_of, kind_of, rows_of};
-ghost use Rattle.words.specs.Requests.{files_of, proof_files_of, request_of};
-ghost use Rattle.words.specs.Asked.{AsksFor, TellsOf, assembly_of, files_in, limit_in, limit_of, proof_in, request_by, run_of, trace_of};
+ghost use Rattle.words.specs.Requests.{files_of, table_files_of, request_of};
+ghost use Rattle.words.specs.Asked.{AsksFor, TellsOf, assembly_of, files_in, limit_in, limit_of, table_files_in, request_by, run_of, trace_of};
 
 use super::command_line::program;
-use super::tasks::{Assembly, Proof, RunPaths, StepLimit, Task, WordsError};
+use super::tasks::{AssemblyPaths, RunPaths, StepLimit, TablePaths, Task, WordsError};
 use clap::ArgMatches;
 use clap::error::ErrorKind;
 use isa_model::MAX_STEPS;
@@ -72,10 +72,10 @@ fn run_in<'a>(matches: &ArgMatches<'a>) -> Option<Task<'a>>
     Some(Task::Run(paths_in(matches)?, value_in(matches, "table")))
 }
 
-fn proof_in<'a>(matches: &ArgMatches<'a>) -> Option<Proof<'a>>
-    ensures { option_map proof_files_of result ≡ proof_in (rows_of (found_of matches.now)) }
+fn table_paths_in<'a>(matches: &ArgMatches<'a>) -> Option<TablePaths<'a>>
+    ensures { option_map table_files_of result ≡ table_files_in (rows_of (found_of matches.now)) }
 {
-    Some(Proof {
+    Some(TablePaths {
         image: value_in(matches, "image")?,
         table: value_in(matches, "table")?,
     })
@@ -90,7 +90,7 @@ fn trace_in<'a>(matches: &ArgMatches<'a>) -> Option<Task<'a>>
 fn assembly_in<'a>(matches: &ArgMatches<'a>) -> Option<Task<'a>>
     ensures { option_map request_of result ≡ assembly_of (rows_of (found_of matches.now)) }
 {
-    Some(Task::Assemble(Assembly {
+    Some(Task::Assemble(AssemblyPaths {
         text: value_in(matches, "text")?,
         image: value_in(matches, "image")?,
     }))
@@ -106,8 +106,8 @@ fn task_of<'a>(name: &str, matches: &ArgMatches<'a>) -> Option<Task<'a>>
         "trace" => trace_in(matches),
         "asm" => assembly_in(matches),
         "dis" => Some(Task::Disassemble(value_in(matches, "image")?)),
-        "prove" => Some(Task::Prove(proof_in(matches)?)),
-        "recheck" => Some(Task::Recheck(proof_in(matches)?)),
+        "prove" => Some(Task::Prove(table_paths_in(matches)?)),
+        "recheck" => Some(Task::Recheck(table_paths_in(matches)?)),
         _ => None,
     }
 }

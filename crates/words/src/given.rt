@@ -21,7 +21,7 @@ fn failure_of(alloc: Global, error: &io::Error) -> WordsError
     }
 }
 
-/// The arguments that the program was given. The first word is its name.
+/// The words that the program was given: its name, and then the arguments.
 pub fn given_words<R: Env + AllocGlobal>(rt: &R) -> Result<Vec<String>, WordsError> {
     match std::env::args(rt) {
         Ok(words) => Ok(words.collect(rt.alloc())?),

@@ -8,4 +8,4 @@ mod tasks;
 
 pub use asked::read_words;
 pub use given::given_words;
-pub use tasks::{Assembly, Proof, RunPaths, StepLimit, Task, WordsError};
+pub use tasks::{AssemblyPaths, RunPaths, StepLimit, TablePaths, Task, WordsError};

@@ -15,11 +15,11 @@ pub enum Task<'a> {
     /// Verify a program.
     Verify(&'a str),
     /// Verify a program and write a proof table of it.
-    Prove(Proof<'a>),
+    Prove(TablePaths<'a>),
     /// Test a proof table of a program.
-    Recheck(Proof<'a>),
+    Recheck(TablePaths<'a>),
     /// Make an image of the text that a file has.
-    Assemble(Assembly<'a>),
+    Assemble(AssemblyPaths<'a>),
     /// Write the text of the image that a file has.
     Disassemble(&'a str),
 }
@@ -42,14 +42,14 @@ pub struct RunPaths<'a> {
 
 /// The files of `asm`: the text, and the image that is made.
 #[derive(Clone, Copy)]
-pub struct Assembly<'a> {
+pub struct AssemblyPaths<'a> {
     pub text: &'a str,
     pub image: &'a str,
 }
 
 /// The files of `prove` and `recheck`: the image, and the proof table of its program.
 #[derive(Clone, Copy)]
-pub struct Proof<'a> {
+pub struct TablePaths<'a> {
     pub image: &'a str,
     pub table: &'a str,
 }

@@ -1,11 +1,12 @@
 //! xdpvm: runs BPF programs of the type XDP on streams of packet frames.
 //!
 //! The program calls one function, `execute`, whose contract says what each command does and with
-//! which status it ends. `answer` and `buffered` state what can be stated of the calls around it.
+//! which status it ends. `execute_given` and `buffered` state what can be stated of the calls around
+//! it.
 #![tactic(auto)]
 
 pub use commands::execute;
-use commands::{TaskOutcome, answer, buffered};
+use commands::{TaskOutcome, buffered, execute_given};
 use std::fs;
 use std::process::ExitCode;
 use std::rt::Files;
@@ -23,7 +24,7 @@ fn is_stored<R: Files>(rt: &R) -> bool {
 fn main(rt: HostRuntime) -> ExitCode {
     let mut err = rt.stderr();
     ExitCode::from(match buffered(rt.alloc(), is_stored(&rt), rt.stdout()) {
-        Ok(mut out) => answer(&rt, given_words(&rt), &mut out, &mut err),
+        Ok(mut out) => execute_given(&rt, given_words(&rt), &mut out, &mut err),
         Err(_) => TaskOutcome::NoMemory.tell(&mut err),
     })
 }

@@ -7,7 +7,7 @@ ghost use Rattle.verdict_calls.specs.Crossing.{IsStatus, IsVerdict};
 ghost use Rattle.verdict_calls.specs.Verdicts.{IsRefusedImage, IsNoImage};
 ghost use Rattle.run_calls.specs.Runs.{RunsProgram};
 ghost use Rattle.run_calls.specs.Streams.{RunsStream};
-ghost use Rattle.run_calls.specs.Traces.{AnswersTrace};
+ghost use Rattle.run_calls.specs.Traces.{ReturnsTrace};
 
 use run_calls::running::{Ended, Head, run_once};
 use run_calls::streaming::{Streamed, run_stream};
@@ -49,7 +49,7 @@ pub extern "C" fn xdpvm_trace_once(
     limit: u32,
     out: &mut TracedEnd,
 ) -> u32
-    ensures traced { result ≡ 0 → AnswersTrace image.now (record {
+    ensures traced { result ≡ 0 → ReturnsTrace image.now (record {
       time = head.now.time;
       interface = head.now.interface;
       queue = head.now.queue;

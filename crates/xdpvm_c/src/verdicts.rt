@@ -3,8 +3,8 @@
 ghost use Rattle.std.specs.Prelude.{◌≡◌, ◌≢◌, ◌<◌, ◌↔◌, ◌⊎◌};
 ghost use Rattle.isa_model.specs.Code.Limits.{max_explored};
 ghost use Rattle.verdict_calls.specs.Crossing.{IsVerdict, IsDecision};
-ghost use Rattle.verdict_calls.specs.Verdicts.{FillsAssembledImage, only_size, FillsTextRefusal, AnswersBound, FillsImageRefusal, IsUndecided};
-ghost use Rattle.table_calls.specs.Tables.{AnswersShownBound, FillsTableRefusal};
+ghost use Rattle.verdict_calls.specs.Verdicts.{FillsAssembledImage, only_size, FillsTextRefusal, ReturnsBound, FillsImageRefusal, IsUndecided};
+ghost use Rattle.table_calls.specs.Tables.{ReturnsShownBound, FillsTableRefusal};
 
 use std::alloc::Global;
 use table_calls::rechecks::{Rechecked, recheck_table};
@@ -44,7 +44,7 @@ pub extern "C" fn xdpvm_verify(
     why: &mut [u8],
     out: &mut Verdict,
 ) -> u32
-    ensures accepted { result ≡ 0 → AnswersBound image.now out.new }
+    ensures accepted { result ≡ 0 → ReturnsBound image.now out.new }
     ensures wrong { (result ≡ 1) ↔ ((limit ≡ 0) ⊎ (max_explored < limit)) }
     ensures refused { result ≡ 2
         → FillsImageRefusal image.now out.new.slot why.old why.new out.new.said }
@@ -69,7 +69,7 @@ pub extern "C" fn xdpvm_recheck(
     why: &mut [u8],
     out: &mut Rechecked,
 ) -> u32
-    ensures accepted { result ≡ 0 → AnswersShownBound image.now table.now out.new }
+    ensures accepted { result ≡ 0 → ReturnsShownBound image.now table.now out.new }
     ensures refused { result ≡ 2
         → FillsTableRefusal image.now table.now why.old why.new out.new }
     ensures why_kept { result ≢ 2 → why.new ≡ why.old }

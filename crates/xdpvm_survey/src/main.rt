@@ -9,7 +9,7 @@ use std::fs;
 use std::os::unix::fs::FileTypeExt;
 use std::process::ExitCode;
 use std::rt::Files;
-use survey_commands::answer;
+use survey_commands::execute_given;
 use words::given_words;
 
 // Whether standard output is a file on a disk. If the system does not have this path, standard
@@ -32,7 +32,7 @@ fn has_terminal<R: Files>(rt: &R) -> bool {
 fn main(rt: HostRuntime) -> ExitCode {
     let mut err = rt.stderr();
     ExitCode::from(match buffered(rt.alloc(), is_stored(&rt), rt.stdout()) {
-        Ok(mut out) => answer(&rt, given_words(&rt), has_terminal(&rt), &mut out, &mut err),
+        Ok(mut out) => execute_given(&rt, given_words(&rt), has_terminal(&rt), &mut out, &mut err),
         Err(_) => {
             let _ = write_bytes(&mut err, b"out of memory\n");
             5

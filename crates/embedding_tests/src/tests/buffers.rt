@@ -1,4 +1,4 @@
-//! Buffers, whose bytes are all 7 at first.
+//! What is written to a buffer whose bytes are all 7 at first.
 
 /// Whether a buffer begins with these bytes, and nothing is written right after them.
 pub fn holds(buffer: &[u8], bytes: &[u8]) -> bool {

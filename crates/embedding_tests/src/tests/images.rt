@@ -1,4 +1,4 @@
-//! The images of the tests, as docs/FORMATS.md and docs/REFUSALS.md show them.
+//! The images of the tests, as docs/FORMATS.md and docs/REFUSALS.md show them, and a frame's head.
 
 use run_calls::running::Head;
 

@@ -190,7 +190,7 @@ fn the_upper_half_shows_whole_limits(rt: HostRuntime) {
     are_seen(&rt, &ONE_UPPER_HALF);
 }
 
-/// Comparisons with numbers where a low half of 5 goes the other way.
+/// A comparison, the result that it never has for a low half of 5, and the number to compare with.
 const NEVER: [(Comparison, bool, u64); 11] = [
     (Comparison::Equal, true, 6),
     (Comparison::NotEqual, true, 5),
@@ -205,7 +205,8 @@ const NEVER: [(Comparison, bool, u64); 11] = [
     (Comparison::AnyBit, false, 4),
 ];
 
-// Whether there are numbers with a low half of 5 for which the comparison holds, or does not.
+// Whether there are numbers with a low half of 5 for which the comparison holds; where `taken` is
+// false, for which it does not.
 fn goes(comparison: Comparison, taken: bool, number: u64) -> bool {
     match refined(Comparison::Equal, LOW, true, set_of(&EVERY), 5) {
         Some(five) => refined(comparison, LOW, taken, five, number).is_some(),

@@ -26,19 +26,23 @@ fn successor(image: &Image, state: &State, is_second: bool) -> Option<State> {
     }
 }
 
-/// The state after steps to the first or to the second successors.
-fn walked(image: &Image, way: &[bool]) -> Option<State> {
+/// The state after steps, each to the first successor or to the second.
+fn walked(image: &Image, choices: &[bool]) -> Option<State> {
     let mut state = State::start();
-    for is_second in way {
+    for is_second in choices {
         state = successor(image, &state, *is_second)?;
     }
     Some(state)
 }
 
 /// The slot that is reached, and the number in r0 if it is known.
-fn reached(alloc: Global, text: &str, way: &[bool]) -> Result<Option<(usize, Option<u64>)>, Fail> {
+fn reached(
+    alloc: Global,
+    text: &str,
+    choices: &[bool],
+) -> Result<Option<(usize, Option<u64>)>, Fail> {
     let image = image_of(alloc, text)?;
-    let Some(state) = walked(&image, way) else {
+    let Some(state) = walked(&image, choices) else {
         return Ok(None);
     };
     let number = match state.kind_of(Reg::R0) {
@@ -65,8 +69,8 @@ const STATES: [(&str, &[bool], Option<(usize, Option<u64>)>); 5] = [
 
 #[test]
 fn states_after_steps(rt: HostRuntime) -> Result<(), Fail> {
-    for (text, way, wanted) in STATES.iter() {
-        assert_eq!(rt; reached(rt.alloc(), *text, *way)?, *wanted, "{text}");
+    for (text, choices, wanted) in STATES.iter() {
+        assert_eq!(rt; reached(rt.alloc(), *text, *choices)?, *wanted, "{text}");
     }
     Ok(())
 }

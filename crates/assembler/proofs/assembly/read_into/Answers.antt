@@ -4,7 +4,7 @@ use Rattle.lexer.specs.Lexing.{lexeme_at, unknown_at}
 use Rattle.lexer.proofs.LexingLaws.{unknown_at-within}
 use Rattle.assembler.specs.declared.errors.AsmErrorKind.TheVariants.{UnknownByte}
 use Rattle.assembler.specs.declared.refusals.Refusal.{Refusal}
-use Rattle.assembler.specs.Assembling.{ReadSoFar, Answers, accept, read_on}
+use Rattle.assembler.specs.Assembling.{ReadSoFar, IsAsWanted, accept, read_on}
 use Rattle.assembler.specs.Drafts.{progress_of}
 use Rattle.assembler.proofs.ReadingLoop.{loop_turn-none, loop_turn-taken, loop_turn-end}
 use Rattle.assembler.proofs.assembly.read_into.Goals as goal
@@ -62,5 +62,5 @@ returns c =
     ∙ loop_turn-end rest (length c.args.text.now - length rest)
     (progress_of c.loop-rest.draft) none in
     subst (λ (wanted : Result ReadSoFar Refusal).
-    Answers (λ done. progress_of c.close.new.self) c.close.result wanted)
+    IsAsWanted (λ done. progress_of c.close.new.self) c.close.result wanted)
     (sym same) c.close.ensures

@@ -1,11 +1,11 @@
-use Rattle.words.specs.Requests.{proof_files_of}
+use Rattle.words.specs.Requests.{table_files_of}
 use Rattle.commands.proofs.Loading.{refused_if, shown_if, shows_unloaded}
 use Rattle.commands.proofs.tables.load_shown.Goals as goal
 
 pub returns-in-Err-clause-none : goal.returns-in-Err-clause-none
 returns-in-Err-clause-none g c =
     shows_unloaded
-    (proof_files_of c.args.proof) _ _ _ _ c.in-Err.ensures.none c.plain.ensures.outcome
+    (table_files_of c.args.paths) _ _ _ _ c.in-Err.ensures.none c.plain.ensures.outcome
     c.plain.ensures.why
 
 pub returns-in-Ok-read_file-clause-shown : goal.returns-in-Ok-read_file-clause-shown
@@ -15,6 +15,6 @@ returns-in-Ok-read_file-clause-shown g c =
 
 pub returns-in-Ok-read_file-clause-none : goal.returns-in-Ok-read_file-clause-none
 returns-in-Ok-read_file-clause-none g c =
-    refused_if (proof_files_of c.args.proof) _ _ _ c.in-Ok.image c.as_slice.result.now
+    refused_if (table_files_of c.args.paths) _ _ _ c.in-Ok.image c.as_slice.result.now
     c.shown.result c.in-Ok.ensures.ok c.in-Ok.ensures.fits c.shown.ensures.refused
     c.shown.ensures.known

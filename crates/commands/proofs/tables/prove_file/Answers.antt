@@ -1,22 +1,22 @@
 use Rattle.std.proofs.Common.{◌∙◌}
-use Rattle.words.specs.Requests.{proof_files_of}
+use Rattle.words.specs.Requests.{table_files_of}
 use Rattle.commands.proofs.Loading.{bound_of_verified, prove_refused, prove_unloaded, prove_unmade, table_stored}
 use Rattle.commands.proofs.tables.prove_file.Goals as goal
 
 pub returns-in-Err : goal.returns-in-Err
 returns-in-Err g c =
     prove_unloaded
-    (proof_files_of c.args.proof) _ _ _ _ c.in-Err.ensures.none c.plain.ensures.outcome
+    (table_files_of c.args.paths) _ _ _ _ c.in-Err.ensures.none c.plain.ensures.outcome
     c.plain.ensures.why
 
 pub returns-in-Err-judge : goal.returns-in-Err-judge
 returns-in-Err-judge g c =
-    prove_refused (proof_files_of c.args.proof) _ _ _ _ _ c.in-Ok.ensures.ok c.in-Ok.ensures.fits
+    prove_refused (table_files_of c.args.paths) _ _ _ _ _ c.in-Ok.ensures.ok c.in-Ok.ensures.fits
     c.in-Err-judge.ensures.refused c.in-Err-judge.ensures.known
 
 pub returns-in-Ok-create_table : goal.returns-in-Ok-create_table
 returns-in-Ok-create_table g c =
-    table_stored (proof_files_of c.args.proof) _ _ _ _ _ _ _ _ _ _ c.in-Ok.ensures.ok
+    table_stored (table_files_of c.args.paths) _ _ _ _ _ _ _ _ _ _ c.in-Ok.ensures.ok
     c.in-Ok-judge.ensures.ok
     (bound_of_verified _ _ c.in-Ok-judge.ensures.program c.in-Ok-judge.ensures.verified
     c.in-Ok-judge.ensures.number c.in-Ok-judge.ensures.bounds)
@@ -25,7 +25,7 @@ returns-in-Ok-create_table g c =
 
 pub returns : goal.returns
 returns g c =
-    prove_unmade (proof_files_of c.args.proof) _ _ _ _ _ _ c.in-Ok.ensures.ok
+    prove_unmade (table_files_of c.args.paths) _ _ _ _ _ _ c.in-Ok.ensures.ok
     c.in-Ok-judge.ensures.ok
     (bound_of_verified _ _ c.in-Ok-judge.ensures.program c.in-Ok-judge.ensures.verified
     c.in-Ok-judge.ensures.number c.in-Ok-judge.ensures.bounds)

@@ -7,7 +7,7 @@ pub returns-in-Err-clause-reports : goal.returns-in-Err-clause-reports
 returns-in-Err-clause-reports g c =
     magic_failed _ _ _ _ _ _ _ _ _ _ _ _ _ _
     (begin_opens _ _ _ _ _ _ _ (search rules)
-    (search rules) c.begin.ensures.opens c.begin.ensures.answers c.version_begun-stream.ensures)
+    (search rules) c.begin.ensures.opens c.begin.ensures.begun c.version_begun-stream.ensures)
     c.in-Err.ensures.err
 
 pub turns-init : goal.turns-init
@@ -15,7 +15,7 @@ turns-init g c = (
   _,
   no_turn _ _ _ _ _ _ _ _ _ _
       (begin_opens _ _ _ _ _ _ _ (search rules)
-      (search rules) c.begin.ensures.opens c.begin.ensures.answers
+      (search rules) c.begin.ensures.opens c.begin.ensures.begun
       c.version_begun-stream.ensures) refl c.in-Ok.ensures.ok,
   refl,
   refl,

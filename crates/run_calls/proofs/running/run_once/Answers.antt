@@ -1,6 +1,6 @@
 use Rattle.std.proofs.Common.{ℕ, sym, subst}
 use Rattle.isa_model.specs.declared.frames.FrameHead.{FrameHead}
-use Rattle.machine.specs.Running.{AnswersRun}
+use Rattle.machine.specs.Running.{ReturnsOutcome}
 use Rattle.run_calls.proofs.running.run_once.Goals as goal
 
 pub returns-clause-ran : goal.returns-clause-ran
@@ -20,9 +20,9 @@ returns-clause-ran c = λ _.
           };
       left = c.run-exit.new.self.contents;
       coming = λ _. c.run-exit.new.clock.time;
-      answers = rw (sym c.in-Some.ensures.made)
-          (subst (λ (t : ℕ). AnswersRun c.in-Some.machine head c.args.packet.now
+      returns = rw (sym c.in-Some.ensures.made)
+          (subst (λ (t : ℕ). ReturnsOutcome c.in-Some.machine head c.args.packet.now
           (λ _. t) c.run-exit.result
           c.run-exit.new.packet c.run-exit.new.self.contents (λ _. c.run-exit.new.clock.time))
-          c.clock_at-clock.ensures c.run-exit.ensures.answers);
+          c.clock_at-clock.ensures c.run-exit.ensures.outcome);
     }

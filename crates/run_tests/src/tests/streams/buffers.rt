@@ -9,8 +9,8 @@ use std::test::Fail;
 const TEXT: &[u8; 7] = b"letters";
 
 /// What is written of the text, with a flush or without one.
-fn taken_of(alloc: Global, step: usize, is_flushed: bool) -> Result<Vec<u8>, Fail> {
-    let mut writer = Writer::new(alloc, step, 0, None);
+fn taken_of(alloc: Global, chunk: usize, is_flushed: bool) -> Result<Vec<u8>, Fail> {
+    let mut writer = Writer::new(alloc, chunk, 0, None);
     let mut prompt = PromptWriter::new(alloc, 16, 3, &mut writer)?;
     write_bytes(&mut prompt, TEXT)?;
     if is_flushed {
@@ -24,9 +24,9 @@ fn taken_of(alloc: Global, step: usize, is_flushed: bool) -> Result<Vec<u8>, Fai
 /// without one.
 #[test]
 fn waits(rt: HostRuntime) -> Result<(), Fail> {
-    for step in [1, 2, 3, 7usize] {
+    for chunk in [1, 2, 3, 7usize] {
         for (is_flushed, count) in [(false, 3usize), (true, 7)] {
-            let taken = taken_of(rt.alloc(), step, is_flushed)?;
+            let taken = taken_of(rt.alloc(), chunk, is_flushed)?;
             assert_eq!(rt; Some(taken.as_slice()), TEXT.get(..count));
         }
     }

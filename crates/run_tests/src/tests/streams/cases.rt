@@ -62,7 +62,7 @@ fn writer_of(alloc: Global, room: Room) -> Writer {
 fn reader_of<'a>(case: &Case<'a>) -> Reader<'a> {
     Reader {
         left: case.given,
-        step: if case.is_broken { 3 } else { usize::MAX },
+        chunk: if case.is_broken { 3 } else { usize::MAX },
         room: case.given.len(),
         failing: if case.is_broken {
             Some(Failure::Error(ErrorKind::BrokenPipe))

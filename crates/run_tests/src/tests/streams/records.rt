@@ -36,7 +36,7 @@ fn stop_of(source: Reader<'_>) -> (u32, Next, Next) {
 }
 
 // How many bytes move at a call.
-const STEPS: [usize; 4] = [1, 2, 3, 7];
+const CHUNKS: [usize; 4] = [1, 2, 3, 7];
 
 // From which length or room on: how many records are read, and how the stream stops.
 type Stop = (usize, u32, Next);
@@ -60,10 +60,10 @@ fn stops_so(
     failing: Option<Failure>,
     (count, stop): (u32, Next),
 ) {
-    for step in STEPS.iter() {
+    for chunk in CHUNKS.iter() {
         let source = Reader {
             left,
-            step: *step,
+            chunk: *chunk,
             room,
             failing,
         };
@@ -121,8 +121,8 @@ fn reported(room: usize, failing: Failure) -> Option<ErrorKind> {
     }
 }
 
-fn fails_in_writing(rt: &(impl AllocGlobal + Abort), step: usize, room: usize, failing: Failure) {
-    let mut writer = Writer::new(rt.alloc(), step, room, Some(failing));
+fn fails_in_writing(rt: &(impl AllocGlobal + Abort), chunk: usize, room: usize, failing: Failure) {
+    let mut writer = Writer::new(rt.alloc(), chunk, room, Some(failing));
     let failure = failure_of_writing(&mut writer);
     assert_eq!(rt;
         (failure, Some(writer.taken.as_slice())),
@@ -134,9 +134,9 @@ fn fails_in_writing(rt: &(impl AllocGlobal + Abort), step: usize, room: usize, f
 #[test]
 fn failing_writes(rt: HostRuntime) {
     for failing in FAILURES.iter() {
-        for step in [1, 7, 25usize] {
+        for chunk in [1, 7, 25usize] {
             for room in 0..26usize {
-                fails_in_writing(&rt, step, room, *failing);
+                fails_in_writing(&rt, chunk, room, *failing);
             }
         }
     }

@@ -8,7 +8,7 @@ use std::process::Abort;
 const TEXT: &[u8; 7] = b"letters";
 
 /// How many bytes move at a call.
-const STEPS: [usize; 4] = [1, 2, 3, 7];
+const CHUNKS: [usize; 4] = [1, 2, 3, 7];
 
 /// Why writing fails, if it does.
 fn failure_of_writing(writer: &mut Writer, bytes: &[u8]) -> Option<ErrorKind> {
@@ -27,8 +27,8 @@ fn reported(room: usize, failing: Failure) -> Option<ErrorKind> {
     }
 }
 
-fn fails_in_writing(rt: &(impl AllocGlobal + Abort), step: usize, room: usize, failing: Failure) {
-    let mut writer = Writer::new(rt.alloc(), step, room, Some(failing));
+fn fails_in_writing(rt: &(impl AllocGlobal + Abort), chunk: usize, room: usize, failing: Failure) {
+    let mut writer = Writer::new(rt.alloc(), chunk, room, Some(failing));
     let failure = failure_of_writing(&mut writer, TEXT);
     assert_eq!(rt;
         (failure, Some(writer.taken.as_slice())),
@@ -39,10 +39,10 @@ fn fails_in_writing(rt: &(impl AllocGlobal + Abort), step: usize, room: usize, f
 
 #[test]
 fn writes(rt: HostRuntime) {
-    for step in STEPS.iter() {
+    for chunk in CHUNKS.iter() {
         for room in 0..8usize {
             for failing in FAILURES.iter() {
-                fails_in_writing(&rt, *step, room, *failing);
+                fails_in_writing(&rt, *chunk, room, *failing);
             }
         }
     }
@@ -52,10 +52,10 @@ fn filled(reader: &mut Reader<'_>, buffer: &mut [u8]) -> Filled {
     fill(reader, buffer)
 }
 
-fn fails_in_filling(rt: &impl Abort, step: usize, room: usize, failing: Failure) {
+fn fails_in_filling(rt: &impl Abort, chunk: usize, room: usize, failing: Failure) {
     let mut reader = Reader {
         left: TEXT.as_slice(),
-        step,
+        chunk,
         room,
         failing: Some(failing),
     };
@@ -74,10 +74,10 @@ fn fails_in_filling(rt: &impl Abort, step: usize, room: usize, failing: Failure)
 
 #[test]
 fn fills(rt: HostRuntime) {
-    for step in STEPS.iter() {
+    for chunk in CHUNKS.iter() {
         for room in 0..6usize {
             for failing in FAILURES.iter() {
-                fails_in_filling(&rt, *step, room, *failing);
+                fails_in_filling(&rt, *chunk, room, *failing);
             }
         }
     }

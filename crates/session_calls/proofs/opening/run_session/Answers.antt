@@ -1,6 +1,6 @@
 use Rattle.std.proofs.Common.{◌∙◌, ℕ, Some, sym, ap, subst}
 use Rattle.isa_model.specs.declared.frames.FrameHead.{FrameHead}
-use Rattle.machine.specs.Running.{Running, AnswersRun}
+use Rattle.machine.specs.Running.{Running, ReturnsOutcome}
 use Rattle.session_calls.proofs.opening.run_session.Goals as goal
 
 pub returns-clause-ran : goal.returns-clause-ran
@@ -24,8 +24,8 @@ returns-clause-ran c = λ _.
             bound = c.run-exit.ensures.bound i;
             contents = left;
           }));
-      answers =
-          subst (λ (t : ℕ). AnswersRun machine head c.args.packet.now
+      returns =
+          subst (λ (t : ℕ). ReturnsOutcome machine head c.args.packet.now
           (λ _. t) c.run-exit.result c.run-exit.new.packet left (λ _. c.run-exit.new.clock.time))
-          c.clock_at-clock.ensures c.run-exit.ensures.answers;
+          c.clock_at-clock.ensures c.run-exit.ensures.outcome;
     }

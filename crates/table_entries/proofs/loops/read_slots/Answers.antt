@@ -2,7 +2,7 @@ use Rattle.std.proofs.Common.{◌≡◌, ◌∙◌, take, arith}
 use Rattle.std.proofs.lemmas.List.{length-set}
 use Rattle.std.proofs.lemmas.Result.{err_from_is_err_and}
 use Rattle.stack_state.specs.Slots.{frame_slots}
-use Rattle.table_entries.specs.Values.{slot_in}
+use Rattle.table_entries.specs.Kinds.{slot_in}
 use Rattle.table_entries.specs.Reading.{kept}
 use Rattle.table_entries.proofs.BlankSlots.{blank_so_far}
 use Rattle.table_entries.proofs.Many.{kept-goes_on, many-stops, kept-done}

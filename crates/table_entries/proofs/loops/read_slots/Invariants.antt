@@ -1,6 +1,6 @@
 use Rattle.std.proofs.Common.{◌≡◌, ◌-◌, take, length}
 use Rattle.stack_state.specs.Slots.{frame_slots}
-use Rattle.table_entries.specs.Values.{slot_in}
+use Rattle.table_entries.specs.Kinds.{slot_in}
 use Rattle.table_entries.specs.Reading.{many, kept}
 use Rattle.table_entries.proofs.Many.{with_front}
 use Rattle.table_entries.proofs.loops.read_slots.Given as goal

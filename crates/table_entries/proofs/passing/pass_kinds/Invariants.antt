@@ -1,5 +1,5 @@
 use Rattle.std.proofs.Common.{◌≡◌, ◌-◌}
-use Rattle.table_entries.specs.Values.{kind_in}
+use Rattle.table_entries.specs.Kinds.{kind_in}
 use Rattle.table_entries.specs.Reading.{many, seen}
 use Rattle.table_entries.proofs.Seen.{and_seen}
 use Rattle.table_entries.proofs.passing.pass_kinds.Given as goal

@@ -1,7 +1,7 @@
 use Rattle.std.proofs.Common.{arith}
 use Rattle.std.proofs.lemmas.Result.{err_from_is_err_and}
 use Rattle.stack_state.specs.Slots.{frame_slots}
-use Rattle.table_entries.specs.Values.{slot_in}
+use Rattle.table_entries.specs.Kinds.{slot_in}
 use Rattle.table_entries.proofs.BlankSlots.{blank_passed}
 use Rattle.table_entries.proofs.Seen.{seen-goes_on, seen-stops, seen-done}
 use Rattle.table_entries.proofs.passing.pass_slots.Goals as goal

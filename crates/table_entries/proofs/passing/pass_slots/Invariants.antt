@@ -1,6 +1,6 @@
 use Rattle.std.proofs.Common.{◌≡◌, ◌-◌}
 use Rattle.stack_state.specs.Slots.{frame_slots}
-use Rattle.table_entries.specs.Values.{slot_in}
+use Rattle.table_entries.specs.Kinds.{slot_in}
 use Rattle.table_entries.specs.Reading.{many, seen}
 use Rattle.table_entries.proofs.Seen.{and_seen}
 use Rattle.table_entries.proofs.passing.pass_slots.Given as goal

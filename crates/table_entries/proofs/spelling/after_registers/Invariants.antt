@@ -1,5 +1,5 @@
 use Rattle.std.proofs.Common.{◌≡◌, ◌-◌, Some, take}
-use Rattle.table_entries.specs.Values.{kind_in}
+use Rattle.table_entries.specs.Kinds.{kind_in}
 use Rattle.table_entries.specs.Reading.{many}
 use Rattle.table_entries.proofs.Many.{with_front}
 use Rattle.table_entries.proofs.spelling.after_registers.Given as goal

@@ -1,6 +1,6 @@
 use Rattle.std.proofs.Common.{◌≡◌, Ok, Some, take, take_all, ap, ◌∙◌, arith}
 use Rattle.stack_state.specs.Slots.{frame_slots}
-use Rattle.table_entries.specs.Values.{slot_in}
+use Rattle.table_entries.specs.Kinds.{slot_in}
 use Rattle.table_entries.proofs.Many.{spelled-goes_on, many-done}
 use Rattle.table_entries.proofs.BlankSlots.{blank_so_far}
 use Rattle.table_entries.proofs.spelling.after_slots.Goals as goal

@@ -1,6 +1,6 @@
 use Rattle.std.proofs.Common.{◌≡◌, ◌-◌, Some, take}
 use Rattle.stack_state.specs.Slots.{frame_slots}
-use Rattle.table_entries.specs.Values.{slot_in}
+use Rattle.table_entries.specs.Kinds.{slot_in}
 use Rattle.table_entries.specs.Reading.{many}
 use Rattle.table_entries.proofs.Many.{with_front}
 use Rattle.table_entries.proofs.spelling.after_slots.Given as goal

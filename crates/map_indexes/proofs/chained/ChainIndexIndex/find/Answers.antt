@@ -8,7 +8,7 @@ use Rattle.map_indexes.proofs.ListedLinks.{link_in-is}
 use Rattle.map_indexes.proofs.ChainIndexesLaws.{found}
 use Rattle.map_indexes.proofs.chained.ChainIndexIndex.find.Goals as goal
 
--- the number of a link is its place
+-- where a key's link is, the key has its place
 placed : (keys : PlaceKeys) (free : List ℕ) (count : ℕ) (chains nexts : List (Option ℕ))
     → IsChainIndex keys free count (λ k. chain_place (link_in chains nexts k))
     → (key : List ℕ) (at : Option ℕ) → IfSome at (HasKey keys (link_in chains nexts) key) → (at

@@ -13,7 +13,7 @@ use Rattle.map_indexes.proofs.ChainIndexesLaws.{chain_index-removed, found}
 use Rattle.map_indexes.proofs.chained.ChainIndexIndex.remove.Goals as goal
 use Rattle.map_indexes.proofs.chained.ChainIndexIndex.remove.Goals.{In_ok-place}
 
--- the key has the place that is the link's number
+-- the key has the link's place
 has : (c : In_ok-place)
     → key_in c.args.self.now.keys.by_place c.in_ok-place.place ≡ Some c.args.key.now
 has c =

@@ -1,7 +1,7 @@
 use Rattle.std.proofs.Common.{◌≡◌, ℕ, ◌<◌, List, length, Option, Some, ap, sym, subst, ◌∙◌, arith}
 use Rattle.std.specs.Prelude.{IfSome, slice_set}
 use Rattle.map_indexes.specs.Chains.{link_in, heads_led, nexts_led, chain_place, IsChained}
-use Rattle.map_indexes.proofs.ChainLaws.{number_or, length-heads_led, length-head_set, length-nexts_led}
+use Rattle.map_indexes.proofs.ChainLaws.{place_or, length-heads_led, length-head_set, length-nexts_led}
 use Rattle.map_indexes.proofs.ListedLinks.{before_some, still_some, leads, fits, lists_added, added_chain_place, added_chain_places}
 use Rattle.map_indexes.proofs.chains.Chains.add.Goals as goal
 
@@ -29,7 +29,7 @@ set-requires-2-clause-small c =
     let s = c.args.self.now in
     let n = s.counted in
     let a = c.requires.chain in
-    fits s.heads s.chains s.nexts s.chained s.few c.args.chain (number_or
+    fits s.heads s.chains s.nexts s.chained s.few c.args.chain (place_or
     (length s.chains) c.behind-from.result) c.after-next.result
     (c.after-next.ensures ∙ leads s.heads s.chains s.nexts s.chained s.whole c.args.chain c.args.at
     c.behind-from.result c.behind-from.ensures (omega arith))

@@ -2,7 +2,7 @@ use Rattle.std.proofs.Common.{◌≡◌, ℕ, length, Option, Some, ◌<◌, ◌
 use Rattle.map_indexes.specs.declared.chains.Link.{Link}
 use Rattle.map_indexes.proofs.LastBelowLaws.{last_is}
 use Rattle.map_indexes.specs.Chains.{in_chain, link_in, height}
-use Rattle.map_indexes.proofs.ChainLaws.{number_or, link_of, Passed, is_behind, passed_next, lower}
+use Rattle.map_indexes.proofs.ChainLaws.{place_or, link_of, Passed, is_behind, passed_next, lower}
 use Rattle.map_indexes.proofs.ListedLinks.{link_in-is}
 use Rattle.map_indexes.proofs.chains.Chains.behind.Goals as goal
 use Rattle.map_indexes.proofs.chains.Chains.behind.Goals.{In-Some}
@@ -14,7 +14,7 @@ here c =
     let s = c.args.self.now in
     let links = link_in s.chains s.nexts in
     let i = c.loop-next.invariant in
-    let r = last_is (in_chain links c.args.chain) (number_or
+    let r = last_is (in_chain links c.args.chain) (place_or
     (length s.chains) c.loop-next.from) c.in-Some.k (sym i.is ∙ c.in-Some.is) in
     let t = link_of links c.args.chain c.in-Some.k r.1 in
     (t.0, t.1)
@@ -54,7 +54,7 @@ loop-next-preserved c =
     let next = c.at-next.ensures ∙ sym (link_in-is s.chains s.nexts c.in-Some.k h.0 h.1).2 in
     subst (λ (o : Option ℕ). Passed (length s.chains) links c.args.chain c.args.at
     (Some c.in-Some.k) o) (sym next)
-    (passed_next (length s.chains) links c.args.chain c.args.at s.chained.falls (number_or
+    (passed_next (length s.chains) links c.args.chain c.args.at s.chained.falls (place_or
     (length s.chains) c.loop-next.from) c.in-Some.k h.0
     (sym c.in-Some.is ∙ i.is) h.1 c.if-k-at.false)
 

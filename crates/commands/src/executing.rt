@@ -4,7 +4,7 @@ ghost use Rattle.std.specs.Prelude.{◌≡◌, ◌≢◌, ◌≤◌, map, MatchR
 ghost use Rattle.std.specs.String.{string_bytes};
 ghost use Rattle.exact_io.specs.Waiting.{held};
 ghost use Rattle.commands.specs.Flushing.{IsFlushed};
-ghost use Rattle.commands.specs.Executing.{AnswersWords, AnswersError, IsTold, TellsDone, TellsFault};
+ghost use Rattle.commands.specs.Executing.{ExecutesWords, TellsWordsError, IsTold, TellsDone, TellsFault};
 
 use super::outcomes::TaskOutcome;
 use super::requests::serve;
@@ -34,7 +34,7 @@ pub fn execute<R: Files + Clock + AllocGlobal, W1: Write + Drop, W2: Write>(
     out: &mut PromptWriter<W1>,
     err: &mut W2,
 ) -> u8
-    ensures executes { AnswersWords W1.contents (map string_bytes words.now) out.old out.new
+    ensures executes { ExecutesWords W1.contents (map string_bytes words.now) out.old out.new
         (W2.contents err.old) (W2.contents err.new) result }
     ensures statuses { result ≤ 5 }
     ensures wrong_words { result ≡ 1 → held W1.contents out.new ≡ held W1.contents out.old }
@@ -54,16 +54,16 @@ pub fn execute<R: Files + Clock + AllocGlobal, W1: Write + Drop, W2: Write>(
 
 /// Does what the program's arguments ask for, and returns its status; if they could not be read,
 /// standard error says why.
-pub fn answer<R: Files + Clock + AllocGlobal, W1: Write + Drop, W2: Write>(
+pub fn execute_given<R: Files + Clock + AllocGlobal, W1: Write + Drop, W2: Write>(
     rt: &R,
     given: Result<Vec<String>, WordsError>,
     out: &mut PromptWriter<W1>,
     err: &mut W2,
 ) -> u8
     ensures { MatchResult given
-        (λ words. AnswersWords W1.contents (map string_bytes words.items) out.old out.new
+        (λ words. ExecutesWords W1.contents (map string_bytes words.items) out.old out.new
         (W2.contents err.old) (W2.contents err.new) result)
-        (λ error. AnswersError error out.old out.new
+        (λ error. TellsWordsError error out.old out.new
         (W2.contents err.old) (W2.contents err.new) result) }
 {
     match given {

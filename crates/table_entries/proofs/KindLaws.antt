@@ -8,7 +8,7 @@ use Rattle.known_bits.specs.declared.bits.Bits.{Bits}
 use Rattle.ranges.specs.declared.wide.Wide.{Wide}
 use Rattle.ranges.specs.declared.low.Low.{Low}
 use Rattle.table_entries.specs.Deciding.{decide, decide_less, decide_z}
-use Rattle.table_entries.specs.Values.{bits_when, bits_of, ordered_when, wide_with, wide_of, low_with, low_of, limits_when, limits_of}
+use Rattle.table_entries.specs.Kinds.{bits_when, bits_of, ordered_when, wide_with, wide_of, low_with, low_of, limits_when, limits_of}
 
 one_proof : (n m : ℕ) (p q : n ≡ m) → p ≡ q
 one_proof n m p q = let prop : IsProp (n ≡ m) = hlevel props in prop p q

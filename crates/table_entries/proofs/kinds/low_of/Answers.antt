@@ -1,7 +1,7 @@
 use Rattle.std.proofs.Common.{sym, arith}
 use Rattle.std.proofs.lemmas.Int.{ints}
-use Rattle.table_entries.proofs.ValueLaws.{low_of-made, low_of-none}
-use Rattle.table_entries.proofs.values.low_of.Goals as goal
+use Rattle.table_entries.proofs.KindLaws.{low_of-made, low_of-none}
+use Rattle.table_entries.proofs.kinds.low_of.Goals as goal
 
 pub returns-then-greatest-least : goal.returns-then-greatest-least
 returns-then-greatest-least c =

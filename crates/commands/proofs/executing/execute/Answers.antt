@@ -5,7 +5,7 @@ use Rattle.commands.proofs.Knowing.{whole_knows}
 use Rattle.commands.proofs.StatusesLaws.{silent_words, silent_memory, done_by, done_plain, faulted_by, refused_by}
 use Rattle.commands.proofs.Silence.{unasked_status, whole_handed_on, whole_silent}
 use Rattle.commands.proofs.Served.{asked-served, unasked}
-use Rattle.commands.proofs.answering.execute.Goals as goal
+use Rattle.commands.proofs.executing.execute.Goals as goal
 
 pub returns-in-Ok-clause-executes : goal.returns-in-Ok-clause-executes
 returns-in-Ok-clause-executes g c = (

@@ -18,8 +18,8 @@ use Rattle.reg_state.specs.declared.kinds.Kind.TheVariants.{Unset, Number, Conte
 use Rattle.stack_state.specs.declared.slots.StackSlot.{StackSlot}
 use Rattle.stack_state.specs.declared.slots.StackSlot.TheVariants.{Written, Spilled}
 use Rattle.table_entries.specs.Reading.{sized}
-use Rattle.table_entries.specs.Values.{signed_32, signed_64, bits_of, wide_of, low_of, range_of, scalar_of, bits_in, wide_in, low_in, scalar_in, limits_of, limits_in, has_no_part, lacks_identity, packet_of, packet_in, stack_in, map_in, value_of, value_in, null_in, fields_in, kind_in, spilled_in, slot_in}
-use Rattle.table_entries.proofs.ValueLaws.{bits_of-is, wide_of-is, low_of-is, limits_of-some}
+use Rattle.table_entries.specs.Kinds.{signed_32, signed_64, bits_of, wide_of, low_of, range_of, scalar_of, bits_in, wide_in, low_in, scalar_in, limits_of, limits_in, has_no_part, lacks_identity, packet_of, packet_in, stack_in, map_in, value_of, value_in, null_in, fields_in, kind_in, spilled_in, slot_in}
+use Rattle.table_entries.proofs.KindLaws.{bits_of-is, wide_of-is, low_of-is, limits_of-some}
 use Rattle.proof_table.specs.Spelling.{signed_4, signed_8, bits_bytes, wide_bytes, low_bytes, scalar_bytes, stack_bytes, packet_bytes, value_bytes, null_bytes, kind_bytes, slot_bytes}
 use Rattle.proof_table.specs.Fitting.{WideFits, LowFits, ScalarFits, StackFits, PacketFits, MapFits, ValueFits, NullFits, KindFits, SlotFits}
 

@@ -1,7 +1,7 @@
 //! The kinds of registers and stack slots in the bytes of a table.
 
 ghost use Rattle.std.specs.Prelude.{◌≡◌, ◌≤◌, length, MatchResult, Ok, Err};
-ghost use Rattle.table_entries.specs.Values.{bits_of, wide_of, low_of, scalar_in, packet_in, stack_in, map_in, value_in, null_in, fields_in, kind_in, slot_in, marks_in, spilled, has_no_part, limits_of, limits_in, range_of, scalar_of, packet_of, lacks_identity, bits_in, wide_in, low_in};
+ghost use Rattle.table_entries.specs.Kinds.{bits_of, wide_of, low_of, scalar_in, packet_in, stack_in, map_in, value_in, null_in, fields_in, kind_in, slot_in, marks_in, spilled, has_no_part, limits_of, limits_in, range_of, scalar_of, packet_of, lacks_identity, bits_in, wide_in, low_in};
 ghost use Rattle.std.specs.Option.{option_map};
 ghost use Rattle.table_entries.specs.Reading.{ReturnsRead};
 
@@ -12,7 +12,7 @@ use ranges::{Low, Range, Wide};
 use reg_state::{Kind, Scalar};
 use stack_state::StackSlot;
 
-#[tactic(auto, unfolding(crate::specs::Values::bits_of))]
+#[tactic(auto, unfolding(crate::specs::Kinds::bits_of))]
 #[inline(always)]
 fn bits_of(value: u64, mask: u64) -> Option<Bits>
     ensures { result ≡ bits_of value mask }
@@ -114,7 +114,7 @@ fn low_in(bytes: &[u8]) -> Option<Low>
     )
 }
 
-#[tactic(auto, unfolding(crate::specs::Values::scalar_in))]
+#[tactic(auto, unfolding(crate::specs::Kinds::scalar_in))]
 #[inline(always)]
 pub fn scalar_in(bytes: &[u8]) -> Option<Scalar>
     requires { 64 ≤ length bytes.now }
@@ -126,7 +126,7 @@ pub fn scalar_in(bytes: &[u8]) -> Option<Scalar>
     )
 }
 
-#[tactic(auto, unfolding(crate::specs::Values::limits_of))]
+#[tactic(auto, unfolding(crate::specs::Kinds::limits_of))]
 fn limits_of(least: i32, greatest: i32) -> Option<(i32, i32)>
     ensures { result ≡ limits_of least greatest }
 {
@@ -177,7 +177,7 @@ fn packet_of(fixed: i32, identity: u32, limits: Option<(i32, i32)>, proved: u32)
     }
 }
 
-#[tactic(auto, unfolding(crate::specs::Values::packet_in))]
+#[tactic(auto, unfolding(crate::specs::Kinds::packet_in))]
 pub fn packet_in(bytes: &[u8]) -> Option<Kind>
     requires { 20 ≤ length bytes.now }
     ensures { result ≡ packet_in bytes.now }
@@ -193,7 +193,7 @@ pub fn packet_in(bytes: &[u8]) -> Option<Kind>
     )
 }
 
-#[tactic(auto, unfolding(crate::specs::Values::stack_in))]
+#[tactic(auto, unfolding(crate::specs::Kinds::stack_in))]
 #[inline(always)]
 pub fn stack_in(holder: usize, bytes: &[u8]) -> Option<Kind>
     requires { 5 ≤ length bytes.now }
@@ -209,7 +209,7 @@ pub fn stack_in(holder: usize, bytes: &[u8]) -> Option<Kind>
     })
 }
 
-#[tactic(auto, unfolding(crate::specs::Values::map_in))]
+#[tactic(auto, unfolding(crate::specs::Kinds::map_in))]
 fn map_in(rows: usize, bytes: &[u8]) -> Option<Kind>
     requires { 1 ≤ length bytes.now }
     ensures { result ≡ map_in rows bytes.now }
@@ -222,7 +222,7 @@ fn map_in(rows: usize, bytes: &[u8]) -> Option<Kind>
     }
 }
 
-#[tactic(auto, unfolding(crate::specs::Values::value_in))]
+#[tactic(auto, unfolding(crate::specs::Kinds::value_in))]
 fn value_in(rows: usize, bytes: &[u8]) -> Option<Kind>
     requires { 9 ≤ length bytes.now }
     ensures { result ≡ value_in rows bytes.now }
@@ -241,7 +241,7 @@ fn value_in(rows: usize, bytes: &[u8]) -> Option<Kind>
     }
 }
 
-#[tactic(auto, unfolding(crate::specs::Values::null_in))]
+#[tactic(auto, unfolding(crate::specs::Kinds::null_in))]
 fn null_in(rows: usize, bytes: &[u8]) -> Option<Kind>
     requires { 5 ≤ length bytes.now }
     ensures { result ≡ null_in rows bytes.now }
@@ -267,7 +267,7 @@ pub fn number_in(bytes: &[u8]) -> Option<Kind>
 }
 
 /// A kind by its number, with the fields that the bytes begin with.
-#[tactic(auto, unfolding(crate::specs::Values::fields_in))]
+#[tactic(auto, unfolding(crate::specs::Kinds::fields_in))]
 fn fields_in(
     rows: usize,
     holder: usize,
@@ -321,7 +321,7 @@ fn fields_in(
 }
 
 /// A kind: its number, and its fields.
-#[tactic(auto, unfolding(crate::specs::Values::kind_in))]
+#[tactic(auto, unfolding(crate::specs::Kinds::kind_in))]
 pub fn kind_in(
     rows: usize,
     holder: usize,
@@ -356,7 +356,7 @@ fn spilled(kind: Option<Kind>) -> Option<StackSlot>
 }
 
 /// A stack slot: what is known of its bytes.
-#[tactic(auto, unfolding(crate::specs::Values::slot_in))]
+#[tactic(auto, unfolding(crate::specs::Kinds::slot_in))]
 pub fn slot_in(
     rows: usize,
     holder: usize,

@@ -1,6 +1,6 @@
 use Rattle.std.proofs.Common.{sym}
-use Rattle.table_entries.proofs.ValueLaws.{bits_of-is, bits_of-none}
-use Rattle.table_entries.proofs.values.bits_of.Goals as goal
+use Rattle.table_entries.proofs.KindLaws.{bits_of-is, bits_of-none}
+use Rattle.table_entries.proofs.kinds.bits_of.Goals as goal
 
 pub returns-then-value-mask-eq0 : goal.returns-then-value-mask-eq0
 returns-then-value-mask-eq0 c =

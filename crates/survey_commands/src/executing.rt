@@ -70,7 +70,7 @@ pub fn execute<R: Files + Clock + AllocGlobal + Clone + Drop, W1: Write + Drop, 
 
 /// Does what the program's arguments ask for, and returns its status; if they could not be read,
 /// standard error says why.
-pub fn answer<R: Files + Clock + AllocGlobal + Clone + Drop, W1: Write + Drop, W2: Write>(
+pub fn execute_given<R: Files + Clock + AllocGlobal + Clone + Drop, W1: Write + Drop, W2: Write>(
     rt: &R,
     given: Result<Vec<String>, WordsError>,
     has_progress: bool,

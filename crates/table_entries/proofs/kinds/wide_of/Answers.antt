@@ -1,7 +1,7 @@
 use Rattle.std.proofs.Common.{sym, arith}
 use Rattle.std.proofs.lemmas.Int.{ints}
-use Rattle.table_entries.proofs.ValueLaws.{wide_of-made, wide_of-none}
-use Rattle.table_entries.proofs.values.wide_of.Goals as goal
+use Rattle.table_entries.proofs.KindLaws.{wide_of-made, wide_of-none}
+use Rattle.table_entries.proofs.kinds.wide_of.Goals as goal
 
 pub returns-then-least-greatest : goal.returns-then-least-greatest
 returns-then-least-greatest c =
