@@ -30,6 +30,7 @@ RUNS = (
     ["dis", "examples/guarded.image"],
     ["dis", "--dot", "examples/guarded.image"],
     ["--sort", "nothing", "few"],
+    ["--what", "few"],
 )
 TIMES = re.compile(rb" *\d+\.\d+")
 

@@ -1,13 +1,15 @@
 #!/usr/bin/env python3
 """What a terminal shows of work that takes over a second.
 
-usage: python3 assurance/terminal.py [PROGRAM]
+usage: python3 assurance/terminal.py [PROGRAM [SURVEY]]
 
 The frames of a run come through a pipe, the last one after more than a second. If standard error is
 a terminal and standard output is not, the terminal shows how much was read, and at the end that is
 cleared; otherwise standard error gets nothing. The report is the same each time. PROGRAM is the
-program that `rt run` leaves in crates/xdpvm (the default: crates/xdpvm/out/xdpvm). The exit status
-is 0 if it is so, 1 if not, and 77 if there are no terminals.
+program that `rt run` leaves in crates/xdpvm (the default: crates/xdpvm/out/xdpvm), SURVEY the one
+that it leaves in crates/xdpvm_survey: it shows how many of the images are judged, once for each
+hundredth, and clears that before each row. The exit status is 0 if it is so, 1 if not, and 77 if
+there are no terminals.
 """
 import os
 import subprocess
@@ -17,6 +19,7 @@ import time
 
 TOP = os.path.dirname(os.path.dirname(os.path.abspath(__file__)))
 PROGRAM = os.path.abspath(sys.argv[1] if len(sys.argv) > 1 else os.path.join(TOP, "crates/xdpvm/out/xdpvm"))
+SURVEY = os.path.abspath(sys.argv[2] if len(sys.argv) > 2 else os.path.join(TOP, "crates/xdpvm_survey/out/xdpvm_survey"))
 CLEARED = b"\r\x1b[K"
 FRAME = bytes(16) + b"\x02\0\0\0\xaa\xbb"
 REPORT = b"0 PASS 2 2\n1 PASS 2 2\nend 2\n"
@@ -32,6 +35,20 @@ def run(folder, output, error):
         program.stdin.write(FRAME)
         program.stdin.close()
     return program.returncode
+
+
+def survey(count, output, error):
+    """Judges an image this many times; these files are standard output and standard error."""
+    words = [SURVEY, "--format", "csv", "--no-header", *count * [os.path.join(TOP, "examples/pass.image")]]
+    return subprocess.run(words, stdin=subprocess.DEVNULL, stdout=output, stderr=error, check=False).returncode
+
+
+def progress(count):
+    """What a terminal shows of a survey of this many images that are accepted."""
+    shown_at = [at for at in range(count) if at == 0 or at * 100 // count != (at - 1) * 100 // count]
+    lines = [CLEARED + f"{at} of {count}".encode() if at in shown_at else b"" for at in range(count)]
+    said = f"{count} accepted, 0 refused, 0 unreadable, 0 out of memory\r\n".encode()
+    return b"".join(line + CLEARED for line in lines) + CLEARED + said
 
 
 def shown(terminal):
@@ -75,6 +92,11 @@ def main():
         good.append(tell("status", run(folder, terminal, terminal), 0))
         os.close(terminal)
         good.append(tell("one terminal for both", shown(reading), REPORT.replace(b"\n", b"\r\n")))
+        reading, terminal = os.openpty()
+        with open(report, "wb") as output:
+            good.append(tell("status", survey(150, output, terminal), 0))
+        os.close(terminal)
+        good.append(tell("a survey", shown(reading), progress(150)))
     return 0 if all(good) else 1
 
 

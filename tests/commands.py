@@ -11,6 +11,7 @@ before, and # begins a comment.
 
   == HEADING             a case, in a fresh folder; lines before the first one begin each case
   each FROM-TO           the case is run for each of these numbers, which is {} in its lines
+  folder NAME            a folder
   file NAME PART..       a file; a part is hex, or 'letters' with \\n and \\xHH; N*PART is N of it
   program NAME TEXT      the image that `xdpvm asm` makes of a text
   set NAME OFFSET PART.. bytes of a file are changed, from an offset on
@@ -75,7 +76,7 @@ def cases_of(path):
 def run(command, room=None):
     """What a command writes to standard output and standard error, and its status."""
     text, sign, name = re.fullmatch(r"(.*?)(?: ([|>]) (\S+))?", command).groups()
-    program, *words = [unescaped(word).decode() for word in shlex.split(text)]
+    program, *words = [os.fsdecode(unescaped(word)) for word in shlex.split(text)]
     limits = resource.getrlimit(resource.RLIMIT_FSIZE) if room is None else (room, room)
     with open(name, "wb") if sign == ">" else tempfile.TemporaryFile() as file:
         output = {"|": UNREAD, ">": file}.get(sign, subprocess.PIPE if room is None else file)
@@ -89,7 +90,10 @@ def run(command, room=None):
 
 def prepare(word, name, rest):
     """Makes or changes a file of a case."""
-    if word == "file":
+    name = os.fsdecode(unescaped(name))
+    if word == "folder":
+        os.mkdir(name)
+    elif word == "file":
         Path(name).write_bytes(bytes_of(rest))
     elif word == "program":
         Path(f"{name}.text").write_text(rest, encoding="utf-8")

@@ -1,6 +1,6 @@
 //! The text of a refused proof table.
 
-ghost use Rattle.std.specs.Prelude.{◌≡◌, ◌++◌, codes, IfOk, IfSome, OnOk};
+ghost use Rattle.std.specs.Prelude.{◌≡◌, ◌++◌, false, None, codes, IfOk, IfSome, OnOk};
 ghost use Rattle.std.specs.String.{string_bytes};
 ghost use Rattle.isa_model.specs.Text.CanonicalText.{line_of};
 ghost use Rattle.explanations.specs.Entries.{IsEntryReason};
@@ -100,8 +100,9 @@ fn found_of(
     error: TableError,
     asked: bool,
 ) -> Option<EntryReason>
-    ensures { IfSome result (λ found. IsEntryReason image.now table.now error
+    ensures found { IfSome result (λ found. IsEntryReason image.now table.now error
         found.slot found.insn (string_bytes found.text)) }
+    ensures unasked { asked ≡ false → result ≡ None }
 {
     if asked {
         entry_reason(alloc, image, table, error)
@@ -119,7 +120,9 @@ pub fn table_text(
     error: TableError,
     asked: bool,
 ) -> Option<Vec<u8>>
-    ensures { IfSome result (λ text. IsTableText image.now table.now error text.items) }
+    ensures text { IfSome result (λ text. IsTableText image.now table.now error text.items) }
+    ensures unasked { asked ≡ false → IfSome result (λ text. text.items
+        ≡ table_front image.now error ++ step_sentence error) }
 {
     let mut text = table_front(alloc, image, error)?;
     let Some(found) = found_of(alloc, image, table, error, asked) else {

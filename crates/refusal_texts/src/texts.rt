@@ -1,8 +1,9 @@
 //! The texts of refused images, texts and programs.
 
-ghost use Rattle.std.specs.Prelude.{◌≡◌, ◌++◌, codes, decimal, IfOk, IfSome, OnOk};
+ghost use Rattle.std.specs.Prelude.{◌≡◌, ◌++◌, false, None, codes, decimal, IfOk, IfSome, OnOk};
 ghost use Rattle.std.specs.Option.{option_copied};
 ghost use Rattle.std.specs.String.{string_bytes};
+ghost use Rattle.isa_model.specs.Code.Instructions.{fetch};
 ghost use Rattle.explanations.specs.Reasons.{IsReason};
 ghost use Rattle.refusal_texts.specs.Texts.{refused_at, slot_position, image_front, image_text, text_position, source_text, program_front, insn_end, IsProgramText};
 
@@ -145,7 +146,8 @@ fn known_of(
     slot: usize,
     asked: bool,
 ) -> Option<String>
-    ensures { IfSome result (λ text. IsReason image.now refusal slot (string_bytes text)) }
+    ensures known { IfSome result (λ text. IsReason image.now refusal slot (string_bytes text)) }
+    ensures unasked { asked ≡ false → result ≡ None }
 {
     if asked {
         reason(alloc, image, refusal, slot)
@@ -163,7 +165,9 @@ pub fn program_text(
     slot: usize,
     asked: bool,
 ) -> Option<Vec<u8>>
-    ensures { IfSome result (λ text. IsProgramText image.now refusal slot text.items) }
+    ensures text { IfSome result (λ text. IsProgramText image.now refusal slot text.items) }
+    ensures unasked { asked ≡ false → IfSome result (λ text. text.items
+        ≡ program_front refusal slot ++ insn_end (fetch image.now slot)) }
 {
     let known = known_of(alloc, image, refusal, slot, asked);
     let Ok(front) = program_front(alloc, refusal, slot) else {

@@ -1,6 +1,6 @@
 //! An image judged: its verdict, what was counted, and how long it took.
 
-ghost use Rattle.std.specs.Prelude.{◌≡◌, Some};
+ghost use Rattle.std.specs.Prelude.{◌≡◌, false, IfSome, None, Some};
 ghost use Rattle.isa_model.specs.{Program};
 ghost use Rattle.isa_model.specs.Running.Outcomes.{StartsEnd};
 ghost use Rattle.image.specs.Images.{IsImage, image_bytes};
@@ -9,7 +9,7 @@ ghost use Rattle.walks.specs.Counts.{HasNumber};
 ghost use Rattle.walks.specs.Refused.{IsRefused};
 ghost use Rattle.image.specs.Refusals.{refusal_of};
 ghost use Rattle.image.specs.declared.errors.ImageError.{ImageError};
-ghost use Rattle.surveys.specs.Judging.{SaysVerdict, SaysMalformed, slot_of};
+ghost use Rattle.surveys.specs.Judging.{SaysVerdict, SaysMalformed, LacksOther, HasTable, slot_of};
 ghost use Rattle.surveys.specs.Tallies.{HasSizes, SaysSizes, searched, with_bound, with_tally};
 
 use crate::tallies::SearchTally;
@@ -41,6 +41,7 @@ fn microseconds_since<C: Clock>(clock: &C, start: Option<Instant>) -> Option<u64
 fn unjudged(counts: Counts) -> Judged
     ensures verdict { result.verdict ≡ Judgement.NoMemory }
     ensures counts { result.counts ≡ counts }
+    ensures no_table { result.table ≡ None }
 {
     Judged {
         verdict: Judgement::NoMemory,
@@ -64,6 +65,8 @@ fn slot_of(error: ImageError) -> Option<u64>
 fn malformed(error: ImageError) -> Judged
     ensures memory { error ≡ ImageError.Memory → result.verdict ≡ Judgement.NoMemory }
     ensures says { SaysMalformed error result.verdict result.counts }
+    ensures other { LacksOther result.verdict result.counts }
+    ensures no_table { result.table ≡ None }
 {
     match error {
         ImageError::Memory => unjudged(Counts::default()),
@@ -80,7 +83,9 @@ fn malformed(error: ImageError) -> Judged
 
 /// How many slots and map rows an image has.
 fn sizes_of(image: &Image) -> Counts
-    ensures { HasSizes image.now result }
+    ensures sizes { HasSizes image.now result }
+    ensures no_slot { result.slot ≡ None }
+    ensures no_bound { result.bound ≡ None }
 {
     Counts {
         slots: Some(image.slots() as u64),
@@ -106,7 +111,9 @@ fn counted(tally: SearchTally, counts: Counts) -> Counts
 fn refused(refusal: Refusal, slot: usize, counts: Counts) -> Judged
     ensures says { (p : Program) → IsRefused p refusal slot
         → SaysVerdict p result.verdict result.counts }
+    ensures other { counts.bound ≡ None → LacksOther result.verdict result.counts }
     ensures rest { searched result.counts ≡ searched counts }
+    ensures no_table { result.table ≡ None }
 {
     match refusal {
         Refusal::Memory | Refusal::Flow(FlowError::Memory) => unjudged(counts),
@@ -136,7 +143,9 @@ fn bounded(verified: &Verified, counts: Counts) -> Counts
 fn accepted(verified: &Verified, counts: Counts) -> Judged
     ensures says { HasNumber verified.now.program start verified.now.bound
         → SaysVerdict verified.now.program result.verdict result.counts }
+    ensures other { counts.slot ≡ None → LacksOther result.verdict result.counts }
     ensures counts { result.counts ≡ with_bound counts verified.now.bound }
+    ensures no_table { result.table ≡ None }
 {
     Judged {
         verdict: Judgement::Accepted,
@@ -151,6 +160,8 @@ fn prove<C: Clock>(clock: &C, alloc: Global, verified: Verified, judged: &mut Ju
     ensures verdict { judged.new.verdict ≡ judged.old.verdict }
     ensures bound { judged.new.counts.bound ≡ judged.old.counts.bound }
     ensures slot { judged.new.counts.slot ≡ judged.old.counts.slot }
+    ensures table { judged.old.table ≡ None → IfSome judged.new.table
+        (λ table. HasTable verified.program table.items judged.new.counts) }
     ensures rest { searched judged.new.counts ≡ searched judged.old.counts }
 {
     let start = Instant::now(clock).ok();
@@ -179,7 +190,11 @@ fn judge_verified<C: Clock>(
 ) -> Judged
     ensures says { HasNumber verified.program start verified.bound
         → SaysVerdict verified.program result.verdict result.counts }
+    ensures other { counts.slot ≡ None → LacksOther result.verdict result.counts }
     ensures rest { searched result.counts ≡ searched counts }
+    ensures table { IfSome result.table
+        (λ table. HasTable verified.program table.items result.counts) }
+    ensures no_table { has_table ≡ false → result.table ≡ None }
 {
     let mut judged = accepted(&verified, counts);
     if !has_table {
@@ -192,7 +207,10 @@ fn judge_verified<C: Clock>(
 /// Judges a program by `verify`.
 fn judge_image<C: Clock>(clock: &C, alloc: Global, image: Image, has_table: bool) -> Judged
     ensures says { SaysVerdict image result.verdict result.counts }
+    ensures other { LacksOther result.verdict result.counts }
     ensures sizes { HasSizes image result.counts }
+    ensures table { IfSome result.table (λ table. HasTable image table.items result.counts) }
+    ensures no_table { has_table ≡ false → result.table ≡ None }
 {
     let sizes = sizes_of(&image);
     let mut tally = SearchTally::default();
@@ -213,14 +231,19 @@ fn judge_image<C: Clock>(clock: &C, alloc: Global, image: Image, has_table: bool
 }
 
 /// Judges the bytes of an image: accepted by `verify` with its bound, or refused with the code and
-/// the slot; and what was counted in the search.
+/// the slot; and what was counted in the search. A proof table is made only if one is wanted, and
+/// is one that `recheck` accepts.
 pub fn judge<C: Clock>(clock: &C, alloc: Global, bytes: &[u8], has_table: bool) -> Judged
     ensures says { (p : Program) → IsImage p → bytes.now ≡ image_bytes p
         → SaysVerdict p result.verdict result.counts }
     ensures malformed { (wrong : ImageError) → refusal_of bytes.now ≡ Some wrong
         → SaysMalformed wrong result.verdict result.counts }
+    ensures other { LacksOther result.verdict result.counts }
     ensures sizes { (p : Program) → IsImage p → bytes.now ≡ image_bytes p
         → SaysSizes p result.verdict result.counts }
+    ensures table { (p : Program) → IsImage p → bytes.now ≡ image_bytes p
+        → IfSome result.table (λ table. HasTable p table.items result.counts) }
+    ensures no_table { has_table ≡ false → result.table ≡ None }
 {
     match Image::parse(alloc, bytes) {
         Ok(image) => judge_image(clock, alloc, image, has_table),

@@ -5,10 +5,10 @@ use Rattle.refusal_texts.specs.Texts.{program_front, insn_end}
 use Rattle.refusal_texts.proofs.TextParts.{joined}
 use Rattle.refusal_texts.proofs.texts.program_text.Goals as goal
 
-pub returns-in-Ok-extend_from_slice : goal.returns-in-Ok-extend_from_slice
-returns-in-Ok-extend_from_slice c = record {
+pub returns-in-Ok-extend_from_slice-clause-text : goal.returns-in-Ok-extend_from_slice-clause-text
+returns-in-Ok-extend_from_slice-clause-text c = record {
   known = string_bytes c.in-Some.known;
-  is_known = inr c.in-Some.ensures;
+  is_known = inr c.in-Some.ensures.known;
   text_is = joined (program_front c.args.refusal c.args.slot)
       (insn_end (fetch c.args.image.now c.args.slot)) (string_bytes c.in-Some.known)
       c.into_bytes-text.result.items c.end_line.new.text.items c.as_bytes.result.now

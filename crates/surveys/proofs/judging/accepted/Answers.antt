@@ -1,11 +1,15 @@
-use Rattle.std.proofs.Common.{ap}
+use Rattle.std.proofs.Common.{◌∙◌, ap}
 use Rattle.survey_rows.specs.declared.rows.Counts.{Counts}
 use Rattle.surveys.proofs.Verdicts.{says_bound}
 use Rattle.surveys.proofs.judging.accepted.Goals as goal
 
-pub returns : goal.returns
-returns c = record {
-  says = λ h. says_bound _ _ c.bounded.result (ap (λ (k : Counts). k.bound) c.bounded.ensures.bound)
-      h c.bounded.ensures.ends;
-  counts = c.bounded.ensures.bound;
-}
+pub returns-clause-says : goal.returns-clause-says
+returns-clause-says c =
+    λ h. says_bound _ _ c.bounded.result (ap (λ (k : Counts). k.bound) c.bounded.ensures.bound)
+    h c.bounded.ensures.ends
+
+pub returns-clause-other : goal.returns-clause-other
+returns-clause-other c = λ h. ap (λ (k : Counts). k.slot) c.bounded.ensures.bound ∙ h
+
+pub returns-clause-counts : goal.returns-clause-counts
+returns-clause-counts c = c.bounded.ensures.bound
