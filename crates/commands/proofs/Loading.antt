@@ -1,5 +1,5 @@
 -- What a task did is what its command does, by how far it came: with an image, a table, a text.
-use Rattle.std.proofs.Common.{◌≡◌, ℕ, List, Option, None, String, Result, Ok, Err, subst, sym, inl, inr, ◌⊎◌, ◌∙◌}
+use Rattle.std.proofs.Common.{◌≡◌, ℕ, List, Option, None, String, Result, Ok, Err, refl, subst, sym, inl, inr, ◌⊎◌, ◌∙◌}
 use Rattle.std.specs.Prelude.{IfOk, IfErr}
 use Rattle.std.specs.declared.alloc.Global.{Global}
 use Rattle.std.specs.declared.io.ErrorKind.{ErrorKind}
@@ -114,64 +114,41 @@ pub image_refused : (files : RunFiles) (old mid new : Option (List ℕ)) (p : Pr
 image_refused files old mid new p r e h v known =
     inr (p, h, (inl (subst (λ (o : Option (List ℕ)). RefusesProgram p o new r.outcome) e v), known))
 
--- standard output got the report, and nothing before it
-runs-on : (files : RunFiles) (old mid now new before after source : Option (List ℕ))
-    (form : FileForm) (cause : Option ErrorKind) (v : Bounded) (o r : TaskOutcome) → mid ≡ old
-    → now ≡ mid
-    → RunsAccepted v source form files.out cause (record { report = now; frames = before })
-    (record { report = new; frames = after }) o → r ≡ o → RunsOn files v old new r
-runs-on files old mid now new before after source form cause v o r e f runs same =
+-- standard output got the report of the runs
+pub runs_on : (files : RunFiles) (old new before after source : Option (List ℕ)) (form : FileForm)
+    (cause : Option ErrorKind) (v : Bounded) (r : TaskOutcome)
+    → RunsAccepted v source form files.out cause (record { report = old; frames = before })
+    (record { report = new; frames = after }) r → RunsOn files v old new r
+runs_on files old new before after source form cause v r runs =
     let some : RunsSome v files.out old new r = record {
       source = source;
       form = form;
       before = before;
       after = after;
       cause = cause;
-      runs =
-          rw same (subst
-          (λ (x : Option (List ℕ)). RunsAccepted v source form files.out cause
-          (record { report = x; frames = before }) (record { report = new; frames = after }) o)
-          (f ∙ e) runs);
+      runs = runs;
     } in
     inr some
 
-opens-on : (files : RunFiles) (old mid new : Option (List ℕ)) (v : Bounded) (o r : TaskOutcome)
-    → mid ≡ old → new ≡ mid → IsReadFailure files.frames o ⊎ IsMakeFailure files.out o → r ≡ o
-    → RunsOn files v old new r
-opens-on files old mid new v o r e f failed same =
-    inl (rw same (opens-none files old new o (f ∙ e) failed))
+pub opens_on : (files : RunFiles) (old : Option (List ℕ)) (v : Bounded) (r : TaskOutcome)
+    → IsReadFailure files.frames r ⊎ IsMakeFailure files.out r → RunsOn files v old old r
+opens_on files old v r failed = inl (opens-none files old old r refl failed)
 
-pub image_run : (files : RunFiles) (old mid now new before after source : Option (List ℕ))
-    (form : FileForm) (cause : Option ErrorKind) (v : Bounded) (o : TaskOutcome) (r : Ending)
-    → mid ≡ old → now ≡ mid → IsBoundOf v.program v.bound
-    → RunsAccepted v source form files.out cause (record { report = now; frames = before })
-    (record { report = new; frames = after }) o → r.outcome ≡ o → r.why ≡ None
-    → RunsFile files old new r
-image_run files old mid now new before after source form cause v o r e f h runs same none =
+-- nothing was written before
+runs-first : (files : RunFiles) (old mid new : Option (List ℕ)) (v : Bounded) (o r : TaskOutcome)
+    → mid ≡ old → RunsOn files v mid new o → r ≡ o → RunsOn files v old new r
+runs-first files old mid new v o r e runs same =
+    rw same (subst (λ (x : Option (List ℕ)). RunsOn files v x new o) e runs)
+
+pub image_run : (files : RunFiles) (old mid now new : Option (List ℕ)) (v : Bounded)
+    (o : TaskOutcome) (r : Ending) → mid ≡ old → now ≡ mid → IsBoundOf v.program v.bound
+    → RunsOn files v now new o → r.outcome ≡ o → r.why ≡ None → RunsFile files old new r
+image_run files old mid now new v o r e f h runs same none =
     inr (
       v.program,
       h.verified.image,
       (
-        inr (
-          v.bound,
-          h,
-          runs-on files old mid now new before after source form cause v o r.outcome
-              e f runs same,
-        ),
-        tells-none v.program r.outcome r.why none,
-      ),
-    )
-
-pub run_unopened : (files : RunFiles) (old mid new : Option (List ℕ)) (v : Bounded)
-    (o : TaskOutcome) (r : Ending) → mid ≡ old → new ≡ mid → IsBoundOf v.program v.bound
-    → IsReadFailure files.frames o ⊎ IsMakeFailure files.out o → r.outcome ≡ o → r.why ≡ None
-    → RunsFile files old new r
-run_unopened files old mid new v o r e f h failed same none =
-    inr (
-      v.program,
-      h.verified.image,
-      (
-        inr (v.bound, h, opens-on files old mid new v o r.outcome e f failed same),
+        inr (v.bound, h, runs-first files old now new v o r.outcome (f ∙ e) runs same),
         tells-none
             v.program r.outcome r.why none,
       ),
@@ -229,30 +206,11 @@ pub bound_said : (files : TableFiles) (old mid new : Option (List ℕ)) (v : Bou
 bound_said files old mid new v o r e is accepts same none =
     inr (v, is, (rw same (subst (λ (x : Option (List ℕ)). Accepts v x new o) e accepts), none))
 
-pub shown_run : (files : RunFiles) (table : List ℕ)
-    (old mid now new before after source : Option (List ℕ)) (form : FileForm)
-    (cause : Option ErrorKind) (v : Bounded) (o : TaskOutcome) (r : Ending) → mid ≡ old → now ≡ mid
-    → IsShown v
-    → RunsAccepted v source form files.out cause (record { report = now; frames = before })
-    (record { report = new; frames = after }) o → r.outcome ≡ o → r.why ≡ None
-    → RunsShown files table old new r
-shown_run files table old mid now new before after source form cause v o r e f is runs same none =
-    inr (
-      v,
-      is,
-      (
-        runs-on files old mid now new before after source form cause v o r.outcome e f runs
-            same,
-        none,
-      ),
-    )
-
-pub shown_unopened : (files : RunFiles) (table : List ℕ) (old mid new : Option (List ℕ))
-    (v : Bounded) (o : TaskOutcome) (r : Ending) → mid ≡ old → new ≡ mid → IsShown v
-    → IsReadFailure files.frames o ⊎ IsMakeFailure files.out o → r.outcome ≡ o → r.why ≡ None
-    → RunsShown files table old new r
-shown_unopened files table old mid new v o r e f is failed same none =
-    inr (v, is, (opens-on files old mid new v o r.outcome e f failed same, none))
+pub shown_run : (files : RunFiles) (table : List ℕ) (old mid new : Option (List ℕ)) (v : Bounded)
+    (o : TaskOutcome) (r : Ending) → mid ≡ old → IsShown v → RunsOn files v mid new o
+    → r.outcome ≡ o → r.why ≡ None → RunsShown files table old new r
+shown_run files table old mid new v o r e is runs same none =
+    inr (v, is, (runs-first files old mid new v o r.outcome e runs same, none))
 
 -- ---- `prove`
 

@@ -4,7 +4,7 @@ ghost use Rattle.std.specs.Prelude.{◌≡◌, ◌⊎◌, OnOk, IfOk, IfErr};
 ghost use Rattle.image.specs.Images.{IsImage};
 ghost use Rattle.commands.specs.Statuses.{IsReadFailure, IsMakeFailure};
 ghost use Rattle.words.specs.Requests.{files_of};
-ghost use Rattle.commands.specs.Commands.{LoadsNone, TracesFile, RunsFile, VerifiesFile, DisassemblesFile, Assembles, AssemblesFile};
+ghost use Rattle.commands.specs.Commands.{LoadsNone, TracesFile, RunsFile, RunsOn, VerifiesFile, DisassemblesFile, Assembles, AssemblesFile};
 
 use super::endings::Ending;
 use super::forms::FileForm;
@@ -16,6 +16,7 @@ use super::screens::Screen;
 use super::streams::{run_stream, store_image, trace_stream};
 use super::verdicts::{assembled, image_of, judge, say_text, say_verdict, size_line};
 use exact_io::PromptWriter;
+use explorer::Verified;
 use image::Image;
 use isa_model::{MAX_MAPS, MAX_SLOTS};
 use std::alloc::Global;
@@ -133,6 +134,28 @@ pub fn trace<'a, R: Files + Clock, W: Write>(
     }
 }
 
+/// Runs a program with its bound on a frame stream: the frames are opened, then the frames out,
+/// which may not replace a file that is read. The report is written to standard output as it is
+/// made.
+pub fn run_on<'a, R: Files + Clock, W: Write>(
+    rt: &R,
+    alloc: Global,
+    verified: Verified,
+    paths: RunPaths<'a>,
+    read: &[&str],
+    out: &mut W,
+) -> TaskOutcome<'a>
+    ensures { RunsOn (files_of paths.entry) verified (W.contents out.old) (W.contents out.new)
+        result }
+{
+    match open_streams(rt, alloc, paths, read) {
+        Ok((source, form, mut file)) => {
+            run_stream(alloc, verified, source, form, paths.out, out, &mut file)
+        }
+        Err(outcome) => outcome,
+    }
+}
+
 /// Verifies a program and runs it on a frame stream: the image is read and judged, then the frames
 /// are opened, then the frames out. The report is written to standard output as it is made.
 pub fn run_verified<'a, R: Files + Clock, W: Write>(
@@ -147,16 +170,12 @@ pub fn run_verified<'a, R: Files + Clock, W: Write>(
         Ok(image) => image,
         Err(outcome) => return Ending::plain(outcome),
     };
-    let verified = match judge(rt, alloc, image, out) {
-        Ok(verified) => verified,
-        Err(ending) => return ending,
-    };
-    match open_streams(rt, alloc, paths, &[paths.image, paths.frames]) {
-        Ok((source, form, mut file)) => {
-            let outcome = run_stream(alloc, verified, source, form, paths.out, out, &mut file);
-            Ending::plain(outcome)
+    match judge(rt, alloc, image, out) {
+        Ok(verified) => {
+            let read = [paths.image, paths.frames];
+            Ending::plain(run_on(rt, alloc, verified, paths, &read, out))
         }
-        Err(outcome) => Ending::plain(outcome),
+        Err(ending) => ending,
     }
 }
 

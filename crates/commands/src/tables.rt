@@ -7,12 +7,11 @@ ghost use Rattle.commands.specs.Commands.{ShowsNone, IsShown, RechecksFile, Runs
 ghost use Rattle.commands.specs.Statuses.{IsMakeFailure};
 
 use super::endings::Ending;
-use super::files::{BUFFER, create_file, load_image, open_streams};
+use super::files::{BUFFER, create_file, load_image, run_on};
 use super::outcomes::TaskOutcome;
 use super::proving::store_table;
 use super::reading::read_file;
 use super::rechecks::shown;
-use super::streams::run_stream;
 use super::verdicts::{accepted, bound_line, judge};
 use exact_io::PromptWriter;
 use explorer::Verified;
@@ -75,16 +74,12 @@ pub fn run_shown<'a, R: Files + Clock, W: Write>(
         (W.contents out.old) (W.contents out.new) result }
 {
     let image = paths.image;
-    let verified = match load_shown(rt, alloc, TablePaths { image, table }, out) {
-        Ok(verified) => verified,
-        Err(ending) => return ending,
-    };
-    match open_streams(rt, alloc, paths, &[image, paths.frames, table]) {
-        Ok((source, form, mut file)) => {
-            let outcome = run_stream(alloc, verified, source, form, paths.out, out, &mut file);
-            Ending::plain(outcome)
+    match load_shown(rt, alloc, TablePaths { image, table }, out) {
+        Ok(verified) => {
+            let read = [image, paths.frames, table];
+            Ending::plain(run_on(rt, alloc, verified, paths, &read, out))
         }
-        Err(outcome) => Ending::plain(outcome),
+        Err(ending) => ending,
     }
 }
 

@@ -2,12 +2,26 @@
 use Rattle.std.proofs.Common.{◌≡◌, ℕ, List, ◌++◌, length, take, drop, Option, Result, Ok, Err, OnOk, OnErr, refl, sym, ap, ◌∙◌, subst}
 use Rattle.std.proofs.lemmas.List.{take-append-drop}
 use Rattle.std.specs.Io.KnownBytes.{Appends}
+use Rattle.std.proofs.KnownBytes.{Appends-trans}
 use Rattle.exact_io.specs.Transfers.{AppendsBeginning}
-use Rattle.exact_io.proofs.TransferLaws.{AppendsBeginning-second}
+use Rattle.exact_io.proofs.TransferLaws.{AppendsBeginning-first, AppendsBeginning-second}
 use Rattle.isa_model.specs.declared.frames.FrameHead.{FrameHead}
 use Rattle.isa_model.specs.declared.versions.Version.{Version}
 use Rattle.isa_model.specs.declared.versions.Version.TheVariants.{One}
 use Rattle.isa_model.specs.Reporting.Streams.{head_bytes}
+
+-- where both parts are written, they are written as one
+both_written : {X E : Type 0} (r : Result X E) (old mid new : Option (List ℕ))
+    (front rest : List ℕ) → Appends old mid front → OnOk r (Appends mid new rest)
+    → OnOk r (Appends old new (front ++ rest))
+both_written (Ok x) old mid new front rest p q = Appends-trans old mid new front rest p q
+both_written (Err e) old mid new front rest p q = tt
+
+-- where the first part fails, a beginning of both was written
+first_fails : {X E : Type 0} (r : Result X E) (old mid : Option (List ℕ)) (front rest : List ℕ)
+    → AppendsBeginning old mid front → OnErr r (AppendsBeginning old mid (front ++ rest))
+first_fails (Ok x) old mid front rest p = tt
+first_fails (Err e) old mid front rest p = AppendsBeginning-first old mid front rest p
 
 -- where the second part fails, a beginning of both was written
 pub second_fails : {X E : Type 0} (r : Result X E) (old mid new : Option (List ℕ))
@@ -23,6 +37,22 @@ pub rest_fails : {X E : Type 0} (r : Result X E) (old mid new : Option (List ℕ
 rest_fails r old mid new n bs p q =
     subst (λ l. OnErr r (AppendsBeginning old new l)) (take-append-drop n bs)
     (second_fails r old mid new (take n bs) (drop n bs) p q)
+
+-- what was written where a head and a body are written one after the other, and the head has the
+-- bytes of front
+module _ {X E : Type 0} (r : Result X E) (old mid : Option (List ℕ)) (head front body : List ℕ)
+    (same : head ≡ front) where
+  pub record_written : (new : Option (List ℕ)) → Appends old mid head
+      → OnOk r (Appends mid new body) → OnOk r (Appends old new (front ++ body))
+  record_written new p q =
+      both_written r old mid new front body (subst (Appends old mid) same p) q
+
+  pub body_fails : (new : Option (List ℕ)) → Appends old mid head
+      → OnErr r (AppendsBeginning mid new body) → OnErr r (AppendsBeginning old new (front ++ body))
+  body_fails new p q = second_fails r old mid new front body (subst (Appends old mid) same p) q
+
+  pub head_fails : AppendsBeginning old mid head → OnErr r (AppendsBeginning old mid (front ++ body))
+  head_fails p = first_fails r old mid front body (subst (AppendsBeginning old mid) same p)
 
 -- a record of version 1 has no reason
 version_1_head : (h : FrameHead) (n reason : ℕ) → head_bytes One h n 0 ≡ head_bytes One h n reason

@@ -1,1 +1,2 @@
+pub mod OpenSessions
 pub mod Ownership

@@ -2,5 +2,4 @@
 //! statuses are those of `verdict_calls`.
 #![tactic(auto)]
 
-pub mod map_calls;
 pub mod opening;

@@ -56,6 +56,25 @@ fn verdict_of(judged: &Judged, has_table: bool) -> Judgement {
     }
 }
 
+/// The row of an image that was judged. Its table is stored where that is wanted.
+fn row_judged<R: Files>(
+    rt: &R,
+    alloc: Global,
+    path: &str,
+    judged: &Judged,
+    tables: Option<&str>,
+) -> Result<Row, SurveyError> {
+    if let (Some(folder), Some(table)) = (tables, &judged.table) {
+        store_table(rt, alloc, folder, path, table.as_slice())?;
+    }
+    let file = String::from_str(alloc, path)?;
+    Ok(Row {
+        file,
+        verdict: verdict_of(judged, tables.is_some()),
+        counts: judged.counts,
+    })
+}
+
 /// The row of a file.
 fn row_of<R: Files + Clock + AllocGlobal, W: Write>(
     rt: &R,
@@ -69,15 +88,7 @@ fn row_of<R: Files + Clock + AllocGlobal, W: Write>(
         Err(error) => return Ok(row_unread(alloc, path, error.kind(), err)?),
     };
     let judged = judge(rt, alloc, bytes.as_slice(), tables.is_some());
-    if let (Some(folder), Some(table)) = (tables, &judged.table) {
-        store_table(rt, alloc, folder, path, table.as_slice())?;
-    }
-    let file = String::from_str(alloc, path)?;
-    Ok(Row {
-        file,
-        verdict: verdict_of(&judged, tables.is_some()),
-        counts: judged.counts,
-    })
+    row_judged(rt, alloc, path, &judged, tables)
 }
 
 /// The row of a path.
@@ -98,23 +109,32 @@ fn keep(rows: &mut Vec<Row>, row: Row) -> Result<(), AllocError> {
     Ok(())
 }
 
+/// Adds all images that a path names, and the folder if it cannot be read, or only in part.
+fn add_named<R: Files + AllocGlobal + Clone + Drop>(
+    rt: &R,
+    path: &str,
+    all: &mut Vec<NamedPath>,
+) -> Result<(), AllocError> {
+    let alloc = rt.alloc();
+    let found = match images(rt, path) {
+        Ok(found) => found,
+        Err(error) => return add_folder(alloc, path, error.kind(), all),
+    };
+    add_images(alloc, found.paths.as_slice(), all)?;
+    if found.has_unnamed {
+        add_folder(alloc, path, ErrorKind::InvalidFilename, all)?;
+    }
+    Ok(())
+}
+
 /// All images that the paths name, and the folders that cannot be read, or only in part.
 fn all_named<R: Files + AllocGlobal + Clone + Drop>(
     rt: &R,
     survey: &Survey<'_>,
-) -> Result<Vec<NamedPath>, SurveyError> {
-    let alloc = rt.alloc();
-    let mut all = Vec::new(alloc);
+) -> Result<Vec<NamedPath>, AllocError> {
+    let mut all = Vec::new(rt.alloc());
     for path in survey.paths.as_slice() {
-        match images(rt, *path) {
-            Ok(found) => {
-                add_images(alloc, found.paths.as_slice(), &mut all)?;
-                if found.has_unnamed {
-                    add_folder(alloc, *path, ErrorKind::InvalidFilename, &mut all)?;
-                }
-            }
-            Err(error) => add_folder(alloc, *path, error.kind(), &mut all)?,
-        }
+        add_named(rt, *path, &mut all)?;
     }
     Ok(all)
 }
@@ -128,6 +148,28 @@ fn summary_line(alloc: Global, summary: &Summary) -> Result<String, AllocError> 
     format!(in alloc;
         "{accepted} accepted, {refused} refused, {unreadable} unreadable, {unjudged} out of memory\n"
     )
+}
+
+/// Says on standard error how many images were judged in which way.
+fn say_summary<W: Write>(alloc: Global, summary: &Summary, err: &mut W) -> Result<(), AllocError> {
+    let line = summary_line(alloc, summary)?;
+    let _ = write_bytes(err, line.as_bytes());
+    Ok(())
+}
+
+/// Writes a row, or keeps it if it has to wait.
+fn put_row<W: Write>(
+    alloc: Global,
+    sheet: &Sheet<'_>,
+    row: Row,
+    waiting: &mut Vec<Row>,
+    out: &mut W,
+) -> Result<(), SurveyError> {
+    if sheet.has_to_wait() {
+        Ok(keep(waiting, row)?)
+    } else {
+        write_row(alloc, sheet, row, out)
+    }
 }
 
 /// Judges images, and writes the row of each one unless rows have to wait. Returns the rows that
@@ -148,15 +190,34 @@ fn judge_all<R: Files + Clock + AllocGlobal, W1: Write, W2: Write>(
         let row = row_named(rt, one, sheet.survey.tables, err)?;
         summary.count(row.verdict);
         progress.advance();
-        if sheet.has_to_wait() {
-            keep(&mut waiting, row)?;
-        } else {
+        if !sheet.has_to_wait() {
             progress.clear(err);
-            write_row(alloc, sheet, row, out)?;
         }
+        put_row(alloc, sheet, row, &mut waiting, out)?;
     }
     progress.clear(err);
     Ok((waiting, summary))
+}
+
+/// Judges images. Standard output gets a row for each image as it is judged, or at the end all rows
+/// in their order, or the differences from an earlier survey. Standard error gets a line for each
+/// file that cannot be read, and the progress if that is wanted. Returns how many images were
+/// judged in which way.
+fn survey_named<R: Files + Clock + AllocGlobal, W1: Write, W2: Write>(
+    rt: &R,
+    survey: &Survey<'_>,
+    named: &[NamedPath],
+    has_progress: bool,
+    out: &mut W1,
+    err: &mut W2,
+) -> Result<Summary, SurveyError> {
+    let alloc = rt.alloc();
+    let sheet = sheet_of(alloc, survey, named)?;
+    write_head(alloc, &sheet, out)?;
+    let mut progress = SurveyProgress::of(named.len(), has_progress);
+    let (mut rows, summary) = judge_all(rt, &sheet, named, &mut progress, out, err)?;
+    write_waiting(rt, &sheet, &mut rows, out)?;
+    Ok(summary)
 }
 
 /// Surveys images. Standard output gets a row for each image as it is judged, or at the end all
@@ -172,14 +233,8 @@ pub fn survey<R: Files + Clock + AllocGlobal + Clone + Drop, W1: Write, W2: Writ
 ) -> Result<u8, SurveyError>
     ensures { IfOk result (λ status. status ≤ 5) }
 {
-    let alloc = rt.alloc();
     let named = all_named(rt, survey)?;
-    let sheet = sheet_of(alloc, survey, named.as_slice())?;
-    write_head(alloc, &sheet, out)?;
-    let mut progress = SurveyProgress::of(named.len(), has_progress);
-    let (mut rows, summary) = judge_all(rt, &sheet, named.as_slice(), &mut progress, out, err)?;
-    write_waiting(rt, &sheet, &mut rows, out)?;
-    let line = summary_line(alloc, &summary)?;
-    let _ = write_bytes(err, line.as_bytes());
+    let summary = survey_named(rt, survey, named.as_slice(), has_progress, out, err)?;
+    say_summary(rt.alloc(), &summary, err)?;
     Ok(summary.status())
 }

@@ -45,32 +45,37 @@ fn put_quoted(text: &str, out: &mut String) -> Result<(), AllocError> {
     Ok(())
 }
 
-/// An edge between two blocks.
-fn edge(alloc: Global, from: usize, to: usize, style: &str) -> Result<String, AllocError> {
-    format!(in alloc; "  b{from} -> b{to}{style};\n")
+/// Adds an edge between two blocks.
+fn put_edge(
+    alloc: Global,
+    from: usize,
+    to: usize,
+    style: &str,
+    edges: &mut String,
+) -> Result<(), AllocError> {
+    let edge = format!(in alloc; "  b{from} -> b{to}{style};\n")?;
+    edges.push_str(edge.as_str())
 }
 
-/// The edges out of the last instruction of a block, which is at a slot; the next instruction is at
-/// `next`.
-fn edges(
+/// Adds the edges out of the last instruction of a block, which is at a slot; the next instruction
+/// is at `next`.
+fn put_edges(
     alloc: Global,
     image: &Image,
     block: usize,
     slot: usize,
     next: usize,
-) -> Result<String, AllocError> {
-    let mut text = String::new(alloc);
+    edges: &mut String,
+) -> Result<(), AllocError> {
     if falls_through(image, slot) && next < image.slots() {
-        let fall = edge(alloc, block, next, "")?;
-        text.push_str(fall.as_str())?;
+        put_edge(alloc, block, next, "", edges)?;
     }
     if is_end(image, slot) {
         if let Some(target) = target_of(image, slot) {
-            let jump = edge(alloc, block, target, " [style=dashed]")?;
-            text.push_str(jump.as_str())?;
+            put_edge(alloc, block, target, " [style=dashed]", edges)?;
         }
     }
-    Ok(text)
+    Ok(())
 }
 
 /// Adds the edge of a call from a block.
@@ -79,12 +84,11 @@ fn put_call(
     image: &Image,
     block: usize,
     slot: usize,
-    behind: &mut String,
+    edges: &mut String,
 ) -> Result<(), AllocError> {
     if let Some(Insn::CallLocal(_)) = image.at(slot) {
         if let Some(target) = target_of(image, slot) {
-            let call = edge(alloc, block, target, " [style=dotted]")?;
-            behind.push_str(call.as_str())?;
+            put_edge(alloc, block, target, " [style=dotted]", edges)?;
         }
     }
     Ok(())
@@ -105,6 +109,21 @@ struct Graph {
     edges: String,
 }
 
+/// How an instruction's text begins: as its block, if it is the first one.
+fn head_of(alloc: Global, block: usize, slot: usize) -> Result<String, AllocError> {
+    if block != slot {
+        return Ok(String::new(alloc));
+    }
+    format!(in alloc; "  b{slot} [label=\"")
+}
+
+/// Adds an instruction with its slot inside a quoted text.
+fn put_insn(alloc: Global, image: &Image, slot: usize, out: &mut String) -> Result<(), AllocError> {
+    let insn = insn_text(alloc, image, slot)?;
+    let line = format!(in alloc; "{slot}: {insn}")?;
+    put_quoted(line.as_str(), out)
+}
+
 /// Adds an instruction to its block, and ends the block if it is the last one.
 fn insn_node(
     alloc: Global,
@@ -114,22 +133,32 @@ fn insn_node(
     graph: &mut Graph,
 ) -> Result<String, AllocError> {
     let next = after(image, slot);
-    let mut text = String::new(alloc);
-    if graph.block == slot {
-        let head = format!(in alloc; "  b{slot} [label=\"")?;
-        text.push_str(head.as_str())?;
-    }
-    let insn = insn_text(alloc, image, slot)?;
-    let line = format!(in alloc; "{slot}: {insn}")?;
-    put_quoted(line.as_str(), &mut text)?;
+    let mut text = head_of(alloc, graph.block, slot)?;
+    put_insn(alloc, image, slot, &mut text)?;
     put_call(alloc, image, graph.block, slot, &mut graph.edges)?;
     if is_end(image, slot) || begins(marks, next) || next >= image.slots() {
         text.push_str("\"];\n")?;
-        let edges = edges(alloc, image, graph.block, slot, next)?;
-        graph.edges.push_str(edges.as_str())?;
+        put_edges(alloc, image, graph.block, slot, next, &mut graph.edges)?;
         graph.block = next;
     }
     Ok(text)
+}
+
+/// Writes the basic blocks of a program, and collects their edges.
+fn write_blocks<W: Write>(
+    alloc: Global,
+    image: &Image,
+    marks: &[Mark],
+    graph: &mut Graph,
+    out: &mut W,
+) -> Result<(), LookError> {
+    for slot in 0..image.slots() {
+        if image.at(slot).is_some() {
+            let text = insn_node(alloc, image, marks, slot, graph)?;
+            write_bytes(out, text.as_bytes())?;
+        }
+    }
+    Ok(())
 }
 
 /// Writes the basic blocks of a program as a graph for `dot`: a plain edge where control falls
@@ -144,12 +173,7 @@ pub fn write_graph<W: Write>(alloc: Global, image: &Image, out: &mut W) -> Resul
         out,
         b"digraph program {\n  node [shape=box, fontname=monospace];\n",
     )?;
-    for slot in 0..image.slots() {
-        if image.at(slot).is_some() {
-            let text = insn_node(alloc, image, marks.as_slice(), slot, &mut graph)?;
-            write_bytes(out, text.as_bytes())?;
-        }
-    }
+    write_blocks(alloc, image, marks.as_slice(), &mut graph, out)?;
     write_bytes(out, graph.edges.as_bytes())?;
     write_bytes(out, b"}\n")?;
     Ok(())

@@ -37,11 +37,12 @@ fn slot_bytes(alloc: Global, code: &[u8], slot: usize) -> Result<String, AllocEr
 
 /// The label above a slot; before a function's there is an empty line.
 fn label_above(alloc: Global, mark: Mark, slot: usize) -> Result<String, AllocError> {
-    match mark {
-        Mark::Nothing => Ok(String::new(alloc)),
-        Mark::Target => format!(in alloc; "L{slot}:\n"),
-        Mark::Function => format!(in alloc; "\nF{slot}:\n"),
-    }
+    let front = match mark {
+        Mark::Nothing => return Ok(String::new(alloc)),
+        Mark::Target => "L",
+        Mark::Function => "\nF",
+    };
+    format!(in alloc; "{front}{slot}:\n")
 }
 
 /// The comment after an instruction's text, with the label to which it leads.
@@ -54,11 +55,33 @@ fn label_behind(
     let Some(target) = target_of(image, slot) else {
         return Ok(String::new(alloc));
     };
-    match marks.get(target) {
-        Some(Mark::Function) => format!(in alloc; "  # F{target}"),
-        Some(_) => format!(in alloc; "  # L{target}"),
-        None => String::from_str(alloc, "  # outside the code"),
-    }
+    let letter = match marks.get(target) {
+        Some(Mark::Function) => "F",
+        Some(_) => "L",
+        None => return String::from_str(alloc, "  # outside the code"),
+    };
+    format!(in alloc; "  # {letter}{target}")
+}
+
+/// The number of a slot, and its bytes.
+fn slot_front(alloc: Global, code: &[u8], slot: usize) -> Result<String, AllocError> {
+    let bytes = slot_bytes(alloc, code, slot)?;
+    format!(in alloc; "{slot:5}: {bytes}")
+}
+
+/// The lines of a slot where an instruction begins.
+fn insn_lines(
+    alloc: Global,
+    image: &Image,
+    marks: &[Mark],
+    slot: usize,
+    front: &str,
+    insn: &str,
+) -> Result<String, AllocError> {
+    let mark = marks.get(slot).copied().unwrap_or(Mark::Nothing);
+    let above = label_above(alloc, mark, slot)?;
+    let behind = label_behind(alloc, image, marks, slot)?;
+    format!(in alloc; "{above}{front}  {insn}{behind}\n")
 }
 
 /// The lines of a slot.
@@ -69,16 +92,14 @@ fn slot_text(
     marks: &[Mark],
     slot: usize,
 ) -> Result<String, AllocError> {
-    let mark = marks.get(slot).copied().unwrap_or(Mark::Nothing);
-    let above = label_above(alloc, mark, slot)?;
-    let bytes = slot_bytes(alloc, code, slot)?;
+    let mut front = slot_front(alloc, code, slot)?;
     let line = insn_text(alloc, image, slot)?;
     let insn = line.as_str().trim_end();
-    let behind = label_behind(alloc, image, marks, slot)?;
     if insn.is_empty() {
-        return format!(in alloc; "{slot:5}: {bytes}\n");
+        front.push('\n')?;
+        return Ok(front);
     }
-    format!(in alloc; "{above}{slot:5}: {bytes}  {insn}{behind}\n")
+    insn_lines(alloc, image, marks, slot, front.as_str(), insn)
 }
 
 /// Writes a program: a line for each slot with its index, its bytes and the canonical text of its

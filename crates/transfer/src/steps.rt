@@ -142,6 +142,7 @@ fn swap_at(
 {
     let base = state.kind_of(place.base);
     let value = state.kind_of(source);
+    let next = state.slot + 1;
     swap(
         maps,
         state,
@@ -151,7 +152,7 @@ fn swap_at(
         width.size(),
         register,
     )?;
-    state.slot += 1;
+    state.slot = next;
     Ok(Ways::One)
 }
 
@@ -169,8 +170,9 @@ fn compare_at(
 {
     let base = state.kind_of(place.base);
     let value = state.kind_of(source);
+    let next = state.slot + 1;
     compare_and_swap(maps, state, value, base, place.offset, width.size())?;
-    state.slot += 1;
+    state.slot = next;
     Ok(Ways::One)
 }
 

@@ -1,6 +1,6 @@
 -- The values of arguments, limits, and command lines with more arguments and commands.
 use Rattle.std.proofs.Common.{◌≡◌, ◌∙◌, ◌<◌, ◌≤◌, ℕ, Bool, true, false, List, [], ◌∷◌, Option, Some, None, length, take, get_or, ◌+◌, map, refl, ap, ap₂, sym, arith, cond, ◌^◌, lt-ltb}
-use Rattle.std.specs.Prelude.{◌&&◌, not, option_map, option_and_then, slice_get, nat_le}
+use Rattle.std.specs.Prelude.{◌&&◌, not, option_map, option_and_then, slice_get, nat_le, Result, Ok, Err, IfOk, IsOkAnd}
 use Rattle.std.specs.List.{list_all, fold}
 use Rattle.std.specs.Int.{IsInRange}
 use Rattle.std.specs.Char.{is_ascii_digit}
@@ -131,6 +131,14 @@ pub command-more : (old sub new : Command) (a b : App) → AddsSubcommand old su
     → app_of sub ≡ b → b.top.is_plain ≡ true → app_of new ≡ with_command a b
 command-more old sub new a b added e f plain =
     added.shape (local _ _ _ _ (ap (λ (x : App). x.top.is_plain) f ∙ plain)) ∙ ap₂ with_command e f
+
+-- with one more command than a program that may not be there
+pub command-added : {E : Type 0} (old new : Result Command E) (a b : App)
+    → IfOk new (λ made. IsOkAnd old (λ before. app_of made ≡ with_command (app_of before) b))
+    → IfOk old (λ before. app_of before ≡ a) → IfOk new (λ made. app_of made ≡ with_command a b)
+command-added old (Err e) a b added is = tt
+command-added (Err e) (Ok made) a b added is = absurd added
+command-added (Ok before) (Ok made) a b added is = added ∙ ap (λ (x : App). with_command x b) is
 
 -- a command with more required arguments stays plain
 pub is_plain-wanted : (a : App) (names : List (List ℕ))

@@ -1,6 +1,6 @@
 //! The command line of the program, for clap.
 
-ghost use Rattle.std.specs.Prelude.{◌≡◌, false, map, IfOk};
+ghost use Rattle.std.specs.Prelude.{◌≡◌, false, map, IfOk, IsOkAnd};
 ghost use Rattle.clap.specs.Words.{app_of, rule_of, with_rule};
 ghost use Rattle.words.specs.CommandLine.{wanted, optional, command, running, with_command, empty_program, program};
 
@@ -151,34 +151,39 @@ fn running<'a>(
     with_choice(alloc, plain, choice)
 }
 
-// A program with one more command, of this name, that requires these arguments.
+// A program with one more command, of this name, that requires these arguments, unless memory ran
+// out before.
 fn with_command<'a>(
     alloc: Global,
-    program: Command<'a>,
+    program: Result<Command<'a>, AllocError>,
     name: &'static str,
     about: &'static str,
     arguments: &[Argument],
 ) -> Result<Command<'a>, AllocError>
-    ensures { IfOk result (λ made. app_of made ≡ with_command (app_of program.entry)
-        (command name.now (map (λ argument. argument.name.now) arguments.now))) }
+    ensures { IfOk result (λ made. IsOkAnd program.entry (λ before. app_of made
+        ≡ with_command (app_of before)
+        (command name.now (map (λ argument. argument.name.now) arguments.now)))) }
 {
+    let before = program?;
     let made = command(alloc, name, about, arguments)?;
-    program.subcommand(made)
+    before.subcommand(made)
 }
 
-// A program with one more command, of this name, that runs a program and takes this option.
+// A program with one more command, of this name, that runs a program and takes this option, unless
+// memory ran out before.
 fn with_running<'a>(
     alloc: Global,
-    program: Command<'a>,
+    program: Result<Command<'a>, AllocError>,
     name: &'static str,
     about: &'static str,
     choice: Choice,
 ) -> Result<Command<'a>, AllocError>
-    ensures { IfOk result (λ made. app_of made
-        ≡ with_command (app_of program.entry) (running name.now choice.name.now)) }
+    ensures { IfOk result (λ made. IsOkAnd program.entry (λ before. app_of made
+        ≡ with_command (app_of before) (running name.now choice.name.now))) }
 {
+    let before = program?;
     let made = running(alloc, name, about, choice)?;
-    program.subcommand(made)
+    before.subcommand(made)
 }
 
 // The program without its commands; it requires one.
@@ -197,12 +202,12 @@ fn empty_program<'a>(alloc: Global) -> Result<Command<'a>, AllocError>
 pub fn program<'a>(alloc: Global) -> Result<Command<'a>, AllocError>
     ensures { IfOk result (λ made. app_of made ≡ program) }
 {
-    let empty = empty_program(alloc)?;
-    let with_asm = with_command(alloc, empty, "asm", ASM_ABOUT, &[TEXT, MADE])?;
-    let with_dis = with_command(alloc, with_asm, "dis", DIS_ABOUT, &[IMAGE])?;
-    let with_verify = with_command(alloc, with_dis, "verify", VERIFY_ABOUT, &[IMAGE])?;
-    let with_run = with_running(alloc, with_verify, "run", RUN_ABOUT, INSTEAD)?;
-    let with_trace = with_running(alloc, with_run, "trace", TRACE_ABOUT, LIMIT)?;
-    let with_prove = with_command(alloc, with_trace, "prove", PROVE_ABOUT, &[IMAGE, PROVED])?;
+    let empty = empty_program(alloc);
+    let with_asm = with_command(alloc, empty, "asm", ASM_ABOUT, &[TEXT, MADE]);
+    let with_dis = with_command(alloc, with_asm, "dis", DIS_ABOUT, &[IMAGE]);
+    let with_verify = with_command(alloc, with_dis, "verify", VERIFY_ABOUT, &[IMAGE]);
+    let with_run = with_running(alloc, with_verify, "run", RUN_ABOUT, INSTEAD);
+    let with_trace = with_running(alloc, with_run, "trace", TRACE_ABOUT, LIMIT);
+    let with_prove = with_command(alloc, with_trace, "prove", PROVE_ABOUT, &[IMAGE, PROVED]);
     with_command(alloc, with_prove, "recheck", RECHECK_ABOUT, &[IMAGE, TABLE])
 }

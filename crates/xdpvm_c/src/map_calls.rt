@@ -5,10 +5,10 @@ ghost use Rattle.std.specs.List.{slice_get};
 ghost use Rattle.isa_model.specs.Machine.MapContents.{at_key};
 ghost use Rattle.machine.specs.BetweenRuns.{content_at, AnswersUpdate, AnswersDelete, ordered_at};
 ghost use Rattle.verdict_calls.specs.Crossing.{IsLookUp, IsChange};
-ghost use Rattle.session_calls.specs.Sessions.{HoldsOpen, FitsMap, StaysOpen, FitsKey};
+ghost use Rattle.held_machines.specs.OpenSessions.{HoldsOpen, FitsMap, StaysOpen, FitsKey};
 
 use held_machines::Session;
-use session_calls::map_calls::{Changed, delete_key, key_at_rank, look_up_key, update_key};
+use held_machines::map_calls::{Changed, delete_key, key_at_rank, look_up_key, update_key};
 use std::alloc::Global;
 
 /// Looks a key up in a map of an open program. Key and value have the sizes of the map's row.

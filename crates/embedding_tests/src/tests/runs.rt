@@ -17,7 +17,7 @@ fn ran(alloc: Global, image: &[u8], length: usize) -> (u32, u64, u32) {
 }
 
 /// An image, the packet's length, and what is returned.
-const RUNS: [(&[u8], usize, (u32, u64, u32)); 6] = [
+const RUNS: &[(&[u8], usize, (u32, u64, u32))] = &[
     (&PASS, 0, (0, 2, 2)),
     (&INTERFACE, 9216, (0, 7, 2)),
     (&PASS, 9217, (1, 9, 9)),
@@ -51,7 +51,7 @@ fn traced(alloc: Global, image: &[u8], length: usize, limit: u32) -> Traced {
 }
 
 /// An image, the packet's length and the limit, and what is returned.
-const TRACES: [(&[u8], usize, u32, Traced); 8] = [
+const TRACES: &[(&[u8], usize, u32, Traced)] = &[
     (&PASS, 64, 2, (0, 0, 2, 0, 2)),
     (&PASS, 64, 1, (0, 2, 0, 0, 1)),
     (&UNGUARDED, 13, 1_000_000, (0, 1, 0, 6, 1)),
@@ -118,7 +118,7 @@ fn streams_so(
 
 /// An image, a stream, the room for each output, and what is returned, with what is written of the
 /// report and of the frames out.
-const STREAMS: [(&[u8], &[u8], usize, (Returned, &[u8], &[u8])); 3] = [
+const STREAMS: &[(&[u8], &[u8], usize, (Returned, &[u8], &[u8]))] = &[
     (
         &PASS,
         FRAMES,

@@ -2,8 +2,8 @@
 
 use super::images::{ENDLESS, HEAD, INTERFACE, OTHER, PASS, UNGUARDED};
 use held_machines::Session;
+use held_machines::map_calls::{Changed, delete_key, key_at_rank, look_up_key, update_key};
 use run_calls::running::Ended;
-use session_calls::map_calls::{Changed, delete_key, key_at_rank, look_up_key, update_key};
 use session_calls::opening::{close_session, open_image, open_with_table, run_session};
 use std::alloc::Global;
 
@@ -107,7 +107,7 @@ fn called(alloc: Global, session: &mut Session, call: &Call) -> Returned {
 
 /// Calls, one after another on one session, and what each returns. bpf(2): EEXIST is 17, E2BIG 7,
 /// ENOENT 2, EINVAL 22.
-const CALLS: [(Call, Returned); 48] = [
+const CALLS: &[(Call, Returned)] = &[
     (Call::Run(64), (1, 9, 9)),
     (Call::Open(&INTERFACE), (0, 9, 0)),
     (Call::Open(&PASS), (1, 9, 0)),

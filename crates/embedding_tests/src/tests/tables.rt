@@ -54,7 +54,7 @@ fn rechecks_so(
 
 /// An image, a byte of the table by its index, and what is returned and said, as docs/REFUSALS.md
 /// shows it.
-const CHANGES: [(&[u8], usize, u8, (Tested, &str)); 11] = [
+const CHANGES: &[(&[u8], usize, u8, (Tested, &str))] = &[
     (&PASS, 0, 0x58, ((0, 2, 0, 0), "")),
     (&PASS, 8, 5, ((0, 5, 0, 0), "")),
     (

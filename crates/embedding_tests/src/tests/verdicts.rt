@@ -30,7 +30,7 @@ fn assembles_so(alloc: Global, text: &[u8], room: usize, wanted: &(Made, &[u8], 
 
 /// A text, the room for its image, and what is returned, with what is written of the image and of
 /// why there is none.
-const TEXTS: [(&[u8], usize, (Made, &[u8], &[u8])); 3] = [
+const TEXTS: &[(&[u8], usize, (Made, &[u8], &[u8]))] = &[
     (b"r0 = 2\nexit\n", 26, ((0, 24, 0, 0), &PASS, b"")),
     (
         b"r0 = 2\nexit\n",
@@ -82,7 +82,7 @@ fn judges_so(alloc: Global, image: &[u8], limit: u32, wanted: &(Judged, &str)) -
 /// An image and a limit of explored instructions, and what is returned and said: `PASS` has two
 /// instructions, and each is explored once. Without room for a text, what is known at the
 /// instruction is not looked for.
-const IMAGES: [(&[u8], u32, (Judged, &str)); 10] = [
+const IMAGES: &[(&[u8], u32, (Judged, &str))] = &[
     (&PASS, 1_000_000, ((0, 2, 0, 0), "")),
     (&PASS, 0, ((1, 9, 9, 9), "")),
     (&PASS, 1, ((6, 9, 9, 9), "")),
@@ -131,7 +131,7 @@ fn verifies(rt: HostRuntime) {
 }
 
 /// r0 of a run, and the number of the action that its low 32 bits name.
-const ACTIONS: [(u64, u32); 7] = [
+const ACTIONS: &[(u64, u32)] = &[
     (0, 0),
     (1, 1),
     (0x7_0000_0002, 2),
@@ -141,12 +141,16 @@ const ACTIONS: [(u64, u32); 7] = [
     (0xffff_ffff, 5),
 ];
 
+/// Whether the version is written, and nothing after it.
+fn writes_version() -> bool {
+    let mut version = [7; 6];
+    write_version(&mut version) == 5 && holds(&version, b"0.1.0")
+}
+
 #[test]
 fn names(rt: HostRuntime) {
     for (answer, action) in ACTIONS.iter() {
-        assert_eq!(rt; number_of_action(*answer), *action);
+        assert!(rt; number_of_action(*answer) == *action, "action {action}");
     }
-    let mut version = [7; 6];
-    assert_eq!(rt; write_version(&mut version), 5);
-    assert!(rt; version == *b"0.1.0\x07");
+    assert!(rt; writes_version());
 }

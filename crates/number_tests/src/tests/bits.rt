@@ -217,10 +217,17 @@ const TEN: Pair = (10, 0);
 
 const MINUS_ONE: Pair = (u64::MAX, 0);
 
+const ZERO: Pair = (0, 0);
+
+const ONE: Pair = (1, 0);
+
+/// One bit that is not known.
+const BIT: Pair = (0, 1);
+
 const GREAT: Pair = (0xffff_ffff_ffff_ff00, 0);
 
 /// A relation, two sets, and what it leaves of both.
-const RELATIONS: [(Relation, Pair, Pair, Option<(Pair, Pair)>); 15] = [
+const RELATIONS: [(Relation, Pair, Pair, Option<(Pair, Pair)>); 22] = [
     (Relation::Below, BYTE, TEN, Some(((0, 15), TEN))),
     (Relation::Below, TEN, (0, 7), None),
     // The numbers above one with leading ones have these too.
@@ -252,6 +259,13 @@ const RELATIONS: [(Relation, Pair, Pair, Option<(Pair, Pair)>); 15] = [
     ),
     (Relation::Overlapping, TEN, (5, 0), None),
     (Relation::Disjoint, TEN, TEN, None),
+    (Relation::Below, BIT, ONE, Some((ZERO, ONE))),
+    (Relation::AtMost, BIT, ZERO, Some((ZERO, ZERO))),
+    (Relation::Overlapping, BIT, ONE, Some((ONE, ONE))),
+    (Relation::Disjoint, BIT, ONE, Some((ZERO, ONE))),
+    (Relation::SignedBelow, BIT, ZERO, None),
+    (Relation::SignedBelow, ONE, BIT, None),
+    (Relation::AtMost, ANY, (9, 0), Some(((0, 15), (9, 0)))),
 ];
 
 /// What a relation leaves of two sets, where members are read at a width.

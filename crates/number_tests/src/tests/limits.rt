@@ -301,10 +301,14 @@ const TEN: Set = Set::One(10);
 
 const ZERO: Set = Set::One(0);
 
+const ONE: Set = Set::One(1);
+
+const BIT: Set = Set::Between(0, 1);
+
 const MINUS_TWO: Set = Set::One(u64::MAX - 1);
 
 /// A relation, two sets, and what it leaves of both.
-const RELATIONS: [(Relation, Set, Set, Option<(Set, Set)>); 15] = [
+const RELATIONS: [(Relation, Set, Set, Option<(Set, Set)>); 22] = [
     (Relation::Below, BYTE, TEN, Some((Set::Between(0, 9), TEN))),
     (
         Relation::Below,
@@ -350,6 +354,18 @@ const RELATIONS: [(Relation, Set, Set, Option<(Set, Set)>); 15] = [
     ),
     (Relation::Disjoint, TEN, TEN, None),
     (Relation::Disjoint, BYTE, TEN, Some((BYTE, TEN))),
+    (Relation::Below, BIT, ONE, Some((ZERO, ONE))),
+    (Relation::AtMost, BIT, ZERO, Some((ZERO, ZERO))),
+    (Relation::SignedBelow, BIT, ONE, Some((ZERO, ONE))),
+    (Relation::SignedAtMost, BIT, ZERO, Some((ZERO, ZERO))),
+    (Relation::Apart, BIT, ZERO, Some((ONE, ZERO))),
+    (Relation::Overlapping, BIT, ONE, Some((ONE, ONE))),
+    (
+        Relation::AtMost,
+        Set::Any,
+        Set::One(9),
+        Some((Set::Between(0, 9), Set::One(9))),
+    ),
 ];
 
 fn ranges_if(sets: Option<(Set, Set)>) -> Option<(Range, Range)> {

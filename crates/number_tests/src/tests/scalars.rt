@@ -1,12 +1,9 @@
-//! How sharp both domains together are: examples worked out by hand; and what a function over any
-//! domain does with each of them.
+//! How sharp both domains together are: examples worked out by hand.
 
 use super::chains::{Change, Look, Row, Set, are_seen, refined, set_of};
 use super::operations::Unary;
 use isa_model::{AluOp, ByteOrder, Comparison, Extension, SwapWidth, Width};
-use known_bits::Bits;
-use ranges::Range;
-use reg_state::{Domain, Scalar, refine};
+use reg_state::{Domain, Scalar};
 use std::test::Fail;
 
 const FULL: Width = Width::Full64;
@@ -244,87 +241,25 @@ const ZERO: Option<Limits> = Some((0, 0));
 
 const ONE: Option<Limits> = Some((1, 1));
 
-/// What known bits leave.
-const BITS: [Narrowing; 7] = [
-    (Comparison::Less, true, BIT, 1, ZERO),
-    (Comparison::LessEqual, true, BIT, 0, ZERO),
-    (Comparison::AnyBit, true, BIT, 1, ONE),
-    (Comparison::AnyBit, false, BIT, 1, ZERO),
-    (Comparison::SignedLess, true, BIT, 0, None),
-    (Comparison::SignedLessEqual, false, BIT, 1, None),
-    (Comparison::LessEqual, true, ANY, 9, Some((0, 9))),
-];
-
-/// What limits leave.
-const LIMITS: [Narrowing; 7] = [
+/// What both domains leave; the tables of each domain have its own part.
+const NARROWINGS: [Narrowing; 10] = [
     (Comparison::Less, true, BIT, 1, ZERO),
     (Comparison::LessEqual, true, BIT, 0, ZERO),
     (Comparison::SignedLess, true, BIT, 1, ZERO),
+    (Comparison::SignedLess, true, BIT, 0, None),
     (Comparison::SignedLessEqual, true, BIT, 0, ZERO),
+    (Comparison::SignedLessEqual, false, BIT, 1, None),
     (Comparison::NotEqual, true, BIT, 0, ONE),
     (Comparison::AnyBit, true, BIT, 1, ONE),
+    (Comparison::AnyBit, false, BIT, 1, ZERO),
     (Comparison::LessEqual, true, ANY, 9, Some((0, 9))),
 ];
-
-// The same function for each domain, without a type parameter: a call of a function over any domain
-// costs as much as the whole trait.
-fn bits_between(limits: Limits) -> Bits {
-    let (least, greatest) = limits;
-    if least <= greatest {
-        Bits::between(least, greatest)
-    } else {
-        Bits::any(FULL)
-    }
-}
-
-fn narrows_bits(row: &Narrowing) -> bool {
-    let (comparison, goes, limits, number, wanted) = row;
-    match refine(
-        *comparison,
-        FULL,
-        *goes,
-        bits_between(*limits),
-        Bits::constant(*number),
-    ) {
-        Some((left, _)) => match wanted {
-            Some(wanted) => left == bits_between(*wanted),
-            None => false,
-        },
-        None => wanted.is_none(),
-    }
-}
-
-fn range_between(limits: Limits) -> Range {
-    let (least, greatest) = limits;
-    if least <= greatest {
-        Range::between(least, greatest)
-    } else {
-        Range::any(FULL)
-    }
-}
-
-fn narrows_range(row: &Narrowing) -> bool {
-    let (comparison, goes, limits, number, wanted) = row;
-    match refine(
-        *comparison,
-        FULL,
-        *goes,
-        range_between(*limits),
-        Range::constant(*number),
-    ) {
-        Some((left, _)) => match wanted {
-            Some(wanted) => left == range_between(*wanted),
-            None => false,
-        },
-        None => wanted.is_none(),
-    }
-}
 
 fn between(limits: Limits) -> Scalar {
     set_of(&Set::Between(limits.0, limits.1))
 }
 
-fn narrows_both(row: &Narrowing) -> bool {
+fn narrows(row: &Narrowing) -> bool {
     let (comparison, goes, limits, number, wanted) = row;
     match refined(*comparison, FULL, *goes, between(*limits), *number) {
         Some(left) => match wanted {
@@ -336,12 +271,8 @@ fn narrows_both(row: &Narrowing) -> bool {
 }
 
 #[test]
-fn each_domain_narrows(rt: HostRuntime) {
-    for row in BITS.iter() {
-        assert!(rt; narrows_bits(row), "{row:?}");
-    }
-    for row in LIMITS.iter() {
-        assert!(rt; narrows_range(row), "{row:?}");
-        assert!(rt; narrows_both(row), "{row:?}");
+fn both_domains_narrow(rt: HostRuntime) {
+    for row in NARROWINGS.iter() {
+        assert!(rt; narrows(row), "{row:?}");
     }
 }

@@ -5,55 +5,114 @@ use reg_state::{Domain, Kind, Scalar};
 use stack_state::{StackSlot, StackState};
 use std::process::Abort;
 
+/// A set of numbers.
+enum Numbers {
+    One(u64),
+    /// Those of 32 bits.
+    Short,
+    Any,
+}
+
+fn numbers_of(numbers: &Numbers) -> Scalar {
+    match numbers {
+        Numbers::One(number) => Scalar::constant(*number),
+        Numbers::Short => Scalar::between(0, 0xffff_ffff),
+        Numbers::Any => Scalar::any(Width::Full64),
+    }
+}
+
+/// What a stack slot holds; values and look-ups are of a map.
+enum Held {
+    Unset,
+    Context,
+    PacketEnd,
+    Numbers(Numbers),
+    Map(u8),
+    Value(u8),
+    LookedUp(u8),
+}
+
+fn kind_of(held: &Held) -> Kind {
+    match held {
+        Held::Unset => Kind::Unset,
+        Held::Context => Kind::Context,
+        Held::PacketEnd => Kind::PacketEnd,
+        Held::Numbers(numbers) => Kind::Number(numbers_of(numbers)),
+        Held::Map(index) => Kind::Map { index: *index },
+        Held::Value(index) => Kind::MapValue {
+            index: *index,
+            least: 0,
+            greatest: 0,
+        },
+        Held::LookedUp(index) => Kind::MapValueOrNull {
+            index: *index,
+            identity: 1,
+        },
+    }
+}
+
 /// What is done to a call frame.
-#[derive(Clone, Copy)]
 enum Act {
-    Spill(usize, Kind),
+    Spill(usize, Held),
     Store(usize, Size),
-    StoreNumber(usize, Size, Scalar),
+    StoreNumber(usize, Size, Numbers),
     ForgetMap(u8),
 }
 
-/// What is looked at in a call frame, and what is wanted there.
-#[derive(Clone, Copy)]
-enum Look {
-    StackSlot(usize, StackSlot),
-    Fill(usize, Option<Kind>),
-    Load(usize, Size, Option<Scalar>),
-    IsBytes(usize, usize, bool),
+fn act_on(stack: &mut StackState, act: &Act) {
+    match act {
+        Act::Spill(slot, held) => {
+            if *slot < 64 {
+                stack.spill(*slot, kind_of(held));
+            }
+        }
+        Act::Store(at, size) => {
+            if *at < 512 && *at % 8 + size.bytes() <= 8 {
+                stack.store(*at, *size);
+            }
+        }
+        Act::StoreNumber(at, size, numbers) => {
+            if *at < 512 && *at % 8 + size.bytes() <= 8 {
+                stack.store_number(*at, *size, numbers_of(numbers));
+            }
+        }
+        Act::ForgetMap(map) => stack.forget_map(*map),
+    }
 }
 
 fn after(acts: &[Act]) -> StackState {
     let mut stack = StackState::new();
     for act in acts {
-        match act {
-            Act::Spill(slot, kind) => {
-                if *slot < 64 {
-                    stack.spill(*slot, *kind);
-                }
-            }
-            Act::Store(at, size) => {
-                if *at < 512 && *at % 8 + size.bytes() <= 8 {
-                    stack.store(*at, *size);
-                }
-            }
-            Act::StoreNumber(at, size, numbers) => {
-                if *at < 512 && *at % 8 + size.bytes() <= 8 {
-                    stack.store_number(*at, *size, *numbers);
-                }
-            }
-            Act::ForgetMap(map) => stack.forget_map(*map),
-        }
+        act_on(&mut stack, act);
     }
     stack
 }
 
+/// What is looked at in a call frame, and what is wanted there.
+enum Look {
+    /// The bytes of a stack slot that are written, if no kind is known of it.
+    Written(usize, u8),
+    Fill(usize, Held),
+    NoFill(usize),
+    Load(usize, Size, Numbers),
+    NoLoad(usize, Size),
+    IsBytes(usize, usize, bool),
+}
+
 fn is_shown(stack: &StackState, look: &Look) -> bool {
     match look {
-        Look::StackSlot(slot, wanted) => stack.slots.get(*slot) == Some(wanted),
-        Look::Fill(slot, wanted) => *slot < 64 && stack.fill(*slot) == *wanted,
-        Look::Load(at, size, wanted) => {
-            *at < 512 && *at % 8 + size.bytes() <= 8 && stack.load(*at, *size) == *wanted
+        Look::Written(slot, marks) => {
+            stack.slots.get(*slot) == Some(&StackSlot::Written(*marks))
+        }
+        Look::Fill(slot, held) => *slot < 64 && stack.fill(*slot) == Some(kind_of(held)),
+        Look::NoFill(slot) => *slot < 64 && stack.fill(*slot).is_none(),
+        Look::Load(at, size, numbers) => {
+            *at < 512
+                && *at % 8 + size.bytes() <= 8
+                && stack.load(*at, *size) == Some(numbers_of(numbers))
+        }
+        Look::NoLoad(at, size) => {
+            *at < 512 && *at % 8 + size.bytes() <= 8 && stack.load(*at, *size).is_none()
         }
         Look::IsBytes(from, count, wanted) => {
             *from <= 512 && *count <= 512 - *from && stack.is_bytes(*from, *count) == *wanted
@@ -61,202 +120,213 @@ fn is_shown(stack: &StackState, look: &Look) -> bool {
     }
 }
 
-fn are_shown(rt: &impl Abort, acts: &[Act], looks: &[Look]) {
-    let stack = after(acts);
-    for (index, look) in looks.iter().enumerate() {
-        assert!(rt; is_shown(&stack, look), "look {index}");
+/// What is done to a call frame, and what is then known of it.
+type Row = (&'static [Act], &'static [Look]);
+
+fn is_row_shown(rt: &impl Abort, index: usize, row: &Row) {
+    let (acts, looks) = row;
+    let stack = after(*acts);
+    for (at, look) in looks.iter().enumerate() {
+        assert!(rt; is_shown(&stack, look), "row {index}, look {at}");
+    }
+}
+
+fn are_shown(rt: &impl Abort, rows: &[Row]) {
+    for (index, row) in rows.iter().enumerate() {
+        is_row_shown(rt, index, row);
     }
 }
 
 /// Which bytes of slot 2 are written after a store.
-#[test]
-fn each_size_at_each_place(rt: HostRuntime) {
-    for byte in 0..8usize {
-        let marks = Look::StackSlot(2, StackSlot::Written(1u8 << byte));
-        are_shown(&rt, &[Act::Store(16 + byte, Size::U8)], &[marks]);
-    }
-    for (at, size, marks) in [
-        (16, Size::U16, 0x03),
-        (18, Size::U16, 0x0c),
-        (20, Size::U16, 0x30),
-        (22, Size::U16, 0xc0),
-        (16, Size::U32, 0x0f),
-        (20, Size::U32, 0xf0),
-        (16, Size::U64, 0xff),
-        (15, Size::U8, 0),
-        (24, Size::U64, 0),
-    ] {
-        let marks = Look::StackSlot(2, StackSlot::Written(marks));
-        are_shown(&rt, &[Act::Store(at, size)], &[marks]);
-    }
-}
+#[rattlefmt::skip]
+const STORES: [Row; 17] = [
+    (&[Act::Store(16, Size::U8)], &[Look::Written(2, 0x01)]),
+    (&[Act::Store(17, Size::U8)], &[Look::Written(2, 0x02)]),
+    (&[Act::Store(18, Size::U8)], &[Look::Written(2, 0x04)]),
+    (&[Act::Store(19, Size::U8)], &[Look::Written(2, 0x08)]),
+    (&[Act::Store(20, Size::U8)], &[Look::Written(2, 0x10)]),
+    (&[Act::Store(21, Size::U8)], &[Look::Written(2, 0x20)]),
+    (&[Act::Store(22, Size::U8)], &[Look::Written(2, 0x40)]),
+    (&[Act::Store(23, Size::U8)], &[Look::Written(2, 0x80)]),
+    (&[Act::Store(16, Size::U16)], &[Look::Written(2, 0x03)]),
+    (&[Act::Store(18, Size::U16)], &[Look::Written(2, 0x0c)]),
+    (&[Act::Store(20, Size::U16)], &[Look::Written(2, 0x30)]),
+    (&[Act::Store(22, Size::U16)], &[Look::Written(2, 0xc0)]),
+    (&[Act::Store(16, Size::U32)], &[Look::Written(2, 0x0f)]),
+    (&[Act::Store(20, Size::U32)], &[Look::Written(2, 0xf0)]),
+    (&[Act::Store(16, Size::U64)], &[Look::Written(2, 0xff)]),
+    (&[Act::Store(15, Size::U8)], &[Look::Written(2, 0)]),
+    (&[Act::Store(24, Size::U64)], &[Look::Written(2, 0)]),
+];
 
 #[test]
-fn a_pointer_is_read_whole(rt: HostRuntime) {
-    are_shown(
-        &rt,
-        &[Act::Spill(3, Kind::Context)],
+fn each_size_at_each_place(rt: HostRuntime) {
+    are_shown(&rt, &STORES);
+}
+
+const POINTERS: [Row; 2] = [
+    (
+        &[Act::Spill(3, Held::Context)],
         &[
-            Look::Fill(3, Some(Kind::Context)),
-            Look::Fill(2, None),
-            Look::Load(24, Size::U64, None),
-            Look::Load(28, Size::U32, None),
+            Look::Fill(3, Held::Context),
+            Look::NoFill(2),
+            Look::NoLoad(24, Size::U64),
+            Look::NoLoad(28, Size::U32),
         ],
-    );
-    are_shown(
-        &rt,
-        &[Act::Spill(3, Kind::Context), Act::Store(25, Size::U8)],
+    ),
+    (
+        &[Act::Spill(3, Held::Context), Act::Store(25, Size::U8)],
         &[
-            Look::StackSlot(3, StackSlot::Written(2)),
-            Look::Fill(3, None),
+            Look::Written(3, 2),
+            Look::NoFill(3),
             Look::IsBytes(25, 1, true),
             Look::IsBytes(24, 2, false),
         ],
-    );
-}
+    ),
+];
 
 #[test]
-fn a_number_is_read_in_part(rt: HostRuntime) {
-    let seven = Scalar::constant(7);
-    let number = Kind::Number(seven);
-    are_shown(
-        &rt,
-        &[Act::Spill(3, number), Act::Spill(4, Kind::PacketEnd)],
+fn a_pointer_is_read_whole(rt: HostRuntime) {
+    are_shown(&rt, &POINTERS);
+}
+
+const SEVEN: Held = Held::Numbers(Numbers::One(7));
+
+const NUMBERS: [Row; 3] = [
+    (
+        &[Act::Spill(3, SEVEN), Act::Spill(4, Held::PacketEnd)],
         &[
-            Look::Fill(3, Some(number)),
-            Look::Load(24, Size::U64, Some(seven)),
-            Look::Load(24, Size::U8, Some(seven)),
-            Look::Load(26, Size::U16, Some(Scalar::constant(0))),
-            // bytes of two slots; the second has a pointer
+            Look::Fill(3, SEVEN),
+            Look::Load(24, Size::U64, Numbers::One(7)),
+            Look::Load(24, Size::U8, Numbers::One(7)),
+            Look::Load(26, Size::U16, Numbers::One(0)),
+            // Bytes of two slots; the second has a pointer.
             Look::IsBytes(28, 8, false),
         ],
-    );
-    are_shown(
-        &rt,
-        &[Act::Spill(3, number), Act::Spill(4, number)],
+    ),
+    (
+        &[Act::Spill(3, SEVEN), Act::Spill(4, SEVEN)],
         &[
             Look::IsBytes(28, 8, true),
             Look::IsBytes(24, 16, true),
             Look::IsBytes(24, 17, false),
         ],
-    );
-    are_shown(
-        &rt,
-        &[Act::Spill(3, number), Act::Store(24, Size::U32)],
-        &[Look::StackSlot(3, StackSlot::Written(255))],
-    );
+    ),
+    (
+        &[Act::Spill(3, SEVEN), Act::Store(24, Size::U32)],
+        &[Look::Written(3, 255)],
+    ),
+];
+
+#[test]
+fn a_number_is_read_in_part(rt: HostRuntime) {
+    are_shown(&rt, &NUMBERS);
 }
 
+const MOST: Held = Held::Numbers(Numbers::One(u64::MAX));
+
 /// A number is spilled, and then some of its bytes are overwritten.
-fn is_changed(rt: &impl Abort, old: u64, (at, size): (usize, Size), new: u64, wanted: u64) {
-    are_shown(
-        rt,
+#[rattlefmt::skip]
+const CHANGES: [Row; 7] = [
+    (
+        &[Act::Spill(3, SEVEN), Act::StoreNumber(24, Size::U32, Numbers::One(5))],
+        &[Look::Fill(3, Held::Numbers(Numbers::One(5)))],
+    ),
+    (
+        &[Act::Spill(3, SEVEN), Act::StoreNumber(28, Size::U32, Numbers::One(1))],
+        &[Look::Fill(3, Held::Numbers(Numbers::One(0x1_0000_0007)))],
+    ),
+    (
+        &[Act::Spill(3, SEVEN), Act::StoreNumber(28, Size::U32, Numbers::One(0x3_0000_0001))],
+        &[Look::Fill(3, Held::Numbers(Numbers::One(0x1_0000_0007)))],
+    ),
+    (
+        &[Act::Spill(3, MOST), Act::StoreNumber(24, Size::U32, Numbers::One(0))],
+        &[Look::Fill(3, Held::Numbers(Numbers::One(0xffff_ffff_0000_0000)))],
+    ),
+    (
+        &[Act::Spill(3, MOST), Act::StoreNumber(31, Size::U8, Numbers::One(1))],
+        &[Look::Fill(3, Held::Numbers(Numbers::One(0x01ff_ffff_ffff_ffff)))],
+    ),
+    (
         &[
-            Act::Spill(3, Kind::Number(Scalar::constant(old))),
-            Act::StoreNumber(at, size, Scalar::constant(new)),
+            Act::Spill(3, Held::Numbers(Numbers::One(0x1122_3344))),
+            Act::StoreNumber(26, Size::U16, Numbers::One(0x5566)),
         ],
-        &[Look::Fill(3, Some(Kind::Number(Scalar::constant(wanted))))],
-    );
-}
+        &[Look::Fill(3, Held::Numbers(Numbers::One(0x5566_3344)))],
+    ),
+    (
+        &[Act::Spill(3, SEVEN), Act::StoreNumber(24, Size::U64, Numbers::One(9))],
+        &[Look::Fill(3, Held::Numbers(Numbers::One(9)))],
+    ),
+];
 
 #[test]
 fn a_number_changes_in_part(rt: HostRuntime) {
-    for (old, part, new, wanted) in [
-        (7, (24, Size::U32), 5, 5),
-        (7, (28, Size::U32), 1, 0x1_0000_0007),
-        (7, (28, Size::U32), 0x3_0000_0001, 0x1_0000_0007),
-        (u64::MAX, (24, Size::U32), 0, 0xffff_ffff_0000_0000),
-        (u64::MAX, (31, Size::U8), 1, 0x01ff_ffff_ffff_ffff),
-        (0x1122_3344, (26, Size::U16), 0x5566, 0x5566_3344),
-        (7, (24, Size::U64), 9, 9),
-    ] {
-        is_changed(&rt, old, part, new, wanted);
-    }
+    are_shown(&rt, &CHANGES);
 }
+
+#[rattlefmt::skip]
+const HALVES: [Row; 5] = [
+    (&[Act::StoreNumber(24, Size::U32, Numbers::One(1))], &[Look::Written(3, 0x0f)]),
+    (
+        &[Act::Store(24, Size::U32), Act::StoreNumber(28, Size::U32, Numbers::One(1))],
+        &[Look::Load(28, Size::U32, Numbers::One(1)), Look::Load(24, Size::U32, Numbers::Short)],
+    ),
+    (
+        &[Act::Store(24, Size::U64), Act::StoreNumber(28, Size::U32, Numbers::Any)],
+        &[Look::Written(3, 255)],
+    ),
+    (
+        &[Act::Store(24, Size::U64), Act::StoreNumber(28, Size::U32, Numbers::Short)],
+        &[Look::Written(3, 255)],
+    ),
+    (
+        &[Act::Spill(3, Held::Context), Act::StoreNumber(25, Size::U8, Numbers::One(1))],
+        &[Look::Written(3, 2)],
+    ),
+];
 
 #[test]
 fn a_half_beside_any_half(rt: HostRuntime) {
-    let one = Scalar::constant(1);
-    let any = Scalar::any(Width::Full64);
-    let half = Scalar::between(0, 0xffff_ffff);
-    are_shown(
-        &rt,
-        &[Act::StoreNumber(24, Size::U32, one)],
-        &[Look::StackSlot(3, StackSlot::Written(0x0f))],
-    );
-    are_shown(
-        &rt,
-        &[
-            Act::Store(24, Size::U32),
-            Act::StoreNumber(28, Size::U32, one),
-        ],
-        &[
-            Look::Load(28, Size::U32, Some(one)),
-            Look::Load(24, Size::U32, Some(half)),
-        ],
-    );
-    for numbers in [any, half] {
-        are_shown(
-            &rt,
-            &[
-                Act::Store(24, Size::U64),
-                Act::StoreNumber(28, Size::U32, numbers),
-            ],
-            &[Look::StackSlot(3, StackSlot::Written(255))],
-        );
-    }
-    are_shown(
-        &rt,
-        &[
-            Act::Spill(3, Kind::Context),
-            Act::StoreNumber(25, Size::U8, one),
-        ],
-        &[Look::StackSlot(3, StackSlot::Written(2))],
-    );
+    are_shown(&rt, &HALVES);
 }
+
+const ANY: Held = Held::Numbers(Numbers::Any);
+
+const UNKNOWN: [Row; 1] = [(
+    &[Act::Spill(0, ANY), Act::Spill(63, Held::Unset)],
+    &[
+        Look::Written(0, 255),
+        Look::Fill(0, ANY),
+        Look::Written(63, 0),
+    ],
+)];
 
 #[test]
 fn an_unknown_number_is_written_bytes(rt: HostRuntime) {
-    let any = Kind::Number(Scalar::any(Width::Full64));
-    are_shown(
-        &rt,
-        &[Act::Spill(0, any), Act::Spill(63, Kind::Unset)],
-        &[
-            Look::StackSlot(0, StackSlot::Written(255)),
-            Look::Fill(0, Some(any)),
-            Look::StackSlot(63, StackSlot::Written(0)),
-        ],
-    );
+    are_shown(&rt, &UNKNOWN);
 }
 
-/// The kind after a look-up in a map.
-fn looked_up(index: u8) -> Kind {
-    Kind::MapValueOrNull { index, identity: 1 }
-}
+const FORGOTTEN: [Row; 1] = [(
+    &[
+        Act::Spill(0, Held::Value(1)),
+        Act::Spill(1, Held::LookedUp(1)),
+        Act::Spill(2, Held::LookedUp(2)),
+        Act::Spill(3, Held::Map(1)),
+        Act::Store(32, Size::U16),
+        Act::ForgetMap(1),
+    ],
+    &[
+        Look::NoFill(0),
+        Look::Written(1, 0),
+        Look::Fill(2, Held::LookedUp(2)),
+        Look::Fill(3, Held::Map(1)),
+        Look::IsBytes(32, 2, true),
+    ],
+)];
 
 #[test]
 fn a_map_is_forgotten(rt: HostRuntime) {
-    let value = Kind::MapValue {
-        index: 1,
-        least: 0,
-        greatest: 0,
-    };
-    are_shown(
-        &rt,
-        &[
-            Act::Spill(0, value),
-            Act::Spill(1, looked_up(1)),
-            Act::Spill(2, looked_up(2)),
-            Act::Spill(3, Kind::Map { index: 1 }),
-            Act::Store(32, Size::U16),
-            Act::ForgetMap(1),
-        ],
-        &[
-            Look::Fill(0, None),
-            Look::StackSlot(1, StackSlot::Written(0)),
-            Look::Fill(2, Some(looked_up(2))),
-            Look::Fill(3, Some(Kind::Map { index: 1 })),
-            Look::IsBytes(32, 2, true),
-        ],
-    );
+    are_shown(&rt, &FORGOTTEN);
 }

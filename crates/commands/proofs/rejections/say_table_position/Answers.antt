@@ -12,3 +12,9 @@ returns-in_ok-say_step-in-Step-clause-err g c =
     c.in_ok-say_step-in-Step.ensures.ok
     (err_text _ _ _ _ (transfer.sentence_of c.in-Step.refusal ++ codes "\n")
     (ap (λ (l : List ℕ). l ++ codes "\n") c.sentence.ensures) c.write_texts.ensures.err))
+
+pub returns-in-Successor-clause-ok : goal.returns-in-Successor-clause-ok
+returns-in-Successor-clause-ok g c = rw c.in-Successor.is c.say_step-in-Successor.ensures.ok
+
+pub returns-in-Successor-clause-err : goal.returns-in-Successor-clause-err
+returns-in-Successor-clause-err g c = rw c.in-Successor.is c.say_step-in-Successor.ensures.err

@@ -1,6 +1,6 @@
 use Rattle.std.proofs.Common.{◌++◌, subst}
 use Rattle.exact_io.specs.Transfers.{AppendsBeginning}
-use Rattle.commands.proofs.Written.{on_err, on_err_too, first_failed, second_failed}
+use Rattle.commands.proofs.Written.{on_err, on_err_too, ok_text, ok_behind, first_failed, second_failed}
 use Rattle.commands.proofs.texts.write_texts.Goals as goal
 
 pub returns-in_err-write_bytes-2-clause-err : goal.returns-in_err-write_bytes-2-clause-err
@@ -24,3 +24,18 @@ returns-clause-err g c =
     c.in_ok-write_bytes-2.ensures.ok
     (subst (AppendsBeginning _ _) c.as_bytes-3.ensures.value failed)))
     c.write_bytes-3.ensures.err
+
+pub returns-clause-ok : goal.returns-clause-ok
+returns-clause-ok g c =
+    ok_behind _ _ _ _ c.args.front.now
+    (c.args.name.now ++ c.args.back.now) _ c.as_bytes.ensures.value c.in_ok-write_bytes.ensures.ok
+    (ok_behind _ _ _ _ c.args.name.now c.args.back.now _ c.as_bytes-2.ensures.value
+    c.in_ok-write_bytes-2.ensures.ok
+    (ok_text _ _ _ _ c.args.back.now c.as_bytes-3.ensures.value c.write_bytes-3.ensures.ok))
+
+pub returns-in_err-write_bytes-clause-err : goal.returns-in_err-write_bytes-clause-err
+returns-in_err-write_bytes-clause-err g c =
+    on_err _ _
+    (first_failed _ _ c.args.front.now
+    (c.args.name.now ++ c.args.back.now) _ c.as_bytes.ensures.value
+    c.in_err-write_bytes.ensures.err)

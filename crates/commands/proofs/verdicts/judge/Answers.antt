@@ -1,4 +1,4 @@
-use Rattle.std.proofs.Common.{◌∙◌, ap}
+use Rattle.std.proofs.Common.{◌∙◌, ap, rules}
 use Rattle.isa_model.specs.{Program, fetch}
 use Rattle.commands.proofs.Refusing.{program_refused}
 use Rattle.commands.proofs.verdicts.judge.Goals as goal
@@ -9,3 +9,15 @@ returns-clause-refused g c =
     (c.copied-insn.ensures
     ∙ (c.at.ensures ∙ ap (λ (p : Program). fetch p c.in-Err.slot) c.in-Ok.ensures))
     c.of_program.ensures.outcome c.say_refused-outcome.ensures
+
+pub returns-in-Ok-verify_shown-clause-program : goal.returns-in-Ok-verify_shown-clause-program
+returns-in-Ok-verify_shown-clause-program g c = search rules
+
+pub returns-in-Ok-verify_shown-clause-verified : goal.returns-in-Ok-verify_shown-clause-verified
+returns-in-Ok-verify_shown-clause-verified g c = search rules
+
+pub returns-in-Ok-verify_shown-clause-number : goal.returns-in-Ok-verify_shown-clause-number
+returns-in-Ok-verify_shown-clause-number g c = search rules
+
+pub returns-in-Ok-verify_shown-clause-bounds : goal.returns-in-Ok-verify_shown-clause-bounds
+returns-in-Ok-verify_shown-clause-bounds g c = search rules

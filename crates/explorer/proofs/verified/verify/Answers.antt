@@ -4,8 +4,20 @@ use Rattle.explorer.proofs.verified.verify.Goals as goal
 pub verify_with-requires : goal.verify_with-requires
 verify_with-requires c = record { untold = (start, tt) }
 
+pub returns-in-Ok-clause-program : goal.returns-in-Ok-clause-program
+returns-in-Ok-clause-program c = c.in-Ok.ensures.program
+
+pub returns-in-Ok-clause-verified : goal.returns-in-Ok-clause-verified
+returns-in-Ok-clause-verified c = c.in-Ok.ensures.verified
+
 pub returns-in-Ok-clause-refused : goal.returns-in-Ok-clause-refused
 returns-in-Ok-clause-refused c = tt
 
+pub returns-in-Ok-clause-number : goal.returns-in-Ok-clause-number
+returns-in-Ok-clause-number c = c.in-Ok.ensures.number
+
 pub returns-in-Ok-clause-accepts : goal.returns-in-Ok-clause-accepts
 returns-in-Ok-clause-accepts c = tt
+
+pub returns-in-Ok-clause-bounds : goal.returns-in-Ok-clause-bounds
+returns-in-Ok-clause-bounds c = c.in-Ok.ensures.bounds

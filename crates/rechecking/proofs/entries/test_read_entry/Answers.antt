@@ -1,10 +1,13 @@
 use Rattle.std.proofs.Common.{refl}
 use Rattle.table_entries.specs.Entries.{entry_of}
 use Rattle.table_entries.specs.Tables.{entry_at}
-use Rattle.table_entries.proofs.GrowingLaws.{Grows-then}
+use Rattle.table_entries.proofs.GrowingLaws.{Grows-same, Grows-then, MayGrow-more}
 use Rattle.rechecking.proofs.CheckingLaws.{IsClosedEntry-follows, fine_of, refused_step, unnamed_step}
 use Rattle.rechecking.proofs.GrowingLaws.{HasEntry-grows}
 use Rattle.rechecking.proofs.entries.test_read_entry.Goals as goal
+
+pub returns-in-Err-clause-grows : goal.returns-in-Err-clause-grows
+returns-in-Err-clause-grows c = Grows-same c.args.image.now c.args.growing.now
 
 pub returns-in-Err-clause-refused : goal.returns-in-Err-clause-refused
 returns-in-Err-clause-refused c =
@@ -33,6 +36,16 @@ returns-in-Some-clause-fine c =
 pub returns-in-Some-clause-known : goal.returns-in-Some-clause-known
 returns-in-Some-clause-known c = c.in-Some.ensures.known c.args.room.now
 
+pub place_named-requires : goal.place_named-requires
+place_named-requires c =
+    MayGrow-more c.args.image.now c.args.growing.now c.next_follows.new.growing
+    c.next_follows.ensures.grows c.requires.may
+
+pub returns-in-Some-follows-clause-grows : goal.returns-in-Some-follows-clause-grows
+returns-in-Some-follows-clause-grows c =
+    Grows-then c.args.image.now c.args.growing.now c.next_follows.new.growing
+    c.place_named.new.growing c.next_follows.ensures.grows c.place_named.ensures
+
 pub returns-in-Some-follows-clause-fine : goal.returns-in-Some-follows-clause-fine
 returns-in-Some-follows-clause-fine c =
     let p = c.args.image.now in
@@ -50,6 +63,15 @@ returns-in-Some-follows-clause-fine c =
     (entry_at p h.table) e c.in-Ok.ways c.step_in_place.new.state c.step_in_place.new.other
     allowed.some allowed.most c.in-Ok.ensures.leads
     (rw c.placed.ensures at c.in-Some-follows.ensures.yes))
+
+pub returns-in-Some-follows-clause-known : goal.returns-in-Some-follows-clause-known
+returns-in-Some-follows-clause-known c =
+    rw c.placed.ensures at c.in-Some-follows.ensures.known
+
+pub returns-in-None-clause-grows : goal.returns-in-None-clause-grows
+returns-in-None-clause-grows c =
+    Grows-then c.args.image.now c.args.growing.now c.next_follows.new.growing
+    c.place_named.new.growing c.next_follows.ensures.grows c.place_named.ensures
 
 pub returns-in-None-clause-refused : goal.returns-in-None-clause-refused
 returns-in-None-clause-refused c =

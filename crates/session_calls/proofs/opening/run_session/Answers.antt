@@ -1,7 +1,13 @@
-use Rattle.std.proofs.Common.{◌∙◌, ℕ, Some, sym, ap, subst}
+use Rattle.std.proofs.Common.{◌∙◌, ℕ, Some, arith, sym, ap, subst}
 use Rattle.isa_model.specs.declared.frames.FrameHead.{FrameHead}
 use Rattle.machine.specs.Running.{Running, ReturnsOutcome}
 use Rattle.session_calls.proofs.opening.run_session.Goals as goal
+
+pub run-exit-requires : goal.run-exit-requires
+run-exit-requires c = omega arith
+
+pub returns-clause-wrong : goal.returns-clause-wrong
+returns-clause-wrong c = grind arith
 
 pub returns-clause-ran : goal.returns-clause-ran
 returns-clause-ran c = λ _.

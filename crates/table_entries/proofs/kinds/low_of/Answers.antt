@@ -16,5 +16,9 @@ returns-then-signed_greatest-signed_least c =
     sym (low_of-none a.least a.greatest a.signed_least a.signed_greatest
     (λ o p. omega (arith, ints)))
 
+pub invariant_of-result : goal.invariant_of-result
+invariant_of-result c =
+    record { ordered = omega arith; signed_ordered = omega (arith, ints) }
+
 pub returns : goal.returns
 returns c = low_of-made _ _ _ _ _ _ _ _ (omega (arith, ints)) (omega (arith, ints))

@@ -1,21 +1,15 @@
-use Rattle.std.proofs.Common.{◌≡◌, ◌∙◌, ap}
-use Rattle.std.proofs.lemmas.Result.{IfOk-weaker}
-use Rattle.clap.specs.Words.{App}
 use Rattle.words.specs.CommandLine as line
-use Rattle.words.specs.CommandLine.{with_command}
+use Rattle.words.proofs.Words.{command-added}
 use Rattle.words.proofs.command_line.program.Goals as goal
 
 pub returns : goal.returns
 unfolding line.program line.asm line.dis line.verify line.run line.trace line.prove line.recheck
 returns c =
-    let more : (a b : App) (command : App) → a ≡ b
-    → with_command a command ≡ with_command b command =
-    λ a b command h. ap (λ p. with_command p command) h in
-    let with-asm = c.in_ok-with_asm.ensures ∙ more _ _ line.asm c.in_ok-empty.ensures in
-    let with-dis = c.in_ok-with_dis.ensures ∙ more _ _ line.dis with-asm in
-    let with-verify = c.in_ok-with_verify.ensures ∙ more _ _ line.verify with-dis in
-    let with-run = c.in_ok-with_run.ensures ∙ more _ _ line.run with-verify in
-    let with-trace = c.in_ok-with_trace.ensures ∙ more _ _ line.trace with-run in
-    let with-prove = c.in_ok-with_prove.ensures ∙ more _ _ line.prove with-trace in
-    IfOk-weaker c.with_command-5.result _ _
-    (λ made h. h ∙ more _ _ line.recheck with-prove) c.with_command-5.ensures
+    let with-asm =
+    command-added _ _ _ line.asm c.with_command-with_asm.ensures c.empty_program-empty.ensures in
+    let with-dis = command-added _ _ _ line.dis c.with_command-with_dis.ensures with-asm in
+    let with-verify = command-added _ _ _ line.verify c.with_command-with_verify.ensures with-dis in
+    let with-run = command-added _ _ _ line.run c.with_running-with_run.ensures with-verify in
+    let with-trace = command-added _ _ _ line.trace c.with_running-with_trace.ensures with-run in
+    let with-prove = command-added _ _ _ line.prove c.with_command-with_prove.ensures with-trace in
+    command-added _ _ _ line.recheck c.with_command.ensures with-prove

@@ -1,6 +1,6 @@
 use Rattle.std.proofs.Common.{refl, string_bytes}
 use Rattle.commands.specs.Statuses.{message_of}
-use Rattle.commands.proofs.Written.{err_text, err_behind}
+use Rattle.commands.proofs.Written.{ok_text, err_text, ok_behind, err_behind}
 use Rattle.commands.proofs.endings.Ending.say.Goals as goal
 
 pub returns-in-Some-clause-err : goal.returns-in-Some-clause-err
@@ -10,3 +10,11 @@ returns-in-Some-clause-err g c =
     (string_bytes c.in-Some.why) _ refl c.in_ok-say.ensures.ok
     (err_text _ _ _ _
     (string_bytes c.in-Some.why) c.as_bytes.ensures.value c.write_bytes.ensures.err))
+
+pub returns-in-Some-clause-ok : goal.returns-in-Some-clause-ok
+returns-in-Some-clause-ok g c =
+    rw c.in-Some.is
+    (ok_behind _ _ _ _ (message_of c.args.self.now.outcome)
+    (string_bytes c.in-Some.why) _ refl c.in_ok-say.ensures.ok
+    (ok_text _ _ _ _
+    (string_bytes c.in-Some.why) c.as_bytes.ensures.value c.write_bytes.ensures.ok))

@@ -1,5 +1,5 @@
 use Rattle.std.proofs.Common.{◌++◌, ℕ, List, codes, ap}
-use Rattle.commands.specs.Causes.{cause_line}
+use Rattle.commands.specs.Causes.{cause_line, line_after}
 use Rattle.commands.specs.Statuses.{usage}
 use Rattle.commands.proofs.Written.{ok_text, err_text, err_behind}
 use Rattle.commands.proofs.outcomes.TaskOutcome.say.Goals as goal
@@ -27,3 +27,31 @@ returns-in-CannotRead-clause-err g c =
     (codes "cannot read " ++ (c.in-CannotRead.path.now ++ cause_line c.in-CannotRead.kind))
     (ap (λ (l : List ℕ). codes "cannot read " ++ (c.in-CannotRead.path.now ++ l))
     c.cause_line.ensures) c.write_texts.ensures.err)
+
+pub returns-in-CannotWrite-clause-ok : goal.returns-in-CannotWrite-clause-ok
+returns-in-CannotWrite-clause-ok g c =
+    rw c.in-CannotWrite.is
+    (ok_text _ _ _ _
+    (codes "cannot write " ++ (c.in-CannotWrite.path.now ++ line_after c.in-CannotWrite.cause))
+    (ap (λ (l : List ℕ). codes "cannot write " ++ (c.in-CannotWrite.path.now ++ l))
+    c.line_after.ensures) c.write_texts-in-CannotWrite.ensures.ok)
+
+pub returns-in-CannotWrite-clause-err : goal.returns-in-CannotWrite-clause-err
+returns-in-CannotWrite-clause-err g c =
+    rw c.in-CannotWrite.is
+    (err_text _ _ _ _
+    (codes "cannot write " ++ (c.in-CannotWrite.path.now ++ line_after c.in-CannotWrite.cause))
+    (ap (λ (l : List ℕ). codes "cannot write " ++ (c.in-CannotWrite.path.now ++ l))
+    c.line_after.ensures) c.write_texts-in-CannotWrite.ensures.err)
+
+pub returns-in-Refused-clause-ok : goal.returns-in-Refused-clause-ok
+returns-in-Refused-clause-ok g c = rw c.in-Refused.is c.say.ensures.ok
+
+pub returns-in-Refused-clause-err : goal.returns-in-Refused-clause-err
+returns-in-Refused-clause-err g c = rw c.in-Refused.is c.say.ensures.err
+
+pub returns-in-Faulted-clause-ok : goal.returns-in-Faulted-clause-ok
+returns-in-Faulted-clause-ok g c = rw c.in-Faulted.is c.say_fault.ensures.ok
+
+pub returns-in-Faulted-clause-err : goal.returns-in-Faulted-clause-err
+returns-in-Faulted-clause-err g c = rw c.in-Faulted.is c.say_fault.ensures.err

@@ -5,9 +5,9 @@ ghost use Rattle.std.specs.List.{slice_get};
 ghost use Rattle.isa_model.specs.Machine.MapContents.{at_key};
 ghost use Rattle.machine.specs.BetweenRuns.{content_at, ordered_at, AnswersUpdate, AnswersDelete, CopiesKeyValue};
 ghost use Rattle.verdict_calls.specs.Crossing.{IsLookUp, IsChange};
-ghost use Rattle.session_calls.specs.Sessions.{HoldsOpen, StaysOpen, FitsKey, FitsMap};
+ghost use Rattle.held_machines.specs.OpenSessions.{HoldsOpen, StaysOpen, FitsKey, FitsMap};
 
-use held_machines::Session;
+use crate::sessions::Session;
 use machine::Machine;
 use std::alloc::Global;
 use verdict_calls::statuses::{ABSENT, OK, WRONG};

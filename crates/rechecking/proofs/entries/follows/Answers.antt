@@ -1,0 +1,14 @@
+use Rattle.std.proofs.Common.{rules}
+use Rattle.rechecking.proofs.entries.follows.Goals as goal
+
+pub returns-in-None-None-clause-yes : goal.returns-in-None-None-clause-yes
+returns-in-None-None-clause-yes c = search rules
+
+pub returns-in-One-One-clause-yes : goal.returns-in-One-One-clause-yes
+returns-in-One-One-clause-yes c = search rules
+
+pub returns-in_err-enters-in-Two-Two-clause-none : goal.returns-in_err-enters-in-Two-Two-clause-none
+returns-in_err-enters-in-Two-Two-clause-none c = search rules
+
+pub returns-in_ok-enters-in-Two-Two-clause-yes : goal.returns-in_ok-enters-in-Two-Two-clause-yes
+returns-in_ok-enters-in-Two-Two-clause-yes c = search rules

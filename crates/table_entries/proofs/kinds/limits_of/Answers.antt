@@ -1,0 +1,7 @@
+use Rattle.std.proofs.Common.{rules}
+use Rattle.table_entries.specs.Kinds.{limits_of}
+use Rattle.table_entries.proofs.kinds.limits_of.Goals as goal
+
+pub returns-then-least-greatest : goal.returns-then-least-greatest
+unfolding limits_of
+returns-then-least-greatest c = search rules

@@ -1,0 +1,8 @@
+use Rattle.std.proofs.Common.{rules}
+use Rattle.transfer.proofs.stacks.whole_or.Goals as goal
+
+pub returns-in-U64 : goal.returns-in-U64
+returns-in-U64 c = search rules
+
+pub returns-in_default : goal.returns-in_default
+returns-in_default c = search rules
