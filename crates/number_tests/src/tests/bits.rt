@@ -35,7 +35,7 @@ fn pair_of(bits: Bits) -> Pair {
 }
 
 /// An operation, its width, both operands and the result.
-const RESULTS: [(AluOp, Width, Pair, Pair, Pair); 15] = [
+const RESULTS: &[(AluOp, Width, Pair, Pair, Pair)] = &[
     (AluOp::And, FULL, BYTE, (15, 0), (0, 15)),
     // A header length: 0, 4, .. 60, and 14 more: each is 2 above a multiple of 4, and at most 126.
     (AluOp::Lsh, FULL, (0, 15), (2, 0), (0, 60)),
@@ -77,7 +77,7 @@ fn sums_products_logic_and_shifts(rt: HostRuntime) -> Result<(), Fail> {
 }
 
 /// An operation, its operand and the result.
-const UNARY_OPERATIONS: [(Unary, Pair, Pair); 7] = [
+const UNARY_OPERATIONS: &[(Unary, Pair, Pair)] = &[
     (
         Unary::SignExtend(Extension::Full8),
         (0x80, 0x7f),
@@ -130,7 +130,7 @@ fn unary_operations(rt: HostRuntime) -> Result<(), Fail> {
 /// The four limits of a set, and its number if it has only one.
 type Limits = (u64, u64, i64, i64, Option<u64>);
 
-const LIMITS: [(Pair, Limits); 4] = [
+const LIMITS: &[(Pair, Limits)] = &[
     (BYTE, (0, 255, 0, 255, None)),
     ((7, 0), (7, 7, 7, 7, Some(7))),
     (TOP, (0xffff_ffff_ffff_ff00, u64::MAX, -256, -1, None)),
@@ -159,7 +159,7 @@ fn limits(rt: HostRuntime) -> Result<(), Fail> {
 const EVEN: Pair = (0, u64::MAX - 1);
 
 /// Two sets, their common members, and whether the first covers the second.
-const COMMON: [(Pair, Pair, Option<Pair>, bool); 5] = [
+const COMMON: &[(Pair, Pair, Option<Pair>, bool)] = &[
     (BYTE, EVEN, Some((0, 0xfe)), false),
     (EVEN, BYTE, Some((0, 0xfe)), false),
     ((1, 0), EVEN, None, false),
@@ -184,7 +184,7 @@ fn common_numbers(rt: HostRuntime) -> Result<(), Fail> {
 }
 
 /// The numbers from one to another, as bits.
-const BETWEEN: [(u64, u64, Pair); 5] = [
+const BETWEEN: &[(u64, u64, Pair)] = &[
     (0, 7, (0, 7)),
     (0, 0xff, BYTE),
     (0x80, 0xff, (0x80, 0x7f)),
@@ -227,7 +227,7 @@ const BIT: Pair = (0, 1);
 const GREAT: Pair = (0xffff_ffff_ffff_ff00, 0);
 
 /// A relation, two sets, and what it leaves of both.
-const RELATIONS: [(Relation, Pair, Pair, Option<(Pair, Pair)>); 22] = [
+const RELATIONS: &[(Relation, Pair, Pair, Option<(Pair, Pair)>)] = &[
     (Relation::Below, BYTE, TEN, Some(((0, 15), TEN))),
     (Relation::Below, TEN, (0, 7), None),
     // The numbers above one with leading ones have these too.
@@ -306,7 +306,7 @@ const EIGHT: Pair = (0x5_0000_0008, 0);
 
 /// A relation of low halves, two sets, and what it leaves of both. A set with upper halves stays as
 /// it is.
-const LOW_RELATIONS: [(Relation, Pair, Pair, Option<(Pair, Pair)>); 8] = [
+const LOW_RELATIONS: &[(Relation, Pair, Pair, Option<(Pair, Pair)>)] = &[
     (Relation::Equal, UNSIGNED_32, SEVEN, Some(((7, 0), SEVEN))),
     (Relation::Equal, SEVEN, UNSIGNED_32, Some((SEVEN, (7, 0)))),
     (Relation::Equal, SEVEN, EIGHT, None),

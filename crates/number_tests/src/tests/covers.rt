@@ -55,7 +55,7 @@ const ANY_NUMBER: Sample = Sample::Outer(3, &[Put::Register(2, Held::AnyNumber)]
 
 const SEVEN: Sample = Sample::Outer(3, &[Put::Register(2, Held::Number(7))]);
 
-const REGISTERS: [Row; 11] = [
+const REGISTERS: &[Row] = &[
     // One identity in the covering state has one counterpart.
     (ONE_IDENTITY, SAME_IDENTITY, true),
     (ONE_IDENTITY, TWO_IDENTITIES, false),
@@ -75,7 +75,7 @@ const REGISTERS: [Row; 11] = [
 
 #[test]
 fn registers(rt: HostRuntime) {
-    are_covering(&rt, &REGISTERS);
+    are_covering(&rt, REGISTERS);
 }
 
 const BACK_TO_7: Sample = Sample::InCall(7, &[], &[]);
@@ -94,7 +94,7 @@ const OTHER_IN_BOTH: Sample = Sample::InCall(
     &[Put::Register(2, Held::Packet(2, 0))],
 );
 
-const CALLS: [Row; 6] = [
+const CALLS: &[Row] = &[
     // Return slots and depths have to be the same.
     (BACK_TO_7, BACK_TO_7, true),
     (BACK_TO_7, BACK_TO_8, false),
@@ -107,7 +107,7 @@ const CALLS: [Row; 6] = [
 
 #[test]
 fn calls(rt: HostRuntime) {
-    are_covering(&rt, &CALLS);
+    are_covering(&rt, CALLS);
 }
 
 const POINTER_IN_5: Sample = Sample::Outer(3, &[Put::Spill(5, Held::Context)]);
@@ -168,7 +168,7 @@ const OTHER_IN_SLOT_AND_REGISTER: Sample = Sample::Outer(
     ],
 );
 
-const STACKS: [Row; 18] = [
+const STACKS: &[Row] = &[
     // A pointer covers no number, and a number no pointer.
     (POINTER_IN_5, POINTER_IN_5, true),
     (POINTER_IN_5, SEVEN_IN_5, false),
@@ -195,7 +195,7 @@ const STACKS: [Row; 18] = [
 
 #[test]
 fn stacks(rt: HostRuntime) {
-    are_covering(&rt, &STACKS);
+    are_covering(&rt, STACKS);
 }
 
 const CALLED: Sample = Sample::InCall(0, &[], &[]);
@@ -204,7 +204,7 @@ const SEVEN_OF_CALLER: Sample = Sample::InCall(0, &[Put::Spill(2, Held::Number(7
 
 const SEVEN_IN_3_OF_CALLER: Sample = Sample::InCall(0, &[Put::Spill(3, Held::Number(7))], &[]);
 
-const STACKS_OF_CALLERS: [Row; 5] = [
+const STACKS_OF_CALLERS: &[Row] = &[
     (CALLED, SEVEN_OF_CALLER, true),
     (SEVEN_OF_CALLER, SEVEN_OF_CALLER, true),
     (SEVEN_OF_CALLER, CALLED, false),
@@ -214,5 +214,5 @@ const STACKS_OF_CALLERS: [Row; 5] = [
 
 #[test]
 fn stacks_of_callers(rt: HostRuntime) {
-    are_covering(&rt, &STACKS_OF_CALLERS);
+    are_covering(&rt, STACKS_OF_CALLERS);
 }

@@ -52,7 +52,7 @@ fn range_of(set: Set) -> Range {
 /// Limits, unsigned and then signed, and the number if there is only one.
 type Limits = (u64, u64, i64, i64, Option<u64>);
 
-const LIMITS: [(Set, Limits); 8] = [
+const LIMITS: &[(Set, Limits)] = &[
     (Set::Any, (0, u64::MAX, i64::MIN, i64::MAX, None)),
     (UNSIGNED_32, (0, 0xffff_ffff, 0, 0xffff_ffff, None)),
     (Set::One(7), (7, 7, 7, 7, Some(7))),
@@ -98,7 +98,7 @@ fn sets(rt: HostRuntime) -> Result<(), Fail> {
 }
 
 /// An operation, its width, both operands and the result.
-const RESULTS: [(AluOp, Width, Set, Set, Set); 20] = [
+const RESULTS: &[(AluOp, Width, Set, Set, Set)] = &[
     // A header length of 0 to 60 bytes after 14 others.
     (AluOp::And, FULL, BYTE, Set::One(15), Set::Between(0, 15)),
     (
@@ -199,7 +199,7 @@ fn sums_products_logic_and_shifts(rt: HostRuntime) -> Result<(), Fail> {
 }
 
 /// An operation, its operand and the result.
-const UNARY_OPERATIONS: [(Unary, Set, Set); 8] = [
+const UNARY_OPERATIONS: &[(Unary, Set, Set)] = &[
     (Unary::Negate(FULL), BYTE, Set::Signed(-255, 0)),
     (
         Unary::Reorder(ByteOrder::Big, SwapWidth::B16),
@@ -256,7 +256,7 @@ fn unary_operations(rt: HostRuntime) -> Result<(), Fail> {
 }
 
 /// Two sets, their common members, and whether the first covers the second.
-const COMMON: [(Set, Set, Option<Set>, bool); 6] = [
+const COMMON: &[(Set, Set, Option<Set>, bool)] = &[
     (
         BYTE,
         Set::Between(200, 1000),
@@ -308,7 +308,7 @@ const BIT: Set = Set::Between(0, 1);
 const MINUS_TWO: Set = Set::One(u64::MAX - 1);
 
 /// A relation, two sets, and what it leaves of both.
-const RELATIONS: [(Relation, Set, Set, Option<(Set, Set)>); 22] = [
+const RELATIONS: &[(Relation, Set, Set, Option<(Set, Set)>)] = &[
     (Relation::Below, BYTE, TEN, Some((Set::Between(0, 9), TEN))),
     (
         Relation::Below,

@@ -43,7 +43,7 @@ const SIGNED_ABOVE: Limits = (11, 0x7fff_ffff, 11, i32::MAX);
 const SIGNED_AT_LEAST: Limits = (10, 0x7fff_ffff, 10, i32::MAX);
 
 /// A comparison with 10, and what it leaves of all numbers if it holds and if it does not.
-const COMPARISONS: [(Comparison, Limits, Limits); 11] = [
+const COMPARISONS: &[(Comparison, Limits, Limits)] = &[
     (Comparison::Equal, (10, 10, 10, 10), ALL),
     (Comparison::NotEqual, ALL, (10, 10, 10, 10)),
     (Comparison::Less, BELOW, AT_LEAST),
@@ -102,7 +102,7 @@ const MINUS_FIVE: Change = Change::Alu(AluOp::Sub, FULL, 5);
 const RAISED: Change = Change::Alu(AluOp::Lsh, FULL, 32);
 
 #[rattlefmt::skip]
-const OPERATIONS: [Row; 7] = [
+const OPERATIONS: &[Row] = &[
     (EVERY, &[BELOW_TEN, FROM_THREE], &[Look::Low(3, 9, 3, 9)]),
     (
         EVERY,
@@ -134,7 +134,7 @@ const OPERATIONS: [Row; 7] = [
 ];
 
 #[rattlefmt::skip]
-const CASTS: [Row; 6] = [
+const CASTS: &[Row] = &[
     (EVERY, &[BELOW_TEN, FROM_THREE, Change::Itself(AluOp::Mov, LOW)], &[Look::Wide(3, 9)]),
     (
         EVERY,
@@ -165,7 +165,7 @@ const CASTS: [Row; 6] = [
 ];
 
 /// Numbers with one upper half have limits by their low halves, and the other way round.
-const ONE_UPPER_HALF: [Row; 3] = [
+const ONE_UPPER_HALF: &[Row] = &[
     (
         Set::Between(0x5_0000_0000, 0x5_ffff_ffff),
         &[BELOW_TEN],
@@ -181,17 +181,17 @@ const ONE_UPPER_HALF: [Row; 3] = [
 
 #[test]
 fn operations_keep_them(rt: HostRuntime) {
-    are_seen(&rt, &OPERATIONS);
-    are_seen(&rt, &CASTS);
+    are_seen(&rt, OPERATIONS);
+    are_seen(&rt, CASTS);
 }
 
 #[test]
 fn the_upper_half_shows_whole_limits(rt: HostRuntime) {
-    are_seen(&rt, &ONE_UPPER_HALF);
+    are_seen(&rt, ONE_UPPER_HALF);
 }
 
 /// A comparison, the result that it never has for a low half of 5, and the number to compare with.
-const NEVER: [(Comparison, bool, u64); 11] = [
+const NEVER: &[(Comparison, bool, u64)] = &[
     (Comparison::Equal, true, 6),
     (Comparison::NotEqual, true, 5),
     (Comparison::Less, true, 5),

@@ -42,7 +42,7 @@ fn of_set(operation: Operation, set: Scalar) -> Scalar {
     }
 }
 
-const OPERATIONS: [Operation; 14] = [
+const OPERATIONS: &[Operation] = &[
     Operation::Reorder(ByteOrder::Big, SwapWidth::B16),
     Operation::Reorder(ByteOrder::Big, SwapWidth::B32),
     Operation::Reorder(ByteOrder::Big, SwapWidth::B64),
@@ -60,7 +60,7 @@ const OPERATIONS: [Operation; 14] = [
 ];
 
 /// A value, and a mask of unknown bits.
-const BITS: [(u64, u64); 7] = [
+const BITS: &[(u64, u64)] = &[
     (0, 0x1f00),
     (0, 0x8001_0000_0000_0180),
     (0x1200, 0x80),
@@ -111,7 +111,7 @@ fn bits_are_those_of_all_members(rt: HostRuntime) -> Result<(), Fail> {
 }
 
 /// The limits of numbers; where a part of them begins, and how long it is; the limits of the part.
-const LIMITS: [((u64, u64), (u64, u32), (u64, u64)); 8] = [
+const LIMITS: &[((u64, u64), (u64, u32), (u64, u64))] = &[
     ((5, 20), (0, 8), (5, 20)),
     ((5, 255), (0, 8), (5, 255)),
     ((5, 256), (0, 8), (0, 255)),
@@ -149,7 +149,7 @@ fn limits_of_parts(rt: HostRuntime) -> Result<(), Fail> {
 /// The dividend's signed limits, the divisor, and the signed limits of quotient and remainder.
 type Row = (i64, i64, i64, (i64, i64), (i64, i64));
 
-const DIVIDED: [Row; 14] = [
+const DIVIDED: &[Row] = &[
     (-7, 7, 2, (-3, 3), (-1, 1)),
     (-8, 7, -2, (-3, 4), (-1, 1)),
     (-8, 7, 1, (-8, 7), (0, 0)),
@@ -167,7 +167,7 @@ const DIVIDED: [Row; 14] = [
 ];
 
 /// At the ends of 64 bits. The least number divided by -1 is itself.
-const DIVIDED_AT_THE_ENDS: [Row; 6] = [
+const DIVIDED_AT_THE_ENDS: &[Row] = &[
     (i64::MIN, i64::MAX, -1, (i64::MIN, i64::MAX), (0, 0)),
     (-i64::MAX, i64::MAX, -1, (-i64::MAX, i64::MAX), (0, 0)),
     (
@@ -195,7 +195,7 @@ const DIVIDED_AT_THE_ENDS: [Row; 6] = [
 ];
 
 /// At the ends of 32 bits.
-const DIVIDED_AT_THE_ENDS_OF_32_BITS: [Row; 3] = [
+const DIVIDED_AT_THE_ENDS_OF_32_BITS: &[Row] = &[
     (
         -0x8000_0000,
         0x7fff_ffff,
@@ -258,10 +258,10 @@ fn are_divided(rt: &impl Abort, width: Width, rows: &[Row]) {
 
 #[test]
 fn signed_quotients_and_remainders(rt: HostRuntime) -> Result<(), Fail> {
-    are_divided(&rt, FULL, &DIVIDED);
-    are_divided(&rt, LOW, &DIVIDED);
-    are_divided(&rt, FULL, &DIVIDED_AT_THE_ENDS);
-    are_divided(&rt, LOW, &DIVIDED_AT_THE_ENDS_OF_32_BITS);
+    are_divided(&rt, FULL, DIVIDED);
+    are_divided(&rt, LOW, DIVIDED);
+    are_divided(&rt, FULL, DIVIDED_AT_THE_ENDS);
+    are_divided(&rt, LOW, DIVIDED_AT_THE_ENDS_OF_32_BITS);
     Ok(())
 }
 

@@ -15,7 +15,7 @@ const TWO_32: u64 = 0x1_0000_0000;
 
 // Operation, operands, and the results at 64 and at 32 bits.
 #[rattlefmt::skip]
-const ARITHMETIC: [(AluOp, u64, u64, u64, u64); 87] = [
+const ARITHMETIC: &[(AluOp, u64, u64, u64, u64)] = &[
     (AluOp::Add, 0, 0, 0, 0),
     (AluOp::Add, 1, MINUS_ONE, 0, 0),
     (AluOp::Add, LEAST, LEAST, 0, 0),
@@ -107,7 +107,7 @@ const ARITHMETIC: [(AluOp, u64, u64, u64, u64); 87] = [
 
 // Comparison, operands, and whether it holds at 64 and at 32 bits.
 #[rattlefmt::skip]
-const COMPARISONS: [(Comparison, u64, u64, bool, bool); 49] = [
+const COMPARISONS: &[(Comparison, u64, u64, bool, bool)] = &[
     (Comparison::Equal, 0, 0, true, true),
     (Comparison::Equal, TWO_32, 0, false, true),
     (Comparison::Equal, MINUS_ONE, 1, false, false),
@@ -163,7 +163,7 @@ const DIGITS: u64 = 0x0102_0304_0506_0708;
 
 // Operation, operand and result.
 #[rattlefmt::skip]
-const UNARY_OPERATIONS: [(Unary, u64, u64); 25] = [
+const UNARY_OPERATIONS: &[(Unary, u64, u64)] = &[
     (Unary::Negate(Width::Full64), 1, MINUS_ONE),
     (Unary::Negate(Width::Full64), LEAST, LEAST),
     (Unary::Negate(Width::Low32), 1, 0xffff_ffff),

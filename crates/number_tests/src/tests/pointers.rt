@@ -17,7 +17,7 @@ const ZERO: Operand = Operand::Constant(0);
 type Test = (Comparison, bool, bool);
 
 /// How many bytes each test proves, if the pointer is 14 bytes after its variable part.
-const PACKET_TESTS: [(Test, u32); 16] = [
+const PACKET_TESTS: &[(Test, u32)] = &[
     ((Comparison::Greater, false, true), 0),
     ((Comparison::Greater, false, false), 14),
     ((Comparison::GreaterEqual, false, true), 0),

@@ -19,7 +19,7 @@ const UNSIGNED_32: Set = Set::Any(LOW);
 const EVEN: Change = Change::Alu(AluOp::Lsh, FULL, 1);
 
 #[rattlefmt::skip]
-const SUMS_AND_PRODUCTS: [Row; 5] = [
+const SUMS_AND_PRODUCTS: &[Row] = &[
     // A header length of 0 to 60 bytes after 14 others.
     (
         BYTE,
@@ -41,7 +41,7 @@ const SUMS_AND_PRODUCTS: [Row; 5] = [
 ];
 
 #[rattlefmt::skip]
-const UNARY_OPERATIONS: [Row; 8] = [
+const UNARY_OPERATIONS: &[Row] = &[
     (ALL, &[Change::Alu(AluOp::And, FULL, 15)], &[Look::Wide(0, 15)]),
     (ALL, &[Change::Itself(AluOp::Mov, LOW)], &[Look::Wide(0, 0xffff_ffff)]),
     (
@@ -63,7 +63,7 @@ const UNARY_OPERATIONS: [Row; 8] = [
 ];
 
 #[rattlefmt::skip]
-const COMMON_MEMBERS: [Row; 3] = [
+const COMMON_MEMBERS: &[Row] = &[
     // Limits narrow known bits, and one member that is left is a constant.
     (ALL, &[EVEN, Change::Meet(Set::Between(8, 9))], &[Look::Is(Set::One(8))]),
     (ALL, &[EVEN, Change::Meet(Set::One(7))], &[Look::Never]),
@@ -80,7 +80,7 @@ const COMMON_MEMBERS: [Row; 3] = [
 ];
 
 #[rattlefmt::skip]
-const JUMPS: [Row; 6] = [
+const JUMPS: &[Row] = &[
     (ALL, &[Change::Compare(Comparison::Less, FULL, true, 10)], &[Look::Wide(0, 9)]),
     (
         ALL,
@@ -104,7 +104,7 @@ const JUMPS: [Row; 6] = [
 const FIVE: Set = Set::One(5);
 
 #[rattlefmt::skip]
-const CONSTANTS: [Row; 4] = [
+const CONSTANTS: &[Row] = &[
     (FIVE, &[Change::Compare(Comparison::Less, FULL, true, 5)], &[Look::Never]),
     (FIVE, &[Change::Compare(Comparison::Less, FULL, false, 5)], &[Look::Is(FIVE)]),
     // The low half of 2^32 + 5 is 5.
@@ -113,7 +113,7 @@ const CONSTANTS: [Row; 4] = [
 ];
 
 #[rattlefmt::skip]
-const LOW_HALVES: [Row; 6] = [
+const LOW_HALVES: &[Row] = &[
     // For a number whose upper half is not known, a comparison of low halves narrows the low half.
     (
         ALL,
@@ -142,20 +142,20 @@ const LOW_HALVES: [Row; 6] = [
 
 #[test]
 fn operations(rt: HostRuntime) {
-    are_seen(&rt, &SUMS_AND_PRODUCTS);
-    are_seen(&rt, &UNARY_OPERATIONS);
+    are_seen(&rt, SUMS_AND_PRODUCTS);
+    are_seen(&rt, UNARY_OPERATIONS);
 }
 
 #[test]
 fn common_members(rt: HostRuntime) {
-    are_seen(&rt, &COMMON_MEMBERS);
+    are_seen(&rt, COMMON_MEMBERS);
 }
 
 #[test]
 fn jumps(rt: HostRuntime) {
-    are_seen(&rt, &JUMPS);
-    are_seen(&rt, &CONSTANTS);
-    are_seen(&rt, &LOW_HALVES);
+    are_seen(&rt, JUMPS);
+    are_seen(&rt, CONSTANTS);
+    are_seen(&rt, LOW_HALVES);
 }
 
 // The number of a set, if it has only one, and its greatest member.
@@ -197,7 +197,7 @@ const AT_LEAST: Option<Limits> = Some((10, 255));
 const ABOVE: Option<Limits> = Some((11, 255));
 
 /// A comparison and a number, and what it leaves of a byte if it holds and if it does not.
-const COMPARISONS: [(Comparison, u64, Option<Limits>, Option<Limits>); 12] = [
+const COMPARISONS: &[(Comparison, u64, Option<Limits>, Option<Limits>)] = &[
     (Comparison::Equal, 10, Some((10, 10)), Some((0, 255))),
     (Comparison::NotEqual, 10, Some((0, 255)), Some((10, 10))),
     (Comparison::Greater, 10, ABOVE, AT_MOST),
@@ -242,7 +242,7 @@ const ZERO: Option<Limits> = Some((0, 0));
 const ONE: Option<Limits> = Some((1, 1));
 
 /// What both domains leave; the tables of each domain have its own part.
-const NARROWINGS: [Narrowing; 10] = [
+const NARROWINGS: &[Narrowing] = &[
     (Comparison::Less, true, BIT, 1, ZERO),
     (Comparison::LessEqual, true, BIT, 0, ZERO),
     (Comparison::SignedLess, true, BIT, 1, ZERO),

@@ -12,7 +12,7 @@ type Limits = (u64, u64);
 
 /// The old numbers, the first bit and the number of bits that are overwritten, the new numbers, and
 /// the result.
-const WRITTEN: [(Limits, (u64, u32), Limits, Limits); 10] = [
+const WRITTEN: &[(Limits, (u64, u32), Limits, Limits)] = &[
     ((0, 0), (0, 32), (20, 51), (20, 51)),
     ((0, 0), (32, 32), (1, 3), (0x1_0000_0000, 0x3_0000_0000)),
     ((0, 31), (32, 32), (0, 0), (0, 31)),

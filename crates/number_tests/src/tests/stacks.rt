@@ -139,7 +139,7 @@ fn are_shown(rt: &impl Abort, rows: &[Row]) {
 
 /// Which bytes of slot 2 are written after a store.
 #[rattlefmt::skip]
-const STORES: [Row; 17] = [
+const STORES: &[Row] = &[
     (&[Act::Store(16, Size::U8)], &[Look::Written(2, 0x01)]),
     (&[Act::Store(17, Size::U8)], &[Look::Written(2, 0x02)]),
     (&[Act::Store(18, Size::U8)], &[Look::Written(2, 0x04)]),
@@ -161,10 +161,10 @@ const STORES: [Row; 17] = [
 
 #[test]
 fn each_size_at_each_place(rt: HostRuntime) {
-    are_shown(&rt, &STORES);
+    are_shown(&rt, STORES);
 }
 
-const POINTERS: [Row; 2] = [
+const POINTERS: &[Row] = &[
     (
         &[Act::Spill(3, Held::Context)],
         &[
@@ -187,12 +187,12 @@ const POINTERS: [Row; 2] = [
 
 #[test]
 fn a_pointer_is_read_whole(rt: HostRuntime) {
-    are_shown(&rt, &POINTERS);
+    are_shown(&rt, POINTERS);
 }
 
 const SEVEN: Held = Held::Numbers(Numbers::One(7));
 
-const NUMBERS: [Row; 3] = [
+const NUMBERS: &[Row] = &[
     (
         &[Act::Spill(3, SEVEN), Act::Spill(4, Held::PacketEnd)],
         &[
@@ -220,14 +220,14 @@ const NUMBERS: [Row; 3] = [
 
 #[test]
 fn a_number_is_read_in_part(rt: HostRuntime) {
-    are_shown(&rt, &NUMBERS);
+    are_shown(&rt, NUMBERS);
 }
 
 const MOST: Held = Held::Numbers(Numbers::One(u64::MAX));
 
 /// A number is spilled, and then some of its bytes are overwritten.
 #[rattlefmt::skip]
-const CHANGES: [Row; 7] = [
+const CHANGES: &[Row] = &[
     (
         &[Act::Spill(3, SEVEN), Act::StoreNumber(24, Size::U32, Numbers::One(5))],
         &[Look::Fill(3, Held::Numbers(Numbers::One(5)))],
@@ -263,11 +263,11 @@ const CHANGES: [Row; 7] = [
 
 #[test]
 fn a_number_changes_in_part(rt: HostRuntime) {
-    are_shown(&rt, &CHANGES);
+    are_shown(&rt, CHANGES);
 }
 
 #[rattlefmt::skip]
-const HALVES: [Row; 5] = [
+const HALVES: &[Row] = &[
     (&[Act::StoreNumber(24, Size::U32, Numbers::One(1))], &[Look::Written(3, 0x0f)]),
     (
         &[Act::Store(24, Size::U32), Act::StoreNumber(28, Size::U32, Numbers::One(1))],
@@ -289,12 +289,12 @@ const HALVES: [Row; 5] = [
 
 #[test]
 fn a_half_beside_any_half(rt: HostRuntime) {
-    are_shown(&rt, &HALVES);
+    are_shown(&rt, HALVES);
 }
 
 const ANY: Held = Held::Numbers(Numbers::Any);
 
-const UNKNOWN: [Row; 1] = [(
+const UNKNOWN: &[Row] = &[(
     &[Act::Spill(0, ANY), Act::Spill(63, Held::Unset)],
     &[
         Look::Written(0, 255),
@@ -305,10 +305,10 @@ const UNKNOWN: [Row; 1] = [(
 
 #[test]
 fn an_unknown_number_is_written_bytes(rt: HostRuntime) {
-    are_shown(&rt, &UNKNOWN);
+    are_shown(&rt, UNKNOWN);
 }
 
-const FORGOTTEN: [Row; 1] = [(
+const FORGOTTEN: &[Row] = &[(
     &[
         Act::Spill(0, Held::Value(1)),
         Act::Spill(1, Held::LookedUp(1)),
@@ -328,5 +328,5 @@ const FORGOTTEN: [Row; 1] = [(
 
 #[test]
 fn a_map_is_forgotten(rt: HostRuntime) {
-    are_shown(&rt, &FORGOTTEN);
+    are_shown(&rt, FORGOTTEN);
 }

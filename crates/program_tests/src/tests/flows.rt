@@ -7,7 +7,7 @@ use std::alloc::Global;
 use std::test::Fail;
 
 /// A slot, and whether it is a join.
-const JOINS: [(usize, bool); 7] = [
+const JOINS: &[(usize, bool)] = &[
     (0, true),
     (1, false),
     (2, false),
@@ -69,7 +69,7 @@ const CALLS: &str = "r6 = 1; r1 = 2; call pc+2; r0 += r6; exit; r0 = r1; exit";
 /// A helper without arguments, and r6 over its call; a wide load that writes r6.
 const ASKS: &str = "r6 = 0x1 ll; r1 = 5; call 5; r0 += r6; exit";
 
-const LIVE: [(&str, usize, &str); 14] = [
+const LIVE: &[(&str, usize, &str)] = &[
     // until its last use, and not before it is written
     (COUNTS, 0, " 1"),
     (COUNTS, 1, " 0 1"),

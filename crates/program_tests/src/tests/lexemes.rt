@@ -16,7 +16,7 @@ fn front_of(text: &[u8]) -> (&'static str, usize) {
     }
 }
 
-const FRONTS: [(&[u8], &str, usize); 11] = [
+const FRONTS: &[(&[u8], &str, usize)] = &[
     // the longest that fits
     (b"# ; ?\nexit", "blank", 5),
     (b";;", "end", 1),

@@ -8,7 +8,7 @@ use std::process::Abort;
 use std::test::Fail;
 
 /// A text, whether the text of its image is written or the image's bytes, and what is written.
-const WRITTEN: [(&str, bool, &[u8]); 3] = [
+const WRITTEN: &[(&str, bool, &[u8])] = &[
     (
         "r0 = 2; exit",
         false,

@@ -59,7 +59,7 @@ const REMAINDER: &str = "r0 = -1; r1 = 0; w0 %= w1; r0 >>= 31; exit";
 const JUMP: &str = "r0 = *(u32 *)(r1 + 12); if r0 == 7 goto +1; r0 = 0; exit";
 
 /// A text, whether each step goes to the second successor, the slot, and what is known of r0.
-const STATES: [(&str, &[bool], Option<(usize, Option<u64>)>); 5] = [
+const STATES: &[(&str, &[bool], Option<(usize, Option<u64>)>)] = &[
     (REMAINDER, &[false; 4], Some((4, Some(1)))),
     (REMAINDER, &[true], None),
     (JUMP, &[false], Some((1, None))),

@@ -30,7 +30,7 @@ fn written(alloc: Global) -> Result<Vec<u8>, Fail> {
 }
 
 /// How a writer fails, and the cause that is reported.
-const FAILURES: [(Failure, ErrorKind); 3] = [
+const FAILURES: &[(Failure, ErrorKind)] = &[
     (Failure::Error(ErrorKind::BrokenPipe), ErrorKind::BrokenPipe),
     (
         Failure::Error(ErrorKind::Interrupted),
@@ -41,7 +41,7 @@ const FAILURES: [(Failure, ErrorKind); 3] = [
 
 /// How many bytes are written before the failure: none, a part of the head, the head, a part of
 /// entry 0, and all but the last byte.
-const ROOMS: [usize; 5] = [0, 5, 8, 100, 371];
+const ROOMS: &[usize] = &[0, 5, 8, 100, 371];
 
 /// What is returned if a writer fails after `room` bytes, and what it took.
 fn cut(

@@ -36,7 +36,7 @@ fn ends_with(
 type Stop = (usize, u32, u64, &'static [u8], &'static [u8]);
 
 #[rattlefmt::skip]
-const BROKEN: [Stop; 4] = [
+const BROKEN: &[Stop] = &[
     (0, 0, 0, b"fault F5 at 0\n", MAGIC),
     (4, 0, 4, b"fault F5 at 4\n", MAGIC),
     (24, 1, 24, b"0 PASS 0 2\nfault F5 at 24\n", ONE),
@@ -47,14 +47,14 @@ const BROKEN: [Stop; 4] = [
 const ONE_WITH_REASON: &[u8] = b"XPF2\0\0\0\0\0\0\0\0\0\0\0\0\0\0\0\0\0\0\0\0\0\0\0\0";
 
 #[rattlefmt::skip]
-const BROKEN_WITH_REASONS: [Stop; 4] = [
+const BROKEN_WITH_REASONS: &[Stop] = &[
     (0, 0, 0, b"fault F5 at 0\n", MAGIC),
     (4, 0, 4, b"fault F5 at 4\n", b"XPF2"),
     (28, 1, 28, b"0 PASS 0 2 0\nfault F5 at 28\n", ONE_WITH_REASON),
     (52, 2, 52, b"0 PASS 0 2 0\n1 PASS 0 2 0\nfault F5 at 52\n", TWO_WITH_REASONS),
 ];
 
-const STREAMS: [(&[u8], &[Stop]); 2] = [(TWO, &BROKEN), (TWO_WITH_REASONS, &BROKEN_WITH_REASONS)];
+const STREAMS: &[(&[u8], &[Stop])] = &[(TWO, BROKEN), (TWO_WITH_REASONS, BROKEN_WITH_REASONS)];
 
 // The last stop that is not past the length.
 fn stop_at(stops: &[Stop], length: usize) -> Option<Stop> {
@@ -101,7 +101,7 @@ fn broken_streams(rt: HostRuntime) -> Result<(), Fail> {
 
 // A stream without records, and the magic of the frames out, which is there even if the stream's is
 // wrong.
-const MAGICS: [(&[u8], &[u8]); 4] = [
+const MAGICS: &[(&[u8], &[u8])] = &[
     (b"XPF1", b"XPF1"),
     (b"XPF2", b"XPF2"),
     (b"", b"XPF1"),

@@ -41,7 +41,7 @@ const SENT_BEFORE_ONE: &[(usize, usize)] = &[(0, 4), (11, 24)];
 
 const LINES_BEFORE_ONE: &[(usize, usize)] = &[(0, 0), (4, 11), (24, 17)];
 
-const WHOLES: [Whole; 5] = [
+const WHOLES: &[Whole] = &[
     Whole {
         text: PASSES,
         limit: Some(100),

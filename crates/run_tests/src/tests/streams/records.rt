@@ -36,7 +36,7 @@ fn stop_of(source: Reader<'_>) -> (u32, Next, Next) {
 }
 
 // How many bytes move at a call.
-const CHUNKS: [usize; 4] = [1, 2, 3, 7];
+const CHUNKS: &[usize] = &[1, 2, 3, 7];
 
 // From which length or room on: how many records are read, and how the stream stops.
 type Stop = (usize, u32, Next);
@@ -72,23 +72,23 @@ fn stops_so(
 }
 
 #[rattlefmt::skip]
-const BROKEN: [Stop; 4] = [
+const BROKEN: &[Stop] = &[
     (0, 0, Next::Fault(Fault::ReadFailed, 0)),
     (4, 0, Next::Fault(Fault::ReadFailed, 4)),
     (24, 1, Next::Fault(Fault::ReadFailed, 24)),
     (44, 2, Next::Fault(Fault::ReadFailed, 44)),
 ];
 
-const BROKEN_BODY: [Stop; 1] = [(24, 0, Next::Fault(Fault::ReadFailed, 4))];
+const BROKEN_BODY: &[Stop] = &[(24, 0, Next::Fault(Fault::ReadFailed, 4))];
 
 // Streams, after which bytes a read fails, and how they stop.
-const FAILING: [(&[u8], usize, usize, &[Stop]); 2] = [
-    (&TWO, 0, 45, &BROKEN),
-    (&RECORD, 24, 29, &BROKEN_BODY),
+const FAILING: &[(&[u8], usize, usize, &[Stop])] = &[
+    (&TWO, 0, 45, BROKEN),
+    (&RECORD, 24, 29, BROKEN_BODY),
 ];
 
 // The failures that are errors.
-const ERRORS: [Failure; 2] = [
+const ERRORS: &[Failure] = &[
     Failure::Error(ErrorKind::BrokenPipe),
     Failure::Error(ErrorKind::Interrupted),
 ];
@@ -158,7 +158,7 @@ const FRAME: Next = Next::Frame(
 type Begun = Result<u8, (Fault, u64)>;
 
 // A stream, the result for its magic, what follows it, and the results after that.
-const BEGUN: [(&[u8], Begun, Next, Begun); 7] = [
+const BEGUN: &[(&[u8], Begun, Next, Begun)] = &[
     (b"XPF1", Ok(1), Next::End, Ok(1)),
     (b"XPF2", Ok(2), Next::End, Ok(2)),
     (REASONED, Ok(2), FRAME, Ok(2)),

@@ -8,7 +8,7 @@ use std::process::Abort;
 const TEXT: &[u8; 7] = b"letters";
 
 /// How many bytes move at a call.
-const CHUNKS: [usize; 4] = [1, 2, 3, 7];
+const CHUNKS: &[usize] = &[1, 2, 3, 7];
 
 /// Why writing fails, if it does.
 fn failure_of_writing(writer: &mut Writer, bytes: &[u8]) -> Option<ErrorKind> {
