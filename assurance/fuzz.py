@@ -126,7 +126,7 @@ def misled(code, verdict, ways):
 
 def differs(paths, bound, run):
     """What is wrong with the runs of an accepted program: None, or a text. In this process a program with maps is
-    traced on maps as they start; one in eight runs in processes of its own too, where maps go from frame to frame. A
+    traced on starting maps; one in eight runs in processes of its own too, where maps go from frame to frame. A
     program whose trace is wrong is not run: that might not end, or end this process."""
     image = read(paths[0])
     if isinstance(run, in_process.Runner) and image[4:6] != b"\0\0":

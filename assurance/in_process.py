@@ -92,7 +92,7 @@ class Library:
         return 3 if fault else status, self.taken(self.one, report), self.taken(self.two, sent)
 
     def trace(self, image, head, packet):
-        """r0, the steps, how it ended, the reason of a trap, and the packet then, of a traced run on maps as they start."""
+        """r0, the steps, how it ended, the reason of a trap, and the packet then, of a traced run on starting maps."""
         ctypes.memmove(self.one, packet, len(packet))
         given = struct.pack("<QII", *head)
         self.asked(self.xdpvm_trace_once(image, len(image), given, self.one, len(packet), MOST, self.out))
@@ -151,7 +151,7 @@ def traced(library, image, stream):
 
 
 def differs_alone(library, image, stream, bound):
-    """What is wrong with the traced runs of an accepted program on each frame of a stream, on maps as they start, and with
+    """What is wrong with the traced runs of an accepted program on each frame of a stream, on starting maps, and with
     its verified runs on the first two, which each verify it once more: None, or a text."""
     for number, (head, _, packet) in enumerate(records(stream)):
         r0, steps, kind, reason, after = library.trace(image, head, packet)

@@ -250,7 +250,7 @@ def other_program(chance, image):
 # ---- what is wrong
 
 def runs_alike(image, stream, bound):
-    """The same in this process; of a program with maps each frame on maps as they start, in a session of its own."""
+    """The same in this process; of a program with maps each frame on starting maps, in a session of its own."""
     frames_of = list(records(stream))
     streams = [frames_of] if image[4:6] == b"\0\0" else [[frame] for frame in frames_of]
     by_table = sum((RUN.library.runs_by_table(image, read("damaged"), part) or [None] for part in streams), [])

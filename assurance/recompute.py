@@ -401,7 +401,7 @@ RUN_IMPORTS = (
     f"{DECLARED}.instructions.Insn.TheVariants as insn\n"
     f"{DECLARED}.ends.End.TheVariants.{{Exit}}\n"
     f"{NUMBERS}.{{alu, holds, sign_extended, reordered}}\n"
-    "use Rattle.isa_model.specs.Machine.States.{new_frame}\n"
+    "use Rattle.isa_model.specs.Machine.States.{new_call_frame}\n"
     "use Rattle.isa_model.specs.Machine.Steps.{act, step}\n"
     "use Rattle.isa_model.specs.Running.Runs.{start_state, progress, turn}\n"
     "use Rattle.isa_model.specs.Worked.Examples.{end_on, below}\n"
@@ -410,7 +410,7 @@ RUN_IMPORTS = (
 
 def runs():
     """Whole runs: what each returns, mixed from all registers and 64 bytes of the stack, and its steps."""
-    programs = Equations("Runs", RUN_IMPORTS, "unfolding turn progress start_state new_frame step act alu holds sign_extended reordered")
+    programs = Equations("Runs", RUN_IMPORTS, "unfolding turn progress start_state new_call_frame step act alu holds sign_extended reordered")
     chance = random.Random(4)
     for _ in range(300):
         it = Run(chance)

@@ -104,7 +104,7 @@ SPREAD, ALL = 0xD6E8FEB86659FD93, 1 << 64
 
 
 class Reduction:
-    """The algorithm of Lenstra, Lenstra and Lovasz in whole numbers: Cohen, A Course in Computational Algebraic Number
+    """The algorithm of Lenstra, Lenstra and Lovasz in integers: Cohen, A Course in Computational Algebraic Number
     Theory, 2.6.7. `d` and `parts` are his d and lambda."""
 
     def __init__(self, rows):

@@ -1,4 +1,4 @@
-/* xdpvm in your own process: verifies BPF programs of the XDP kind, and runs them on packets.
+/* xdpvm in your own process: verifies BPF programs of type XDP, and runs them on packets.
 
    Link libxdpvm_c.a and the toolchain's liblibc_c.a (examples/embed/build.sh; docs/EMBEDDING.md).
 
@@ -141,12 +141,12 @@ uint32_t xdpvm_assemble(const uint8_t *text, size_t text_len, uint8_t *image, si
 uint32_t xdpvm_verify(const uint8_t *image, size_t image_len, uint32_t limit, uint8_t *why, size_t why_len,
                       struct xdpvm_verdict *out);
 
-/* Verifies an image, and runs its program on a packet, in place, with maps as they start. XDPVM_WRONG: the packet has
+/* Verifies an image, and runs its program on a packet, in place, with starting maps. XDPVM_WRONG: the packet has
    more than 9,216 bytes. XDPVM_REFUSED: xdpvm_verify says why. */
 uint32_t xdpvm_run_once(const uint8_t *image, size_t image_len, const struct xdpvm_head *head, uint8_t *packet, size_t packet_len,
                         struct xdpvm_ended *out);
 
-/* Runs the program of an image on a packet, in place, with maps as they start and every access tested, verified or not,
+/* Runs the program of an image on a packet, in place, with starting maps and every access tested, verified or not,
    for at most `limit` steps. After a trap or the limit the packet is as the last step left it. XDPVM_WRONG: the packet
    has more than 9,216 bytes, or the limit is not from 1 to 1,000,000. XDPVM_REFUSED: the bytes are no image. */
 uint32_t xdpvm_trace_once(const uint8_t *image, size_t image_len, const struct xdpvm_head *head, uint8_t *packet, size_t packet_len,
@@ -164,7 +164,7 @@ uint32_t xdpvm_run_stream(const uint8_t *image, size_t image_len, const uint8_t 
 uint32_t xdpvm_recheck(const uint8_t *image, size_t image_len, const uint8_t *table, size_t table_len, uint8_t *why,
                        size_t why_len, struct xdpvm_rechecked *out);
 
-/* Verifies an image, and opens a closed session on its program, with maps as they start. XDPVM_WRONG: the session is open.
+/* Verifies an image, and opens a closed session on its program, with starting maps. XDPVM_WRONG: the session is open.
    XDPVM_REFUSED: xdpvm_verify says why. At each status but XDPVM_OK the session stays as it was. */
 uint32_t xdpvm_open(const uint8_t *image, size_t image_len, struct xdpvm_session *session);
 
@@ -177,7 +177,7 @@ uint32_t xdpvm_open_with_table(const uint8_t *image, size_t image_len, const uin
 uint32_t xdpvm_run(struct xdpvm_session *session, const struct xdpvm_head *head, uint8_t *packet, size_t packet_len,
                    struct xdpvm_ended *out);
 
-/* Closes a session, and frees its memory. A closed one stays as it is. */
+/* Closes a session, and frees its memory. A closed one stays closed. */
 void xdpvm_close(struct xdpvm_session *session);
 
 /* Maps of an open program between runs, by their number from 0. None of these calls takes memory. XDPVM_WRONG: the session is

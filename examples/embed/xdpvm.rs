@@ -303,7 +303,7 @@ pub fn verify_within(image: &[u8], limit: u32) -> Result<u32, Error> {
     answer(status, out.bound, why)
 }
 
-/// Runs an accepted program on a packet, on maps as they start.
+/// Runs an accepted program on a packet, on starting maps.
 pub fn run_once(image: &[u8], head: &Head, packet: &mut [u8]) -> Result<Ended, Error> {
     let mut out = Ended::default();
     // SAFETY: as above; the length of the packet is tested on the other side.
@@ -426,7 +426,7 @@ impl Session {
         Session { at: null_mut() }
     }
 
-    /// Verifies an image, and opens its program, with maps as they start.
+    /// Verifies an image, and opens its program, with starting maps.
     pub fn open(image: &[u8]) -> Result<Session, Error> {
         let mut session = Session::closed();
         // SAFETY: as above; the session is closed.

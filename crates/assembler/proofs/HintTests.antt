@@ -14,7 +14,7 @@ behind zero (b ∷ bs) part e = or_false (begins (b ∷ bs) part) (has bs part) 
 behind (suc n) [] part e = refl
 behind (suc n) (b ∷ bs) part e = behind n bs part e
 
--- if bytes do not begin so, what occurs in them occurs after the first one
+-- bytes that do not begin with a part can have it only after their first byte
 pub has_behind : (bs part : List ℕ) (n : ℕ) → begins (take (length bs - n) (drop n bs)) part ≡ false
     → has (drop n bs) part ≡ has (drop (n + 1) bs) part
 has_behind bs part n e =

@@ -68,7 +68,7 @@ reg w r = Named (word.Register w r)
 abbrev pub Bytes : Type 0
 Bytes = List ℕ
 
--- ---- lists of parts, to the right
+-- ---- lists in parts, with the brackets moved to the right
 
 parts3 : (a b c rest : Bytes) → (a ++ b ++ c) ++ rest ≡ a ++ (b ++ (c ++ rest))
 parts3 a b c rest = simp append_assoc
@@ -210,16 +210,18 @@ condition-line c by ps rest h g room =
     let first : List Token =
     Named word.If ∷ reg w c.register ∷ Signed (compares c.comparison) ∷ [] in
     let goto : List Token = Named word.Goto ∷ [] in
-    let far : Bytes = distance_text by ++ 10 ∷ rest in
-    let near : Bytes = operand_text w c.operand ++ 32 ∷ 103 ∷ 111 ∷ 116 ∷ 111 ∷ 32 ∷ far in
+    let from_distance : Bytes = distance_text by ++ 10 ∷ rest in
+    let from_operand : Bytes =
+    operand_text w c.operand ++ 32 ∷ 103 ∷ 111 ∷ 116 ∷ 111 ∷ 32 ∷ from_distance in
     ap (λ bs. assembled bs 0 (draft [] ps))
     (parts9 (codes "if ") (reg_text w c.register) (codes " ") (comparison_text c.comparison)
     (codes " ") (operand_text w c.operand) (codes " goto ") (distance_text by)
     (codes "\n") rest)
-    ∙ reg-read w c.register 32 (comparison_text c.comparison ++ 32 ∷ near)
+    ∙ reg-read w c.register 32 (comparison_text c.comparison ++ 32 ∷ from_operand)
     (Named word.If ∷ []) ps refl
-    ∙ comparison-read c.comparison near (Named word.If ∷ reg w c.register ∷ []) ps
-    ∙ operand-read w c.operand 32 (103 ∷ 111 ∷ 116 ∷ 111 ∷ 32 ∷ far) first ps h (lit< tt) refl
+    ∙ comparison-read c.comparison from_operand (Named word.If ∷ reg w c.register ∷ []) ps
+    ∙ operand-read w c.operand 32 (103 ∷ 111 ∷ 116 ∷ 111 ∷ 32 ∷ from_distance) first ps h
+    (lit< tt) refl
     ∙ near-read by 10 rest ((first ++ operand_tokens w c.operand) ++ goto) ps g (lit< tt)
     ∙ ap (λ us. assembled (10 ∷ rest) 0 (draft (first ++ us) ps))
     (append_assoc (operand_tokens w c.operand) goto (signed_tokens by))

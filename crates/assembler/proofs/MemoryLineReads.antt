@@ -26,7 +26,7 @@ use Rattle.assembler.proofs.TokenReads.{draft, reg-read, size-read, signed_size-
 use Rattle.assembler.proofs.FormReads.{memory_tokens, load-form, extending-form, store-form, constant-form, lock-form, exchange_tokens, fetch-form, exchange-form, compare-form}
 use Rattle.assembler.proofs.LineReads.{end-read, reg, ReadsLine, Bytes}
 
--- ---- lists of parts, to the right, with the three parts of a place in the middle
+-- ---- lists in parts, with the brackets moved to the right; three parts are those of a place
 
 place5 : (a b c d p q r e rest : Bytes)
     → (a ++ b ++ c ++ d ++ (p ++ q ++ r) ++ e) ++ rest

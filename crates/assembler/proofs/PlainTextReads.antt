@@ -1,5 +1,5 @@
--- A text without labels and uses of names is read with the same result as in the simpler way of
--- PlainTexts.
+-- A text without labels and uses of names is read with the same result as by the simpler reading
+-- of PlainTexts.
 use Rattle.std.proofs.Common.{◌≡◌, ℕ, zero, suc, ◌+◌, ◌-◌, ◌==◌, Bool, true, false, if◌then◌else◌, List, [], ◌∷◌, ◌++◌, length, take, refl, ap, ◌∙◌, sym, subst, arith, ne_eqb, slice_get, Option, Some, None, ok_or, Result}
 use Rattle.isa_model.specs.declared.map_defs.MapDef.{MapDef}
 use Rattle.isa_model.specs.declared.instructions.Insn.{Insn}
@@ -12,7 +12,7 @@ use Rattle.assembler.specs.declared.refusals.Refusal.{Refusal}
 use Rattle.assembler.specs.Operands.{◌>>=◌}
 use Rattle.assembler.specs.Statements.{map_line}
 use Rattle.assembler.specs.Labelled.{begins_map_line, begins_version_line, version_line}
-use Rattle.isa_model.specs.declared.versions.Version.{Version as Edition}
+use Rattle.isa_model.specs.declared.versions.Version.{Version as TheVersion}
 use Rattle.assembler.specs.Naming.{NameUse}
 use Rattle.assembler.specs.Assembling.{ReadSoFar, TokenSpan, at_end, accept, read_on}
 use Rattle.assembler.proofs.PlainTexts.{plain_statement, added, added_row, added_version}
@@ -43,7 +43,7 @@ any-agrees s true final version more unused h =
 any-agrees s false final version more unused h =
     more-agrees s (begins_map_line (slice_get s.tokens 0)) final refl more unused h
 
-at_end-at : (ts : List Token) (v : Edition) (ms : List MapDef) (ps : List TokenSpan)
+at_end-at : (ts : List Token) (v : TheVersion) (ms : List MapDef) (ps : List TokenSpan)
     (is : List Insn) (ls : List (List ℕ × ℕ)) (us : List NameUse) (final : plain.StatementSoFar)
     → (us ≡ []) × (ls ≡ [])
     → plain.at_end (record { tokens = ts; parts = record { version = v; maps = ms; insns = is } })

@@ -1,4 +1,4 @@
--- Texts without labels and names, read in a simpler way: canonical text is one.
+-- A simpler reading of texts that have no labels and no names; canonical text has none.
 use Rattle.std.proofs.Common.{ℕ, zero, suc, ◌-◌, ◌==◌, Bool, true, false, if◌then◌else◌, List, [], ◌∷◌, ◌++◌, length, ◌≡◌, refl, Option, Some, None, Result, Ok, Err}
 use Rattle.std.specs.Prelude.{option_and_then, is_none, slice_get, ◌&&◌}
 use Rattle.isa_model.specs.declared.instructions.Insn.{Insn}
@@ -16,7 +16,7 @@ use Rattle.assembler.specs.Labelled.{begins_map_line, begins_version_line, versi
 use Rattle.assembler.specs.MapTests.{takes_row, objection_to_load}
 use Rattle.assembler.specs.declared.readings.Statement.{Statement}
 use Rattle.assembler.specs.declared.readings.Statement.TheVariants.{Version}
-use Rattle.isa_model.specs.declared.versions.Version.{Version as Edition}
+use Rattle.isa_model.specs.declared.versions.Version.{Version as TheVersion}
 use Rattle.isa_model.specs.declared.versions.Version.TheVariants.{One, Two}
 use Rattle.assembler.specs.Assembling.{is_one}
 pub use Rattle.assembler.specs.Assembling.{has_room}
@@ -44,7 +44,7 @@ plain_statement ts = unnamed_reading (statement_of ts)
 
 -- the version, the map rows and the instructions before a statement
 pub record Parts : Type 0 where
-  pub version : Edition
+  pub version : TheVersion
   pub maps : List MapDef
   pub insns : List Insn
 

@@ -97,14 +97,14 @@ is_name_not : (x : Word) → is_name x ≡ true → x ≢ word.Pc
 is_name_not x h e =
     let no : is_name word.Pc ≡ true = subst (λ (y : Word). is_name y ≡ true) e h in absurd (cc)
 
-named_target : (half : ℕ) (ts : List Token) (i : ℕ) (x : Word) (t : ℤ × Option ℕ) (b : Bool)
+named_target : (limit : ℕ) (ts : List Token) (i : ℕ) (x : Word) (t : ℤ × Option ℕ) (b : Bool)
     → is_name x ≡ b
     → (if b then keep (length ts == i + 1) (let z : ℤ × Option ℕ = (pos 0, Some i) in z)
     else Err Form) ≡ Ok t → At ts i (Named x)
-    → (xs : List Token) × IsTarget half xs t.0 i t.1 × HasTokensAt ts i xs
+    → (xs : List Token) × IsTarget limit xs t.0 i t.1 × HasTokensAt ts i xs
     × (length ts ≡ i + length xs)
-named_target half ts i x t false is h here = absurd (cc)
-named_target half ts i x t true is h here =
+named_target limit ts i x t false is h here = absurd (cc)
+named_target limit ts i x t true is h here =
     let (b, same) = kept (length ts == i + 1) (let z : ℤ × Option ℕ = (pos 0, Some i) in z) t h in (
       Named x ∷ [],
       inr (
@@ -118,13 +118,13 @@ named_target half ts i x t true is h here =
       equal (length ts) (i + 1) b,
     )
 
-target_of : (half : ℕ) (ts : List Token) (i : ℕ) (t : Token) (x : ℤ × Option ℕ) → At ts i t
-    → target_token half ts i t ≡ Ok x
-    → (xs : List Token) × IsTarget half xs x.0 i x.1 × HasTokensAt ts i xs
+target_of : (limit : ℕ) (ts : List Token) (i : ℕ) (t : Token) (x : ℤ × Option ℕ) → At ts i t
+    → target_token limit ts i t ≡ Ok x
+    → (xs : List Token) × IsTarget limit xs x.0 i x.1 × HasTokensAt ts i xs
     × (length ts ≡ i + length xs)
-target_of half ts i (Signed m) x here h =
-    let (by, distance, rest) = bind (signed_at half ts i) _ x h in
-    let (s, n, signs, number, is) = signed half ts i by distance in
+target_of limit ts i (Signed m) x here h =
+    let (by, distance, rest) = bind (signed_at limit ts i) _ x h in
+    let (s, n, signs, number, is) = signed limit ts i by distance in
     let (b, same) = kept (length ts == i + 2) (let z : ℤ × Option ℕ = (by, None) in z) x rest in
     let next : i + 1 ≡ suc i = omega arith in (
       Signed s ∷ Number n ∷ [],
@@ -132,21 +132,21 @@ target_of half ts i (Signed m) x here h =
         s,
         n,
         refl,
-        subst (λ (q : ℤ × Option ℕ). IsSigned half s n q.0) same is,
+        subst (λ (q : ℤ × Option ℕ). IsSigned limit s n q.0) same is,
         ap (λ (q : ℤ × Option ℕ). q.1) (sym same),
       ),
       (signs, (subst (λ j. At ts j (Number n)) next number, tt)),
       equal (length ts) (i + 2) b,
     )
-target_of half ts i (Named y) x here h = named_target half ts i y x (is_name y) refl h here
-target_of half ts i (Number n) x here h = absurd (cc)
+target_of limit ts i (Named y) x here h = named_target limit ts i y x (is_name y) refl h here
+target_of limit ts i (Number n) x here h = absurd (cc)
 
-pub target : (half : ℕ) (ts : List Token) (i : ℕ) (x : ℤ × Option ℕ) → target_at half ts i ≡ Ok x
-    → (xs : List Token) × IsTarget half xs x.0 i x.1 × HasTokensAt ts i xs
+pub target : (limit : ℕ) (ts : List Token) (i : ℕ) (x : ℤ × Option ℕ) → target_at limit ts i ≡ Ok x
+    → (xs : List Token) × IsTarget limit xs x.0 i x.1 × HasTokensAt ts i xs
     × (length ts ≡ i + length xs)
-target half ts i x h =
-    let (t, here, is) = bind (token_at ts i) (target_token half ts i) x h in
-    target_of half ts i t x (token ts i t here) is
+target limit ts i x h =
+    let (t, here, is) = bind (token_at ts i) (target_token limit ts i) x h in
+    target_of limit ts i t x (token ts i t here) is
 
 -- ---- maps
 

@@ -37,10 +37,10 @@ abbrev read : Insn → Option ℕ → Result Reading Wrong
 read i name = Ok (record { insn = i; name = name })
 
 -- a sign at that index, and a number
-signed-reads : (half at : ℕ) (s : Sign) (n : ℕ) (k : ℤ) → IsSigned half s n k
-    → (is_minus s >>= λ minus. signed_within half at minus n) ≡ Ok k
-signed-reads half at s n k (inl h) = rw (h.0, h.2, lt-ltb n half h.1) refl
-signed-reads half at s n k (inr h) = rw (h.0, h.2, le-leb n half h.1) refl
+signed-reads : (limit at : ℕ) (s : Sign) (n : ℕ) (k : ℤ) → IsSigned limit s n k
+    → (is_minus s >>= λ minus. signed_within limit at minus n) ≡ Ok k
+signed-reads limit at s n k (inl h) = rw (h.0, h.2, lt-ltb n limit h.1) refl
+signed-reads limit at s n k (inr h) = rw (h.0, h.2, le-leb n limit h.1) refl
 
 -- ---- arithmetic
 

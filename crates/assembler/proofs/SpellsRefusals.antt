@@ -36,7 +36,7 @@ IsOtherError NoForm = ⊥
 IsOtherError OutOfRange = ⊥
 IsOtherError kind = Unit {0}
 
--- of two results in a row, the one that fails
+-- of two results, one after the other, the one that fails
 split : {A B E : Type 0} (r : Result A E) (f : A → Result B E) (e : E) → (r >>= f) ≡ Err e
     → (r ≡ Err e) ⊎ ((x : A) × (r ≡ Ok x) × (f x ≡ Err e))
 split (Ok x) f e h = inr (x, refl, h)

@@ -30,7 +30,7 @@ use Rattle.assembler.proofs.SpellsLaws.{statement_of-Spells}
 
 -- ---- statements
 
--- a number of a map line; a number past the greatest of its field counts as the greatest
+-- a number of a map line; one over the most of its field counts as the most
 abbrev pub limited : ℕ → ℕ → ℕ
 limited most n = if nat_le n most then n else most
 
@@ -43,12 +43,12 @@ SpellsRow ts row =
 
 -- nothing, the version if no label comes before it, a map row, or an instruction
 abbrev pub SpellsSome : ℕ → List Token → Type 0
-SpellsSome label ts =
-    (ts ≡ []) ⊎ (((label ≡ 0) × (ts ≡ Named word.Version ∷ Number 2 ∷ []))
+SpellsSome skipped ts =
+    (ts ≡ []) ⊎ (((skipped ≡ 0) × (ts ≡ Named word.Version ∷ Number 2 ∷ []))
     ⊎ (((row : MapDef) × SpellsRow ts row)
     ⊎ ((i : Insn) × (name : Option ℕ) × Spells ts i name)))
 
--- a statement, its label aside
+-- a statement without its label
 abbrev pub IsSpelled : List Token → Type 0
 IsSpelled ts = SpellsSome (label_length ts) (drop (label_length ts) ts)
 
@@ -122,54 +122,55 @@ none_left [] h = refl
 none_left (t ∷ ts) h =
     let zero : length (t ∷ ts) ≡ 0 = equal (length (t ∷ ts)) 0 h in absurd (omega (arith, zero))
 
-instruction_spells : (label : ℕ) (ts : List Token) (s : Statement)
+instruction_spells : (skipped : ℕ) (ts : List Token) (s : Statement)
     → (statement_of ts >>= λ r. let z : Result Statement Wrong = Ok (said.Instruction r) in z)
-    ≡ Ok s → SpellsSome label ts
-instruction_spells label ts s h =
+    ≡ Ok s → SpellsSome skipped ts
+instruction_spells skipped ts s h =
     let (r, found, last) = bind (statement_of ts) _ s h in
     inr (inr (inr (r.insn, r.name, statement_of-Spells ts r found)))
 
-line_spells : (label : ℕ) (ts : List Token) (s : Statement) (b : Bool)
+line_spells : (skipped : ℕ) (ts : List Token) (s : Statement) (b : Bool)
     → begins_map_line (slice_get ts 0) ≡ b
     → (if b then (map_line ts >>= λ row. let z : Result Statement Wrong = Ok (said.Row row) in z)
     else (statement_of ts >>= λ r. let z : Result Statement Wrong = Ok (said.Instruction r) in z))
     ≡ Ok s
-    → SpellsSome label ts
-line_spells label ts s true is h =
+    → SpellsSome skipped ts
+line_spells skipped ts s true is h =
     let (row, found, last) = bind (map_line ts) _ s h in
     inr (inr (inl (row, row_spells ts row (map_token (slice_get ts 0) is) found)))
-line_spells label ts s false is h = instruction_spells label ts s h
+line_spells skipped ts s false is h = instruction_spells skipped ts s h
 
-spelled_spells : (label : ℕ) (ts : List Token) (s : Statement) (b : Bool) → (length ts == 0) ≡ b
+spelled_spells : (skipped : ℕ) (ts : List Token) (s : Statement) (b : Bool) → (length ts == 0) ≡ b
     → (if b then Ok said.Empty
     else if begins_map_line (slice_get ts 0)
     then (map_line ts >>= λ row. let z : Result Statement Wrong = Ok (said.Row row) in z)
     else (statement_of ts >>= λ r. let z : Result Statement Wrong = Ok (said.Instruction r) in z))
     ≡ Ok s
-    → SpellsSome label ts
-spelled_spells label ts s true is h = inl (none_left ts is)
-spelled_spells label ts s false is h =
-    line_spells label ts s (begins_map_line (slice_get ts 0)) refl h
+    → SpellsSome skipped ts
+spelled_spells skipped ts s true is h = inl (none_left ts is)
+spelled_spells skipped ts s false is h =
+    line_spells skipped ts s (begins_map_line (slice_get ts 0)) refl h
 
-unlabelled : (label : ℕ) (ts : List Token) (s : Statement) (b : Bool) → (label == 0) ≡ b
+unlabelled : (skipped : ℕ) (ts : List Token) (s : Statement) (b : Bool) → (skipped == 0) ≡ b
     → At ts 0 (Named word.Version) → (if b then version_line ts else Err Form) ≡ Ok s
-    → SpellsSome label ts
-unlabelled label ts s true is first h = inr (inl (equal label 0 is, version_spells ts s first h))
-unlabelled label ts s false is first h = absurd (cc)
+    → SpellsSome skipped ts
+unlabelled skipped ts s true is first h =
+    inr (inl (equal skipped 0 is, version_spells ts s first h))
+unlabelled skipped ts s false is first h = absurd (cc)
 
-behind_spells : (label : ℕ) (ts : List Token) (s : Statement) (b : Bool)
+behind_spells : (skipped : ℕ) (ts : List Token) (s : Statement) (b : Bool)
     → begins_version_line (slice_get ts 0) ≡ b
-    → (if b then (if label == 0 then version_line ts else Err Form) else spelled ts) ≡ Ok s
-    → SpellsSome label ts
-behind_spells label ts s true is h =
-    unlabelled label ts s (label == 0) refl (version_token (slice_get ts 0) is) h
-behind_spells label ts s false is h = spelled_spells label ts s (length ts == 0) refl h
+    → (if b then (if skipped == 0 then version_line ts else Err Form) else spelled ts) ≡ Ok s
+    → SpellsSome skipped ts
+behind_spells skipped ts s true is h =
+    unlabelled skipped ts s (skipped == 0) refl (version_token (slice_get ts 0) is) h
+behind_spells skipped ts s false is h = spelled_spells skipped ts s (length ts == 0) refl h
 
 -- what is read of a statement is what it spells
-pub spelled_behind-SpellsSome : (label : ℕ) (ts : List Token) (s : Statement)
-    → spelled_behind label ts ≡ Ok s → SpellsSome label ts
-spelled_behind-SpellsSome label ts s h =
-    behind_spells label ts s (begins_version_line (slice_get ts 0)) refl h
+pub spelled_behind-SpellsSome : (skipped : ℕ) (ts : List Token) (s : Statement)
+    → spelled_behind skipped ts ≡ Ok s → SpellsSome skipped ts
+spelled_behind-SpellsSome skipped ts s h =
+    behind_spells skipped ts s (begins_version_line (slice_get ts 0)) refl h
 
 -- ---- the end of a statement
 
@@ -207,8 +208,9 @@ at_end_spells s k t h =
 
 -- ---- texts
 
--- P holds of the tokens of each statement of a text that begins with this lexeme; some tokens of
--- the first statement were read before. `rest` says the same of the text after its first bytes
+-- P holds of the tokens of each statement of a text that begins with this lexeme of n bytes; the
+-- tokens ts of the first statement were read before. `rest` says the same of the text from its
+-- second byte on, after as many more bytes as its number says
 abbrev pub AtLexeme : (ℕ → List Token → Type 0) → (List Token → Type 0) → List Token → Lexeme → ℕ
     → Type 0
 AtLexeme rest P ts Blank n = rest (n - 1) ts
@@ -300,30 +302,32 @@ unfolding statement_of
 not_empty [] r h = absurd (cc)
 not_empty (t ∷ ts) r h = ne_eqb (length (t ∷ ts)) 0 (λ e. omega (arith, e))
 
-abbrev line_of : Result MapDef Wrong → Result Statement Wrong
-line_of r = r >>= λ row. Ok (said.Row row)
+abbrev row_statement : Result MapDef Wrong → Result Statement Wrong
+row_statement r = r >>= λ row. Ok (said.Row row)
 
-abbrev instruction_of : Result Reading Wrong → Result Statement Wrong
-instruction_of r = r >>= λ q. Ok (said.Instruction q)
+abbrev instruction_statement : Result Reading Wrong → Result Statement Wrong
+instruction_statement r = r >>= λ q. Ok (said.Instruction q)
 
-insn_behind : (label : ℕ) (ts : List Token) (r : Reading) → statement_of ts ≡ Ok r
-    → spelled_behind label ts ≡ Ok (said.Instruction r)
-insn_behind label ts r h =
-    ap (λ (b : Bool). if b then (if label == 0 then version_line ts else Err Form) else spelled ts)
+insn_behind : (skipped : ℕ) (ts : List Token) (r : Reading) → statement_of ts ≡ Ok r
+    → spelled_behind skipped ts ≡ Ok (said.Instruction r)
+insn_behind skipped ts r h =
+    ap
+    (λ (b : Bool). if b then (if skipped == 0 then version_line ts else Err Form) else spelled ts)
     (no_version ts r h)
     ∙ ap (λ (b : Bool). if b then Ok said.Empty
-    else if begins_map_line (slice_get ts 0) then line_of (map_line ts)
-    else instruction_of (statement_of ts)) (not_empty ts r h)
-    ∙ ap (λ (b : Bool). if b then line_of (map_line ts) else instruction_of (statement_of ts))
+    else if begins_map_line (slice_get ts 0) then row_statement (map_line ts)
+    else instruction_statement (statement_of ts)) (not_empty ts r h)
+    ∙ ap (λ (b : Bool). if b then row_statement (map_line ts)
+    else instruction_statement (statement_of ts))
     (no_map ts r h)
-    ∙ ap instruction_of h
+    ∙ ap instruction_statement h
 
 -- a statement that spells something is read
-pub SpellsSome-spelled_behind : (label : ℕ) (ts : List Token) → SpellsSome label ts
-    → (s : Statement) × (spelled_behind label ts ≡ Ok s)
-SpellsSome-spelled_behind label ts (inl none) = (said.Empty, ap (spelled_behind label) none)
-SpellsSome-spelled_behind label ts (inr (inl (first, is))) = (said.Version, rw (first, is) refl)
-SpellsSome-spelled_behind label ts (inr (inr (inl (row, (k, v, e, key, value, entries, is))))) = (
+pub SpellsSome-spelled_behind : (skipped : ℕ) (ts : List Token) → SpellsSome skipped ts
+    → (s : Statement) × (spelled_behind skipped ts ≡ Ok s)
+SpellsSome-spelled_behind skipped ts (inl none) = (said.Empty, ap (spelled_behind skipped) none)
+SpellsSome-spelled_behind skipped ts (inr (inl (first, is))) = (said.Version, rw (first, is) refl)
+SpellsSome-spelled_behind skipped ts (inr (inr (inl (row, (k, v, e, key, value, entries, is))))) = (
   said.Row (record {
     kind = row.kind;
     key_size = limited 65535 k;
@@ -333,5 +337,5 @@ SpellsSome-spelled_behind label ts (inr (inr (inl (row, (k, v, e, key, value, en
   }),
   rw is refl,
 )
-SpellsSome-spelled_behind label ts (inr (inr (inr (i, name, spells)))) =
-    (said.Instruction _, insn_behind label ts _ (Spells-statement_of ts i name spells))
+SpellsSome-spelled_behind skipped ts (inr (inr (inr (i, name, spells)))) =
+    (said.Instruction _, insn_behind skipped ts _ (Spells-statement_of ts i name spells))

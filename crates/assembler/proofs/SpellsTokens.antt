@@ -21,7 +21,7 @@ use Rattle.assembler.specs.declared.wrong.Wrong.TheVariants.{Form, Range}
 use Rattle.assembler.specs.Operands.{◌>>=◌, keep, token_at, as_sign, as_number, as_word, sign_at, number_at, word_at, is_sign, expect_at, is_minus, signed_within, signed_at, number_index, constant_at, same_width, same_register, as_register, register_at, again_at, operand_token, operand_at, place_at}
 use Rattle.assembler.specs.Spells.{reg, IsSigned, SpellsConstant, IsOperand}
 
--- ---- results in a row
+-- ---- results, one after the other
 
 pub bind : {A B E : Type 0} (r : Result A E) (f : A → Result B E) (y : B) → (r >>= f) ≡ Ok y
     → (x : A) × (r ≡ Ok x) × (f x ≡ Ok y)
@@ -194,41 +194,42 @@ minus_in sign.Minus minus h = let same : true ≡ minus = cc in inl (refl, sym s
 minus_in sign.Plus minus h = let same : false ≡ minus = cc in inr (refl, sym same)
 minus_in s minus h = absurd (cc)
 
-positive : (half at n : ℕ) (k : ℤ) → signed_within half at false n ≡ Ok k → (n < half) × (k ≡ pos n)
-positive half at n k h =
-    let (b, same) = passed (nat_lt n half) (pos n) (Range at) k h in (below n half b, sym same)
+positive : (limit at n : ℕ) (k : ℤ) → signed_within limit at false n ≡ Ok k
+    → (n < limit) × (k ≡ pos n)
+positive limit at n k h =
+    let (b, same) = passed (nat_lt n limit) (pos n) (Range at) k h in (below n limit b, sym same)
 
-negative : (half at n : ℕ) (k : ℤ) → signed_within half at true n ≡ Ok k
-    → (n ≤ half) × (k ≡ neg_ℤ (pos n))
-negative half at n k h =
-    let (b, same) = passed (nat_le n half) (neg_ℤ (pos n)) (Range at) k h in
-    (within n half b, sym same)
+negative : (limit at n : ℕ) (k : ℤ) → signed_within limit at true n ≡ Ok k
+    → (n ≤ limit) × (k ≡ neg_ℤ (pos n))
+negative limit at n k h =
+    let (b, same) = passed (nat_le n limit) (neg_ℤ (pos n)) (Range at) k h in
+    (within n limit b, sym same)
 
-signed_number : (half at : ℕ) (s : Sign) (minus : Bool) (n : ℕ) (k : ℤ) → is_minus s ≡ Ok minus
-    → signed_within half at minus n ≡ Ok k → IsSigned half s n k
-signed_number half at s minus n k is fits =
+signed_number : (limit at : ℕ) (s : Sign) (minus : Bool) (n : ℕ) (k : ℤ) → is_minus s ≡ Ok minus
+    → signed_within limit at minus n ≡ Ok k → IsSigned limit s n k
+signed_number limit at s minus n k is fits =
     elim (minus_in s minus is) [
       | inl m ↦
-          let h = negative half at n k (subst (λ b. signed_within half at b n ≡ Ok k) m.1 fits) in
+          let h = negative limit at n k (subst (λ b. signed_within limit at b n ≡ Ok k) m.1 fits) in
           inr (m.0, h.0, h.1)
       | inr m ↦
-          let h = positive half at n k (subst (λ b. signed_within half at b n ≡ Ok k) m.1 fits) in
+          let h = positive limit at n k (subst (λ b. signed_within limit at b n ≡ Ok k) m.1 fits) in
           inl (m.0, h.0, h.1)
     ]
 
 -- a sign and a number
-pub signed : (half : ℕ) (ts : List Token) (i : ℕ) (k : ℤ) → signed_at half ts i ≡ Ok k
-    → (s : Sign) × (n : ℕ) × At ts i (Signed s) × At ts (i + 1) (Number n) × IsSigned half s n k
-signed half ts i k h =
+pub signed : (limit : ℕ) (ts : List Token) (i : ℕ) (k : ℤ) → signed_at limit ts i ≡ Ok k
+    → (s : Sign) × (n : ℕ) × At ts i (Signed s) × At ts (i + 1) (Number n) × IsSigned limit s n k
+signed limit ts i k h =
     let (minus, front, rest) = bind (sign_at ts i >>= is_minus)
-    (λ minus. number_at ts (i + 1) >>= signed_within half i minus) k h in
+    (λ minus. number_at ts (i + 1) >>= signed_within limit i minus) k h in
     let (s, at, is) = bind (sign_at ts i) is_minus minus front in
-    let (n, there, fits) = bind (number_at ts (i + 1)) (signed_within half i minus) k rest in (
+    let (n, there, fits) = bind (number_at ts (i + 1)) (signed_within limit i minus) k rest in (
       s,
       n,
       signed_at_token ts i s at,
       number_at_token ts (i + 1) n there,
-      signed_number half i s minus n k is fits,
+      signed_number limit i s minus n k is fits,
     )
 
 index_in : (i : ℕ) (t : Token) (p : Bool × ℕ) → number_index i t ≡ Ok p

@@ -90,11 +90,12 @@ room-before is js h =
     ap not (le-ltb max_slots (length (slots is)) (omega (arith, h, e)))
 
 -- a version, map rows and instructions before a statement
-abbrev behind : Version → List MapDef → List Insn → Parts
-behind v maps is = record { version = v; maps = maps; insns = is }
+abbrev parts_of : Version → List MapDef → List Insn → Parts
+parts_of v maps is = record { version = v; maps = maps; insns = is }
 
 taken : (v : Version) (maps : List MapDef) (before is : List Insn) (i : Insn) → NamesRows maps i
-    → length (slots ((before ++ i ∷ []) ++ is)) ≤ max_slots → takes (behind v maps before) i ≡ true
+    → length (slots ((before ++ i ∷ []) ++ is)) ≤ max_slots
+    → takes (parts_of v maps before) i ≡ true
 taken v maps before is i named all =
     let there : is_none (objection_to_load maps i) ≡ true =
     objection_to_load-NamesRows maps i named in
@@ -103,17 +104,17 @@ taken v maps before is i named all =
 
 code-read : (v : Version) (maps : List MapDef) (is before : List Insn) → AllFit is
     → All (NamesRows maps) is → length (slots (before ++ is)) ≤ max_slots
-    → assembled (code_text is) 0 (draft [] (behind v maps before))
-    ≡ Some (draft [] (behind v maps (before ++ is)))
+    → assembled (code_text is) 0 (draft [] (parts_of v maps before))
+    ≡ Some (draft [] (parts_of v maps (before ++ is)))
 code-read v maps [] before h named room =
-    ap (λ (l : List Insn). Some (draft [] (behind v maps l))) (sym (append-nil before))
+    ap (λ (l : List Insn). Some (draft [] (parts_of v maps l))) (sym (append-nil before))
 code-read v maps (i ∷ is) before h named room =
     let same : (before ++ i ∷ []) ++ is ≡ before ++ i ∷ is = append_assoc before (i ∷ []) is in
     let all : length (slots ((before ++ i ∷ []) ++ is)) ≤ max_slots = rw same room in
-    line-read i (behind v maps before) (code_text is) h.0
+    line-read i (parts_of v maps before) (code_text is) h.0
     (taken v maps before is i (All-head (NamesRows maps) i is named) all)
     ∙ code-read v maps is (before ++ i ∷ []) h.1 (All-tail (NamesRows maps) i is named) all
-    ∙ ap (λ (l : List Insn). Some (draft [] (behind v maps l))) same
+    ∙ ap (λ (l : List Insn). Some (draft [] (parts_of v maps l))) same
 
 all-named : (maps : List MapDef) (xs : List (Option Insn)) → NamesMaps maps xs
     → All (NamesRows maps) (instructions xs)
@@ -129,7 +130,7 @@ image-again p h =
 
 pub text-read : (p : Program) → IsImage p
     → assembled (canonical_text p) 0 start
-    ≡ Some (draft [] (behind p.version p.maps (instructions p.insns)))
+    ≡ Some (draft [] (parts_of p.version p.maps (instructions p.insns)))
 unfolding canonical_text
 text-read p h =
     let few : length (slots (instructions p.insns)) ≤ max_slots =
@@ -170,8 +171,8 @@ finished-unused s parts e unused =
 pub program_in-canonical_text : (p : Program) → IsImage p → program_in (canonical_text p) ≡ Ok p
 program_in-canonical_text p h =
     let went = read-agrees (canonical_text p) 0 0 text.start
-    (draft [] (behind p.version p.maps (instructions p.insns))) (refl, refl) (text-read p h) in
+    (draft [] (parts_of p.version p.maps (instructions p.insns))) (refl, refl) (text-read p h) in
     ap (λ (r : Result ReadSoFar Refusal). r >>= finished) went.1
-    ∙ finished-unused went.0 (behind p.version p.maps (instructions p.insns))
+    ∙ finished-unused went.0 (parts_of p.version p.maps (instructions p.insns))
     (ap (λ (s : plain.StatementSoFar). s.parts) went.2) went.3.0
     ∙ program_of-instructions p h

@@ -271,7 +271,7 @@ assembled text = error_in text (program_in text)
 
 -- ---- what calls return
 
--- the result of a call is, by its view, the wanted one or its refusal, or it is out of memory
+-- a call returns, by its view, the wanted result or its refusal, or it is out of memory
 abbrev pub IsAsWanted : {A B : Type 0} → (A → B) → Result A Refusal → Result B Refusal → Type 0
 IsAsWanted view (Ok x) wanted = wanted ≡ Ok (view x)
 IsAsWanted view (Err e) wanted = (e.kind ≡ Memory) ⊎ (wanted ≡ Err e)

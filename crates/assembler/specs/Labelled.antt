@@ -50,7 +50,7 @@ abbrev pub fits_form : List Token → Bool
 fits_form ts =
     (begins_version_line (slice_get ts 0) && is_ok (version_number ts)) || is_ok (statement_of ts)
 
--- any number of the text as 0, which is in all ranges of instructions
+-- the token, with 0 in place of a number: 0 is in all ranges of instructions
 abbrev pub zeroed : Token → Token
 zeroed (Number n) = Number 0
 zeroed t = t

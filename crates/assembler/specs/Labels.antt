@@ -1,4 +1,4 @@
--- The names of slots, in the order of their definitions.
+-- The names of slots, in the order of their definitions, and what functions that make them return.
 use Rattle.std.specs.Prelude.{◌≡◌, ◌⊎◌, ℕ, if◌then◌else◌, List, [], ◌∷◌, ◌++◌, is_some, Option, Result, Ok, Err}
 use denote.Ref.{Bor}
 use Rattle.std.specs.Map.{lookup}
@@ -19,7 +19,7 @@ abbrev pub with_label : List (List ℕ × ℕ) → List ℕ → ℕ → Result (
 with_label labels name slot =
     if is_some (slot_in labels name) then Err DefinedTwice else Ok (labels ++ (name, slot) ∷ [])
 
--- a call returns, by its view, the wanted result or its refusal, or it is out of memory
+-- a function makes what is wanted, as `view` shows it, or refuses as is wanted, or memory runs out
 abbrev pub Makes : {A B : Type 0} → (A → B) → Result A AsmErrorKind → Result B AsmErrorKind → Type 0
 Makes view (Ok x) wanted = wanted ≡ Ok (view x)
 Makes view (Err kind) wanted = (kind ≡ Memory) ⊎ (wanted ≡ Err kind)

@@ -141,10 +141,10 @@ extension_of Full64 S32 = Ok Full32
 
 -- ---- numbers in their ranges; `at` is the index of the number or of its minus
 
--- from -half up to below half
+-- from -limit up to below limit
 abbrev pub signed_within : ℕ → ℕ → Bool → ℕ → Result ℤ Wrong
-signed_within half at true n = if nat_le n half then Ok (neg_ℤ (pos n)) else Err (Range at)
-signed_within half at false n = if nat_lt n half then Ok (pos n) else Err (Range at)
+signed_within limit at true n = if nat_le n limit then Ok (neg_ℤ (pos n)) else Err (Range at)
+signed_within limit at false n = if nat_lt n limit then Ok (pos n) else Err (Range at)
 
 -- 64 bits, signed or not
 abbrev pub wide_within : ℕ → Bool → ℕ → Result ℕ Wrong
@@ -154,8 +154,8 @@ wide_within at false n = if nat_lt n (2 ^ 64) then Ok n else Err (Range at)
 
 -- a sign and a number
 abbrev pub signed_at : ℕ → List Token → ℕ → Result ℤ Wrong
-signed_at half ts i =
-    sign_at ts i >>= is_minus >>= λ minus. number_at ts (i + 1) >>= signed_within half i minus
+signed_at limit ts i =
+    sign_at ts i >>= is_minus >>= λ minus. number_at ts (i + 1) >>= signed_within limit i minus
 
 -- the index of the number at index i, after its minus if it has one
 abbrev pub number_index : ℕ → Token → Result (Bool × ℕ) Wrong
@@ -233,19 +233,19 @@ is_name word.Pc = false
 is_name x = true
 
 abbrev pub target_token : ℕ → List Token → ℕ → Token → Result (ℤ × Option ℕ) Wrong
-target_token half ts i (Signed s) =
-    signed_at half ts i >>= λ by. keep (length ts == i + 2) (by, None)
-target_token half ts i (Named x) =
+target_token limit ts i (Signed s) =
+    signed_at limit ts i >>= λ by. keep (length ts == i + 2) (by, None)
+target_token limit ts i (Named x) =
     if is_name x then keep (length ts == i + 1) (pos 0, Some i) else Err Form
-target_token half ts i (Number n) = Err Form
+target_token limit ts i (Number n) = Err Form
 
 -- a target at index i, and nothing after it
 abbrev pub target_at : ℕ → List Token → ℕ → Result (ℤ × Option ℕ) Wrong
-target_at half ts i = token_at ts i >>= target_token half ts i
+target_at limit ts i = token_at ts i >>= target_token limit ts i
 
 -- ---- maps
 
--- a number without a sign; a number past the greatest counts as the greatest, which is out of a
+-- a number without a sign; one over the most of its field counts as the most, which is out of a
 -- map's limits as well
 abbrev pub field_at : ℕ → List Token → ℕ → Result ℕ Wrong
 field_at most ts i = number_at ts i >>= λ n. Ok (if nat_le n most then n else most)

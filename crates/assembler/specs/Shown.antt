@@ -29,11 +29,11 @@ from column bs = drop (column - 1) bs
 
 -- ---- what is shown of it
 
--- tabs and printable ASCII as they are, and a question mark for every other byte
+-- tabs and printable ASCII stay, and every other byte becomes a question mark
 abbrev pub shown_byte : ℕ → ℕ
 shown_byte b = if (b == 9) || (nat_le 32 b && nat_lt b 127) then b else 63
 
--- a tab has the width of a tab
+-- a tab below a tab, and a space below every other byte
 abbrev pub padding_byte : ℕ → ℕ
 padding_byte b = if b == 9 then 9 else 32
 
@@ -43,7 +43,7 @@ shown_line column bs =
     if (length bs == 0) || nat_lt 160 (length bs) then []
     else map shown_byte bs ++ (codes "\n" ++ (map padding_byte (before column bs) ++ codes "^\n"))
 
--- after the sentence with line and column: the line with the caret, and what helps
+-- after the sentence with line and column: the line with the caret, and the hint
 abbrev pub shown : List ℕ → AsmError → List ℕ
 shown text error =
     let bs = line_of error.line text in

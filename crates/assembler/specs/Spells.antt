@@ -81,10 +81,10 @@ extends Full32 = (Full64, S32)
 abbrev pub reg : Width → Reg → Token
 reg w r = Named (word.Register w r)
 
--- a sign and a number from -half up to below half
+-- a sign and a number from -limit up to below limit
 abbrev pub IsSigned : ℕ → Sign → ℕ → ℤ → Type 0
-IsSigned half s n k = ((s ≡ sign.Plus) × (n < half) × (k ≡ pos n))
-    ⊎ ((s ≡ sign.Minus) × (n ≤ half) × (k ≡ neg_ℤ (pos n)))
+IsSigned limit s n k = ((s ≡ sign.Plus) × (n < limit) × (k ≡ pos n))
+    ⊎ ((s ≡ sign.Minus) × (n ≤ limit) × (k ≡ neg_ℤ (pos n)))
 
 -- N: a number of 32 bits, with or without a minus
 abbrev pub SpellsConstant : List Token → ℤ → Type 0
@@ -104,7 +104,7 @@ abbrev pub IsOperand : Width → List Token → Operand → Type 0
 IsOperand w ts (Register r) = ts ≡ reg w r ∷ []
 IsOperand w ts (Constant k) = SpellsConstant ts k
 
--- a number without a sign; a number past the greatest of its field counts as the greatest
+-- a number without a sign; one over the most of its field counts as the most
 abbrev pub field : ℕ → ℕ
 field n = if nat_le n 4294967295 then n else 4294967295
 
@@ -117,14 +117,14 @@ abbrev pub memory : Word → Reg → Sign → ℕ → List Token → List Token
 memory size base s n rest = Signed sign.Star ∷ Signed sign.Open ∷ Named size ∷ Signed sign.Star
     ∷ Signed sign.Close ∷ Signed sign.Open ∷ place base s n (Signed sign.Close ∷ rest)
 
--- the tokens are those, with some sign and number before the offset
+-- some sign and number spell the place's offset, and the rest holds of them
 abbrev pub Offset : Place → (Sign → ℕ → Type 0) → Type 0
 Offset p Is = (s : Sign) × (n : ℕ) × IsSigned (2 ^ 15) s n p.offset × Is s n
 
 -- T: a distance, or a name, which is the token at this index
 abbrev pub IsTarget : ℕ → List Token → ℤ → ℕ → Option ℕ → Type 0
-IsTarget half ts by i name =
-    ((s : Sign) × (n : ℕ) × (ts ≡ Signed s ∷ Number n ∷ []) × IsSigned half s n by × (name ≡ None))
+IsTarget limit ts by i name =
+    ((s : Sign) × (n : ℕ) × (ts ≡ Signed s ∷ Number n ∷ []) × IsSigned limit s n by × (name ≡ None))
     ⊎ ((x : Word) × (ts ≡ Named x ∷ []) × (x ≢ word.Pc) × (by ≡ pos 0) × (name ≡ Some i))
 
 -- ---- forms

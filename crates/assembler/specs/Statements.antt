@@ -1,5 +1,5 @@
--- The instruction that the tokens of a statement spell, or the first thing from the left that is
--- wrong with them.
+-- The instruction or the map row that the tokens of a statement spell, or the first thing from the
+-- left that is wrong with them.
 use Rattle.std.specs.Prelude.{ℕ, ◌+◌, ◌^◌, ◌==◌, Bool, true, false, if◌then◌else◌, ℤ, pos, List, length, slice_get, Option, Some, None, Result, Ok, Err}
 use Rattle.isa_model.specs.declared.registers.Reg.{Reg}
 use Rattle.isa_model.specs.declared.registers.Reg.TheVariants.{R0}
@@ -217,7 +217,7 @@ by_token ts (Number n) = Err Form
 unfoldable pub statement_of : List Token → Result Reading Wrong
 statement_of ts = token_at ts 0 >>= by_token ts
 
--- map K V E with its type
+-- `map`, a map type, a key size, a value size and max_entries
 abbrev pub map_line : List Token → Result MapDef Wrong
 map_line ts =
     word_at ts 1 >>= as_map_type >>= λ kind. field_at 65535 ts 2 >>= λ key. field_at 4294967295 ts 3

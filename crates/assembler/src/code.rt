@@ -1,4 +1,4 @@
-//! Instructions in a row, and the slots that they fill.
+//! The instructions of a text, in their order, and the slots that they fill.
 
 ghost use Rattle.std.specs.Prelude.{◌≡◌, ◌≤◌, ◌+◌, [], length};
 ghost use Rattle.isa_model.specs.Code.Instructions.{slots};

@@ -103,24 +103,24 @@ impl<'a> Draft<'a> {
     pub fn close(&mut self) -> Result<(), Refusal>
         ensures { IsAsWanted (λ _. progress_of self.new) result (at_end (progress_of self.old)) }
     {
-        let label = self.label_length();
-        let statement = match spelled_behind(label, &self.tokens[label..]) {
+        let label_tokens = self.label_length();
+        let statement = match spelled_behind(label_tokens, &self.tokens[label_tokens..]) {
             Ok(statement) => statement,
-            Err(wrong) => return Err(self.refusal(wrong, label)),
+            Err(wrong) => return Err(self.refusal(wrong, label_tokens)),
         };
         let first = self.is_first();
         let code = &self.code;
         if let Some(objection) = objection(first, &code.insns, &self.maps, statement) {
-            return Err(self.refused_by(objection, label));
+            return Err(self.refused_by(objection, label_tokens));
         }
-        self.define_before(label)?;
-        self.end(statement, label)
+        self.define_before(label_tokens)?;
+        self.end(statement, label_tokens)
     }
 
-    // Ends a statement that tokens spell. Its label has `label` tokens.
-    fn end(&mut self, statement: Statement, label: usize) -> Result<(), Refusal>
+    // Ends a statement that tokens spell, after a label of `label_tokens` tokens.
+    fn end(&mut self, statement: Statement, label_tokens: usize) -> Result<(), Refusal>
         ensures { IsAsWanted (λ _. progress_of self.new) result
-            (ended (progress_of self.old) label statement) }
+            (ended (progress_of self.old) label_tokens statement) }
     {
         match statement {
             Statement::Empty => {
@@ -135,7 +135,7 @@ impl<'a> Draft<'a> {
                 Ok(())
             }
             Statement::Row(row) => self.add_row(row),
-            Statement::Instruction(reading) => self.add(reading, label),
+            Statement::Instruction(reading) => self.add(reading, label_tokens),
         }
     }
 
@@ -236,12 +236,13 @@ impl<'a> Draft<'a> {
         }
     }
 
-    // Defines the label of the statement, which has `label` tokens, if it has one.
-    fn define_before(&mut self, label: usize) -> Result<(), Refusal>
+    // Defines the label of the statement, of `label_tokens` tokens, if it has one.
+    fn define_before(&mut self, label_tokens: usize) -> Result<(), Refusal>
         ensures { IsAsWanted (λ _. progress_of self.new) result
-            (if label == 0 then Ok (progress_of self.old) else named (progress_of self.old)) }
+            (if label_tokens == 0 then Ok (progress_of self.old)
+            else named (progress_of self.old)) }
     {
-        if label > 0 {
+        if label_tokens > 0 {
             self.define_label()
         } else {
             Ok(())

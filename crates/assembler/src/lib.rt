@@ -2,8 +2,8 @@
 //!
 //! Bytes become tokens (`lexer`), the tokens of a statement an instruction (`statements`), and
 //! instructions with their names a program (`draft`, `assembly`). `specs/` has a definition for
-//! each of these, and the last of them, `assembled`, is what the whole text spells or why it spells
-//! nothing. The code returns just what the definitions say, or that memory ran out.
+//! each of these. The last of them, `assembled`, is the program that the whole text spells, or why
+//! it spells none. The code returns just what the definitions say, or that memory ran out.
 #![tactic(auto)]
 
 mod assembly;

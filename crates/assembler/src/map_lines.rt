@@ -9,7 +9,7 @@ use super::wrong::Wrong;
 use isa_model::MapDef;
 use lexer::{Sign, Token};
 
-/// A number without a sign; one that is larger than the greatest counts as the greatest.
+/// A number without a sign; one over `most` counts as `most`.
 pub fn field_at(most: u32, tokens: &[Token], i: usize) -> Result<u32, Wrong>
     ensures value { result ≡ field_at most tokens.now i }
     ensures fits { IfOk result (λ n. n ≤ most) }

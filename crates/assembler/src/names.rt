@@ -85,7 +85,7 @@ fn aim(labels: &Labels<'_>, used: &Use<'_>, insn: Insn) -> Result<Insn, AsmError
 }
 
 /// Puts the distances of names into the instructions that use them. The first use that is wrong is
-/// refused, at its line and column.
+/// refused, at its offset in the text.
 pub fn resolve(insns: &mut Vec<Insn>, labels: &Labels<'_>, uses: &[Use<'_>]) -> Result<(), Refusal>
     ensures { MatchResult result
         (λ _. resolved (slot_in (map label_of labels.now.entries))

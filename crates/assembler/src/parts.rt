@@ -209,7 +209,7 @@ pub fn as_map_type(word: Word) -> Result<MapType, Wrong>
     }
 }
 
-/// Whether it is `map_by_idx`.
+/// Whether the word is `map_by_idx`.
 pub fn is_by_index(word: Word) -> bool
     ensures { result ≡ is_by_index word }
 {
@@ -219,7 +219,7 @@ pub fn is_by_index(word: Word) -> bool
     }
 }
 
-/// Whether it is all of a register.
+/// Whether the width is that of a whole register.
 pub fn is_full(width: Width) -> bool
     ensures { result ≡ is_full width }
 {

@@ -1,4 +1,4 @@
-//! Statements as they were read.
+//! What statements are read as.
 
 use isa_model::{Insn, MapDef};
 
@@ -11,7 +11,7 @@ pub struct Reading {
 }
 
 /// What the tokens of a statement spell, without its label. A number too large for a map line or
-/// for the load of a map counts as the greatest of its field.
+/// for the load of a map counts as the most of its field.
 #[derive(Clone, Copy)]
 pub enum Statement {
     Empty,

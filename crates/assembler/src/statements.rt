@@ -246,12 +246,12 @@ pub fn fits_form(tokens: &[Token]) -> bool
         || statement_of(tokens).is_ok()
 }
 
-/// What the tokens of a statement spell that follow its label, which has `label` tokens.
-pub fn spelled_behind(label: usize, tokens: &[Token]) -> Result<Statement, Wrong>
-    ensures { result ≡ spelled_behind label tokens.now }
+/// What the tokens of a statement spell that follow its label of `label_tokens` tokens.
+pub fn spelled_behind(label_tokens: usize, tokens: &[Token]) -> Result<Statement, Wrong>
+    ensures { result ≡ spelled_behind label_tokens tokens.now }
 {
     if begins_version_line(token_in(tokens, 0)) {
-        if label == 0 {
+        if label_tokens == 0 {
             version_line(tokens)
         } else {
             Err(Wrong::Form)

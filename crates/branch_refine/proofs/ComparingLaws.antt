@@ -25,14 +25,14 @@ use Rattle.reg_state.specs.declared.scalars.Scalar.{Scalar}
 use Rattle.reg_state.specs.declared.kinds.Kind.{Kind}
 use Rattle.reg_state.specs.declared.kinds.Kind.TheVariants.{Number, Packet, PacketEnd, MapValue, MapValueOrNull}
 use Rattle.reg_state.specs.Kinds.{Assigned, Allows, AllowsOrNull, IsProved}
-use Rattle.reg_state.specs.Reach.{exchanged}
+use Rattle.reg_state.specs.Going.{exchanged}
 use Rattle.stack_state.specs.declared.states.State.{State}
 use Rattle.stack_state.specs.Meaning.{MeansBy}
 use Rattle.stack_state.proofs.MeaningLaws.{reg_allowed}
 use Rattle.stack_state.specs.Places.{kind_of}
 use Rattle.stack_state.proofs.KindEffects.{IsNull}
 use Rattle.branch_refine.specs.declared.comparing.Compared.{Compared}
-use Rattle.branch_refine.specs.declared.comparing.Compared.TheVariants as sort
+use Rattle.branch_refine.specs.declared.comparing.Compared.TheVariants as comparing
 use Rattle.branch_refine.specs.declared.comparing.Compared.TheVariants.{Numbers, OrNull, Live, Undefined}
 use Rattle.branch_refine.specs.Comparing.{bytes_before, packet_by, with_end, with_packet, null_by, zero_by, with_number, pointers_by, registers_by, constant_by, operand_by, compared_by, same, IsDefined}
 
@@ -40,8 +40,9 @@ use Rattle.branch_refine.specs.Comparing.{bytes_before, packet_by, with_end, wit
 
 -- under the assignment
 abbrev pub SaysUnder : Assigned → Compared → Bool → Type 0
-SaysUnder e (sort.Packet identity shows bytes) taken = taken ≡ shows → IsProved e identity bytes
-SaysUnder e (OrNull identity null) taken = IsNull (e.value identity) (same taken null)
+SaysUnder e (comparing.Packet identity shows bytes) taken =
+    taken ≡ shows → IsProved e identity bytes
+SaysUnder e (OrNull identity null) taken = IsNull (e.map_value identity) (same taken null)
 SaysUnder e (Live null) taken = same taken null ≡ false
 SaysUnder e c taken = Unit {0}
 
@@ -85,12 +86,12 @@ packet_outcome e LessEqual i fixed = (
 packet_outcome e c i fixed = tt
 
 -- the same comparison with its operands exchanged
-turned : (c : Comparison) (a b : ℤ) → packet_order c b a ≡ packet_order (exchanged c) a b
-turned Greater a b = refl
-turned GreaterEqual a b = refl
-turned Less a b = refl
-turned LessEqual a b = refl
-turned c a b = refl
+mirrored : (c : Comparison) (a b : ℤ) → packet_order c b a ≡ packet_order (exchanged c) a b
+mirrored Greater a b = refl
+mirrored GreaterEqual a b = refl
+mirrored Less a b = refl
+mirrored LessEqual a b = refl
+mirrored c a b = refl
 
 end_outcome : (e : Assigned) (c : Comparison) (i : ℕ) (fixed : ℤ) (k : Kind) (u v : Value)
     → u ≡ Ptr region.Packet (fixed +ℤ e.offset i)
@@ -98,22 +99,22 @@ end_outcome : (e : Assigned) (c : Comparison) (i : ℕ) (fixed : ℤ) (k : Kind)
 end_outcome e c i fixed PacketEnd u v at h = rw (at, h) (packet_outcome e c i fixed)
 end_outcome e c i fixed k u v at h = tt
 
-turned_outcome : (e : Assigned) (c : Comparison) (k : Kind) (u v : Value)
+mirrored_outcome : (e : Assigned) (c : Comparison) (k : Kind) (u v : Value)
     → u ≡ Ptr region.PacketEnd (pos 0) → Allows e k v
     → OutcomeIs e (with_packet c k) (compared e.packet_length c Full64 u v)
-turned_outcome e c (Packet fixed i least greatest proved) u v at h =
+mirrored_outcome e c (Packet fixed i least greatest proved) u v at h =
     let points = h.points in
     rw (at, points)
     (subst (OutcomeIs e (packet_by (exchanged c) i fixed))
-    (sym (turned c (fixed +ℤ e.offset i) (pos e.packet_length)))
+    (sym (mirrored c (fixed +ℤ e.offset i) (pos e.packet_length)))
     (packet_outcome e (exchanged c) i fixed))
-turned_outcome e c k u v at h = tt
+mirrored_outcome e c k u v at h = tt
 
 pointers_outcome : (e : Assigned) (c : Comparison) (j k : Kind) (u v : Value) → Allows e j u
     → Allows e k v → OutcomeIs e (pointers_by c j k) (compared e.packet_length c Full64 u v)
 pointers_outcome e c (Packet fixed i least greatest proved) k u v left right =
     end_outcome e c i fixed k u v left.points right
-pointers_outcome e c PacketEnd k u v left right = turned_outcome e c k u v left right
+pointers_outcome e c PacketEnd k u v left right = mirrored_outcome e c k u v left right
 pointers_outcome e c j k u v left right = tt
 
 -- ---- null
@@ -134,14 +135,14 @@ or_null_unequal e m (Some n) u h = let points = h.0 in (true, rw points refl, re
 
 equal_outcome : (e : Assigned) (k : Kind) (u : Value) → Allows e k u
     → OutcomeIs e (null_by true k) (compared_constant Equal Full64 u (pos 0))
-equal_outcome e (MapValueOrNull m i) u h = or_null_equal e m (e.value i) u h
+equal_outcome e (MapValueOrNull m i) u h = or_null_equal e m (e.map_value i) u h
 equal_outcome e (MapValue m least greatest) u h =
     let points = h.points in (false, rw points refl, refl)
 equal_outcome e k u h = tt
 
 unequal_outcome : (e : Assigned) (k : Kind) (u : Value) → Allows e k u
     → OutcomeIs e (null_by false k) (compared_constant NotEqual Full64 u (pos 0))
-unequal_outcome e (MapValueOrNull m i) u h = or_null_unequal e m (e.value i) u h
+unequal_outcome e (MapValueOrNull m i) u h = or_null_unequal e m (e.map_value i) u h
 unequal_outcome e (MapValue m least greatest) u h =
     let points = h.points in (true, rw points refl, refl)
 unequal_outcome e k u h = tt

@@ -47,7 +47,7 @@ no_operand a w (Register r) h is = no_number (kind_of a r) h is
 holder : (a : State) (r : Reg) (numbers : Scalar) → Some numbers ≡ numbers_in (kind_of a r)
     → r ≢ R10
 holder a r numbers h = λ end.
-    let pointer : Some numbers ≡ None =
+    let none : Some numbers ≡ None =
     subst (λ q. Some numbers ≡ numbers_in (kind_of a q)) end h in
     absurd (cc)
 
@@ -102,7 +102,7 @@ operand_narrowed p e a s w (Register r) new own allowed m =
     MeansBy-narrow p e a s r (Number new) (λ end. own (ap Register end)) allowed m
 
 -- two numbers of a member that takes this edge: the outcome of their comparison
-record Compared (e : Assigned) (s : Machine.State) (cond : Cond) (left right : Scalar)
+record NumbersCompared (e : Assigned) (s : Machine.State) (cond : Cond) (left right : Scalar)
     (taken : Bool) : Type 0 where
   pub x : ℕ
   pub y : ℕ
@@ -112,12 +112,12 @@ record Compared (e : Assigned) (s : Machine.State) (cond : Cond) (left right : S
   pub right_has : Has right y
   pub outcome : holds cond.comparison cond.width x y ≡ taken
 
-compared : (p : Program) (e : Assigned) (a : State) (s : Machine.State) (cond : Cond)
+numbers_compared : (p : Program) (e : Assigned) (a : State) (s : Machine.State) (cond : Cond)
     (left right : Scalar) (taken : Bool)
     → Some left ≡ numbers_in (kind_of a cond.register)
     → AreNumbersOf a cond.width cond.operand (Some right)
-    → MeansBy p e a s → test_of s cond ≡ Ok taken → Compared e s cond left right taken
-compared p e a s cond left right taken is_left is_right m says =
+    → MeansBy p e a s → test_of s cond ≡ Ok taken → NumbersCompared e s cond left right taken
+numbers_compared p e a s cond left right taken is_left is_right m says =
     let l : Allows e (Number left) (reg s cond.register) =
     subst (λ k. Allows e k (reg s cond.register)) (kind_is (kind_of a cond.register) left is_left)
     (reg_allowed p e a s m cond.register) in
@@ -150,7 +150,7 @@ pub KeepsMembers-compared : (cond : Cond) (taken : Bool) (a : State)
 unfolding KeepsMembers
 KeepsMembers-compared cond taken a left right new_left new_right is_left is_right common =
     λ p e s m says.
-    let c = compared p e a s cond left right taken is_left is_right m says in
+    let c = numbers_compared p e a s cond left right taken is_left is_right m says in
     let both = common c.x c.y c.left_has c.right_has c.outcome in
     let first : MeansBy p e (with_register a cond.register (Number new_left)) s =
     MeansBy-narrow p e a s cond.register (Number new_left) (holder a cond.register left is_left)
@@ -169,7 +169,7 @@ pub KeepsMembers-none : (cond : Cond) (taken : Bool) (a : State) (left right : S
     → KeepsMembers cond taken a false a
 unfolding KeepsMembers
 KeepsMembers-none cond taken a left right is_left is_right none = λ p e s m says.
-    let c = compared p e a s cond left right taken is_left is_right m says in
+    let c = numbers_compared p e a s cond left right taken is_left is_right m says in
     absurd (none c.x c.y c.left_has c.right_has c.outcome)
 
 -- ---- what stays

@@ -1,5 +1,5 @@
--- What is kept where pointers are compared, and that numbers are what the condition compares where
--- both are known.
+-- What is kept where pointers are compared. Numbers are compared exactly where both operands are
+-- known to be numbers.
 use Rattle.std.specs.Prelude.{◌≡◌, ◌≢◌, ℕ, zero, suc, ◌==◌, ℤ, pos, ◌+ℤ◌, ◌≤ℤ◌, max, Bool, true, false, not, if◌then◌else◌, IsTrue, refl}
 use Rattle.std.proofs.Common.{sym, ap, ◌∙◌, subst, arith}
 use Rattle.isa_model.specs.declared.sizes.Width.{Width}
@@ -15,14 +15,14 @@ use Rattle.isa_model.specs.Machine.Steps.{test_of}
 use Rattle.reg_state.specs.declared.kinds.Kind.{Kind}
 use Rattle.reg_state.specs.declared.kinds.Kind.TheVariants.{Number, Packet, PacketEnd, MapValue, MapValueOrNull}
 use Rattle.reg_state.specs.Kinds.{Assigned, Allows, IsProved}
-use Rattle.reg_state.specs.Reach.{exchanged}
+use Rattle.reg_state.specs.Going.{exchanged}
 use Rattle.stack_state.specs.declared.states.State.{State}
 use Rattle.stack_state.specs.Meaning.{MeansBy}
 use Rattle.stack_state.specs.Places.{kind_of}
 use Rattle.stack_state.specs.Effects.{map_kinds, proved_kind}
 use Rattle.stack_state.proofs.KindEffects.{MeansBy-map_kinds, MeansBy-proved, MeansBy-tested}
 use Rattle.branch_refine.specs.declared.comparing.Compared.{Compared}
-use Rattle.branch_refine.specs.declared.comparing.Compared.TheVariants as sort
+use Rattle.branch_refine.specs.declared.comparing.Compared.TheVariants as compared
 use Rattle.branch_refine.specs.declared.comparing.Compared.TheVariants.{Numbers, OrNull, Live, Undefined}
 use Rattle.branch_refine.specs.Comparing.{packet_by, with_end, with_packet, null_by, zero_by, with_number, pointers_by, registers_by, constant_by, operand_by, compared_by, same}
 use Rattle.branch_refine.proofs.ComparingLaws.{SaysUnder, test-outcome, OutcomeIs-says}
@@ -73,7 +73,7 @@ pointers_kept : (p : Program) (e : Assigned) (a : State) (s : Machine.State) (c 
     → LearnsOf c taken a some b → SaysUnder e c taken → MeansBy p e a s
     → IsTrue some × MeansBy p e b s
 pointers_kept p e a s Numbers taken some b other h says m = absurd (other refl)
-pointers_kept p e a s (sort.Packet i shows n) taken some b other h says m = (
+pointers_kept p e a s (compared.Packet i shows n) taken some b other h says m = (
   h.0,
   subst (λ b. MeansBy p e b s) (sym h.1)
       (packet_kept p e a s i n taken shows (same taken shows) refl says m),
@@ -136,13 +136,14 @@ end_no_numbers : (c : Comparison) (i : ℕ) (fixed : ℤ) (k : Kind) → with_en
 end_no_numbers c i fixed PacketEnd = packet_no_numbers c i fixed
 end_no_numbers c i fixed k = λ h. absurd (cc)
 
-turned_no_numbers : (c : Comparison) (k : Kind) → with_packet c k ≢ Numbers
-turned_no_numbers c (Packet fixed i least greatest proved) = packet_no_numbers (exchanged c) i fixed
-turned_no_numbers c k = λ h. absurd (cc)
+mirrored_no_numbers : (c : Comparison) (k : Kind) → with_packet c k ≢ Numbers
+mirrored_no_numbers c (Packet fixed i least greatest proved) =
+    packet_no_numbers (exchanged c) i fixed
+mirrored_no_numbers c k = λ h. absurd (cc)
 
 pointers_no_numbers : (c : Comparison) (j k : Kind) → pointers_by c j k ≢ Numbers
 pointers_no_numbers c (Packet fixed i least greatest proved) k = end_no_numbers c i fixed k
-pointers_no_numbers c PacketEnd k = turned_no_numbers c k
+pointers_no_numbers c PacketEnd k = mirrored_no_numbers c k
 pointers_no_numbers c j k = λ h. absurd (cc)
 
 with_numbers : (k : Kind) → with_number k ≡ Numbers → IsNumberKind k
@@ -201,7 +202,7 @@ is_number_operand a w (Register r) y h = is_number (kind_of a r) y h
 stays : (c : Compared) (taken : Bool) (a : State) (some : Bool) (b : State) → c ≢ Numbers
     → LearnsOf c taken a some b → some ≡ false → b ≡ a
 stays Numbers taken a some b other h none = absurd (other refl)
-stays (sort.Packet i shows n) taken a some b other h none = absurd (cc h.0)
+stays (compared.Packet i shows n) taken a some b other h none = absurd (cc h.0)
 stays (OrNull i null) taken a some b other h none = absurd (cc h.0)
 stays (Live null) taken a some b other h none = h.1
 stays Undefined taken a some b other h none = h.1

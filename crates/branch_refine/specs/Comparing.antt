@@ -12,7 +12,7 @@ use Rattle.isa_model.specs.declared.instructions.Operand.{Operand}
 use Rattle.isa_model.specs.declared.instructions.Operand.TheVariants.{Constant, Register}
 use Rattle.reg_state.specs.declared.kinds.Kind.{Kind}
 use Rattle.reg_state.specs.declared.kinds.Kind.TheVariants.{Number, Packet, PacketEnd, MapValue, MapValueOrNull}
-use Rattle.reg_state.specs.Reach.{exchanged}
+use Rattle.reg_state.specs.Going.{exchanged}
 use Rattle.stack_state.specs.declared.states.State.{State}
 use Rattle.stack_state.specs.Places.{kind_of}
 use Rattle.branch_refine.specs.declared.comparing.Compared.{Compared}

@@ -15,14 +15,14 @@ abbrev pub goes : BranchOutcome → Bool
 goes Never = false
 goes o = true
 
--- the state narrowed to the members that take this edge; if none does, the state as it is
+-- the state narrowed to the members that take this edge; if none does, the state unchanged
 abbrev pub left_in : Cond → State → BranchOutcome → State
 left_in cond a Never = a
 left_in cond a Same = a
-left_in cond a (Narrowed left right) = with_compared a cond left right
+left_in cond a (Narrowed x y) = with_compared a cond x y
 left_in cond a (Learned fact) = map_kinds (learned fact) a
 
 -- numbers are put into registers that can be written
 abbrev pub MayBePut : Cond → BranchOutcome → Type 0
-MayBePut cond (Narrowed left right) = (cond.register ≢ R10) × (cond.operand ≢ Register R10)
+MayBePut cond (Narrowed x y) = (cond.register ≢ R10) × (cond.operand ≢ Register R10)
 MayBePut cond o = Unit {0}

@@ -97,8 +97,8 @@ abbrev pub IsTested : ℕ → Bool → State → State → Type 0
 IsTested identity null a b = (zero : Scalar) × Has zero 0 × IsConstant zero 0
     × (b ≡ map_kinds (tested_kind identity null zero) a)
 
--- what is known of every copy of an identity once the test comes out this way; where the outcome
--- shows nothing, the state stays as it is
+-- what is known of every copy of an identity once the test has this outcome; where the outcome
+-- shows nothing, the state is unchanged
 abbrev pub LearnsOf : Compared → Bool → State → Bool → State → Type 0
 LearnsOf Numbers taken a some b = Unit {0}
 LearnsOf (Packet identity shows bytes) taken a some b =

@@ -1,8 +1,8 @@
 //! What a condition compares.
 
 ghost use Rattle.std.specs.Prelude.{◌≡◌, ◌+ℤ◌, pos};
-ghost use Rattle.reg_state.specs.Reach.{exchanged};
-ghost use Rattle.branch_refine.specs.Comparing as words;
+ghost use Rattle.reg_state.specs.Going.{exchanged};
+ghost use Rattle.branch_refine.specs.Comparing as comparing_defs;
 ghost use Rattle.branch_refine.specs.Comparing.{bytes_before, with_end, with_packet, null_by, with_number};
 
 use isa_model::{Comparison, Cond, Operand, Width};
@@ -26,7 +26,7 @@ pub enum Compared {
         identity: u32,
         null: bool,
     },
-    /// A pointer to a live value and 0: the test does not come out as `null` says.
+    /// A pointer to a live map value and 0: the test does not come out as `null` says.
     Live {
         null: bool,
     },
@@ -36,7 +36,7 @@ pub enum Compared {
 
 /// What the condition compares in the state.
 pub fn compared_by(cond: Cond, state: &State) -> Compared
-    ensures { result ≡ words.compared_by state.now cond }
+    ensures { result ≡ comparing_defs.compared_by state.now cond }
 {
     let left = state.kind_of(cond.register);
     match cond.operand {
@@ -48,7 +48,7 @@ pub fn compared_by(cond: Cond, state: &State) -> Compared
 }
 
 fn constant_by(comparison: Comparison, width: Width, left: Kind, number: i32) -> Compared
-    ensures { result ≡ words.constant_by comparison width left number }
+    ensures { result ≡ comparing_defs.constant_by comparison width left number }
 {
     match left {
         Kind::Number(_) => Compared::Numbers,
@@ -66,7 +66,7 @@ fn constant_by(comparison: Comparison, width: Width, left: Kind, number: i32) ->
 }
 
 fn zero_by(comparison: Comparison, left: Kind) -> Compared
-    ensures { result ≡ words.zero_by comparison left }
+    ensures { result ≡ comparing_defs.zero_by comparison left }
 {
     match comparison {
         Comparison::Equal => null_tested(true, left),
@@ -86,7 +86,7 @@ fn null_tested(null: bool, left: Kind) -> Compared
 }
 
 fn registers_by(comparison: Comparison, width: Width, left: Kind, right: Kind) -> Compared
-    ensures { result ≡ words.registers_by comparison width left right }
+    ensures { result ≡ comparing_defs.registers_by comparison width left right }
 {
     match left {
         Kind::Number(_) => number_with(right),
@@ -107,7 +107,7 @@ fn number_with(right: Kind) -> Compared
 }
 
 fn pointers_by(comparison: Comparison, left: Kind, right: Kind) -> Compared
-    ensures { result ≡ words.pointers_by comparison left right }
+    ensures { result ≡ comparing_defs.pointers_by comparison left right }
 {
     match left {
         Kind::Packet {
@@ -137,13 +137,13 @@ fn end_with(comparison: Comparison, right: Kind) -> Compared
             fixed,
             identity,
             ..
-        } => packet_by(turned(comparison), identity, fixed),
+        } => packet_by(mirrored(comparison), identity, fixed),
         _ => Compared::Undefined,
     }
 }
 
 /// The comparison that has the same outcome once its operands are exchanged.
-fn turned(comparison: Comparison) -> Comparison
+fn mirrored(comparison: Comparison) -> Comparison
     ensures { result ≡ exchanged comparison }
 {
     match comparison {
@@ -160,7 +160,7 @@ fn turned(comparison: Comparison) -> Comparison
 }
 
 fn packet_by(comparison: Comparison, identity: u32, fixed: i32) -> Compared
-    ensures { result ≡ words.packet_by comparison identity fixed }
+    ensures { result ≡ comparing_defs.packet_by comparison identity fixed }
 {
     let (shows, bytes) = match comparison {
         Comparison::Greater => (false, before(fixed)),

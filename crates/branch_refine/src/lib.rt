@@ -31,7 +31,7 @@ pub enum Branch {
     Goes(State),
 }
 
-/// What is left where the test comes out this way.
+/// What is left of a state where the test comes out as `taken` says.
 pub fn refine(cond: Cond, taken: bool, state: &State) -> Branch
     ensures { IsRefined cond taken state.now result }
 {
@@ -39,12 +39,12 @@ pub fn refine(cond: Cond, taken: bool, state: &State) -> Branch
     if !outcome.goes() {
         return Branch::Never;
     }
-    let mut left = state.copy();
-    outcome.put(cond, &mut left);
-    Branch::Goes(left)
+    let mut narrow = state.copy();
+    outcome.put(cond, &mut narrow);
+    Branch::Goes(narrow)
 }
 
-/// What the test shows of a state where it comes out this way.
+/// What the test shows of a state where it comes out as `taken` says.
 pub fn outcome_of(cond: Cond, taken: bool, state: &State) -> BranchOutcome
     ensures refines { Refines cond taken state.now (goes result) (left_in cond state.now result) }
     ensures put { MayBePut cond result }

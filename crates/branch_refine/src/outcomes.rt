@@ -30,7 +30,7 @@ impl BranchOutcome {
         !matches!(self, BranchOutcome::Never)
     }
 
-    /// Narrows a state to the members that take this edge; if none does, it stays as it is.
+    /// Narrows a state to the members that take this edge; if none does, it is unchanged.
     pub fn put(&self, cond: Cond, state: &mut State)
         requires { MayBePut cond self.now }
         ensures { state.new ≡ left_in cond state.old self.now }

@@ -69,16 +69,16 @@ bytes_at_part s r q z n at bytes new region place found same =
     bytes_in_bytes (read s r (index_at r z) n) bytes there ∙ ap Ok (sym same)
 
 -- a write to a live map value puts the bytes there
-pub write_value_part : (s : State) (m n : ℕ) (at : Option ℕ) (new value : List ℕ) (i : ℕ)
-    → value_bytes (content_of s m) n ≡ Some value
-    → place_in (Some (map Byte value)) at (length new) ≡ Ok i
+pub write_map_value_part : (s : State) (m n : ℕ) (at : Option ℕ) (new map_value : List ℕ) (i : ℕ)
+    → value_bytes (content_of s m) n ≡ Some map_value
+    → place_in (Some (map Byte map_value)) at (length new) ≡ Ok i
     → write s (MapValue m n) at (map Byte new)
     ≡ Ok (record s {
       maps = slice_set s.maps m
           (put_value (content_of s m) (index_of_serial (content_of s m) n) i new);
     })
-write_value_part s m n at new value i found place =
-    let cells : region_cells s (MapValue m n) ≡ Some (map Byte value) =
+write_map_value_part s m n at new map_value i found place =
+    let cells : region_cells s (MapValue m n) ≡ Some (map Byte map_value) =
     value_cells (content_of s m) n ∙ ap (option_map (map Byte)) found in
     let count : length (map Byte new) ≡ length new = length-map new Byte in
     rw (cells, count, place, map-byte_in-Byte new)

@@ -9,7 +9,7 @@ use Rattle.isa_model.specs.Running.Runs.{GoesOn, Ended, after_step, advanced, pr
 use Rattle.isa_model.proofs.RunLaws.{progress-suc, progress-ended, progress-exit}
 use Rattle.checked_vm.specs.Stops.{state_at}
 
--- it goes on
+-- the step leads to a next state
 pub progress-next : (p : Program) (clock : ℕ → ℕ) (n : ℕ) (s t u : State)
     → progress p clock n s ≡ GoesOn t → step p clock t ≡ Next u
     → progress p clock (n + 1) s ≡ GoesOn u
@@ -17,7 +17,7 @@ progress-next p clock n s t u so_far next =
     rw add-one (progress-suc p clock n s ∙ ap (advanced p clock n) so_far
     ∙ ap (after_step n t) next)
 
--- it ends the run
+-- the step ends the run
 pub turn_of-finished : (p : Program) (clock : ℕ → ℕ) (n limit a : ℕ) (s t : State)
     → progress p clock n s ≡ GoesOn t → step p clock t ≡ Finished a → n < limit
     → turn_of (progress p clock limit s) ≡ left (Exit a (n + 1)) t
@@ -30,7 +30,7 @@ pub state_at-finished : (p : Program) (clock : ℕ → ℕ) (n limit a : ℕ) (s
 state_at-finished p clock n limit a s t so_far finished below =
     ap state_at (progress-exit p clock s t n limit a so_far finished (omega arith))
 
--- it traps
+-- the step traps
 trapped : (p : Program) (clock : ℕ → ℕ) (n limit : ℕ) (reason : TrapReason) (s t : State)
     → progress p clock n s ≡ GoesOn t → step p clock t ≡ Trapped reason → n < limit
     → progress p clock limit s ≡ Ended (Trap reason n) t

@@ -10,7 +10,7 @@ pub record LoadedProgram : Type 0 where
   pub program : Program
   pub contents : List KeyValues
 
--- one run of its program on a packet, stopped at the limit
+-- one run of its program on a packet, within the limit
 abbrev pub turn_from : LoadedProgram → ℕ → (ℕ → ℕ) → FrameHead → List ℕ → Turn
 turn_from machine limit clock head packet =
     turn machine.program limit clock head packet machine.contents

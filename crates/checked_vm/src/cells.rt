@@ -10,7 +10,7 @@ ghost use Rattle.isa_model.specs.Machine.Memory.{is_unwritten, is_byte, byte_in,
 
 use isa_model::{Cell, Region, Size, TrapReason, Value};
 
-/// The byte of a cell, or 0 if there is no such cell or it holds no byte.
+/// The byte of the cell at an index, or 0 if there is no cell or it holds no byte.
 fn byte_or_zero(cells: &[Cell], k: usize) -> u8
     ensures { result ≡ slice_index (map byte_in cells.now) k }
 {

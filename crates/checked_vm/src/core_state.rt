@@ -1,14 +1,14 @@
-//! The machine's fields: slot, registers and call frames.
+//! The machine's fields: all of the state of a run but the packet.
 
 ghost use Rattle.std.specs.Prelude.{◌≡◌, ◌≤◌, ◌^◌, ℕ, List, length, map, slice_set, IfOk, vec_len, vec_capacity};
 ghost use Rattle.isa_model.specs.Code.Registers.{reg_number};
-ghost use Rattle.isa_model.specs.Machine.States.{key_values_of, value_at, new_frame};
-ghost use Rattle.isa_model.specs.Machine.Memory.{frame_index};
+ghost use Rattle.isa_model.specs.Machine.States.{key_values_of, value_at, new_call_frame};
+ghost use Rattle.isa_model.specs.Machine.Memory.{call_frame_index};
 ghost use Rattle.isa_model.specs.Code.Limits.{max_call_frames};
 ghost use Rattle.isa_model.specs.Running.Runs.{start_state};
 ghost use Rattle.checked_vm.specs.Machine.{state_of};
 
-use isa_model::{CallFrame, Cell, FRAME_SIZE, FrameHead, MAX_CALL_FRAMES, Reg, Region, Value};
+use isa_model::{CallFrame, Cell, FrameHead, MAX_CALL_FRAMES, Reg, Region, STACK_SIZE, Value};
 use live_maps::LiveMaps;
 use std::alloc::{AllocError, Global};
 
@@ -31,13 +31,13 @@ pub struct Core {
 }
 
 /// A call frame whose cells are unwritten.
-#[tactic(auto, unfolding(isa_model::specs::Machine::States::new_frame))]
-pub fn new_frame(serial: u64, return_slot: usize, saved: [Value; 4]) -> CallFrame
-    ensures { result ≡ new_frame serial return_slot saved }
+#[tactic(auto, unfolding(isa_model::specs::Machine::States::new_call_frame))]
+pub fn new_call_frame(serial: u64, return_slot: usize, saved: [Value; 4]) -> CallFrame
+    ensures { result ≡ new_call_frame serial return_slot saved }
 {
     CallFrame {
         serial,
-        cells: [Cell::Unwritten; FRAME_SIZE],
+        cells: [Cell::Unwritten; STACK_SIZE],
         return_slot,
         saved,
     }
@@ -90,7 +90,7 @@ impl Core {
         ];
         self.frames.clear();
         self.frames
-            .push_reserved(new_frame(serial, 0, [Value::Unset; 4]));
+            .push_reserved(new_call_frame(serial, 0, [Value::Unset; 4]));
         self.interface = head.interface;
         self.queue = head.queue;
         self.clock_calls = 0;
@@ -123,8 +123,8 @@ impl Core {
     }
 
     /// The index of the live call frame of a serial.
-    pub fn frame_index(&self, serial: u64) -> Option<usize>
-        ensures { result ≡ frame_index self.now.frames.items serial }
+    pub fn call_frame_index(&self, serial: u64) -> Option<usize>
+        ensures { result ≡ call_frame_index self.now.frames.items serial }
     {
         self.frames.iter().position(|frame| frame.serial == serial)
     }

@@ -3,8 +3,8 @@
 ghost use Rattle.std.specs.Prelude.{◌≡◌, ◌+◌, ◌<◌, ◌≤◌, ℕ, ◌+ℤ◌, List, length, map, slice_index, Some, Ok, Err, MatchResult, vec_len};
 ghost use Rattle.isa_model.specs.Code.Numbers.{number_from};
 ghost use Rattle.isa_model.specs.Code.Sizes.{unsigned_size, size_extension};
-ghost use Rattle.isa_model.specs.Machine.States.{frame_at};
-ghost use Rattle.isa_model.specs.Machine.Memory.{frame_index, place_of, read, number_at, context_field, context_load, memory_load, load, load_number, load_signed, write, store_number, store_pointer, store};
+ghost use Rattle.isa_model.specs.Machine.States.{call_frame_at};
+ghost use Rattle.isa_model.specs.Machine.Memory.{call_frame_index, place_of, read, number_at, context_field, context_load, memory_load, load, load_number, load_signed, write, store_number, store_pointer, store};
 ghost use Rattle.checked_vm.specs.declared.core_state.Core.{Core};
 ghost use Rattle.checked_vm.specs.Machine.{state_of, KeepsFrames};
 ghost use Rattle.checked_vm.specs.Reads.{read_cells};
@@ -95,7 +95,7 @@ impl Core {
             Region::CallFrame(serial) => cells::number_in(self.read_frame(serial, at, n)?),
             Region::Packet => Ok(number_from(self.read_packet(packet, at, n)?)),
             Region::MapValue(index, serial) => {
-                Ok(number_from(self.read_value(index, serial, at, n)?))
+                Ok(number_from(self.read_map_value(index, serial, at, n)?))
             }
             _ => Err(TrapReason::BadAccess),
         }
@@ -114,7 +114,7 @@ impl Core {
             Region::CallFrame(serial) => cells::value_in(self.read_frame(serial, at, 8)?),
             Region::Packet => Ok(Value::Num(number_from(self.read_packet(packet, at, 8)?))),
             Region::MapValue(index, serial) => {
-                Ok(Value::Num(number_from(self.read_value(index, serial, at, 8)?)))
+                Ok(Value::Num(number_from(self.read_map_value(index, serial, at, 8)?)))
             }
             _ => Err(TrapReason::BadAccess),
         }
@@ -219,7 +219,7 @@ impl Core {
     }
 
     /// Writes bytes at a place of a map value.
-    fn write_value(
+    fn write_map_value(
         &mut self,
         index: u32,
         serial: u64,
@@ -237,10 +237,10 @@ impl Core {
             (Region.MapValue index serial) at (map Cell.Byte new.now) ≡ Err e)
             × (self.new ≡ self.old)) }
     {
-        let Some(value) = self.maps.value(index as usize, serial) else {
+        let Some(map_value) = self.maps.value(index as usize, serial) else {
             return Err(TrapReason::BadAccess);
         };
-        let i = place_within(value.len(), at, new.len())?;
+        let i = place_within(map_value.len(), at, new.len())?;
         self.maps.write(index as usize, serial, i, new);
         Ok(())
     }
@@ -274,7 +274,7 @@ impl Core {
             ),
             Region::Packet => write_packet(packet, at, &n.to_le_bytes()[..size.bytes()]),
             Region::MapValue(index, serial) => {
-                self.write_value(index, serial, at, &n.to_le_bytes()[..size.bytes()])
+                self.write_map_value(index, serial, at, &n.to_le_bytes()[..size.bytes()])
             }
             _ => Err(TrapReason::BadAccess),
         }
@@ -300,9 +300,9 @@ impl Core {
             ≡ Err e) × (self.new ≡ self.old)) }
     {
         match (size, base) {
-            (Size::U64, Value::Ptr(Region::CallFrame(serial), at)) => self.write_frame(
+            (Size::U64, Value::Ptr(Region::CallFrame(serial), base_offset)) => self.write_frame(
                 serial,
-                index_at(Region::CallFrame(serial), at, place),
+                index_at(Region::CallFrame(serial), base_offset, place),
                 &cells::pieces(region, offset),
             ),
             _ => Err(TrapReason::BadAccess),

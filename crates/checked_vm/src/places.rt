@@ -1,20 +1,20 @@
 //! Places in memory: where an access begins, and whether all its bytes are there.
 
 ghost use Rattle.std.specs.Prelude.{◌≡◌, ◌+◌, ◌-◌, ◌<◌, ◌≤◌, ◌^◌, List, pos, negsuc, ◌+ℤ◌, ◌<ℤ◌, length, Some, IfOk};
-ghost use Rattle.isa_model.specs.Code.Limits.{frame_size, max_value_size};
+ghost use Rattle.isa_model.specs.Code.Limits.{stack_size, max_value_size};
 ghost use Rattle.isa_model.specs.declared.values.Cell.{Cell};
 ghost use Rattle.isa_model.specs.Machine.Memory.{index_from, index_at, place_in};
 
-use isa_model::{Cell, FRAME_SIZE, Place, Region, TrapReason};
+use isa_model::{Cell, Place, Region, STACK_SIZE, TrapReason};
 
 /// The index of the cell at an offset of a region, if it is not before the first.
 fn index_of(region: Region, offset: i128) -> Option<usize>
     requires least { negsuc (2 ^ 64) <ℤ offset }
-    requires most { offset <ℤ pos (2 ^ 64 - frame_size) }
+    requires most { offset <ℤ pos (2 ^ 64 - stack_size) }
     ensures { result ≡ index_at region offset }
 {
     match region {
-        Region::CallFrame(_) => index_from(offset + FRAME_SIZE as i128),
+        Region::CallFrame(_) => index_from(offset + STACK_SIZE as i128),
         _ => index_from(offset),
     }
 }

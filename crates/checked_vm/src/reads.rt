@@ -3,8 +3,8 @@
 ghost use Rattle.std.specs.Prelude.{◌≡◌, ◌+◌, ◌<◌, ◌≤◌, ℕ, List, length, map, slice_index, Some, Ok, Err, IfOk, MatchResult, vec_len};
 ghost use Rattle.isa_model.specs.Code.Limits.{max_value_size};
 ghost use Rattle.isa_model.specs.Code.Numbers.{number_from};
-ghost use Rattle.isa_model.specs.Machine.States.{frame_at};
-ghost use Rattle.isa_model.specs.Machine.Memory.{frame_index, place_of, read};
+ghost use Rattle.isa_model.specs.Machine.States.{call_frame_at};
+ghost use Rattle.isa_model.specs.Machine.Memory.{call_frame_index, place_of, read};
 ghost use Rattle.checked_vm.specs.Machine.{state_of};
 ghost use Rattle.checked_vm.specs.Reads.{read_cells};
 
@@ -61,15 +61,15 @@ impl Core {
     ) -> Result<(usize, usize), TrapReason>
         requires { n ≤ max_value_size }
         ensures { MatchResult result
-            (λ p. (frame_index self.now.frames.items serial ≡ Some p.0)
+            (λ p. (call_frame_index self.now.frames.items serial ≡ Some p.0)
             × (p.0 < vec_len self.now.frames)
-            × (p.1 + n ≤ length (frame_at self.now.frames.items p.0).cells)
+            × (p.1 + n ≤ length (call_frame_at self.now.frames.items p.0).cells)
             × ((packet : List ℕ)
             → place_of (state_of self.now packet) (Region.CallFrame serial) at n ≡ Ok p.1))
             (λ e. (packet : List ℕ)
             → place_of (state_of self.now packet) (Region.CallFrame serial) at n ≡ Err e) }
     {
-        match self.frame_index(serial) {
+        match self.call_frame_index(serial) {
             Some(frame) => {
                 let cells: &[Cell] = &self.frames[frame].cells;
                 let i = place_in(cells, at, n)?;
@@ -117,7 +117,7 @@ impl Core {
     }
 
     /// The bytes of a map value at a place.
-    pub fn read_value(
+    pub fn read_map_value(
         &self,
         index: u32,
         serial: u64,
@@ -134,7 +134,7 @@ impl Core {
         ensures len { IfOk result (λ bs. length bs.now ≡ n) }
     {
         match self.maps.value(index as usize, serial) {
-            Some(value) => bytes_at(value, at, n),
+            Some(map_value) => bytes_at(map_value, at, n),
             None => Err(TrapReason::BadAccess),
         }
     }

@@ -30,7 +30,7 @@ impl Core {
     {
         match insns.get(self.slot) {
             Some(Some(insn)) => self.perform(insn, insns.len(), version, packet),
-            _ => Stepped::Stopped(TrapReason::NoCode),
+            _ => Stepped::Trapped(TrapReason::NoCode),
         }
     }
 
@@ -45,11 +45,11 @@ impl Core {
         requires running { IsRunning self.old }
         requires serial { self.old.maps.next_serial < 2 ^ 63 }
         requires named { NamesAllRows self.old.maps.rows insns.now }
-        requires calls { self.old.clock_calls < 2 ^ 63 }
+        requires clock_calls { self.old.clock_calls < 2 ^ 63 }
         ensures running { IsRunning self.new }
         ensures rows { self.new.maps.rows ≡ self.old.maps.rows }
         ensures serial { self.new.maps.next_serial ≤ self.old.maps.next_serial + 1 }
-        ensures calls { self.new.clock_calls ≤ self.old.clock_calls + 1 }
+        ensures clock_calls { self.new.clock_calls ≤ self.old.clock_calls + 1 }
         ensures answered { result ≢ Stepped.AsksTime }
         ensures clock { (c : ℕ → ℕ) → ClockAnswers c self.old.clock_calls (C.at clock.old)
             → ClockAnswers c self.new.clock_calls (C.at clock.new) }
@@ -80,7 +80,7 @@ impl Core {
         requires running { IsRunning self.old }
         requires serial { self.old.maps.next_serial ≤ 2 ^ 33 }
         requires named { NamesAllRows self.old.maps.rows insns.now }
-        requires calls { self.old.clock_calls ≡ 0 }
+        requires clock_calls { self.old.clock_calls ≡ 0 }
         ensures room { vec_capacity self.new.frames ≡ max_call_frames }
         ensures rows { self.new.maps.rows ≡ self.old.maps.rows }
         ensures clock { ClockAnswers (C.at clock.old) self.new.clock_calls (C.at clock.new) }
@@ -97,8 +97,8 @@ impl Core {
             match self.step_with(insns, version, packet, clock) {
                 Stepped::Went => {}
                 Stepped::AsksTime => unreachable!(),
-                Stepped::Ended(number) => return End::Exit(number, done + 1),
-                Stepped::Stopped(reason) => return End::Trap(reason, done),
+                Stepped::Finished(number) => return End::Exit(number, done + 1),
+                Stepped::Trapped(reason) => return End::Trap(reason, done),
             }
         }
         End::Limit

@@ -20,10 +20,10 @@ use isa_model::{Insn, MAX_CALL_FRAMES, Reg, Region, TrapReason, Value, Version, 
 pub enum Stepped {
     Went,
     /// The last exit, with r0.
-    Ended(u64),
+    Finished(u64),
     /// A call of ktime_get_ns, which has no answer yet.
     AsksTime,
-    Stopped(TrapReason),
+    Trapped(TrapReason),
 }
 
 // Whether a number may be the answer of a program of this version: in version 2 its low half names
@@ -61,7 +61,7 @@ impl Core {
             || self.is_unset(fourth)
     }
 
-    /// What an instruction other than EXIT does, once its registers are set.
+    /// What an instruction other than EXIT and a helper's call does, once its registers are set.
     #[tactic(auto, unfolding(isa_model::specs::Machine::Steps::act))]
     fn act(&mut self, insn: &Insn, slots: usize, packet: &mut [u8]) -> Result<(), TrapReason>
         requires running { IsRunning self.old }
@@ -114,7 +114,7 @@ impl Core {
             Insn::JumpIf(cond, by) => self.do_jump_if(packet, cond, by, slots),
             Insn::CallLocal(by) => {
                 if self.depth() == MAX_CALL_FRAMES {
-                    return Err(TrapReason::TooManyFrames);
+                    return Err(TrapReason::TooManyCallFrames);
                 }
                 self.enter(destination(self.slot, by, slots));
                 Ok(())
@@ -135,9 +135,9 @@ impl Core {
     {
         if self.depth() == 1 {
             match self.value(Reg::R0) {
-                Value::Num(n) if is_answer(version, n) => Stepped::Ended(n),
-                Value::Num(_) => Stepped::Stopped(TrapReason::BadAction),
-                _ => Stepped::Stopped(TrapReason::NoResult),
+                Value::Num(n) if is_answer(version, n) => Stepped::Finished(n),
+                Value::Num(_) => Stepped::Trapped(TrapReason::BadAction),
+                _ => Stepped::Trapped(TrapReason::NoResult),
             }
         } else {
             self.leave();
@@ -164,17 +164,17 @@ impl Core {
             (state_of self.old packet.old) (state_of self.new packet.new) }
     {
         if self.is_reading_unset(insn) {
-            return Stepped::Stopped(TrapReason::UnsetRead);
+            return Stepped::Trapped(TrapReason::UnsetRead);
         }
         if insn.writes_frame_pointer() {
-            return Stepped::Stopped(TrapReason::ReadOnly);
+            return Stepped::Trapped(TrapReason::ReadOnly);
         }
         match insn {
             Insn::Exit => self.exit(version),
             Insn::CallHelper(number) => self.call_helper(*number, packet),
             _ => match self.act(insn, slots, packet) {
                 Ok(()) => Stepped::Went,
-                Err(reason) => Stepped::Stopped(reason),
+                Err(reason) => Stepped::Trapped(reason),
             },
         }
     }

@@ -20,7 +20,7 @@ use Rattle.commands.specs.Flushing.{Flushes, IsFlushed, TellsFailure}
 use Rattle.commands.specs.Statuses.{is_silent}
 use Rattle.commands.specs.Stopped.{TellsStopsOf, at_end, stop_lines}
 
--- nothing, or what is known of some program, of some table of one, or of some text
+-- nothing, or what is known of some program, of some table of a program, or of some text
 abbrev pub Knows : TaskOutcome → Option (String Global) → Type 0
 Knows o why = (why ≡ None)
     ⊎ (((p : Program) × Tells p o why)

@@ -17,7 +17,7 @@ use Rattle.commands.specs.Commands.{Serves}
 use Rattle.commands.specs.Flushing.{Flushes}
 use Rattle.commands.specs.Executing.{Executes}
 
--- standard output to which nothing was written, after it was left as it is
+-- standard output to which nothing was written is left unchanged
 handed : {W : Type 0} (contents : W → Option (List ℕ)) (given : PromptWriter W) (r : Ending)
     → is_silent r.outcome ≡ true → Flushes contents given given r r
 handed contents given r silent =

@@ -1,4 +1,4 @@
--- A task that wrote nothing to standard output left it as it was.
+-- A task that wrote nothing to standard output left it unchanged.
 use Rattle.std.proofs.Common.{◌≡◌, ◌∙◌, ◌≤◌, ℕ, List, Option, Some, None, Result, Ok, Err, Bool, true, false, ap, refl, sym, inl, inr, ◌⊎◌, arith}
 use Rattle.std.proofs.lemmas.Bool.{both_ways, false≢true}
 use Rattle.std.specs.declared.io.ErrorKind.{ErrorKind}

@@ -1,4 +1,4 @@
--- Why a file or an output failed, in words.
+-- Why a file or an output failed, as text.
 use Rattle.std.specs.Prelude.{ℕ, List, Option, Some, None, codes}
 use Rattle.std.specs.declared.io.ErrorKind.{ErrorKind}
 use Rattle.std.specs.declared.io.ErrorKind.TheVariants.{NotFound, PermissionDenied, IsADirectory, NotADirectory, AlreadyExists, ReadOnlyFilesystem, FilesystemLoop, InvalidFilename, InvalidInput, StorageFull, QuotaExceeded, FileTooLarge, ResourceBusy, ExecutableFileBusy, BrokenPipe, WriteZero, Interrupted, WouldBlock, TimedOut, Unsupported, OutOfMemory}

@@ -21,7 +21,7 @@ use Rattle.commands.specs.declared.rejections.Rejection.{Rejection}
 use Rattle.commands.specs.declared.rejections.Rejection.TheVariants as rejection
 use Rattle.commands.specs.declared.forms.FileForm.{FileForm}
 use Rattle.commands.specs.Faults.{fault_lines}
-use Rattle.commands.specs.Messages.{reason_of}
+use Rattle.commands.specs.Messages.{rejection_text}
 use Rattle.commands.specs.Statuses.{IsWordsEnd, message_of, status_of}
 use Rattle.commands.specs.Stopped.{stop_lines}
 use Rattle.commands.specs.Saying.{AppendsPart, LacksMemory}
@@ -29,7 +29,7 @@ use Rattle.commands.specs.Known.{Plainly, told_of}
 use Rattle.commands.specs.Commands.{Serves}
 use Rattle.commands.specs.Flushing.{Flushes}
 
--- The request was served, which ended in some way; then standard output was flushed. If only the
+-- The request was served, with some ending; then standard output was flushed. If only the
 -- flush failed, the program ends with that failure.
 pub record ServesWhole {W : Type 0} (contents : W → Option (List ℕ)) (request : Option TaskRequest)
     (old new : PromptWriter W) (result : Ending) : Type 0 where
@@ -61,8 +61,8 @@ TellsWordsError error old new before after status =
     × AppendsPart before after (message_of o)
 
 -- standard error got why something is refused, or a beginning of it
-abbrev pub TellsReason : Option (List ℕ) → Option (List ℕ) → Type 0
-TellsReason old new = (rejection : Rejection) × AppendsPart old new (reason_of rejection)
+abbrev pub TellsRejection : Option (List ℕ) → Option (List ℕ) → Type 0
+TellsRejection old new = (rejection : Rejection) × AppendsPart old new (rejection_text rejection)
 
 -- a program is refused, and standard error got why, and then what is known of that refusal; or a
 -- beginning of this text
@@ -73,7 +73,7 @@ pub record TellsKnown (old new : Option (List ℕ)) : Type 0 where
   pub insn : Option Insn
   pub why : List ℕ
   pub known : IsReason program refusal slot why
-  pub said : AppendsPart old new (reason_of (rejection.Program refusal slot insn) ++ why)
+  pub said : AppendsPart old new (rejection_text (rejection.Program refusal slot insn) ++ why)
 
 -- a table is refused, and standard error got why, and then what is known of the entry whose step
 -- was tested; or a beginning of this text
@@ -85,7 +85,7 @@ pub record TellsEntryKnown (old new : Option (List ℕ)) : Type 0 where
   pub insn : Insn
   pub why : List ℕ
   pub known : IsEntryReason program bytes error slot insn why
-  pub said : AppendsPart old new (reason_of (rejection.Table error (Some (slot, insn))) ++ why)
+  pub said : AppendsPart old new (rejection_text (rejection.Table error (Some (slot, insn))) ++ why)
 
 -- a text is refused, and standard error got why, and then its line and a hint; or a beginning of
 -- these lines
@@ -94,12 +94,12 @@ pub record TellsShown (old new : Option (List ℕ)) : Type 0 where
   pub error : AsmError
   pub why : List ℕ
   pub known : why ≡ shown source error
-  pub said : AppendsPart old new (reason_of (rejection.Text error) ++ why)
+  pub said : AppendsPart old new (rejection_text (rejection.Text error) ++ why)
 
 -- standard error got why something is refused, with what is known of it, or a beginning of that
 abbrev pub IsTold : Option (List ℕ) → Option (List ℕ) → Type 0
 IsTold old new =
-    TellsReason old new ⊎ (TellsKnown old new ⊎ (TellsEntryKnown old new ⊎ TellsShown old new))
+    TellsRejection old new ⊎ (TellsKnown old new ⊎ (TellsEntryKnown old new ⊎ TellsShown old new))
 
 -- standard error got why a frame stream ended early, and after a trace where runs stopped that
 -- ended without an action; or a beginning of this text

@@ -21,7 +21,7 @@ pub record TellsFailure {W : Type 0} (out : PromptWriter W) (result : Ending) : 
 
 -- A task ended, and then standard output was flushed. Its buffer was written in full, and the
 -- task's outcome stays; or standard output failed, now or before, and that failure is the outcome.
--- If the task wrote nothing to it, standard output is left as it is.
+-- If the task wrote nothing to it, standard output is left unchanged.
 pub record Flushes {W : Type 0} (contents : W → Option (List ℕ)) (given out : PromptWriter W)
     (ended result : Ending) : Type 0 where
   pub kept : Keeps (held contents given) (held contents out)

@@ -62,8 +62,8 @@ abbrev pub step_position : ℕ → Option (ℕ × Insn) → List ℕ
 step_position index None = entry_position index
 step_position index (Some (slot, insn)) = entry_position index ++ insn_position slot insn
 
--- an entry that spells no state, and a hint; an entry whose step is refused, with the reason, or
--- whose successor is; or a hint, for a table that is refused as a whole
+-- an entry that spells no state, and a hint; an entry whose step is refused, with the sentence
+-- that says why, or whose successor is; or a hint, for a table that is refused as a whole
 abbrev pub table_position : TableError → Option (ℕ × Insn) → List ℕ
 table_position (table.Bytes (table_refusal.Entry index)) position = entry_anew index
 table_position (table.Step index refusal) position =
@@ -96,5 +96,5 @@ position_of Explored = []
 position_of (Text error) = text_position error.line error.column
 
 -- the sentence in a line, and then the position
-abbrev pub reason_of : Rejection → List ℕ
-reason_of rejection = (sentence_of rejection ++ codes "\n") ++ position_of rejection
+abbrev pub rejection_text : Rejection → List ℕ
+rejection_text rejection = (sentence_of rejection ++ codes "\n") ++ position_of rejection

@@ -14,7 +14,7 @@ use Rattle.commands.specs.Saying.{LacksMemory, Says}
 use Rattle.commands.specs.Judging.{IsStoreFailure}
 use Rattle.commands.specs.Streams.{IsBeginningOf}
 
--- how the task ends if the table was not written to the file with this name, for this reason
+-- how the task ends if the table was not written to the file with this name, with this error
 abbrev pub EndsUnwritten : List ℕ → WriteTableError → Option (List ℕ) → Option (List ℕ)
     → TaskOutcome → Type 0
 EndsUnwritten name Memory old new result = LacksMemory old new result

@@ -8,7 +8,7 @@ use Rattle.commands.specs.declared.outcomes.TaskOutcome.{TaskOutcome}
 use Rattle.commands.specs.declared.outcomes.TaskOutcome.TheVariants.{Done, WrongWords, Refused, Faulted, CannotRead, CannotWrite, CannotReplace, NoMemory}
 use Rattle.commands.specs.Causes.{cause_line, line_after}
 use Rattle.commands.specs.Faults.{fault_lines}
-use Rattle.commands.specs.Messages.{reason_of}
+use Rattle.commands.specs.Messages.{rejection_text}
 
 -- the program's status
 abbrev pub status_of : TaskOutcome → ℕ
@@ -50,7 +50,7 @@ usage = codes "usage: xdpvm asm|dis|verify|run|trace|prove|recheck\n"
 abbrev pub message_of : TaskOutcome → List ℕ
 message_of Done = []
 message_of (WrongWords text) = text.now ++ usage
-message_of (Refused rejection) = reason_of rejection
+message_of (Refused rejection) = rejection_text rejection
 message_of (Faulted fault form) = fault_lines fault form
 message_of (CannotRead path kind) = codes "cannot read " ++ (path.now ++ cause_line kind)
 message_of (CannotWrite path cause) = codes "cannot write " ++ (path.now ++ line_after cause)

@@ -5,7 +5,7 @@ use Rattle.std.specs.String.{string_bytes}
 use Rattle.isa_model.specs.declared.values.Value.{Value}
 use Rattle.isa_model.specs.declared.instructions.Insn.{Insn}
 use Rattle.isa_model.specs.declared.ends.TrapReason.{TrapReason}
-use Rattle.isa_model.specs.declared.ends.TrapReason.TheVariants.{NoCode, UnsetRead, ReadOnly, BadPointer, OutOfRange, BadAccess, BadCompare, BadHelper, TooManyFrames, NoResult, BadAction}
+use Rattle.isa_model.specs.declared.ends.TrapReason.TheVariants.{NoCode, UnsetRead, ReadOnly, BadPointer, OutOfRange, BadAccess, BadCompare, BadHelper, TooManyCallFrames, NoResult, BadAction}
 use Rattle.isa_model.specs.declared.ends.End.{End}
 use Rattle.isa_model.specs.declared.ends.End.TheVariants.{Exit, Trap, Limit}
 use Rattle.isa_model.specs.Text.CanonicalText.{line_of}
@@ -38,7 +38,7 @@ trap_line BadCompare =
     codes "compare a packet pointer with the packet end, a value pointer with 0, at 64 bits\n"
 trap_line BadHelper =
     codes "there are helpers 1, 2, 3 and 5; r1 is a map, r2 points to a key, r3 to a value\n"
-trap_line TooManyFrames =
+trap_line TooManyCallFrames =
     codes "8 functions are running: write this one's instructions in place of the call\n"
 trap_line NoResult = codes "r0 has to be a number: 0 ABORTED, 1 DROP, 2 PASS, 3 TX\n"
 trap_line BadAction = codes "the low half of r0 has to be 0 to 4: mask it (r0 &= 3) or test it\n"

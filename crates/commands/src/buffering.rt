@@ -12,7 +12,7 @@ use std::io::Write;
 const BUFFER: usize = 64 * 1024;
 
 // Standard output without a buffer: each write goes through immediately, and no memory is taken.
-fn watched<W: Write + Drop>(alloc: Global, out: W) -> io::Result<PromptWriter<W>>
+fn unbuffered<W: Write + Drop>(alloc: Global, out: W) -> io::Result<PromptWriter<W>>
     ensures behind { IfOk result (λ w. behind w ≡ out) }
     ensures empty { IfOk result (λ w. waiting w ≡ []) }
     ensures prompt { IfOk result (λ w. prompt_left w ≡ usize.MAX) }
@@ -37,6 +37,6 @@ pub fn buffered<W: Write + Drop>(
     if is_stored {
         PromptWriter::new(alloc, BUFFER, 0, out)
     } else {
-        watched(alloc, out)
+        unbuffered(alloc, out)
     }
 }

@@ -1,4 +1,4 @@
-//! Why a file or an output failed, in words.
+//! Why a file or an output failed, as text.
 
 ghost use Rattle.std.specs.Prelude.{◌≡◌};
 ghost use Rattle.commands.specs.Causes.{cause_line, line_after};

@@ -65,9 +65,9 @@ impl<'a> Ending<'a> {
         Ending { outcome, why }
     }
 
-    /// Flushes standard output after a task. If the flush fails, that failure becomes the outcome:
-    /// it says why standard output failed, even if an earlier write had failed too. If the task
-    /// wrote nothing to standard output, it is left as it is.
+    /// Flushes standard output after a task. If the flush fails, that failure becomes the task's
+    /// outcome: it says why standard output failed, even if an earlier write had failed too. If the
+    /// task wrote nothing to standard output, it is left unchanged.
     pub fn flushed<W: Write + Drop>(self, out: &mut PromptWriter<W>) -> Self
         ensures { Flushes W.contents out.old out.new self.entry result }
     {

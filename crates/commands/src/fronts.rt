@@ -1,4 +1,4 @@
-//! The first bytes of a file, which are read ahead.
+//! The source of packet frames, whose first bytes are read ahead.
 
 ghost use Rattle.std.specs.Prelude.{IfSome};
 ghost use Rattle.commands.specs.Forms.{IsFileFormOf};

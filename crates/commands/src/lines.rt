@@ -27,8 +27,8 @@ fn counted_line(alloc: Global, code: &str, unit: &str, number: usize) -> Result<
     format!(in alloc; "refused {code}{unit}{number}\n")
 }
 
-// The same line with the code of the reason.
-fn reasoned_line(
+// The same line with the code of the refusal of the instruction there.
+fn inner_line(
     alloc: Global,
     code: &str,
     unit: &str,
@@ -48,7 +48,7 @@ pub fn image_line(alloc: Global, error: ImageError) -> Result<String, AllocError
 {
     let code = error.code();
     match error {
-        ImageError::Code(slot, error) => reasoned_line(alloc, code, " slot ", slot, error.code()),
+        ImageError::Code(slot, error) => inner_line(alloc, code, " slot ", slot, error.code()),
         ImageError::MapRow(index) => counted_line(alloc, code, " map ", index),
         ImageError::UnknownMap(slot) | ImageError::ValuePointer(slot) => {
             counted_line(alloc, code, " slot ", slot)
@@ -75,7 +75,7 @@ pub fn table_line(alloc: Global, error: TableError) -> Result<String, AllocError
             counted_line(alloc, code, " entry ", index)
         }
         TableError::Step(index, refusal) => {
-            reasoned_line(alloc, code, " entry ", index, refusal.code())
+            inner_line(alloc, code, " entry ", index, refusal.code())
         }
         TableError::Bytes(_) | TableError::Start => whole_line(alloc, code),
     }
@@ -85,8 +85,8 @@ pub fn table_line(alloc: Global, error: TableError) -> Result<String, AllocError
 pub fn text_line(alloc: Global, error: AsmError) -> Result<String, AllocError>
     ensures { IfOk result (λ line. string_bytes line ≡ text_line error) }
 {
-    let name = error.kind.code();
+    let code = error.kind.code();
     let line = error.line;
     let column = error.column;
-    format!(in alloc; "refused {name} line {line} column {column}\n")
+    format!(in alloc; "refused {code} line {line} column {column}\n")
 }

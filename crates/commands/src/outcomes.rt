@@ -32,14 +32,15 @@ pub enum TaskOutcome<'a> {
     WrongWords(&'a str),
     /// The image, the program, the table or the text was refused, as standard output says.
     Refused(Rejection),
-    /// The report ended in this fault; the stream's first bytes have this file form.
+    /// The frame stream has this fault, as the report's last line says; its first bytes have this
+    /// file form.
     Faulted(Fault, FileForm),
     /// The file at the path cannot be read.
     CannotRead(&'a str, ErrorKind),
     /// The file or output of this name cannot be written. If standard output failed while a report
     /// was written, the cause is known when it is flushed.
     CannotWrite(&'a str, Option<ErrorKind>),
-    /// The file that was to be written is one of those that are read. It was left as it is.
+    /// The file that was to be written is one of those that are read. It was left unchanged.
     CannotReplace(&'a str),
     NoMemory,
 }

@@ -5,7 +5,7 @@ ghost use Rattle.std.specs.Io.KnownBytes.{Appends};
 ghost use Rattle.isa_model.specs.Text.CanonicalText as canonical;
 ghost use Rattle.exact_io.specs.Transfers.{AppendsBeginning};
 ghost use Rattle.commands.specs.Forms.{file_line};
-ghost use Rattle.commands.specs.Messages.{sentence_of, hint_line, image_position, insn_position, text_position, position_of, entry_position, anew, entry_anew, step_position, table_position, reason_of};
+ghost use Rattle.commands.specs.Messages.{sentence_of, hint_line, image_position, insn_position, text_position, position_of, entry_position, anew, entry_anew, step_position, table_position, rejection_text};
 
 use super::forms::FileForm;
 use super::texts::write_texts;
@@ -51,7 +51,7 @@ impl Rejection {
         }
     }
 
-    // Writes where it is refused.
+    // Writes the position of what is refused.
     fn say_position<W: Write>(self, err: &mut W) -> io::Result<()>
         ensures ok { OnOk result
             (Appends (W.contents err.old) (W.contents err.new) (position_of self)) }
@@ -68,12 +68,12 @@ impl Rejection {
         }
     }
 
-    /// Writes the sentence, and in the next line where it is.
+    /// Writes the sentence, and in the next line the position.
     pub fn say<W: Write>(self, err: &mut W) -> io::Result<()>
         ensures ok { OnOk result
-            (Appends (W.contents err.old) (W.contents err.new) (reason_of self)) }
+            (Appends (W.contents err.old) (W.contents err.new) (rejection_text self)) }
         ensures err { OnErr result
-            (AppendsBeginning (W.contents err.old) (W.contents err.new) (reason_of self)) }
+            (AppendsBeginning (W.contents err.old) (W.contents err.new) (rejection_text self)) }
     {
         write_texts(err, "", self.sentence(), "\n")?;
         self.say_position(err)

@@ -7,7 +7,7 @@ use std::os::unix::fs::{FileTypeExt, MetadataExt};
 use std::rt::{Clock, Files};
 use std::time::Instant;
 
-/// What is written before a line, so that it replaces the line before it.
+/// What is written before a line so that it replaces the one that is shown.
 const CLEARED: &str = "\r\x1b[K";
 
 /// After how many milliseconds something is shown first.
@@ -25,7 +25,7 @@ pub struct Screen<'a, R: Files + Clock> {
     is_shared: bool,
     /// When the work began, unless nothing is to be shown.
     start: Option<Instant>,
-    /// After how many milliseconds it is shown next.
+    /// After how many milliseconds the next line is shown.
     due: u128,
     terminal: Option<R::File>,
 }

@@ -82,7 +82,7 @@ impl<R: Files + Clock> Listener for Counter<'_, R> {
 
 /// Verifies a program as `verify` does. If that takes over a second and standard error is a
 /// terminal, the terminal shows how many instructions are explored, and is cleared at the end.
-pub fn verify_shown<R: Files + Clock>(
+pub fn verify_watched<R: Files + Clock>(
     rt: &R,
     alloc: Global,
     image: Image,

@@ -64,7 +64,7 @@ fn trap_line(reason: TrapReason) -> &'static str
             "compare a packet pointer with the packet end, a value pointer with 0, at 64 bits\n",
         TrapReason::BadHelper =>
             "there are helpers 1, 2, 3 and 5; r1 is a map, r2 points to a key, r3 to a value\n",
-        TrapReason::TooManyFrames =>
+        TrapReason::TooManyCallFrames =>
             "8 functions are running: write this one's instructions in place of the call\n",
         TrapReason::NoResult => "r0 has to be a number: 0 ABORTED, 1 DROP, 2 PASS, 3 TX\n",
         TrapReason::BadAction =>

@@ -21,7 +21,7 @@ use super::forms::file_form_of;
 use super::lines::{image_line, text_line, verdict_line};
 use super::outcomes::{STANDARD_OUTPUT, TaskOutcome};
 use super::rejections::Rejection;
-use super::searches::verify_shown;
+use super::searches::verify_watched;
 use assembler::{AsmError, AsmErrorKind, assemble};
 use control_flow::FlowError;
 use disassembler::disassemble;
@@ -131,7 +131,7 @@ pub fn judge<'a, R: Files + Clock, W: Write>(
     let Ok(copy) = image.copy(alloc) else {
         return Err(Ending::plain(TaskOutcome::NoMemory));
     };
-    match verify_shown(rt, alloc, image) {
+    match verify_watched(rt, alloc, image) {
         Ok(verified) => Ok(verified),
         Err((refusal, slot)) => {
             let insn = copy.at(slot).copied();

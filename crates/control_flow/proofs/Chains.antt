@@ -155,7 +155,7 @@ AreSources-below nodes n latest earlier all m = record {
 
 -- ---- following a chain
 
--- the slot so far back falls through to this one
+-- the slot that is `back` slots below falls through to this one
 abbrev pub FallsBack : List Node → ℕ → ℕ → ℕ → Type 0
 FallsBack nodes to back k = (k + back ≡ to) × (fall_from nodes k ≡ Some to)
 

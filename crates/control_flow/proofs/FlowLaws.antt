@@ -87,7 +87,7 @@ HasEdge-Follows p slot next (i, e, inl (falls, at)) =
 HasEdge-Follows p slot next (i, e, inr (by, jump, at)) =
     Jumps (jump_to-insn p slot i by e jump ∙ ap some_slot (sym at))
 
--- where no instruction begins nothing leads on
+-- no edge goes from a slot at which no instruction begins
 from_none : (p : Program) (slot to : ℕ) → fetch p slot ≡ None → HasEdge p slot to → ⊥
 unfolding jump_to call_to fall_to
 from_none p slot to e (Falls h) =

@@ -20,7 +20,7 @@ use Rattle.control_flow.proofs.Whole.{slots_filled-cases}
 
 -- ---- making nodes
 
--- what is read where the one holds is read where the other does
+-- what is read if A holds is read if B holds, where A implies B
 read_more : (A B : Type 0) (i : Insn) (h : Home) → (A → B) → IsReadBy A i h → IsReadBy B i h
 read_more A B i (InRegister r) more reads = reads
 read_more A B i (InSlot j) more (inl reads) = inl reads
@@ -107,22 +107,22 @@ node_at p nodes slot are inside = elim (slice_get_cases nodes slot).1 [
 -- ---- edges
 
 -- an edge from a slot is its node's
-way_node : (nodes : List Node) (way : Node → Option ℕ) (slot to : ℕ)
-    → option_and_then way (slice_get nodes slot) ≡ Some to
-    → (node : Node) × (slice_get nodes slot ≡ Some node) × (way node ≡ Some to)
-way_node nodes way slot to h = of (slice_get nodes slot) h where
-  of : (o : Option Node) → option_and_then way o ≡ Some to
-      → (node : Node) × (o ≡ Some node) × (way node ≡ Some to)
+edge_node : (nodes : List Node) (edge : Node → Option ℕ) (slot to : ℕ)
+    → option_and_then edge (slice_get nodes slot) ≡ Some to
+    → (node : Node) × (slice_get nodes slot ≡ Some node) × (edge node ≡ Some to)
+edge_node nodes edge slot to h = of (slice_get nodes slot) h where
+  of : (o : Option Node) → option_and_then edge o ≡ Some to
+      → (node : Node) × (o ≡ Some node) × (edge node ≡ Some to)
   of (Some node) e = (node, refl, e)
   of None e = absurd cc
 
 pub fall_from-node : (nodes : List Node) (slot to : ℕ) → fall_from nodes slot ≡ Some to
     → (node : Node) × (slice_get nodes slot ≡ Some node) × (node.falls_to ≡ Some to)
-fall_from-node nodes slot to h = way_node nodes (λ node. node.falls_to) slot to h
+fall_from-node nodes slot to h = edge_node nodes (λ node. node.falls_to) slot to h
 
 pub jump_from-node : (nodes : List Node) (slot to : ℕ) → jump_from nodes slot ≡ Some to
     → (node : Node) × (slice_get nodes slot ≡ Some node) × (node.jumps_to ≡ Some to)
-jump_from-node nodes slot to h = way_node nodes (λ node. node.jumps_to) slot to h
+jump_from-node nodes slot to h = edge_node nodes (λ node. node.jumps_to) slot to h
 
 pub node-fall_from : (nodes : List Node) (slot : ℕ) (node : Node) → slice_get nodes slot ≡ Some node
     → fall_from nodes slot ≡ node.falls_to
@@ -154,8 +154,8 @@ pub nodes_near : (p : Program) (nodes : List Node) → AreNodes p nodes → Fall
 nodes_near p nodes are slot to h =
     let found = fall_from-node nodes slot to h in
     let is = are.each slot found.0 found.1 in
-    let way = fall_to-behind p slot to (sym is.falls ∙ found.2) in
-    elim (slots_filled-cases way.0) [
-      | inl one ↦ inl (omega (arith, way.2, one))
-      | inr two ↦ inr (omega (arith, way.2, two))
+    let fallen = fall_to-behind p slot to (sym is.falls ∙ found.2) in
+    elim (slots_filled-cases fallen.0) [
+      | inl one ↦ inl (omega (arith, fallen.2, one))
+      | inr two ↦ inr (omega (arith, fallen.2, two))
     ]

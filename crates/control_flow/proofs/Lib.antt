@@ -1,6 +1,6 @@
 mod TargetTests
 mod MarkLemmas
-mod Owners
+mod FunctionsLaws
 mod SlotSearch
 mod Whole
 mod Reading
@@ -10,7 +10,7 @@ mod StackUses
 mod LiveMasks
 mod Graphs
 mod Chains
-mod MaskSteps
+mod MaskUpdates
 mod Working
 pub mod FlowLaws
 pub mod LivenessLaws

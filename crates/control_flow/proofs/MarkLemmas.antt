@@ -34,7 +34,7 @@ IsMarked-inside marks k h =
           let e : get_or marks k false ≡ false = get_or_past marks k false past in absurd cc
     ]
 
--- a slot is marked that was not, or was
+-- after a slot is marked, the marked slots are that one and those that were marked before
 pub IsMarked-set : (marks : List Bool) (to k : ℕ) → to < length marks
     → IsMarked (set marks to true) k → IsMarked marks k ⊎ (to ≡ k)
 IsMarked-set marks to k inside h =

@@ -1,4 +1,4 @@
--- Masks: what each of their functions does, register by register and stack slot by stack slot.
+-- Masks: what each of their methods does, register by register and stack slot by stack slot.
 use Rattle.std.proofs.Common.{◌≡◌, ℕ, Option, Some, ◌+◌, ◌-◌, ◌*◌, ◌/◌, ◌^◌, ◌%◌, ◌<◌, ◌≤◌, replicate, sym, ap, ◌∙◌, arith, inl, inr, bit_or, bit_and, bit_xor, w16, w64}
 use Rattle.std.specs.Prelude.{◌↔◌, ◌⊎◌, max, min}
 use Rattle.std.specs.Int.{bit_at}

@@ -36,7 +36,7 @@ one-option (Some d) r (inl e) = let same : d ≡ r = sym e in cc
 one-option (Some d) r (inr h) = absurd h
 one-option None r h = absurd h
 
--- no register, and the one that may be there
+-- what begins with no register, and gets that of an option if there is one, has just that one
 pub found-with : (A B : Type 0) (o q : Option Reg) (r : Reg) → o ≡ q → (A → ⊥)
     → B ↔ (A ⊎ (o ≡ Some r)) → B ↔ IsOneOf (option_to_list q) r
 found-with A B o q r same none x = (
@@ -83,7 +83,7 @@ among-cases a b c d r h =
           ]
     ]
 
--- no register, and those of the four that are there
+-- the same with four options, one after the other
 pub among-with : (A B C D E : Type 0) (a b c d : Option Reg) (r : Reg) → (A → ⊥)
     → B ↔ (A ⊎ (a ≡ Some r)) → C ↔ (B ⊎ (b ≡ Some r)) → D ↔ (C ⊎ (c ≡ Some r))
     → E ↔ (D ⊎ (d ≡ Some r)) → E ↔ IsOneOf

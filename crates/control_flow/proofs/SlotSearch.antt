@@ -1,4 +1,4 @@
--- Searches: what finding slots does, and what a loop of it keeps.
+-- Searches for slots: what the finding of a slot changes, and what the loop of a search keeps.
 use Rattle.std.proofs.Common.{◌≡◌, ℕ, zero, suc, ◌+◌, ◌<◌, Bool, true, false, not, cond, List, [], ◌∷◌, ◌++◌, length, get_or, set, replicate, Option, Some, refl, sym, ap, ◌∙◌, subst, arith, inl, inr}
 use Rattle.std.specs.Prelude.{◌↔◌, ◌⊎◌, count_by, sum_by, Contains}
 use Rattle.std.proofs.lemmas.Bool.{cases_eq}
@@ -49,7 +49,7 @@ below_more n frontier m = record {
 
 -- ---- what finding does
 
--- a slot that was not found has two of the room
+-- once a slot is found, one slot fewer is not found
 count-set : (found : List Bool) (slot : ℕ) → slot < length found → get_or found slot false ≡ false
     → count_by not (set found slot true) + 1 ≡ count_by not found
 count-set found slot inside none =
@@ -178,13 +178,13 @@ Extends-leads p slot a b c f s g t h u i v ea eb ec x y z =
 
 -- ---- the loop
 
--- what is found is as it should be, and the search has gone on from all of it but the frontier
+-- all that is found is to be found, and the search has gone on from all of it but the frontier
 pub record IsSearch (Found : ℕ → Type 0) (Goes : ℕ → ℕ → Type 0) (size : ℕ) (found : List Bool)
     (frontier : List ℕ) : Type 0 where
   pub same : length found ≡ size
   pub waits : (k : ℕ) → Contains frontier k → IsMarked found k
   pub sound : (k : ℕ) → IsMarked found k → Found k
-  pub closed : (k to : ℕ) → IsMarked found k → Goes k to → IsMarked found to ⊎ Contains frontier k
+  pub followed : (k to : ℕ) → IsMarked found k → Goes k to → IsMarked found to ⊎ Contains frontier k
 
 -- it begins with the slots that were found first
 pub IsSearch-start : (Found : ℕ → Type 0) (Goes : ℕ → ℕ → Type 0) (Start : ℕ → Type 0) (size : ℕ)
@@ -197,7 +197,7 @@ IsSearch-start Found Goes Start size found frontier starts x =
       same = x.same ∙ length-replicate size false;
       waits = λ k c. elim (x.adds k c) [ inl old ↦ absurd (no-Contains k old) | inr m ↦ m ];
       sound = λ k m. starts k (new k m).1;
-      closed = λ k to m h. inr (new k m).0;
+      followed = λ k to m h. inr (new k m).0;
     }
 
 -- the slot to go on from was found
@@ -225,8 +225,8 @@ IsSearch-next Found Goes size slot f s rest g t further popped m x = record {
     | inl old ↦ m.sound k old
     | inr n ↦ further k (m.sound slot (m.waits slot (on_top slot s rest popped))) n.1
   ];
-  closed = λ k to h goes. elim (x.new k h) [
-    | inl old ↦ elim (m.closed k to old goes) [
+  followed = λ k to h goes. elim (x.new k h) [
+    | inl old ↦ elim (m.followed k to old goes) [
       | inl there ↦ inl (x.kept to there)
       | inr waits ↦
           elim (Contains-append_cases rest (slot ∷ []) k
@@ -255,7 +255,7 @@ pub IsSearch-followed : (Found : ℕ → Type 0) (Goes : ℕ → ℕ → Type 0)
     → IsSearch Found Goes size found frontier → (k to : ℕ) → IsMarked found k → Goes k to
     → IsMarked found to
 IsSearch-followed Found Goes size found [] over m k to h goes =
-    elim (m.closed k to h goes) [ inl there ↦ there | inr waits ↦ absurd (no-Contains k waits) ]
+    elim (m.followed k to h goes) [ inl there ↦ there | inr waits ↦ absurd (no-Contains k waits) ]
 IsSearch-followed Found Goes size found (x ∷ xs) over m k to h goes = absurd (omega (arith, over))
 
 -- from a search that has found nothing

@@ -1,12 +1,12 @@
--- The byte and the stack slot of a call frame at a place, by what the code finds of it.
+-- The byte and the stack slot of a call frame at a place, by what `byte_of` returns of it.
 use Rattle.std.proofs.Common.{◌≡◌, ℕ, ◌*◌, ◌/◌, ◌%◌, ◌<◌, Option, Some, None, sym, ap, ◌∙◌, arith}
 use Rattle.std.specs.Prelude.{◌↔◌, ◌≢◌, ℤ, pos, ◌-ℤ◌}
 use Rattle.std.proofs.lemmas.Option.{same_Some}
 use Rattle.isa_model.specs.declared.registers.Reg.{Reg}
 use Rattle.isa_model.specs.declared.registers.Reg.TheVariants.{R10}
 use Rattle.isa_model.specs.declared.instructions.Place.{Place}
-use Rattle.isa_model.specs.Code.Limits.{frame_size}
-use Rattle.isa_model.specs.MustAccept.Determined.{slot_offset}
+use Rattle.isa_model.specs.Code.Limits.{stack_size}
+use Rattle.isa_model.specs.MustAccept.Determined.{stack_slot_offset}
 use Rattle.control_flow.specs.StackUse.{IsByte, IsWithinSlot, IsWholeSlot}
 
 abbrev some_number : ℕ → Option ℕ
@@ -17,7 +17,7 @@ abbrev OnlyByte : Place → Option ℕ → Type 0
 OnlyByte place o = (n : ℕ) → (o ≡ Some n) ↔ IsByte place n
 
 pub byte_below : (place : Place) (o : Option ℕ) (byte : ℕ) → o ≡ Some byte → OnlyByte place o
-    → byte < frame_size
+    → byte < stack_size
 byte_below place o byte is only = ((only byte).0 is).0
 
 pub within_some : (place : Place) (o : Option ℕ) (byte : ℕ) → o ≡ Some byte → OnlyByte place o
@@ -62,8 +62,8 @@ whole_some place o byte is only even j = (
       let (below, base, offset) = (only byte).0 is in
       let at : byte ≡ 8 * j = omega (arith, same, even) in (
         omega (arith, at, below),
-        place_is place R10 (slot_offset j) base
-            (offset ∙ ap (λ (n : ℕ). pos n -ℤ pos frame_size) at),
+        place_is place R10 (stack_slot_offset j) base
+            (offset ∙ ap (λ (n : ℕ). pos n -ℤ pos stack_size) at),
       ),
   λ whole.
       let same : byte ≡ 8 * j = same_Some byte (8 * j) (sym is ∙ whole_byte place o j only whole) in

@@ -1,4 +1,4 @@
--- What instructions do with the stack, by what the code finds.
+-- Which stack slots instructions read and write, and which take the call frame's address.
 use Rattle.std.proofs.Common.{◌≡◌, ℕ, ◌<◌, Some, true, false, refl, sym, ◌∙◌, subst, arith, inl, inr}
 use Rattle.std.specs.Prelude.{◌↔◌, ℤ, Bool, IsTrue}
 use Rattle.std.proofs.lemmas.Option.{same_Some}
@@ -41,7 +41,7 @@ others_take_address (StoreConstant s q k) load signed constant store A B x y =
 others_take_address (Store s q r) load signed constant store A B x y = absurd (store s q r refl)
 others_take_address i load signed constant store A B x y = (λ a. y.0 (x.0 a), λ h. x.1 (y.1 h))
 
--- an instruction reads the registers that its slot reads
+-- a register is read at a slot just where the instruction there reads it
 pub reads_there : (p : Program) (slot : ℕ) (i : Insn) (r : Reg) → fetch p slot ≡ Some i
     → ReadsHome p (InRegister r) slot ↔ IsOneOf (read_registers i) r
 reads_there p slot i r here = (
@@ -50,7 +50,8 @@ reads_there p slot i r here = (
   λ by. (i, here, by),
 )
 
--- `taken` is right if, where it is false, no slot takes the frame's address
+-- `taken` is right if it holds only where the frame's address is taken, and no slot takes it where
+-- `taken` is false
 pub taken_iff : (p : Program) (n : ℕ) (taken : Bool)
     → (IsTrue taken → FrameAddressIsTaken p)
     → (taken ≡ false → (k : ℕ) → k < n → ¬ TakesFrameAddressAt p k)

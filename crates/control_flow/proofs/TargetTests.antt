@@ -17,7 +17,7 @@ use Rattle.control_flow.proofs.FlowLaws.{Fails-inside}
 
 -- ---- loops
 
--- where no slot below the next one fails and that one does not either, none up to it does
+-- where the next slot does not fail, and none below it does, none up to it does
 pub none_more : (P : ℕ → Type 0) (n : ℕ) → ((k : ℕ) → k < n → P k → ⊥) → (P n → ⊥) → (k : ℕ)
     → k < n + 1 → P k → ⊥
 none_more P n below here k lt h =

@@ -13,7 +13,7 @@ use Rattle.control_flow.specs.declared.homes.HomeMask.{HomeMask}
 use Rattle.control_flow.specs.declared.nodes.Node.{Node}
 use Rattle.control_flow.specs.Graph.{Falls, Jumps}
 use Rattle.control_flow.proofs.FlowLaws.{BeginsInsn-inside, fetch-BeginsInsn, HasEdge-inside}
-use Rattle.control_flow.specs.Flows.{IsMarked, MarksLive}
+use Rattle.control_flow.specs.Flows.{IsMarked, AreLiveMasks}
 use Rattle.control_flow.specs.Masks.{HasHome, no_homes, mask_at}
 use Rattle.control_flow.specs.Liveness.{Home, IsReadAfter}
 use Rattle.control_flow.specs.Nodes.{AreNodes, ComesFrom, HasBehind, IsLiveBefore, AreSound, HasLiveBefore, room_left, AddsAt}
@@ -34,9 +34,9 @@ pub record IsWorking (p : Program) (nodes : List Node) (masks : List HomeMask) (
   pub sound : AreSound p masks
   pub inside : (k : ℕ) → Contains frontier k → k < length nodes
   pub waits : (k : ℕ) → IsMarked found k → Contains frontier k
-  pub closed : (k : ℕ) (node : Node) → slice_get nodes k ≡ Some node
+  pub complete : (k : ℕ) (node : Node) → slice_get nodes k ≡ Some node
       → IsMarked found k ⊎ HasLiveBefore masks k node
-  pub room : count_by not found + length frontier ≤ length nodes
+  pub few : count_by not found + length frontier ≤ length nodes
 
 -- no slot is left to be found
 none_left : (n : ℕ) → count_by not (replicate n true) ≡ 0
@@ -59,12 +59,12 @@ working_start p nodes n size found frontier all all_found x =
       sound = λ r slot h. absurd (no_home r (subst (λ x. HasHome x r) (mask_at-none n slot) h));
       inside = λ k c. let low = x.only k c in omega (arith, low, all_found);
       waits = λ k m. let low = IsMarked-inside found k m in x.each k (omega (arith, low, same));
-      closed = λ k node here.
+      complete = λ k node here.
           let low = slice_get_within nodes k node here in
           let marked : IsMarked (replicate size true) k =
           get_or-replicate size k true false (omega (arith, low, all_found)) in
           inl (subst (λ (marks : List Bool). IsMarked marks k) (sym x.found_all) marked);
-      room = omega (arith, none, x.as_many, all_found);
+      few = omega (arith, none, x.as_many, all_found);
     }
 
 -- the slot on top is inside the code
@@ -105,7 +105,7 @@ node_there node slot = elim (leads_there node.falls_to slot) [
   | inl falls ↦ inl (inl falls)
   | inr other ↦ elim (leads_there node.jumps_to slot) [
     | inl jumps ↦ inl (inr jumps)
-    | inr another ↦ inr (λ to way. elim way [ inl e ↦ other to e | inr e ↦ another to e ])
+    | inr another ↦ inr (λ to edge. elim edge [ inl e ↦ other to e | inr e ↦ another to e ])
   ]
 ]
 
@@ -120,12 +120,12 @@ live_before_old : (nodes : List Node) (slot k : ℕ) (node : Node) (old new : Li
     (r : Home) → slice_get nodes k ≡ Some node
     → AddsAt nodes slot old new grown → (k ≡ slot) ⊎ HasLiveBefore old k node
     → IsLiveBefore old node r → HasHome (mask_at new k) r
-live_before_old nodes slot k node old new grown r here x closed live = elim (cases_eq k slot) [
+live_before_old nodes slot k node old new grown r here x complete live = elim (cases_eq k slot) [
   | inl e ↦
       let there : slice_get nodes slot ≡ Some node =
       subst (λ (i : ℕ). slice_get nodes i ≡ Some node) e here in
       subst (λ (i : ℕ). HasHome (mask_at new i) r) (sym e) (x.added node there r live)
-  | inr apart ↦ elim closed [
+  | inr apart ↦ elim complete [
     | inl e ↦ absurd (apart e)
     | inr was ↦ subst (λ y. HasHome y r) (sym (x.others k apart)) (was r live)
   ]
@@ -190,29 +190,29 @@ working_next p nodes W slot old new grown f s rest g t are popped x y wants m =
             ]
         | inr new ↦ new.0
       ];
-      closed = λ k node here. elim (before k node here) [
+      complete = λ k node here. elim (before k node here) [
         | inl marked ↦ inl (y.kept k marked)
         | inr was ↦ elim wants [
           | inl still ↦ inr (λ r live. live_before_old nodes slot k node old new grown r here x was
               (before_same old new node r
-              (λ to way. ap (λ (l : List HomeMask). mask_at l to) (x.still still)) live))
+              (λ to edge. ap (λ (l : List HomeMask). mask_at l to) (x.still still)) live))
           | inr all ↦ elim (node_there node slot) [
-            | inl way ↦ inl (y.all k (all k (comes_from nodes k slot node here way)))
+            | inl edge ↦ inl (y.all k (all k (comes_from nodes k slot node here edge)))
             | inr other ↦
                 inr (λ r live. live_before_old nodes slot k node old new grown r here x was
-                (before_same old new node r (λ to way. x.others to (other to way)) live))
+                (before_same old new node r (λ to edge. x.others to (other to edge)) live))
           ]
         ]
       ];
-      room =
+      few =
           let more = count-unset f slot low in
-          omega (arith, more, y.even, m.room, ap length popped, length-append rest (slot ∷ []));
+          omega (arith, more, y.even, m.few, ap length popped, length-append rest (slot ∷ []));
     } where
       before : (k : ℕ) (node : Node) → slice_get nodes k ≡ Some node
           → IsMarked (set f slot false) k ⊎ ((k ≡ slot) ⊎ HasLiveBefore old k node)
       before k node here = elim (cases_eq k slot) [
         | inl e ↦ inr (inl e)
-        | inr apart ↦ elim (m.closed k node here) [
+        | inr apart ↦ elim (m.complete k node here) [
           | inl marked ↦ inl (still_marked f slot k apart marked)
           | inr was ↦ inr (inr was)
         ]
@@ -232,7 +232,7 @@ work_less p nodes old new g s t less m =
     let product =
     mul-le-mul_left {m = room_left new + 1} {n = room_left old} (length nodes + 1)
     (omega arith) in
-    omega (arith, product, m.room)
+    omega (arith, product, m.few)
 
 -- ---- the list is empty
 
@@ -243,25 +243,25 @@ behind masks o to r e h = subst (λ (x : Option ℕ). HasBehind masks x r) (sym 
 live_has : (p : Program) (nodes : List Node) (masks : List HomeMask) → AreNodes p nodes
     → ((k : ℕ) (node : Node) → slice_get nodes k ≡ Some node → HasLiveBefore masks k node)
     → (r : Home) (n slot : ℕ) → IsReadAfter p r n slot → HasHome (mask_at masks slot) r
-live_has p nodes masks are closed r zero slot reads =
+live_has p nodes masks are complete r zero slot reads =
     let inside : slot < length p.insns =
     BeginsInsn-inside p slot (fetch-BeginsInsn p slot reads.0 reads.1) in
     let found = node_at p nodes slot are inside in
-    closed slot found.0 found.1 r (inl (((are.each slot found.0 found.1).reads r).1 reads))
-live_has p nodes masks are closed r (suc n) slot (next, inl falls, keeps, path) =
+    complete slot found.0 found.1 r (inl (((are.each slot found.0 found.1).reads r).1 reads))
+live_has p nodes masks are complete r (suc n) slot (next, inl falls, keeps, path) =
     let found = node_at p nodes slot are (HasEdge-inside p slot next (Falls falls)) in
     let is = are.each slot found.0 found.1 in
-    let has = live_has p nodes masks are closed r n next path in
-    closed slot found.0 found.1 r
+    let has = live_has p nodes masks are complete r n next path in
+    complete slot found.0 found.1 r
     (inr (
       inl (behind masks found.0.falls_to next r (is.falls ∙ falls) has),
       λ w. keeps ((is.writes r).0 w),
     ))
-live_has p nodes masks are closed r (suc n) slot (next, inr jumps, keeps, path) =
+live_has p nodes masks are complete r (suc n) slot (next, inr jumps, keeps, path) =
     let found = node_at p nodes slot are (HasEdge-inside p slot next (Jumps jumps)) in
     let is = are.each slot found.0 found.1 in
-    let has = live_has p nodes masks are closed r n next path in
-    closed slot found.0 found.1 r
+    let has = live_has p nodes masks are complete r n next path in
+    complete slot found.0 found.1 r
     (inr (
       inr (behind masks found.0.jumps_to next r (is.jumps ∙ jumps) has),
       λ w. keeps ((is.writes r).0 w),
@@ -269,12 +269,12 @@ live_has p nodes masks are closed r (suc n) slot (next, inr jumps, keeps, path) 
 
 pub working_end : (p : Program) (nodes : List Node) (masks : List HomeMask) (found : List Bool)
     (frontier : List ℕ) → length frontier ≡ 0 → AreNodes p nodes
-    → IsWorking p nodes masks found frontier → MarksLive p masks
+    → IsWorking p nodes masks found frontier → AreLiveMasks p masks
 working_end p nodes masks found [] over are m r slot = (
   λ h. m.sound r slot h,
-  λ (n, path). live_has p nodes masks are (λ k node here. elim (m.closed k node here) [
+  λ (n, path). live_has p nodes masks are (λ k node here. elim (m.complete k node here) [
     | inl marked ↦ absurd (no-Contains k (m.waits k marked))
-    | inr closed ↦ closed
+    | inr complete ↦ complete
   ]) r n slot path,
 )
 working_end p nodes masks found (x ∷ xs) over are m r slot = absurd (omega (arith, over))

@@ -77,11 +77,11 @@ MarksJoins p marks = (slot : ℕ) → IsMarked marks slot ↔ IsJoin p slot
 
 -- ---- what a `Flow` knows
 
--- for each slot what is live there
-abbrev pub MarksLive : Program → List HomeMask → Type 0
-MarksLive p masks = (h : Home) (slot : ℕ) → HasHome (mask_at masks slot) h ↔ IsHomeLive p h slot
+-- the mask of each slot has what is live there, and nothing else
+abbrev pub AreLiveMasks : Program → List HomeMask → Type 0
+AreLiveMasks p masks = (h : Home) (slot : ℕ) → HasHome (mask_at masks slot) h ↔ IsHomeLive p h slot
 
 pub record DescribesFlow (p : Program) (joins : List Bool) (masks : List HomeMask) : Type 0 where
   pub flow : IsFlow p
   pub marked : MarksJoins p joins
-  pub live : MarksLive p masks
+  pub live : AreLiveMasks p masks

@@ -25,7 +25,7 @@ abbrev pub IsWrittenBy : Insn → Home → Type 0
 IsWrittenBy i (InRegister r) = IsOneOf (written_registers i) r
 IsWrittenBy i (InSlot j) = WritesSlot i j
 
--- the instruction at a slot of the code does
+-- the instruction at a slot of the code reads it, or writes all of it
 abbrev pub ReadsHome : Program → Home → ℕ → Type 0
 ReadsHome p h slot = (i : Insn) × (fetch p slot ≡ Some i) × IsReadBy (FrameAddressIsTaken p) i h
 

@@ -5,8 +5,8 @@ use Rattle.control_flow.specs.Flows.{IsMarked}
 
 -- how much of the search is left: 2 for each slot that it has not found, and 1 for each of the
 -- frontier
-abbrev pub room_of : List Bool → List ℕ → ℕ
-room_of found frontier = 2 * count_by not found + length frontier
+abbrev pub search_left : List Bool → List ℕ → ℕ
+search_left found frontier = 2 * count_by not found + length frontier
 
 -- the wanted slots are found, and nothing else is added; the new ones are added to the frontier
 pub record Extends (Wanted : ℕ → Type 0) (found : List Bool) (frontier : List ℕ)
@@ -18,7 +18,7 @@ pub record Extends (Wanted : ℕ → Type 0) (found : List Bool) (frontier : Lis
   pub new : (k : ℕ) → IsMarked found' k → IsMarked found k ⊎ (Contains frontier' k × Wanted k)
   pub adds : (k : ℕ) → Contains frontier' k → Contains frontier k ⊎ IsMarked found' k
   pub even : count_by not found' + length frontier' ≤ count_by not found + length frontier
-  pub less : room_of found' frontier' ≤ room_of found frontier
+  pub less : search_left found' frontier' ≤ search_left found frontier
 
 -- all slots of the code are found, and are the frontier
 pub record HasAll (size : ℕ) (found : List Bool) (frontier : List ℕ) : Type 0 where

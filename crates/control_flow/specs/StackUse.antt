@@ -6,17 +6,17 @@ use Rattle.isa_model.specs.declared.registers.Reg.TheVariants.{R10}
 use Rattle.isa_model.specs.declared.instructions.Place.{Place}
 use Rattle.isa_model.specs.declared.instructions.Insn.{Insn}
 use Rattle.isa_model.specs.declared.instructions.Insn.TheVariants.{Load, LoadSx, Store, StoreConstant}
-use Rattle.isa_model.specs.Code.Limits.{frame_size}
+use Rattle.isa_model.specs.Code.Limits.{stack_size}
 use Rattle.isa_model.specs.Code.Instructions.{Program, fetch}
 use Rattle.isa_model.specs.MustAccept.Paths.{IsOneOf}
-use Rattle.isa_model.specs.MustAccept.Determined.{slot_place}
+use Rattle.isa_model.specs.MustAccept.Determined.{stack_slot_place}
 use Rattle.control_flow.specs.Accesses.{read_registers}
 
 -- ---- stack slots of 8 bytes, counted from the lowest address on
 
 -- the place is byte n of the frame, from r10
 abbrev pub IsByte : Place → ℕ → Type 0
-IsByte place n = (n < frame_size) × (place.base ≡ R10) × (place.offset ≡ pos n -ℤ pos frame_size)
+IsByte place n = (n < stack_size) × (place.base ≡ R10) × (place.offset ≡ pos n -ℤ pos stack_size)
 
 -- it is one of stack slot j
 abbrev pub IsWithinSlot : Place → ℕ → Type 0
@@ -24,7 +24,7 @@ IsWithinSlot place j = (n : ℕ) × IsByte place n × (8 * j ≤ n) × (n < 8 * 
 
 -- it is the first one of stack slot j
 abbrev pub IsWholeSlot : Place → ℕ → Type 0
-IsWholeSlot place j = (j < 64) × (place ≡ slot_place j)
+IsWholeSlot place j = (j < 64) × (place ≡ stack_slot_place j)
 
 -- the instruction reads bytes of the stack slot
 abbrev pub ReadsSlot : Insn → ℕ → Type 0

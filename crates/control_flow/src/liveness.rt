@@ -2,7 +2,7 @@
 
 ghost use Rattle.std.specs.Prelude.{◌≡◌, ◌+◌, ◌<◌, ◌↔◌, ◌⊎◌, ℕ, Some, length, IfOk, OnOk};
 ghost use Rattle.control_flow.specs.Liveness.{Home};
-ghost use Rattle.control_flow.specs.Flows.{Fails, MarksLive};
+ghost use Rattle.control_flow.specs.Flows.{Fails, AreLiveMasks};
 ghost use Rattle.control_flow.specs.Masks.{HasHome};
 ghost use Rattle.control_flow.specs.Nodes.{HasBehind, IsLiveBefore, AddsAt, fall_from, FallsNear, ComesFrom};
 ghost use Rattle.control_flow.specs.Searches.{Extends};
@@ -74,7 +74,7 @@ fn go_back(
     requires inside { slot < length nodes.now }
     requires near { FallsNear nodes.now }
     requires sources { AreSources nodes.now sources.now.last.items sources.now.before.items }
-    requires room { length work.old.found.items ≡ length nodes.now }
+    requires same { length work.old.found.items ≡ length nodes.now }
     ensures { OnOk result (Extends (ComesFrom nodes.now slot)
         work.old.found.items work.old.frontier.items
         work.new.found.items work.new.frontier.items) }
@@ -96,7 +96,7 @@ fn go_back(
 /// each register and each stack slot, so the time is linear in slots times these.
 pub fn live_homes(alloc: Global, image: &Image) -> Result<Vec<HomeMask>, AllocError>
     requires { (slot : ℕ) → ¬ Fails image.now FlowError.TargetOutside slot }
-    ensures { IfOk result (λ masks. MarksLive image.now masks.items) }
+    ensures { IfOk result (λ masks. AreLiveMasks image.now masks.items) }
 {
     let nodes = nodes_of(alloc, image)?;
     let sources = sources_of(alloc, &nodes)?;

@@ -26,7 +26,7 @@ impl SlotSearch {
         })
     }
 
-    /// A search in code with that many slots, which has found all of them, the last one on top.
+    /// A search in code of this number of slots, which has found all of them, the last one on top.
     pub fn of_all(alloc: Global, slots: usize) -> Result<Self, AllocError>
         ensures { IfOk result (λ search. HasAll slots search.found.items search.frontier.items) }
     {

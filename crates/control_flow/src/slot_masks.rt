@@ -1,7 +1,7 @@
 //! Sets of a call frame's stack slots.
 
 ghost use Rattle.std.specs.Prelude.{◌≡◌, ℕ, ◌+◌, ◌*◌, ◌/◌, ◌^◌, ◌<◌, ◌≤◌, ◌↔◌, ◌⊎◌, IsTrue, Some, bit_and};
-ghost use Rattle.isa_model.specs.Code.Limits.{frame_size};
+ghost use Rattle.isa_model.specs.Code.Limits.{stack_size};
 
 /// A set of stack slots of 8 bytes, the one at offset -512 from the frame's end in the lowest bit.
 #[derive(Clone, Copy, PartialEq, Eq)]
@@ -32,7 +32,7 @@ impl SlotMask {
         ensures { (j : ℕ) → HasSlot result j ↔ (slot ≡ Some j) }
     {
         match slot {
-            Some(number) => SlotMask { bits: 1 << number },
+            Some(index) => SlotMask { bits: 1 << index },
             None => SlotMask::none(),
         }
     }
@@ -65,7 +65,7 @@ impl SlotMask {
 
     /// Whether a stack slot is one of them.
     pub fn has(self, slot: u8) -> bool
-        requires { 8 * slot < frame_size }
+        requires { 8 * slot < stack_size }
         ensures { IsTrue result ↔ HasSlot self slot }
     {
         (self.bits >> slot) & 1 == 1

@@ -14,13 +14,13 @@ use crate::homes::HomeMask;
 use crate::masks::RegisterMask;
 use crate::slot_masks::SlotMask;
 use image::Image;
-use isa_model::{FRAME_SIZE, Insn, Place, Reg, Size};
+use isa_model::{Insn, Place, Reg, STACK_SIZE, Size};
 
 /// The byte of the frame, counted from its lowest address, at a place with the base r10.
 fn byte_of(place: Place) -> Option<usize>
     ensures { (n : ℕ) → (result ≡ Some n) ↔ IsByte place n }
 {
-    let size = FRAME_SIZE as i32;
+    let size = STACK_SIZE as i32;
     let at = i32::from(place.offset) + size;
     if place.base == Reg::R10 && at >= 0 && at < size {
         Some(at as usize)

@@ -5,7 +5,7 @@ use Rattle.isa_model.specs.declared.instructions.Insn.{Insn}
 use Rattle.isa_model.specs.Text.CanonicalText.{line_of, instructions, code_text}
 use Rattle.disassembler.specs.SlotText.{slot_text}
 
--- the slots' texts in a row are the instructions'
+-- the texts of the slots, one after the other, are those of the instructions
 pub slot_text-code : (xs : List (Option Insn)) → flat_map slot_text xs ≡ code_text (instructions xs)
 slot_text-code [] = refl
 slot_text-code (None ∷ xs) = slot_text-code xs

@@ -7,7 +7,7 @@ use Rattle.std.specs.Io.KnownBytes.{Appends}
 use Rattle.exact_io.specs.Transfers.{AppendsBeginning}
 use Rattle.exact_io.proofs.TransferLaws.{AppendsBeginning-first, AppendsBeginning-second}
 
--- texts in a row, in three parts at one of them
+-- texts, one after the other, in three parts at one of them
 texts-split : {X : Type 0} (text : X → List ℕ) (xs : List X) (k : ℕ) (x d : X) → k < length xs
     → get_or xs k d ≡ x
     → flat_map text xs ≡ flat_map text (take k xs) ++ (text x ++ flat_map text (drop (suc k) xs))

@@ -7,7 +7,7 @@ use Rattle.std.specs.Fmt.{digit_glyph}
 abbrev pub hex_glyph : ℕ → List ℕ
 hex_glyph d = digit_glyph false d ∷ []
 
--- the last k digits of a number at most, without leading zeros
+-- at most the last k digits of a number, without leading zeros
 unfoldable pub hex_digits : ℕ → ℕ → List ℕ
 hex_digits zero n = []
 hex_digits (suc k) n = (if n / 16 == 0 then [] else hex_digits k (n / 16)) ++ hex_glyph (n % 16)

@@ -12,7 +12,7 @@ memory_text size p = codes "*(" ++ size ++ codes " *)(" ++ place_text p ++ codes
 
 -- an atomic instruction whose source register gets the old number: `r1 = xchg_64(r10 - 8, r1)`
 abbrev pub fetch_insn_text : List ℕ → Width → Place → Reg → List ℕ
-fetch_insn_text name w p s =
-    reg_text Full64 s ++ codes " = " ++ name ++ width_text w ++ codes "(" ++ place_text p
+fetch_insn_text word w p s =
+    reg_text Full64 s ++ codes " = " ++ word ++ width_text w ++ codes "(" ++ place_text p
     ++ codes ", "
     ++ reg_text Full64 s ++ codes ")\n"

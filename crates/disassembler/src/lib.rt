@@ -1,4 +1,5 @@
-//! Programs as canonical text: a line for each map row and then for each instruction.
+//! Programs as canonical text: a line for version 2, then one for each map row, then one for each
+//! instruction.
 //!
 //! Nothing here allocates memory: each line is made in a buffer of fixed size, and written at once.
 #![tactic(auto)]

@@ -172,16 +172,16 @@ fn atomic_line(width: Width, op: AtomicOp, place: Place, source: Reg) -> CodeLin
     line
 }
 
-// `r1 = NAME64(r10 - 8, r1)`: an atomic instruction whose source register gets the old
+// `r1 = WORD64(r10 - 8, r1)`: an atomic instruction whose source register gets the old
 // number.
-fn fetch_line(name: &str, width: Width, place: Place, source: Reg) -> CodeLine
-    requires { length name.now ≤ 17 }
-    ensures { result.bytes ≡ fetch_insn_text name.now width place source }
+fn fetch_line(word: &str, width: Width, place: Place, source: Reg) -> CodeLine
+    requires { length word.now ≤ 17 }
+    ensures { result.bytes ≡ fetch_insn_text word.now width place source }
 {
     let mut line = CodeLine::new();
     push_reg(&mut line, Width::Full64, source);
     line.push_str(" = ");
-    line.push_str(name);
+    line.push_str(word);
     line.push_str(width_word(width));
     line.push_str("(");
     push_place(&mut line, place);

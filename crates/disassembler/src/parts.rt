@@ -45,7 +45,7 @@ pub fn push_place(line: &mut CodeLine, place: Place)
     push_offset(line, place.offset);
 }
 
-/// Appends memory of a size, `size` in words: `*(u32 *)(r10 - 8)`.
+/// Appends memory of a size, whose word is `size`: `*(u32 *)(r10 - 8)`.
 pub fn push_memory(line: &mut CodeLine, size: &str, place: Place)
     requires short { length size.now ≤ 3 }
     requires room { array_string_len line.old + 36 ≤ 96 }

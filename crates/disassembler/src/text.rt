@@ -63,7 +63,7 @@ fn write_code<W: Write>(out: &mut W, slots: &[Option<Insn>]) -> io::Result<()>
     Ok(())
 }
 
-// The line of the image's version; the first one has none.
+// The line of the image's version; version 1 has none.
 fn line_of_version(image: &Image) -> &'static str
     ensures { result.now ≡ version_line image.now.version }
 {

@@ -1,4 +1,4 @@
-//! The words and signs of instructions.
+//! The words and signs of instructions, and the words of map types.
 
 ghost use Rattle.std.specs.Prelude.{◌≡◌, ◌≤◌, length};
 ghost use Rattle.isa_model.specs.Text.CanonicalText.{reg_digits, size_text, signed_text, extension_text, extension_width, span_text, order_text, width_text, op_text, comparison_text, atomic_text, fetch_text, map_type_text};
@@ -28,7 +28,7 @@ pub fn reg_digits(register: Reg) -> &'static str
     }
 }
 
-/// What a load or store moves.
+/// The size of a load or a store.
 pub fn size_word(size: Size) -> &'static str
     ensures text { result.now ≡ size_text size }
     ensures short { length result.now ≤ 3 }
@@ -41,7 +41,7 @@ pub fn size_word(size: Size) -> &'static str
     }
 }
 
-/// What a sign-extending load reads.
+/// The size of a sign-extending load.
 pub fn signed_word(size: SignedSize) -> &'static str
     ensures text { result.now ≡ signed_text size }
     ensures short { length result.now ≤ 3 }
@@ -75,7 +75,7 @@ pub fn extension_width(extension: Extension) -> Width
     }
 }
 
-/// How many bits a byte swap instruction takes.
+/// How many bits a byte swap instruction swaps.
 pub fn span_word(span: SwapWidth) -> &'static str
     ensures text { result.now ≡ span_text span }
     ensures short { length result.now ≤ 2 }
@@ -87,7 +87,7 @@ pub fn span_word(span: SwapWidth) -> &'static str
     }
 }
 
-/// What a byte swap instruction does.
+/// The order of bytes that a byte swap instruction makes.
 pub fn order_word(order: ByteOrder) -> &'static str
     ensures text { result.now ≡ order_text order }
     ensures short { length result.now ≤ 5 }
@@ -110,7 +110,7 @@ pub fn width_word(width: Width) -> &'static str
     }
 }
 
-/// The sign of an assignment.
+/// The sign of an operation.
 pub fn op_sign(op: AluOp) -> &'static str
     ensures text { result.now ≡ op_text op }
     ensures short { length result.now ≤ 4 }
@@ -166,7 +166,7 @@ pub fn atomic_sign(op: AtomicOp) -> &'static str
     }
 }
 
-/// The name of an atomic instruction with FETCH, up to its bits.
+/// The word of an atomic instruction with FETCH, without its bits.
 pub fn fetch_word(op: AtomicOp) -> &'static str
     ensures text { result.now ≡ fetch_text op }
     ensures short { length result.now ≤ 17 }
@@ -179,7 +179,7 @@ pub fn fetch_word(op: AtomicOp) -> &'static str
     }
 }
 
-/// A type of map.
+/// A map type.
 pub fn map_type_word(kind: MapType) -> &'static str
     ensures text { result.now ≡ map_type_text kind }
     ensures short { length result.now ≤ 5 }

@@ -20,7 +20,7 @@ use Rattle.explanations.specs.Entries.{states_of, ways_in, count_line, TellsName
 
 -- ---- words
 
--- the parts of a difference are these words
+-- the texts of a difference are these words
 pub differs_by : (r : Result (String Global) AllocError) (nth index : ℕ) (a b c x y z : List ℕ)
     → a ≡ x → b ≡ y → c ≡ z
     → IfOk r (λ t. string_bytes t ≡ difference_lines nth index a b c)
@@ -111,7 +111,7 @@ tells_second t number i j named w a b (Some s) at count is =
 
 -- ---- tables
 
--- what is said of a table that is kept is said of its entries
+-- what is said of the entries at the places of a table is said of those that its bytes spell
 pub reasons_of : (p : Program) (bytes : List ℕ) (t : TableView) (entries : List Entry)
     (error : TableError) (r : Option EntryReason) → table_read p bytes ≡ Ok entries
     → KeepsEntries p t entries

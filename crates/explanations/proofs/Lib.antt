@@ -1,3 +1,3 @@
-pub mod Words
+pub mod Texts
 pub mod EntryLaws
 pub mod ReasonLaws

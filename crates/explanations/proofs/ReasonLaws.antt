@@ -16,7 +16,7 @@ use Rattle.explanations.specs.Flows.{flow_line}
 use Rattle.explanations.specs.Reasons.{lines_of, IsReason}
 use Rattle.explanations.specs.Reasons.IsReason.{OfState, OfFlow}
 
--- the text of a refusal of control flow, if memory was there
+-- the text of a refusal of control flow, unless memory ran out
 pub of_flow : (p : Program) (e : Refusal) (slot : ℕ) (error : FlowError) (i : Insn)
     → (r : Result (String Global) AllocError) → e ≡ Flow error → fetch p slot ≡ Some i
     → IfOk r (λ text. string_bytes text ≡ flow_line p error slot i)
@@ -24,7 +24,7 @@ pub of_flow : (p : Program) (e : Refusal) (slot : ℕ) (error : FlowError) (i : 
 of_flow p e slot error i (Ok text) is there said = OfFlow error i is there said
 of_flow p e slot error i (Err failed) is there said = tt
 
--- the text of a state, if memory was there
+-- the text of a state, unless memory ran out
 pub of_state : (p : Program) (e : Refusal) (slot : ℕ) (found : Explanation) (i : Insn)
     → (r : Result (String Global) AllocError) → Explains p e slot found → fetch p slot ≡ Some i
     → IfOk r (λ text. string_bytes text ≡ lines_of p i e found)

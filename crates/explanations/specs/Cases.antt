@@ -26,7 +26,7 @@ use Rattle.walks.specs.declared.refusals.Refusal.TheVariants.{Step, Repeats}
 -- the size and the place of an access
 abbrev pub access : Insn → Option (Size × Place)
 access (Load size d place) = Some (size, place)
-access (LoadSx narrow d place) = Some (unsigned_size narrow, place)
+access (LoadSx size d place) = Some (unsigned_size size, place)
 access (StoreConstant size place constant) = Some (size, place)
 access (Store size place r) = Some (size, place)
 access (Atomic w op fetched place r) = Some (width_size w, place)
@@ -58,7 +58,7 @@ size_in (Some row) = row.value_size
 abbrev pub row_size : List MapDef → ℕ → ℕ
 row_size rows m = size_in (slice_get rows m)
 
--- which bytes are needed, and what there is: of a call frame, of the packet, of a value
+-- which bytes are needed, and which there are: of a call frame, of the packet, of a map value
 abbrev pub frame_line : (span : List ℕ) → (bytes : ℕ) → List ℕ
 frame_line span bytes =
     span ++ (codes ", and the first at a multiple of "
@@ -69,19 +69,19 @@ packet_line span behind proved =
     span ++ (behind ++ (codes "; " ++ (decimal proved ++ codes
     " are proved: compare a pointer after them with the packet end, or correct the offset\n")))
 
-abbrev pub value_line : (span : List ℕ) → (bytes : ℕ) → List ℕ
-value_line span bytes =
+abbrev pub map_value_line : (span : List ℕ) → (bytes : ℕ) → List ℕ
+map_value_line span bytes =
     span ++ (codes "; the value has " ++ (decimal bytes
     ++ codes ": correct the offset, or limit it (r2 &= 7)\n"))
 
--- what an access needs that is refused for its place, and what there is
+-- which bytes an access that is refused for its place needs, and which there are
 abbrev pub access_line : List MapDef → Kind → Place → Size → List ℕ
 access_line rows (kind.Stack frame offset) place size =
     frame_line (span_words offset offset place.offset size) (size_bytes size)
 access_line rows (kind.Packet fixed identity least greatest proved) place size =
     packet_line (span_words fixed fixed place.offset size) (behind_words identity) proved
 access_line rows (kind.MapValue m least greatest) place size =
-    value_line (span_words least greatest place.offset size) (row_size rows m)
+    map_value_line (span_words least greatest place.offset size) (row_size rows m)
 access_line rows k place size = []
 
 abbrev pub line_at : List MapDef → State → Option (Size × Place) → List ℕ
@@ -97,20 +97,20 @@ abbrev pub is_map : Kind → Bool
 is_map (kind.Map m) = true
 is_map k = false
 
--- what a look-up and a delete want, by what r1 is
+-- what a look-up and a delete need, by the kind of r1
 abbrev pub key_line : Kind → List ℕ
 key_line map =
     if is_map map then codes "r2 has to point to the key: into a frame, the packet or a value\n"
     else codes "r1 has to be a map: r1 = map_by_idx(0)\n"
 
--- what an update wants, by what r1, r2 and r3 are
+-- what an update needs, by the kinds of r1, r2 and r3
 abbrev pub update_line : (map key value : Kind) → List ℕ
 update_line map key value =
     if not (is_map map && points_to_bytes key) then key_line map
     else if points_to_bytes value then codes "r4 has to be a number, the flags: r4 = 0\n"
     else codes "r3 has to point to the value: into a frame, the packet or a value\n"
 
--- which argument is wrong that a helper has
+-- which argument of a helper is wrong
 abbrev pub argument_line : State → Helper → List ℕ
 argument_line a MapLookupElem = key_line (kind_of a R1)
 argument_line a MapUpdateElem = update_line (kind_of a R1) (kind_of a R2) (kind_of a R3)
@@ -145,7 +145,7 @@ sizes_line rows a = sizes_by rows (kind_of a R1)
 
 -- ---- ends
 
--- what an exit returns, by how many callers there are
+-- what an exit may return, by how many callers there are
 abbrev pub exit_line : ℕ → List ℕ
 exit_line callers =
     if callers == 0 then codes "r0 has to be a number: 0 ABORTED, 1 DROP, 2 PASS, 3 TX\n"

@@ -64,7 +64,7 @@ TellsSuccessors t number named states text =
     ((length states ≢ length named) × (text ≡ count_line (length states) (length named)))
     ⊎ TellsOne t number named states text
 
--- what is said of the entry, whose step is of this instruction
+-- what is said of the entry, whose step executes this instruction
 abbrev pub SaysOfEntry : Program → EntryAt → TableError → Insn → Entry → List ℕ → Type 0
 SaysOfEntry p t (Step k r) i e text = text ≡ step_lines p.maps e.state i r
 SaysOfEntry p t (Successor k) i e text = (w : Ways) × (a : State) × (b : State)

@@ -43,7 +43,8 @@ abbrev pub first_calling : Program → (to count : ℕ) → Option ℕ
 first_calling p to zero = None
 first_calling p to (suc n) = or_later (first_calling p to n) (found_at n to (called_at p n))
 
--- the later of two slots at which functions begin; one after the given slot does not count
+-- the later of two slots at which functions begin; that of the call, if there is one, counts only
+-- up to the given slot
 abbrev pub later_of : (slot : ℕ) → Option ℕ → ℕ → ℕ
 later_of slot None found = found
 later_of slot (Some k) found = if nat_le k slot then max k found else found
@@ -73,9 +74,9 @@ second_half_words to first =
     codes "it leads to slot " ++ (decimal to ++ (codes ", the second half of what begins at slot "
     ++ (decimal first ++ codes ": count that twice, or use a name\n")))
 
-abbrev pub half_line : Option ℕ → List ℕ
-half_line None = []
-half_line (Some to) = second_half_words to (to - 1)
+abbrev pub second_half_line : Option ℕ → List ℕ
+second_half_line None = []
+second_half_line (Some to) = second_half_words to (to - 1)
 
 abbrev pub called_words : Option ℕ → List ℕ
 called_words None = []
@@ -112,7 +113,7 @@ end_line p next =
     then codes "the code ends after it: end the function by exit or a jump\n"
     else next_line next (first_calling p next (length p.insns))
 
--- whether something that is not reached either leads to a slot
+-- whether an instruction, which is not reached itself, leads to a slot
 abbrev pub unreached_line : Option ℕ → List ℕ
 unreached_line None =
     codes "neither what is before it nor a jump or call leads here: remove it, or jump to it\n"
@@ -125,7 +126,7 @@ unreached_line (Some from) =
 -- what is said of the instruction at the slot
 abbrev pub flow_line : Program → FlowError → ℕ → Insn → List ℕ
 flow_line p TargetOutside slot i = outside_line slot (length p.insns) (distance_of i)
-flow_line p SecondHalf slot i = half_line (target_at p slot)
+flow_line p SecondHalf slot i = second_half_line (target_at p slot)
 flow_line p OtherFunction slot i = other_line p slot (target_at p slot)
 flow_line p FallsOff slot i = end_line p (slot + slots_filled i)
 flow_line p Unreachable slot i = unreached_line (first_leading p slot (length p.insns))

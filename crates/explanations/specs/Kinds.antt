@@ -1,4 +1,4 @@
--- What is known of a value, in words.
+-- What is known of the value of a register or a stack slot, as text.
 use Rattle.std.specs.Prelude.{ℕ, zero, suc, ◌-◌, ◌==◌, ℤ, int_lt, List, [], ◌++◌, codes, decimal, if◌then◌else◌}
 use Rattle.std.specs.Fmt.{signed_decimal}
 use Rattle.reg_state.specs.declared.kinds.Kind.{Kind}
@@ -32,15 +32,16 @@ packet_words fixed part proved behind =
     ++ (part ++ (codes ", " ++ (decimal proved ++ (codes " " ++ behind)))))
 
 -- a pointer into a value of a map, at an offset
-abbrev pub value_words : ℕ → ℤ → ℤ → List ℕ
-value_words m least greatest =
+abbrev pub map_value_words : ℕ → ℤ → ℤ → List ℕ
+map_value_words m least greatest =
     if int_lt least greatest then
     codes "value of map "
     ++ (decimal m
     ++ (codes " at " ++ (signed_decimal least ++ (codes " to " ++ signed_decimal greatest))))
     else codes "value of map " ++ (decimal m ++ (codes " at " ++ signed_decimal least))
 
--- a value, where the innermost call frame has this index; offsets on the stack count from its end
+-- what is known of a value, where the innermost call frame has this index; offsets on the stack
+-- count from its end
 abbrev pub kind_words : ℕ → Kind → List ℕ
 kind_words innermost Unset = codes "unset"
 kind_words innermost (Number numbers) = number_words numbers
@@ -51,6 +52,6 @@ kind_words innermost (Packet fixed identity least greatest proved) =
     packet_words fixed (part_words identity least greatest) proved (proved_words identity)
 kind_words innermost PacketEnd = codes "packet end"
 kind_words innermost (Map m) = codes "map " ++ decimal m
-kind_words innermost (MapValue m least greatest) = value_words m least greatest
+kind_words innermost (MapValue m least greatest) = map_value_words m least greatest
 kind_words innermost (MapValueOrNull m identity) =
     codes "value of map " ++ (decimal m ++ codes ", null not tested")

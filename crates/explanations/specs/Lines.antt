@@ -1,4 +1,4 @@
--- What of a state concerns an instruction, a line each.
+-- The registers and stack slots of a state that concern an instruction, a line each.
 use Rattle.std.specs.Prelude.{ℕ, ◌+◌, ◌-◌, ◌/◌, ◌%◌, min, ◌+ℤ◌, ℤ, List, [], ◌∷◌, ◌++◌, length, slice_get, Option, Some, None, codes, decimal}
 use Rattle.std.specs.List.{flat_map}
 use Rattle.isa_model.specs.declared.registers.Reg.{Reg}
@@ -44,15 +44,15 @@ register_lines a i = flat_map (register_line a) (concerned i)
 -- ---- answers
 
 -- the low half of a number that has to name an action, and what helps
-abbrev pub half_line : Kind → List ℕ
-half_line (Number numbers) =
+abbrev pub low_half_line : Kind → List ℕ
+low_half_line (Number numbers) =
     codes "low half of r0: "
     ++ (half_words numbers ++ codes "; actions are 0 to 4: mask it (r0 &= 3) or test it\n")
-half_line k = []
+low_half_line k = []
 
--- of r0, where an exit is not shown to answer with an action
+-- the line of r0, where an exit is not shown to answer with an action
 abbrev pub answer_line : State → Refusal → List ℕ
-answer_line a (Step NoAction) = half_line (kind_of a R0)
+answer_line a (Step NoAction) = low_half_line (kind_of a R0)
 answer_line a e = []
 
 -- ---- stack slots

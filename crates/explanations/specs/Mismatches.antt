@@ -1,4 +1,4 @@
--- Why an entry of a table cannot be named for a successor, in words.
+-- Why an entry of a table cannot be named for a successor, as text.
 use Rattle.std.specs.Prelude.{◌≡◌, ◌≢◌, ℕ, ◌-◌, ◌<◌, ◌≤◌, List, ◌++◌, length, Some, None, codes, decimal}
 use Rattle.std.specs.Fmt.{signed_decimal}
 use Rattle.stack_state.specs.declared.states.State.{State}
@@ -53,7 +53,8 @@ IsMismatch t number index e a m = IsThere t number index e a m
 
 -- ---- words
 
--- the successor, the entry that is named for it and in what it differs, and then both sides
+-- the successor, the entry that is named for it, in what that differs, and what each of them has
+-- there
 abbrev pub difference_lines : ℕ → ℕ → List ℕ → List ℕ → List ℕ → List ℕ
 difference_lines nth index what after entry =
     codes "successor " ++ (decimal nth ++ (codes ": entry " ++ (decimal index ++ (codes " " ++ (what
@@ -79,8 +80,8 @@ stack_difference a frame slot =
 abbrev pub returns_words : State → ℕ → List ℕ
 returns_words a frame = codes "slot " ++ decimal (abstract_frame_at a frame).return_slot
 
--- about the nth successor a of an entry with that number, for which the entry with that index and
--- the state e is named
+-- why the entry with that index and the state e cannot be named for a, the nth successor of an
+-- entry with that number
 abbrev pub mismatch_lines : ℕ → ℕ → ℕ → State → State → Mismatch → List ℕ
 mismatch_lines number nth index e a Missing =
     codes "successor "

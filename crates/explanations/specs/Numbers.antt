@@ -1,4 +1,4 @@
--- What is known of a number, in words.
+-- What is known of a number, as text.
 use Rattle.std.specs.Prelude.{ℕ, ◌-◌, ◌%◌, ◌^◌, min, max, ◌==◌, nat_le, Bool, ◌&&◌, ◌||◌, not, List, [], ◌++◌, pos, negsuc, int_lt, codes, decimal, if◌then◌else◌}
 use Rattle.std.specs.Fmt.{signed_decimal}
 use Rattle.std.specs.Int.{w64, cast_signed}

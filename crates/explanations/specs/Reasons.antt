@@ -13,8 +13,8 @@ use Rattle.explanations.specs.Loops.{loop_line}
 use Rattle.explanations.specs.Turns.{turn_lines}
 use Rattle.explanations.specs.Lines.{register_lines, answer_line, stack_lines, way_line}
 
--- that the search had reached its limit of similar states, and explored each as a new one from then
--- on
+-- that the search had reached the limit of its look-ups or of its stored states, and explored each
+-- state as a new one from then on
 abbrev pub cut_line : Bool → List ℕ
 cut_line cut = if cut
     then codes "states could not be told apart any more: too many that are alike were stored\n"
@@ -30,7 +30,7 @@ lines_of p i e x =
     ++ (answer_line x.state e ++ (stack_lines p.maps x.state i
     ++ (way_line x.way.items ++ cut_line x.is_cut_off))))))
 
--- the lines of a state in which the program is refused for this reason, at the slot; or the line of
+-- the lines of a state in which the program gets this refusal, at the slot; or the line of
 -- the instruction there, where control flow is refused
 pub data IsReason (p : Program) (e : Refusal) (slot : ℕ) (text : List ℕ) : Type 0 where
   OfState : (found : Explanation) (insn : Insn) → Explains p e slot found

@@ -1,8 +1,8 @@
--- What is known of the eight bytes of a stack slot, in words.
+-- What is known of the eight bytes of a stack slot, as text.
 use Rattle.std.specs.Prelude.{ℕ, zero, suc, ◌+◌, ◌-◌, ◌*◌, ◌/◌, ◌==◌, nat_lt, ℤ, pos, negsuc, ◌+ℤ◌, ◌-ℤ◌, List, [], ◌++◌, length, Option, Some, None, codes, if◌then◌else◌}
 use Rattle.std.specs.Fmt.{signed_decimal}
 use Rattle.std.specs.Int.{bit_at}
-use Rattle.isa_model.specs.Code.Limits.{frame_size}
+use Rattle.isa_model.specs.Code.Limits.{stack_size}
 use Rattle.stack_state.specs.declared.slots.StackSlot.{StackSlot}
 use Rattle.stack_state.specs.declared.slots.StackSlot.TheVariants.{Written, Spilled}
 use Rattle.stack_state.specs.declared.states.State.{State}
@@ -12,7 +12,7 @@ use Rattle.explanations.specs.Kinds.{calls_up, kind_words}
 
 -- where a byte of the stack slot is, counted from the end of the call frame
 abbrev pub place_of : ℕ → ℕ → ℤ
-place_of slot byte = pos (8 * slot + byte) -ℤ pos frame_size
+place_of slot byte = pos (8 * slot + byte) -ℤ pos stack_size
 
 -- the byte's place, if it is a written number byte
 abbrev pub byte_word : ℕ → ℕ → ℕ → List ℕ
@@ -43,18 +43,18 @@ slot_line a frame slot =
 
 -- the byte of a frame at that distance from its end
 abbrev pub in_frame : ℤ → Option ℕ
-in_frame (pos n) = if nat_lt n frame_size then Some n else None
+in_frame (pos n) = if nat_lt n stack_size then Some n else None
 in_frame (negsuc n) = None
 
 abbrev pub byte_at : ℤ → Option ℕ
-byte_at z = in_frame (z +ℤ pos frame_size)
+byte_at z = in_frame (z +ℤ pos stack_size)
 
 -- the line of the stack slot in which a byte is
 abbrev pub byte_line : State → ℕ → Option ℕ → List ℕ
 byte_line a frame None = []
 byte_line a frame (Some at) = slot_line a frame (at / 8)
 
--- the first stack slot among this count of them, not all of whose bytes are written number bytes
+-- the first stack slot among this count of them that has a byte which is no written number byte
 abbrev pub first_open : List StackSlot → ℕ → ℕ → Option ℕ
 first_open slots slot zero = None
 first_open slots slot (suc n) =

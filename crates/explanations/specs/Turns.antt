@@ -1,4 +1,4 @@
--- In what the state of a turn of a loop differs from that of the turn before, in words.
+-- In what the state of a turn of a loop differs from that of the turn before, as text.
 use Rattle.std.specs.Prelude.{ℕ, zero, suc, ◌-◌, List, [], ◌++◌, length, Option, Some, None, bytes_eq, codes, decimal, if◌then◌else◌}
 use Rattle.std.specs.Fmt.{signed_decimal}
 use Rattle.stack_state.specs.declared.states.State.{State}

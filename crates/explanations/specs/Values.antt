@@ -1,4 +1,4 @@
--- What registers held where a run stopped, in words.
+-- What registers held where a run stopped, as text.
 use Rattle.std.specs.Prelude.{ℕ, ◌==◌, List, ◌++◌, codes, decimal, if◌then◌else◌}
 use Rattle.std.specs.Fmt.{signed_decimal}
 use Rattle.std.specs.Int.{w64, cast_signed}

@@ -7,7 +7,7 @@ ghost use Rattle.isa_model.specs.Code.Helpers.{helper_numbered};
 ghost use Rattle.isa_model.specs.Code.Sizes.{unsigned_size};
 ghost use Rattle.transfer.specs.HelperCalls.{points_to_bytes};
 ghost use Rattle.explanations.specs.Cases as spec;
-ghost use Rattle.explanations.specs.Cases.{access, needs_words, last_byte, span_words, behind_words, frame_line, packet_line, value_line, is_map, key_line, update_line, argument_line, row_size, exit_line, hint_line};
+ghost use Rattle.explanations.specs.Cases.{access, needs_words, last_byte, span_words, behind_words, frame_line, packet_line, map_value_line, is_map, key_line, update_line, argument_line, row_size, exit_line, hint_line};
 
 use explorer::Refusal;
 use isa_model::{Helper, Insn, MapDef, Place, Reg, SignedSize, Size};
@@ -17,10 +17,10 @@ use std::alloc::{AllocError, Global};
 use transfer::Refusal as StepRefusal;
 
 // What a sign-extending load reads.
-fn unsigned_size(narrow: SignedSize) -> Size
-    ensures { result ≡ unsigned_size narrow }
+fn unsigned_size(signed_size: SignedSize) -> Size
+    ensures { result ≡ unsigned_size signed_size }
 {
-    match narrow {
+    match signed_size {
         SignedSize::S8 => Size::U8,
         SignedSize::S16 => Size::U16,
         SignedSize::S32 => Size::U32,
@@ -33,7 +33,7 @@ fn access(insn: &Insn) -> Option<(Size, Place)>
 {
     match *insn {
         Insn::Load(size, _, place) => Some((size, place)),
-        Insn::LoadSx(narrow, _, place) => Some((unsigned_size(narrow), place)),
+        Insn::LoadSx(signed_size, _, place) => Some((unsigned_size(signed_size), place)),
         Insn::StoreConstant(size, place, _) => Some((size, place)),
         Insn::Store(size, place, _) => Some((size, place)),
         Insn::Atomic(width, _, _, place, _) => Some((width.size(), place)),
@@ -123,8 +123,8 @@ fn packet_line(alloc: Global, span: &str, behind: &str, proved: u32) -> Result<S
 }
 
 // Which bytes of a value are needed, and how many there are.
-fn value_line(alloc: Global, span: &str, bytes: u32) -> Result<String, AllocError>
-    ensures { IfOk result (λ text. string_bytes text ≡ value_line span.now bytes) }
+fn map_value_line(alloc: Global, span: &str, bytes: u32) -> Result<String, AllocError>
+    ensures { IfOk result (λ text. string_bytes text ≡ map_value_line span.now bytes) }
 {
     format!(in alloc; "{span}; the value has {bytes}: correct the offset, or limit it (r2 &= 7)\n")
 }
@@ -160,7 +160,7 @@ fn access_line(
             greatest,
         } => {
             let span = span_words(alloc, least, greatest, place, size)?;
-            value_line(alloc, span.as_str(), row_size(maps, index))
+            map_value_line(alloc, span.as_str(), row_size(maps, index))
         }
         _ => Ok(String::new(alloc)),
     }

@@ -1,4 +1,4 @@
-//! Why an entry of a table cannot be named for a state, in words.
+//! Why an entry of a table cannot be named for a state, as text.
 
 ghost use Rattle.std.specs.Prelude.{◌≡◌, ◌<◌, IfOk, decimal};
 ghost use Rattle.std.specs.String.{string_bytes};
@@ -87,7 +87,8 @@ fn stack_difference(
     format!(in alloc; "does not cover stack {start}{up}")
 }
 
-/// The successor, the entry that is named for it and in what it differs, and then both sides.
+/// The successor, the entry that is named for it, in what that differs, and what each of them has
+/// there.
 fn difference_lines(
     alloc: Global,
     nth: usize,
@@ -104,7 +105,7 @@ fn difference_lines(
     )
 }
 
-fn slot_lines(
+fn slot_mismatch_lines(
     alloc: Global,
     nth: usize,
     index: u32,
@@ -128,7 +129,7 @@ fn slot_lines(
     )
 }
 
-fn frames_lines(
+fn frames_mismatch_lines(
     alloc: Global,
     nth: usize,
     index: u32,
@@ -144,7 +145,7 @@ fn frames_lines(
     difference_lines(alloc, nth, index, what, here.as_str(), there.as_str())
 }
 
-fn returns_lines(
+fn returns_mismatch_lines(
     alloc: Global,
     nth: usize,
     index: u32,
@@ -171,7 +172,7 @@ fn returns_lines(
     )
 }
 
-fn register_lines(
+fn register_mismatch_lines(
     alloc: Global,
     nth: usize,
     index: u32,
@@ -199,7 +200,7 @@ fn register_lines(
     )
 }
 
-fn stack_lines(
+fn stack_mismatch_lines(
     alloc: Global,
     nth: usize,
     index: u32,
@@ -246,12 +247,14 @@ pub fn mismatch_lines(
         Mismatch::NotSmaller(other) => format!(in alloc;
             "successor {nth}: entry {index} has number {other}, not smaller than {number}\n"
         ),
-        Mismatch::Slot => slot_lines(alloc, nth, index, entry, state),
-        Mismatch::Frames => frames_lines(alloc, nth, index, entry, state),
-        Mismatch::Returns(frame) => returns_lines(alloc, nth, index, entry, state, frame),
+        Mismatch::Slot => slot_mismatch_lines(alloc, nth, index, entry, state),
+        Mismatch::Frames => frames_mismatch_lines(alloc, nth, index, entry, state),
+        Mismatch::Returns(frame) => returns_mismatch_lines(alloc, nth, index, entry, state, frame),
         Mismatch::Register(frame, register) => {
-            register_lines(alloc, nth, index, entry, state, frame, register)
+            register_mismatch_lines(alloc, nth, index, entry, state, frame, register)
         }
-        Mismatch::Stack(frame, slot) => stack_lines(alloc, nth, index, entry, state, frame, slot),
+        Mismatch::Stack(frame, slot) => {
+            stack_mismatch_lines(alloc, nth, index, entry, state, frame, slot)
+        }
     }
 }

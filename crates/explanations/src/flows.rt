@@ -4,7 +4,7 @@ ghost use Rattle.std.specs.Prelude.{◌≡◌, ◌<◌, ◌^◌, ◌+◌, IfOk, 
 ghost use Rattle.std.specs.String.{string_bytes};
 ghost use Rattle.control_flow.specs.Graph.{call_distance};
 ghost use Rattle.explanations.specs.Flows as spec;
-ghost use Rattle.explanations.specs.Flows.{distance_of, target_at, called_at, found_at, or_later, first_leading, first_calling, later_of, function_at, outside_words, outside_line, second_half_words, half_line, called_words, function_words, other_words, other_line, next_line, end_line, unreached_line};
+ghost use Rattle.explanations.specs.Flows.{distance_of, target_at, called_at, found_at, or_later, first_leading, first_calling, later_of, function_at, outside_words, outside_line, second_half_words, second_half_line, called_words, function_words, other_words, other_line, next_line, end_line, unreached_line};
 
 use control_flow::FlowError;
 use image::Image;
@@ -97,7 +97,7 @@ fn first_calling(image: &Image, to: usize) -> Option<usize>
     found
 }
 
-// The later of two slots at which functions begin; one after the given slot does not count.
+// The later of two slots at which functions begin; `called` counts only up to `slot`.
 fn later_of(slot: usize, called: Option<usize>, found: usize) -> usize
     ensures { result ≡ later_of slot called found }
 {
@@ -164,8 +164,8 @@ fn second_half_words(alloc: Global, to: usize, first: usize) -> Result<String, A
 }
 
 // The target of a jump or a call is the second half of a wide load.
-fn half_line(alloc: Global, to: Option<usize>) -> Result<String, AllocError>
-    ensures { IfOk result (λ text. string_bytes text ≡ half_line to) }
+fn second_half_line(alloc: Global, to: Option<usize>) -> Result<String, AllocError>
+    ensures { IfOk result (λ text. string_bytes text ≡ second_half_line to) }
 {
     match to {
         Some(to) => second_half_words(alloc, to, to.saturating_sub(1)),
@@ -245,7 +245,7 @@ fn end_line(alloc: Global, image: &Image, next: usize) -> Result<String, AllocEr
     next_line(alloc, next, first_calling(image, next))
 }
 
-// Whether something that is not reached either leads to a slot.
+// Whether an instruction, which is not reached itself, leads to a slot.
 fn unreached_line(alloc: Global, from: Option<usize>) -> Result<String, AllocError>
     ensures { IfOk result (λ text. string_bytes text ≡ unreached_line from) }
 {
@@ -276,7 +276,7 @@ pub fn flow_line(
     let slots = image.slots();
     match error {
         FlowError::TargetOutside => outside_line(alloc, slot, slots, distance_of(insn)),
-        FlowError::SecondHalf => half_line(alloc, target_at(image, slot)),
+        FlowError::SecondHalf => second_half_line(alloc, target_at(image, slot)),
         FlowError::OtherFunction => other_line(alloc, image, slot, target_at(image, slot)),
         FlowError::FallsOff => end_line(alloc, image, slot + insn.slots()),
         FlowError::Unreachable => unreached_line(alloc, first_leading(image, slot)),

@@ -1,8 +1,8 @@
-//! What is known of a value, in words.
+//! What is known of the value of a register or a stack slot, as text.
 
 ghost use Rattle.std.specs.Prelude.{◌≡◌, IfOk};
 ghost use Rattle.std.specs.String.{string_bytes};
-ghost use Rattle.explanations.specs.Kinds.{calls_up, part_words, proved_words, packet_words, value_words, kind_words};
+ghost use Rattle.explanations.specs.Kinds.{calls_up, part_words, proved_words, packet_words, map_value_words, kind_words};
 
 use crate::numbers::number_words;
 use reg_state::Kind;
@@ -54,8 +54,8 @@ fn packet_words(
 }
 
 /// A pointer into a value of a map.
-fn value_words(alloc: Global, map: u8, least: i32, greatest: i32) -> Result<String, AllocError>
-    ensures { IfOk result (λ text. string_bytes text ≡ value_words map least greatest) }
+fn map_value_words(alloc: Global, map: u8, least: i32, greatest: i32) -> Result<String, AllocError>
+    ensures { IfOk result (λ text. string_bytes text ≡ map_value_words map least greatest) }
 {
     if least < greatest {
         return format!(in alloc; "value of map {map} at {least} to {greatest}");
@@ -91,7 +91,7 @@ pub fn kind_words(alloc: Global, innermost: usize, kind: Kind) -> Result<String,
             index,
             least,
             greatest,
-        } => value_words(alloc, index, least, greatest),
+        } => map_value_words(alloc, index, least, greatest),
         Kind::MapValueOrNull { index, .. } => {
             format!(in alloc; "value of map {index}, null not tested")
         }

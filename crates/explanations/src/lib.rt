@@ -1,4 +1,4 @@
-//! What is known where a program or a table is refused, in words.
+//! What is known where a program or a table is refused, as text.
 #![tactic(auto)]
 
 mod cases;

@@ -36,7 +36,7 @@ pub fn concerned(insn: &Insn) -> Registers
 }
 
 /// The line of a register, if there is one.
-#[tactic(auto, using(crate::proofs::Words::flat_map_one))]
+#[tactic(auto, using(crate::proofs::Texts::flat_map_one))]
 fn register_line(alloc: Global, state: &State, register: Option<Reg>) -> Result<String, AllocError>
     ensures { IfOk result (λ text. string_bytes text
         ≡ flat_map (spec.register_line state.now) (option_to_list register)) }
@@ -50,7 +50,7 @@ fn register_line(alloc: Global, state: &State, register: Option<Reg>) -> Result<
 }
 
 /// The lines of the registers that concern an instruction.
-#[tactic(auto, using(crate::proofs::Words::flat_map_four))]
+#[tactic(auto, using(crate::proofs::Texts::flat_map_four))]
 pub fn register_lines(alloc: Global, state: &State, insn: &Insn) -> Result<String, AllocError>
     ensures { IfOk result (λ text. string_bytes text ≡ register_lines state.now insn.now) }
 {

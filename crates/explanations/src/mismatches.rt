@@ -42,8 +42,7 @@ pub fn frame_of(state: &State, frame: usize) -> &AbstractFrame
     }
 }
 
-/// The first registers and stack slots of a frame, as many as given; about all others nothing is
-/// known.
+/// The front of a frame: as many registers and stack slots as these. Nothing is known of others.
 fn front_of(frame: &AbstractFrame, registers: usize, slots: usize) -> AbstractFrame {
     let mut kinds = [Kind::Unset; 10];
     for index in 0..registers.min(10) {
@@ -60,8 +59,8 @@ fn front_of(frame: &AbstractFrame, registers: usize, slots: usize) -> AbstractFr
     }
 }
 
-/// All before a frame, and its first registers and stack slots, as many as given; about all others
-/// nothing is known.
+/// All frames before one, and the front of that: as many registers and stack slots as these.
+/// Nothing is known of all others.
 fn part_of(state: &State, frame: usize, registers: usize, slots: usize) -> State {
     let mut part = State::start();
     part.slot = state.slot;
@@ -145,8 +144,8 @@ fn difference(entry: &State, state: &State) -> Option<Mismatch>
     None
 }
 
-/// Why the entry of that index cannot be named for a state, by an entry of that number. Its state
-/// is read into the room for it.
+/// Why the entry of that index cannot be named for a state, by an entry of that number. The state
+/// of the entry of that index is read into `room`.
 pub fn mismatch_of(
     image: &Image,
     table: &Table,

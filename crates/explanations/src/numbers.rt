@@ -1,4 +1,4 @@
-//! Numbers about which something is known, in words.
+//! Numbers about which something is known, as text.
 
 ghost use Rattle.std.specs.Prelude.{◌≡◌, IfOk};
 ghost use Rattle.std.specs.String.{string_bytes};

@@ -14,7 +14,7 @@ use image::Image;
 use isa_model::{Insn, MAX_SLOTS};
 use std::alloc::{AllocError, Global};
 
-/// That states were no longer compared, if they were not.
+/// If states were no longer compared, the line that says so.
 fn cut_line(is_cut_off: bool) -> &'static str
     ensures { result.now ≡ cut_line is_cut_off }
 {
@@ -48,8 +48,8 @@ fn lines_of(
     format!(in alloc; "{registers}{case}{taken}{turns}{answer}{stack}{way}{cut}")
 }
 
-/// What is known where a program is refused for this reason, at this slot: the registers and the
-/// stack slots that concern its instruction, what it needs, the loop that is not explored to its
+/// What is known where a program gets this refusal, at this slot: the registers and the stack
+/// slots that concern its instruction, what it needs, the loop that is not explored to its
 /// end, with how often it was taken and what differs from turn to turn, the low half of an answer
 /// that has to name an action, the last jumps on the path there, and whether states were no longer
 /// compared. If control flow is refused: where a jump leads, and what helps. None: memory ran out.

@@ -1,14 +1,14 @@
-//! What is known of the stack slots, in words.
+//! What is known of the stack slots, as text.
 
 ghost use Rattle.std.specs.Prelude.{◌≡◌, ◌<◌, ◌≤◌, IfOk, IfSome, ◌+◌};
 ghost use Rattle.std.specs.String.{string_bytes};
 ghost use Rattle.stack_state.specs.Meaning.{stack_slots_of};
-ghost use Rattle.isa_model.specs.Code.Limits.{frame_size};
+ghost use Rattle.isa_model.specs.Code.Limits.{stack_size};
 ghost use Rattle.stack_state.specs.Slots.{slot_at, frame_slots};
 ghost use Rattle.explanations.specs.Slots.{place_of, byte_word, written_words, slot_words, slot_line, byte_at, first_open};
 
 use crate::kinds::{calls_up, kind_words};
-use isa_model::FRAME_SIZE;
+use isa_model::STACK_SIZE;
 use stack_state::{StackSlot, State};
 use std::alloc::{AllocError, Global};
 
@@ -18,7 +18,7 @@ pub fn place_of(slot: usize, byte: u8) -> i64
     requires byte { byte < 8 }
     ensures { result ≡ place_of slot byte }
 {
-    (8 * slot + usize::from(byte)) as i64 - FRAME_SIZE as i64
+    (8 * slot + usize::from(byte)) as i64 - STACK_SIZE as i64
 }
 
 /// The byte's place, if it is a written number byte.
@@ -68,7 +68,7 @@ pub fn slot_words(
     }
 }
 
-/// A stack slot of a frame; if there is no such slot, one about which nothing is known.
+/// A stack slot of a frame; if there is none with this index, one about which nothing is known.
 fn slot_of(state: &State, frame: u8, slot: usize) -> StackSlot
     ensures { result ≡ slot_at (stack_slots_of state.now frame) slot }
 {
@@ -97,16 +97,17 @@ pub fn slot_line(alloc: Global, state: &State, frame: u8, slot: usize) -> Result
 /// The byte of a frame at that distance from its end.
 pub fn byte_at(from_end: i64) -> Option<usize>
     ensures found { result ≡ byte_at from_end }
-    ensures inside { IfSome result (λ at. at < frame_size) }
+    ensures inside { IfSome result (λ at. at < stack_size) }
 {
-    let size = FRAME_SIZE as i64;
+    let size = STACK_SIZE as i64;
     if from_end < -size || from_end >= 0 {
         return None;
     }
     Some((from_end + size) as usize)
 }
 
-/// The first stack slot among the first ones, not all of whose bytes are written number bytes.
+/// The first stack slot, among this count of them from one on, that has a byte which is no written
+/// number byte.
 pub fn first_open(state: &State, frame: u8, slot: usize, count: usize) -> Option<usize>
     requires { slot + count ≤ frame_slots }
     ensures found { result ≡ first_open (stack_slots_of state.now frame) slot count }

@@ -1,4 +1,4 @@
-//! What registers held where a run stopped, in words.
+//! What registers held where a run stopped, as text.
 
 ghost use Rattle.std.specs.Prelude.{◌≡◌, ◌++◌, IfOk, option_to_list};
 ghost use Rattle.std.specs.List.{flat_map};
@@ -13,7 +13,7 @@ use isa_model::{Insn, Reg, Region, Value};
 use std::alloc::{AllocError, Global};
 
 /// What r0 to r10 hold.
-type Registers = [Value; 11];
+type RegisterValues = [Value; 11];
 
 /// Whose frame pointer it is, where r10 holds this.
 fn owner_of(serial: u64, own: Value) -> &'static str
@@ -71,17 +71,17 @@ fn value_words(alloc: Global, own: Value, value: Value) -> Result<String, AllocE
 }
 
 /// What a register held.
-fn value_of(registers: &Registers, register: Reg) -> Value
+fn value_of(registers: &RegisterValues, register: Reg) -> Value
     ensures { result ≡ value_at registers.now (reg_number register) }
 {
     registers[register.number()]
 }
 
 /// The line of a register, if there is one.
-#[tactic(auto, using(crate::proofs::Words::flat_map_one))]
+#[tactic(auto, using(crate::proofs::Texts::flat_map_one))]
 fn value_line(
     alloc: Global,
-    registers: &Registers,
+    registers: &RegisterValues,
     register: Option<Reg>,
 ) -> Result<String, AllocError>
     ensures { IfOk result (λ text. string_bytes text
@@ -97,8 +97,12 @@ fn value_line(
 }
 
 /// What the registers that concern an instruction held, a line each.
-#[tactic(auto, using(crate::proofs::Words::flat_map_four), unfolding(crate::specs::Values::value_lines))]
-pub fn value_lines(alloc: Global, registers: &Registers, insn: &Insn) -> Result<String, AllocError>
+#[tactic(auto, using(crate::proofs::Texts::flat_map_four), unfolding(crate::specs::Values::value_lines))]
+pub fn value_lines(
+    alloc: Global,
+    registers: &RegisterValues,
+    insn: &Insn,
+) -> Result<String, AllocError>
     ensures { IfOk result (λ text. string_bytes text ≡ value_lines registers.now insn.now) }
 {
     let (first, second, third, fourth) = concerned(insn);

@@ -11,7 +11,7 @@ use Rattle.transfer.specs.Leading.{LeadsTo}
 use Rattle.explorer.specs.declared.stored_states.StoredState.{StoredState}
 use Rattle.explorer.specs.declared.trail.Visit.{Visit}
 use Rattle.walks.specs.Counts.{StepsInto, HasNumber, LeadsToOne, LeadsToTwo}
-use Rattle.explorer.specs.Search.{MeantBy, StepsCovered, NumberFollowsBoth, NumberFollows, Waiting, Path}
+use Rattle.explorer.specs.Search.{MeantBy, StepsAwaited, NumberFollowsBoth, NumberFollows, Waiting, Path}
 use Rattle.explorer.proofs.Stores.{KeepsStates, KeepsStates-at}
 
 -- ---- paths
@@ -86,11 +86,11 @@ Path-here p m states path a b none e = subst (λ x. Path p m states a x b) (sym 
 -- ---- what a visit waits for
 
 -- the child ends within its number, and nothing is pending
-pub StepsCovered-ends : (p : Program) (visit : Visit) (s child : State) (n best : ℕ)
-    → StepsCovered p visit s child → visit.pending ≡ None → Within p child n
+pub StepsAwaited-ends : (p : Program) (visit : Visit) (s child : State) (n best : ℕ)
+    → StepsAwaited p visit s child → visit.pending ≡ None → Within p child n
     → best ≡ max visit.best n → Within p s (best + 1)
-unfolding StepsCovered Within Ends
-StepsCovered-ends p visit s child n best waits none within is = rw add-one (λ clock fits w means.
+unfolding StepsAwaited Within Ends
+StepsAwaited-ends p visit s child n best waits none within is = rw add-one (λ clock fits w means.
     After-weaker (λ v. Means p child v ⊎ (MeantBy p visit.pending v ⊎ Ends p clock v visit.best))
     (λ v. Ends p clock v best) (step p clock w)
     (λ v h. elim h [
@@ -106,12 +106,12 @@ StepsCovered-ends p visit s child n best waits none within is = rw add-one (λ c
     (waits clock fits w means))
 
 -- the pending state is explored next
-pub StepsCovered-next : (p : Program) (visit : Visit) (s child other : State) (n : ℕ)
-    → StepsCovered p visit s child → visit.pending ≡ Some other → Within p child n
-    → StepsCovered p
+pub StepsAwaited-next : (p : Program) (visit : Visit) (s child other : State) (n : ℕ)
+    → StepsAwaited p visit s child → visit.pending ≡ Some other → Within p child n
+    → StepsAwaited p
     (record { pending = None; best = max visit.best n; stored = visit.stored }) s other
-unfolding StepsCovered Within Ends
-StepsCovered-next p visit s child other n waits some within = λ clock fits w means.
+unfolding StepsAwaited Within Ends
+StepsAwaited-next p visit s child other n waits some within = λ clock fits w means.
     After-weaker (λ v. Means p child v ⊎ (MeantBy p visit.pending v ⊎ Ends p clock v visit.best))
     (λ v. Means p other v ⊎ (⊥ ⊎ Ends p clock v (max visit.best n))) (step p clock w)
     (λ v h. elim h [
@@ -168,17 +168,17 @@ LeadsTo-ends p s a b leads =
     λ clock fits w means. After-weaker (λ v. ⊥) (λ v. Ends p clock v 0) (step p clock w) (λ v h. h)
     (leads clock fits w means)
 
-pub StepsCovered-one : (p : Program) (s a b : State) (stored : Option ℕ) → LeadsTo p s ways.One a b
-    → StepsCovered p (record { pending = None; best = 0; stored = stored }) s a
-unfolding LeadsTo StepsCovered
-StepsCovered-one p s a b stored leads = λ clock fits w means.
+pub StepsAwaited-one : (p : Program) (s a b : State) (stored : Option ℕ) → LeadsTo p s ways.One a b
+    → StepsAwaited p (record { pending = None; best = 0; stored = stored }) s a
+unfolding LeadsTo StepsAwaited
+StepsAwaited-one p s a b stored leads = λ clock fits w means.
     After-weaker (λ v. Means p a v) (λ v. Means p a v ⊎ (⊥ ⊎ Ends p clock v 0)) (step p clock w)
     (λ v h. inl h) (leads clock fits w means)
 
-pub StepsCovered-two : (p : Program) (s a b : State) (stored : Option ℕ) → LeadsTo p s ways.Two a b
-    → StepsCovered p (record { pending = Some b; best = 0; stored = stored }) s a
-unfolding LeadsTo StepsCovered
-StepsCovered-two p s a b stored leads = λ clock fits w means.
+pub StepsAwaited-two : (p : Program) (s a b : State) (stored : Option ℕ) → LeadsTo p s ways.Two a b
+    → StepsAwaited p (record { pending = Some b; best = 0; stored = stored }) s a
+unfolding LeadsTo StepsAwaited
+StepsAwaited-two p s a b stored leads = λ clock fits w means.
     After-weaker (λ v. Means p a v ⊎ Means p b v)
     (λ v. Means p a v ⊎ (Means p b v ⊎ Ends p clock v 0)) (step p clock w)
     (λ v h. elim h [ inl x ↦ inl x | inr y ↦ inr (inl y) ]) (leads clock fits w means)

@@ -32,7 +32,7 @@ use Rattle.explorer.proofs.Counting.{Spends-one, Spends-two, spent_here, spent_i
 use Rattle.walks.specs.Counts.{StepsInto, LeadsNowhere, Nothing}
 use Rattle.explorer.proofs.Stores.{AllSettled-more, IsCovered-known, Arrives-keeps, Arrives-fine, Arrives-stored, GetsNumber-fine, GetsNumber-keeps}
 use Rattle.explorer.proofs.Unfinished.{OnPath-same, OnPath-push, OnPath-pop, OnPath-arrives, OnPath-finish}
-use Rattle.explorer.proofs.Paths.{LastVisit, Path-more, Path-push, Path-pop, StepsCovered-ends, StepsCovered-next, LeadsTo-ends, StepsCovered-one, StepsCovered-two, NumberFollows-ends, NumberFollows-next, NumberFollows-one, NumberFollows-two}
+use Rattle.explorer.proofs.Paths.{LastVisit, Path-more, Path-push, Path-pop, StepsAwaited-ends, StepsAwaited-next, LeadsTo-ends, StepsAwaited-one, StepsAwaited-two, NumberFollows-ends, NumberFollows-next, NumberFollows-one, NumberFollows-two}
 
 -- ---- an arrival
 
@@ -107,7 +107,7 @@ step_back p m old new a path visit child n best root fine last on within le noth
     let s = last.state in
     let waiting = last.waiting in
     let own : Settles p s (best + 1) = record {
-      within = StepsCovered-ends p visit s child n best waiting.waits nothing within.within is;
+      within = StepsAwaited-ends p visit s child n best waiting.waits nothing within.within is;
       number = NumberFollows-ends p visit s child n best waiting.awaits nothing within.number is;
     } in
     let most : best ≤ m = omega (arith, waiting.best, le, is) in
@@ -141,7 +141,7 @@ step_aside p m states a path visit child n current last within le is =
     let next : Visit = record { pending = None; best = max visit.best n; stored = visit.stored } in
     let waiting : Waiting p m states next s current =
     record {
-      waits = StepsCovered-next p visit s child current n last.waiting.waits is within.within;
+      waits = StepsAwaited-next p visit s child current n last.waiting.waits is within.within;
       awaits = NumberFollows-next p visit s child current n last.waiting.awaits is within.number;
       steps = subst (IfStepsTo p s) is last.waiting.steps_aside;
       steps_aside = tt;
@@ -252,7 +252,7 @@ one_way p q m all stored s a b first w pending same flow ready at leads makes go
     (sym none) (record {
       waiting =
           record {
-            waits = StepsCovered-one p s first b stored leads';
+            waits = StepsAwaited-one p s first b stored leads';
             awaits = NumberFollows-one p s first b stored into;
             steps = steps_by p q s a b a first w ways.One same makes i here is refl forgets;
             steps_aside = tt;
@@ -284,7 +284,7 @@ two_ways p q m all stored s a b first other w left eq good on at leads by goes l
     subst (λ x. Entered p m all (record { pending = x; best = 0; stored = stored }) s first)
     (sym some) (record {
       waiting = record {
-        waits = StepsCovered-two p s first other stored leads';
+        waits = StepsAwaited-two p s first other stored leads';
         awaits = NumberFollows-two p s first other stored into;
         steps = steps_by p q s a b a first w ways.Two eq by i here is (inl refl) less;
         steps_aside = steps_by p q s a b b other w ways.Two eq by i here is (inr refl) aside;

@@ -3,7 +3,7 @@ use Rattle.std.proofs.Common.{◌≡◌, ◌≢◌, ◌∙◌, ℕ, zero, suc, �
 use Rattle.std.specs.Prelude.{IfSome}
 use Rattle.isa_model.specs.Code.Instructions.{Program}
 use Rattle.stack_state.specs.declared.states.State.{State}
-use Rattle.walks.specs.Walks.{StepsTo, HasPath}
+use Rattle.walks.specs.Walks.{StepsTo, HasSteps}
 use Rattle.explorer.specs.declared.turns.Turns.{Turns}
 use Rattle.explorer.specs.Explained.{IsTurnBefore}
 use Rattle.explorer.specs.Followed.{IsWalk}
@@ -121,21 +121,21 @@ further_back path turns index count e is same below length_is h =
 
 -- ---- the steps from the one to the other
 
-HasPath-more : (p : Program) (n : ℕ) (a b s : State) → HasPath p n a b → StepsTo p b s
-    → HasPath p (suc n) a s
-unfolding HasPath
-HasPath-more p zero a b s h step = (s, subst (λ (x : State). StepsTo p x s) h step, refl)
-HasPath-more p (suc n) a b s h step = (h.0, h.1, HasPath-more p n h.0 b s h.2 step)
+HasSteps-more : (p : Program) (n : ℕ) (a b s : State) → HasSteps p n a b → StepsTo p b s
+    → HasSteps p (suc n) a s
+unfolding HasSteps
+HasSteps-more p zero a b s h step = (s, subst (λ (x : State). StepsTo p x s) h step, refl)
+HasSteps-more p (suc n) a b s h step = (h.0, h.1, HasSteps-more p n h.0 b s h.2 step)
 
-one_step : (p : Program) (e s : State) → StepsTo p e s → HasPath p 1 e s
-unfolding HasPath
+one_step : (p : Program) (e s : State) → StepsTo p e s → HasSteps p 1 e s
+unfolding HasSteps
 one_step p e s step = (s, step, refl)
 
 leads_along : (p : Program) (s e : State) (after before : List State)
-    → IsWalk p (s ∷ after ++ e ∷ before) → HasPath p (suc (length after)) e s
+    → IsWalk p (s ∷ after ++ e ∷ before) → HasSteps p (suc (length after)) e s
 leads_along p s e [] before h = one_step p e s h.0
 leads_along p s e (a ∷ after) before h =
-    HasPath-more p (suc (length after)) e a s (leads_along p a e after before h.1) h.0
+    HasSteps-more p (suc (length after)) e a s (leads_along p a e after before h.1) h.0
 
 abbrev head_or : State → List State → State
 head_or s [] = s
@@ -143,7 +143,7 @@ head_or s (c ∷ path) = c
 
 turns_by : (p : Program) (s e : State) (path after before : List State) → IsWalk p (s ∷ path)
     → s ∷ path ≡ after ++ e ∷ before → length before + 1 < length (s ∷ path)
-    → (more : ℕ) × HasPath p (suc more) e s
+    → (more : ℕ) × HasSteps p (suc more) e s
 turns_by p s e path [] before walk split below =
     let same : length (s ∷ path) ≡ length (e ∷ before) =
     ap (λ (xs : List State). length xs) split in
@@ -152,13 +152,13 @@ turns_by p s e path (c ∷ after) before walk split below =
     let first : s ≡ c = ap (head_or s) split in
     let along : IsWalk p (c ∷ after ++ e ∷ before) = subst (IsWalk p) split walk in (
       length after,
-      subst (λ (x : State). HasPath p (suc (length after)) e x) (sym first)
+      subst (λ (x : State). HasSteps p (suc (length after)) e x) (sym first)
           (leads_along p c e after before along),
     )
 
 -- a state that is further back on the path leads to its last one
 pub turned : (p : Program) (s e : State) (path : List State) → IsWalk p (s ∷ path)
-    → IsFurtherBack (s ∷ path) e → (more : ℕ) × HasPath p (suc more) e s
+    → IsFurtherBack (s ∷ path) e → (more : ℕ) × HasSteps p (suc more) e s
 turned p s e path walk (index, at, below) =
     turns_by p s e path at.after at.before walk at.split
     (subst (λ n. n + 1 < length (s ∷ path)) (sym at.index_is) below)

@@ -13,12 +13,12 @@ use Rattle.walks.specs.declared.refusals.Refusal.{Refusal}
 use Rattle.walks.specs.declared.refusals.Refusal.TheVariants.{Flow, Step, Repeats, TooLong, Memory}
 use Rattle.explorer.specs.declared.stored_states.StoredState.{StoredState}
 use Rattle.explorer.specs.declared.trail.Visit.{Visit}
-use Rattle.walks.specs.Walks.{IsAmong, StepsTo, HasPath, WalksTo}
+use Rattle.walks.specs.Walks.{IsAmong, StepsTo, HasSteps, WalksTo}
 use Rattle.walks.specs.Forgetting.{Forgets}
 use Rattle.walks.specs.Counts.{AreForgotten, StepsInto}
 use Rattle.walks.specs.Refused.{StopsAt}
 use Rattle.explorer.specs.StoredStates.{StoredAt}
-use Rattle.explorer.specs.Search.{Path, TurnsBack, zeros_from, with_first, indexes_of, OnPath}
+use Rattle.explorer.specs.Search.{Path, RefusesArrival, zeros_from, with_first, indexes_of, OnPath}
 
 -- ---- steps
 
@@ -61,12 +61,12 @@ into_by p q s a b first other w v same makes i here is forgets =
 
 -- a walk of no steps is at the state in which paths begin
 pub WalksTo-start : (p : Program) (first : State) → Forgets p start first → WalksTo p 0 first
-unfolding HasPath
+unfolding HasSteps
 WalksTo-start p first begins = record { first = first; begins = begins; leads = refl }
 
 pub Path-leads : (p : Program) (m : ℕ) (states : List StoredState) (path : List Visit) (a b : State)
-    → Path p m states a path b → HasPath p (length path) a b
-unfolding Path HasPath
+    → Path p m states a path b → HasSteps p (length path) a b
+unfolding Path HasSteps
 Path-leads p m states [] a b h = h
 Path-leads p m states (visit ∷ path) a b h = (h.0, h.1.steps, Path-leads p m states path h.0 b h.2)
 
@@ -110,23 +110,23 @@ same_stored states k n s t at e =
 record Through (p : Program) (a t b : State) : Type 0 where
   before : ℕ
   between : ℕ
-  leads : HasPath p before a t
-  leads_on : HasPath p (suc between) t b
+  leads : HasSteps p before a t
+  leads_on : HasSteps p (suc between) t b
 
-starts_here : (p : Program) (n : ℕ) (a t b : State) → t ≡ a → HasPath p (suc n) a b
+starts_here : (p : Program) (n : ℕ) (a t b : State) → t ≡ a → HasSteps p (suc n) a b
     → Through p a t b
-unfolding HasPath
+unfolding HasSteps
 starts_here p n a t b e h =
     record {
       before = 0;
       between = n;
       leads = e;
-      leads_on = subst (λ x. HasPath p (suc n) x b)
+      leads_on = subst (λ x. HasSteps p (suc n) x b)
           (sym e) h;
     }
 
 one_more : (p : Program) (a c t b : State) → StepsTo p a c → Through p c t b → Through p a t b
-unfolding HasPath
+unfolding HasSteps
 one_more p a c t b step h =
     record {
       before = suc h.before;
@@ -138,7 +138,7 @@ one_more p a c t b step h =
 through : (p : Program) (m : ℕ) (states : List StoredState) (path : List Visit) (a b : State)
     (k : ℕ) (t : State) → Path p m states a path b → IsIn k (indexes_of path)
     → slice_get states k ≡ Some (record { state = t; number = 0 }) → Through p a t b
-unfolding Path HasPath
+unfolding Path HasSteps
 through p m states [] a b k t h member e = absurd member
 through p m states (visit ∷ path) a b k t h member e =
     let child = h.0 in
@@ -152,7 +152,7 @@ through p m states (visit ∷ path) a b k t h member e =
           one_more p a child t b waiting.steps (through p m states path child b k t h.2 rest e)
     ]
 
--- ---- why a path is turned back
+-- ---- why a path does not go on
 
 unfinished_in : (states : List StoredState) (path : List Visit) (k : ℕ) (t : State)
     → OnPath states path None → slice_get states k ≡ Some (record { state = t; number = 0 })
@@ -164,30 +164,30 @@ unfinished_in states path k t on e =
     slice_get-map f states k ∙ ap (option_map f) e in
     subst (IsIn k) on (zeros_from-in 0 (map f states) k k (omega arith) found)
 
-pub turned_back : (p : Program) (m : ℕ) (states : List StoredState) (path : List Visit)
+pub arrival_refused : (p : Program) (m : ℕ) (states : List StoredState) (path : List Visit)
     (a b : State) (e : Refusal) (slot : ℕ) → Forgets p start a → Path p m states a path b
     → OnPath states path None
-    → TurnsBack p states b e slot → StopsAt p e slot
-turned_back p m states path a b (Flow e) slot begins h on back = absurd back
-turned_back p m states path a b (Step e) slot begins h on back = absurd back
-turned_back p m states path a b Repeats slot begins h on back =
-    let repeated = back.1 in
+    → RefusesArrival p states b e slot → StopsAt p e slot
+arrival_refused p m states path a b (Flow e) slot begins h on refuses = absurd refuses
+arrival_refused p m states path a b (Step e) slot begins h on refuses = absurd refuses
+arrival_refused p m states path a b Repeats slot begins h on refuses =
+    let repeated = refuses.1 in
     let walk =
     through p m states path a b repeated.index repeated.other h
     (unfinished_in states path repeated.index repeated.other on repeated.stored)
     repeated.stored in
     record {
-      join = subst (λ n. IsJoin p n) (sym back.2) back.0;
+      join = subst (λ n. IsJoin p n) (sym refuses.2) refuses.0;
       first = repeated.other;
       again = b;
       before = walk.before;
       between = walk.between;
       walk = record { first = a; begins = begins; leads = walk.leads };
       leads_back = walk.leads_on;
-      first_slot = repeated.same_slot ∙ sym back.2;
-      again_slot = sym back.2;
+      first_slot = repeated.same_slot ∙ sym refuses.2;
+      again_slot = sym refuses.2;
       covers = repeated.covers p;
       covered = repeated.covered p;
     }
-turned_back p m states path a b TooLong slot begins h on back = absurd back
-turned_back p m states path a b Memory slot begins h on back = back
+arrival_refused p m states path a b TooLong slot begins h on refuses = absurd refuses
+arrival_refused p m states path a b Memory slot begins h on refuses = refuses

@@ -7,7 +7,7 @@ use Rattle.stack_state.specs.Starts.{start}
 use Rattle.walks.specs.Forgetting.{Forgets}
 use Rattle.explorer.specs.Listening.{StopsIn}
 use Rattle.walks.specs.Refused.{StopsAt}
-use Rattle.walks.specs.Walks.{StepsTo, HasPath}
+use Rattle.walks.specs.Walks.{StepsTo, HasSteps}
 use Rattle.walks.specs.declared.refusals.Refusal.{Refusal}
 use Rattle.explorer.specs.declared.explanations.Jump.{Jump}
 use Rattle.explorer.specs.declared.explanations.Explanation.{Explanation}
@@ -38,7 +38,7 @@ pub record IsLed (p : Program) (s : State) (way : List Jump) : Type 0 where
 -- if there is a previous turn of the loop, steps lead from its state to this one, at the same slot
 abbrev pub IsTurnBefore : Program → State → Option State → Type 0
 IsTurnBefore p s None = Unit {0}
-IsTurnBefore p s (Some e) = (e.slot ≡ s.slot) × ((more : ℕ) × HasPath p (suc more) e s)
+IsTurnBefore p s (Some e) = (e.slot ≡ s.slot) × ((more : ℕ) × HasSteps p (suc more) e s)
 
 -- a walk from the start reaches the state, and these are the slots of its states, the first one
 -- first

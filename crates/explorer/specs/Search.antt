@@ -46,11 +46,11 @@ IsArrival (New stored) = Unit {0}
 IsArrival (Covered k n) = Unit {0}
 IsArrival (Finished n) = ⊥
 
--- why a path is turned back at a state, and at which slot
-abbrev pub TurnsBack : Program → List StoredState → State → Refusal → ℕ → Type 0
-TurnsBack p states s Repeats slot = IsJoin p s.slot × IsRepeated states s × (slot ≡ s.slot)
-TurnsBack p states s Memory slot = slot ≡ 0
-TurnsBack p states s e slot = ⊥
+-- why a path does not go on from a state at which it arrives, and the slot
+abbrev pub RefusesArrival : Program → List StoredState → State → Refusal → ℕ → Type 0
+RefusesArrival p states s Repeats slot = IsJoin p s.slot × IsRepeated states s × (slot ≡ s.slot)
+RefusesArrival p states s Memory slot = slot ≡ 0
+RefusesArrival p states s e slot = ⊥
 
 -- ---- what is known of the stored states and of the path
 
@@ -88,8 +88,8 @@ MeantBy p (Some s) w = Means p s w
 
 -- the step of each machine state that s means ends the run, or goes to the child, to what is
 -- pending, or to what ends in time
-unfoldable pub StepsCovered : Program → Visit → State → State → Type 0
-StepsCovered p visit s child = (clock : ℕ → ℕ) → IsClock clock → (w : Machine.State) → Means p s w
+unfoldable pub StepsAwaited : Program → Visit → State → State → Type 0
+StepsAwaited p visit s child = (clock : ℕ → ℕ) → IsClock clock → (w : Machine.State) → Means p s w
     → After (λ v. Means p child v ⊎ (MeantBy p visit.pending v ⊎ Ends p clock v visit.best))
     (step p clock w)
 
@@ -107,7 +107,7 @@ NumberFollows p visit s child =
 -- a visit of a state that waits for another one
 pub record Waiting (p : Program) (finished : ℕ) (states : List StoredState) (visit : Visit)
     (s child : State) : Type 0 where
-  pub waits : StepsCovered p visit s child
+  pub waits : StepsAwaited p visit s child
   pub awaits : NumberFollows p visit s child
   pub steps : StepsTo p s child
   pub steps_aside : IfStepsTo p s visit.pending

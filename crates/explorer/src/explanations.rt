@@ -186,8 +186,8 @@ fn are_one(one: Refusal, other: Refusal) -> bool
     }
 }
 
-/// What a second search finds where it stops with this refusal at this slot. None: it does not stop
-/// so.
+/// What a second search finds where it stops with this refusal at this slot. None: it stops
+/// otherwise, or finds no refusal.
 fn explained(
     alloc: Global,
     image: &Image,

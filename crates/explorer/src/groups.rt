@@ -86,8 +86,8 @@ impl SharedParts {
 /// Which group a part belongs to: a number that it shares with the parts of its group only.
 fn group_of(part: &Part) -> u8 {
     match part {
-        Part::InRegister(place, _) => *place / REGISTERS,
-        Part::InSlot(place, _) => 16 + *place / SLOTS % 8,
+        Part::InRegister(number, _) => *number / REGISTERS,
+        Part::InSlot(index, _) => 16 + *index / SLOTS % 8,
     }
 }
 
@@ -128,7 +128,7 @@ fn split_first(parts: &[Part]) -> (&[Part], &[Part])
     ensures { parts.now ≡ result.0.now ++ result.1.now }
 {
     match parts.split_at_checked(first_group(parts)) {
-        Some(halves) => halves,
+        Some(split) => split,
         None => (parts, &[]),
     }
 }
@@ -278,24 +278,24 @@ impl<'a> Rest<'a> {
 
     /// Takes what is known of a register, if the next part says just that.
     #[inline(always)]
-    pub fn is_register(&mut self, place: u8, kind: &Kind) -> bool
+    pub fn is_register(&mut self, number: u8, kind: &Kind) -> bool
         ensures { IsTrue result
-            → self.old ≡ option_to_list (register_part place kind.now) ++ self.new }
+            → self.old ≡ option_to_list (register_part number kind.now) ++ self.new }
     {
         match kind {
             Kind::Unset => true,
-            kind => are_same(self.next(), &[Part::InRegister(place, *kind)]),
+            kind => are_same(self.next(), &[Part::InRegister(number, *kind)]),
         }
     }
 
     /// Takes what is known of a stack slot, if the next part says just that.
     #[inline(always)]
-    pub fn is_slot(&mut self, place: u8, slot: &StackSlot) -> bool
-        ensures { IsTrue result → self.old ≡ option_to_list (slot_part place slot.now) ++ self.new }
+    pub fn is_slot(&mut self, index: u8, slot: &StackSlot) -> bool
+        ensures { IsTrue result → self.old ≡ option_to_list (slot_part index slot.now) ++ self.new }
     {
         match slot {
             StackSlot::Written(0) => true,
-            slot => are_same(self.next(), &[Part::InSlot(place, *slot)]),
+            slot => are_same(self.next(), &[Part::InSlot(index, *slot)]),
         }
     }
 }

@@ -5,15 +5,15 @@ ghost use Rattle.state_index.specs.Parts.{AreBlankBeside, AreParts};
 
 use crate::kept_frames::{KeptFrame, are_frames, keep_all, restore_all};
 use control_flow::SlotMask;
-use isa_model::FRAME_SIZE;
+use isa_model::STACK_SIZE;
 use stack_state::{AbstractFrame, State};
 use state_index::{Fingerprints, Key, Part, PartLimits, take_parts, take_parts_in};
 use std::alloc::{AllocError, Global};
 use std::marker::Model;
 use std::rc::Rc;
 
-/// How many parts a call frame has: its registers and its stack slots.
-pub const PLACES: usize = 10 + FRAME_SIZE / 8;
+/// How many places a call frame has: its registers and its stack slots.
+pub const PLACES: usize = 10 + STACK_SIZE / 8;
 
 /// How many words a state takes besides its call frames.
 const STATE_WORDS: u32 = 16;
@@ -22,7 +22,7 @@ const STATE_WORDS: u32 = 16;
 fn keep_callers(
     alloc: Global,
     frames: &[AbstractFrame],
-    room: &mut Vec<Part>,
+    parts: &mut Vec<Part>,
     other: Option<&Kept>,
 ) -> Result<Rc<Vec<KeptFrame>>, AllocError>
     ensures { IfOk result (λ kept. kept.value.items ≡ frames.now) }
@@ -32,9 +32,9 @@ fn keep_callers(
             if are_frames(other.callers.as_ref().as_slice(), frames) {
                 return other.callers.clone();
             }
-            keep_all(alloc, frames, room, other.callers.as_ref().as_slice())?
+            keep_all(alloc, frames, parts, other.callers.as_ref().as_slice())?
         }
-        None => keep_all(alloc, frames, room, &[])?,
+        None => keep_all(alloc, frames, parts, &[])?,
     };
     match Rc::new(alloc, kept) {
         Ok(kept) => Ok(kept),
@@ -86,28 +86,28 @@ impl Kept {
     pub(crate) fn of(
         alloc: Global,
         state: &State,
-        room: &mut Vec<Part>,
+        parts: &mut Vec<Part>,
         other: Option<&Kept>,
     ) -> Result<Self, AllocError>
         ensures { IfOk result (λ kept. kept ≡ state.now) }
     {
-        take_parts(room, &state.innermost)?;
-        Kept::of_parts(alloc, state, room, other)
+        take_parts(parts, &state.innermost)?;
+        Kept::of_parts(alloc, state, parts, other)
     }
 
-    /// The same for a state of whose innermost stack nothing is known but of these stack slots.
+    /// The same for a state of whose innermost stack something may be known only of these slots.
     pub(crate) fn of_forgotten(
         alloc: Global,
         state: &State,
-        known: SlotMask,
-        room: &mut Vec<Part>,
+        slots: SlotMask,
+        parts: &mut Vec<Part>,
         other: Option<&Kept>,
     ) -> Result<Self, AllocError>
-        requires { AreBlankBeside known state.now.innermost.stack.slots }
+        requires { AreBlankBeside slots state.now.innermost.stack.slots }
         ensures { IfOk result (λ kept. kept ≡ state.now) }
     {
-        take_parts_in(room, &state.innermost, known)?;
-        Kept::of_parts(alloc, state, room, other)
+        take_parts_in(parts, &state.innermost, slots)?;
+        Kept::of_parts(alloc, state, parts, other)
     }
 
     /// Keeps a state whose innermost frame has these parts. The parts of its other frames are
@@ -165,12 +165,12 @@ impl Kept {
     /// Becomes the limits of all frames.
     pub(crate) fn take_limits(&self, limits: &mut Vec<PartLimits>) -> Result<(), AllocError> {
         limits.clear();
-        let mut level = 0;
+        let mut frame_index = 0;
         for frame in self.callers.as_ref().as_slice() {
-            frame.put_limits(limits, level)?;
-            level = u32::wrapping_add(level, 1);
+            frame.put_limits(limits, frame_index)?;
+            frame_index = u32::wrapping_add(frame_index, 1);
         }
-        self.innermost.put_limits(limits, level)
+        self.innermost.put_limits(limits, frame_index)
     }
 
     /// How many parts are compared at most when the state is compared with another one: those of

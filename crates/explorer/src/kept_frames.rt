@@ -127,10 +127,14 @@ impl KeptFrame {
     }
 
     /// Puts its limits after those of the frames around it.
-    pub fn put_limits(&self, limits: &mut Vec<PartLimits>, level: u32) -> Result<(), AllocError> {
-        add_limits(limits, level, self.parts.few())?;
+    pub fn put_limits(
+        &self,
+        limits: &mut Vec<PartLimits>,
+        frame_index: u32,
+    ) -> Result<(), AllocError> {
+        add_limits(limits, frame_index, self.parts.few())?;
         for group in self.parts.groups() {
-            add_limits(limits, level, group.parts())?;
+            add_limits(limits, frame_index, group.parts())?;
         }
         Ok(())
     }
@@ -199,15 +203,15 @@ pub fn are_frames(kept: &[KeptFrame], frames: &[AbstractFrame]) -> bool
 pub fn keep_all(
     alloc: Global,
     frames: &[AbstractFrame],
-    room: &mut Vec<Part>,
+    scratch: &mut Vec<Part>,
     others: &[KeptFrame],
 ) -> Result<Vec<KeptFrame>, AllocError>
     ensures { IfOk result (λ kept. kept.items ≡ frames.now) }
 {
     let mut kept = Vec::new(alloc);
     for index in 0..frames.len() {
-        take_parts(room, &frames[index])?;
-        let parts = room.as_slice();
+        take_parts(scratch, &frames[index])?;
+        let parts = scratch.as_slice();
         let frame = KeptFrame::with_parts(alloc, &frames[index], parts, others.get(index))?;
         kept.push(frame)?;
     }

@@ -79,7 +79,7 @@ struct Lister {
     /// Where those of the path's states are.
     path: Vec<u32>,
     /// For the parts of a call frame.
-    room: Vec<Part>,
+    parts: Vec<Part>,
     /// A state about which nothing is known: a placeholder in the list for stored states until
     /// these are restored.
     blank: State,
@@ -95,7 +95,7 @@ impl Lister {
             insns: Vec::new(alloc),
             stored: Vec::new(alloc),
             path: Vec::new(alloc),
-            room: Vec::new(alloc),
+            parts: Vec::new(alloc),
             blank,
             kept_blank: None,
         }
@@ -116,10 +116,10 @@ impl Lister {
         }
     }
 
-    /// A state about which nothing is known, in as little room as possible.
+    /// A state about which nothing is known; these states share what they can.
     fn keep_blank(&mut self) -> Result<Kept, AllocError> {
         let like = self.kept_blank.as_ref();
-        let blank = Kept::of(self.alloc, &self.blank, &mut self.room, like)?;
+        let blank = Kept::of(self.alloc, &self.blank, &mut self.parts, like)?;
         if self.kept_blank.is_some() {
             return Ok(blank);
         }
@@ -127,13 +127,13 @@ impl Lister {
         Kept::of(
             self.alloc,
             &self.blank,
-            &mut self.room,
+            &mut self.parts,
             self.kept_blank.as_ref(),
         )
     }
 
-    /// The instructions of stored states get those states, which are not needed any more where they
-    /// are stored.
+    /// Moves the stored states into the list, each to its instruction: the search needs them no
+    /// longer.
     fn take_stored(&mut self, states: &mut [StoredState]) {
         for index in 0..states.len() {
             let Some(at) = self.stored.get(index).copied() else {
@@ -159,7 +159,7 @@ impl Lister {
         self.lead_to(index);
         let state = match stored {
             Some(_) => self.keep_blank()?,
-            None => Kept::of(self.alloc, state, &mut self.room, kept)?,
+            None => Kept::of(self.alloc, state, &mut self.parts, kept)?,
         };
         self.insns.push(ExploredInsn {
             number: 0,

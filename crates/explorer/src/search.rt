@@ -10,7 +10,7 @@ ghost use Rattle.image.specs.Images.{IsImage};
 ghost use Rattle.control_flow.specs.Flows.{IsFlow, IsJoin};
 ghost use Rattle.walks.specs.Forgetting.{IsForgotten};
 ghost use Rattle.walks.specs.Refused.{StopsAt};
-ghost use Rattle.explorer.specs.Search.{Arrives, IsArrival, TurnsBack, IsNew, Comes, HasEnded, AfterMove, AfterMoveOrEnd, IsNext, IsFull};
+ghost use Rattle.explorer.specs.Search.{Arrives, IsArrival, RefusesArrival, IsNew, Comes, HasEnded, AfterMove, AfterMoveOrEnd, IsNext, IsFull};
 ghost use Rattle.explorer.specs.Listening.{BeginsPath, BeginFails, ShowsStep, StepFails, ComesBackAt, IfReturns, ReturnFails, IfRefused, IsToTell, FollowsTo, FollowsNext, EndsIn};
 
 use crate::kept::Kept;
@@ -55,14 +55,14 @@ fn arrive(
         state.now made stored.new.states.items) }
     ensures limits { IfOk result (λ made. made ≡ Move.New None → IsJoin flow.now state.now.slot
         → IsTrue stored.new.is_over ⊎ IsTrue stored.new.is_full) }
-    ensures refused { IfErr result (λ r. TurnsBack flow.now stored.old.states.items
+    ensures refused { IfErr result (λ r. RefusesArrival flow.now stored.old.states.items
         state.now r.0 r.1) }
 {
     if !flow.is_join(state.slot) || stored.is_over {
         return Ok(Move::New(None));
     }
-    let known = kept_slots(flow, state.slot);
-    let Ok(()) = stored.take_up(alloc, state, kept, known) else {
+    let slots = kept_slots(flow, state.slot);
+    let Ok(()) = stored.take_up(alloc, state, kept, slots) else {
         return Err(NO_MEMORY);
     };
     if let Some((index, number)) = stored.cover_of(state, scratch) {
@@ -142,7 +142,7 @@ impl Search {
 
     /// Explores the instruction at the current state, which is stored with that index, if there is
     /// one. What is dead at its successors is forgotten, and the pending state is stored compactly;
-    /// `room` is scratch space.
+    /// `parts` is scratch space.
     #[inline(always)]
     fn step(
         &mut self,
@@ -150,7 +150,7 @@ impl Search {
         image: &Image,
         flow: &Flow<'_>,
         stored: Option<usize>,
-        room: &mut Vec<Part>,
+        parts: &mut Vec<Part>,
     ) -> Result<(Ways, Move), Refused>
         requires image { flow.now ≡ image.now }
         requires good { IsFlow flow.now }
@@ -180,8 +180,8 @@ impl Search {
             Ways::One => None,
             Ways::Two => {
                 forget_dead(flow, false, &mut self.scratch);
-                let known = kept_slots(flow, self.scratch.slot);
-                match Kept::of_forgotten(alloc, &self.scratch, known, room, self.stored.last()) {
+                let slots = kept_slots(flow, self.scratch.slot);
+                match Kept::of_forgotten(alloc, &self.scratch, slots, parts, self.stored.last()) {
                     Ok(other) => Some(other),
                     Err(_) => return Err(NO_MEMORY),
                 }
@@ -292,7 +292,7 @@ impl Search {
         image: &Image,
         flow: &Flow<'_>,
         stored: Option<usize>,
-        room: &mut Vec<Part>,
+        parts: &mut Vec<Part>,
         listener: &mut L,
     ) -> Result<NextMove, Halt<L::Stop>>
         requires image { flow.now ≡ image.now }
@@ -311,7 +311,7 @@ impl Search {
         ensures explored { OnOk result (self.new.finished + length self.new.path.items
             ≡ self.old.finished + length self.old.path.items + 1) }
     {
-        let (ways, made) = match self.step(alloc, image, flow, stored, room) {
+        let (ways, made) = match self.step(alloc, image, flow, stored, parts) {
             Ok(stepped) => stepped,
             Err(refused) => return Err(halt(listener, &self.current, refused)),
         };
@@ -327,7 +327,7 @@ impl Search {
         alloc: Global,
         image: &Image,
         flow: &Flow<'_>,
-        room: &mut Vec<Part>,
+        parts: &mut Vec<Part>,
         listener: &mut L,
     ) -> Result<u32, Halt<L::Stop>>
         requires image { flow.now ≡ image.now }
@@ -352,7 +352,7 @@ impl Search {
             match next_move {
                 NextMove::Done(number) => return Ok(number),
                 NextMove::Explore(stored) => {
-                    next_move = self.advance(alloc, image, flow, stored, room, listener)?;
+                    next_move = self.advance(alloc, image, flow, stored, parts, listener)?;
                 }
             }
         }
@@ -387,8 +387,8 @@ impl Search {
         ensures ends { IfErr result (λ h. IfRefused h
             (EndsIn flow.now (L.follows listener.new flow.now))) }
     {
-        let mut room = Vec::new(alloc);
-        match self.run(alloc, image, flow, &mut room, listener) {
+        let mut parts = Vec::new(alloc);
+        match self.run(alloc, image, flow, &mut parts, listener) {
             Ok(number) => Ok(number),
             Err(Halt::Refused(refusal, slot)) => {
                 listener.refused(refusal, slot);

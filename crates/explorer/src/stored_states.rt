@@ -51,7 +51,7 @@ pub struct StoredStates {
     pub is_over: bool,
     /// How many words the states take.
     words: u64,
-    /// Whether the limit of that room is reached: then no other state is stored.
+    /// Whether the limit of these words is reached: then no other state is stored.
     pub is_full: bool,
 }
 
@@ -81,7 +81,7 @@ impl StoredStates {
         })
     }
 
-    /// Whether states are not all looked up and stored any more.
+    /// Whether some states are no longer looked up, or no longer stored.
     pub fn is_cut_off(&self) -> bool {
         self.is_over || self.is_full
     }
@@ -147,15 +147,15 @@ impl StoredStates {
     }
 
     /// Takes a state to be looked up and stored next. It may have been kept already; if not,
-    /// nothing is known of its innermost stack but of these stack slots.
+    /// something may be known only of these slots of its innermost stack.
     pub fn take_up(
         &mut self,
         alloc: Global,
         state: &State,
         kept: &Option<Kept>,
-        known: SlotMask,
+        slots: SlotMask,
     ) -> Result<(), AllocError>
-        requires { kept.now ≡ None → AreBlankBeside known state.now.innermost.stack.slots }
+        requires { kept.now ≡ None → AreBlankBeside slots state.now.innermost.stack.slots }
         ensures same { self.new.states.items ≡ self.old.states.items }
         ensures drawn { OnOk result (kept.now ≡ None
             → AreParts self.new.key.parts.items state.now.innermost) }
@@ -172,7 +172,7 @@ impl StoredStates {
         self.effort.spend(callers.saturating_mul(CALLER_READINGS));
         self.key.has_limits = self.index.has_trees();
         match kept {
-            None => self.key.take(state, known),
+            None => self.key.take(state, slots),
             Some(kept) => kept.put_key(&mut self.key),
         }
     }
@@ -236,7 +236,7 @@ impl StoredStates {
         (found, self.states.len())
     }
 
-    /// The first finished state that covers this one, and the longest scan on the way to it.
+    /// The first finished state that covers this one, and the longest scan before it was found.
     fn first_covering(
         &self,
         state: &State,
@@ -345,7 +345,7 @@ impl StoredStates {
         requires drawn { kept.old ≡ None
             → AreParts self.old.key.parts.items state.now.innermost }
         requires kept { IfSome kept.old (λ s. s ≡ state.now) }
-        ensures place { IfOk result (λ k. k ≡ length self.old.states.items) }
+        ensures index { IfOk result (λ k. k ≡ length self.old.states.items) }
         ensures stored { IfOk result (λ _. self.new.states.items
             ≡ self.old.states.items ++ record { state = state.now; number = 0 } ∷ []) }
         ensures err { OnErr result (self.new.states.items ≡ self.old.states.items) }

@@ -91,11 +91,11 @@ impl Turns {
 }
 
 /// The index, unless it is this one.
-fn without(index: Option<usize>, count: usize) -> Option<usize>
-    ensures kept { (n : ℕ) → result ≡ Some n → (index ≡ Some n) × (n ≢ count) }
+fn without(index: Option<usize>, other: usize) -> Option<usize>
+    ensures kept { (n : ℕ) → result ≡ Some n → (index ≡ Some n) × (n ≢ other) }
 {
     match index {
-        Some(found) if found != count => Some(found),
+        Some(found) if found != other => Some(found),
         _ => None,
     }
 }

@@ -1,4 +1,4 @@
--- Bytes in a row in memory: some of them are taken out as one array, and put back.
+-- Adjacent bytes in memory: some of them are taken out as one array, and put back.
 use mathlib.Core.Path.{◌≡◌, refl, sym}
 use Prim.Native.Nat.{ℕ, ◌+◌}
 use mathlib.Core.List.{List, [], ◌∷◌, ◌++◌, map}
@@ -53,7 +53,7 @@ module _ {M : Type 1} {𝓤 : Ura M} (𝓛 : Logic 𝓤) (q : Share) where
       use2 𝓛 (‵ (row u8 q (xs ++ ys) b (o + s))) (row_join xs ys b (o + s)) $ move ! (1 ∷ 0 ∷ []) $
       fjoin ! $ done !
 
-  -- the array in memory, and what it owns, which can be had again
+  -- the array is taken out of the bytes around it, with what it owns; array_in puts it back
   pub array_out : (n : ℕ) (f w k : List ℕ) (b o p : ℕ) → length w ≡ n → at o s (length f) ≡ p
       → ent 𝓤 (sem 𝓛 (row u8 q (f ++ (w ++ k)) b o))
       (sep 𝓤 (sem 𝓛 (array_at q n w b p)) (sep 𝓤 (sem 𝓛 (has n w))

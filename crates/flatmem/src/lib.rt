@@ -20,11 +20,11 @@ fn window<const N: usize>(bytes: &[u8], at: usize) -> [u8; N]
 
 // Writes these N bytes from `at` on, as one array.
 #[inline(always)]
-fn put_window<const N: usize>(bytes: &mut [u8], at: usize, word: [u8; N])
+fn put_window<const N: usize>(bytes: &mut [u8], at: usize, written: [u8; N])
     requires { at + N ≤ length bytes.old }
-    ensures { bytes.new ≡ take at bytes.old ++ (word.entry ++ drop (at + N) bytes.old) }
+    ensures { bytes.new ≡ take at bytes.old ++ (written.entry ++ drop (at + N) bytes.old) }
 {
-    unsafe { *(bytes.as_mut_ptr().add(at) as *mut [u8; N]) = word };
+    unsafe { *(bytes.as_mut_ptr().add(at) as *mut [u8; N]) = written };
 }
 
 /// The number in the byte at `at`.
@@ -33,8 +33,8 @@ pub fn get8(bytes: &[u8], at: usize) -> u8
     requires { at + 1 ≤ length bytes.now }
     ensures { result ≡ slice_index bytes.now at }
 {
-    let word = window::<1>(bytes, at);
-    word[0]
+    let byte = window::<1>(bytes, at);
+    byte[0]
 }
 
 /// The number in the two bytes at `at`.

@@ -1,4 +1,4 @@
--- What a call finds, by what it filled from its source.
+-- What a call finds, by the bytes that it read from its source.
 use Rattle.std.proofs.Common.{◌≡◌, ◌≢◌, ℕ, ◌<◌, ◌≤◌, List, [], ◌∷◌, ◌++◌, length, take, nat_eq, false, Option, None, Some, Ok, Err, refl, arith, sym, ap, ◌∙◌, append-nil, append_assoc, length-append, subst, inl, inr}
 use Rattle.std.proofs.lemmas.List.{length-take-le, take_at}
 use Rattle.std.proofs.lemmas.Cmp.{nat_list_eq_equiv}
@@ -77,12 +77,13 @@ may_fail = ([], ByError, opened-short [] ByError (omega arith))
 
 -- ---- a record
 
--- the part of the room that a head fills
-pub whole_head : (buffer room : List ℕ) (n : ℕ) (v : Version) → length buffer ≡ length (take n room)
-    → n ≡ head_size v → n ≤ 24 → length room ≡ 24
+-- the part of the longest head's buffer that a head fills
+pub whole_head : (buffer longest : List ℕ) (n : ℕ) (v : Version)
+    → length buffer ≡ length (take n longest)
+    → n ≡ head_size v → n ≤ 24 → length longest ≡ 24
     → length buffer ≡ head_size v
-whole_head buffer room n v filled size few whole =
-    omega (arith, length-take-le n room (omega arith))
+whole_head buffer longest n v filled size few whole =
+    omega (arith, length-take-le n longest (omega arith))
 
 -- the source returned `front`, and whatever it has left, the stream stops
 stopped_more : (position : Position) (old new : Option (List ℕ)) (front : List ℕ) (stop : Finish)

@@ -270,8 +270,8 @@ pub HasBegun-opens : (v : Version) (old new : Option (List ℕ)) (after : Positi
     → HasBegun v [] old new after
 HasBegun-opens v old new after opens is = go opens.0 opens.1 opens.2 opens.3
   where
-    go : (answer : Result Version Fault) → ReadsMagic old new answer → MayOpen answer
-        → after ≡ position_opened answer → HasBegun v [] old new after
+    go : (magic : Result Version Fault) → ReadsMagic old new magic → MayOpen magic
+        → after ≡ position_opened magic → HasBegun v [] old new after
     go (Ok w) reads may position_is =
         let told = subst (λ (x : Position). IsBegunVersion (begun_at x) v) position_is is in
         let same : v ≡ w = told w refl in

@@ -51,7 +51,8 @@ module _ {X E : Type 0} (r : Result X E) (old mid : Option (List ℕ)) (head fro
       → OnErr r (AppendsBeginning mid new body) → OnErr r (AppendsBeginning old new (front ++ body))
   body_fails new p q = second_fails r old mid new front body (subst (Appends old mid) same p) q
 
-  pub head_fails : AppendsBeginning old mid head → OnErr r (AppendsBeginning old mid (front ++ body))
+  pub head_fails : AppendsBeginning old mid head
+      → OnErr r (AppendsBeginning old mid (front ++ body))
   head_fails p = first_fails r old mid front body (subst (AppendsBeginning old mid) same p)
 
 -- a record of version 1 has no reason

@@ -25,22 +25,22 @@ position_opened (Err fault) = Done One (finish.Fault fault 0)
 -- fault was found instead, and only for ReadFailed did the source return an error, after the
 -- bytes that were read.
 abbrev pub ReadsMagic : Option (List ℕ) → Option (List ℕ) → Result Version Fault → Type 0
-ReadsMagic None new answer = Unit {0}
+ReadsMagic None new magic = Unit {0}
 ReadsMagic (Some bytes) new (Err ReadFailed) =
     (read : List ℕ) × Consumes (Some bytes) new read × (opened read ByError ≡ Err ReadFailed)
 ReadsMagic (Some bytes) new (Err fault) = opened bytes ByEnd ≡ Err fault
 ReadsMagic (Some bytes) None (Ok version) = ⊥
 ReadsMagic (Some bytes) (Some rest) (Ok version) = bytes ≡ stream_magic version ++ rest
 
--- there are bytes, and a way in which they end, with this fault instead of the magic
+-- there are bytes and an ending of them with this fault instead of the magic
 abbrev pub MayOpen : Result Version Fault → Type 0
 MayOpen (Ok version) = Unit {0}
 MayOpen (Err fault) = (bytes : List ℕ) × (ending : InputEnding) × (opened bytes ending ≡ Err fault)
 
 -- the magic is read once: a reader after it reads nothing and stays there
 abbrev pub OpensStream : Position → Option (List ℕ) → Option (List ℕ) → Position → Type 0
-OpensStream Fresh old new after = (answer : Result Version Fault) × ReadsMagic old new answer
-    × MayOpen answer × (after ≡ position_opened answer)
+OpensStream Fresh old new after = (magic : Result Version Fault) × ReadsMagic old new magic
+    × MayOpen magic × (after ≡ position_opened magic)
 OpensStream (At version number offset) old new after =
     (after ≡ At version number offset) × (new ≡ old)
 OpensStream (Done version stop) old new after = (after ≡ Done version stop) × (new ≡ old)
@@ -111,8 +111,7 @@ abbrev pub IsOpen : Position → PacketFrame → Type 0
 IsOpen (At version number offset) f = (number < max_frames) × IsPacketFrame version f
 IsOpen position f = ⊥
 
--- there are bytes, and a way in which they end, with which a stream stops at the position as `stop`
--- says
+-- there are bytes and an ending of them with which a stream stops at the position as `stop` says
 pub record CanStop (position : Position) (stop : Finish) : Type 0 where
   pub bytes : List ℕ
   pub ending : InputEnding

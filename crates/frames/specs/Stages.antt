@@ -21,19 +21,19 @@ position_of (stage.Done version stop) = Done version stop
 abbrev pub max_record : ℕ
 max_record = head_size Two + max_packet
 
--- the offset is no further than the magic and this number of longest records reach
+-- the offset is at most where the stream ends that has the magic and `number` longest records
 abbrev pub FitsRecord : Stage → Type 0
 FitsRecord stage.Fresh = Unit {0}
 FitsRecord (stage.At version number offset) = offset ≤ 4 + max_record * number
 FitsRecord (stage.Done version stop) = Unit {0}
 
--- a record that was found is not beyond the most that a stream may have, and its body fits
+-- a record is found only where the stream may have one more, and its body fits
 abbrev pub HasRoomForRecord : ℕ → Next → Type 0
 HasRoomForRecord number (next.Frame head n reason) = (number < max_frames) × (n ≤ max_packet)
 HasRoomForRecord number next.End = Unit {0}
 HasRoomForRecord number (next.Fault f offset) = Unit {0}
 
--- the stage of a reader that was where a record may begin, after it found this
+-- the stage of a reader after it found this where a record may begin
 abbrev pub IsStageAfter : Version → ℕ → ℕ → Next → Stage → Type 0
 IsStageAfter version number offset (next.Frame head n reason) after =
     after ≡ stage.At version (number + 1) (offset + (head_size version + n))

@@ -86,7 +86,7 @@ impl<R: Read> FrameReader<R> {
     /// and all of it where no record was found, may then hold any bytes. The magic is read first,
     /// if it was not read before.
     ///
-    /// The source's first error, of any kind, is the fault `ReadFailed`, and nothing is tried
+    /// The source's first error, whichever it is, is the fault `ReadFailed`, and nothing is tried
     /// again. After the end or a fault each further call returns the same and reads nothing.
     #[inline(always)]
     pub fn next(&mut self, buffer: &mut [u8; MAX_PACKET]) -> Next
@@ -190,15 +190,15 @@ fn read_record<R: Read>(
     ensures room { HasRoom (At version number offset) (finding_of result buffer.new) }
     ensures fits { FitsBuffer result }
 {
-    let mut room = [0; 24];
+    let mut head_buffer = [0; 24];
     if number == u32::MAX {
-        return match fill(source, &mut room[..1]) {
+        return match fill(source, &mut head_buffer[..1]) {
             Filled::Whole => Next::Fault(Fault::TooManyRecords, offset),
             Filled::Ended(_) => Next::End,
             Filled::Failed(_) => Next::Fault(Fault::ReadFailed, offset),
         };
     }
-    let head = &mut room[..version.head_size()];
+    let head = &mut head_buffer[..version.head_size()];
     match fill_at_once(source, head) {
         Filled::Whole => {}
         Filled::Ended(0) => return Next::End,

@@ -104,7 +104,7 @@ pub fn write_record<W: Write>(
 /// The body has at most 4,096 bytes: the caller has to ensure that, for example by a buffer of that
 /// size, since no reader takes a record with a longer one (`TooLong`).
 ///
-/// The writer's first error, of any kind, is returned; a write of no byte is the error
+/// The writer's first error, whichever it is, is returned; a write of no byte is the error
 /// `ErrorKind::WriteZero`. Nothing is tried again.
 pub fn write_frame<W: Write>(writer: &mut W, head: &FrameHead, body: &[u8]) -> io::Result<()>
     requires { length body.now ≤ max_body One }

@@ -18,12 +18,12 @@ pub record StaysOpen (old new : Option Running)
   pub is : new ≡ Some after
   pub so : relation before after
 
--- a map is there, with keys of this size
-pub record FitsKey (machine : Running) (map key : ℕ) : Type 0 where
+-- there is a map with this index, and its keys have this size
+pub record FitsKey (machine : Running) (map size : ℕ) : Type 0 where
   pub inside : map < length machine.program.maps
-  pub key_size : key ≡ (row_at machine map).key_size
+  pub key_size : size ≡ (row_at machine map).key_size
 
--- with keys and values of these sizes
-pub record FitsMap (machine : Running) (map key value : ℕ) : Type 0 where
-  pub fits_key : FitsKey machine map key
-  pub value_size : value ≡ (row_at machine map).value_size
+-- the same, and its values have this size
+pub record FitsMap (machine : Running) (map size_of_key size : ℕ) : Type 0 where
+  pub fits_key : FitsKey machine map size_of_key
+  pub value_size : size ≡ (row_at machine map).value_size

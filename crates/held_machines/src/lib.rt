@@ -1,5 +1,5 @@
-//! What a caller outside Rattle holds of a machine: a pointer; and the calls on the maps of a
-//! machine that is held so. Their statuses are those of `verdict_calls`.
+//! Machines that a caller outside Rattle holds by a pointer, and the calls on their maps, whose
+//! statuses are those of `verdict_calls`.
 #![tactic(auto)]
 
 mod loose;

@@ -20,18 +20,19 @@ pub struct Changed {
     pub answer: u64,
 }
 
-// Whether a map is there, with keys of this size.
-fn has_map_with_key(machine: &Machine, map: usize, key: usize) -> bool
-    ensures { (result ≡ true) ↔ FitsKey machine.now map key }
+// Whether there is a map with this index, and its keys have this size.
+fn has_map_with_key(machine: &Machine, map: usize, key_size: usize) -> bool
+    ensures { (result ≡ true) ↔ FitsKey machine.now map key_size }
 {
-    map < machine.map_count() && key == usize::from(machine.map_row(map).key_size)
+    map < machine.map_count() && key_size == usize::from(machine.map_row(map).key_size)
 }
 
-// Whether a map is there, with keys and values of these sizes.
-fn has_map_with_sizes(machine: &Machine, map: usize, key: usize, value: usize) -> bool
-    ensures { (result ≡ true) ↔ FitsMap machine.now map key value }
+// Whether there is a map with this index, and its keys and values have these sizes.
+fn has_map_with_sizes(machine: &Machine, map: usize, key_size: usize, value_size: usize) -> bool
+    ensures { (result ≡ true) ↔ FitsMap machine.now map key_size value_size }
 {
-    has_map_with_key(machine, map, key) && value == machine.map_row(map).value_size as usize
+    has_map_with_key(machine, map, key_size)
+        && value_size == machine.map_row(map).value_size as usize
 }
 
 fn look_up(machine: &Machine, map: usize, key: &[u8], value: &mut [u8]) -> u32

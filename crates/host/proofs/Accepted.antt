@@ -12,7 +12,7 @@ use Rattle.isa_model.specs.Machine.States.{KeyValues}
 use Rattle.isa_model.specs.Reporting.Streams.{PacketFrame, Stream, stream_with, AreOpen}
 use Rattle.isa_model.specs.Running.Runs.{Turn, turn}
 use Rattle.isa_model.proofs.RunLaws.{turn-outcome}
-use Rattle.isa_model.specs.Reporting.Reports.{OutputPart, ToReport, ToFrames, ReportForm, Rule, turns_pieces, contents_after, maps_pieces, last_line, report_of, checked_rule, checked_report, starting_contents, IsReport}
+use Rattle.isa_model.specs.Reporting.Reports.{OutputPiece, ToReport, ToFrames, ReportForm, Rule, turns_pieces, contents_after, maps_pieces, last_line, report_of, checked_rule, checked_report, starting_contents, IsReport}
 use Rattle.isa_model.specs.Running.Outcomes.{AllExit}
 use Rattle.isa_model.proofs.ReportLaws.{IsReport-checked}
 use Rattle.image.proofs.Programs.{IsProgram-IsImage, IsImage-starting_contents}
@@ -29,7 +29,7 @@ use Rattle.host.specs.Writing.{Outputs, WroteBefore, WritesEach}
 use Rattle.host.specs.Reported.{Reports, ReportsBy, front_in}
 use Rattle.host.specs.Accepted.{ReportsRun, RunsWhole, RunsFront}
 use Rattle.host.proofs.Pieces.{WroteBefore-more}
-use Rattle.host.proofs.Turns.{turns_pieces-append}
+use Rattle.host.proofs.FrameLoop.{turns_pieces-append}
 use Rattle.host.proofs.Fronts.{first_pieces}
 
 -- what a machine returns of a run is the turn of its program
@@ -54,7 +54,7 @@ turn-ReturnsOutcome r head packet clock exit after left coming h =
 -- however a stream goes on after these packet frames, its checked report begins with their pieces
 front_goes_on : (limit : ℕ) (program : Version) (rows : List MapDef) (rule : Rule)
     (contents : List KeyValues) (v : Version) (frames more : List PacketFrame) (finish : Finish)
-    → (rest : List OutputPart)
+    → (rest : List OutputPiece)
     × (report_of limit program rows rule contents (stream_with v (frames ++ more, finish))
     ≡ front_in (record { limit = limit; program = program; stream = v }) rule contents frames
     ++ rest)
@@ -65,7 +65,7 @@ front_goes_on limit program rows rule contents v frames more finish =
     let closing = maps_pieces 0 rows (contents_after rule contents (frames ++ more))
     ++ ToReport (last_line (length (frames ++ more)) finish) ∷ [] in (
       later ++ closing,
-      ap (λ (l : List OutputPart). (ToFrames (stream_magic v) ∷ l) ++ closing)
+      ap (λ (l : List OutputPiece). (ToFrames (stream_magic v) ∷ l) ++ closing)
           (turns_pieces-append form rule 0 contents frames more)
           ∙ append_assoc (front_in form rule contents frames) later closing,
     )
@@ -88,12 +88,12 @@ Reports-By p limit source old new result (inr (error, is, r)) = inr (
     writes = λ more finish.
         let (rest, whole) = front_goes_on limit p.version p.maps (checked_rule p limit)
         (starting_contents p.maps) r.version r.frames more finish in
-        subst (λ (l : List OutputPart). WroteBefore old new l error) (sym whole)
+        subst (λ (l : List OutputPiece). WroteBefore old new l error) (sym whole)
         (WroteBefore-more old new _ rest error r.writes);
   },
 )
 
--- the same of the checked machine that was made of the program and its maps as they start
+-- the same of the checked machine that was made of the program and its starting maps
 abbrev AgreesOf : Checking → ℕ → Noted → Stream → Traced → Type 0
 AgreesOf m limit noted =
     ShowsNoted (checked_notes m.program limit) (checked_rule m.program limit) noted m.contents
@@ -166,14 +166,14 @@ ReportsRun-By a source old new result h r = record { some = h.some; most = h.mos
             writes = λ more finish pieces report.
                 let (rest, whole) =
                 first_pieces a.program a.bound r.version r.frames more finish pieces exits report in
-                subst (λ (l : List OutputPart). WroteBefore old new l error) (sym whole)
+                subst (λ (l : List OutputPiece). WroteBefore old new l error) (sym whole)
                 (WroteBefore-more old new _ rest error r.writes);
           },
         )
 
 -- without what is noted of frames
 WritesEach-tallied : (old new : Outputs) (result : Result Traced HostError)
-    (pieces : List OutputPart) → WritesEach old new result pieces
+    (pieces : List OutputPiece) → WritesEach old new result pieces
     → WritesEach old new (tallied result) pieces
 WritesEach-tallied old new (Ok traced) pieces w = w
 WritesEach-tallied old new (Err e) pieces w = w
@@ -202,8 +202,8 @@ ReportsBy-tallied source limit program rows rule contents notes noted old new re
 ReportsBy-tallied source limit program rows rule contents notes noted old new result
     (inr (error, is, r)) = inr (error, ap tallied is, r)
 
--- the same of the machine that was made of the program and its maps as they start, with its bound
--- as the limit
+-- the same of the machine that was made of the program and its starting maps, with its bound as the
+-- limit
 pub ReportsRun-machine : (a : Bounded) (source : Option (List ℕ)) (old new : Outputs)
     (result : Result Traced HostError) (limit : ℕ) (program : Version) (contents : List KeyValues)
     (m : Running) (notes : Noting) (noted : Noted) → IsVerified a

@@ -9,7 +9,7 @@ use Rattle.isa_model.specs.Machine.States.{KeyValues}
 use Rattle.isa_model.specs.Running.Runs.{Outcome, Turn}
 use Rattle.isa_model.proofs.RunLaws.{turn-outcome, HasOutcome-same}
 use Rattle.isa_model.specs.Reporting.Streams.{PacketFrame, stream_with}
-use Rattle.isa_model.specs.Reporting.Reports.{OutputPart, ToReport, ToFrames, ReportForm, frame_line, frame_pieces, skip_pieces, turn_on, turn_pieces, contents_left, turns_pieces, maps_pieces, last_line, checked_rule, turn_by, starting_contents, ReportsFrame, ReportsFrames, report_form_of, IsReport}
+use Rattle.isa_model.specs.Reporting.Reports.{OutputPiece, ToReport, ToFrames, ReportForm, frame_line, frame_pieces, skip_pieces, turn_on, turn_pieces, contents_left, turns_pieces, maps_pieces, last_line, checked_rule, turn_by, starting_contents, ReportsFrame, ReportsFrames, report_form_of, IsReport}
 use Rattle.isa_model.specs.Running.Outcomes.{ExitsOn, AllExit}
 use Rattle.host.specs.Reported.{front_in}
 
@@ -32,7 +32,7 @@ module _ (p : Program) (n : ℕ) where
     kept_pieces = refl
 
     -- one frame's pieces, and what it leaves
-    one_frame : (runs : Bool) (pieces : List OutputPart) (next after : List KeyValues)
+    one_frame : (runs : Bool) (pieces : List OutputPiece) (next after : List KeyValues)
         → ExitsOn p n contents f runs next → ReportsFrame form p number contents f runs pieces after
         → (pieces ≡ turn_pieces (limited form) number f (turn_if contents f runs))
         × (after ≡ contents_left contents (turn_if contents f runs))
@@ -53,10 +53,10 @@ module _ (p : Program) (n : ℕ) where
 
   -- the pieces of frames whose runs exit, from any number on
   first_frames : (form : ReportForm) (number : ℕ) (contents : List KeyValues)
-      (fs gs : List PacketFrame) (turns : List OutputPart) (last : List KeyValues)
+      (fs gs : List PacketFrame) (turns : List OutputPiece) (last : List KeyValues)
       → AllExit p n contents fs
       → ReportsFrames form p number contents (fs ++ gs) turns last
-      → (rest : List OutputPart)
+      → (rest : List OutputPiece)
       × (turns ≡ turns_pieces (limited form) (checked_rule p n) number contents fs ++ rest)
   first_frames form number contents [] gs turns last exits h = (turns, refl)
   first_frames form number contents (f ∷ fs) gs turns last exits h =
@@ -75,15 +75,15 @@ module _ (p : Program) (n : ℕ) where
       let here = turn_pieces (limited form) number f t in
       let later = turns_pieces (limited form) rule (number + 1) (contents_left contents t) fs in (
         rest,
-        split ∙ ap (λ (l : List OutputPart). l ++ behind) is
-            ∙ ap (λ (l : List OutputPart). here ++ l) same ∙ sym (append_assoc here later rest),
+        split ∙ ap (λ (l : List OutputPiece). l ++ behind) is
+            ∙ ap (λ (l : List OutputPiece). here ++ l) same ∙ sym (append_assoc here later rest),
       )
 
   -- a report begins with the magic and the first frames' pieces
   pub first_pieces : (v : Version) (frames more : List PacketFrame) (finish : Finish)
-      (pieces : List OutputPart) → AllExit p n (starting_contents p.maps) frames
+      (pieces : List OutputPiece) → AllExit p n (starting_contents p.maps) frames
       → IsReport p (stream_with v (frames ++ more, finish)) pieces
-      → (rest : List OutputPart)
+      → (rest : List OutputPiece)
       × (pieces ≡ front_in (record { limit = n; program = p.version; stream = v })
       (checked_rule p n) (starting_contents p.maps) frames ++ rest)
   first_pieces v frames more finish pieces exits h =
@@ -96,6 +96,6 @@ module _ (p : Program) (n : ℕ) where
       let closing = maps_pieces 0 p.maps h.last
       ++ ToReport (last_line (length (frames ++ more)) finish) ∷ [] in (
         rest ++ closing,
-        h.whole ∙ ap (λ (l : List OutputPart). (ToFrames (stream_magic v) ∷ l) ++ closing) same
+        h.whole ∙ ap (λ (l : List OutputPiece). (ToFrames (stream_magic v) ∷ l) ++ closing) same
             ∙ append_assoc (ToFrames (stream_magic v) ∷ front) rest closing,
       )

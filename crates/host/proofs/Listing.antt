@@ -21,7 +21,7 @@ use Rattle.isa_model.specs.Code.MapRows.{KeyFits, IsRow}
 use Rattle.isa_model.specs.Machine.MapContents.{key_order, is_key}
 use Rattle.isa_model.specs.Machine.MachineStates.{IsKeyValue, FitsRow}
 use Rattle.isa_model.specs.Machine.States.{KeyValues}
-use Rattle.isa_model.specs.Reporting.Reports.{OutputPart, ToReport, map_line, map_pieces, maps_pieces, key_value_by_index, in_report_order}
+use Rattle.isa_model.specs.Reporting.Reports.{OutputPiece, ToReport, map_line, map_pieces, maps_pieces, key_value_by_index, in_report_order}
 use Rattle.maps.specs.Maps.{MapState, IsMap, map_at, content_in, ordered_in, rows_of, contents_of}
 use Rattle.maps.proofs.MapsLaws.{KeyFits-most}
 use Rattle.maps.proofs.MapLaws.{FitsRow-IsMap}
@@ -33,12 +33,12 @@ use Rattle.host.specs.Writing.{Wrote, WroteBefore}
 use Rattle.host.proofs.Pieces.{Wrote-append, WroteBefore-append, WroteBefore-more, wrote_report, report_failed}
 
 -- pieces that were written to the report
-abbrev pub WroteReport : Option (List ℕ) → Option (List ℕ) → List OutputPart → Type 0
+abbrev pub WroteReport : Option (List ℕ) → Option (List ℕ) → List OutputPiece → Type 0
 WroteReport old new pieces = (frames : Option (List ℕ))
     → Wrote (record { report = old; frames = frames })
     (record { report = new; frames = frames }) pieces
 
-abbrev pub FailedReport : Option (List ℕ) → Option (List ℕ) → List OutputPart → HostError → Type 0
+abbrev pub FailedReport : Option (List ℕ) → Option (List ℕ) → List OutputPiece → HostError → Type 0
 FailedReport old new pieces error =
     (frames : Option (List ℕ))
     → WroteBefore (record { report = old; frames = frames })
@@ -47,11 +47,11 @@ FailedReport old new pieces error =
 pub no_piece : (r : Option (List ℕ)) → WroteReport r r []
 no_piece r frames = record { report = Appends-nil r; frames = Appends-nil frames }
 
-pub more_pieces : (r s t : Option (List ℕ)) (ps qs : List OutputPart) → WroteReport r s ps
+pub more_pieces : (r s t : Option (List ℕ)) (ps qs : List OutputPiece) → WroteReport r s ps
     → WroteReport s t qs → WroteReport r t (ps ++ qs)
 more_pieces r s t ps qs v w frames = Wrote-append _ _ _ ps qs (v frames) (w frames)
 
-pub failed_later : (r s t : Option (List ℕ)) (ps qs rest : List OutputPart) (e : HostError)
+pub failed_later : (r s t : Option (List ℕ)) (ps qs rest : List OutputPiece) (e : HostError)
     → WroteReport r s ps → FailedReport s t qs e → FailedReport r t (ps ++ (qs ++ rest)) e
 failed_later r s t ps qs rest e v w frames =
     WroteBefore-append _ _ _ ps (qs ++ rest) e (v frames)
@@ -59,7 +59,7 @@ failed_later r s t ps qs rest e v w frames =
 
 -- ---- keys
 
-module _ (line : List ℕ × List ℕ → OutputPart) (es : KeyValues) where
+module _ (line : List ℕ × List ℕ → OutputPiece) (es : KeyValues) where
   pub no_line : (r : Option (List ℕ)) → WroteReport r r (map line (take 0 es))
   no_line r = no_piece r
 
@@ -82,14 +82,14 @@ module _ (line : List ℕ × List ℕ → OutputPart) (es : KeyValues) where
     lines_around =
         ap (map line) (sym (take-append-drop (k + 1) es))
         ∙ map-append line (take (k + 1) es) (drop (k + 1) es)
-        ∙ ap (λ (l : List OutputPart). l ++ map line (drop (k + 1) es)) lines_up_to
+        ∙ ap (λ (l : List OutputPiece). l ++ map line (drop (k + 1) es)) lines_up_to
         ∙ append_assoc (map line (take k es)) (line e ∷ []) (map line (drop (k + 1) es))
 
     pub line_failed : (r s t : Option (List ℕ)) (error : HostError)
         → WroteReport r s (map line (take k es)) → FailedReport s t (line e ∷ []) error
         → FailedReport r t (map line es) error
     line_failed r s t error v w =
-        subst (λ (l : List OutputPart). FailedReport r t l error) (sym lines_around)
+        subst (λ (l : List OutputPiece). FailedReport r t l error) (sym lines_around)
         (failed_later r s t (map line (take k es)) (line e ∷ [])
         (map line (drop (k + 1) es)) error v w)
 
@@ -134,7 +134,7 @@ module _ (index : ℕ) (row : MapDef) (es : KeyValues) (k : ℕ) (old new value 
     (listed : AreListed row es)
     (found : Some value ≡ option_map (λ e. e.1) (slice_get es k))
     (put : new ≡ with_key_of (slice_get es k) old) where
-  abbrev line_at : List ℕ × List ℕ → OutputPart
+  abbrev line_at : List ℕ × List ℕ → OutputPiece
   line_at e = ToReport (map_line index e)
 
   front : (e : List ℕ × List ℕ) → slice_get es k ≡ Some e → take row.key_size new ≡ e.0
@@ -246,7 +246,7 @@ AreListed-map_at ms i l all =
 -- ---- maps
 
 -- the lines of these maps
-abbrev pub lines_of : ℕ → List MapState → List OutputPart
+abbrev pub lines_of : ℕ → List MapState → List OutputPiece
 lines_of n ms = maps_pieces n (rows_of ms) (contents_of ms)
 
 lines_of-append : (n : ℕ) (ms ns : List MapState)
@@ -255,7 +255,7 @@ lines_of-append n [] ns = ap (λ k. lines_of k ns) (sym (add-zero n))
 lines_of-append n (m ∷ ms) ns =
     let same : (n + 1) + length ms ≡ n + suc (length ms) = omega arith in
     let front = map_pieces n m.row (content_in m) in
-    ap (λ (l : List OutputPart). front ++ l)
+    ap (λ (l : List OutputPiece). front ++ l)
     (lines_of-append (n + 1) ms ns ∙ ap (λ k. lines_of (n + 1) ms ++ lines_of k ns) same)
     ∙ sym (append_assoc front (lines_of (n + 1) ms) (lines_of (n + suc (length ms)) ns))
 
@@ -271,7 +271,7 @@ length_front (suc i) [] l = absurd (omega arith)
 length_front (suc i) (m ∷ ms) l = let h = length_front i ms (omega arith) in omega arith
 
 module _ (ms : List MapState) (i : ℕ) (inside : i < length ms) where
-  abbrev here : List OutputPart
+  abbrev here : List OutputPiece
   here = map_pieces i (map_at ms i).row (content_in (map_at ms i))
 
   -- the lines of maps up to one, and that one's
@@ -283,7 +283,7 @@ module _ (ms : List MapState) (i : ℕ) (inside : i < length ms) where
       ∙ ap (λ (k : ℕ). lines_of 0 (take i ms) ++ lines_of k (get_or ms i (map_at ms i) ∷ [])) z
       ∙ ap (λ (m : MapState). lines_of 0 (take i ms) ++ lines_of i (m ∷ []))
       (get_or-map_at ms i inside (map_at ms i))
-      ∙ ap (λ (l : List OutputPart). lines_of 0 (take i ms) ++ l) (append-nil here)
+      ∙ ap (λ (l : List OutputPiece). lines_of 0 (take i ms) ++ l) (append-nil here)
 
   map_more : (r s t : Option (List ℕ)) → WroteReport r s (lines_of 0 (take i ms))
       → WroteReport s t here → WroteReport r t (lines_of 0 (take (i + 1) ms))
@@ -297,9 +297,9 @@ module _ (ms : List MapState) (i : ℕ) (inside : i < length ms) where
       let around : lines_of 0 ms ≡ lines_of 0 (take i ms) ++ (here ++ rest) =
       ap (lines_of 0) (sym (take-append-drop (i + 1) ms))
       ∙ lines_of-append 0 (take (i + 1) ms) (drop (i + 1) ms)
-      ∙ ap (λ (l : List OutputPart). l ++ rest) maps_up_to
+      ∙ ap (λ (l : List OutputPiece). l ++ rest) maps_up_to
       ∙ append_assoc (lines_of 0 (take i ms)) here rest in
-      subst (λ (l : List OutputPart). FailedReport r t l e) (sym around)
+      subst (λ (l : List OutputPiece). FailedReport r t l e) (sym around)
       (failed_later r s t (lines_of 0 (take i ms)) here rest e v w)
 
 -- the keys and values of one map more were written, or failed
@@ -322,7 +322,7 @@ module _ (ms now : List MapState) (i : ℕ) (inside : i < length ms) (es : KeyVa
       → FailedReport r t (lines_of 0 ms) e
   pairs_failed r s t e v w =
       map_failed ms i inside r s t e v
-      (subst (λ (l : List OutputPart). FailedReport s t l e) lines_here w)
+      (subst (λ (l : List OutputPiece). FailedReport s t l e) lines_here w)
 
 pub maps_whole : (ms : List MapState) (i : ℕ) (r s : Option (List ℕ)) → length ms ≤ i
     → WroteReport r s (lines_of 0 (take i ms)) → WroteReport r s (lines_of 0 ms)
@@ -336,10 +336,10 @@ module _ (r s : Option (List ℕ)) (ms : List MapState) (rows : List MapDef)
   lines_are : lines_of 0 ms ≡ maps_pieces 0 rows contents
   lines_are = λ i. maps_pieces 0 (same i) (kept i)
 
-  pub maps_failed : (last : OutputPart) (e : HostError) → FailedReport r s (lines_of 0 ms) e
+  pub maps_failed : (last : OutputPiece) (e : HostError) → FailedReport r s (lines_of 0 ms) e
       → FailedReport r s (maps_pieces 0 rows contents ++ last ∷ []) e
   maps_failed last e w =
-      subst (λ (l : List OutputPart). FailedReport r s (l ++ last ∷ []) e) lines_are
+      subst (λ (l : List OutputPiece). FailedReport r s (l ++ last ∷ []) e) lines_are
       (λ frames. WroteBefore-more _ _ (lines_of 0 ms) (last ∷ []) e (w frames))
 
   module _ (t : Option (List ℕ)) (line bytes : List ℕ) (is : line ≡ bytes)
@@ -347,7 +347,7 @@ module _ (r s : Option (List ℕ)) (ms : List MapState) (rows : List MapDef)
     pub last_failed : AppendsBeginning s t line
         → FailedReport r t (maps_pieces 0 rows contents ++ ToReport bytes ∷ []) failure.Report
     last_failed p =
-        subst (λ (l : List OutputPart). FailedReport r t (l ++ ToReport bytes ∷ []) failure.Report)
+        subst (λ (l : List OutputPiece). FailedReport r t (l ++ ToReport bytes ∷ []) failure.Report)
         lines_are
         (λ frames. WroteBefore-append _ _ _ (lines_of 0 ms) (ToReport bytes ∷ []) failure.Report
         (w frames) (report_failed s t frames bytes [] (subst (AppendsBeginning s t) is p)))
@@ -355,6 +355,6 @@ module _ (r s : Option (List ℕ)) (ms : List MapState) (rows : List MapDef)
     pub last_written : Appends s t line
         → WroteReport r t (maps_pieces 0 rows contents ++ ToReport bytes ∷ [])
     last_written p =
-        subst (λ (l : List OutputPart). WroteReport r t (l ++ ToReport bytes ∷ [])) lines_are
+        subst (λ (l : List OutputPiece). WroteReport r t (l ++ ToReport bytes ∷ [])) lines_are
         (more_pieces r s t (lines_of 0 ms) (ToReport bytes ∷ []) w
         (λ frames. wrote_report s t frames bytes (subst (Appends s t) is p)))

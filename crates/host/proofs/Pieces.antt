@@ -7,7 +7,7 @@ use Rattle.exact_io.specs.Transfers.{AppendsBeginning}
 use Rattle.isa_model.specs.declared.ends.End.{End}
 use Rattle.isa_model.specs.Reporting.Streams.{PacketFrame, frame_bytes}
 use Rattle.isa_model.specs.Running.Runs.{Turn}
-use Rattle.isa_model.specs.Reporting.Reports.{OutputPart, ToReport, ToFrames, ReportForm, frame_line, frame_pieces, record_pieces, is_sent, end_reason, skip_line, skip_pieces}
+use Rattle.isa_model.specs.Reporting.Reports.{OutputPiece, ToReport, ToFrames, ReportForm, frame_line, frame_pieces, record_pieces, is_sent, end_reason, skip_line, skip_pieces}
 use Rattle.host.specs.declared.errors.HostError.{HostError}
 use Rattle.host.specs.declared.errors.HostError.TheVariants as failure
 use Rattle.host.specs.Writing.{Outputs, Wrote, WroteBefore}
@@ -24,7 +24,7 @@ take-nil zero = refl
 take-nil (suc n) = refl
 
 -- pieces after others
-pub Wrote-append : (a b c : Outputs) (p q : List OutputPart) → Wrote a b p → Wrote b c q
+pub Wrote-append : (a b c : Outputs) (p q : List OutputPiece) → Wrote a b p → Wrote b c q
     → Wrote a c (p ++ q)
 Wrote-append a b c p q first second = record {
   report =
@@ -36,7 +36,7 @@ Wrote-append a b c p q first second = record {
 }
 
 -- pieces after others, where a later one failed
-pub WroteBefore-append : (a b c : Outputs) (p q : List OutputPart) (e : HostError) → Wrote a b p
+pub WroteBefore-append : (a b c : Outputs) (p q : List OutputPiece) (e : HostError) → Wrote a b p
     → WroteBefore b c q e → WroteBefore a c (p ++ q) e
 WroteBefore-append a b c p q e first second = record {
   before = p ++ second.before;
@@ -56,7 +56,8 @@ WroteBefore-append a b c p q e first second = record {
 }
 
 -- after a failure no later piece is written
-pub WroteBefore-more : (a b : Outputs) (p q : List OutputPart) (e : HostError) → WroteBefore a b p e
+pub WroteBefore-more : (a b : Outputs) (p q : List OutputPiece) (e : HostError)
+    → WroteBefore a b p e
     → WroteBefore a b (p ++ q) e
 WroteBefore-more a b p q e w = record {
   before = w.before;
@@ -84,7 +85,7 @@ pub wrote_frames : (r f g : Option (List ℕ)) (bytes : List ℕ) → Appends f 
 wrote_frames r f g bytes p =
     record { report = Appends-nil r; frames = subst (Appends f g) (sym (append-nil bytes)) p }
 
-pub report_failed : (r s f : Option (List ℕ)) (bytes : List ℕ) (rest : List OutputPart)
+pub report_failed : (r s f : Option (List ℕ)) (bytes : List ℕ) (rest : List OutputPiece)
     → AppendsBeginning r s bytes
     → WroteBefore (record { report = r; frames = f }) (record { report = s; frames = f })
     (ToReport bytes ∷ rest) failure.Report
@@ -100,7 +101,7 @@ report_failed r s f bytes rest p = record {
   frames = subst (Appends f f) (sym (take-nil p.0)) (Appends-nil f);
 }
 
-pub frames_failed : (r f g : Option (List ℕ)) (bytes : List ℕ) (rest : List OutputPart)
+pub frames_failed : (r f g : Option (List ℕ)) (bytes : List ℕ) (rest : List OutputPiece)
     → AppendsBeginning f g bytes
     → WroteBefore (record { report = r; frames = f }) (record { report = r; frames = g })
     (ToFrames bytes ∷ rest) failure.Frames

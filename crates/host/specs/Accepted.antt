@@ -1,10 +1,10 @@
--- What a run of an accepted program writes of the stream that it reads.
+-- What a run of an accepted program over a stream writes.
 use Rattle.std.specs.Prelude.{◌≡◌, ℕ, ◌≤◌, List, ◌++◌, length, Option, Result, Err, IfOk, ◌⊎◌}
 use Rattle.isa_model.specs.declared.streams.Finish.{Finish}
 use Rattle.isa_model.specs.declared.versions.Version.{Version}
 use Rattle.isa_model.specs.Code.Limits.{max_steps}
 use Rattle.isa_model.specs.Reporting.Streams.{PacketFrame, Stream, stream_with, AreOpen}
-use Rattle.isa_model.specs.Reporting.Reports.{OutputPart, IsReport, starting_contents}
+use Rattle.isa_model.specs.Reporting.Reports.{OutputPiece, IsReport, starting_contents}
 use Rattle.isa_model.specs.Running.Outcomes.{AllExit}
 use Rattle.bounds.specs.Bounds.{Bounded}
 use Rattle.frames.specs.Inputs.{AreReadFrom, IsBegunBy}
@@ -21,7 +21,7 @@ use Rattle.host.specs.Writing.{Outputs, WritesEach, WroteBefore}
 pub record RunsWhole (a : Bounded) (source : Option (List ℕ)) (old new : Outputs)
     (result : Result Tally HostError) : Type 0 where
   pub found : Stream
-  pub pieces : List OutputPart
+  pub pieces : List OutputPiece
   pub are_open : AreOpen found.version found.frames
   pub read : AreReadFrom source found
   pub is_report : IsReport a.program found pieces
@@ -39,7 +39,7 @@ pub record RunsFront (a : Bounded) (source : Option (List ℕ)) (old new : Outpu
   pub are_open : AreOpen version frames
   pub begun : IsBegunBy source version frames
   pub exits : AllExit a.program a.bound (starting_contents a.program.maps) frames
-  pub writes : (more : List PacketFrame) (finish : Finish) (pieces : List OutputPart)
+  pub writes : (more : List PacketFrame) (finish : Finish) (pieces : List OutputPiece)
       → IsReport a.program (stream_with version (frames ++ more, finish)) pieces
       → WroteBefore old new pieces error
 

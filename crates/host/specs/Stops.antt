@@ -41,7 +41,7 @@ is_noted (Trap reason steps) = true
 is_noted Limit = true
 
 abbrev pub with_first : List FrameStop → FrameStop → List FrameStop
-with_first first stop = if nat_lt (length first) MOST_STOPS then first ++ stop ∷ [] else first
+with_first first frame = if nat_lt (length first) MOST_STOPS then first ++ frame ∷ [] else first
 
 -- the run of the frame with this number stopped there; the count has room for every frame of a
 -- stream
@@ -82,7 +82,7 @@ checked_notes p limit noted number head body contents =
 abbrev pub no_notes : Noting
 no_notes noted number head body contents = noted
 
--- ---- whole runs
+-- ---- runs over streams
 
 -- what the last line shows, and what is noted of the stream's frames
 abbrev pub ShowsNoted : Noting → Rule → Noted → List KeyValues → Stream → Traced → Type 0
@@ -90,7 +90,7 @@ ShowsNoted notes rule noted contents found traced =
     (traced.tally ≡ tally_of (length found.frames) found.finish)
     × (noted_of traced.stops ≡ noted_after notes rule noted 0 contents found.frames)
 
--- the same of a run with checks
+-- the same of a run over a stream with checks
 abbrev pub ShowsTraced : Program → ℕ → Stream → Traced → Type 0
 ShowsTraced p limit found traced =
     ShowsNoted (checked_notes p limit) (checked_rule p limit) nothing_noted

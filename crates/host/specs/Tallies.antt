@@ -1,4 +1,4 @@
--- The tally of a run: how many packet frames it had, and the fault that ended its stream.
+-- The tally of a run over a stream: how many packet frames it had, and the fault that ended it.
 use Rattle.std.specs.Prelude.{◌≡◌, ℕ, length, Option, Some, None, Result, Ok, Err}
 use Rattle.isa_model.specs.declared.streams.Fault.{Fault}
 use Rattle.isa_model.specs.declared.streams.Finish.{Finish}
@@ -17,7 +17,7 @@ fault_of (finish.Fault fault offset) = Some (fault, offset)
 abbrev pub tally_of : ℕ → Finish → Tally
 tally_of count ending = record { frames = count; fault = fault_of ending }
 
--- the tally of a run with checks, if it came to its last line
+-- the tally of a run over a stream with checks, if it came to its last line
 abbrev pub tallied : Result Traced HostError → Result Tally HostError
 tallied (Ok traced) = Ok traced.tally
 tallied (Err error) = Err error

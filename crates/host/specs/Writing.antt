@@ -1,8 +1,8 @@
--- What two outputs hold after the pieces of a report were written to them in order, also where one
--- of them failed.
+-- What the two outputs hold after pieces of a report were written to them in order, also where
+-- writing a piece failed.
 use Rattle.std.specs.Prelude.{◌≡◌, ℕ, ◌<◌, List, ◌∷◌, ◌++◌, length, take, Option, Result, MatchResult}
 use Rattle.std.specs.Io.KnownBytes.{Appends}
-use Rattle.isa_model.specs.Reporting.Reports.{OutputPart, ToReport, ToFrames, report_part, frames_part, report_bytes, frames_out}
+use Rattle.isa_model.specs.Reporting.Reports.{OutputPiece, ToReport, ToFrames, report_part, frames_part, report_bytes, frames_out}
 use Rattle.host.specs.declared.errors.HostError.{HostError}
 use Rattle.host.specs.declared.errors.HostError.TheVariants as failure
 
@@ -12,26 +12,26 @@ pub record Outputs : Type 0 where
   pub frames : Option (List ℕ)
 
 -- the outputs grew by all of the pieces
-pub record Wrote (old new : Outputs) (pieces : List OutputPart) : Type 0 where
+pub record Wrote (old new : Outputs) (pieces : List OutputPiece) : Type 0 where
   pub report : Appends old.report new.report (report_bytes pieces)
   pub frames : Appends old.frames new.frames (frames_out pieces)
 
-abbrev pub piece_bytes : OutputPart → List ℕ
+abbrev pub piece_bytes : OutputPiece → List ℕ
 piece_bytes (ToReport bytes) = bytes
 piece_bytes (ToFrames bytes) = bytes
 
 -- the error for a piece that failed
-abbrev pub failure_of : OutputPart → HostError
+abbrev pub failure_of : OutputPiece → HostError
 failure_of (ToReport bytes) = failure.Report
 failure_of (ToFrames bytes) = failure.Frames
 
 -- the outputs grew by the pieces before one that failed, and by a beginning of that one that is
 -- shorter than it; nothing else was written
-pub record WroteBefore (old new : Outputs) (pieces : List OutputPart)
+pub record WroteBefore (old new : Outputs) (pieces : List OutputPiece)
     (error : HostError) : Type 0 where
-  pub before : List OutputPart
-  pub failed : OutputPart
-  pub rest : List OutputPart
+  pub before : List OutputPiece
+  pub failed : OutputPiece
+  pub rest : List OutputPiece
   pub count : ℕ
   pub split : pieces ≡ before ++ failed ∷ rest
   pub error_is : error ≡ failure_of failed
@@ -41,14 +41,14 @@ pub record WroteBefore (old new : Outputs) (pieces : List OutputPart)
   pub frames : Appends old.frames new.frames (frames_out before ++ take count (frames_part failed))
 
 -- all of the pieces were written, or those before one that failed
-abbrev pub WritesEach : {X : Type 0} → Outputs → Outputs → Result X HostError → List OutputPart
+abbrev pub WritesEach : {X : Type 0} → Outputs → Outputs → Result X HostError → List OutputPiece
     → Type 0
 WritesEach old new result pieces =
     MatchResult result (λ _. Wrote old new pieces) (λ error. WroteBefore old new pieces error)
 
 -- the same of pieces for the report only, whatever the frames out have
 abbrev pub WritesReport : {X : Type 0} → Option (List ℕ) → Option (List ℕ) → Result X HostError
-    → List OutputPart → Type 0
+    → List OutputPiece → Type 0
 WritesReport old new result pieces =
     (frames : Option (List ℕ))
     → WritesEach (record { report = old; frames = frames })

@@ -137,7 +137,7 @@ fn take_frame<M: Runner, W1: Write, W2: Write>(
 }
 
 // Writes the lines of maps, and then the last line.
-fn end_run<M: Runner + Drop, W1: Write>(
+fn end_report<M: Runner + Drop, W1: Write>(
     machine: M,
     number: u32,
     finish: Finish,
@@ -202,7 +202,7 @@ pub fn run_frames<M: Runner + Drop, R: Read + Drop, W1: Write, W2: Write>(
         stream,
     };
     let mut number = 0u32;
-    'turns: loop {
+    'frames: loop {
         match reader.next(&mut buffer) {
             Next::Frame(head, length, reason) => {
                 let frame = Arrival {
@@ -216,9 +216,9 @@ pub fn run_frames<M: Runner + Drop, R: Read + Drop, W1: Write, W2: Write>(
                     Err(error) => return Err(error),
                 }
             }
-            Next::End => return end_run(machine, number, Finish::End, report),
+            Next::End => return end_report(machine, number, Finish::End, report),
             Next::Fault(fault, offset) => {
-                return end_run(machine, number, Finish::Fault(fault, offset), report);
+                return end_report(machine, number, Finish::Fault(fault, offset), report);
             }
         }
     }

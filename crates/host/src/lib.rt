@@ -1,7 +1,7 @@
 //! Runs a program over a stream of packet frames, and writes the report and the frames out.
 //!
 //! `isa_model`'s `specs/Reporting/Reports.antt` defines what is written, as pieces in their order;
-//! `specs/Writing.antt` says what the outputs hold after a run, also after one that failed.
+//! `specs/Writing.antt` says what the outputs hold then, also where one of them failed.
 #![tactic(auto)]
 
 mod checked;

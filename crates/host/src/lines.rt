@@ -84,18 +84,18 @@ pub fn line_of_frame(form: ReportForm, number: u32, end: End, size: usize) -> Re
     let mut line = ReportLine::new();
     push_number(&mut line, u64::from(number));
     match end {
-        End::Exit(value, steps) => {
+        End::Exit(answer, steps) => {
             line.push_str(" ");
-            line.push_str(Action::of(value).name());
+            line.push_str(Action::of(answer).name());
             line.push_str(" ");
             push_number(&mut line, size as u64);
             line.push_str(" ");
             push_number(&mut line, u64::from(steps));
-            push_reason(&mut line, form.stream, reason_of(form.program, value));
+            push_reason(&mut line, form.stream, reason_of(form.program, answer));
         }
-        End::Trap(reason, steps) => {
+        End::Trap(trap_reason, steps) => {
             line.push_str(" TRAP ");
-            line.push_str(reason.name());
+            line.push_str(trap_reason.name());
             line.push_str(" ");
             push_number(&mut line, size as u64);
             line.push_str(" ");

@@ -14,7 +14,7 @@ use isa_model::MapDef;
 use maps::{KEY_ROOM, Maps, Ordered};
 use std::io::Write;
 
-// Writes the line of a key and its value; the key is the first `size` bytes.
+// Writes the line of a key and its value; the key is the first `size` bytes of `key`.
 fn write_key_value<W1: Write>(
     line: &mut KeyValueLine,
     index: usize,

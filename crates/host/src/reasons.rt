@@ -4,29 +4,29 @@ ghost use Rattle.isa_model.specs.Reporting.Reports.{is_sent, reason_of, end_reas
 
 use isa_model::{Action, End, Version};
 
-/// Whether a frame is written out: by its action, and in `XPF2` whatever that is.
+/// Whether a frame is written out: after an exit, in `XPF1` by its action and in `XPF2` always.
 pub fn is_written(stream: Version, end: End) -> bool
     ensures { result ≡ is_sent stream end }
 {
     match (stream, end) {
-        (Version::One, End::Exit(value, _)) => Action::of(value).is_forwarded(),
+        (Version::One, End::Exit(answer, _)) => Action::of(answer).is_forwarded(),
         (Version::Two, End::Exit(_, _)) => true,
         (_, End::Trap(_, _)) => false,
         (_, End::Limit) => false,
     }
 }
 
-/// The reason why a frame with this answer of a program of this version is not sent on; 0 if it is.
-pub fn reason_of(program: Version, value: u64) -> u32
-    ensures { result ≡ reason_of program value }
+/// The reason why a frame is dropped, by the program's version and answer; 0 if it is forwarded.
+pub fn reason_of(program: Version, answer: u64) -> u32
+    ensures { result ≡ reason_of program answer }
 {
-    if Action::of(value).is_forwarded() {
+    if Action::of(answer).is_forwarded() {
         return 0;
     }
     match program {
         Version::One => 1,
         Version::Two => {
-            let reason = (value >> 32) as u32;
+            let reason = (answer >> 32) as u32;
             if reason == 0 { 1 } else { reason }
         }
     }
@@ -37,7 +37,7 @@ pub fn end_reason(program: Version, end: End) -> u32
     ensures { result ≡ end_reason program end }
 {
     match end {
-        End::Exit(value, _) => reason_of(program, value),
+        End::Exit(answer, _) => reason_of(program, answer),
         End::Trap(_, _) => 0,
         End::Limit => 0,
     }

@@ -46,17 +46,17 @@ fn is_noted(end: End) -> bool
     ensures { result ≡ is_noted end }
 {
     match end {
-        End::Exit(value, _) => matches!(Action::of(value), Action::Invalid),
+        End::Exit(answer, _) => matches!(Action::of(answer), Action::Invalid),
         End::Trap(_, _) | End::Limit => true,
     }
 }
 
 // Keeps a frame after the others, while there is room.
-fn put_first(first: &mut ArrayVec<FrameStop, 20>, stop: FrameStop)
-    ensures { first.new.items ≡ with_first first.old.items stop }
+fn put_first(first: &mut ArrayVec<FrameStop, 20>, frame: FrameStop)
+    ensures { first.new.items ≡ with_first first.old.items frame }
 {
     if first.len() < MOST_STOPS {
-        first.push(stop);
+        first.push(frame);
     }
 }
 

@@ -1,4 +1,4 @@
-//! The result of a run with checks.
+//! The result of a run over a stream with checks.
 
 ghost use Rattle.std.specs.Prelude.{◌≡◌};
 ghost use Rattle.host.specs.Tallies.{tallied};
@@ -14,7 +14,7 @@ pub struct Traced {
     pub stops: Stops,
 }
 
-/// The tally of a run, if it came to its last line.
+/// The tally of a run over a stream, if it came to its last line.
 pub fn tally_in(ended: Result<Traced, HostError>) -> Result<Tally, HostError>
     ensures { result ≡ tallied ended }
 {

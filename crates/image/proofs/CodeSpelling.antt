@@ -8,7 +8,7 @@ use Rattle.isa_model.specs.Code.Instructions.{slots_filled}
 use Rattle.isa_model.specs.Code.Spelling.{spelling_of, InsnFits}
 use Rattle.insn_codec.specs.declared.errors.CodecError.{CodecError}
 use Rattle.insn_codec.specs.Decoding.{decoded}
-use Rattle.isa_model.specs.Code.LittleEndian.{EachByte}
+use Rattle.isa_model.specs.Code.EachByte.{EachByte}
 use Rattle.isa_model.proofs.LittleEndianLaws.{EachByte-drop}
 use Rattle.image.specs.declared.errors.ImageError.{ImageError}
 use Rattle.isa_model.specs.Code.MapRows.{NamesRows}

@@ -129,7 +129,7 @@ map_refusal-NamesRows rows slot (LoadMapValue d m offset) h =
     value_taken slot offset (slice_get rows m) h
 map_refusal-NamesRows rows slot i h = refl
 
--- where two tests in a row find no refusal, each of them finds none
+-- where two tests, one after the other, find no refusal, neither finds one
 pub neither : (a b : Option ImageError) → option_or a b ≡ None → (a ≡ None) × (b ≡ None)
 neither None b h = (refl, h)
 neither (Some e) b h = absurd cc

@@ -14,7 +14,7 @@ use Rattle.isa_model.specs.declared.instructions.Insn.{Insn}
 use Rattle.isa_model.specs.declared.versions.Version.{Version}
 use Rattle.isa_model.specs.declared.versions.Version.TheVariants.{One, Two}
 use Rattle.isa_model.specs.Code.Instructions.{Program}
-use Rattle.isa_model.specs.Code.LittleEndian.{EachByte}
+use Rattle.isa_model.specs.Code.EachByte.{EachByte}
 use Rattle.isa_model.proofs.LittleEndianLaws.{EachByte-drop, little_bytes-little_from}
 use Rattle.image.specs.declared.errors.ImageError.{ImageError}
 use Rattle.image.specs.declared.errors.ImageError.TheVariants.{Magic, Short, Long, TooManyMaps, SlotCount, MapRoom, Memory}
@@ -271,7 +271,7 @@ code_read-slice bytes count rows s e =
     (drop (8 + 12 * k) bytes)) e
     ∙ ap (λ (n : ℕ). code_from rows n false 0 (drop (8 + 12 * map_count bytes) bytes)) slots
 
--- once the rows were read, the code decides what the bytes are read as
+-- once the rows are read, only the code is left to be read
 pub program_read-code : (bytes : List ℕ) (rows : List MapDef) (r : Result CodeSlots ImageError)
     → rows_from (map_count bytes) 0 (drop 8 bytes) ≡ Ok rows → room_refusal rows ≡ None
     → code_read bytes rows ≡ r
@@ -326,7 +326,7 @@ unfolding refusal_of
 refusal_of-sizes bytes e h =
     ap (λ (o : Option ImageError). option_or o (result_err (program_read bytes))) h
 
--- where the sizes are right, the rows and the code decide what the refusal is
+-- where the sizes are right, the refusal is one of the rows or of the code
 pub refusal_of-program : (bytes : List ℕ) (r : Result Program ImageError)
     → size_refusal bytes ≡ None → program_read bytes ≡ r → refusal_of bytes ≡ result_err r
 unfolding refusal_of

@@ -57,7 +57,7 @@ room_of row = row.entries * (row.key_size + row.value_size)
 abbrev pub is_wide : Insn → Bool
 is_wide i = slots_filled i == 2
 
--- slots of code, the first of them a second half or not: there is a second half after each
+-- slots of code, of which the first is a second half or is not: a second half comes after each
 -- instruction of two slots and nowhere else, and the numbers in instructions are of their types
 abbrev pub IsCode : Bool → List (Option Insn) → Type 0
 IsCode half [] = half ≡ false

@@ -149,7 +149,7 @@ maps_refusal rows slot (None ∷ xs) = maps_refusal rows (slot + 1) xs
 maps_refusal rows slot (Some i ∷ xs) =
     option_or (map_refusal rows slot i) (maps_refusal rows (slot + 1) xs)
 
--- what is wrong with map rows and code that are given as values
+-- what is wrong with map rows and code that a caller gives
 abbrev pub parts_refusal : List MapDef → List (Option Insn) → Option ImageError
 parts_refusal rows code =
     if nat_lt MAX_MAPS (length rows) then Some TooManyMaps

@@ -30,7 +30,7 @@ pub fn map_refusal(maps: &[MapDef], slot: usize, insn: &Insn) -> Option<ImageErr
     }
 }
 
-/// The first such refusal, slot by slot.
+/// The first refusal of a map that an instruction names, slot by slot.
 pub fn maps_refusal(maps: &[MapDef], code: &[Option<Insn>]) -> Option<ImageError>
     ensures { result ≡ maps_refusal maps.now 0 code.now }
 {

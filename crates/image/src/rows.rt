@@ -57,7 +57,7 @@ pub fn rows_refusal(rows: &[MapDef]) -> Option<ImageError>
     None
 }
 
-/// Whether the maps together have more bytes than they may.
+/// The refusal of maps that together have more bytes than they may.
 pub fn room_refusal(rows: &[MapDef]) -> Option<ImageError>
     requires fit { All IsRow rows.now }
     requires few { length rows.now ≤ 65535 }

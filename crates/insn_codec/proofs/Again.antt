@@ -36,7 +36,7 @@ use Rattle.isa_model.specs.declared.instructions.Insn.TheVariants.{Alu, Neg, Mov
 use Rattle.isa_model.specs.declared.slots.Slot.{Slot}
 use Rattle.isa_model.specs.Code.Registers.{reg_numbered}
 use Rattle.isa_model.specs.Code.Sizes.{span_bits}
-use Rattle.isa_model.specs.Code.Spelling.{alu_code, alu_offset, alu_class, jump_class, jump_code, extension_class, extension_bits, order_opcode, size_code, signed_code, atomic_opcode, atomic_code, fetch_bit, first_slot, next_imm, second_bytes, InsnFits, OperandFits}
+use Rattle.isa_model.specs.Code.Spelling.{alu_code, alu_offset, alu_class, jump_class, jump_code, extension_class, extension_offset, order_opcode, size_code, signed_code, atomic_opcode, atomic_code, fetch_bit, first_slot, next_imm, second_bytes, InsnFits, OperandFits}
 use Rattle.isa_model.proofs.RegisterLaws.{reg_numbered-reg_number}
 use Rattle.insn_codec.specs.declared.errors.CodecError.{CodecError}
 use Rattle.insn_codec.specs.declared.errors.CodecError.TheVariants.{UnusedField, SecondSlot}
@@ -174,7 +174,7 @@ meaning-alu_register w op d r rest = refl
 form_extension : (x : Extension)
     → (w : Width) × (form_of (0xb8 + extension_class x) ≡ Some (form.MovRegister w))
     × ((d r : Reg) (rest : List ℕ)
-    → meaning (form.MovRegister w) (fields d r (extension_bits x) 0) rest ≡ Ok (MovSx x d r))
+    → meaning (form.MovRegister w) (fields d r (extension_offset x) 0) rest ≡ Ok (MovSx x d r))
 form_extension Low8 = (Low32, refl, λ d r rest. refl)
 form_extension Low16 = (Low32, refl, λ d r rest. refl)
 form_extension Full8 = (Full64, refl, λ d r rest. refl)

@@ -1,4 +1,4 @@
--- What a selector's value names, and that the fields which a form does not use are zero.
+-- What a selector names, and that the fields which a form does not use are zero.
 use Rattle.std.proofs.Common.{◌≡◌, ℕ, Bool, true, false, cond, Option, Some, None, Result, Ok, refl, sym, subst, inl, inr}
 use Rattle.std.specs.Prelude.{◌==◌, ◌||◌, ◌⊎◌}
 use Rattle.std.specs.Option.{option_map}
@@ -16,7 +16,7 @@ use Rattle.isa_model.specs.declared.sizes.Extension.TheVariants.{Low8, Low16, Fu
 use Rattle.isa_model.specs.declared.instructions.Insn.{Insn}
 use Rattle.isa_model.specs.Code.Registers.{reg_number}
 use Rattle.isa_model.specs.Code.Sizes.{span_bits}
-use Rattle.isa_model.specs.Code.Spelling.{alu_code, alu_offset, alu_class, extension_class, extension_bits}
+use Rattle.isa_model.specs.Code.Spelling.{alu_code, alu_offset, alu_class, extension_class, extension_offset}
 use Rattle.insn_codec.specs.declared.errors.CodecError.{CodecError}
 use Rattle.insn_codec.specs.declared.forms.AluCode.{AluCode}
 use Rattle.insn_codec.specs.declared.forms.AluCode.TheVariants as codes
@@ -105,7 +105,7 @@ op_is codes.Mov o op e z = subst (OpIs codes.Mov o) (some_is _ _ e) (refl, sym (
 op_is codes.Arsh o op e z = subst (OpIs codes.Arsh o) (some_is _ _ e) (refl, sym (eqb-true o 0 z))
 
 abbrev ExtensionIs : Width → ℕ → Extension → Type 0
-ExtensionIs w o x = (extension_class x ≡ alu_class w) × (extension_bits x ≡ o)
+ExtensionIs w o x = (extension_class x ≡ alu_class w) × (extension_offset x ≡ o)
 
 pub extension_is : (w : Width) (o : ℕ) (x : Extension) → extension_selected w o ≡ Some x
     → ExtensionIs w o x

@@ -21,7 +21,7 @@ use Rattle.isa_model.specs.declared.instructions.Insn.TheVariants.{LoadNumber, L
 use Rattle.isa_model.specs.declared.slots.Slot.{Slot}
 use Rattle.isa_model.specs.Code.Registers.{reg_number, reg_numbered}
 use Rattle.isa_model.specs.Code.Spelling.{InsnFits, alu_class, atomic_opcode, first_slot, next_imm, second_bytes, slot}
-use Rattle.isa_model.specs.Code.LittleEndian.{EachByte}
+use Rattle.isa_model.specs.Code.EachByte.{EachByte}
 use Rattle.isa_model.proofs.LittleEndianLaws.{EachByte-drop, little_bytes-little_from}
 use Rattle.insn_codec.specs.declared.errors.CodecError.{CodecError}
 use Rattle.insn_codec.specs.declared.forms.AluCode.{AluCode}
@@ -50,7 +50,7 @@ record Within (o k : ℕ) (rest : List ℕ) : Type 0 where
   imm : cast_unsigned w32 (cast_signed w32 k) ≡ k
   small : k < 2 ^ 32
   bytes : EachByte rest
-  distance : FitsSigned w16 (cast_signed w16 o)
+  signed_offset : FitsSigned w16 (cast_signed w16 o)
   constant : FitsSigned w32 (cast_signed w32 k)
 
 within : (o k : ℕ) (rest : List ℕ) → o < 2 ^ 16 → k < 2 ^ 32 → EachByte rest → Within o k rest
@@ -59,7 +59,7 @@ within o k rest ho hk hb = record {
   imm = of_z-to_z w32 k hk;
   small = hk;
   bytes = hb;
-  distance = sfits_to_z (record { fits = ho });
+  signed_offset = sfits_to_z (record { fits = ho });
   constant = sfits_to_z (record { fits = hk });
 }
 
@@ -152,7 +152,7 @@ atomic_at : (w : Width) (d r : Reg) (o k : ℕ) (rest : List ℕ) (i : Insn) →
     → atomic w (fields d r o k) ≡ Ok i → By (atomic_opcode w) d r o k rest i
 atomic_at w d r o k rest i h e =
     let at = place_in (fields d r o k) d in
-    let fit = h.distance in
+    let fit = h.signed_offset in
     case 0xe1 (Exchange w at r) _ (same 0xe1) refl fit e (λ e.
     case 0xf1 (CompareExchange w at r) _ (same 0xf1) refl fit e (λ e.
     case 0x00 (Atomic w atomics.Add false at r) _ (same 0x00) refl fit e (λ e.
@@ -171,7 +171,7 @@ atomic_at w d r o k rest i h e =
         ≡ slot (atomic_opcode w) (reg_number d) (reg_number r) o n
     same n = rw h.offset refl
 
-    -- one value of imm, or a later one
+    -- one number in imm, or a later one
     case : (n : ℕ) (x : Insn) (later : Result Insn CodecError)
         → first_slot x ≡ slot (atomic_opcode w) (reg_number d) (reg_number r) o n
         → next_imm x ≡ None → InsnFits x → cond (k == n) (done x) later ≡ Ok i
@@ -280,24 +280,24 @@ meaning-spelled (form.Negate w) d r o k rest i h z e =
 meaning-spelled (form.Load size) d r o k rest i h z e =
     one _ d r o k rest _ i
     (slot_is _ _ _ _ _ _ _ _ _ _ refl refl refl h.offset (sym (eqb-true k 0 z.imm)))
-    tt h.distance (ok_is _ _ e)
+    tt h.signed_offset (ok_is _ _ e)
 meaning-spelled (form.LoadSx size) d r o k rest i h z e =
     one _ d r o k rest _ i
     (slot_is _ _ _ _ _ _ _ _ _ _ refl refl refl h.offset (sym (eqb-true k 0 z.imm)))
-    tt h.distance (ok_is _ _ e)
+    tt h.signed_offset (ok_is _ _ e)
 meaning-spelled (form.StoreConstant size) d r o k rest i h z e =
     one _ d r o k rest _ i
     (slot_is _ _ _ _ _ _ _ _ _ _ refl refl (sym (r0_is r z.src)) h.offset h.imm)
-    tt (h.distance, h.constant) (ok_is _ _ e)
+    tt (h.signed_offset, h.constant) (ok_is _ _ e)
 meaning-spelled (form.Store size) d r o k rest i h z e =
     one _ d r o k rest _ i
     (slot_is _ _ _ _ _ _ _ _ _ _ refl refl refl h.offset (sym (eqb-true k 0 z.imm)))
-    tt h.distance (ok_is _ _ e)
+    tt h.signed_offset (ok_is _ _ e)
 meaning-spelled form.Jump d r o k rest i h z e =
     one _ d r o k rest _ i
     (slot_is _ _ _ _ _ _ _ _ _ _ refl (sym (r0_is d z.dst)) (sym (r0_is r z.src)) h.offset
     (sym (eqb-true k 0 z.imm)))
-    tt h.distance (ok_is _ _ e)
+    tt h.signed_offset (ok_is _ _ e)
 meaning-spelled form.JumpLong d r o k rest i h z e =
     one _ d r o k rest _ i
     (slot_is _ _ _ _ _ _ _ _ _ _ refl (sym (r0_is d z.dst)) (sym (r0_is r z.src))
@@ -306,11 +306,11 @@ meaning-spelled form.JumpLong d r o k rest i h z e =
 meaning-spelled (form.JumpIfConstant w c) d r o k rest i h z e =
     one _ d r o k rest _ i
     (slot_is _ _ _ _ _ _ _ _ _ _ refl refl (sym (r0_is r z.src)) h.offset h.imm)
-    tt (h.constant, h.distance) (ok_is _ _ e)
+    tt (h.constant, h.signed_offset) (ok_is _ _ e)
 meaning-spelled (form.JumpIfRegister w c) d r o k rest i h z e =
     one _ d r o k rest _ i
     (slot_is _ _ _ _ _ _ _ _ _ _ refl refl refl h.offset (sym (eqb-true k 0 z.imm)))
-    tt (tt, h.distance) (ok_is _ _ e)
+    tt (tt, h.signed_offset) (ok_is _ _ e)
 meaning-spelled form.Exit d r o k rest i h z e =
     one _ d r o k rest _ i
     (slot_is _ _ _ _ _ _ _ _ _ _ refl (sym (r0_is d z.dst)) (sym (r0_is r z.src))

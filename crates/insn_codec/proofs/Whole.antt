@@ -1,4 +1,4 @@
--- The two laws of decoding.
+-- What is decoded is spelled by the front of the bytes; a spelling is decoded to its instruction.
 use Rattle.std.proofs.Common.{◌≡◌, ℕ, ◌+◌, ◌*◌, ◌/◌, ◌%◌, ◌^◌, ◌<◌, ◌≤◌, Bool, true, false, cond, ℤ, pos, negsuc, List, [], ◌∷◌, ◌++◌, length, take, drop, Result, Ok, Err, refl, sym, ap, ◌∙◌, arith, inl, inr, take-add, append-nil, drop-drop, take_all}
 use Rattle.std.specs.Prelude.{nat_lt, slice_index, IfOk}
 use Rattle.std.specs.Int.{w16, w32, cast_unsigned}
@@ -25,8 +25,8 @@ use Rattle.isa_model.specs.declared.slots.Slot.{Slot}
 use Rattle.isa_model.specs.Code.Registers.{reg_number}
 use Rattle.isa_model.specs.Code.Sizes.{span_bits}
 use Rattle.isa_model.specs.Code.Instructions.{slots_filled}
-use Rattle.isa_model.specs.Code.Spelling.{first_slot, next_imm, second_bytes, slot_bytes, spelling_of, alu_offset, extension_bits, atomic_code, fetch_bit, InsnFits, OperandFits, operand_imm}
-use Rattle.isa_model.specs.Code.LittleEndian.{EachByte}
+use Rattle.isa_model.specs.Code.Spelling.{first_slot, next_imm, second_bytes, slot_bytes, spelling_of, alu_offset, extension_offset, atomic_code, fetch_bit, InsnFits, OperandFits, operand_imm}
+use Rattle.isa_model.specs.Code.EachByte.{EachByte}
 use Rattle.isa_model.proofs.LittleEndianLaws.{EachByte-drop, EachByte-take, little_bytes-little_from}
 use Rattle.insn_codec.specs.declared.errors.CodecError.{CodecError}
 use Rattle.insn_codec.specs.declared.errors.CodecError.TheVariants.{Short}
@@ -136,7 +136,7 @@ alu_offset-lt : (op : AluOp) → alu_offset op < 2 ^ 16
 alu_offset-lt SignedDiv = omega arith
 alu_offset-lt op = omega arith
 
-extension-lt : (x : Extension) → extension_bits x < 2 ^ 16
+extension-lt : (x : Extension) → extension_offset x < 2 ^ 16
 extension-lt Low8 = omega arith
 extension-lt x = omega arith
 

@@ -71,11 +71,11 @@ selected i = ok_or i UnknownSelector
 abbrev pub constant_in : Fields → ℤ
 constant_in t = cast_signed w32 t.imm
 
-abbrev pub distance_in : Fields → ℤ
-distance_in t = cast_signed w16 t.offset
+abbrev pub offset_in : Fields → ℤ
+offset_in t = cast_signed w16 t.offset
 
 abbrev pub place_in : Fields → Reg → Place
-place_in t r = record { base = r; offset = distance_in t }
+place_in t r = record { base = r; offset = offset_in t }
 
 -- ---- forms with a selector
 
@@ -139,7 +139,7 @@ called t = called_by t.src t
 
 abbrev pub jump_if : Width → Comparison → Fields → Operand → Insn
 jump_if w c t x =
-    JumpIf (record { width = w; comparison = c; register = t.dst; operand = x }) (distance_in t)
+    JumpIf (record { width = w; comparison = c; register = t.dst; operand = x }) (offset_in t)
 
 -- ---- all forms, with the bytes after the first slot
 
@@ -156,7 +156,7 @@ meaning (form.StoreConstant size) t rest =
     Ok (StoreConstant size (place_in t t.dst) (constant_in t))
 meaning (form.Store size) t rest = Ok (Store size (place_in t t.dst) t.src)
 meaning (form.Atomic w) t rest = atomic w t
-meaning form.Jump t rest = Ok (Jump (distance_in t))
+meaning form.Jump t rest = Ok (Jump (offset_in t))
 meaning form.JumpLong t rest = Ok (JumpLong (constant_in t))
 meaning (form.JumpIfConstant w c) t rest = Ok (jump_if w c t (Constant (constant_in t)))
 meaning (form.JumpIfRegister w c) t rest = Ok (jump_if w c t (Register t.src))

@@ -172,7 +172,7 @@ impl Fields {
             register: self.dst,
             operand,
         };
-        Insn::JumpIf(cond, self.distance())
+        Insn::JumpIf(cond, self.signed_offset())
     }
 }
 
@@ -198,7 +198,7 @@ impl Form {
             }
             Form::Store(size) => Insn::Store(size, fields.place(dst), src),
             Form::Atomic(width) => return fields.atomic(width),
-            Form::Jump => Insn::Jump(fields.distance()),
+            Form::Jump => Insn::Jump(fields.signed_offset()),
             Form::JumpLong => Insn::JumpLong(fields.constant()),
             Form::JumpIfConstant(width, comparison) => fields.jump_if(width, comparison, constant),
             Form::JumpIfRegister(width, comparison) => fields.jump_if(width, comparison, register),

@@ -4,7 +4,7 @@ ghost use Rattle.std.specs.Prelude.{◌≡◌, ◌+◌, ◌<◌};
 ghost use Rattle.std.specs.Int.{w32, cast_unsigned};
 ghost use Rattle.isa_model.specs.Code.Registers.{reg_number};
 ghost use Rattle.isa_model.specs.Code.Sizes.{span_bits};
-ghost use Rattle.isa_model.specs.Code.Spelling.{first_slot, next_imm, slot, offset16, alu_code, alu_offset, alu_class, jump_code, jump_class, operand_bit, operand_src, operand_imm, extension_class, extension_bits, order_opcode, size_code, signed_code, atomic_opcode, atomic_code, fetch_bit};
+ghost use Rattle.isa_model.specs.Code.Spelling.{first_slot, next_imm, slot, offset16, alu_code, alu_offset, alu_class, jump_code, jump_class, operand_bit, operand_src, operand_imm, extension_class, extension_offset, order_opcode, size_code, signed_code, atomic_opcode, atomic_code, fetch_bit};
 
 use isa_model::{
     AluOp, AtomicOp, ByteOrder, Comparison, Cond, Extension, Insn, Operand, Place, Reg, SignedSize,
@@ -102,8 +102,8 @@ fn extension_class(extension: Extension) -> u8
     }
 }
 
-fn extension_bits(extension: Extension) -> u16
-    ensures { result ≡ extension_bits extension }
+fn extension_offset(extension: Extension) -> u16
+    ensures { result ≡ extension_offset extension }
 {
     match extension {
         Extension::Low8 | Extension::Full8 => 8,
@@ -268,7 +268,7 @@ pub fn first_slot(insn: &Insn) -> Slot
         Insn::Neg(width, dst) => constant_slot(0x80 + alu_class(width), dst, 0),
         Insn::MovSx(extension, dst, src) => {
             let opcode = 0xb8 + extension_class(extension);
-            register_slot(opcode, dst, src, extension_bits(extension))
+            register_slot(opcode, dst, src, extension_offset(extension))
         }
         Insn::ByteSwap(order, span, dst) => constant_slot(
             order_opcode(order),

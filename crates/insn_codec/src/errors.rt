@@ -17,7 +17,7 @@ pub enum CodecError {
     UnknownRegister,
     /// A field that the form does not use is not zero.
     UnusedField,
-    /// A selector has a value of no form.
+    /// A selector that selects no form.
     UnknownSelector,
     /// The second slot of a wide load is missing, its reserved bits are not zero, or its `next_imm`
     /// is not zero where the load is one of a map.

@@ -2,7 +2,7 @@
 
 ghost use Rattle.std.specs.Prelude.{◌≡◌};
 ghost use Rattle.insn_codec.specs.Forms.{zero_unused};
-ghost use Rattle.insn_codec.specs.Decoding.{place_in, constant_in, distance_in};
+ghost use Rattle.insn_codec.specs.Decoding.{place_in, constant_in, offset_in};
 
 use crate::forms::Uses;
 use isa_model::{Operand, Place, Reg};
@@ -45,8 +45,8 @@ impl Fields {
     }
 
     /// `offset` as a signed number.
-    pub fn distance(self) -> i16
-        ensures { result ≡ distance_in self }
+    pub fn signed_offset(self) -> i16
+        ensures { result ≡ offset_in self }
     {
         self.offset.cast_signed()
     }
@@ -57,7 +57,7 @@ impl Fields {
     {
         Place {
             base,
-            offset: self.distance(),
+            offset: self.signed_offset(),
         }
     }
 }

@@ -11,7 +11,7 @@ mod slots;
 ghost use Rattle.std.specs.Prelude.{◌≡◌, ◌*◌, ◌++◌, ◌<◌, take, drop, ℕ, List, Ok, IfOk};
 ghost use Rattle.isa_model.specs.declared.instructions.Insn.{Insn};
 ghost use Rattle.isa_model.specs.Code.Instructions.{slots_filled};
-ghost use Rattle.isa_model.specs.Code.LittleEndian.{EachByte};
+ghost use Rattle.isa_model.specs.Code.EachByte.{EachByte};
 ghost use Rattle.isa_model.specs.Code.Spelling.{spelling_of, InsnFits};
 ghost use Rattle.insn_codec.specs.Decoding.{decoded, sized};
 
@@ -61,7 +61,7 @@ pub fn encode(insn: &Insn, out: &mut [u8; 16]) -> usize
     }
 }
 
-/// The laws of decoding, for proofs about many instructions in a row.
+/// The laws of decoding, for proofs about lists of instructions.
 pub fn decoding_laws()
     ensures found { (bytes : List ℕ) (i : Insn) → EachByte bytes → decoded bytes ≡ Ok i
         → take (8 * slots_filled i) bytes ≡ spelling_of i }

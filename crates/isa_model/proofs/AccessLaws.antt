@@ -26,33 +26,33 @@ use Rattle.isa_model.specs.Code.Sizes.{size_bytes, width_size, unsigned_size, si
 use Rattle.isa_model.specs.Code.Numbers.{sign_extended, bytes_of}
 use Rattle.isa_model.proofs.ExtensionLaws.{sign_extended_fits}
 use Rattle.isa_model.specs.Code.Instructions.{Program, fetch}
-use Rattle.isa_model.specs.Machine.States.{Stored, Content, KeyValues, key_values_of, State, content_of, new_frame, frame_at}
-use Rattle.isa_model.specs.Machine.Memory.{and_then, frame_index, index_of_serial, key_value_at, number_in, value_in, pieces, index_at, region_cells, place_of, cells_at, read, put, write, context_field, number_at, memory_load, load_from, load, load_number, load_signed, store_number, store_pointer, store}
+use Rattle.isa_model.specs.Machine.States.{Stored, Content, KeyValues, key_values_of, State, content_of, new_call_frame, call_frame_at}
+use Rattle.isa_model.specs.Machine.Memory.{and_then, call_frame_index, index_of_serial, key_value_at, number_in, value_in, pieces, index_at, region_cells, place_of, cells_at, read, put, write, context_field, number_at, memory_load, load_from, load, load_number, load_signed, store_number, store_pointer, store}
 use Rattle.isa_model.specs.Machine.Steps.{base_of, swaps_in, fetched_into}
 use Rattle.isa_model.specs.Machine.MachineStates.{AreBytes, IsKeyValue, FitRows, IsOffset, IsRegion, IsValue, IsCell, IsCallFrame, IsState}
 use Rattle.isa_model.proofs.ValueLaws.{IfOk-and_then, IfOk-if, Byte_cells_fit, number_in_fits, value_in_fits, pieces_fit, bytes_of_fit}
-use Rattle.isa_model.proofs.StateLaws.{IsState-set_reg, HasCells, place_in_room, frame_room, IsState-put}
+use Rattle.isa_model.proofs.StateLaws.{IsState-set_reg, HasCells, place_in_room, call_frame_room, IsState-put}
 
 -- ---- loads
 
 abbrev pub CellsFit : ℕ → ℕ → Option (List Cell) → Type 0
-CellsFit rows next (Some cells) = All (IsCell rows next) cells
-CellsFit rows next None = Unit {0}
+CellsFit count next (Some cells) = All (IsCell count next) cells
+CellsFit count next None = Unit {0}
 
--- where a value has the serial, the index is that of a key that is there
-value_room : (content : Content) (n : ℕ) (j : ℕ) → index_of_serial content n ≡ Some j
+-- where a map value has the serial, the index is that of a key that is there
+map_value_there : (content : Content) (n : ℕ) (j : ℕ) → index_of_serial content n ≡ Some j
     → j < length content
-value_room content n j e =
+map_value_there content n j e =
     (position-Some (λ e. e.1.serial == n) content j ([], record { serial = 0; bytes = [] }) e).0
 
-frame_cells_fit : (p : Program) (next : ℕ) (fs : List CallFrame) (o : Option ℕ)
+call_frame_cells_fit : (p : Program) (next : ℕ) (fs : List CallFrame) (o : Option ℕ)
     → ((j : ℕ) → o ≡ Some j → j < length fs) → All (IsCallFrame p next) fs
-    → CellsFit (length p.maps) next (option_map (λ j. (frame_at fs j).cells) o)
-frame_cells_fit p next fs None within h = tt
-frame_cells_fit p next fs (Some j) within h =
-    (All-get_or (IsCallFrame p next) fs j (new_frame 0 0 []) (within j refl) h).cells
+    → CellsFit (length p.maps) next (option_map (λ j. (call_frame_at fs j).cells) o)
+call_frame_cells_fit p next fs None within h = tt
+call_frame_cells_fit p next fs (Some j) within h =
+    (All-get_or (IsCallFrame p next) fs j (new_call_frame 0 0 []) (within j refl) h).cells
 
--- the values of a map that fits its row are bytes
+-- the map values of a map that fits its row are bytes
 contents_are_bytes : (rows : List MapDef) (contents : List KeyValues) (m : ℕ)
     → FitRows rows contents
     → All (λ e. AreBytes e.1) (slice_index_or contents m [])
@@ -63,11 +63,11 @@ contents_are_bytes (row ∷ rows) (c ∷ contents) zero h =
     All-weaker (IsKeyValue row) (λ e. AreBytes e.1) (λ e k. k.value) c h.0.key_values
 contents_are_bytes (row ∷ rows) (c ∷ contents) (suc m) h = contents_are_bytes rows contents m h.1
 
-value_cells_fit : (rows next : ℕ) (content : Content) (o : Option ℕ)
+map_value_cells_fit : (count next : ℕ) (content : Content) (o : Option ℕ)
     → ((j : ℕ) → o ≡ Some j → j < length content) → All (λ e. AreBytes e.1) (key_values_of content)
-    → CellsFit rows next (option_map (λ j. map Byte (key_value_at content j).1.bytes) o)
-value_cells_fit rows next content None within h = tt
-value_cells_fit rows next content (Some j) within h =
+    → CellsFit count next (option_map (λ j. map Byte (key_value_at content j).1.bytes) o)
+map_value_cells_fit count next content None within h = tt
+map_value_cells_fit count next content (Some j) within h =
     let none : List ℕ × Stored = ([], record { serial = 0; bytes = [] }) in
     let long = length-map {B = List ℕ × List ℕ} content (λ e. (e.0, e.1.bytes)) in
     let here = within j refl in
@@ -75,7 +75,7 @@ value_cells_fit rows next content (Some j) within h =
     ≡ ((key_value_at content j).0, (key_value_at content j).1.bytes) =
     get_or-map_default (λ e. (e.0, e.1.bytes)) content j none in
     let P : List ℕ × List ℕ → Type 0 = λ e. AreBytes e.1 in
-    Byte_cells_fit rows next (key_value_at content j).1.bytes
+    Byte_cells_fit count next (key_value_at content j).1.bytes
     (subst P found (All-get_or P (key_values_of content) j ([], []) (omega arith) h))
 
 -- the cells of every live region fit
@@ -84,25 +84,25 @@ region_cells_fit : (p : Program) (s : State) (r : Region) → IsState p s
 region_cells_fit p s region.Packet k =
     Byte_cells_fit (length p.maps) s.next_serial s.packet k.packet
 region_cells_fit p s (region.CallFrame n) k =
-    frame_cells_fit p s.next_serial s.frames (frame_index s.frames n)
-    (frame_room s.frames n) k.frames
+    call_frame_cells_fit p s.next_serial s.frames (call_frame_index s.frames n)
+    (call_frame_room s.frames n) k.frames
 region_cells_fit p s (region.MapValue m n) k =
     let content = content_of s m in
     let found : slice_index_or (map key_values_of s.maps) m [] ≡ key_values_of content =
     get_or-map_default key_values_of s.maps m [] in
     let P : KeyValues → Type 0 = All (λ e. AreBytes e.1) in
-    value_cells_fit (length p.maps) s.next_serial content (index_of_serial content n)
-    (value_room content n)
+    map_value_cells_fit (length p.maps) s.next_serial content (index_of_serial content n)
+    (map_value_there content n)
     (subst P found (contents_are_bytes p.maps (map key_values_of s.maps) m k.maps))
 region_cells_fit p s region.Context k = tt
 region_cells_fit p s region.PacketEnd k = tt
 region_cells_fit p s (region.Map m) k = tt
 
-cells_at_fit : (rows next : ℕ) (cells : Option (List Cell)) (i n : ℕ) → CellsFit rows next cells
-    → All (IsCell rows next) (cells_at cells i n)
-cells_at_fit rows next (Some cells) i n h =
-    All-take (IsCell rows next) n (drop i cells) (All-drop (IsCell rows next) i cells h)
-cells_at_fit rows next None i n h = All-nil (IsCell rows next)
+cells_at_fit : (count next : ℕ) (cells : Option (List Cell)) (i n : ℕ) → CellsFit count next cells
+    → All (IsCell count next) (cells_at cells i n)
+cells_at_fit count next (Some cells) i n h =
+    All-take (IsCell count next) n (drop i cells) (All-drop (IsCell count next) i cells h)
+cells_at_fit count next None i n h = All-nil (IsCell count next)
 
 pub read_fits : (p : Program) (s : State) (r : Region) (o : Option ℕ) (n : ℕ) → IsState p s
     → IfOk (read s r o n) (All (IsCell (length p.maps) s.next_serial))

@@ -1,4 +1,4 @@
--- Laws of cells that are all written bytes, as those of packets and map values are.
+-- Laws of cells that are all number bytes, as those of packets and map values are.
 use Rattle.std.proofs.Common.{◌≡◌, ℕ, true, false, List, [], ◌∷◌, map, take, drop, refl, ap, ◌∙◌, Ok}
 use Rattle.std.specs.List.{list_any, list_all, take-map, drop-map}
 use Rattle.isa_model.specs.declared.values.Value.TheVariants.{Num}
@@ -11,7 +11,7 @@ pub list_any-is_unwritten-Byte : (bytes : List ℕ) → list_any is_unwritten (m
 list_any-is_unwritten-Byte [] = refl
 list_any-is_unwritten-Byte (b ∷ bytes) = list_any-is_unwritten-Byte bytes
 
--- each of them is a byte
+-- each of them is a number byte
 pub list_all-is_byte-Byte : (bytes : List ℕ) → list_all is_byte (map Byte bytes) ≡ true
 list_all-is_byte-Byte [] = refl
 list_all-is_byte-Byte (b ∷ bytes) = list_all-is_byte-Byte bytes

@@ -12,8 +12,8 @@ use Rattle.isa_model.specs.declared.values.Value.{Value}
 use Rattle.isa_model.specs.declared.values.Cell.TheVariants.{Unwritten}
 use Rattle.isa_model.specs.declared.values.CallFrame.{CallFrame}
 use Rattle.isa_model.specs.Code.Instructions.{Program}
-use Rattle.isa_model.specs.Machine.States.{State, value_at, reg, frame_pointer, new_frame, frame_at}
-use Rattle.isa_model.specs.Code.Limits.{max_call_frames, frame_size}
+use Rattle.isa_model.specs.Machine.States.{State, value_at, reg, frame_pointer, new_call_frame, call_frame_at}
+use Rattle.isa_model.specs.Code.Limits.{max_call_frames, stack_size}
 use Rattle.isa_model.specs.Machine.Calls.{saved_registers, regs_within, regs_after, enter, callers, innermost, leave}
 use Rattle.isa_model.specs.Machine.MachineStates.{IsValue, IsCell, IsCallFrame, IsSlot, value_serials, live_serials, IsState}
 use Rattle.isa_model.proofs.ValueLaws.{IsValue-more, IsCell-more}
@@ -34,38 +34,39 @@ IsCallFrame-more p next more f le h = record {
       (λ v k. IsValue-more (length p.maps) next more v le k) f.saved h.saved;
 }
 
-new_frame_fits : (p : Program) (next serial slot : ℕ) (saved : List Value) → slot ≤ length p.insns
+new_call_frame_fits : (p : Program) (next serial slot : ℕ) (saved : List Value)
+    → slot ≤ length p.insns
     → length saved ≡ 4 → All (IsValue (length p.maps) next) saved
-    → IsCallFrame p next (new_frame serial slot saved)
-unfolding new_frame
-new_frame_fits p next serial slot saved returns four fit = record {
+    → IsCallFrame p next (new_call_frame serial slot saved)
+unfolding new_call_frame
+new_call_frame_fits p next serial slot saved returns four fit = record {
   whole = refl;
-  cells = All-replicate (IsCell (length p.maps) next) frame_size Unwritten tt;
+  cells = All-replicate (IsCell (length p.maps) next) stack_size Unwritten tt;
   returns = returns;
   four = four;
   saved = fit;
 }
 
 -- of all live serials, those of the call frames come last
-frame_serials_given : (p : Program) (s : State) → IsState p s
+call_frame_serials_given : (p : Program) (s : State) → IsState p s
     → All (λ n. n < s.next_serial) (map serial_of s.frames)
-frame_serials_given p s k =
+call_frame_serials_given p s k =
     let values = flat_map value_serials s.maps in
     let all = k.given in
     subst (All (λ n. n < s.next_serial)) (drop-append_seam values (map serial_of s.frames))
     (All-drop (λ n. n < s.next_serial) (length values) (live_serials s) all)
 
 -- a live call frame's serial was given
-pub frame_serial_given : (p : Program) (s : State) (j : ℕ) → IsState p s → j < length s.frames
-    → (frame_at s.frames j).serial < s.next_serial
-frame_serial_given p s j k here =
-    let d : CallFrame = new_frame 0 0 [] in
+pub call_frame_serial_given : (p : Program) (s : State) (j : ℕ) → IsState p s → j < length s.frames
+    → (call_frame_at s.frames j).serial < s.next_serial
+call_frame_serial_given p s j k here =
+    let d : CallFrame = new_call_frame 0 0 [] in
     let long = length-map s.frames serial_of in
     let found : slice_index_or (map serial_of s.frames) j (serial_of d)
-    ≡ (frame_at s.frames j).serial = get_or-map_default serial_of s.frames j d in
+    ≡ (call_frame_at s.frames j).serial = get_or-map_default serial_of s.frames j d in
     subst (λ n. n < s.next_serial) found
     (All-get_or (λ n. n < s.next_serial) (map serial_of s.frames) j (serial_of d) (omega arith)
-    (frame_serials_given p s k))
+    (call_frame_serials_given p s k))
 
 -- the serial of a new call frame is not that of a live one
 serials_push : (xs : List ℕ) (next : ℕ) → All (λ n. n < next) xs → AllPairs (λ m n. m ≢ n) xs
@@ -77,25 +78,25 @@ serials_push xs next given once = (
       (λ k d here same. let below = given k d here in absurd (omega arith)),
 )
 
-new_frame-serial : (serial slot : ℕ) (saved : List Value)
-    → (new_frame serial slot saved).serial ≡ serial
-unfolding new_frame
-new_frame-serial serial slot saved = refl
+new_call_frame-serial : (serial slot : ℕ) (saved : List Value)
+    → (new_call_frame serial slot saved).serial ≡ serial
+unfolding new_call_frame
+new_call_frame-serial serial slot saved = refl
 
 pub IsState-enter : (p : Program) (s : State) (target : ℕ) → IsSlot p target
     → s.slot + 1 ≤ length p.insns → length s.frames ≢ max_call_frames
     → IsState p s → IsState p (enter s target)
 IsState-enter p s target go back room k =
-    let rows : ℕ = length p.maps in
+    let count : ℕ = length p.maps in
     let next : ℕ = s.next_serial in
     let more : ℕ = s.next_serial + 1 in
-    let V : Value → Type 0 = IsValue rows more in
-    let old : (n : ℕ) → IsValue rows more (value_at s.regs n) =
-    (λ n. IsValue-more rows next more (value_at s.regs n) (omega arith)
-    (value_at_fits rows next s.regs n k.values)) in
+    let V : Value → Type 0 = IsValue count more in
+    let old : (n : ℕ) → IsValue count more (value_at s.regs n) =
+    (λ n. IsValue-more count next more (value_at s.regs n) (omega arith)
+    (value_at_fits count next s.regs n k.values)) in
     let kept_fit : All V (saved_registers s.regs) =
     All-from_recursion V (saved_registers s.regs) (old 6, (old 7, (old 8, (old 9, tt)))) in
-    let f : CallFrame = new_frame next (s.slot + 1) (saved_registers s.regs) in
+    let f : CallFrame = new_call_frame next (s.slot + 1) (saved_registers s.regs) in
     let frames : All (IsCallFrame p more) s.frames =
     All-weaker (IsCallFrame p next) (IsCallFrame p more)
     (λ f h. IsCallFrame-more p next more f (omega arith) h) s.frames k.frames in
@@ -105,7 +106,7 @@ IsState-enter p s target go back room k =
     ap (λ l. values ++ l)
     (map-append serial_of s.frames (f ∷ [])
     ∙ ap (λ n. map serial_of s.frames ++ n ∷ [])
-    (new_frame-serial next (s.slot + 1) (saved_registers s.regs)))
+    (new_call_frame-serial next (s.slot + 1) (saved_registers s.regs)))
     ∙ sym (append_assoc values (map serial_of s.frames) (next ∷ [])) in
     let pushed = serials_push (live_serials s) next k.given k.once in
     let r10 : V (frame_pointer next) = (omega arith, omega arith) in
@@ -117,7 +118,8 @@ IsState-enter p s target go back room k =
       called = omega arith;
       depth = let most = k.depth in omega arith;
       frames = All-push (IsCallFrame p more) s.frames f frames
-          (new_frame_fits p more next (s.slot + 1) (saved_registers s.regs) back refl kept_fit);
+          (new_call_frame_fits p more next (s.slot + 1) (saved_registers s.regs) back refl
+          kept_fit);
       short = k.short;
       packet = k.packet;
       interface = k.interface;
@@ -140,22 +142,22 @@ AllPairs-take R n xs le h i j d before within =
 pub IsState-leave : (p : Program) (s : State) → length s.frames ≢ 1 → IsState p s
     → IsState p (leave s)
 IsState-leave p s more k =
-    let rows : ℕ = length p.maps in
+    let count : ℕ = length p.maps in
     let next : ℕ = s.next_serial in
-    let V : Value → Type 0 = IsValue rows next in
+    let V : Value → Type 0 = IsValue count next in
     let called = k.called in
     let depth = k.depth in
     let n : ℕ = length s.frames - 1 in
     let long : length (callers s.frames) ≡ n = length-take-le n s.frames (omega arith) in
     let last : IsCallFrame p next (innermost s.frames) =
-    All-get_or (IsCallFrame p next) s.frames n (new_frame 0 0 []) (omega arith) k.frames in
-    let saved : (j : ℕ) → IsValue rows next (value_at (innermost s.frames).saved j) =
-    (λ j. value_at_fits rows next (innermost s.frames).saved j last.saved) in
-    let caller : innermost (callers s.frames) ≡ frame_at s.frames (n - 1) =
-    ap (λ m. frame_at (callers s.frames) (m - 1)) long
-    ∙ get_or-take n s.frames (n - 1) (new_frame 0 0 []) (omega arith) in
+    All-get_or (IsCallFrame p next) s.frames n (new_call_frame 0 0 []) (omega arith) k.frames in
+    let saved : (j : ℕ) → IsValue count next (value_at (innermost s.frames).saved j) =
+    (λ j. value_at_fits count next (innermost s.frames).saved j last.saved) in
+    let caller : innermost (callers s.frames) ≡ call_frame_at s.frames (n - 1) =
+    ap (λ m. call_frame_at (callers s.frames) (m - 1)) long
+    ∙ get_or-take n s.frames (n - 1) (new_call_frame 0 0 []) (omega arith) in
     let serial : (innermost (callers s.frames)).serial < next =
-    rw caller (frame_serial_given p s (n - 1) k (omega arith)) in
+    rw caller (call_frame_serial_given p s (n - 1) k (omega arith)) in
     let values = flat_map value_serials s.maps in
     let all = length-append values (map serial_of s.frames) in
     let framed = length-map s.frames serial_of in
@@ -163,7 +165,7 @@ IsState-leave p s more k =
     ≡ take (length values + n) (live_serials s) =
     ap (λ l. values ++ l) (sym (take-map serial_of n s.frames))
     ∙ sym (take-append-add values (map serial_of s.frames) n) in
-    let r0 = value_at_fits rows next s.regs 0 k.values in
+    let r0 = value_at_fits count next s.regs 0 k.values in
     let r10 : V (frame_pointer (innermost (callers s.frames)).serial) = (serial, omega arith) in
     record {
       slot = let back = last.returns in omega arith;

@@ -24,7 +24,7 @@ use Rattle.isa_model.specs.declared.helpers.Helper.TheVariants.{MapLookupElem, M
 use Rattle.isa_model.specs.declared.frames.FrameHead.{FrameHead}
 use Rattle.isa_model.specs.declared.ends.TrapReason.{TrapReason}
 use Rattle.isa_model.specs.declared.versions.Version.{Version}
-use Rattle.isa_model.specs.declared.ends.TrapReason.TheVariants.{UnsetRead, ReadOnly, TooManyFrames, BadAction}
+use Rattle.isa_model.specs.declared.ends.TrapReason.TheVariants.{UnsetRead, ReadOnly, TooManyCallFrames, BadAction}
 use Rattle.isa_model.specs.Code.Sizes.{width_size}
 use Rattle.isa_model.specs.Code.Numbers.{low, unsigned, alu, bytes_of, atomic_alu}
 use Rattle.isa_model.specs.Code.Helpers.{helper_numbered}
@@ -43,7 +43,7 @@ use Rattle.isa_model.proofs.StepLaws.{IfNext, with_number}
 
 -- ---- how often a step asks
 
--- both states have asked the clock equally often
+-- in both states the clock has been asked equally often
 abbrev pub SameCalls : State → State → Type 0
 SameCalls s t = t.clock_calls ≡ s.clock_calls
 
@@ -114,7 +114,7 @@ swaps_in_calls s w place new fetch r =
         (λ t h. fetched_into_calls fetch r n t ∙ h)
     found (Err e) = tt
 
--- at most one call a step
+-- in the second state the clock has been asked at most once more
 abbrev pub OneCall : State → State → Type 0
 OneCall s t = t.clock_calls ≤ s.clock_calls + 1
 
@@ -156,7 +156,7 @@ deleted_calls row s m key = by (delete_answer row (content_of s m) key == 0)
     by true = refl
     by false = refl
 
--- the state that a helper leaves
+-- in the state that the helper leaves the clock has been asked as often as before
 abbrev LeavesSame : State → Helped → Type 0
 LeavesSame s helped = SameCalls s helped.state
 
@@ -246,7 +246,7 @@ act_calls p clock s (JumpIf cond by) = branches_calls p s by (test_of s cond)
 act_calls p clock s (CallHelper number) =
     goes_on_one_call s (CallHelper number) _ (helper_call_calls p clock s (helper_numbered number))
 act_calls p clock s (CallLocal by) =
-    if_next (OneCall s) (length s.frames == max_call_frames) (Trapped TooManyFrames)
+    if_next (OneCall s) (length s.frames == max_call_frames) (Trapped TooManyCallFrames)
     (Next (enter s (destination p s.slot by))) tt (omega arith)
 act_calls p clock s Exit =
     if_next (OneCall s) (length s.frames == 1) (finishes p.version (reg s R0)) (Next (leave s))

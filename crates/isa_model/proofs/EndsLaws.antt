@@ -100,10 +100,11 @@ Ends-Runs p clock s (suc (suc m)) (suc n) a h le =
     (Ends-Runs p clock t (suc m) n a (u, rest, exits) (omega arith))
 
 -- how a run that ends goes: its first step, by cases
-runs_on : (p : Program) (clock : ℕ → ℕ) (s : State) (n : ℕ) (r : StepResult) → step p clock s ≡ r
+runs_by_cases : (p : Program) (clock : ℕ → ℕ) (s : State) (n : ℕ) (r : StepResult)
+    → step p clock s ≡ r
     → ((t : State) → Ends p clock t n → (m : ℕ) × (a : ℕ) × (m ≤ n) × Runs p clock t m a)
     → After (λ t. Ends p clock t n) r → (m : ℕ) × (a : ℕ) × (m ≤ suc n) × Runs p clock s m a
-runs_on p clock s n (Next t) first more h =
+runs_by_cases p clock s n (Next t) first more h =
     let (m, a, within, runs) = more t h in
     before p clock s t m n a first within runs
   where
@@ -114,9 +115,9 @@ runs_on p clock s n (Next t) first more h =
     before p clock s t (suc m) n a first within runs =
         let (u, rest, exits) = runs in
         (suc (suc m), a, omega arith, (u, Reaches-before p clock s t m u first rest, exits))
-runs_on p clock s n (Finished a) first more h =
+runs_by_cases p clock s n (Finished a) first more h =
     (1, a, omega arith, (s, progress-zero p clock s, first))
-runs_on p clock s n (Trapped e) first more h = absurd h
+runs_by_cases p clock s n (Trapped e) first more h = absurd h
 
 -- what ends within n steps is a run of some m steps, at most n
 pub Runs-Ends : (p : Program) (clock : ℕ → ℕ) (s : State) (n : ℕ) → Ends p clock s n
@@ -124,4 +125,4 @@ pub Runs-Ends : (p : Program) (clock : ℕ → ℕ) (s : State) (n : ℕ) → En
 unfolding Ends
 Runs-Ends p clock s zero h = absurd h
 Runs-Ends p clock s (suc n) h =
-    runs_on p clock s n (step p clock s) refl (λ t k. Runs-Ends p clock t n k) h
+    runs_by_cases p clock s n (step p clock s) refl (λ t k. Runs-Ends p clock t n k) h

@@ -14,7 +14,7 @@ use Rattle.isa_model.specs.Code.Sizes.{width_bits, extension_bits, extension_wid
 use Rattle.isa_model.specs.Code.Numbers.{low, sign_extended}
 use Rattle.isa_model.proofs.NumberLaws.{width_fits}
 
--- a number below the half is extended to itself, one from the half up has ones put before it
+-- a number without the sign bit, H, is extended to itself, and one with it has ones put before it
 abbrev extended : ℕ → ℕ → ℕ → ℕ → ℕ
 extended N K H y = cond (nat_lt y H) y (y + (N - K))
 
@@ -100,18 +100,18 @@ extension_wider Full8 = omega arith
 extension_wider Full16 = omega arith
 extension_wider Full32 = omega arith
 
-extension_half : (e : Extension) → (h : ℕ) × (h + h ≡ 2 ^ extension_bits e) × (0 < h)
-extension_half Low8 = (2 ^ 7, refl, omega arith)
-extension_half Low16 = (2 ^ 15, refl, omega arith)
-extension_half Full8 = (2 ^ 7, refl, omega arith)
-extension_half Full16 = (2 ^ 15, refl, omega arith)
-extension_half Full32 = (2 ^ 31, refl, omega arith)
+extension_sign : (e : Extension) → (h : ℕ) × (h + h ≡ 2 ^ extension_bits e) × (0 < h)
+extension_sign Low8 = (2 ^ 7, refl, omega arith)
+extension_sign Low16 = (2 ^ 15, refl, omega arith)
+extension_sign Full8 = (2 ^ 7, refl, omega arith)
+extension_sign Full16 = (2 ^ 15, refl, omega arith)
+extension_sign Full32 = (2 ^ 31, refl, omega arith)
 
 -- a sign extension is a number of its width
 pub sign_extended_below : (e : Extension) (x : ℕ)
     → sign_extended e x < 2 ^ width_bits (extension_width e)
 sign_extended_below e x =
-    let h = extension_half e in
+    let h = extension_sign e in
     rw (extension_is e x h.0 h.1)
     (extended_below _ _ h.0 _ (mod_below x (2 ^ extension_bits e) (omega (arith, h.1, h.2)))
     (extension_wider e))
@@ -129,7 +129,7 @@ sign_extended-small e x h twice x_in =
     mod-eq_of_lt {n = x} {m = 2 ^ extension_bits e} (omega arith) in
     extension_is e x h twice ∙ rw same (extended_small _ _ h x x_in)
 
--- below the half it is the low bits, above it the low bits with ones before them
+-- without the sign bit, h, it is the low bits, and with it the low bits with ones before them
 pub sign_extended_cases : (e : Extension) (x h : ℕ) → h + h ≡ 2 ^ extension_bits e
     → ((x % 2 ^ extension_bits e < h) × (sign_extended e x ≡ x % 2 ^ extension_bits e))
     ⊎ ((h ≤ x % 2 ^ extension_bits e)
@@ -142,14 +142,14 @@ sign_extended_cases e x h twice =
       | inr ge ↦ inr (ge, extension_is e x h twice ∙ extended_large _ _ h y ge)
     ]
 
--- half the size is added and taken away again, and the borrow fills the upper bits
+-- the sign bit is added and taken away again, and the borrow fills the upper bits
 pub sign_extended-sum : (e : Extension) (x h : ℕ) → h + h ≡ 2 ^ extension_bits e
     → sign_extended e x
     ≡ low (extension_width e)
     (((x % 2 ^ extension_bits e + h) % 2 ^ extension_bits e + (2 ^ 64 - h)) % 2 ^ 64)
 sign_extended-sum e x h twice =
     let K = 2 ^ extension_bits e in
-    let p = extension_half e in
+    let p = extension_sign e in
     let positive : 0 < h = omega (arith, p.1, p.2) in
     let y_in = mod_below x K (omega arith) in
     let fits = extension_fits e in

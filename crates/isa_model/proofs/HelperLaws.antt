@@ -20,16 +20,17 @@ use Rattle.isa_model.proofs.StateLaws.{serial_of}
 
 -- ---- one map of a state
 
--- what holds of all parts in a row, holds of each part
-All-part : {X Y : Type 0} (P : Y → Type 0) (f : X → List Y) (xs : List X) (i : ℕ) (d : X) → f d ≡ []
+-- what holds of the elements of all lists that f gives, holds of those of each of them
+All-flat_map : {X Y : Type 0} (P : Y → Type 0) (f : X → List Y) (xs : List X) (i : ℕ) (d : X)
+    → f d ≡ []
     → All P (flat_map f xs)
     → All P (f (slice_index_or xs i d))
-All-part P f [] i d e h = subst (All P) (sym e) (All-nil P)
-All-part P f (x ∷ xs) zero d e h =
+All-flat_map P f [] i d e h = subst (All P) (sym e) (All-nil P)
+All-flat_map P f (x ∷ xs) zero d e h =
     subst (All P) (take-append_seam (f x) (flat_map f xs))
     (All-take P (length (f x)) (f x ++ flat_map f xs) h)
-All-part P f (x ∷ xs) (suc i) d e h =
-    All-part P f xs i d e (subst (All P) (drop-append_seam (f x) (flat_map f xs))
+All-flat_map P f (x ∷ xs) (suc i) d e h =
+    All-flat_map P f xs i d e (subst (All P) (drop-append_seam (f x) (flat_map f xs))
     (All-drop P (length (f x)) (f x ++ flat_map f xs) h))
 
 -- the serials of a map's values were given
@@ -38,7 +39,7 @@ pub value_serials_given : (p : Program) (s : State) (m : ℕ) → IsState p s
 value_serials_given p s m k =
     let values = flat_map value_serials s.maps in
     let P : ℕ → Type 0 = λ n. n < s.next_serial in
-    All-part P value_serials s.maps m [] refl
+    All-flat_map P value_serials s.maps m [] refl
     (subst (All P) (take-append_seam values (map serial_of s.frames))
     (All-take P (length values) (live_serials s) k.given))
 
@@ -61,8 +62,8 @@ content_fits p s m row e k =
 
 -- ---- wide loads of maps
 
-pub map_pointer_fits : (rows next m : ℕ) → m < rows → IsValue rows next (map_pointer m)
-map_pointer_fits rows next m h = (h, omega arith)
+pub map_pointer_fits : (count next m : ℕ) → m < count → IsValue count next (map_pointer m)
+map_pointer_fits count next m h = (h, omega arith)
 
 -- an array of one key has its value
 pub has_value : (kind : MapType) (entries : ℕ) (keys : List (List ℕ)) → kind ≡ Array → entries ≡ 1

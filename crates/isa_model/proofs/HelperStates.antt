@@ -72,13 +72,13 @@ read_length s at n =
 abbrev AreBytesOf : ℕ → List ℕ → Type 0
 AreBytesOf n bytes = (length bytes ≡ n) × AreBytes bytes
 
-bytes_in_fits : (rows next : ℕ) (cs : List Cell) → All (IsCell rows next) cs
+bytes_in_fits : (count next : ℕ) (cs : List Cell) → All (IsCell count next) cs
     → IfOk (bytes_in cs) (AreBytesOf (length cs))
-bytes_in_fits rows next cs h =
+bytes_in_fits count next cs h =
     IfOk-if (AreBytesOf (length cs)) (list_any is_unwritten cs) (Err UnsetRead) _ (λ unset. tt)
     (λ set. IfOk-if (AreBytesOf (length cs)) (list_all is_byte cs) (Ok (map byte_in cs))
     (Err BadAccess)
-    (λ all. (length-map cs byte_in, bytes_in_fit rows next cs h)) (λ some. tt))
+    (λ all. (length-map cs byte_in, bytes_in_fit count next cs h)) (λ some. tt))
 
 -- what is read at an argument is n bytes
 pub bytes_at_fits : (p : Program) (s : State) (at : BytesArgument) (n : ℕ) → IsState p s
@@ -133,13 +133,13 @@ IsState-with_content : (p : Program) (s : State) (m : ℕ) (row : MapDef) (conte
     → AreSerials next (serials_with s m content) → IsState p s
     → IsState p (record s { maps = slice_set s.maps m content; next_serial = next })
 IsState-with_content p s m row content next e le fits serials k =
-    let rows : ℕ = length p.maps in
+    let count : ℕ = length p.maps in
     let old : ℕ = s.next_serial in
     record {
       slot = k.slot;
       registers = k.registers;
-      values = All-weaker (IsValue rows old) (IsValue rows next)
-          (λ v h. IsValue-more rows old next v le h) s.regs k.values;
+      values = All-weaker (IsValue count old) (IsValue count next)
+          (λ v h. IsValue-more count old next v le h) s.regs k.values;
       called = k.called;
       depth = k.depth;
       frames = All-weaker (IsCallFrame p old) (IsCallFrame p next)
@@ -201,7 +201,7 @@ put_bytes_keeps : (p : Program) (s : State) (m : ℕ) (row : MapDef) (key bytes 
     → IsKeyValue row (key, bytes) → HasRoomForKey row key (key_values_of (content_of s m))
     → IsState p s
     → IsState p (put_bytes s m key bytes)
-put_bytes_keeps p s m row key bytes e entry room k = by (at_key key (content_of s m)) refl
+put_bytes_keeps p s m row key bytes e pair room k = by (at_key key (content_of s m)) refl
   where
     fits : FitsRow row (key_values_of (content_of s m))
     fits = content_fits p s m row e k
@@ -211,7 +211,7 @@ put_bytes_keeps p s m row key bytes e entry room k = by (at_key key (content_of 
     changed new same =
         subst (FitsRow row) (sym (key_values_of-with_key key new (content_of s m)
         ∙ ap (λ b. with_key key b (key_values_of (content_of s m))) same))
-        (FitsRow-with_key row key bytes (key_values_of (content_of s m)) entry room fits)
+        (FitsRow-with_key row key bytes (key_values_of (content_of s m)) pair room fits)
 
     stored : Option Stored → Stored
     stored old = record { serial = serial_given s.next_serial old; bytes = bytes }
@@ -279,7 +279,7 @@ update_keeps : (p : Program) (s : State) (m : MapArgument) (key bytes : List ℕ
     → IsArgument p m
     → IsKeyValue m.row (key, bytes) → IsState p s
     → IsHelped p (map_update_elem m.row s m.index key bytes flags)
-update_keeps p s m key bytes flags e entry k =
+update_keeps p s m key bytes flags e pair k =
     let content = content_of s m.index in (
       by (update_answer m.row content key flags == 0) refl,
       update_answer_fits m.row content key flags,
@@ -288,7 +288,7 @@ update_keeps p s m key bytes flags e entry k =
     by : (b : Bool) → (update_answer m.row (content_of s m.index) key flags == 0) ≡ b
         → IsState p (if b then put_bytes s m.index key bytes else s)
     by true passed =
-        put_bytes_keeps p s m.index m.row key bytes e entry
+        put_bytes_keeps p s m.index m.row key bytes e pair
         (update_has_room m.row key flags (content_of s m.index) passed) k
     by false refused = k
 

@@ -14,7 +14,7 @@ pub mod StateLaws
 pub mod StepLaws
 pub mod ValueLaws
 pub mod RunSteps
-pub mod SlotLaws
+pub mod StackSlotLaws
 pub mod ReportLaws
 pub mod StartingContents
 pub mod StreamLaws

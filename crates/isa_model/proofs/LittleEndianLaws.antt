@@ -5,7 +5,7 @@ use Rattle.std.proofs.lemmas.List.{get_or-drop, get_or-take, get_or_past, length
 use Rattle.std.proofs.Math.Nat.{div-div-eq-div-mul, pow-succ'}
 use Rattle.std.specs.Int.{byte_at, bytes_low_first}
 use Rattle.byteorder.specs.Endian.{little_from, little_bytes}
-use Rattle.isa_model.specs.Code.LittleEndian.{EachByte}
+use Rattle.isa_model.specs.Code.EachByte.{EachByte}
 
 pub EachByte-drop : (n : ℕ) (xs : List ℕ) → EachByte xs → EachByte (drop n xs)
 EachByte-drop n xs h j = rw get_or-drop (h (n + j))
@@ -47,6 +47,6 @@ pub little_from-drop : (n i j : ℕ) (xs : List ℕ)
 little_from-drop zero i j xs = refl
 little_from-drop (suc n) i j xs =
     let byte = get_or-drop j xs i 0 in
-    let place : j + suc i ≡ suc (j + i) = omega arith in
+    let index : j + suc i ≡ suc (j + i) = omega arith in
     let rest = little_from-drop n (suc i) j xs in
-    rw (byte, rest, place) refl
+    rw (byte, rest, index) refl

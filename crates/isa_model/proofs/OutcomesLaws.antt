@@ -52,7 +52,7 @@ ExitsWithin-Ends p n head packet contents clock h =
           few = within;
         }
 
--- every run of such a program has an outcome
+-- every run of a program whose runs exit within n steps has an outcome
 pub ExitsWithin-StartsEnd : (p : Program) (n : ℕ) (head : FrameHead) (packet : List ℕ)
     (contents : List KeyValues) (clock : ℕ → ℕ)
     → StartsEnd p n → IsClock clock → IsGiven p head packet contents

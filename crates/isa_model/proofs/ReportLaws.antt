@@ -22,7 +22,7 @@ use Rattle.isa_model.specs.Machine.MachineStates.{AreBytes, FitRows, IsProgram, 
 use Rattle.isa_model.proofs.ValueLaws.{slice_index_fits}
 use Rattle.isa_model.specs.Running.Outcomes.{StartsEnd, AllExit, ExitsOn}
 use Rattle.isa_model.proofs.OutcomesLaws.{ExitsWithin, ExitsWithin-StartsEnd, FitRows-HasOutcome}
-use Rattle.isa_model.specs.Reporting.Reports.{OutputPart, ToReport, ToFrames, ReportForm, maps_pieces, last_line, frame_pieces, frame_line, skip_pieces, turn_pieces, contents_left, turns_pieces, contents_after, checked_rule, checked_report, turn_by, starting_contents, ReportsFrame, ReportsFrames, report_form_of, IsReport}
+use Rattle.isa_model.specs.Reporting.Reports.{OutputPiece, ToReport, ToFrames, ReportForm, maps_pieces, last_line, frame_pieces, frame_line, skip_pieces, turn_pieces, contents_left, turns_pieces, contents_after, checked_rule, checked_report, turn_by, starting_contents, ReportsFrame, ReportsFrames, report_form_of, IsReport}
 
 reason_fits : (v : Version) (bytes : List ℕ) → AreBytes bytes → ReasonFits v (reason_field v bytes)
 reason_fits One bytes h = refl
@@ -212,7 +212,7 @@ IsReport-checked p n found program h fits each =
     )
 
 ReportsFrame-same : (form : ReportForm) (p : Program) (number : ℕ) (contents : List KeyValues)
-    (f : PacketFrame) (runs : Bool) (pieces others : List OutputPart) (next after : List KeyValues)
+    (f : PacketFrame) (runs : Bool) (pieces others : List OutputPiece) (next after : List KeyValues)
     → ReportsFrame form p number contents f runs pieces next
     → ReportsFrame form p number contents f runs others after → (pieces ≡ others) × (next ≡ after)
 ReportsFrame-same form p number contents f false pieces others next after h k =
@@ -227,7 +227,7 @@ ReportsFrame-same form p number contents f true pieces others next after h k =
     )
 
 ReportsFrames-same : (form : ReportForm) (p : Program) (number : ℕ) (contents : List KeyValues)
-    (frames : List PacketFrame) (pieces others : List OutputPart) (last end : List KeyValues)
+    (frames : List PacketFrame) (pieces others : List OutputPiece) (last end : List KeyValues)
     → ReportsFrames form p number contents frames pieces last
     → ReportsFrames form p number contents frames others end → (pieces ≡ others) × (last ≡ end)
 ReportsFrames-same form p number contents [] pieces others last end h k =
@@ -242,20 +242,20 @@ ReportsFrames-same form p number contents (f ∷ frames) pieces others last end 
     more in
     let (equal, ends) =
     ReportsFrames-same form p (number + 1) after frames rest left last end behind others_more in (
-      split ∙ ap (λ (l : List OutputPart). l ++ rest) same.0 ∙ ap
-          (λ (l : List OutputPart). begin ++ l) equal ∙ sym cut,
+      split ∙ ap (λ (l : List OutputPiece). l ++ rest) same.0 ∙ ap
+          (λ (l : List OutputPiece). begin ++ l) equal ∙ sym cut,
       ends,
     )
 
 -- a program has at most one report of the same stream
-pub IsReport-same : (p : Program) (found : Stream) (pieces others : List OutputPart)
+pub IsReport-same : (p : Program) (found : Stream) (pieces others : List OutputPiece)
     → IsReport p found pieces → IsReport p found others → pieces ≡ others
 IsReport-same p found pieces others h k =
     let (turns, last) = ReportsFrames-same (report_form_of p found) p 0
     (starting_contents p.maps) found.frames h.turns k.turns h.last k.last h.frames k.frames in
     let ends = ToReport (last_line (length found.frames) found.finish) ∷ [] in
     h.whole
-    ∙ ap (λ (l : List OutputPart). (ToFrames (stream_magic found.version) ∷ l)
+    ∙ ap (λ (l : List OutputPiece). (ToFrames (stream_magic found.version) ∷ l)
     ++ (maps_pieces 0 p.maps h.last ++ ends)) turns
     ∙ ap (λ (c : List KeyValues). (ToFrames (stream_magic found.version) ∷ k.turns)
     ++ (maps_pieces 0 p.maps c ++ ends)) last

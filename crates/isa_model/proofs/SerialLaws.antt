@@ -122,9 +122,9 @@ AreSerials-fewer next n some more one h =
     let apart = AreApart-left_out front back n (subst AreApart one.more_is h.1) in
     (subst (All (λ n. n < next)) (sym one.some_is) given, subst AreApart (sym one.some_is) apart)
 
--- ---- one of the parts in a row
+-- ---- lists put together, with one of them replaced
 
--- the parts in a row with one of them replaced: what is before it and after it stays
+-- the lists that f gives, put together, with one of them replaced: those before and after it stay
 pub record PartReplaced {X : Type 0} (f : X → List ℕ) (xs : List X) (i : ℕ) (y d : X) : Type 0 where
   pub before : List ℕ
   pub after : List ℕ

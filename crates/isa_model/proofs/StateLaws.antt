@@ -21,8 +21,8 @@ use Rattle.isa_model.specs.declared.map_defs.MapDef.{MapDef}
 use Rattle.isa_model.specs.declared.ends.TrapReason.TheVariants.{BadAccess}
 use Rattle.isa_model.specs.Code.Registers.{reg_number}
 use Rattle.isa_model.specs.Code.Instructions.{Program}
-use Rattle.isa_model.specs.Machine.States.{Stored, Content, KeyValues, key_values_of, State, value_at, reg, set_reg, go_to, content_of, new_frame, frame_at}
-use Rattle.isa_model.specs.Machine.Memory.{byte_in, frame_index, index_of_serial, key_value_at, region_cells, place_in, put_frame, put_value, put}
+use Rattle.isa_model.specs.Machine.States.{Stored, Content, KeyValues, key_values_of, State, value_at, reg, set_reg, go_to, content_of, new_call_frame, call_frame_at}
+use Rattle.isa_model.specs.Machine.Memory.{byte_in, call_frame_index, index_of_serial, key_value_at, region_cells, place_in, put_call_frame, put_value, put}
 use Rattle.isa_model.specs.Machine.MachineStates.{AreBytes, IsKeyValue, keys_of, FitsRow, FitRows, IsValue, IsCell, IsCallFrame, IsSlot, value_serials, live_serials, IsState}
 use Rattle.isa_model.proofs.ValueLaws.{IfOk-if, bytes_in_fit, length-splice, All-splice}
 
@@ -54,12 +54,12 @@ IsState-go_to p s slot h k = IsState-moved p s slot s.regs s.clock_calls h k.reg
 -- ---- a register set
 
 -- what a list of values has at an index is a value
-pub value_at_fits : (rows next : ℕ) (regs : List Value) (n : ℕ) → All (IsValue rows next) regs
-    → IsValue rows next (value_at regs n)
-value_at_fits rows next [] n h = tt
-value_at_fits rows next (v ∷ regs) zero h = All-head (IsValue rows next) v regs h
-value_at_fits rows next (v ∷ regs) (suc n) h =
-    value_at_fits rows next regs n (All-tail (IsValue rows next) v regs h)
+pub value_at_fits : (count next : ℕ) (regs : List Value) (n : ℕ) → All (IsValue count next) regs
+    → IsValue count next (value_at regs n)
+value_at_fits count next [] n h = tt
+value_at_fits count next (v ∷ regs) zero h = All-head (IsValue count next) v regs h
+value_at_fits count next (v ∷ regs) (suc n) h =
+    value_at_fits count next regs n (All-tail (IsValue count next) v regs h)
 
 -- a register of a state holds a value
 pub reg_fits : (p : Program) (s : State) (r : Reg) → IsState p s
@@ -106,21 +106,21 @@ put_cells_fit p next f i new room fit h = record {
 }
 
 -- cells put into one of the call frames: there are as many call frames, with the same serials
-pub put_frame_fits : (p : Program) (next : ℕ) (fs : List CallFrame) (o : Option ℕ) (i : ℕ)
+pub put_call_frame_fits : (p : Program) (next : ℕ) (fs : List CallFrame) (o : Option ℕ) (i : ℕ)
     (new : List Cell)
     → ((j : ℕ) → o ≡ Some j → j < length fs)
-    → HasCells (option_map (λ j. (frame_at fs j).cells) o) i (length new)
+    → HasCells (option_map (λ j. (call_frame_at fs j).cells) o) i (length new)
     → All (IsCell (length p.maps) next) new → All (IsCallFrame p next) fs
-    → All (IsCallFrame p next) (put_frame fs o i new)
-    × (length (put_frame fs o i new) ≡ length fs)
-    × (map serial_of (put_frame fs o i new) ≡ map serial_of fs)
-put_frame_fits p next fs None i new within room fit h = (h, refl, refl)
-put_frame_fits p next fs (Some j) i new within room fit h =
+    → All (IsCallFrame p next) (put_call_frame fs o i new)
+    × (length (put_call_frame fs o i new) ≡ length fs)
+    × (map serial_of (put_call_frame fs o i new) ≡ map serial_of fs)
+put_call_frame_fits p next fs None i new within room fit h = (h, refl, refl)
+put_call_frame_fits p next fs (Some j) i new within room fit h =
     let here = within j refl in
-    let f = frame_at fs j in
+    let f = call_frame_at fs j in
     let g = record f { cells = splice f.cells i (i + length new) new } in
-    let old = All-get_or (IsCallFrame p next) fs j (new_frame 0 0 []) here h in
-    let d : CallFrame = new_frame 0 0 [] in (
+    let old = All-get_or (IsCallFrame p next) fs j (new_call_frame 0 0 []) here h in
+    let d : CallFrame = new_call_frame 0 0 [] in (
       All-set (IsCallFrame p next) fs j g (put_cells_fit p next f i new room fit old) h,
       length-set fs j g,
       map-set_same serial_of fs j g d refl,
@@ -176,14 +176,14 @@ put_value_fits row content (Some j) i new within bytes h =
     (rw (length-map {B = List ℕ × List ℕ} content (λ e. (e.0, e.1.bytes))) here) h.key_values) in
     let keys : keys_of (slice_set es j x) ≡ keys_of es =
     map-set_same (λ e. e.0) es j x ([], []) (sym (ap (λ e. e.0) found)) in
-    let new_entry : IsKeyValue row x = record {
+    let new_pair : IsKeyValue row x = record {
       key_size = old.key_size;
       key = old.key;
       value_size = length-splice e.1.bytes new i room ∙ old.value_size;
       value = All-splice (λ b. b < 256) e.1.bytes new i (i + length new) old.value bytes;
     } in
     let fits : FitsRow row (slice_set es j x) = record {
-      key_values = All-set (IsKeyValue row) es j x new_entry h.key_values;
+      key_values = All-set (IsKeyValue row) es j x new_pair h.key_values;
       ordered = rw keys h.ordered;
       room = rw (length-set es j x) h.room;
       keys = rw keys h.keys;
@@ -206,16 +206,17 @@ value_room content n i len (Some k) e room j h =
     rw (← same) (found.0, omega arith)
 
 -- where a call frame has the serial, it is there
-pub frame_room : (fs : List CallFrame) (n : ℕ) (j : ℕ) → frame_index fs n ≡ Some j → j < length fs
-frame_room fs n j e = (position-Some (λ f. f.serial == n) fs j (new_frame 0 0 []) e).0
+pub call_frame_room : (fs : List CallFrame) (n : ℕ) (j : ℕ) → call_frame_index fs n ≡ Some j
+    → j < length fs
+call_frame_room fs n j e = (position-Some (λ f. f.serial == n) fs j (new_call_frame 0 0 []) e).0
 
 pub IsState-put : (p : Program) (s : State) (r : Region) (i : ℕ) (new : List Cell)
     → HasCells (region_cells s r) i (length new)
     → All (IsCell (length p.maps) s.next_serial) new → IsState p s → IsState p (put s r i new)
 IsState-put p s (region.CallFrame n) i new room fit k =
-    let put_in = put_frame_fits p s.next_serial s.frames (frame_index s.frames n) i new
-    (frame_room s.frames n) room fit k.frames in
-    let fs : List CallFrame = put_frame s.frames (frame_index s.frames n) i new in
+    let put_in = put_call_frame_fits p s.next_serial s.frames (call_frame_index s.frames n) i new
+    (call_frame_room s.frames n) room fit k.frames in
+    let fs : List CallFrame = put_call_frame s.frames (call_frame_index s.frames n) i new in
     let serials : flat_map value_serials s.maps ++ map serial_of fs ≡ live_serials s =
     ap (λ l. flat_map value_serials s.maps ++ l) put_in.2 in
     record {

@@ -22,7 +22,7 @@ use Rattle.isa_model.specs.declared.values.Region.TheVariants as region
 use Rattle.isa_model.specs.declared.values.Value.TheVariants.{Unset, Num, Ptr}
 use Rattle.isa_model.specs.declared.values.CallFrame.{CallFrame}
 use Rattle.isa_model.specs.declared.ends.TrapReason.{TrapReason}
-use Rattle.isa_model.specs.declared.ends.TrapReason.TheVariants.{UnsetRead, ReadOnly, TooManyFrames, BadAction}
+use Rattle.isa_model.specs.declared.ends.TrapReason.TheVariants.{UnsetRead, ReadOnly, TooManyCallFrames, BadAction}
 use Rattle.isa_model.specs.Code.Numbers.{low, unsigned, alu, sign_extended, reordered, negated, atomic_alu}
 use Rattle.isa_model.proofs.NumberLaws.{alu_fits, reordered_fits}
 use Rattle.isa_model.proofs.ExtensionLaws.{sign_extended_fits}
@@ -30,12 +30,12 @@ use Rattle.isa_model.specs.Code.Spelling.{InsnFits, OperandFits}
 use Rattle.isa_model.specs.Code.Instructions.{Program, fetch, slots_filled, reads, writes, is_frame_pointer}
 use Rattle.isa_model.specs.Code.Helpers.{helper_numbered}
 use Rattle.isa_model.specs.Code.MapRows.{IsRow, NamesRows}
-use Rattle.isa_model.specs.Machine.States.{KeyValues, key_values_of, State, reg, set_reg, frame_pointer, new_frame}
+use Rattle.isa_model.specs.Machine.States.{KeyValues, key_values_of, State, reg, set_reg, frame_pointer, new_call_frame}
 use Rattle.isa_model.specs.Machine.Memory.{and_then}
-use Rattle.isa_model.specs.Code.Limits.{max_call_frames, frame_size}
+use Rattle.isa_model.specs.Code.Limits.{max_call_frames, stack_size}
 use Rattle.isa_model.specs.Machine.Calls.{enter, leave}
 use Rattle.isa_model.specs.Machine.Steps.{StepResult, Next, Finished, Trapped, map_pointer, value_pointer, operand_value, base_of, destination, sets, goes_on, jumps, branches, test_of, calls, is_answer, finishes, exits, atomic_number, act, is_unset, performed_at, step}
-use Rattle.isa_model.specs.Running.Runs.{numbered, numbered_maps, count_values, start_regs, start_state, GoesOn, Reaches}
+use Rattle.isa_model.specs.Running.Runs.{numbered, numbered_maps, count_map_values, start_regs, start_state, GoesOn, Reaches}
 use Rattle.isa_model.proofs.RunLaws.{progress-zero}
 use Rattle.isa_model.proofs.EndsLaws.{Reaches-last}
 use Rattle.isa_model.specs.declared.frames.FrameHead.{FrameHead}
@@ -107,7 +107,8 @@ calls_keep : (p : Program) (s : State) (by : ℤ) → s.slot + 1 ≤ length p.in
 calls_keep p s by inside fits k = room (length s.frames == max_call_frames) refl
   where
     room : (full : Bool) → (length s.frames == max_call_frames) ≡ full
-        → IfNext (if full then Trapped TooManyFrames else Next (enter s (destination p s.slot by)))
+        → IfNext (if full then Trapped TooManyCallFrames
+        else Next (enter s (destination p s.slot by)))
         (IsState p)
     room true e = tt
     room false e = IsState-enter p s (destination p s.slot by)
@@ -230,7 +231,7 @@ pub step_keeps : (p : Program) (clock : ℕ → ℕ) (s : State) → IsProgram p
 unfolding step
 step_keeps p clock s h answers k = performed_at_keeps p clock s (fetch p s.slot) refl h answers k
 
--- and so do any steps in a row
+-- and so does any number of steps
 pub progress_keeps : (p : Program) (clock : ℕ → ℕ) (s t : State) (n : ℕ) → IsProgram p
     → IsClock clock → IsState p s → Reaches p clock s n t
     → IsState p t
@@ -246,7 +247,7 @@ progress_keeps p clock s t (suc n) h answers k r =
 
 -- ---- the start
 
--- the serials at the start are numbers in a row
+-- the serials at the start are consecutive numbers
 numbered_serials : (n : ℕ) (es : KeyValues)
     → value_serials (numbered n es) ≡ range_with_len n (length es)
 numbered_serials n [] = refl
@@ -264,11 +265,12 @@ range-append a (suc m) n =
     rw (there, total) (ap (λ l. a ∷ l) again)
 
 start_serials : (n : ℕ) (contents : List KeyValues)
-    → flat_map value_serials (numbered_maps n contents) ≡ range_with_len n (count_values contents)
+    → flat_map value_serials (numbered_maps n contents) ≡ range_with_len n
+    (count_map_values contents)
 start_serials n [] = refl
 start_serials n (c ∷ contents) =
     rw (numbered_serials n c, start_serials (n + length c) contents)
-    (range-append n (length c) (count_values contents))
+    (range-append n (length c) (count_map_values contents))
 
 numbered_key_values : (n : ℕ) (es : KeyValues) → key_values_of (numbered n es) ≡ es
 numbered_key_values n [] = refl
@@ -298,15 +300,15 @@ range_below n i d within =
 pub start_is_state : (p : Program) (head : FrameHead) (body : List ℕ) (contents : List KeyValues)
     → IsGiven p head body contents
     → IsState p (start_state head body contents)
-unfolding start_state new_frame
+unfolding start_state new_call_frame
 start_is_state p head body contents h =
-    let n : ℕ = count_values contents in
+    let n : ℕ = count_map_values contents in
     let V : Value → Type 0 = IsValue (length p.maps) (suc n) in
     let nothing : List Value = Unset ∷ Unset ∷ Unset ∷ Unset ∷ [] in
-    let f : CallFrame = new_frame n 0 nothing in
+    let f : CallFrame = new_call_frame n 0 nothing in
     let frame : IsCallFrame p (suc n) f = record {
       whole = refl;
-      cells = All-replicate (IsCell (length p.maps) (suc n)) frame_size Unwritten tt;
+      cells = All-replicate (IsCell (length p.maps) (suc n)) stack_size Unwritten tt;
       returns = omega arith;
       four = refl;
       saved = All-from_recursion V nothing (tt, (tt, (tt, (tt, tt))));

@@ -1,4 +1,4 @@
--- Laws of frame streams: the parts of a record, and what a stream of records in a row has.
+-- Laws of frame streams: the parts of a record, and which frames a stream of records has.
 use Rattle.std.proofs.Common.{◌≡◌, ◌≢◌, ℕ, zero, suc, ◌+◌, ◌<◌, ◌≤◌, List, [], ◌∷◌, ◌++◌, length, take, drop, Option, None, Some, Ok, Err, nat_lt, false, le-ltb, refl, sym, ap, ◌∙◌, subst, append_assoc, append-nil, length-append, length-drop, arith, add-zero}
 use Rattle.std.proofs.lemmas.List.{take_at, drop_at, drop-drop}
 use Rattle.std.proofs.lemmas.Bool.Decides.{nat_tests}
@@ -207,7 +207,7 @@ AreOpen-push v frames f h more ok = record {
 abbrev with_frames : List PacketFrame → List PacketFrame × Finish → List PacketFrame × Finish
 with_frames fs t = (fs ++ t.0, t.1)
 
--- a stream that begins with records in a row has these records, and then those after them
+-- a stream that begins with these records has them, and then those after them
 pub frames_from-records : (fs : List PacketFrame) (fuel more : ℕ) (v : Version) (number offset : ℕ)
     (rest : List ℕ) (e : InputEnding)
     → number + length fs ≤ max_frames → All (IsPacketFrame v) fs
@@ -273,8 +273,7 @@ stream_of-magic v rest e =
 abbrev pub offset_after : Version → List PacketFrame → ℕ
 offset_after v frames = 4 + length (records_bytes v frames)
 
--- the stream of an input that begins with records in a row has these records, and then those after
--- them
+-- the stream of an input that begins with these records has them, and then those after them
 pub stream_of-records : (v : Version) (fs : List PacketFrame) (rest : List ℕ) (e : InputEnding)
     → AreOpen v fs
     → stream_of (record { bytes = stream_magic v ++ (records_bytes v fs ++ rest); ending = e })
@@ -292,7 +291,7 @@ stream_of-records v fs rest e ok =
     ∙ ap (λ n. stream_with v
     (with_frames fs (frames_from (suc (length rest)) v n (offset_after v fs) rest e))) number
 
--- the stream of an input that begins with records in a row has these records, and then more
+-- the stream of an input that begins with these records has them, and then more
 pub stream_of-begins : (v : Version) (fs : List PacketFrame) (rest : List ℕ) (e : InputEnding)
     → AreOpen v fs
     → (more : List PacketFrame) × (stop : Finish)
@@ -302,7 +301,7 @@ stream_of-begins v fs rest e ok =
     let t = frames_from (suc (length rest)) v (length fs) (offset_after v fs) rest e in
     (t.0, t.1, stream_of-records v fs rest e ok)
 
--- the stream of an input that stops after records in a row is these records and that stop
+-- the stream of an input that stops after these records has them, and ends as it stops
 pub stream_of-stops : (v : Version) (fs : List PacketFrame) (rest : List ℕ) (e : InputEnding)
     (stop : Finish) → AreOpen v fs
     → stop_at v (length fs) (offset_after v fs) rest e ≡ Some stop

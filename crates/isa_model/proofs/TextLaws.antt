@@ -1,4 +1,4 @@
--- Laws of instructions as slots, and back, and of text in parts.
+-- Laws of instructions as slots, and back, and of the text of two lists of slots.
 use Rattle.std.proofs.Common.{◌≡◌, List, [], ◌∷◌, ◌++◌, Option, Some, None, refl, ap, ◌∙◌}
 use Rattle.std.proofs.lemmas.Grind.{flat_map-append}
 use Rattle.isa_model.specs.declared.instructions.Insn.{Insn}
@@ -21,7 +21,7 @@ instructions-append [] ys = refl
 instructions-append (None ∷ xs) ys = instructions-append xs ys
 instructions-append (Some i ∷ xs) ys = ap (λ l. i ∷ l) (instructions-append xs ys)
 
--- the text of slots in a row is their texts in a row
+-- the text of one list of slots and then another is the text of the one and then of the other
 pub code_text-append : (xs ys : List (Option Insn))
     → code_text (instructions (xs ++ ys))
     ≡ code_text (instructions xs) ++ code_text (instructions ys)

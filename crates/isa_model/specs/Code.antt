@@ -7,6 +7,6 @@ pub mod Helpers
 pub mod Instructions
 pub mod MapRows
 pub mod Spelling
-pub mod LittleEndian
+pub mod EachByte
 pub mod Numbers
 pub mod NumberLaws

@@ -1,7 +1,7 @@
 //! How runs end.
 
 ghost use Rattle.std.specs.Prelude.{◌≡◌, ◌≤◌, length};
-ghost use Rattle.isa_model.specs.Reporting.Reports.{reason_name};
+ghost use Rattle.isa_model.specs.Reporting.Reports.{trap_reason_name};
 
 /// Why a run stopped at an instruction. A trap changes nothing.
 #[derive(Clone, Copy, PartialEq, Eq, Debug)]
@@ -23,7 +23,7 @@ pub enum TrapReason {
     /// An unknown helper, or an argument of the wrong type.
     BadHelper,
     /// A ninth call frame.
-    TooManyFrames,
+    TooManyCallFrames,
     /// r0 is no number at the last exit.
     NoResult,
     /// The last exit of a program of version 2 names no action.
@@ -33,7 +33,7 @@ pub enum TrapReason {
 impl TrapReason {
     /// Its name in a report.
     pub fn name(self) -> &'static str
-        ensures name { result.now ≡ reason_name self }
+        ensures name { result.now ≡ trap_reason_name self }
         ensures short { length result.now ≤ 8 }
     {
         match self {
@@ -45,7 +45,7 @@ impl TrapReason {
             TrapReason::BadAccess => "access",
             TrapReason::BadCompare => "compare",
             TrapReason::BadHelper => "helper",
-            TrapReason::TooManyFrames => "frames",
+            TrapReason::TooManyCallFrames => "frames",
             TrapReason::NoResult => "exit",
             TrapReason::BadAction => "action",
         }

@@ -13,7 +13,7 @@ pub struct FrameHead {
     pub queue: u32,
 }
 
-/// What is done with a frame. Linux, `enum xdp_action`; `Invalid` is every other result.
+/// What is done with a frame. Linux, `enum xdp_action`; `Invalid` is for every other answer.
 #[derive(Clone, Copy)]
 pub enum Action {
     Aborted,
@@ -25,11 +25,11 @@ pub enum Action {
 }
 
 impl Action {
-    /// The action that a program's result names, by its low 32 bits.
-    pub fn of(result_value: u64) -> Self
-        ensures { result ≡ action_of result_value }
+    /// The action that a program's answer names, by its low 32 bits.
+    pub fn of(answer: u64) -> Self
+        ensures { result ≡ action_of answer }
     {
-        match result_value % 0x1_0000_0000 {
+        match answer % 0x1_0000_0000 {
             0 => Action::Aborted,
             1 => Action::Drop,
             2 => Action::Pass,

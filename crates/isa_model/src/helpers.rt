@@ -33,7 +33,7 @@ impl Helper {
         }
     }
 
-    /// The registers that hold its arguments.
+    /// Its arguments: the registers that it reads.
     pub fn arguments(self) -> (Option<Reg>, Option<Reg>, Option<Reg>, Option<Reg>)
         ensures { option_to_list result.0 ++ option_to_list result.1 ++ option_to_list result.2
             ++ option_to_list result.3 ≡ arguments_of (Some self) }

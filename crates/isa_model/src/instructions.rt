@@ -148,7 +148,7 @@ impl Insn {
     }
 
     /// The registers that it reads, at most four: they have to be set. EXIT tests r0 itself, and a
-    /// local call passes r1 to r5 as they are.
+    /// local call passes r1 to r5 unchanged.
     pub fn read(&self) -> (Option<Reg>, Option<Reg>, Option<Reg>, Option<Reg>)
         ensures { option_to_list result.0 ++ option_to_list result.1 ++ option_to_list result.2
             ++ option_to_list result.3 ≡ reads self.now }

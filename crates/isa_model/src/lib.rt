@@ -1,4 +1,4 @@
-//! What a BPF program of the XDP kind means: the types, the plain functions that compute on
+//! What a BPF program of type XDP means: the types, the plain functions that compute on
 //! numbers, and in `specs/` the definitions that every other crate's contracts cite.
 //!
 //! `docs/MEANING.md` says the same in prose, with the sections of RFC 9669.
@@ -27,8 +27,8 @@ pub use helpers::Helper;
 pub use instructions::{AluOp, AtomicOp, Comparison, Cond, Insn, Operand, Place};
 pub use jumps::destination;
 pub use limits::{
-    FRAME_SIZE, MAX_CALL_FRAMES, MAX_EXPLORED, MAX_KEY_SIZE, MAX_MAP_ENTRIES, MAX_MAP_ROOM,
-    MAX_MAPS, MAX_PACKET, MAX_SHORT_PACKET, MAX_SLOTS, MAX_STEPS, MAX_VALUE_SIZE, OFFSET_LIMIT,
+    MAX_CALL_FRAMES, MAX_EXPLORED, MAX_KEY_SIZE, MAX_MAP_ENTRIES, MAX_MAP_ROOM, MAX_MAPS,
+    MAX_PACKET, MAX_SHORT_PACKET, MAX_SLOTS, MAX_STEPS, MAX_VALUE_SIZE, OFFSET_LIMIT, STACK_SIZE,
 };
 pub use map_defs::{MapDef, MapType};
 pub use registers::Reg;

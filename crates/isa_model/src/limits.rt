@@ -20,7 +20,7 @@ pub const MAX_MAP_ENTRIES: u32 = 65_536;
 pub const MAX_MAP_ROOM: u64 = 16_777_216;
 
 /// The bytes of stack of a call frame. Linux, `MAX_BPF_STACK`.
-pub const FRAME_SIZE: usize = 512;
+pub const STACK_SIZE: usize = 512;
 
 /// The most live call frames. Linux, `MAX_CALL_FRAMES`.
 pub const MAX_CALL_FRAMES: usize = 8;

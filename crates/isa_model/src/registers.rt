@@ -3,7 +3,7 @@
 ghost use Rattle.std.specs.Prelude.{◌≡◌, ◌<◌};
 ghost use Rattle.isa_model.specs.Code.Registers.{reg_number, reg_numbered};
 
-/// A register: r0 is the result, r1 to r5 are arguments, r6 to r9 are kept over calls, and r10 is
+/// A register: r0 has an answer, r1 to r5 have arguments, r6 to r9 are kept over calls, and r10 is
 /// the read-only frame pointer.
 #[derive(Clone, Copy, PartialEq, Eq)]
 pub enum Reg {

@@ -17,7 +17,7 @@ pub enum Fault {
     TooLong,
     /// Fewer bytes of the body than the length.
     TruncatedBody,
-    /// The reader answered an error.
+    /// The reader returned an error.
     ReadFailed,
     /// A record begins after 4,294,967,295 records.
     TooManyRecords,

@@ -1,6 +1,6 @@
-//! What registers and the bytes of call frames hold in the meaning: tagged values.
+//! What registers hold in the meaning, tagged values, and what the bytes of call frames are, cells.
 
-use crate::limits::FRAME_SIZE;
+use crate::limits::STACK_SIZE;
 
 /// What a pointer points into. The serials of call frames and of map values are never used again,
 /// so a pointer to one that has ended is dead for ever.
@@ -42,7 +42,7 @@ pub enum Cell {
 #[derive(Clone, Copy)]
 pub struct CallFrame {
     pub serial: u64,
-    pub cells: [Cell; FRAME_SIZE],
+    pub cells: [Cell; STACK_SIZE],
     /// The slot to which it returns; 0 in the first call frame.
     pub return_slot: usize,
     /// The caller's r6 to r9; unset in the first call frame.

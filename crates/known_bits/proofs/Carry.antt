@@ -8,7 +8,7 @@ use Rattle.std.proofs.lemmas.Nat.Bits.{bit_at_and, bit_at_or, bit_at_xor, bit_at
 use Rattle.std.proofs.lemmas.Bool.{cases_lt}
 use Rattle.known_bits.specs.Member.{IsMember}
 use Rattle.known_bits.proofs.Members.{Apart, Between, bits_between, member_from_bits, member_and_most}
-use Rattle.known_bits.proofs.Logic.{without, without_bit, known_without}
+use Rattle.known_bits.proofs.Logic.{without, without_bit, apart_without}
 
 -- the carry into bit i
 abbrev pub carry : ℕ → ℕ → ℕ → ℕ
@@ -37,7 +37,7 @@ sum_bit p q i =
     ∙ ap (λ n. n % 2) (div-mul-add (p / b + q / b + r / b) b (r % b) (mod-lt r (pow_pos i)))
     ∙ omega arith
 
--- a mask of the low bits leaves them
+-- the bits of the low part are those of the number
 pub low_bit : (n w i : ℕ) → i < w → bit_at (n % 2 ^ w) i ≡ bit_at n i
 low_bit n w i h =
     let o = bit_at_ones w i h in
@@ -97,7 +97,7 @@ module _ {av am bv bm : ℕ} (ka : Apart av am) (kb : Apart bv bm) where
       or_lt 64 _ bm (or_lt 64 _ am x ka.mask_in) kb.mask_in
 
   pub sum_known : Apart (without (sum_least av bv) (sum_mask av am bv bm)) (sum_mask av am bv bm)
-  sum_known = known_without (omega arith) mask_in
+  sum_known = apart_without (omega arith) mask_in
 
   pub sum_contains : (x y : ℕ) → IsMember av am x → IsMember bv bm y
       → IsMember (without (sum_least av bv) (sum_mask av am bv bm)) (sum_mask av am bv bm)

@@ -15,10 +15,10 @@ use Rattle.isa_model.specs.Code.Numbers.{alu, low, shift, signed, unsigned, sign
 use Rattle.isa_model.proofs.NumberLaws.{alu_below, low_below, shift_below, width_fits, width_most}
 use Rattle.isa_model.proofs.ExtensionLaws.{sign_extended_below, sign_extended_cases, sign_extended-small}
 use Rattle.known_bits.specs.Member.{IsMember, Occurs}
-use Rattle.known_bits.proofs.Members.{Apart, bits_between, bits_apart, known_from_bits, member_from_bits}
+use Rattle.known_bits.proofs.Members.{Apart, bits_between, bits_apart, apart_from_bits, member_from_bits}
 use Rattle.known_bits.proofs.Carry.{low_bit}
 use Rattle.known_bits.proofs.Order.{low_fits}
-use Rattle.known_bits.proofs.Sharp.{both_values, least_member, most_member}
+use Rattle.known_bits.proofs.Sharp.{both_occur, least_member, most_member}
 use Rattle.known_bits.proofs.Shift.{right_bit}
 
 -- f returns n bits, each a copy of its argument's bit at a position
@@ -34,7 +34,7 @@ module _ {n : ℕ} {position : ℕ → ℕ} {f : ℕ → ℕ} (c : Copies n posi
 
   pub copied_known : {v m : ℕ} → Apart v m → Apart (f v) (f m)
   copied_known {v} {m} k =
-      known_from_bits (copy_fits v) (copy_fits m)
+      apart_from_bits (copy_fits v) (copy_fits m)
       (λ i i_in. elim (cases_lt i n) [
         | inl lt ↦
             let ev = c.bit v i lt in
@@ -66,7 +66,7 @@ module _ {n : ℕ} {position : ℕ → ℕ} {f : ℕ → ℕ} (c : Copies n posi
       let em = mod-eq_of_lt {n = f m} {m = 2 ^ n} (c.below m) in
       low_fits (copied_known k) n (rw (ev, em) h)
 
-  -- an unknown bit has both values, those of the bit that it copies
+  -- an unknown bit is 0 in some result and 1 in another, as the bit that it copies is
   pub copied_sharp : {av am bv bm : ℕ} → Apart av am → Apart bv bm → (i : ℕ) → bit_at (f am) i ≡ 1
       → Occurs av am bv bm (λ x y. f x) i 0 × Occurs av am bv bm (λ x y. f x) i 1
   copied_sharp {av} {am} {bv} {bm} ka kb i h =
@@ -77,7 +77,7 @@ module _ {n : ℕ} {position : ℕ → ℕ} {f : ℕ → ℕ} (c : Copies n posi
             let eo = c.bit (bit_or av am) i lt in
             let o = bit_at_or av am (position i) in
             let a = bits_apart ka (position i) in
-            both_values (λ x y. f x) i av bv (bit_or av am) bv (least_member ka) (least_member kb)
+            both_occur (λ x y. f x) i av bv (bit_or av am) bv (least_member ka) (least_member kb)
             (most_member ka) (least_member kb)
             (λ same. omega arith)
         | inr ge ↦ absurd (let z = bit_at_above (f am) n i (c.below am) ge in omega arith)

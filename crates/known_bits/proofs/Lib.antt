@@ -9,7 +9,7 @@ pub mod Precise
 pub mod Product
 pub mod Order
 pub mod Prefix
-pub mod Widths
+pub mod Constants
 pub mod Signs
 pub mod Overlaps
 pub mod Copies

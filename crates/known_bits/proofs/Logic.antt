@@ -4,7 +4,7 @@ use Rattle.std.specs.Int.{bit_at, bit_not}
 use Rattle.std.proofs.lemmas.Nat.{and_le_l, or_lt, xor_lt}
 use Rattle.std.proofs.lemmas.Nat.Bits.{bit_at_and, bit_at_or, bit_at_xor, bit_at_not, bit_at-lt}
 use Rattle.known_bits.specs.Member.{IsMember}
-use Rattle.known_bits.proofs.Members.{Apart, bits_between, bits_apart, known_from_bits, member_from_bits}
+use Rattle.known_bits.proofs.Members.{Apart, bits_between, bits_apart, apart_from_bits, member_from_bits}
 
 -- what the code computes for each
 abbrev pub and_mask_of : ℕ → ℕ → ℕ → ℕ → ℕ
@@ -27,8 +27,8 @@ pub without_in : {v : ℕ} (m : ℕ) → v < 2 ^ 64 → without v m < 2 ^ 64
 without_in {v} m h = let le = and_le_l v (bit_not w64 m) in omega arith
 
 -- clearing the mask's bits makes the two parts apart
-pub known_without : {v m : ℕ} → v < 2 ^ 64 → m < 2 ^ 64 → Apart (without v m) m
-known_without {v} {m} v_in m_in = known_from_bits (without_in m v_in) m_in
+pub apart_without : {v m : ℕ} → v < 2 ^ 64 → m < 2 ^ 64 → Apart (without v m) m
+apart_without {v} {m} v_in m_in = apart_from_bits (without_in m v_in) m_in
     (λ i i_in. let e = without_bit v m m_in i i_in in
     let b = bit_at-lt v i in let c = bit_at-lt m i in omega arith)
 
@@ -46,7 +46,7 @@ module _ {av am bv bm : ℕ} (ka : Apart av am) (kb : Apart bv bm) where
 
   pub and_known : Apart (bit_and av bv) (and_mask_of av am bv bm)
   and_known =
-      known_from_bits and_in
+      apart_from_bits and_in
       (without_in (bit_and av bv)
       (let h = ka.value_in in
       let hm = ka.mask_in in
@@ -73,7 +73,7 @@ module _ {av am bv bm : ℕ} (ka : Apart av am) (kb : Apart bv bm) where
 
   pub or_known : Apart (bit_or av bv) (or_mask_of av am bv bm)
   or_known =
-      known_from_bits or_in (without_in (bit_or av bv) (or_lt 64 am bm ka.mask_in kb.mask_in))
+      apart_from_bits or_in (without_in (bit_or av bv) (or_lt 64 am bm ka.mask_in kb.mask_in))
       (λ i i_in. let e = without_bit (bit_or am bm) (bit_or av bv) or_in i i_in in
       let f = bit_at_or av bv i in
       let b1 = bit_at-lt av i in let b2 = bit_at-lt bv i in omega arith)
@@ -92,7 +92,7 @@ module _ {av am bv bm : ℕ} (ka : Apart av am) (kb : Apart bv bm) where
 
   pub xor_known : Apart (without (bit_xor av bv) (bit_or am bm)) (bit_or am bm)
   xor_known =
-      known_without (xor_lt 64 av bv ka.value_in kb.value_in) (or_lt 64 am bm ka.mask_in kb.mask_in)
+      apart_without (xor_lt 64 av bv ka.value_in kb.value_in) (or_lt 64 am bm ka.mask_in kb.mask_in)
 
   pub xor_contains : (x y : ℕ) → IsMember av am x → IsMember bv bm y
       → IsMember (without (bit_xor av bv) (bit_or am bm)) (bit_or am bm) (bit_xor x y)

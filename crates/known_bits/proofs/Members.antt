@@ -13,8 +13,8 @@ pub record Apart (v m : ℕ) : Type 0 where
   pub mask_in : m < 2 ^ 64
   pub apart : bit_and v m ≡ 0
 
-pub known : (b : Bits) → b.value < 2 ^ 64 → b.mask < 2 ^ 64 → Apart b.value b.mask
-known b value_in mask_in = record { value_in = value_in; mask_in = mask_in; apart = b.apart }
+pub is_apart : (b : Bits) → b.value < 2 ^ 64 → b.mask < 2 ^ 64 → Apart b.value b.mask
+is_apart b value_in mask_in = record { value_in = value_in; mask_in = mask_in; apart = b.apart }
 
 -- one bit of the value, the mask and a member
 pub record Between (v m x : ℕ) : Type 0 where
@@ -40,9 +40,9 @@ bits_between {v} {m} {x} k h i i_in =
     let mask : bit_at m i < 2 = bit_at-lt m i in
     record { apart = bits_apart k i; least = omega arith; most = omega arith }
 
-pub known_from_bits : {v m : ℕ} → v < 2 ^ 64 → m < 2 ^ 64
+pub apart_from_bits : {v m : ℕ} → v < 2 ^ 64 → m < 2 ^ 64
     → ((i : ℕ) → i < 64 → bit_at v i + bit_at m i ≤ 1) → Apart v m
-known_from_bits {v} {m} v_in m_in h = record {
+apart_from_bits {v} {m} v_in m_in h = record {
   value_in = v_in;
   mask_in = m_in;
   apart = same_from_bits_below 64 _ _ (let le = and_le_l v m in omega arith) (omega arith)

@@ -4,9 +4,9 @@ use Rattle.std.specs.Int.{bit_at, bit_not}
 use Rattle.std.proofs.lemmas.Nat.{and_le_l, and_le_r, or_lt, xor_lt, mod_below, pow_pos}
 use Rattle.std.proofs.lemmas.Nat.Bits.{bit_at_and, bit_at_or, bit_at_xor, bit_at-lt, bit_at-zero, same_from_bits_below, same_from_bits}
 use Rattle.known_bits.specs.Member.{IsMember}
-use Rattle.known_bits.proofs.Members.{Apart, bits_between, bits_apart, known_from_bits, member_from_bits, member_and_most}
+use Rattle.known_bits.proofs.Members.{Apart, bits_between, bits_apart, apart_from_bits, member_from_bits, member_and_most}
 use Rattle.known_bits.proofs.Logic.{without, without_bit}
-use Rattle.known_bits.proofs.Parts.{low_known}
+use Rattle.known_bits.proofs.Parts.{low_apart}
 use Rattle.known_bits.proofs.Sharp.{least_member, most_member}
 
 -- where the two differ in a bit that is known in both
@@ -37,10 +37,10 @@ clash_zero : {av am bv bm : ℕ} → Apart av am → Apart bv bm → clash_of av
     → i < 64 → min ((bit_at av i + bit_at bv i) % 2) (1 - max (bit_at am i) (bit_at bm i)) ≡ 0
 clash_zero ka kb h i i_in = sym (clash_bit ka kb i i_in) ∙ ap (λ n. bit_at n i) h ∙ bit_at-zero i
 
-pub meet_known : {av am bv bm : ℕ} → Apart av am → Apart bv bm
+pub meet_apart : {av am bv bm : ℕ} → Apart av am → Apart bv bm
     → Apart (bit_or av bv) (bit_and am bm)
-meet_known {av} {am} {bv} {bm} ka kb =
-    known_from_bits (or_lt 64 av bv ka.value_in kb.value_in)
+meet_apart {av} {am} {bv} {bm} ka kb =
+    apart_from_bits (or_lt 64 av bv ka.value_in kb.value_in)
     (let h = ka.mask_in in let le = and_le_l am bm in omega arith)
     (λ i i_in. let e = bit_at_or av bv i in
     let f = bit_at_and am bm i in
@@ -49,7 +49,7 @@ meet_known {av} {am} {bv} {bm} ka kb =
 pub meet_contains : {av am bv bm : ℕ} → Apart av am → Apart bv bm → (x : ℕ) → IsMember av am x
     → IsMember bv bm x → IsMember (bit_or av bv) (bit_and am bm) x
 meet_contains {av} {am} {bv} {bm} ka kb x hx hy =
-    let k = meet_known ka kb in
+    let k = meet_apart ka kb in
     member_from_bits k.value_in k.mask_in hx.below
     (λ i i_in. let e = bit_at_or av bv i in
     let f = bit_at_and am bm i in
@@ -60,7 +60,7 @@ meet_contains {av} {am} {bv} {bm} ka kb x hx hy =
 pub meet_left : {av am bv bm : ℕ} → Apart av am → Apart bv bm → clash_of av am bv bm ≡ 0 → (x : ℕ)
     → IsMember (bit_or av bv) (bit_and am bm) x → IsMember av am x
 meet_left {av} {am} {bv} {bm} ka kb h x hx =
-    let k = meet_known ka kb in
+    let k = meet_apart ka kb in
     member_from_bits ka.value_in ka.mask_in hx.below
     (λ i i_in. let e = bit_at_or av bv i in
     let f = bit_at_and am bm i in let b = bits_between k hx i i_in in
@@ -71,7 +71,7 @@ meet_left {av} {am} {bv} {bm} ka kb h x hx =
 pub meet_right : {av am bv bm : ℕ} → Apart av am → Apart bv bm → clash_of av am bv bm ≡ 0 → (x : ℕ)
     → IsMember (bit_or av bv) (bit_and am bm) x → IsMember bv bm x
 meet_right {av} {am} {bv} {bm} ka kb h x hx =
-    let k = meet_known ka kb in
+    let k = meet_apart ka kb in
     member_from_bits kb.value_in kb.mask_in hx.below
     (λ i i_in. let e = bit_at_or av bv i in
     let f = bit_at_and am bm i in let b = bits_between k hx i i_in in
@@ -116,7 +116,7 @@ member_most {v} {m} {x} k h =
 -- a member of the low parts is below
 pub low_fits : {v m x : ℕ} → Apart v m → (n : ℕ) → IsMember (v % 2 ^ n) (m % 2 ^ n) x → x < 2 ^ n
 low_fits {v} {m} {x} k n h =
-    let most = member_most (low_known k n) h in
+    let most = member_most (low_apart k n) h in
     let p = pow_pos n in
     let top = or_lt n (v % 2 ^ n) (m % 2 ^ n) (mod_below v (2 ^ n) p) (mod_below m (2 ^ n) p) in
     omega arith

@@ -6,7 +6,7 @@ use Rattle.std.proofs.lemmas.Nat.{pow_pos, mod-pow-add, mod_below}
 use Rattle.std.proofs.lemmas.Nat.Bits.{bit_at_above}
 use Rattle.std.proofs.lemmas.Bool.{cases_lt}
 use Rattle.known_bits.specs.Member.{IsMember}
-use Rattle.known_bits.proofs.Members.{Apart, bits_between, bits_apart, known_from_bits, member_from_bits}
+use Rattle.known_bits.proofs.Members.{Apart, bits_between, bits_apart, apart_from_bits, member_from_bits}
 use Rattle.known_bits.proofs.Carry.{low_bit}
 
 -- ---- the low part
@@ -17,10 +17,10 @@ high_bit n w i h = bit_at_above (n % 2 ^ w) w i (mod_below n (2 ^ w) (pow_pos w)
 mod_le : (n w : ℕ) → n % 2 ^ w ≤ n
 mod_le n w = let p = pow_pos w in omega arith
 
-pub low_known : {v m : ℕ} → Apart v m → (w : ℕ) → Apart (v % 2 ^ w) (m % 2 ^ w)
-low_known {v} {m} k w =
+pub low_apart : {v m : ℕ} → Apart v m → (w : ℕ) → Apart (v % 2 ^ w) (m % 2 ^ w)
+low_apart {v} {m} k w =
     let a = k.value_in in let b = k.mask_in in let c = mod_le v w in let d = mod_le m w in
-    known_from_bits (omega arith) (omega arith)
+    apart_from_bits (omega arith) (omega arith)
     (λ i i_in. elim (cases_lt i w) [
       | inl lt ↦
           let ev = low_bit v w i lt in
@@ -31,7 +31,7 @@ low_known {v} {m} k w =
 pub low_contains : {v m : ℕ} → Apart v m → (w x : ℕ) → IsMember v m x
     → IsMember (v % 2 ^ w) (m % 2 ^ w) (x % 2 ^ w)
 low_contains {v} {m} k w x h =
-    let kn = low_known k w in
+    let kn = low_apart k w in
     let b = h.below in let c = mod_le x w in
     member_from_bits kn.value_in kn.mask_in (omega arith)
     (λ i i_in. elim (cases_lt i w) [

@@ -1,4 +1,4 @@
--- Both values of each unknown bit of sums, differences and shifts occur.
+-- Each unknown bit of sums, differences and shifts is 0 in some result and 1 in another.
 use Rattle.std.proofs.Common.{inl, inr, ◌≡◌, ℕ, ◌+◌, ◌-◌, ◌*◌, ◌/◌, ◌%◌, ◌^◌, ◌<◌, ◌≤◌, w64, sym, ap, ◌∙◌, arith, bit_or, bit_xor}
 use Rattle.std.specs.Int.{bit_at, bit_not}
 use Rattle.std.proofs.Math.Nat.{add-mul-div_right}
@@ -10,8 +10,8 @@ use Rattle.known_bits.specs.Member.{IsMember, Occurs}
 use Rattle.known_bits.proofs.Members.{Apart, bits_apart, bits_between, member_from_bits}
 use Rattle.known_bits.proofs.Carry.{sum_least, sum_mask, sum_known, low_bit}
 use Rattle.known_bits.proofs.Order.{low_fits}
-use Rattle.known_bits.proofs.Parts.{low_known}
-use Rattle.known_bits.proofs.Sharp.{both_values, least_member, most_member, set_below}
+use Rattle.known_bits.proofs.Parts.{low_apart}
+use Rattle.known_bits.proofs.Sharp.{both_occur, least_member, most_member, set_below}
 use Rattle.known_bits.proofs.Shift.{right_bit, shifted_low, shifted_high}
 
 -- ---- one unknown bit set
@@ -80,7 +80,7 @@ module _ {av am bv bm : ℕ} (ka : Apart av am) (kb : Apart bv bm) where
             let one : bit_at am i ≡ 1 = (let b = bit_at-lt am i in omega arith) in
             let e = raised ka i one in
             let f = sum_flips (av + bv) (bit_or av (2 ^ i) + bv) i i_in (omega arith) in
-            both_values (λ x y. (x + y) % 2 ^ 64) i av bv (bit_or av (2 ^ i)) bv la lb
+            both_occur (λ x y. (x + y) % 2 ^ 64) i av bv (bit_or av (2 ^ i)) bv la lb
             (raised_member ka i i_in one) lb (λ same. omega arith)
         | inr not_a ↦
             elim (cases_lt 0 (bit_at bm i)) [
@@ -88,10 +88,10 @@ module _ {av am bv bm : ℕ} (ka : Apart av am) (kb : Apart bv bm) where
                   let one : bit_at bm i ≡ 1 = (let b = bit_at-lt bm i in omega arith) in
                   let e = raised kb i one in
                   let f = sum_flips (av + bv) (av + bit_or bv (2 ^ i)) i i_in (omega arith) in
-                  both_values (λ x y. (x + y) % 2 ^ 64) i av bv av (bit_or bv (2 ^ i)) la lb la
+                  both_occur (λ x y. (x + y) % 2 ^ 64) i av bv av (bit_or bv (2 ^ i)) la lb la
                   (raised_member kb i i_in one) (λ same. omega arith)
               | inr not_b ↦
-                  both_values (λ x y. (x + y) % 2 ^ 64) i av bv (bit_or av am) (bit_or bv bm) la lb
+                  both_occur (λ x y. (x + y) % 2 ^ 64) i av bv (bit_or av am) (bit_or bv bm) la lb
                   (most_member ka) (most_member kb) (λ same. omega arith)
             ]
       ]
@@ -131,7 +131,7 @@ module _ {av am bv bm : ℕ} (ka : Apart av am) (kb : Apart bv bm) where
             let eo = shifted_high (bit_or av am) k i i_in ge in
             let o = bit_at_or av am (i - k) in
             let a = bits_apart ka (i - k) in
-            both_values (λ x y. (x * 2 ^ k) % 2 ^ 64) i av bv (bit_or av am) bv (least_member ka)
+            both_occur (λ x y. (x * 2 ^ k) % 2 ^ 64) i av bv (bit_or av am) bv (least_member ka)
             (least_member kb) (most_member ka) (least_member kb)
             (λ same. omega arith)
       ]
@@ -144,7 +144,7 @@ module _ {av am bv bm : ℕ} (ka : Apart av am) (kb : Apart bv bm) where
       let eo = right_bit (bit_or av am) k i in
       let o = bit_at_or av am (k + i) in
       let a = bits_apart ka (k + i) in
-      both_values (λ x y. x / 2 ^ k) i av bv (bit_or av am) bv (least_member ka) (least_member kb)
+      both_occur (λ x y. x / 2 ^ k) i av bv (bit_or av am) bv (least_member ka) (least_member kb)
       (most_member ka) (least_member kb) (λ same. omega arith)
 
   pub second_sharp : (i : ℕ) → bit_at bm i ≡ 1
@@ -152,7 +152,7 @@ module _ {av am bv bm : ℕ} (ka : Apart av am) (kb : Apart bv bm) where
   second_sharp i h =
       let o = bit_at_or bv bm i in
       let a = bits_apart kb i in
-      both_values (λ x y. y) i av bv av (bit_or bv bm) (least_member ka) (least_member kb)
+      both_occur (λ x y. y) i av bv av (bit_or bv bm) (least_member ka) (least_member kb)
       (least_member ka) (most_member kb) (λ same. omega arith)
 
 -- ---- a member of the low parts is the low part of a member
@@ -179,7 +179,7 @@ lifted_member {v} {m} k n z n_in h =
     (λ i i_in. elim (cases_lt i n) [
       | inl lt ↦
           let e = bit_at_cat_low (v / 2 ^ n) n z i lt in
-          let b = bits_between (low_known k n) h i i_in in
+          let b = bits_between (low_apart k n) h i i_in in
           let ev = low_bit v n i lt in
           let em = low_bit m n i lt in
           record { apart = bits_apart k i; least = omega arith; most = omega arith }

@@ -1,4 +1,4 @@
--- A product by its terms.
+-- A product by its terms: each term, the product before the first one and after all of them.
 use Rattle.std.proofs.Common.{◌≡◌, ℕ, ◌*◌, ◌%◌, ◌^◌, ◌<◌, ap, ◌∙◌, arith, bit_or}
 use Rattle.std.proofs.lemmas.Nat.{or_lt}
 use Rattle.std.proofs.Math.Nat.{mod-eq_of_lt}

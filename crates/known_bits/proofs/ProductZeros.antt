@@ -11,7 +11,7 @@ use Rattle.known_bits.specs.Member.{IsMember}
 use Rattle.known_bits.proofs.MemberLaws.{bit_at-differing}
 use Rattle.known_bits.proofs.Members.{Apart, member_and_most}
 use Rattle.known_bits.proofs.Carry.{low_bit}
-use Rattle.known_bits.proofs.Parts.{high_bit, low_known}
+use Rattle.known_bits.proofs.Parts.{high_bit, low_apart}
 use Rattle.known_bits.proofs.Order.{member_most}
 
 -- ---- multiples of powers of two
@@ -143,13 +143,13 @@ member-length v m g x l m_in zero sharp small h =
 pub low-multiple : {v m x : ℕ} → Apart v m → (w j : ℕ) → bit_or v m % 2 ^ j ≡ 0
     → IsMember (v % 2 ^ w) (m % 2 ^ w) x → x % 2 ^ j ≡ 0
 low-multiple {v} {m} k w j z h =
-    member-multiple (low_known k w) h j
+    member-multiple (low_apart k w) h j
     (ap (λ t. t % 2 ^ j) (sym (or_mod v m w)) ∙ mod-mod_pow (bit_or v m) j w z)
 
 pub low-limit : {v m x : ℕ} → Apart v m → (w l : ℕ) → bit_or v m < 2 ^ l
     → IsMember (v % 2 ^ w) (m % 2 ^ w) x → x < 2 ^ l
 low-limit {v} {m} k w l small h =
-    let most = member_most (low_known k w) h in
+    let most = member_most (low_apart k w) h in
     let e = or_mod v m w in
     let le = mod_le (bit_or v m) w in
     omega arith

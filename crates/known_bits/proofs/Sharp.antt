@@ -1,4 +1,4 @@
--- Both values of each unknown bit occur.
+-- Each unknown bit is 0 in some result and 1 in another.
 use Rattle.std.proofs.Common.{inl, inr, ◌≡◌, ◌≢◌, ℕ, ◌%◌, ◌^◌, ◌<◌, sym, ap, ◌∙◌, arith, bit_and, bit_or, bit_xor}
 use Rattle.std.specs.Int.{bit_at}
 use Rattle.std.proofs.lemmas.Nat.{or_lt}
@@ -26,11 +26,11 @@ set_below n i h e =
     elim (cases_lt i 64)
     [ inl lt ↦ lt | inr ge ↦ absurd (let z = bit_at_above n 64 i h ge in omega arith) ]
 
--- two results that differ in a bit show both its values
-pub both_values : {av am bv bm : ℕ} (f : ℕ → ℕ → ℕ) (i x y x' y' : ℕ) → IsMember av am x
+-- of two results that differ in a bit, one has 0 there and the other 1
+pub both_occur : {av am bv bm : ℕ} (f : ℕ → ℕ → ℕ) (i x y x' y' : ℕ) → IsMember av am x
     → IsMember bv bm y → IsMember av am x' → IsMember bv bm y'
     → bit_at (f x y) i ≢ bit_at (f x' y') i → Occurs av am bv bm f i 0 × Occurs av am bv bm f i 1
-both_values f i x y x' y' hx hy hx' hy' differ =
+both_occur f i x y x' y' hx hy hx' hy' differ =
     let l = bit_at-lt (f x y) i in
     let l' = bit_at-lt (f x' y') i in
     elim (cases_lt 0 (bit_at (f x y) i)) [
@@ -103,11 +103,11 @@ module _ {av am bv bm : ℕ} (ka : Apart av am) (kb : Apart bv bm) where
       elim (cases_lt 0 (bit_at am i)) [
         | inl in_a ↦
             let other = bit_at_xor (bit_or av am) bv i in
-            both_values bit_xor i av bv (bit_or av am) bv (least_member ka) (least_member kb)
+            both_occur bit_xor i av bv (bit_or av am) bv (least_member ka) (least_member kb)
             (most_member ka) (least_member kb) (λ same. omega arith)
         | inr not_a ↦
             let other = bit_at_xor av (bit_or bv bm) i in
-            both_values bit_xor i av bv av (bit_or bv bm) (least_member ka) (least_member kb)
+            both_occur bit_xor i av bv av (bit_or bv bm) (least_member ka) (least_member kb)
             (least_member ka) (most_member kb) (λ same. omega arith)
       ]
 

@@ -6,7 +6,7 @@ use Rattle.std.proofs.lemmas.Nat.{and_le_r, or_lt, pow-add, pow_pos, and_mask}
 use Rattle.std.proofs.lemmas.Nat.Bits.{bit_at_or, bit_at_not, bit_at-lt, bit_at-zero, bit_at_above, bit_at_cat_low, bit_at_cat_high}
 use Rattle.std.proofs.lemmas.Bool.{cases_lt}
 use Rattle.known_bits.specs.Member.{IsMember}
-use Rattle.known_bits.proofs.Members.{Apart, Between, bits_between, bits_apart, known_from_bits, member_from_bits}
+use Rattle.known_bits.proofs.Members.{Apart, Between, bits_between, bits_apart, apart_from_bits, member_from_bits}
 use Rattle.known_bits.proofs.Carry.{low_bit}
 
 -- ---- one number
@@ -22,10 +22,10 @@ any_has x h = record { below = h; known = let le = and_le_r x 0 in omega arith }
 
 -- ---- the complement
 
-pub not_known : {v m : ℕ} → Apart v m → Apart (bit_not w64 (bit_or v m)) m
-not_known {v} {m} k =
+pub complement_apart : {v m : ℕ} → Apart v m → Apart (bit_not w64 (bit_or v m)) m
+complement_apart {v} {m} k =
     let o = or_lt 64 v m k.value_in k.mask_in in
-    known_from_bits (omega arith) k.mask_in
+    apart_from_bits (omega arith) k.mask_in
     (λ i i_in. let n = bit_at_not w64 (bit_or v m) i o i_in in
     let e = bit_at_or v m i in
     let a = bits_apart k i in let b = bit_at-lt v i in let c = bit_at-lt m i in omega arith)
@@ -34,7 +34,7 @@ pub not_contains : {v m : ℕ} → Apart v m → (x : ℕ) → IsMember v m x
     → IsMember (bit_not w64 (bit_or v m)) m (2 ^ 64 - 1 - x)
 not_contains {v} {m} k x h =
     let o = or_lt 64 v m k.value_in k.mask_in in
-    let kn = not_known k in
+    let kn = complement_apart k in
     member_from_bits kn.value_in kn.mask_in (omega arith)
     (λ i i_in. let n = bit_at_not w64 (bit_or v m) i o i_in in
     let nx = bit_at_not w64 x i h.below i_in in let e = bit_at_or v m i in
@@ -48,7 +48,7 @@ not_back {v} {m} k x h =
     member_from_bits k.value_in k.mask_in (omega arith)
     (λ i i_in. let n = bit_at_not w64 (bit_or v m) i o i_in in
     let nx = bit_at_not w64 x i h.below i_in in let e = bit_at_or v m i in
-    let b = bits_between (not_known k) h i i_in in
+    let b = bits_between (complement_apart k) h i i_in in
     let bx = bit_at-lt x i in let a = bits_apart k i in
     record { apart = a; least = omega arith; most = omega arith })
 
@@ -80,10 +80,10 @@ left_between {v} {m} {x} kn h k i i_in =
           record { apart = omega arith; least = omega arith; most = omega arith }
     ]
 
-pub left_known : {v m : ℕ} → Apart v m → (k : ℕ)
+pub left_apart : {v m : ℕ} → Apart v m → (k : ℕ)
     → Apart ((v * 2 ^ k) % 2 ^ 64) ((m * 2 ^ k) % 2 ^ 64)
-left_known {v} {m} kn k =
-    known_from_bits (omega arith) (omega arith)
+left_apart {v} {m} kn k =
+    apart_from_bits (omega arith) (omega arith)
     (λ i i_in. elim (cases_lt i k) [
       | inl lt ↦
           let ev = shifted_low v k i i_in lt in let em = shifted_low m k i i_in lt in omega arith
@@ -95,7 +95,7 @@ left_known {v} {m} kn k =
 pub left_contains : {v m : ℕ} → Apart v m → (k x : ℕ) → IsMember v m x
     → IsMember ((v * 2 ^ k) % 2 ^ 64) ((m * 2 ^ k) % 2 ^ 64) ((x * 2 ^ k) % 2 ^ 64)
 left_contains kn k x h =
-    let l = left_known kn k in
+    let l = left_apart kn k in
     member_from_bits l.value_in l.mask_in (omega arith) (left_between kn h k)
 
 -- ---- to the right
@@ -120,9 +120,9 @@ right_between {v} {m} {x} kn h k i =
           record { apart = omega arith; least = omega arith; most = omega arith }
     ]
 
-pub right_known : {v m : ℕ} → Apart v m → (k : ℕ) → Apart (v / 2 ^ k) (m / 2 ^ k)
-right_known {v} {m} kn k =
-    known_from_bits (let h = kn.value_in in let l = div-le_self v (2 ^ k) in omega arith)
+pub right_apart : {v m : ℕ} → Apart v m → (k : ℕ) → Apart (v / 2 ^ k) (m / 2 ^ k)
+right_apart {v} {m} kn k =
+    apart_from_bits (let h = kn.value_in in let l = div-le_self v (2 ^ k) in omega arith)
     (let h = kn.mask_in in let l = div-le_self m (2 ^ k) in omega arith)
     (λ i i_in. let ev = right_bit v k i in
     let em = right_bit m k i in let a = bits_apart kn (k + i) in omega arith)
@@ -130,7 +130,7 @@ right_known {v} {m} kn k =
 pub right_contains : {v m : ℕ} → Apart v m → (k x : ℕ) → IsMember v m x
     → IsMember (v / 2 ^ k) (m / 2 ^ k) (x / 2 ^ k)
 right_contains kn k x h =
-    let l = right_known kn k in
+    let l = right_apart kn k in
     member_from_bits l.value_in l.mask_in
     (let b = h.below in let le = div-le_self x (2 ^ k) in omega arith)
     (λ i i_in. right_between kn h k i)

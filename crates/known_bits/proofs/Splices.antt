@@ -1,4 +1,4 @@
--- Numbers with other bits from one on, bit by bit.
+-- Numbers in which some bits are replaced by those of another number, bit by bit.
 use Rattle.std.proofs.Common.{◌≡◌, ℕ, ◌+◌, ◌-◌, ◌*◌, ◌/◌, ◌%◌, ◌^◌, ◌<◌, ◌≤◌, w64, sym, ap, ◌∙◌, inl, inr, arith, bit_and, bit_or}
 use Rattle.std.specs.Int.{bit_at, bit_not}
 use Rattle.std.proofs.Math.Nat.{mod-eq_of_lt, div-mul-le_self}
@@ -8,7 +8,7 @@ use Rattle.std.proofs.lemmas.Nat.Bits.{bit_at_and, bit_at_or, bit_at_not, bit_at
 use Rattle.std.proofs.lemmas.Bool.{cases_lt}
 use Rattle.known_bits.specs.Member.{IsMember}
 use Rattle.known_bits.specs.Bits.{spliced}
-use Rattle.known_bits.proofs.Members.{Apart, Between, bits_between, bits_apart, known_from_bits, member_from_bits}
+use Rattle.known_bits.proofs.Members.{Apart, Between, bits_between, bits_apart, apart_from_bits, member_from_bits}
 use Rattle.known_bits.proofs.Carry.{low_bit}
 use Rattle.known_bits.proofs.Shift.{right_bit, shifted_high}
 
@@ -119,10 +119,10 @@ spliced-masked from count x y m start inside fits is small =
 
 -- ---- sets
 
-pub spliced_known : {v m w n : ℕ} → Apart v m → Apart w n → (from count : ℕ) → from + count ≤ 64
+pub spliced_apart : {v m w n : ℕ} → Apart v m → Apart w n → (from count : ℕ) → from + count ≤ 64
     → Apart (spliced from count v w) (spliced from count m n)
-spliced_known {v} {m} {w} {n} a b from count inside =
-    known_from_bits (spliced-lt from count v w inside a.value_in)
+spliced_apart {v} {m} {w} {n} a b from count inside =
+    apart_from_bits (spliced-lt from count v w inside a.value_in)
     (spliced-lt from count m n inside a.mask_in)
     (λ i within. elim (cases_lt i from) [
       | inl below ↦
@@ -173,7 +173,7 @@ pub spliced_contains : {v m w n : ℕ} → Apart v m → Apart w n → (from cou
     → from + count ≤ 64 → IsMember v m x → IsMember w n y
     → IsMember (spliced from count v w) (spliced from count m n) (spliced from count x y)
 spliced_contains a b from count x y inside hx hy =
-    let k = spliced_known a b from count inside in
+    let k = spliced_apart a b from count inside in
     member_from_bits k.value_in k.mask_in (spliced-lt from count x y inside hx.below)
     (λ i within. spliced_between a b hx hy from count i within)
 
@@ -248,7 +248,7 @@ spliced_greatest from count x y v w h k fits =
     (spliced_mono from count x (y % 2 ^ count) v w h k fits)
     (spliced_low_bits from (spliced from count v w) (2 ^ from - 1) (omega arith))
 
--- wider limits are so with other bits too
+-- wider limits stay wider with their bits replaced
 pub spliced_wider : (from count x y v w l m : ℕ) → x ≤ v → y ≤ w → w < 2 ^ count → l < 2 ^ from
     → m < 2 ^ from → l ≤ m
     → spliced 0 from (spliced from count x y) l ≤ spliced 0 from (spliced from count v w) m

@@ -7,7 +7,7 @@ pub record IsMember (value mask x : ℕ) : Type 0 where
   pub below : x < 2 ^ 64
   pub known : bit_and x (bit_not w64 mask) ≡ value
 
--- the result of f on some members of both has this value at bit i
+-- bit i of the result of f on some members of both is `bit`
 pub record Occurs (av am bv bm : ℕ) (f : ℕ → ℕ → ℕ) (i bit : ℕ) : Type 0 where
   pub x : ℕ
   pub y : ℕ

@@ -1,5 +1,5 @@
-//! What a relation between a number of one set and a number of another leaves of both sets: at
-//! least the numbers that have it to some number of the other set.
+//! What is left of two sets where a number of the one has a relation to a number of the other: of
+//! each at least the numbers that have it to some number of the other set.
 
 ghost use Rattle.std.specs.Prelude.{◌≡◌, ◌≢◌, ℕ, ◌<◌, ◌≤◌, ◌<ℤ◌, ◌≤ℤ◌, ◌^◌, IsSomeAnd, IfSome, bit_and, bit_or};
 ghost use Rattle.std.specs.Int.{w64, cast_signed, bit_at};
@@ -81,7 +81,7 @@ impl Bits {
     }
 
     /// What is left of both where a number of this differs from one of the other.
-    pub fn apart(self, other: Self) -> Option<(Self, Self)>
+    pub fn unequal(self, other: Self) -> Option<(Self, Self)>
         ensures common { (x y : ℕ) → Has self x → Has other y → x ≢ y
             → IsSomeAnd result (λ p. Has p.0 x × Has p.1 y) }
         ensures left { IfSome result (λ p. (x : ℕ) → Has p.0 x → Has self x) }

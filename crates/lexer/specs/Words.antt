@@ -80,8 +80,8 @@ size_word cs =
     else if bytes_eq cs (codes "s32") then word.SignExtended S32
     else swap_word cs
 
-abbrev pub key_word : List ℕ → Word
-key_word cs =
+abbrev pub keyword : List ℕ → Word
+keyword cs =
     if bytes_eq cs (codes "if") then word.If
     else if bytes_eq cs (codes "goto") then word.Goto
     else if bytes_eq cs (codes "gotol") then word.GotoLong
@@ -93,8 +93,8 @@ key_word cs =
     else size_word cs
 
 abbrev pub word_of : List ℕ → Word
-word_of [] = key_word []
+word_of [] = keyword []
 word_of (c ∷ cs) =
     if c == 114 then register_word Full64 (reg_of cs)
     else if c == 119 then register_word Low32 (reg_of cs)
-    else key_word (c ∷ cs)
+    else keyword (c ∷ cs)

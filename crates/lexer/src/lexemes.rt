@@ -50,7 +50,7 @@ fn word_or_sign(text: &[u8], b: u8) -> Option<(Lexeme, usize)>
 /// with `s` rather than a word. Otherwise the offset of the first byte that begins no token.
 pub fn lexeme_at(text: &[u8]) -> Result<(Lexeme, usize), usize>
     ensures found { result_ok result ≡ lexeme_at text.now }
-    ensures fault { IfErr result (λ at. at ≡ unknown_at text.now) }
+    ensures unknown { IfErr result (λ at. at ≡ unknown_at text.now) }
 {
     let b = byte_at(text, 0);
     if is_digit(b, 10) {

@@ -110,7 +110,7 @@ fn number_after(base: u8, skip: usize, text: &[u8], n: usize) -> Result<(Lexeme,
     requires within { skip + n ≤ length text.now }
     requires base { base ≤ 16 }
     ensures found { result_ok result ≡ number_after base skip text.now n }
-    ensures fault { IfErr result (λ at. at ≡ number_end skip n) }
+    ensures unknown { IfErr result (λ at. at ≡ number_end skip n) }
 {
     if n == 0 {
         // `0x` without a digit is the number 0 with an `x` after it
@@ -128,7 +128,7 @@ fn number_at(text: &[u8], skip: usize, base: u8) -> Result<(Lexeme, usize), usiz
     requires within { skip ≤ length text.now }
     requires base { base ≤ 16 }
     ensures found { result_ok result ≡ number_at base skip text.now }
-    ensures fault { IfErr result (λ at. at ≡ number_end_at base skip text.now) }
+    ensures unknown { IfErr result (λ at. at ≡ number_end_at base skip text.now) }
 {
     number_after(base, skip, text, digits_len(&text[skip..], base))
 }
@@ -136,7 +136,7 @@ fn number_at(text: &[u8], skip: usize, base: u8) -> Result<(Lexeme, usize), usiz
 /// The number at the text's front, which begins with a digit.
 pub fn number_from(text: &[u8]) -> Result<(Lexeme, usize), usize>
     ensures found { result_ok result ≡ number_from text.now }
-    ensures fault { IfErr result (λ at. at ≡ number_end_from text.now) }
+    ensures unknown { IfErr result (λ at. at ≡ number_end_from text.now) }
 {
     if byte_at(text, 0) == b'0' && byte_at(text, 1) == b'x' {
         number_at(text, 2, 16)

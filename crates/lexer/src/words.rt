@@ -1,7 +1,7 @@
 //! What each word means.
 
 ghost use Rattle.std.specs.Prelude.{◌≡◌, bytes_eq};
-ghost use Rattle.lexer.specs.Words.{reg_of, register_word, word_of, key_word, size_word, swap_word, atomic_word, map_word};
+ghost use Rattle.lexer.specs.Words.{reg_of, register_word, word_of, keyword, size_word, swap_word, atomic_word, map_word};
 
 use super::tokens::Word;
 use isa_model::{AtomicOp, ByteOrder, MapType, Reg, SignedSize, Size, SwapWidth, Width};
@@ -140,8 +140,8 @@ fn size_word(word: &[u8]) -> Word
     }
 }
 
-fn key_word(word: &[u8]) -> Word
-    ensures { result ≡ key_word word.now }
+fn keyword(word: &[u8]) -> Word
+    ensures { result ≡ keyword word.now }
 {
     if is_text(word, "if") {
         Word::If
@@ -171,6 +171,6 @@ pub fn word_of(word: &[u8]) -> Word
     match word {
         [b'r', digits @ ..] => register_word(Width::Full64, reg_of(digits)),
         [b'w', digits @ ..] => register_word(Width::Low32, reg_of(digits)),
-        _ => key_word(word),
+        _ => keyword(word),
     }
 }

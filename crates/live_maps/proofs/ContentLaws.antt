@@ -4,7 +4,7 @@ use Rattle.std.specs.Prelude.{IsSomeAnd, slice_get, slice_set, slice_index_or}
 use Rattle.std.specs.FinMap.{entries}
 use Rattle.std.proofs.lemmas.List.{get_or_past, length-set}
 use Rattle.isa_model.specs.Machine.States.{Content, KeyValues, key_values_of}
-use Rattle.map_indexes.specs.Rows.{row_at}
+use Rattle.map_indexes.specs.BlockRows.{block_row}
 use Rattle.maps.specs.ContentLaws.{changed}
 use Rattle.maps.specs.Maps.{MapState, map_at, contents_of, rows_of}
 use Rattle.isa_model.specs.declared.map_defs.MapDef.{MapDef}
@@ -65,10 +65,10 @@ live_contents-set_map (y ∷ maps) (r ∷ all) (suc m) x long h =
 -- the keys and values of a content with serials, without these
 pub key_values-stored : (m : MapState) (s : Serials) (es : List (List ℕ × ℕ))
     → key_values_of (changed (stored m s) es)
-    ≡ map (λ e. (e.0, row_at m.row.value_size m.block e.1)) es
+    ≡ map (λ e. (e.0, block_row m.row.value_size m.block e.1)) es
 key_values-stored m s [] = refl
 key_values-stored m s (e ∷ es) =
-    ap (λ (l : KeyValues). (e.0, row_at m.row.value_size m.block e.1) ∷ l)
+    ap (λ (l : KeyValues). (e.0, block_row m.row.value_size m.block e.1) ∷ l)
     (key_values-stored m s es)
 
 -- without serials the contents are those of the maps

@@ -11,7 +11,7 @@ use Rattle.std.proofs.lemmas.List.{get_or-set_same, get_or-set_other, set-get_or
 use Rattle.isa_model.specs.Machine.States.{Content, KeyValues, key_values_of}
 use Rattle.isa_model.specs.Machine.Memory.{index_of_serial, put_value}
 use Rattle.isa_model.specs.Machine.MapContents.{at_key, with_key, without_key, update_answer, delete_answer, update_answer_by, delete_answer_by}
-use Rattle.map_indexes.specs.Rows.{with_row}
+use Rattle.map_indexes.specs.BlockRows.{with_block_row}
 use Rattle.map_indexes.specs.PlaceKeys.{Places, TakesPlace}
 use Rattle.maps.specs.Maps.{MapState, IsMap, WritesValue, Updated, Deleted, map_at, content_in}
 use Rattle.maps.proofs.UpdateLaws.{delete_answer-places}
@@ -169,7 +169,7 @@ module _ (next : ℕ) (maps : List MapState) (all : List Serials) (m : ℕ) (new
       sym w.there ∙ ap (λ (P : Places). get P key) places ∙ there in
       let place : w.place ≡ p = cc in
       let written =
-      w.written ∙ ap (λ (q : ℕ). with_row old.row.value_size old.block q value) place in
+      w.written ∙ ap (λ (q : ℕ). with_block_row old.row.value_size old.block q value) place in
       let found : at_key key (content_at (live_of maps all next) m) ≡ Some (stored old s p) =
       ap (at_key key) live_at ∙ at_key-live next old s mine key
       ∙ ap (option_map (stored old s)) there in
@@ -201,7 +201,7 @@ module _ (next : ℕ) (maps : List MapState) (all : List Serials) (m : ℕ) (new
       let same : Some w.place ≡ Some p = sym w.there ∙ there in
       let place : w.place ≡ p = cc in
       let written =
-      w.written ∙ ap (λ (q : ℕ). with_row old.row.value_size old.block q value) place in
+      w.written ∙ ap (λ (q : ℕ). with_block_row old.row.value_size old.block q value) place in
       let taken = subst (λ (q : ℕ). TakesPlace old.places key q x.places) place (w.taken absent) in
       let found : at_key key (content_at (live_of maps all next) m) ≡ None =
       ap (at_key key) live_at ∙ at_key-live next old s mine key

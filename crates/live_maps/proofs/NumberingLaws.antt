@@ -9,9 +9,9 @@ use Rattle.std.proofs.lemmas.Bool.{eqb-true, eqb-false}
 use Rattle.std.proofs.lemmas.List.{get_or-set_same, get_or-set_other, get_or_default, length-map, take_all}
 use Rattle.std.proofs.lemmas.Option.{slice_get-get_or}
 use Rattle.isa_model.specs.Machine.MapContents.{key_order, is_key}
-use Rattle.isa_model.specs.Running.Runs.{numbered, numbered_maps, count_values}
-use Rattle.map_indexes.specs.Rows.{row_at}
-use Rattle.map_indexes.specs.RowLaws.{below_or_above}
+use Rattle.isa_model.specs.Running.Runs.{numbered, numbered_maps, count_map_values}
+use Rattle.map_indexes.specs.BlockRows.{block_row}
+use Rattle.map_indexes.specs.BlockRowLaws.{below_or_above}
 use Rattle.map_indexes.specs.PlaceKeys.{Places}
 use Rattle.maps.specs.ContentLaws.{changed}
 use Rattle.maps.proofs.ReportOrderLaws.{get_at}
@@ -177,7 +177,7 @@ OnlyThere-live next m serials h p k e =
 content-numbered : (m : MapState) (serials : Serials) (n : ℕ) (es : List (List ℕ × ℕ))
     → ((i : ℕ) → i < length es → serial_in serials (slice_index_or es i no_key).1 ≡ Some (n + i))
     → changed (stored m serials) es
-    ≡ numbered n (map (λ e. (e.0, row_at m.row.value_size m.block e.1)) es)
+    ≡ numbered n (map (λ e. (e.0, block_row m.row.value_size m.block e.1)) es)
 content-numbered m serials n [] each = refl
 content-numbered m serials n (e ∷ es) each =
     let z : n + 0 ≡ n = omega arith in
@@ -186,7 +186,7 @@ content-numbered m serials n (e ∷ es) each =
     let rest = content-numbered m serials (suc n) es
     (λ i l. let s : n + suc i
     ≡ suc n + i = omega arith in each (suc i) (omega arith) ∙ ap Some s) in
-    λ j. (e.0, record { serial = first j; bytes = row_at m.row.value_size m.block e.1 }) ∷ rest j
+    λ j. (e.0, record { serial = first j; bytes = block_row m.row.value_size m.block e.1 }) ∷ rest j
 
 pub live_content-numbered : (m : MapState) (serials : Serials) (n : ℕ)
     → NumbersAll n (values m.places) serials
@@ -199,7 +199,7 @@ live_content-numbered m serials n h =
 length-content_in : (m : MapState) → length (content_in m) ≡ length (values m.places)
 length-content_in m =
     length-map {B = List ℕ × List ℕ} (entries m.places)
-    (λ e. (e.0, row_at m.row.value_size m.block e.1)) ∙ sym (length-values m.places)
+    (λ e. (e.0, block_row m.row.value_size m.block e.1)) ∙ sym (length-values m.places)
 
 -- one map more
 pub count_before-suc : (maps : List MapState) (m : ℕ) → m < length maps
@@ -234,9 +234,9 @@ live_contents-numbered n (x ∷ maps) (s ∷ all) long each =
     λ i. first i ∷ rest i
 
 pub count_before-all : (maps : List MapState)
-    → count_before maps (length maps) ≡ count_values (contents_of maps)
+    → count_before maps (length maps) ≡ count_map_values (contents_of maps)
 count_before-all maps =
-    ap (λ (l : List MapState). count_values (contents_of l))
+    ap (λ (l : List MapState). count_map_values (contents_of l))
     (take_all (length maps) maps (omega arith))
 
 count_before-within : (maps : List MapState) (m n : ℕ) → m + n ≤ length maps
@@ -253,7 +253,7 @@ count_before-within maps m (suc n) l =
 -- and their serials are below how many values there are
 pub AreLive-numbered : (maps : List MapState) (all : List Serials) → All IsMap maps
     → AreNumbered maps all
-    → AreLive (count_values (contents_of maps)) maps all
+    → AreLive (count_map_values (contents_of maps)) maps all
 AreLive-numbered maps all are h = record {
   long = h.long;
   each = λ m l.
@@ -262,8 +262,8 @@ AreLive-numbered maps all are h = record {
       let within = count_before-within maps (m + 1) d (omega arith) in
       let last = ap (count_before maps) e ∙ count_before-all maps in
       let more = count_before-suc maps m l in
-      HasSerials-numbered (count_before maps m) (count_values (contents_of maps)) (map_at maps m)
-      (serials_at all m) (are m _ l) (h.rooms m l) (omega arith)
+      HasSerials-numbered (count_before maps m) (count_map_values (contents_of maps))
+      (map_at maps m) (serials_at all m) (are m _ l) (h.rooms m l) (omega arith)
       (h.numbers m l);
 }
 

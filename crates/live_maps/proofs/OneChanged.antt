@@ -59,12 +59,12 @@ found_at next maps all now view m n p size h found fits =
 
 -- where one map has changed, the maps are kept as before, with their serials and their orders
 pub still_kept : (serials_room orders_room next after : ℕ) (maps new : List MapState)
-    (all given : List Serials) (orders told : List KeyOrder) (m : ℕ)
+    (all given : List Serials) (orders later : List KeyOrder) (m : ℕ)
     → AreLiveMaps serials_room orders_room next maps all orders
     → new ≡ slice_set maps m (map_at new m)
-    → AreLive after new given → AreOrders new given told
-    → AreLiveMaps serials_room orders_room after new given told
-still_kept serials_room orders_room next after maps new all given orders told m h others live are =
+    → AreLive after new given → AreOrders new given later
+    → AreLiveMaps serials_room orders_room after new given later
+still_kept serials_room orders_room next after maps new all given orders later m h others live are =
     let few = h.0 in
     let count = length-changed_maps maps new m (map_at new m) others in
     (omega arith, h.1 ∙ sym count, live, are, h.4 ∙ sym count)

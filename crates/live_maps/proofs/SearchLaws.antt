@@ -13,8 +13,8 @@ use Rattle.std.proofs.lemmas.List.{get_or_past}
 use Rattle.isa_model.specs.Machine.States.{Stored, Content}
 use Rattle.isa_model.specs.Machine.Memory.{key_value_at}
 use Rattle.isa_model.specs.Machine.MapContents.{key_order, at_key}
-use Rattle.map_indexes.specs.Rows.{row_at}
-use Rattle.map_indexes.specs.RowLaws.{length-row_at}
+use Rattle.map_indexes.specs.BlockRows.{block_row}
+use Rattle.map_indexes.specs.BlockRowLaws.{length-block_row}
 use Rattle.map_indexes.specs.PlaceKeys.{Places}
 use Rattle.maps.specs.ContentLaws.{changed}
 use Rattle.maps.specs.Maps.{MapState, map_at}
@@ -53,7 +53,7 @@ module _ (next : ℕ) (maps : List MapState) (all : List Serials) (m : ℕ)
     pub value-present : (n p : ℕ) → serial_in (serials_at all m) p ≡ Some n
         → (p < old.row.entries)
         × (value_bytes (content_at (live_of maps all next) m) n
-        ≡ Some (row_at old.row.value_size old.block p))
+        ≡ Some (block_row old.row.value_size old.block p))
     value-present n p e = (
       place_inside next old (serials_at all m) (h.each m inside) n p e,
       ap (λ (c : Content). value_bytes c n) here
@@ -200,8 +200,8 @@ module _ (next : ℕ) (maps : List MapState) (all : List Serials) (m n : ℕ)
   pub searched-some : (p : ℕ) (e : searched ≡ Some p)
       → (p < (map_at maps m).row.entries)
       × (value_bytes (content_at (live_of maps all next) m) n
-      ≡ Some (row_at (map_at maps m).row.value_size (map_at maps m).block p))
-      × (length (row_at (map_at maps m).row.value_size (map_at maps m).block p)
+      ≡ Some (block_row (map_at maps m).row.value_size (map_at maps m).block p))
+      × (length (block_row (map_at maps m).row.value_size (map_at maps m).block p)
       ≡ (map_at maps m).row.value_size)
   searched-some p e =
       let inside = searched-inside p e in
@@ -210,6 +210,6 @@ module _ (next : ℕ) (maps : List MapState) (all : List Serials) (m n : ℕ)
       let old = map_at maps m in (
         r.0,
         r.1,
-        length-row_at old.row.value_size old.row.entries old.block p
+        length-block_row old.row.value_size old.row.entries old.block p
             (h.each m inside).is_map.whole r.0 0 [] (omega arith),
       )

@@ -14,8 +14,8 @@ use Rattle.std.proofs.lemmas.Option.{slice_get-get_or}
 use Rattle.isa_model.specs.Machine.States.{Stored}
 use Rattle.isa_model.specs.Machine.Memory.{index_of_serial, put_value}
 use Rattle.isa_model.specs.Machine.MapContents.{is_key, at_key, with_key, without_key}
-use Rattle.map_indexes.specs.Rows.{row_at, with_row}
-use Rattle.map_indexes.specs.RowLaws.{row_at-with_row, row_at-other, length-changed_row}
+use Rattle.map_indexes.specs.BlockRows.{block_row, with_block_row}
+use Rattle.map_indexes.specs.BlockRowLaws.{block_row-written, block_row-other, length-changed_row}
 use Rattle.map_indexes.specs.PlaceKeys.{Places, TakesPlace}
 use Rattle.map_indexes.specs.PlaceKeyLaws.{is_key-equal}
 use Rattle.map_indexes.proofs.PlaceKeysLaws.{is_key-itself}
@@ -79,7 +79,7 @@ module _ (next : ℕ) (m : MapState) (s : Serials) (h : HasSerials next m s) whe
 
     -- one that a place has is found there
     pub value_bytes-present : value_bytes (live_content m s) n
-        ≡ Some (row_at m.row.value_size m.block p)
+        ≡ Some (block_row m.row.value_size m.block p)
     value_bytes-present =
         let own = h.owned p n here in
         value_bytes-found (stored m s) n p hit own.1 (entries m.places) only
@@ -96,21 +96,22 @@ module _ (next : ℕ) (m : MapState) (s : Serials) (h : HasSerials next m s) whe
     put_value-written new i bytes fits w =
         let size : ℕ = m.row.value_size in
         let whole = h.is_map.whole in
-        let row = splice (row_at size m.block p) i (i + length bytes) bytes in
+        let row = splice (block_row size m.block p) i (i + length bytes) bytes in
         let long =
         length-changed_row size m.row.entries m.block p whole place_inside i bytes fits in
         let same_size : new.row.value_size ≡ size = ap (λ r. r.value_size) w.row in
         let value : (q : ℕ)
-        → row_at new.row.value_size new.block q ≡ row_at size (with_row size m.block p row) q =
-        λ q. (λ j. row_at (same_size j) (w.block j) q) in
+        → block_row new.row.value_size new.block q
+        ≡ block_row size (with_block_row size m.block p row) q =
+        λ q. (λ j. block_row (same_size j) (w.block j) q) in
         let at_p =
-        value p ∙ row_at-with_row size m.block p row m.row.entries long whole place_inside in
+        value p ∙ block_row-written size m.block p row m.row.entries long whole place_inside in
         sym (put_value-changed (stored m s) n p hit (stored new s) i bytes
         (λ j. record { serial = unwrap_or (serial_in s p) 0; bytes = at_p j })
         (λ q other. λ j. record {
           serial = unwrap_or (serial_in s q) 0;
           bytes =
-              (value q ∙ row_at-other size m.block p row m.row.entries long whole place_inside q
+              (value q ∙ block_row-other size m.block p row m.row.entries long whole place_inside q
               other) j;
         })
         (entries m.places) only (keys-apart m.places h.is_map.apart)
@@ -239,7 +240,7 @@ module _ (next : ℕ) (m : MapState) (s : Serials) (h : HasSerials next m s) whe
 
     -- and its content is that with the key
     pub with_key-added : (value : List ℕ) → length value ≡ m.row.value_size
-        → new.block ≡ with_row m.row.value_size m.block p value
+        → new.block ≡ with_block_row m.row.value_size m.block p value
         → live_content new after
         ≡ with_key key (record { serial = next; bytes = value }) (live_content m s)
     with_key-added value long written =
@@ -249,11 +250,12 @@ module _ (next : ℕ) (m : MapState) (s : Serials) (h : HasSerials next m s) whe
         let within : p < m.row.entries = let i = inside in omega arith in
         let same_size : new.row.value_size ≡ size = ap (λ r. r.value_size) row in
         let rows : (q : ℕ)
-        → row_at new.row.value_size new.block q
-        ≡ row_at size (with_row size m.block p value) q =
-        λ q. (λ j. row_at (same_size j) (written j) q) in
+        → block_row new.row.value_size new.block q
+        ≡ block_row size (with_block_row size m.block p value) q =
+        λ q. (λ j. block_row (same_size j) (written j) q) in
         let serial = ap (λ (o : Option ℕ). unwrap_or o 0) (set_here p (Some next) inside) in
-        let bytes = rows p ∙ row_at-with_row size m.block p value m.row.entries long whole within in
+        let bytes =
+        rows p ∙ block_row-written size m.block p value m.row.entries long whole within in
         let here : stored new after p
         ≡ record { serial = next; bytes = value } = λ j.
         record { serial = serial j; bytes = bytes j } in
@@ -262,7 +264,7 @@ module _ (next : ℕ) (m : MapState) (s : Serials) (h : HasSerials next m s) whe
         let not_p = not_taken k q e in
         let same = ap (λ (o : Option ℕ). unwrap_or o 0) (set_else p q (Some next) not_p) in
         let old =
-        rows q ∙ row_at-other size m.block p value m.row.entries long whole within q not_p in
+        rows q ∙ block_row-other size m.block p value m.row.entries long whole within q not_p in
         λ j. record { serial = same j; bytes = old j })
         new.places p there
         (λ k other. got k ∙ ap (λ (b : Bool). cond b (Some p) (get m.places k)) other)
@@ -271,7 +273,8 @@ module _ (next : ℕ) (m : MapState) (s : Serials) (h : HasSerials next m s) whe
   -- a present key's value keeps its serial
   pub with_key-present : (new : MapState) (key value : List ℕ) (p : ℕ) → get m.places key ≡ Some p
       → new.row ≡ m.row → new.places ≡ m.places
-      → length value ≡ m.row.value_size → new.block ≡ with_row m.row.value_size m.block p value
+      → length value ≡ m.row.value_size
+      → new.block ≡ with_block_row m.row.value_size m.block p value
       → live_content new s
       ≡ with_key key (record { serial = (stored m s p).serial; bytes = value }) (live_content m s)
   with_key-present new key value p there row places long written =
@@ -280,9 +283,10 @@ module _ (next : ℕ) (m : MapState) (s : Serials) (h : HasSerials next m s) whe
       let within = h.is_map.in_range key p there in
       let same_size : new.row.value_size ≡ size = ap (λ r. r.value_size) row in
       let rows : (q : ℕ)
-      → row_at new.row.value_size new.block q ≡ row_at size (with_row size m.block p value) q =
-      λ q. (λ j. row_at (same_size j) (written j) q) in
-      let bytes = rows p ∙ row_at-with_row size m.block p value m.row.entries long whole within in
+      → block_row new.row.value_size new.block q
+      ≡ block_row size (with_block_row size m.block p value) q =
+      λ q. (λ j. block_row (same_size j) (written j) q) in
+      let bytes = rows p ∙ block_row-written size m.block p value m.row.entries long whole within in
       let here : stored new s p
       ≡ record { serial = (stored m s p).serial; bytes = value } = λ j.
       record { serial = (stored m s p).serial; bytes = bytes j } in
@@ -293,7 +297,7 @@ module _ (next : ℕ) (m : MapState) (s : Serials) (h : HasSerials next m s) whe
       let f = sym other ∙ ap (λ (x : List ℕ). is_key x key) equal ∙ is_key-itself key in
       absurd cc in
       let old =
-      rows q ∙ row_at-other size m.block p value m.row.entries long whole within q not_p in
+      rows q ∙ block_row-other size m.block p value m.row.entries long whole within q not_p in
       λ j. record { serial = (stored m s q).serial; bytes = old j })
       new.places p (ap (λ (P : Places). get P key) places ∙ there)
       (λ k other. ap (λ (P : Places). get P k) places)
@@ -373,4 +377,4 @@ module _ (next : ℕ) (m : MapState) (s : Serials) (h : HasSerials next m s) whe
         (λ k q other e.
         let serial =
         ap (λ (o : Option ℕ). unwrap_or o 0) (set_else p q None (other_place k q other e)) in
-        λ j. record { serial = serial j; bytes = row_at (same_size j) (block j) q })
+        λ j. record { serial = serial j; bytes = block_row (same_size j) (block j) q })

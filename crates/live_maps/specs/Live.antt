@@ -7,7 +7,7 @@ use Rattle.isa_model.specs.Machine.States.{Stored, Content}
 use Rattle.isa_model.specs.Machine.Memory.{index_of_serial, key_value_at, put_value}
 use Rattle.isa_model.specs.Machine.MapContents.{at_key, with_key, without_key}
 use Rattle.isa_model.specs.Machine.MapHelpers.{serial_given, serial_after}
-use Rattle.map_indexes.specs.Rows.{row_at}
+use Rattle.map_indexes.specs.BlockRows.{block_row}
 use Rattle.maps.specs.Maps.{MapState, IsMap, map_at}
 
 -- what callers see: the rows, the contents with the serials of all values, and the serial that is
@@ -73,7 +73,7 @@ abbrev pub stored : MapState → Serials → ℕ → Stored
 stored m serials place =
     record {
       serial = unwrap_or (serial_in serials place) 0;
-      bytes = row_at m.row.value_size m.block place;
+      bytes = block_row m.row.value_size m.block place;
     }
 
 -- a map's content

@@ -4,7 +4,7 @@ use Rattle.std.proofs.Common.{◌≡◌, ℕ, ◌+◌, ◌-◌, ◌^◌, ◌%◌
 use Rattle.std.specs.Prelude.{slice_index_or}
 use Rattle.std.specs.Option.{option_map}
 use Rattle.std.specs.FinMap.{values}
-use Rattle.isa_model.specs.Running.Runs.{count_values}
+use Rattle.isa_model.specs.Running.Runs.{count_map_values}
 use Rattle.maps.specs.Maps.{MapState, map_at, contents_of}
 use Rattle.live_maps.specs.Live.{Serials, serial_in, serials_at}
 
@@ -48,7 +48,7 @@ moved from to serials = all_above ((to + (2 ^ 64 - from)) % 2 ^ 64) serials
 
 -- how many values the first maps have
 abbrev pub count_before : List MapState → ℕ → ℕ
-count_before maps m = count_values (contents_of (take m maps))
+count_before maps m = count_map_values (contents_of (take m maps))
 
 -- all maps are numbered, one after another
 pub record AreNumbered (maps : List MapState) (all : List Serials) : Type 0 where
@@ -60,5 +60,5 @@ pub record AreNumbered (maps : List MapState) (all : List Serials) : Type 0 wher
 -- all maps are numbered from 0 on, and this is the count of their values
 pub record IsNumbered (count : ℕ) (maps : List MapState) (all : List Serials) : Type 0 where
   pub are : AreNumbered maps all
-  pub counted : count ≡ count_values (contents_of maps)
+  pub counted : count ≡ count_map_values (contents_of maps)
   pub few : count ≤ 2 ^ 32

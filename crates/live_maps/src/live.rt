@@ -9,7 +9,7 @@ ghost use Rattle.isa_model.specs.Machine.States.{key_values_of};
 ghost use Rattle.isa_model.specs.Machine.MachineStates.{FitRows};
 ghost use Rattle.isa_model.specs.Machine.MapContents.{at_key, update_answer, delete_answer};
 ghost use Rattle.isa_model.specs.Machine.Steps.{one_serial};
-ghost use Rattle.isa_model.specs.Running.Runs.{numbered_maps, count_values};
+ghost use Rattle.isa_model.specs.Running.Runs.{numbered_maps, count_map_values};
 ghost use Rattle.maps.specs.Maps.{rows_of, contents_of, map_at};
 ghost use Rattle.live_maps.specs.Live.{serials_at, place_if_new, content_at, value_bytes, with_value, with_bytes, without};
 
@@ -67,7 +67,7 @@ fn new_place(maps: &Maps, index: usize, key: &[u8], before: Option<usize>) -> Op
 }
 
 impl LiveMaps {
-    /// Makes all room that runs fill.
+    /// Takes all memory that runs need.
     pub fn new(alloc: Global, maps: Maps) -> Result<Self, AllocError>
         requires { length maps ≤ 2 ^ 16 }
         ensures rows { IfOk result (λ l. l.rows ≡ rows_of maps) }
@@ -92,7 +92,7 @@ impl LiveMaps {
         self.maps.count()
     }
 
-    /// A map's row, if there is such a map.
+    /// A map's row, if there is a map with this index.
     pub fn row(&self, map: usize) -> Option<MapDef>
         ensures found { result ≡ slice_get self.now.rows map }
         ensures fits { IfSome result IsRow }
@@ -213,7 +213,7 @@ impl LiveMaps {
         ensures few { self.new.next_serial ≤ 2 ^ 32 }
         ensures numbered { self.new ≡ record self.old {
           contents = numbered_maps 0 (map key_values_of self.old.contents);
-          next_serial = count_values (map key_values_of self.old.contents);
+          next_serial = count_map_values (map key_values_of self.old.contents);
         } }
     {
         let count = number_all(&self.maps, &mut self.serials, &mut self.orders);

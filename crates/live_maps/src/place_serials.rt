@@ -58,9 +58,9 @@ pub struct PlaceSerials {
     // costs one addition where the order is the same.
     serials: Vec<Option<u64>>,
     base: u64,
-    // By what a serial is above the base, modulo their number: the place that was given the last
-    // such serial. A hint, which is tested before it is used: it spares a search through all
-    // places.
+    // By what a serial is above the base, modulo the count of hints: the place that was given the
+    // last serial with this remainder. A hint is tested before it is used: it spares a search
+    // through all places.
     hints: Vec<usize>,
 }
 

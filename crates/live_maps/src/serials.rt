@@ -35,8 +35,8 @@ pub fn serial_at(all: &Vec<PlaceSerials>, index: usize, place: usize) -> Option<
     all[index].at(place)
 }
 
-/// The place of a map that has a serial, which no two of its places have. None if there is no such
-/// map or place.
+/// The place of a map that has a serial, which no two of its places have. None if no place has it,
+/// or there is no map with this index.
 pub fn find_serial(all: &Vec<PlaceSerials>, index: usize, serial: u64) -> Option<usize>
     requires { (p q : ℕ) → serial_in (serials_at all.now.items index) p ≡ Some serial
         → serial_in (serials_at all.now.items index) q ≡ Some serial → p ≡ q }

@@ -110,7 +110,7 @@ module _ (p : Program) (clock : ℕ → ℕ) (n : ℕ) (head : FrameHead) (packe
         steps_are = F.counted;
         packet_is = F.follows.related.packet;
         contents_are = sym (contents_same p F.follows.layout last v F.follows.related F.follows.is);
-        clock_calls_are = F.follows.related.calls;
+        clock_calls_are = F.follows.related.clock_calls;
         whole = F.follows.related.frames.whole;
         back = e.first;
         rows = F.follows.related.maps.rows;

@@ -71,7 +71,7 @@ answered_shown a regs words v x R h =
 pub answered_related : (p : Program) (b : Layout) (t : State) (u : Words) (v : Value) (x n : ℕ)
     → n ≡ t.slot → Related p b t u → Represents b v x
     → Related p b (go_to (answered (record { answer = v; state = t })) (n + 1))
-    (answered_words u x u.maps u.calls)
+    (answered_words u x u.maps u.clock_calls)
 answered_related p b t u v x n same R h = record {
   slot = ap (λ n. n + 1) (R.slot ∙ sym same);
   layout = R.layout;
@@ -82,7 +82,7 @@ answered_related p b t u v x n same R h = record {
   interface = R.interface;
   queue = R.queue;
   maps = R.maps;
-  calls = R.calls;
+  clock_calls = R.clock_calls;
 }
 
 -- ---- what the arguments are

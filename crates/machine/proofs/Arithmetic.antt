@@ -23,7 +23,7 @@ use Rattle.machine.specs.Related.{Layout, IsLayout, region_start, moved, word, R
 use Rattle.machine.proofs.Addresses.{add_moved, sub_moved, alu_add_swap, start_far, word_far}
 use Rattle.word_machine.specs.Addresses.{packet_base}
 
--- what holds of an answer
+-- what holds of a word for this result: it represents the value, if the result is one
 abbrev pub OkShows : Layout → Result Value TrapReason → ℕ → Type 0
 OkShows a (Ok v) w = Represents a v w
 OkShows a (Err e) w = Unit {0}

@@ -121,7 +121,7 @@ ready_again p bound memory new ready rows are = record {
   rows = rows;
   whole = ready.whole;
   outer = ready.outer;
-  room = ready.room;
+  capacity = ready.capacity;
 }
 
 -- ---- sizes of keys and values
@@ -229,7 +229,7 @@ module _ (row : MapDef) (es : KeyValues) (k : ℕ) (value : List ℕ) (are : All
   copies front room old_key new_key old_value new_value size put key_taken value_taken =
       let (e, there, same) = pair_at es k value is in
       record {
-        answer_is = sym (ap is_some there);
+        copied_is = sym (ap is_some there);
         key_is = key_taken ∙ ap (λ (n : ℕ). take n front) (size ∙ sym (sizes_of e there).0)
             ∙ ap (take (length e.0))
             (put ∙ ap (λ (o : Option (List ℕ × List ℕ)). with_key_of o room) there)

@@ -5,14 +5,14 @@ use Rattle.std.proofs.lemmas.List.{length-take-le, get_or-take, get_or_past}
 use Rattle.std.specs.Prelude.{slice_index, slice_index_or}
 use Rattle.flatmem.specs.Bytes.{bytes_at}
 use Rattle.flatmem.proofs.BytesLaws.{length-bytes_at}
-use Rattle.isa_model.specs.Code.Limits.{frame_size, max_call_frames}
+use Rattle.isa_model.specs.Code.Limits.{stack_size, max_call_frames}
 use Rattle.isa_model.specs.declared.values.Value.{Value}
 use Rattle.isa_model.specs.declared.values.Value.TheVariants.{Unset}
 use Rattle.isa_model.specs.declared.values.Cell.TheVariants.{Unwritten}
 use Rattle.isa_model.specs.declared.values.CallFrame.{CallFrame}
 use Rattle.isa_model.specs.declared.registers.Reg.TheVariants.{R0}
 use Rattle.isa_model.specs.Code.Instructions.{Program}
-use Rattle.isa_model.specs.Machine.States.{State, value_at, reg, frame_at, new_frame}
+use Rattle.isa_model.specs.Machine.States.{State, value_at, reg, call_frame_at, new_call_frame}
 use Rattle.isa_model.specs.Machine.Calls.{saved_registers, regs_within, regs_after, enter, leave, callers, innermost}
 use Rattle.isa_model.specs.Machine.MachineStates.{IsState}
 use Rattle.word_machine.specs.Addresses.{frame_end}
@@ -142,7 +142,7 @@ module _ (p : Program) (a : Layout) (s : State) (w : Words) (R : Related p a s w
   entered = with_depth a s.next_serial (length s.frames)
 
   abbrev f : CallFrame
-  f = new_frame next (s.slot + 1) (saved_registers s.regs)
+  f = new_call_frame next (s.slot + 1) (saved_registers s.regs)
 
   abbrev c : Saved
   c = record { back = w.at + 1; kept = kept_words w.regs }
@@ -180,24 +180,25 @@ module _ (p : Program) (a : Layout) (s : State) (w : Words) (R : Related p a s w
       }
 
   frame_new : n < max_call_frames → (k : ℕ) → k < length (s.frames ++ f ∷ [])
-      → RepresentsFrame b (frame_at (s.frames ++ f ∷ []) k) k w.frames
-  unfolding new_frame
+      → RepresentsFrame b (call_frame_at (s.frames ++ f ∷ []) k) k w.frames
+  unfolding new_call_frame
   frame_new room k h = elim (cases_lt k n) [
     | inl lt ↦
         subst (λ f. RepresentsFrame b f k w.frames)
-        (sym (get_push s.frames f (new_frame 0 0 []) k lt))
+        (sym (get_push s.frames f (new_call_frame 0 0 []) k lt))
         (frame_old p s K a b E k w.frames lt (R.frames.frames k lt))
     | inr ge ↦
         let long = length-append s.frames (f ∷ []) in
         let e : n ≡ k = omega arith in
         let block = R.frames.whole in
-        subst (λ k. RepresentsFrame b (frame_at (s.frames ++ f ∷ []) k) k w.frames) e
-        (subst (λ f. RepresentsFrame b f n w.frames) (sym (get_last s.frames f (new_frame 0 0 [])))
+        subst (λ k. RepresentsFrame b (call_frame_at (s.frames ++ f ∷ []) k) k w.frames) e
+        (subst (λ f. RepresentsFrame b f n w.frames)
+        (sym (get_last s.frames f (new_call_frame 0 0 [])))
         (record {
           depth = put_at-there next n a.depth;
           cells =
-              cells_unwritten b (bytes_at w.frames (n * frame_size) frame_size) frame_size
-              (length-bytes_at w.frames (n * frame_size) frame_size (omega arith));
+              cells_unwritten b (bytes_at w.frames (n * stack_size) stack_size) stack_size
+              (length-bytes_at w.frames (n * stack_size) stack_size (omega arith));
         }))
   ]
 
@@ -210,14 +211,15 @@ module _ (p : Program) (a : Layout) (s : State) (w : Words) (R : Related p a s w
   kept_new (suc (suc (suc (suc j)))) = tt
 
   saved_new : (k : ℕ) → k < length (w.saved ++ c ∷ [])
-      → RepresentsSaved b (frame_at (s.frames ++ f ∷ []) (k + 1)) (saved_at (w.saved ++ c ∷ []) k)
-  unfolding new_frame
+      → RepresentsSaved b (call_frame_at (s.frames ++ f ∷ []) (k + 1))
+      (saved_at (w.saved ++ c ∷ []) k)
+  unfolding new_call_frame
   saved_new k h = elim (cases_lt k (length w.saved)) [
     | inl lt ↦
         let deep = R.frames.depth in
         subst (λ f. RepresentsSaved b f (saved_at (w.saved ++ c ∷ []) k))
-        (sym (get_push s.frames f (new_frame 0 0 []) (k + 1) (omega arith)))
-        (subst (RepresentsSaved b (frame_at s.frames (k + 1)))
+        (sym (get_push s.frames f (new_call_frame 0 0 []) (k + 1) (omega arith)))
+        (subst (RepresentsSaved b (call_frame_at s.frames (k + 1)))
         (sym (get_push w.saved c (record { back = 0; kept = [] }) k lt))
         (saved_old p s K a b E (k + 1) (saved_at w.saved k) (omega arith) (R.frames.saved k lt)))
     | inr ge ↦
@@ -225,10 +227,10 @@ module _ (p : Program) (a : Layout) (s : State) (w : Words) (R : Related p a s w
         let long = length-append w.saved (c ∷ []) in
         let e : length w.saved ≡ k = omega arith in
         let g : n ≡ k + 1 = omega arith in
-        subst (λ m. RepresentsSaved b (frame_at (s.frames ++ f ∷ []) m)
+        subst (λ m. RepresentsSaved b (call_frame_at (s.frames ++ f ∷ []) m)
         (saved_at (w.saved ++ c ∷ []) k)) g
         (subst (λ f. RepresentsSaved b f (saved_at (w.saved ++ c ∷ []) k))
-        (sym (get_last s.frames f (new_frame 0 0 [])))
+        (sym (get_last s.frames f (new_call_frame 0 0 [])))
         (subst (λ m. RepresentsSaved b f (saved_at (w.saved ++ c ∷ []) m)) e
         (subst (RepresentsSaved b f) (sym (get_last w.saved c (record { back = 0; kept = [] })))
         (record { back = ap (λ n. n + 1) R.slot; kept = kept_new }))))
@@ -258,7 +260,7 @@ module _ (p : Program) (a : Layout) (s : State) (w : Words) (R : Related p a s w
     interface = R.interface;
     queue = R.queue;
     maps = maps_old p s K a b E w.maps R.maps;
-    calls = R.calls;
+    clock_calls = R.clock_calls;
   }
 
   -- ---- a call frame popped
@@ -274,13 +276,13 @@ module _ (p : Program) (a : Layout) (s : State) (w : Words) (R : Related p a s w
       let less = length-take-le n w.saved (omega arith) in
       let last : n + 1 ≡ m = omega arith in
       let was : RepresentsSaved a (innermost s.frames) c =
-      subst (λ k. RepresentsSaved a (frame_at s.frames k) c) last
+      subst (λ k. RepresentsSaved a (call_frame_at s.frames k) c) last
       (R.frames.saved n (omega arith)) in
-      let frame : (k : ℕ) → k < m → frame_at (callers s.frames) k ≡ frame_at s.frames k =
-      (λ k h. get_or-take m s.frames k (new_frame 0 0 []) h) in
-      let caller : innermost (callers s.frames) ≡ frame_at s.frames n =
-      ap (λ k. frame_at (callers s.frames) (k - 1)) few
-      ∙ ap (frame_at (callers s.frames)) (let e : m - 1 ≡ n = omega arith in e)
+      let frame : (k : ℕ) → k < m → call_frame_at (callers s.frames) k ≡ call_frame_at s.frames k =
+      (λ k h. get_or-take m s.frames k (new_call_frame 0 0 []) h) in
+      let caller : innermost (callers s.frames) ≡ call_frame_at s.frames n =
+      ap (λ k. call_frame_at (callers s.frames) (k - 1)) few
+      ∙ ap (call_frame_at (callers s.frames)) (let e : m - 1 ≡ n = omega arith in e)
       ∙ frame n (omega arith) in
       let under : a.depth (innermost (callers s.frames)).serial ≡ n =
       ap (λ f. a.depth f.serial) caller ∙ (R.frames.frames n (omega arith)).depth in
@@ -321,7 +323,7 @@ module _ (p : Program) (a : Layout) (s : State) (w : Words) (R : Related p a s w
           saved =
               λ k h. subst (λ f. RepresentsSaved a f (saved_at (take n w.saved) k))
               (sym (frame (k + 1) (omega arith)))
-              (subst (RepresentsSaved a (frame_at s.frames (k + 1)))
+              (subst (RepresentsSaved a (call_frame_at s.frames (k + 1)))
               (sym (get_or-take n w.saved k (record { back = 0; kept = [] }) (omega arith)))
               (R.frames.saved k (omega arith)));
         };
@@ -330,5 +332,5 @@ module _ (p : Program) (a : Layout) (s : State) (w : Words) (R : Related p a s w
         interface = R.interface;
         queue = R.queue;
         maps = R.maps;
-        calls = R.calls;
+        clock_calls = R.clock_calls;
       }

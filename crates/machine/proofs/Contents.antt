@@ -8,8 +8,8 @@ use Rattle.std.specs.declared.cmp.Ordering.TheVariants.{Less, Equal, Greater}
 use Rattle.std.specs.FinMap.{get, remove, entries, entries_sorted, get-entries, get-remove, slice_cmp-IsAntisymmetric, nat_cmp-IsAntisymmetric}
 use Rattle.std.specs.FinMap.Entries.{by_order, find, is_sorted, find-put, find-where_key, is_sorted-put, is_sorted-where_key}
 use Rattle.isa_model.specs.Machine.MapContents.{key_order, is_key, at_key, with_key, without_key}
-use Rattle.map_indexes.specs.Rows.{with_row}
-use Rattle.map_indexes.specs.RowLaws.{row_at-with_row, row_at-other}
+use Rattle.map_indexes.specs.BlockRows.{with_block_row}
+use Rattle.map_indexes.specs.BlockRowLaws.{block_row-written, block_row-other}
 use Rattle.map_indexes.specs.PlaceKeys.{Places}
 use Rattle.map_indexes.specs.PlaceKeyLaws.{is_key-equal}
 use Rattle.maps.specs.ContentLaws.{changed, find-changed, is_sorted-changed}
@@ -59,9 +59,9 @@ sorted-placed : {Y : Type 0} (f : ℕ → Y) (P : Places)
     → T (is_sorted key_order (changed f (entries P)))
 sorted-placed f P = subst T (sym (is_sorted-changed f (entries P))) (entries_sorted P)
 
-turned : {A : Type 0} (b : Bool) (x y : A) → cond (not b) x y ≡ cond b y x
-turned true x y = refl
-turned false x y = refl
+negated : {A : Type 0} (b : Bool) (x y : A) → cond (not b) x y ≡ cond b y x
+negated true x y = refl
+negated false x y = refl
 
 -- a key is removed
 pub placed-remove : {Y : Type 0} (f : ℕ → Y) (P : Places) (k : List ℕ)
@@ -78,7 +78,7 @@ placed-remove {Y} f P k =
     ∙ ap (cond (is_key q k) None) (sym (find-placed f P q))
     ∙ ap (λ (b : Bool). cond b None (at_key q (changed f (entries P))))
     ((eq_by_cmp_equiv nat_list_cmp_total).symm q k)
-    ∙ sym (turned (is_key k q) (at_key q (changed f (entries P))) None)
+    ∙ sym (negated (is_key k q) (at_key q (changed f (entries P))) None)
     ∙ sym (find-where_key key_order (λ x. not (is_key k x)) q
     (λ x e. ap (λ (y : List ℕ). not (is_key k y))
     (sym (slice_cmp-IsAntisymmetric nat_cmp-IsAntisymmetric q x e))) (changed f (entries P))))
@@ -90,7 +90,7 @@ module _ (size n : ℕ) (P P' : Places) (block k v : List ℕ) (p : ℕ) (long :
     (others : (q : List ℕ) → is_key q k ≡ false → get P' q ≡ get P q)
     (apart : (q : List ℕ) → is_key q k ≡ false → get P q ≡ Some p → ⊥) where
   abbrev B' : List ℕ
-  B' = with_row size block p v
+  B' = with_block_row size block p v
 
   abbrev laid : List ℕ → (ℕ × List ℕ)
   laid row = (p * size, row)
@@ -99,7 +99,11 @@ module _ (size n : ℕ) (P P' : Places) (block k v : List ℕ) (p : ℕ) (long :
       → option_map (by_place size B') o ≡ option_map (by_place size block) o
   elsewhere None d = refl
   elsewhere (Some j) d =
-      λ i. Some (j * size, row_at-other size block p v n long whole inside j (λ e. d (ap Some e)) i)
+      λ i. Some (
+        j * size,
+        block_row-other size block p v n long whole inside j
+            (λ e. d (ap Some e)) i,
+      )
 
   pub placed-put : changed (by_place size B') (entries P')
       ≡ with_key k (laid v) (changed (by_place size block) (entries P))
@@ -115,7 +119,7 @@ module _ (size n : ℕ) (P P' : Places) (block k v : List ℕ) (p : ℕ) (long :
         | true ↦ λ t.
             ap (option_map (by_place size B')) (ap (get P') (is_key-equal q k t) ∙ here)
             ∙ ap (λ (row : List ℕ). Some (laid row))
-            (row_at-with_row size block p v n long whole inside)
+            (block_row-written size block p v n long whole inside)
         | false ↦
             λ t. ap (option_map (by_place size B')) (others q t) ∙ elsewhere (get P q) (apart q t)
             ∙ sym (find-placed (by_place size block) P q)

@@ -5,7 +5,7 @@ use Rattle.std.proofs.lemmas.List.Elements.{All-get_or, All-head, All-tail}
 use Rattle.std.specs.Prelude.{if◌then◌else◌, ◌==◌, slice_index, All}
 use Rattle.std.specs.Int.{byte_at}
 use Rattle.flatmem.specs.Bytes.{bytes_at}
-use Rattle.isa_model.specs.Code.Limits.{frame_size, max_call_frames, offset_limit}
+use Rattle.isa_model.specs.Code.Limits.{stack_size, max_call_frames, offset_limit}
 use Rattle.isa_model.specs.declared.values.Region.{Region}
 use Rattle.isa_model.specs.declared.values.Region.TheVariants as region
 use Rattle.isa_model.specs.declared.values.Value.{Value}
@@ -13,10 +13,10 @@ use Rattle.isa_model.specs.declared.values.Value.TheVariants.{Unset, Num, Ptr}
 use Rattle.isa_model.specs.declared.values.Cell.{Cell}
 use Rattle.isa_model.specs.declared.values.Cell.TheVariants.{Unwritten, Byte, Piece}
 use Rattle.isa_model.specs.Code.Instructions.{Program}
-use Rattle.isa_model.specs.Machine.States.{State, Content, content_of, value_at, frame_at, new_frame}
+use Rattle.isa_model.specs.Machine.States.{State, Content, content_of, value_at, call_frame_at, new_call_frame}
 use Rattle.isa_model.specs.Machine.MachineStates.{IsRegion, IsValue, IsCell, IsCallFrame, IsState, value_serials}
 use Rattle.isa_model.proofs.StateLaws.{value_at_fits}
-use Rattle.isa_model.proofs.CallLaws.{frame_serial_given}
+use Rattle.isa_model.proofs.CallLaws.{call_frame_serial_given}
 use Rattle.isa_model.proofs.HelperLaws.{value_serials_given}
 use Rattle.maps.specs.ContentLaws.{changed}
 use Rattle.maps.specs.Maps.{MapState, map_at}
@@ -28,7 +28,7 @@ use Rattle.machine.specs.Related.{Layout, IsLayout, moved, word, Represents, Rep
 -- what had a serial before `next` is where it was
 pub record ExtendsLayout (a b : Layout) (next : ℕ) : Type 0 where
   pub depth : (n : ℕ) → n < next → b.depth n ≡ a.depth n
-  pub value : (m n : ℕ) → n < next → b.value m n ≡ a.value m n
+  pub value_start : (m n : ℕ) → n < next → b.value_start m n ≡ a.value_start m n
   pub end : b.end ≡ a.end
 
 -- ---- a serial at a depth, or at a value's beginning
@@ -62,22 +62,22 @@ put_at-all P serial x f h rest n = by_test (n == serial)
 abbrev pub with_depth : Layout → ℕ → ℕ → Layout
 with_depth a serial j = record a { depth = put_at serial j a.depth }
 
-abbrev pub with_value : Layout → ℕ → ℕ → Layout
-with_value a serial x = record a { value = λ m. put_at serial x (a.value m) }
+abbrev pub with_value_start : Layout → ℕ → ℕ → Layout
+with_value_start a serial x = record a { value_start = λ m. put_at serial x (a.value_start m) }
 
 pub ExtendsLayout-with_depth : (a : Layout) (serial j : ℕ)
     → ExtendsLayout a (with_depth a serial j) serial
 ExtendsLayout-with_depth a serial j = record {
   depth = λ n h. put_at-below serial j a.depth n h;
-  value = λ m n h. refl;
+  value_start = λ m n h. refl;
   end = refl;
 }
 
-pub ExtendsLayout-with_value : (a : Layout) (serial x : ℕ)
-    → ExtendsLayout a (with_value a serial x) serial
-ExtendsLayout-with_value a serial x = record {
+pub ExtendsLayout-with_value_start : (a : Layout) (serial x : ℕ)
+    → ExtendsLayout a (with_value_start a serial x) serial
+ExtendsLayout-with_value_start a serial x = record {
   depth = λ n h. refl;
-  value = λ m n h. put_at-below serial x (a.value m) n h;
+  value_start = λ m n h. put_at-below serial x (a.value_start m) n h;
   end = refl;
 }
 
@@ -90,12 +90,12 @@ IsLayout-with_depth a rows serial j h good = record {
   short = good.short;
 }
 
-pub IsLayout-with_value : (a : Layout) (rows serial x : ℕ) → x < offset_limit → IsLayout a rows
-    → IsLayout (with_value a serial x) rows
-IsLayout-with_value a rows serial x h good = record {
+pub IsLayout-with_value_start : (a : Layout) (rows serial x : ℕ) → x < offset_limit
+    → IsLayout a rows → IsLayout (with_value_start a serial x) rows
+IsLayout-with_value_start a rows serial x h good = record {
   few = good.few;
   shallow = good.shallow;
-  low = λ m n. put_at-all (λ v. v < offset_limit) serial x (a.value m) h (good.low m) n;
+  low = λ m n. put_at-all (λ v. v < offset_limit) serial x (a.value_start m) h (good.low m) n;
   short = good.short;
 }
 
@@ -107,7 +107,7 @@ module _ (a b : Layout) (rows next : ℕ) (E : ExtendsLayout a b next) where
   word_old region.Packet z h = refl
   word_old region.PacketEnd z h = ap (λ n. packet_base + n) E.end
   word_old (region.Map m) z h = refl
-  word_old (region.MapValue m n) z h = ap (λ v. moved (values_base m + v) z) (E.value m n h.1)
+  word_old (region.MapValue m n) z h = ap (λ v. moved (values_base m + v) z) (E.value_start m n h.1)
   word_old (region.CallFrame n) z h = ap (λ d. moved (frame_end d) z) (E.depth n h)
 
   pub shows_old : (v : Value) (w : ℕ) → IsValue rows next v → Represents a v w → Represents b v w
@@ -136,7 +136,7 @@ module _ (a b : Layout) (rows next : ℕ) (E : ExtendsLayout a b next) where
   content_old m [] h = refl
   content_old m (e ∷ content) h =
       let here = All-head (λ n. n < next) e.1.serial (value_serials content) h in
-      λ i. (e.0, (E.value m e.1.serial here i, e.1.bytes))
+      λ i. (e.0, (E.value_start m e.1.serial here i, e.1.bytes))
       ∷ content_old m content (All-tail (λ n. n < next) e.1.serial (value_serials content) h) i
 
   pub map_old : (m : ℕ) (content : Content) (state : MapState)
@@ -156,27 +156,31 @@ module _ (p : Program) (s : State) (K : IsState p s) (a b : Layout)
   registers_old words R =
       record { count = R.count; shown = λ k. register_old k (slice_index words k) (R.shown k) }
 
-  old_frame : (j : ℕ) → j < length s.frames → IsCallFrame p s.next_serial (frame_at s.frames j)
-  old_frame j h = All-get_or (IsCallFrame p s.next_serial) s.frames j (new_frame 0 0 []) h K.frames
+  old_frame : (j : ℕ) → j < length s.frames → IsCallFrame p s.next_serial (call_frame_at s.frames j)
+  old_frame j h =
+      All-get_or (IsCallFrame p s.next_serial) s.frames j (new_call_frame 0 0 []) h K.frames
 
   pub frame_old : (j : ℕ) (block : List ℕ) → j < length s.frames
-      → RepresentsFrame a (frame_at s.frames j) j block
-      → RepresentsFrame b (frame_at s.frames j) j block
+      → RepresentsFrame a (call_frame_at s.frames j) j block
+      → RepresentsFrame b (call_frame_at s.frames j) j block
   frame_old j block h old = record {
-    depth = E.depth (frame_at s.frames j).serial (frame_serial_given p s j K h) ∙ old.depth;
+    depth =
+        E.depth (call_frame_at s.frames j).serial (call_frame_serial_given p s j K h) ∙ old.depth;
     cells =
-        cells_old a b (length p.maps) s.next_serial E (frame_at s.frames j).cells
-        (bytes_at block (j * frame_size) frame_size) (old_frame j h).cells old.cells;
+        cells_old a b (length p.maps) s.next_serial E (call_frame_at s.frames j).cells
+        (bytes_at block (j * stack_size) stack_size) (old_frame j h).cells old.cells;
   }
 
   pub saved_old : (j : ℕ) (c : Saved) → j < length s.frames
-      → RepresentsSaved a (frame_at s.frames j) c → RepresentsSaved b (frame_at s.frames j) c
+      → RepresentsSaved a (call_frame_at s.frames j) c
+      → RepresentsSaved b (call_frame_at s.frames j) c
   saved_old j c h old = record {
     back = old.back;
     kept =
-        λ k. shows_old a b (length p.maps) s.next_serial E (value_at (frame_at s.frames j).saved k)
+        λ k. shows_old a b (length p.maps) s.next_serial E
+        (value_at (call_frame_at s.frames j).saved k)
         (slice_index c.kept k)
-        (value_at_fits (length p.maps) s.next_serial (frame_at s.frames j).saved k
+        (value_at_fits (length p.maps) s.next_serial (call_frame_at s.frames j).saved k
         (old_frame j h).saved) (old.kept k);
   }
 

@@ -200,13 +200,13 @@ module _ (p : Program) (clock : ℕ → ℕ) (a : Layout) (s : State) (w : Words
       a,
       subst (Related p a (go_to (answered (ktime_get_ns clock s)) (s.slot + 1))) (sym e)
           (answered_related p a (record s { clock_calls = s.clock_calls + 1 })
-          (record w { calls = w.calls + 1 }) (Num (clock s.clock_calls))
-          (clock w.calls) s.slot refl asked (ap clock R.calls)),
+          (record w { clock_calls = w.clock_calls + 1 }) (Num (clock s.clock_calls))
+          (clock w.clock_calls) s.slot refl asked (ap clock R.clock_calls)),
     ),
   )
     where
       asked : Related p a (record s { clock_calls = s.clock_calls + 1 })
-          (record w { calls = w.calls + 1 })
+          (record w { clock_calls = w.clock_calls + 1 })
       asked = record {
         slot = R.slot;
         layout = R.layout;
@@ -217,7 +217,7 @@ module _ (p : Program) (clock : ℕ → ℕ) (a : Layout) (s : State) (w : Words
         interface = R.interface;
         queue = R.queue;
         maps = R.maps;
-        calls = ap (λ n. n + 1) R.calls;
+        clock_calls = ap (λ n. n + 1) R.clock_calls;
       }
 
   -- the call of any helper

@@ -19,8 +19,8 @@ use Rattle.isa_model.specs.Machine.Memory.{key_value_at}
 use Rattle.isa_model.specs.Machine.MapContents.{key_order}
 use Rattle.isa_model.specs.Machine.MachineStates.{AreBytes, FitRows, IsState}
 use Rattle.isa_model.proofs.ValueLaws.{All-splice}
-use Rattle.map_indexes.specs.Rows.{row_at, with_row}
-use Rattle.map_indexes.specs.RowLaws.{row_end, length-row_at, splice_in_row, length-changed_row, row_at-with_row, row_at-other}
+use Rattle.map_indexes.specs.BlockRows.{block_row, with_block_row}
+use Rattle.map_indexes.specs.BlockRowLaws.{row_end, length-block_row, splice_in_row, length-changed_row, block_row-written, block_row-other}
 use Rattle.map_indexes.proofs.PlaceKeysLaws.{is_key-itself, same_or_not}
 use Rattle.maps.specs.ContentLaws.{length-changed}
 use Rattle.maps.specs.Maps.{MapState, IsMap, map_at}
@@ -143,11 +143,11 @@ module _ (a : Layout) (m : ℕ) (content : Content) (state : MapState)
       ([], 0) d (omega arith)
 
   pub value_starts : (j : ℕ) → j < length content
-      → a.value m (key_value_at content j).1.serial ≡ (place_at j).1 * size
+      → a.value_start m (key_value_at content j).1.serial ≡ (place_at j).1 * size
   value_starts j h = ap (λ x. x.1.0) (at_place j h)
 
   pub value_bytes : (j : ℕ) → j < length content
-      → (key_value_at content j).1.bytes ≡ row_at size state.block (place_at j).1
+      → (key_value_at content j).1.bytes ≡ block_row size state.block (place_at j).1
   value_bytes j h = ap (λ x. x.1.1) (at_place j h)
 
   pub there : (j : ℕ) → j < length content → get state.places (place_at j).0 ≡ Some (place_at j).1
@@ -160,31 +160,31 @@ module _ (a : Layout) (m : ℕ) (content : Content) (state : MapState)
 
   -- the bytes of a live value are in the block
   pub value_inside : (j : ℕ) → j < length content
-      → a.value m (key_value_at content j).1.serial + length (key_value_at content j).1.bytes
+      → a.value_start m (key_value_at content j).1.serial + length (key_value_at content j).1.bytes
       ≤ length state.block
   value_inside j h =
       let e = value_starts j h in
       let inside = in_block j h in
       let long = ap length (value_bytes j h)
-      ∙ length-row_at size state.row.entries state.block (place_at j).1 shown.is.whole inside 0
+      ∙ length-block_row size state.row.entries state.block (place_at j).1 shown.is.whole inside 0
       [] (omega arith) in
       let end = row_end (place_at j).1 state.row.entries size inside in
       let whole = shown.is.whole in
       omega arith
 
   pub value_at_block : (j : ℕ) → j < length content
-      → bytes_at state.block (a.value m (key_value_at content j).1.serial)
+      → bytes_at state.block (a.value_start m (key_value_at content j).1.serial)
       (length (key_value_at content j).1.bytes) ≡ (key_value_at content j).1.bytes
   value_at_block j h =
       let inside = in_block j h in
       let long = ap length (value_bytes j h)
-      ∙ length-row_at size state.row.entries state.block (place_at j).1 shown.is.whole inside 0
+      ∙ length-block_row size state.row.entries state.block (place_at j).1 shown.is.whole inside 0
       [] (omega arith) in
       (λ i. bytes_at state.block (value_starts j h i) (long i)) ∙ sym (value_bytes j h)
 
   pub value_long : (j : ℕ) → j < length content → length (key_value_at content j).1.bytes ≡ size
   value_long j h = ap length (value_bytes j h)
-      ∙ length-row_at size state.row.entries state.block (place_at j).1 shown.is.whole
+      ∙ length-block_row size state.row.entries state.block (place_at j).1 shown.is.whole
       (in_block j h) 0 [] (omega arith)
 
   -- ---- bytes are written into a live value
@@ -198,7 +198,7 @@ module _ (a : Layout) (m : ℕ) (content : Content) (state : MapState)
     new = (old.0, record old.1 { bytes = splice old.1.bytes i (i + length bs) bs })
 
     abbrev at : ℕ
-    at = a.value m old.1.serial + i
+    at = a.value_start m old.1.serial + i
 
     abbrev pub written : MapState
     written = record state { block = with_bytes state.block at bs }
@@ -210,14 +210,14 @@ module _ (a : Layout) (m : ℕ) (content : Content) (state : MapState)
     fits = let l = value_long j here in omega arith
 
     in_row : written.block
-        ≡ with_row size state.block place
-        (splice (row_at size state.block place) i (i + length bs) bs)
+        ≡ with_block_row size state.block place
+        (splice (block_row size state.block place) i (i + length bs) bs)
     in_row =
         ap (λ n. with_bytes state.block (n + i) bs) (value_starts j here)
         ∙ splice_in_row size state.row.entries state.block place shown.is.whole
         (in_block j here) i bs fits
 
-    row_long : length (splice (row_at size state.block place) i (i + length bs) bs) ≡ size
+    row_long : length (splice (block_row size state.block place) i (i + length bs) bs) ≡ size
     row_long =
         length-changed_row size state.row.entries state.block place shown.is.whole
         (in_block j here) i bs fits
@@ -238,9 +238,9 @@ module _ (a : Layout) (m : ℕ) (content : Content) (state : MapState)
     row_here =
         λ k. (
           sym (value_starts j here) k,
-          (ap (λ block. row_at size block place) in_row
-              ∙ row_at-with_row size state.block place
-              (splice (row_at size state.block place) i (i + length bs) bs) state.row.entries
+          (ap (λ block. block_row size block place) in_row
+              ∙ block_row-written size state.block place
+              (splice (block_row size state.block place) i (i + length bs) bs) state.row.entries
               row_long shown.is.whole (in_block j here)
               ∙ ap (λ row. splice row i (i + length bs) bs) (sym (value_bytes j here))) k,
         )
@@ -258,9 +258,9 @@ module _ (a : Layout) (m : ℕ) (content : Content) (state : MapState)
     row_other k l other =
         λ n. (
           (place_at k).1 * size,
-          (ap (λ block. row_at size block (place_at k).1) in_row
-              ∙ row_at-other size state.block place
-              (splice (row_at size state.block place) i (i + length bs) bs) state.row.entries
+          (ap (λ block. block_row size block (place_at k).1) in_row
+              ∙ block_row-other size state.block place
+              (splice (block_row size state.block place) i (i + length bs) bs) state.row.entries
               row_long shown.is.whole (in_block j here)
               (place_at k).1 (apart k l other)) n,
         )

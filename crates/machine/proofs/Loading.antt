@@ -10,7 +10,7 @@ use Rattle.std.specs.Int.{w16}
 use Rattle.std.specs.Int.RustNames.{FitsSigned}
 use Rattle.flatmem.specs.Bytes.{bytes_at}
 use Rattle.flatmem.proofs.BytesLaws.{bytes_of_bytes}
-use Rattle.isa_model.specs.Code.Limits.{frame_size, max_maps, offset_limit}
+use Rattle.isa_model.specs.Code.Limits.{stack_size, max_maps, offset_limit}
 use Rattle.isa_model.specs.declared.sizes.Width.TheVariants.{Full64}
 use Rattle.isa_model.specs.declared.sizes.Size.{Size}
 use Rattle.isa_model.specs.declared.sizes.Size.TheVariants.{U8, U16, U32, U64}
@@ -27,8 +27,8 @@ use Rattle.isa_model.specs.Code.Sizes.{size_bytes}
 use Rattle.isa_model.specs.Code.Numbers.{alu, unsigned, number_from}
 use Rattle.isa_model.proofs.ByteCells.{take-drop-Byte}
 use Rattle.isa_model.specs.{Program, max_packet}
-use Rattle.isa_model.specs.Machine.States.{State, content_of, frame_at, new_frame}
-use Rattle.isa_model.specs.Machine.Memory.{and_then, index_of_serial, key_value_at, index_from, index_at, place_in, cells_at, read, number_in, value_in, as_number, memory_load, context_field, context_load, load, frame_index as frame_index_of}
+use Rattle.isa_model.specs.Machine.States.{State, content_of, call_frame_at, new_call_frame}
+use Rattle.isa_model.specs.Machine.Memory.{and_then, index_of_serial, key_value_at, index_from, index_at, place_in, cells_at, read, number_in, value_in, as_number, memory_load, context_field, context_load, load, call_frame_index as frame_index_of}
 use Rattle.isa_model.specs.Machine.MachineStates.{IsValue, IsCallFrame, IsState}
 use Rattle.std.proofs.lemmas.List.Quantifiers.{position-Some}
 use Rattle.word_machine.proofs.FrameLaws.{spot_frame}
@@ -115,25 +115,26 @@ module _ (p : Program) (a : Layout) (s : State) (w : Words) (R : Related p a s w
       rw spot (omega arith, cells, far))
 
   -- the call frame at a depth
-  pub frame_whole : (j : ℕ) → j < length s.frames → length (frame_at s.frames j).cells ≡ frame_size
+  pub frame_whole : (j : ℕ) → j < length s.frames
+      → length (call_frame_at s.frames j).cells ≡ stack_size
   frame_whole j h =
-      (All-get_or (IsCallFrame p s.next_serial) s.frames j (new_frame 0 0 []) h K.frames).whole
+      (All-get_or (IsCallFrame p s.next_serial) s.frames j (new_call_frame 0 0 []) h K.frames).whole
 
-  read_frame : (j i n x : ℕ) → 0 < n → j < length s.frames → x + frame_size ≡ frame_end j + i
-      → OkRead n (found (Some (frame_at s.frames j).cells) (Some i) n) x
-  read_frame j i n x some here e = found_in (frame_at s.frames j).cells i n x (λ h.
-      let f = frame_at s.frames j in
+  read_frame : (j i n x : ℕ) → 0 < n → j < length s.frames → x + stack_size ≡ frame_end j + i
+      → OkRead n (found (Some (call_frame_at s.frames j).cells) (Some i) n) x
+  read_frame j i n x some here e = found_in (call_frame_at s.frames j).cells i n x (λ h.
+      let f = call_frame_at s.frames j in
       let whole = frame_whole j here in
       let block = R.frames.whole in
       let few = K.depth in
-      let spot : spot_of x ≡ InFrames (j * frame_size + i) =
+      let spot : spot_of x ≡ InFrames (j * stack_size + i) =
       spot_frame j i x (omega arith) (omega arith) e in
       let shown = R.frames.frames j here in
       let part = shows-take a n (drop i f.cells)
-      (drop i (bytes_at w.frames (j * frame_size) frame_size))
-      (shows-drop a i f.cells (bytes_at w.frames (j * frame_size) frame_size) shown.cells) in
+      (drop i (bytes_at w.frames (j * stack_size) stack_size))
+      (shows-drop a i f.cells (bytes_at w.frames (j * stack_size) stack_size) shown.cells) in
       let cells = subst (RepresentsCells a (take n (drop i f.cells)))
-      (bytes_of_bytes w.frames (j * frame_size) frame_size i n (omega arith)) part in
+      (bytes_of_bytes w.frames (j * stack_size) stack_size i n (omega arith)) part in
       let far : 8589934592 ≤ x = omega arith in
       rw spot (omega arith, cells, far))
 
@@ -142,11 +143,11 @@ module _ (p : Program) (a : Layout) (s : State) (w : Words) (R : Related p a s w
       → (j < length s.frames) × (a.depth n ≡ j)
   live_depth n j e =
       let (here, same, first) =
-      position-Some (λ f. f.serial == n) s.frames j (new_frame 0 0 []) e in
-      let serial : (frame_at s.frames j).serial ≡ n = grind (arith, nat_tests) in
+      position-Some (λ f. f.serial == n) s.frames j (new_call_frame 0 0 []) e in
+      let serial : (call_frame_at s.frames j).serial ≡ n = grind (arith, nat_tests) in
       (here, ap a.depth (sym serial) ∙ (R.frames.frames j here).depth)
 
-  -- a live value's serial finds it, in a map of the program
+  -- a live map value's serial finds it, in a map of the program
   pub live_value : (m n j : ℕ) → index_of_serial (content_of s m) n ≡ Some j
       → (j < length (content_of s m)) × ((key_value_at (content_of s m) j).1.serial ≡ n)
       × (m < length p.maps)
@@ -155,15 +156,15 @@ module _ (p : Program) (a : Layout) (s : State) (w : Words) (R : Related p a s w
       ([], record { serial = 0; bytes = [] }) e in
       (here, grind (arith, nat_tests), live_map p s m j K here)
 
-  -- where in its block a place of a live value is
+  -- where in its block a place of a live map value is
   pub spot_value : (m j i n x : ℕ) → j < length (content_of s m) → m < length p.maps
       → i + n ≤ length (key_value_at (content_of s m) j).1.bytes
-      → x ≡ values_base m + a.value m (key_value_at (content_of s m) j).1.serial + i
-      → (spot_of x ≡ InBlock m (a.value m (key_value_at (content_of s m) j).1.serial + i))
-      × (a.value m (key_value_at (content_of s m) j).1.serial + i + n
+      → x ≡ values_base m + a.value_start m (key_value_at (content_of s m) j).1.serial + i
+      → (spot_of x ≡ InBlock m (a.value_start m (key_value_at (content_of s m) j).1.serial + i))
+      × (a.value_start m (key_value_at (content_of s m) j).1.serial + i + n
       ≤ length (map_at w.maps m).block)
   spot_value m j i n x here row h e =
-      let from : ℕ = a.value m (key_value_at (content_of s m) j).1.serial in
+      let from : ℕ = a.value_start m (key_value_at (content_of s m) j).1.serial in
       let shown = R.maps.maps m row in
       let inside = value_inside a m (content_of s m) (map_at w.maps m) shown j here in
       let long = value_long a m (content_of s m) (map_at w.maps m) shown j here in
@@ -173,12 +174,12 @@ module _ (p : Program) (a : Layout) (s : State) (w : Words) (R : Related p a s w
       let at : x ≡ values_base m + (from + i) = omega arith in
       (ap spot_of at ∙ spot_block m (from + i) (omega arith) (omega arith), omega arith)
 
-  read_value : (m j i n x : ℕ) → j < length (content_of s m) → m < length p.maps
-      → x ≡ values_base m + a.value m (key_value_at (content_of s m) j).1.serial + i
+  read_map_value : (m j i n x : ℕ) → j < length (content_of s m) → m < length p.maps
+      → x ≡ values_base m + a.value_start m (key_value_at (content_of s m) j).1.serial + i
       → OkRead n (found (Some (map Byte (key_value_at (content_of s m) j).1.bytes)) (Some i) n) x
-  read_value m j i n x here row e =
+  read_map_value m j i n x here row e =
       let bytes = (key_value_at (content_of s m) j).1.bytes in
-      let from : ℕ = a.value m (key_value_at (content_of s m) j).1.serial in
+      let from : ℕ = a.value_start m (key_value_at (content_of s m) j).1.serial in
       found_in (map Byte bytes) i n x (λ h.
       let long = length-map bytes Byte in
       let (spot, inside) = spot_value m j i n x here row (omega arith) e in
@@ -197,10 +198,11 @@ module _ (p : Program) (a : Layout) (s : State) (w : Words) (R : Related p a s w
   shows_read region.Packet (pos i) n x some e = read_packet i n x (omega (arith, ints))
   shows_read region.Packet (negsuc i) n x some e = tt
   shows_read (region.CallFrame m) z n x some e =
-      by_frame (frame_index_of s.frames m) refl (z +ℤ pos frame_size) refl
+      by_frame (frame_index_of s.frames m) refl (z +ℤ pos stack_size) refl
     where
-      by_frame : (o : Option ℕ) → frame_index_of s.frames m ≡ o → (y : ℤ) → z +ℤ pos frame_size ≡ y
-          → OkRead n (found (option_map (λ j. (frame_at s.frames j).cells) o) (index_from y) n) x
+      by_frame : (o : Option ℕ) → frame_index_of s.frames m ≡ o → (y : ℤ) → z +ℤ pos stack_size ≡ y
+          → OkRead n (found (option_map (λ j. (call_frame_at s.frames j).cells) o) (index_from y) n)
+          x
       by_frame None f y g = tt
       by_frame (Some j) f (negsuc i) g = tt
       by_frame (Some j) f (pos i) g =
@@ -216,8 +218,8 @@ module _ (p : Program) (a : Layout) (s : State) (w : Words) (R : Related p a s w
       by_value (Some j) f (negsuc i) g = tt
       by_value (Some j) f (pos i) g =
           let (here, serial, row) = live_value m k j f in
-          let same = ap (a.value m) serial in
-          read_value m j i n x here row (omega (arith, ints))
+          let same = ap (a.value_start m) serial in
+          read_map_value m j i n x here row (omega (arith, ints))
 
   -- ---- loads
 

@@ -12,7 +12,7 @@ use Rattle.isa_model.specs.Machine.MapContents.{is_key, at_key, has_key, with_ke
 use Rattle.isa_model.specs.Machine.MapHelpers.{serial_given, serial_after, put_bytes, remove_key, pointer_or_zero}
 use Rattle.isa_model.specs.Machine.MachineStates.{IsState}
 use Rattle.isa_model.proofs.HelperLaws.{value_serials_given}
-use Rattle.map_indexes.specs.RowLaws.{row_end}
+use Rattle.map_indexes.specs.BlockRowLaws.{row_end}
 use Rattle.map_indexes.specs.PlaceKeys.{Places}
 use Rattle.map_indexes.proofs.PlaceKeysLaws.{is_key-itself}
 use Rattle.maps.specs.Changes.{WritesPair}
@@ -22,7 +22,7 @@ use Rattle.maps.specs.Maps.{MapState, IsMap, map_at, content_in, Updated, Delete
 use Rattle.word_machine.specs.Addresses.{values_base}
 use Rattle.word_machine.specs.Words.{Words}
 use Rattle.machine.specs.Related.{Layout, IsLayout, Represents, by_serial, by_place, RepresentsMap, RepresentsMaps, Related}
-use Rattle.machine.proofs.Extending.{ExtendsLayout, with_value, put_at-there, ExtendsLayout-with_value, IsLayout-with_value, registers_old, frames_old, maps_old, content_old}
+use Rattle.machine.proofs.Extending.{ExtendsLayout, with_value_start, put_at-there, ExtendsLayout-with_value_start, IsLayout-with_value_start, registers_old, frames_old, maps_old, content_old}
 use Rattle.machine.proofs.Contents.{changed-with_key, changed-without_key, find-placed, placed-remove, placed-put}
 use Rattle.machine.proofs.LiveValues.{contents_are, as_many, set_shown}
 
@@ -68,7 +68,7 @@ module _ (a : Layout) (m : ℕ) (content : Content) (state : MapState)
   found_shown (Some v) (Some place) e =
       let same : by_serial a m v ≡ by_place size state.block place = cc in
       ap (λ n. values_base m + n) (ap (λ x. x.0) (sym same))
-      ∙ sym (add-zero (values_base m + a.value m v.serial))
+      ∙ sym (add-zero (values_base m + a.value_start m v.serial))
 
   pub lookup_shown : (key : List ℕ)
       → Represents a (pointer_or_zero m (at_key key content)) (address (get state.places key))
@@ -140,7 +140,8 @@ module _ (a : Layout) (m : ℕ) (content : Content) (state : MapState)
     inside : place < state.row.entries
     inside = subst (λ r. place < r.entries) row (is.in_range key place writes.there)
 
-    put_shown : (b : Layout) (v : Stored) → v.bytes ≡ value → b.value m v.serial ≡ place * size
+    put_shown : (b : Layout) (v : Stored) → v.bytes ≡ value
+        → b.value_start m v.serial ≡ place * size
         → changed (by_serial b m) content ≡ changed (by_serial a m) content
         → ((q : List ℕ) → is_key q key ≡ false → get new.places q ≡ get state.places q)
         → ((q : List ℕ) → is_key q key ≡ false → get state.places q ≡ Some place → ⊥)
@@ -156,18 +157,18 @@ module _ (a : Layout) (m : ℕ) (content : Content) (state : MapState)
     -- the layout after it, by the value that the key had
     abbrev pub given : ℕ → Option Stored → Layout
     given next (Some old) = a
-    given next None = with_value a next (place * size)
+    given next None = with_value_start a next (place * size)
 
     pub given_extends : (next : ℕ) (o : Option Stored) → ExtendsLayout a (given next o) next
     given_extends next (Some old) =
-        record { depth = λ n h. refl; value = λ k n h. refl; end = refl }
-    given_extends next None = ExtendsLayout-with_value a next (place * size)
+        record { depth = λ n h. refl; value_start = λ k n h. refl; end = refl }
+    given_extends next None = ExtendsLayout-with_value_start a next (place * size)
 
     pub given_good : (rows next : ℕ) (o : Option Stored) → IsLayout a rows
         → IsLayout (given next o) rows
     given_good rows next (Some old) good = good
     given_good rows next None good =
-        IsLayout-with_value a rows next (place * size)
+        IsLayout-with_value_start a rows next (place * size)
         (place_low new place is row (is.in_range key place writes.there)) good
 
     pub given_end : (next : ℕ) (o : Option Stored) → (given next o).end ≡ a.end
@@ -196,14 +197,15 @@ module _ (a : Layout) (m : ℕ) (content : Content) (state : MapState)
 
     -- a new key gets the next serial, at the place that it takes
     absent : (next : ℕ) → get state.places key ≡ None
-        → changed (by_serial (with_value a next (place * size)) m) content
+        → changed (by_serial (with_value_start a next (place * size)) m) content
         ≡ changed (by_serial a m) content
-        → RepresentsMap (with_value a next (place * size)) m
+        → RepresentsMap (with_value_start a next (place * size)) m
         (with_key key (record { serial = next; bytes = value }) content) new
     absent next none old =
         let takes = writes.taken none in
-        put_shown (with_value a next (place * size)) (record { serial = next; bytes = value }) refl
-        (put_at-there next (place * size) (a.value m)) old
+        put_shown (with_value_start a next (place * size))
+        (record { serial = next; bytes = value }) refl
+        (put_at-there next (place * size) (a.value_start m)) old
         (λ q t. ap (λ (P : Places). get P q) takes.added
         ∙ get-insert nat_list_cmp_total state.places key place q
         ∙ ap (λ (c : Bool). cond c (Some place) (get state.places q)) t)
@@ -255,11 +257,11 @@ module _ (p : Program) (a : Layout) (s : State) (w : Words) (R : Related p a s w
     maps =
         set_shown b p.maps s.maps w.maps m content new (contents_are p s K) same (λ _. h)
         (maps_old p s K a b E w.maps R.maps);
-    calls = R.calls;
+    clock_calls = R.clock_calls;
   }
 
   unchanged : ExtendsLayout a a s.next_serial
-  unchanged = record { depth = λ n h. refl; value = λ k n h. refl; end = refl }
+  unchanged = record { depth = λ n h. refl; value_start = λ k n h. refl; end = refl }
 
   -- a map that did not change, put where it was
   same_related : (new : MapState) → IsMap new → new.row ≡ state.row → new.places ≡ state.places
@@ -279,7 +281,7 @@ module _ (p : Program) (a : Layout) (s : State) (w : Words) (R : Related p a s w
         (slice_set-same s.maps m)
         (set_shown a p.maps s.maps w.maps m content new (contents_are p s K) same
         (λ _. stays_shown a m content state shown new is same places block) R.maps);
-    calls = R.calls;
+    clock_calls = R.clock_calls;
   }
     where
       slice_set-same : (xs : List Content) (m : ℕ) → slice_set xs m (slice_index_or xs m []) ≡ xs

@@ -24,7 +24,7 @@ use Rattle.machine.proofs.Arguments.{row_of}
 use Rattle.machine.proofs.MapCalls.{found}
 
 module _ (a : Layout) (m : ℕ) (state : MapState) where
-  -- an array of one key has its value
+  -- an array of one key has a value
   has_value : (content : Content) → RepresentsMap a m content state → state.row.kind ≡ Array
       → state.row.entries ≡ 1 → 0 < length content
   has_value [] shown array one =
@@ -38,7 +38,7 @@ module _ (a : Layout) (m : ℕ) (state : MapState) where
   has_value (e ∷ content) shown array one = omega arith
 
   only_begins : (content : Content) → RepresentsMap a m content state → state.row.kind ≡ Array
-      → state.row.entries ≡ 1 → a.value m (one_serial content) ≡ 0
+      → state.row.entries ≡ 1 → a.value_start m (one_serial content) ≡ 0
   only_begins content shown array one =
       let some = has_value content shown array one in
       let inside = in_block a m content state shown 0 some in

@@ -12,7 +12,7 @@ use Rattle.isa_model.specs.declared.instructions.Insn.TheVariants.{Alu, Neg, Mov
 use Rattle.isa_model.specs.declared.values.Value.{Value}
 use Rattle.isa_model.specs.declared.values.Value.TheVariants.{Unset, Num, Ptr}
 use Rattle.isa_model.specs.declared.ends.TrapReason.{TrapReason}
-use Rattle.isa_model.specs.declared.ends.TrapReason.TheVariants.{UnsetRead, ReadOnly, TooManyFrames, BadAction}
+use Rattle.isa_model.specs.declared.ends.TrapReason.TheVariants.{UnsetRead, ReadOnly, TooManyCallFrames, BadAction}
 use Rattle.isa_model.specs.Code.Sizes.{unsigned_size, size_extension}
 use Rattle.isa_model.specs.Code.Registers.{reg_number}
 use Rattle.isa_model.specs.Code.Helpers.{helper_numbered}
@@ -33,7 +33,7 @@ use Rattle.isa_model.proofs.StateLaws.{reg_fits}
 use Rattle.word_machine.specs.Addresses.{map_base, values_base}
 use Rattle.word_machine.specs.Words.{Words, word_at, set_word, word_operand, at_slot, address_of, word_from, word_tested, word_enter, number_at, CanLoad, put, spot_of, IsInside}
 use Rattle.word_machine.specs.Words as words
-use Rattle.word_machine.specs.Flows.{AccessesFit, WordStep}
+use Rattle.word_machine.specs.Effects.{AccessesFit, WordStep}
 use Rattle.word_machine.specs.Runs.{IsLast}
 use Rattle.machine.specs.Related.{Layout, Represents, Related}
 use Rattle.machine.proofs.Registers.{set_related, go_related}
@@ -174,7 +174,7 @@ module _ (p : Program) (clock : ℕ → ℕ) (a : Layout) (s : State) (w : Words
     where
       room : (full : Bool) → (length s.frames == max_call_frames) ≡ full
           → OkMove (CallLocal by)
-          (if full then Trapped TooManyFrames else Next (enter s (destination p s.slot by)))
+          (if full then Trapped TooManyCallFrames else Next (enter s (destination p s.slot by)))
       room true e = tt
       room false e =
           let other : length s.frames ≡ max_call_frames → ⊥ = (λ h. grind (arith, nat_tests)) in

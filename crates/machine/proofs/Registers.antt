@@ -66,7 +66,7 @@ set_related p a s w d v x long R h = record {
   interface = R.interface;
   queue = R.queue;
   maps = R.maps;
-  calls = R.calls;
+  clock_calls = R.clock_calls;
 }
 
 pub go_related : (p : Program) (a : Layout) (s : State) (w : Words) (slot : ℕ) → Related p a s w
@@ -81,5 +81,5 @@ go_related p a s w slot R = record {
   interface = R.interface;
   queue = R.queue;
   maps = R.maps;
-  calls = R.calls;
+  clock_calls = R.clock_calls;
 }

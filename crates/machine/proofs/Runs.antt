@@ -115,7 +115,7 @@ module _ (p : Program) (bound : ℕ) (memory : Memory) (ready : IsReady p bound 
 
     -- and the machine can run again
     pub still_ready : vec_capacity left.saved ≡ max_call_frames → IsReady p bound left
-    still_ready room = record {
+    still_ready capacity = record {
       running = record {
         is_program = ready.running.is_program;
         ends = ready.running.ends;
@@ -130,5 +130,5 @@ module _ (p : Program) (bound : ℕ) (memory : Memory) (ready : IsReady p bound 
       rows = word_returns.rows;
       whole = word_returns.whole;
       outer = nil_from_length left.saved.items word_returns.back;
-      room = room;
+      capacity = capacity;
     }

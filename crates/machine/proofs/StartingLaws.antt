@@ -8,14 +8,14 @@ use Rattle.std.specs.Prelude.{slice_index, slice_index_or, All}
 use Rattle.std.specs.FinMap.{entries}
 use Rattle.flatmem.specs.Bytes.{bytes_at}
 use Rattle.flatmem.proofs.BytesLaws.{length-bytes_at}
-use Rattle.isa_model.specs.Code.Limits.{frame_size, max_maps, offset_limit}
+use Rattle.isa_model.specs.Code.Limits.{stack_size, max_maps, offset_limit}
 use Rattle.isa_model.specs.declared.frames.FrameHead.{FrameHead}
 use Rattle.isa_model.specs.declared.values.Value.TheVariants.{Unset}
 use Rattle.isa_model.specs.{Program, max_packet}
-use Rattle.isa_model.specs.Machine.States.{Stored, value_at, new_frame, frame_at}
-use Rattle.isa_model.specs.Running.Runs.{start_state, start_regs, numbered, numbered_maps, count_values}
-use Rattle.map_indexes.specs.Rows.{row_at}
-use Rattle.map_indexes.specs.RowLaws.{row_end}
+use Rattle.isa_model.specs.Machine.States.{Stored, value_at, new_call_frame, call_frame_at}
+use Rattle.isa_model.specs.Running.Runs.{start_state, start_regs, numbered, numbered_maps, count_map_values}
+use Rattle.map_indexes.specs.BlockRows.{block_row}
+use Rattle.map_indexes.specs.BlockRowLaws.{row_end}
 use Rattle.maps.specs.ContentLaws.{changed}
 use Rattle.maps.proofs.MapLaws.{length-rows_of}
 use Rattle.maps.specs.Maps.{MapState, IsMap, map_at, rows_of, content_in, contents_of}
@@ -35,7 +35,8 @@ begins first (state ∷ states) zero n = place_of state (n - first) * state.row.
 begins first (state ∷ states) (suc m) n = begins (first + length (content_in state)) states m n
 
 abbrev pub start_layout : List ℕ → List MapState → Layout
-start_layout packet maps = record { depth = λ n. 0; value = begins 0 maps; end = length packet }
+start_layout packet maps =
+    record { depth = λ n. 0; value_start = begins 0 maps; end = length packet }
 
 place_inside : (state : MapState) (k : ℕ) → IsMap state → place_of state k < state.row.entries
 place_inside state k is = elim (cases_lt k (length (entries state.places))) [
@@ -64,13 +65,13 @@ begins_low first (state ∷ maps) (suc m) n h =
 numbered_shown : (begin : ℕ → ℕ) (size : ℕ) (block : List ℕ) (first : ℕ) (es : List (List ℕ × ℕ))
     → ((j : ℕ) → j < length es → begin (first + j) ≡ (slice_index_or es j ([], 0)).1 * size)
     → changed {X = Stored} {Y = ℕ × List ℕ} (λ v. (begin v.serial, v.bytes))
-    (numbered first (map (λ e. (e.0, row_at size block e.1)) es))
+    (numbered first (map (λ e. (e.0, block_row size block e.1)) es))
     ≡ changed (by_place size block) es
 numbered_shown begin size block first [] h = refl
 numbered_shown begin size block first (e ∷ es) h =
     let zero_first : first ≡ first + 0 = omega arith in
     let here : begin first ≡ e.1 * size = ap begin zero_first ∙ h 0 (omega arith) in
-    λ i. (e.0, (here i, row_at size block e.1))
+    λ i. (e.0, (here i, block_row size block e.1))
     ∷ numbered_shown begin size block (suc first) es
     (λ j l. let next : suc first + j ≡ first + suc j = omega arith in
     ap begin next ∙ h (suc j) (omega arith)) i
@@ -94,7 +95,7 @@ pub start_related : (p : Program) (head : FrameHead) (packet frames : List ℕ) 
     → length frames ≡ frames_size → All IsMap maps → rows_of maps ≡ p.maps
     → Related p (start_layout packet maps) (start_state head packet (contents_of maps))
     (start_of head packet frames maps)
-unfolding start_state new_frame
+unfolding start_state new_call_frame
 start_related p head packet frames maps few short whole are rows = record {
   slot = refl;
   layout =
@@ -108,10 +109,10 @@ start_related p head packet frames maps few short whole are rows = record {
     count = refl;
     shown =
         by_register (λ k. Represents (start_layout packet maps)
-        (value_at (start_regs (count_values (contents_of maps))) k) (slice_index start_words k))
+        (value_at (start_regs (count_map_values (contents_of maps))) k) (slice_index start_words k))
         tt refl tt tt tt tt tt tt tt tt refl
         (λ k h. subst (λ v. Represents (start_layout packet maps) v (slice_index start_words k))
-        (sym (get_or_past (start_regs (count_values (contents_of maps))) k Unset h)) tt);
+        (sym (get_or_past (start_regs (count_map_values (contents_of maps))) k Unset h)) tt);
   };
   frames =
       record { whole = whole; depth = refl; frames = frame; saved = λ j h. absurd (omega arith) };
@@ -126,17 +127,17 @@ start_related p head packet frames maps few short whole are rows = record {
       same = maps_shown 0 maps m (omega arith);
     };
   };
-  calls = refl;
+  clock_calls = refl;
 }
   where
     frame : (j : ℕ) → j < length (start_state head packet (contents_of maps)).frames
         → RepresentsFrame (start_layout packet maps)
-        (frame_at (start_state head packet (contents_of maps)).frames j) j frames
+        (call_frame_at (start_state head packet (contents_of maps)).frames j) j frames
     frame zero h =
         record {
           depth = refl;
           cells = cells_unwritten (start_layout packet maps)
-              (bytes_at frames 0 frame_size) frame_size
-              (length-bytes_at frames 0 frame_size (omega arith));
+              (bytes_at frames 0 stack_size) stack_size
+              (length-bytes_at frames 0 stack_size (omega arith));
         }
     frame (suc j) h = absurd (omega arith)

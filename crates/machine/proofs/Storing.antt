@@ -11,7 +11,7 @@ use Rattle.std.specs.Int.{w16, w64, to_le_bytes}
 use Rattle.std.specs.Int.RustNames.{FitsSigned}
 use Rattle.flatmem.specs.Bytes.{bytes_at, with_bytes}
 use Rattle.flatmem.proofs.BytesLaws.{bytes_with, bytes_before, bytes_after, length-with_bytes}
-use Rattle.isa_model.specs.Code.Limits.{frame_size}
+use Rattle.isa_model.specs.Code.Limits.{stack_size}
 use Rattle.isa_model.specs.declared.sizes.Width.TheVariants.{Full64}
 use Rattle.isa_model.specs.declared.sizes.Size.{Size}
 use Rattle.isa_model.specs.declared.sizes.Size.TheVariants.{U8, U16, U32, U64}
@@ -29,8 +29,8 @@ use Rattle.isa_model.specs.Code.Sizes.{size_bytes}
 use Rattle.isa_model.specs.Code.Numbers.{alu, unsigned, bytes_of}
 use Rattle.isa_model.proofs.ByteCells.{map-byte_in-Byte}
 use Rattle.isa_model.specs.Code.Instructions.{Program}
-use Rattle.isa_model.specs.Machine.States.{State, Content, content_of, frame_at, new_frame}
-use Rattle.isa_model.specs.Machine.Memory.{and_then, byte_in, index_of_serial, key_value_at, index_from, index_at, place_in, put_frame, put_value, write, pieces, store_number, store_pointer, store, frame_index as frame_index_of}
+use Rattle.isa_model.specs.Machine.States.{State, Content, content_of, call_frame_at, new_call_frame}
+use Rattle.isa_model.specs.Machine.Memory.{and_then, byte_in, index_of_serial, key_value_at, index_from, index_at, place_in, put_call_frame, put_value, write, pieces, store_number, store_pointer, store, call_frame_index as frame_index_of}
 use Rattle.maps.specs.Maps.{MapState, map_at, with_block}
 use Rattle.isa_model.specs.Machine.MachineStates.{AreBytes, IsValue, IsState}
 use Rattle.isa_model.proofs.ValueLaws.{length-splice, bytes_of_fit}
@@ -46,9 +46,10 @@ use Rattle.machine.proofs.Loading.{spot_packet, spot_value, frame_whole, live_de
 
 -- a call frame of a list in which one was replaced
 at_set : (fs : List CallFrame) (j k : ℕ) (g : CallFrame) (P : CallFrame → Type 0) → j < length fs
-    → (k ≡ j → P g) → ((k ≡ j → ⊥) → P (frame_at fs k)) → P (frame_at (slice_set fs j g) k)
+    → (k ≡ j → P g) → ((k ≡ j → ⊥) → P (call_frame_at fs k))
+    → P (call_frame_at (slice_set fs j g) k)
 at_set fs j k g P here same other =
-    let d : CallFrame = new_frame 0 0 [] in
+    let d : CallFrame = new_call_frame 0 0 [] in
     elim (cases_lt k j) [
       | inl lt ↦
           subst P (sym (get_or-set_other fs j k g d (λ e. omega arith))) (other (λ e. omega arith))
@@ -57,7 +58,7 @@ at_set fs j k g P here same other =
             subst P (sym (get_or-set_other fs j k g d (λ e. omega arith)))
             (other (λ e. omega arith))
         | inr le ↦ let e : k ≡ j = omega arith in
-            subst P (sym (ap (frame_at (slice_set fs j g)) e ∙ get_or-set_same fs j g d here))
+            subst P (sym (ap (call_frame_at (slice_set fs j g)) e ∙ get_or-set_same fs j g d here))
             (same e)
       ]
     ]
@@ -77,50 +78,51 @@ module _ (p : Program) (a : Layout) (s : State) (w : Words) (R : Related p a s w
       (shows-append a new bs (drop (i + length new) cs) (drop (i + length bs) row) k rest)
 
   put_frame_shown : (j i : ℕ) (new : List Cell) (bs : List ℕ) → j < length s.frames
-      → i + length new ≤ frame_size → RepresentsCells a new bs
-      → RepresentsFrames a (put_frame s.frames (Some j) i new)
-      (with_bytes w.frames (j * frame_size + i) bs) w.saved
+      → i + length new ≤ stack_size → RepresentsCells a new bs
+      → RepresentsFrames a (put_call_frame s.frames (Some j) i new)
+      (with_bytes w.frames (j * stack_size + i) bs) w.saved
   put_frame_shown j i new bs here room k =
-      let f = frame_at s.frames j in
+      let f = call_frame_at s.frames j in
       let g : CallFrame = record f { cells = splice f.cells i (i + length new) new } in
       let few = K.depth in
       let block = R.frames.whole in
       let long = shows-length a new bs k in
       let same = length-set s.frames j g in
-      let inside : j * frame_size + i + length bs ≤ length w.frames = omega arith in
+      let inside : j * stack_size + i + length bs ≤ length w.frames = omega arith in
       record {
-        whole = length-with_bytes w.frames (j * frame_size + i) bs inside ∙ R.frames.whole;
+        whole = length-with_bytes w.frames (j * stack_size + i) bs inside ∙ R.frames.whole;
         depth = same ∙ R.frames.depth;
         frames =
             λ n h. at_set s.frames j n g
-            (λ f. RepresentsFrame a f n (with_bytes w.frames (j * frame_size + i) bs)) here
+            (λ f. RepresentsFrame a f n (with_bytes w.frames (j * stack_size + i) bs)) here
             (λ e. let old = R.frames.frames j here in record {
               depth = old.depth ∙ sym e;
               cells =
                   subst (λ n. RepresentsCells a g.cells
-                  (bytes_at (with_bytes w.frames (j * frame_size + i) bs)
-                  (n * frame_size) frame_size)) (sym e)
+                  (bytes_at (with_bytes w.frames (j * stack_size + i) bs)
+                  (n * stack_size) stack_size)) (sym e)
                   (subst (RepresentsCells a g.cells)
-                  (sym (bytes_with w.frames (j * frame_size) frame_size i bs (omega arith)
+                  (sym (bytes_with w.frames (j * stack_size) stack_size i bs (omega arith)
                   (omega arith)))
                   (shows-splice f.cells new
-                  (bytes_at w.frames (j * frame_size) frame_size) bs i old.cells k));
+                  (bytes_at w.frames (j * stack_size) stack_size) bs i old.cells k));
             })
             (λ d. let old = R.frames.frames n (omega arith) in record {
               depth = old.depth;
-              cells = subst (RepresentsCells a (frame_at s.frames n).cells) (elim (cases_lt n j) [
-                | inl lt ↦
-                    sym (bytes_before w.frames (j * frame_size + i) bs inside
-                    (n * frame_size) frame_size (omega arith))
-                | inr ge ↦
-                    sym (bytes_after w.frames (j * frame_size + i) bs inside
-                    (n * frame_size) frame_size (let gt : j < n = omega (arith, d) in omega arith))
-              ]) old.cells;
+              cells =
+                  subst (RepresentsCells a (call_frame_at s.frames n).cells) (elim (cases_lt n j) [
+                    | inl lt ↦
+                        sym (bytes_before w.frames (j * stack_size + i) bs inside
+                        (n * stack_size) stack_size (omega arith))
+                    | inr ge ↦
+                        sym (bytes_after w.frames (j * stack_size + i) bs inside
+                        (n * stack_size) stack_size (let gt : j < n = omega (arith, d) in omega arith))
+                  ]) old.cells;
             });
         saved =
             λ n h. at_set s.frames j (n + 1) g (λ f. RepresentsSaved a f (saved_at w.saved n)) here
             (λ e. let old = subst
-            (λ m. RepresentsSaved a (frame_at s.frames m) (saved_at w.saved n)) e
+            (λ m. RepresentsSaved a (call_frame_at s.frames m) (saved_at w.saved n)) e
             (R.frames.saved n h) in record { back = old.back; kept = old.kept })
             (λ d. R.frames.saved n h);
       }
@@ -137,7 +139,7 @@ module _ (p : Program) (a : Layout) (s : State) (w : Words) (R : Related p a s w
     interface = R.interface;
     queue = R.queue;
     maps = R.maps;
-    calls = R.calls;
+    clock_calls = R.clock_calls;
   }
 
   with_packet : (packet : List ℕ) → length packet ≡ length s.packet
@@ -152,7 +154,7 @@ module _ (p : Program) (a : Layout) (s : State) (w : Words) (R : Related p a s w
     interface = R.interface;
     queue = R.queue;
     maps = R.maps;
-    calls = R.calls;
+    clock_calls = R.clock_calls;
   }
 
   with_maps : (contents : List Content) (maps : List MapState)
@@ -168,7 +170,7 @@ module _ (p : Program) (a : Layout) (s : State) (w : Words) (R : Related p a s w
     interface = R.interface;
     queue = R.queue;
     maps = h;
-    calls = R.calls;
+    clock_calls = R.clock_calls;
   }
 
   put_packet_related : (i : ℕ) (bs : List ℕ) → i + length bs ≤ length s.packet
@@ -213,47 +215,48 @@ module _ (p : Program) (a : Layout) (s : State) (w : Words) (R : Related p a s w
       → RepresentsCells a new bs → pos x ≡ pos (region_start a (region.CallFrame m)) +ℤ z
       → OkStore (write s (region.CallFrame m) (index_at (region.CallFrame m) z) new) x bs
   shows_write_frame m z new bs x some k e =
-      by_frame (frame_index_of s.frames m) refl (z +ℤ pos frame_size) refl
+      by_frame (frame_index_of s.frames m) refl (z +ℤ pos stack_size) refl
     where
-      by_frame : (o : Option ℕ) → frame_index_of s.frames m ≡ o → (y : ℤ) → z +ℤ pos frame_size ≡ y
+      by_frame : (o : Option ℕ) → frame_index_of s.frames m ≡ o → (y : ℤ) → z +ℤ pos stack_size ≡ y
           → OkStore (and_then
-          (place_in (option_map (λ j. (frame_at s.frames j).cells) o) (index_from y) (length new))
-          (λ i. Ok (record s { frames = put_frame s.frames o i new }))) x bs
+          (place_in (option_map (λ j. (call_frame_at s.frames j).cells) o) (index_from y)
+          (length new))
+          (λ i. Ok (record s { frames = put_call_frame s.frames o i new }))) x bs
       by_frame None f y g = tt
       by_frame (Some j) f (negsuc i) g = tt
       by_frame (Some j) f (pos i) g =
-          stored (frame_at s.frames j).cells i (length new) x bs
-          (λ i. record s { frames = put_frame s.frames (Some j) i new }) (λ h.
+          stored (call_frame_at s.frames j).cells i (length new) x bs
+          (λ i. record s { frames = put_call_frame s.frames (Some j) i new }) (λ h.
           let (here, depth) = live_depth p a s w R K m j f in
           let whole = frame_whole p a s w R K j here in
           let few = K.depth in
           let block = R.frames.whole in
           let long = shows-length a new bs k in
-          let spot : spot_of x ≡ InFrames (j * frame_size + i) =
+          let spot : spot_of x ≡ InFrames (j * stack_size + i) =
           spot_frame j i x (omega arith) (omega arith) (omega (arith, ints)) in
           rw spot (
             omega arith,
-            with_frames (put_frame s.frames (Some j) i new)
-                (with_bytes w.frames (j * frame_size + i) bs)
+            with_frames (put_call_frame s.frames (Some j) i new)
+                (with_bytes w.frames (j * stack_size + i) bs)
                 (put_frame_shown j i new bs here (omega arith) k),
           ))
 
-  -- bytes into a live value
+  -- bytes into a live map value
   put_value_related : (m j i : ℕ) (new bs : List ℕ) → new ≡ bs → j < length (content_of s m)
       → m < length p.maps
       → i + length bs ≤ length (key_value_at (content_of s m) j).1.bytes → AreBytes bs
       → Related p a
       (record s { maps = slice_set s.maps m (put_value (content_of s m) (Some j) i new) })
-      (put_bytes w (InBlock m (a.value m (key_value_at (content_of s m) j).1.serial + i)) bs)
+      (put_bytes w (InBlock m (a.value_start m (key_value_at (content_of s m) j).1.serial + i)) bs)
   put_value_related m j i new bs same here row room bytes =
       subst (λ new. Related p a
       (record s { maps = slice_set s.maps m (put_value (content_of s m) (Some j) i new) })
-      (put_bytes w (InBlock m (a.value m (key_value_at (content_of s m) j).1.serial + i)) bs))
+      (put_bytes w (InBlock m (a.value_start m (key_value_at (content_of s m) j).1.serial + i)) bs))
       (sym same)
       (with_maps (slice_set s.maps m (put_value (content_of s m) (Some j) i bs))
       (with_block w.maps m
       (with_bytes (map_at w.maps m).block
-      (a.value m (key_value_at (content_of s m) j).1.serial + i) bs))
+      (a.value_start m (key_value_at (content_of s m) j).1.serial + i) bs))
       (set_shown a p.maps s.maps w.maps m (put_value (content_of s m) (Some j) i bs)
       (written a m (content_of s m) (map_at w.maps m) (R.maps.maps m row) j here i bs room bytes)
       (contents_are p s K) refl
@@ -285,7 +288,7 @@ module _ (p : Program) (a : Layout) (s : State) (w : Words) (R : Related p a s w
           let long = length-map (key_value_at (content_of s m) j).1.bytes Byte in
           let part = length-map bs Byte in
           let (here, serial, row) = live_value p a s w R K m n j f in
-          let same = ap (a.value m) serial in
+          let same = ap (a.value_start m) serial in
           let (spot, inside) =
           spot_value p a s w R K m j i (length bs) x here row (omega arith) (omega (arith, ints)) in
           rw spot (

@@ -16,7 +16,7 @@ use Rattle.isa_model.proofs.RunLaws.{progress-zero}
 use Rattle.isa_model.specs.Running.Ends.{After, Ends as ModelEnds}
 use Rattle.isa_model.proofs.EndsLaws.{Reaches-then}
 use Rattle.word_machine.specs.Words.{Words}
-use Rattle.word_machine.specs.Flows.{AccessesFit}
+use Rattle.word_machine.specs.Effects.{AccessesFit}
 use Rattle.word_machine.specs.Runs.{CanStepTo, EndsSafely, WordsStepTo, WordsReach, Exits}
 use Rattle.machine.specs.Related.{Layout, Related}
 use Rattle.machine.proofs.Moves.{OkMove, not_last, moves}

@@ -37,7 +37,7 @@ pub record ReturnsAsModel (p : Program) (clock : ℕ → ℕ) (n : ℕ) (head : 
   pub steps_are : steps ≡ outcome.steps
   pub packet_is : v.packet ≡ outcome.packet
   pub contents_are : contents_of v.maps ≡ outcome.contents
-  pub clock_calls_are : v.calls ≡ outcome.clock_calls
+  pub clock_calls_are : v.clock_calls ≡ outcome.clock_calls
   pub whole : length v.frames ≡ frames_size
   pub back : length v.saved ≡ 0
   pub rows : rows_of v.maps ≡ p.maps

@@ -45,9 +45,9 @@ pub record AnswersDelete (m : ℕ) (key : List ℕ) (result : ℕ) (old new : Ru
   pub answer : result ≡ delete_answer (row_at old m) (content_at old m) key
   pub machine : new ≡ with_content old m (after_delete (row_at old m) (content_at old m) key)
 
--- a key and its value, if they are found, are copied to the caller's buffers
-pub record CopiesKeyValue (found : Option (List ℕ × List ℕ)) (answer : Bool)
+-- a key and its value, if they are found, are copied to the caller's buffers; `copied` says whether
+pub record CopiesKeyValue (found : Option (List ℕ × List ℕ)) (copied : Bool)
     (old_key new_key old_value new_value : List ℕ) : Type 0 where
-  pub answer_is : answer ≡ is_some found
+  pub copied_is : copied ≡ is_some found
   pub key_is : new_key ≡ key_or found old_key
   pub value_is : new_value ≡ value_or found old_value

@@ -1,5 +1,5 @@
--- Runs of the machine of words, from words that represent a machine state: they end, and lead where
--- the run from that state does. A step of the machine of words is called a move.
+-- Runs of the machine on words, from words that represent a machine state: they end, and lead where
+-- the run from that state does. A step of the machine on words is called a move.
 use Rattle.std.specs.Prelude.{ℕ, List}
 use Rattle.isa_model.specs.declared.frames.FrameHead.{FrameHead}
 use Rattle.isa_model.specs.Code.Instructions.{Program}

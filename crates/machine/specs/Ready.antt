@@ -16,4 +16,4 @@ pub record IsReady (p : Program) (bound : ℕ) (memory : Memory) : Type 0 where
   pub rows : rows_of memory.maps ≡ p.maps
   pub whole : length memory.frames.items ≡ frames_size
   pub outer : memory.saved.items ≡ []
-  pub room : vec_capacity memory.saved ≡ max_call_frames
+  pub capacity : vec_capacity memory.saved ≡ max_call_frames

@@ -5,7 +5,7 @@ use Rattle.std.specs.Prelude.{◌≡◌, ℕ, suc, ◌+◌, ◌-◌, ◌*◌, �
 use Rattle.std.specs.FinMap.{entries}
 use Rattle.std.specs.Int.{byte_at}
 use Rattle.flatmem.specs.Bytes.{bytes_at}
-use Rattle.isa_model.specs.Code.Limits.{max_maps, max_call_frames, offset_limit, frame_size}
+use Rattle.isa_model.specs.Code.Limits.{max_maps, max_call_frames, offset_limit, stack_size}
 use Rattle.isa_model.specs.declared.map_defs.MapDef.{MapDef}
 use Rattle.isa_model.specs.declared.values.Region.{Region}
 use Rattle.isa_model.specs.declared.values.Region.TheVariants as region
@@ -15,26 +15,26 @@ use Rattle.isa_model.specs.declared.values.Cell.{Cell}
 use Rattle.isa_model.specs.declared.values.Cell.TheVariants.{Unwritten, Byte, Piece}
 use Rattle.isa_model.specs.declared.values.CallFrame.{CallFrame}
 use Rattle.isa_model.specs.{Program, max_packet}
-use Rattle.isa_model.specs.Machine.States.{State, Stored, Content, value_at, frame_at}
-use Rattle.map_indexes.specs.Rows.{row_at}
+use Rattle.isa_model.specs.Machine.States.{State, Stored, Content, value_at, call_frame_at}
+use Rattle.map_indexes.specs.BlockRows.{block_row}
 use Rattle.maps.specs.ContentLaws.{changed}
 use Rattle.maps.specs.Maps.{MapState, IsMap, map_at, rows_of}
 use Rattle.word_machine.specs.Addresses.{context_base, packet_base, map_base, values_base, frame_end, frames_size}
 use Rattle.word_machine.specs.declared.memory.Saved.{Saved}
 use Rattle.word_machine.specs.Words.{Words, saved_at}
 
--- `depth` is of a call frame's serial, `value` of a map and the serial of one of its values, both
--- for all serials; `end` is the packet's length
+-- `depth` is of a call frame's serial, `value_start` of a map and the serial of one of its values,
+-- both for all serials; `end` is the packet's length
 pub record Layout : Type 0 where
   pub depth : ℕ → ℕ
-  pub value : ℕ → ℕ → ℕ
+  pub value_start : ℕ → ℕ → ℕ
   pub end : ℕ
 
 -- every region begins far from both ends of the addresses, and no two overlap
 pub record IsLayout (a : Layout) (rows : ℕ) : Type 0 where
   pub few : rows ≤ max_maps
   pub shallow : (n : ℕ) → a.depth n < max_call_frames
-  pub low : (m n : ℕ) → a.value m n < offset_limit
+  pub low : (m n : ℕ) → a.value_start m n < offset_limit
   pub short : a.end ≤ max_packet
 
 -- where a region's offset 0 is
@@ -43,7 +43,7 @@ region_start a region.Context = context_base
 region_start a region.Packet = packet_base
 region_start a region.PacketEnd = packet_base + a.end
 region_start a (region.Map m) = map_base m
-region_start a (region.MapValue m n) = values_base m + a.value m n
+region_start a (region.MapValue m n) = values_base m + a.value_start m n
 region_start a (region.CallFrame n) = frame_end (a.depth n)
 
 -- an address some bytes further on, or back
@@ -81,10 +81,10 @@ pub record RepresentsRegisters (a : Layout) (regs : List Value) (words : List �
 
 -- ---- call frames
 
--- the call frame at depth j has its bytes from j * frame_size on
+-- the call frame at depth j has its bytes from j * stack_size on
 pub record RepresentsFrame (a : Layout) (f : CallFrame) (j : ℕ) (frames : List ℕ) : Type 0 where
   pub depth : a.depth f.serial ≡ j
-  pub cells : RepresentsCells a f.cells (bytes_at frames (j * frame_size) frame_size)
+  pub cells : RepresentsCells a f.cells (bytes_at frames (j * stack_size) stack_size)
 
 -- what is kept for the caller: the slot to return to, and r6 to r9
 pub record RepresentsSaved (a : Layout) (f : CallFrame) (s : Saved) : Type 0 where
@@ -96,18 +96,18 @@ pub record RepresentsFrames (a : Layout) (fs : List CallFrame) (block : List ℕ
     (callers : List Saved) : Type 0 where
   pub whole : length block ≡ frames_size
   pub depth : length fs ≡ length callers + 1
-  pub frames : (j : ℕ) → j < length fs → RepresentsFrame a (frame_at fs j) j block
+  pub frames : (j : ℕ) → j < length fs → RepresentsFrame a (call_frame_at fs j) j block
   pub saved : (j : ℕ) → j < length callers
-      → RepresentsSaved a (frame_at fs (j + 1)) (saved_at callers j)
+      → RepresentsSaved a (call_frame_at fs (j + 1)) (saved_at callers j)
 
 -- ---- maps
 
 -- where a map value begins, and its bytes: by its serial, and by its place
 abbrev pub by_serial : Layout → ℕ → Stored → (ℕ × List ℕ)
-by_serial a m v = (a.value m v.serial, v.bytes)
+by_serial a m v = (a.value_start m v.serial, v.bytes)
 
 abbrev pub by_place : ℕ → List ℕ → ℕ → (ℕ × List ℕ)
-by_place size block place = (place * size, row_at size block place)
+by_place size block place = (place * size, block_row size block place)
 
 -- the keys are the same, in their order, and so are where each value begins and its bytes
 pub record RepresentsMap (a : Layout) (m : ℕ) (content : Content) (map : MapState) : Type 0 where
@@ -133,4 +133,4 @@ pub record Related (p : Program) (a : Layout) (s : State) (w : Words) : Type 0 w
   pub interface : w.interface ≡ s.interface
   pub queue : w.queue ≡ s.queue
   pub maps : RepresentsMaps a p.maps s.maps w.maps
-  pub calls : w.calls ≡ s.clock_calls
+  pub clock_calls : w.clock_calls ≡ s.clock_calls

@@ -20,5 +20,5 @@ start_of head packet frames maps =
       interface = head.interface;
       queue = head.queue;
       maps = maps;
-      calls = 0;
+      clock_calls = 0;
     }

@@ -1,4 +1,4 @@
-//! The machine of words runs programs as the model does: `specs/Related` says when words represent
+//! The machine on words runs programs as the model does: `specs/Related` says when words represent
 //! a state, `proofs/Moves` proves that a step of the state is a move, a step of the words, and
 //! `specs/Tracking` says the same of runs.
 

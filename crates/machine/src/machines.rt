@@ -199,10 +199,10 @@ impl Machine {
         self.memory.interface = head.interface;
         self.memory.queue = head.queue;
         let mut regs = [0, CONTEXT, 0, 0, 0, 0, 0, 0, 0, 0, FRAME_END];
-        let answer = run(&self.program, &mut regs, &mut self.memory, packet, clock);
+        let ended = run(&self.program, &mut regs, &mut self.memory, packet, clock);
         Exit {
-            r0: answer.number,
-            steps: answer.steps,
+            r0: ended.number,
+            steps: ended.steps,
         }
     }
 }

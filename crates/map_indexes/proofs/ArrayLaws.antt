@@ -7,7 +7,7 @@ use Rattle.std.specs.Cmp.Lexicographic.{nat_list_cmp_total}
 use Rattle.std.specs.FinMap.{get, len, get-insert, len-empty, len-insert}
 use Rattle.byteorder.specs.Endian.{little_bytes, little_number}
 use Rattle.byteorder.specs.Numbers.{little_number-reads_back}
-use Rattle.isa_model.specs.Code.LittleEndian.{EachByte}
+use Rattle.isa_model.specs.Code.EachByte.{EachByte}
 use Rattle.isa_model.proofs.LittleEndianLaws.{little_bytes-little_from}
 use Rattle.isa_model.specs.Machine.MapContents.{key_order, is_key}
 use Rattle.map_indexes.specs.ArrayPlaces.{array_places}

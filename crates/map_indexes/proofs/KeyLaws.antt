@@ -1,8 +1,8 @@
 -- The keys by place of a block of keys, also after one is written or removed.
 use Rattle.std.proofs.Common.{◌≡◌, ℕ, zero, suc, ◌+◌, ◌*◌, ◌<◌, List, [], ◌∷◌, Some, None, Bool, true, false, length, refl, ap, ◌∙◌, arith}
 use Rattle.std.specs.Prelude.{slice_index_or, slice_set, is_some, replicate}
-use Rattle.map_indexes.specs.Rows.{row_at, with_row}
-use Rattle.map_indexes.specs.RowLaws.{row_at-other, row_at-with_row}
+use Rattle.map_indexes.specs.BlockRows.{block_row, with_block_row}
+use Rattle.map_indexes.specs.BlockRowLaws.{block_row-other, block_row-written}
 use Rattle.map_indexes.specs.PlaceKeys.{PlaceKeys, keys_by_place, key_in}
 
 module _ (size : ℕ) (block : List ℕ) where
@@ -24,17 +24,17 @@ module _ (size : ℕ) (block : List ℕ) where
   -- and then its row
   pub key_in-used : (at : ℕ) (used : List Bool) (i : ℕ)
       → is_some (key_in (keys_by_place size block at used) i) ≡ true
-      → key_in (keys_by_place size block at used) i ≡ Some (row_at size block (at + i))
+      → key_in (keys_by_place size block at used) i ≡ Some (block_row size block (at + i))
   key_in-used at [] i e = absurd (cc)
   key_in-used at (true ∷ used) zero e =
-      let h : at ≡ at + 0 = omega arith in ap (λ (n : ℕ). Some (row_at size block n)) h
+      let h : at ≡ at + 0 = omega arith in ap (λ (n : ℕ). Some (block_row size block n)) h
   key_in-used at (true ∷ used) (suc i) e =
       let h : at + 1 + i ≡ at + suc i = omega arith in
-      key_in-used (at + 1) used i e ∙ ap (λ (n : ℕ). Some (row_at size block n)) h
+      key_in-used (at + 1) used i e ∙ ap (λ (n : ℕ). Some (block_row size block n)) h
   key_in-used at (false ∷ used) zero e = absurd (cc)
   key_in-used at (false ∷ used) (suc i) e =
       let h : at + 1 + i ≡ at + suc i = omega arith in
-      key_in-used (at + 1) used i e ∙ ap (λ (n : ℕ). Some (row_at size block n)) h
+      key_in-used (at + 1) used i e ∙ ap (λ (n : ℕ). Some (block_row size block n)) h
 
   -- a place with a key is one of the places
   pub used_inside : (at : ℕ) (used : List Bool) (i : ℕ)
@@ -52,7 +52,8 @@ module _ (size : ℕ) (block : List ℕ) where
   keys_by_place-unused at [] i = refl
   keys_by_place-unused at (true ∷ used) zero = refl
   keys_by_place-unused at (true ∷ used) (suc i) =
-      ap (λ (r : PlaceKeys). Some (row_at size block at) ∷ r) (keys_by_place-unused (at + 1) used i)
+      ap (λ (r : PlaceKeys). Some (block_row size block at) ∷ r)
+      (keys_by_place-unused (at + 1) used i)
   keys_by_place-unused at (false ∷ used) zero = refl
   keys_by_place-unused at (false ∷ used) (suc i) =
       ap (λ (r : PlaceKeys). None ∷ r) (keys_by_place-unused (at + 1) used i)
@@ -67,14 +68,14 @@ module _ (size : ℕ) (block : List ℕ) where
 module _ (size : ℕ) (block : List ℕ) (p : ℕ) (key : List ℕ) (n : ℕ) (long : length key ≡ size)
     (whole : length block ≡ n * size) (inside : p < n) where
   abbrev after : List ℕ
-  after = with_row size block p key
+  after = with_block_row size block p key
 
   -- a key that is written changes no place above its own
   keys_by_place-above : (at : ℕ) (used : List Bool) → p < at
       → keys_by_place size after at used ≡ keys_by_place size block at used
   keys_by_place-above at [] l = refl
   keys_by_place-above at (true ∷ used) l =
-      λ i. Some (row_at-other size block p key n long whole inside at (λ e. omega arith) i)
+      λ i. Some (block_row-other size block p key n long whole inside at (λ e. omega arith) i)
       ∷ keys_by_place-above (at + 1) used (omega arith) i
   keys_by_place-above at (false ∷ used) l =
       ap (λ (r : PlaceKeys). None ∷ r) (keys_by_place-above (at + 1) used (omega arith))
@@ -86,16 +87,16 @@ module _ (size : ℕ) (block : List ℕ) (p : ℕ) (key : List ℕ) (n : ℕ) (l
   keys_by_place-put at [] i e l = absurd (omega arith)
   keys_by_place-put at (true ∷ used) zero e l =
       let here : at ≡ p = omega arith in
-      λ i. Some ((ap (row_at size after) here
-      ∙ row_at-with_row size block p key n long whole inside) i)
+      λ i. Some ((ap (block_row size after) here
+      ∙ block_row-written size block p key n long whole inside) i)
       ∷ keys_by_place-above (at + 1) used (omega arith) i
   keys_by_place-put at (false ∷ used) zero e l =
       let here : at ≡ p = omega arith in
-      λ i. Some ((ap (row_at size after) here
-      ∙ row_at-with_row size block p key n long whole inside) i)
+      λ i. Some ((ap (block_row size after) here
+      ∙ block_row-written size block p key n long whole inside) i)
       ∷ keys_by_place-above (at + 1) used (omega arith) i
   keys_by_place-put at (true ∷ used) (suc i) e l =
-      λ t. Some (row_at-other size block p key n long whole inside at (λ g. omega arith) t)
+      λ t. Some (block_row-other size block p key n long whole inside at (λ g. omega arith) t)
       ∷ keys_by_place-put (at + 1) used i (omega arith) (omega arith) t
   keys_by_place-put at (false ∷ used) (suc i) e l =
       ap (λ (r : PlaceKeys). None ∷ r)

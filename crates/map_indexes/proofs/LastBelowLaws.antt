@@ -3,7 +3,7 @@ use Rattle.std.proofs.Common.{◌≡◌, ℕ, zero, suc, ◌<◌, ◌≤◌, Boo
 use Rattle.std.proofs.lemmas.Bool.{cases_lt}
 use Rattle.map_indexes.specs.LastBelow.{last_below}
 
--- it is below m and passes, and none between the two passes
+-- it is below m and passes, and no number between it and m does
 pub last_is : (test : ℕ → Bool) (m k : ℕ) → last_below test m ≡ Some k
     → (k < m) × (test k ≡ true) × ((j : ℕ) → k < j → j < m → test j ≡ false)
 last_is test zero k e = absurd (cc)
@@ -46,7 +46,7 @@ last_same test test' zero f = refl
 last_same test test' (suc m) f =
     λ i. cond (f m (omega arith) i) (Some m) (last_same test test' m (λ j h. f j (omega arith)) i)
 
--- none from a on passes
+-- no number from a on passes
 pub last_skip : (test : ℕ → Bool) (a m : ℕ) → a ≤ m → ((j : ℕ) → a ≤ j → j < m → test j ≡ false)
     → last_below test m ≡ last_below test a
 last_skip test a zero h f = let e : 0 ≡ a = omega arith in ap (last_below test) e

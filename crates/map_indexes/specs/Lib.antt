@@ -1,5 +1,5 @@
-pub mod Rows
-pub mod RowLaws
+pub mod BlockRows
+pub mod BlockRowLaws
 pub mod PlaceKeys
 pub mod PlaceKeyLaws
 pub mod KeyOrder

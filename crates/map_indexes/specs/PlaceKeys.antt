@@ -3,7 +3,7 @@ use Rattle.std.specs.Prelude.{◌≡◌, ◌≢◌, ℕ, ◌+◌, List, [], ◌�
 use Rattle.std.specs.FinMap.{FinMap, from_entries, get, insert, len}
 use Rattle.isa_model.specs.Machine.MapContents.{key_order}
 use Rattle.isa_model.specs.Machine.MachineStates.{AreBytes}
-use Rattle.map_indexes.specs.Rows.{row_at}
+use Rattle.map_indexes.specs.BlockRows.{block_row}
 
 -- which place each key has
 abbrev pub Places : Type 0
@@ -45,7 +45,7 @@ AreKeys size keys = (p : ℕ) (key : List ℕ) → key_in keys p ≡ Some key �
 abbrev pub keys_by_place : ℕ → List ℕ → ℕ → List Bool → PlaceKeys
 keys_by_place size block at [] = []
 keys_by_place size block at (true ∷ used) =
-    Some (row_at size block at) ∷ keys_by_place size block (at + 1) used
+    Some (block_row size block at) ∷ keys_by_place size block (at + 1) used
 keys_by_place size block at (false ∷ used) = None ∷ keys_by_place size block (at + 1) used
 
 -- keys of one size, by place

@@ -41,6 +41,7 @@ pub struct ArrayIndex {
 }
 
 impl ArrayIndex {
+    /// An array's index, with keys for all places.
     pub fn new(entries: u32) -> Self
         ensures { result.entries ≡ entries }
     {

@@ -45,6 +45,7 @@ pub struct ChainIndex {
 }
 
 impl ChainIndex {
+    /// An index without keys, for keys of this size.
     pub fn new(alloc: Global, key_size: u16, entries: u32) -> Result<Self, AllocError>
         ensures key_size { IfOk result (λ s. s.keys.size ≡ key_size) }
         ensures room { IfOk result (λ s. length s.keys.by_place ≡ entries) }

@@ -75,7 +75,7 @@ impl Chains {
         self.count
     }
 
-    /// The first link of a chain.
+    /// The place of the first link of a chain.
     pub fn first(&self, chain: u32) -> Option<usize>
         requires { chain < self.now.count }
         ensures { result ≡ last_below (in_chain (link_in self.now.chains self.now.nexts) chain)

@@ -17,10 +17,12 @@ pub trait Index: Drop {
 
     ghost room: { Self → ℕ };
 
+    /// The place of a key, if it has one.
     fn find(&self, key: &[u8]) -> Option<usize>
         requires { length key.now ≡ key_size self.now }
         ensures { result ≡ map.get (places self.now) key.now };
 
+    /// Whether there are as many keys as places.
     fn is_full(&self) -> bool
         ensures { result ≡ nat_le (room self.now) (map.len (places self.now)) };
 

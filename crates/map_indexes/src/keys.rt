@@ -4,7 +4,7 @@ ghost use Rattle.std.specs.Cmp.Lexicographic.{pointwise};
 ghost use Rattle.std.specs.Prelude.{nat_eq, ◌≡◌, ◌+◌, ◌*◌, ◌≤◌, ◌<◌, length, Some, None, IfOk, replicate, slice_set, is_some, true, IsPermutation, vec_capacity};
 ghost use Rattle.std.specs.List.{splice};
 ghost use Rattle.std.specs.List.Sorted.{IsSortedByKey};
-ghost use Rattle.isa_model.specs.Code.LittleEndian.{EachByte};
+ghost use Rattle.isa_model.specs.Code.EachByte.{EachByte};
 ghost use Rattle.isa_model.specs.Machine.MapContents.{key_order};
 ghost use Rattle.map_indexes.specs.KeyOrder.{key_or_none};
 ghost use Rattle.map_indexes.specs.PlaceKeys.{KeysByPlace, key_in, keys_by_place};
@@ -89,6 +89,7 @@ impl Keys {
         self.used.len()
     }
 
+    /// Whether a place has a key.
     pub fn is_used(&self, place: usize) -> bool
         requires { place < length self.now.by_place }
         ensures { result ≡ is_some (key_in self.now.by_place place) }

@@ -1,7 +1,8 @@
 //! Indexes: which place each key of a map has.
 //!
-//! A key has a place, which it keeps until it is removed. There are three indexes: an array's, and
-//! of a hash map's keys one by chains and one that scans. All room is reserved when one is made.
+//! A key has a place, which it keeps until it is removed. There are three indexes: one for arrays,
+//! and two for hash maps, by chains and by a scan of all places. An index takes all its memory when
+//! it is made.
 #![tactic(auto)]
 
 pub mod arrays;

@@ -1,4 +1,4 @@
-//! Lists of numbers in four bytes each.
+//! Lists of optional numbers, each of which takes four bytes.
 
 ghost use Rattle.std.specs.Prelude.{◌≡◌, ◌+◌, ◌<◌, ◌^◌, length, None, IfOk, IfSome, replicate, slice_index_or, slice_set};
 ghost use Rattle.map_indexes.specs.OptionalNumbers.{number_of as the_number_of};
@@ -7,7 +7,7 @@ use crate::rooms::exact;
 use std::alloc::{AllocError, Global};
 use std::marker::Model;
 
-/// A list that has at each index a number, or none. It has room for no more.
+/// A list that has at each index a number, or none. It has room for no more elements.
 ///
 /// Contracts see the numbers.
 #[derive(Drop)]

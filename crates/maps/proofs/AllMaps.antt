@@ -22,8 +22,8 @@ use Rattle.isa_model.specs.Code.MapRows.{IsRow}
 use Rattle.maps.specs.Maps.{MapState, IsMap, map_at, with_block, ordered_in, rows_of}
 use Rattle.maps.specs.ReportOrder.{listed_of, with_key_of}
 use Rattle.maps.proofs.ReportOrderLaws.{listed-place, key_value-value, key_value-key}
-use Rattle.map_indexes.specs.Rows.{row_at}
-use Rattle.map_indexes.specs.RowLaws.{below-same, at_most-same}
+use Rattle.map_indexes.specs.BlockRows.{block_row}
+use Rattle.map_indexes.specs.BlockRowLaws.{below-same, at_most-same}
 use Rattle.maps.specs.StoreStates.{state_by, IsListed, IsLeastHashRoom, HaveRoom}
 
 abbrev pub EitherStore : Type 0
@@ -32,7 +32,7 @@ EitherStore = Store EitherIndex indexes.ghosts
 abbrev pub state : EitherStore → MapState
 state s = state_by places_of s
 
--- an array's index has the places of its indexes
+-- in an array, the place of each key is its index
 array_places_of : (index : EitherIndex) (n : ℕ) → room_of index ≡ n → kind_of index ≡ Array
     → places_of index ≡ array_places n
 array_places_of (either.Array a) n room kind = ap array_places room
@@ -143,7 +143,7 @@ module _ (s : EitherStore) (k : ℕ) (es : KeyValues) (view : ordered_in (state 
 
   -- its value is the row there
   pub pair_value : (place : Option ℕ) → Placed index place
-      → option_map (row_at size block) place ≡ option_map (λ e. e.1) (slice_get es k)
+      → option_map (block_row size block) place ≡ option_map (λ e. e.1) (slice_get es k)
   pair_value place e =
       sym (key_value-value s.index s.row.kind s.row.entries size block s.kind s.room k place
       (subst (λ (i : EitherIndex). Placed i place) same e))

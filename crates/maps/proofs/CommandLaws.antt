@@ -5,14 +5,14 @@ use Rattle.std.proofs.Math.Seq.{take-suc}
 use Rattle.std.specs.Prelude.{slice_index_or}
 use Rattle.isa_model.specs.declared.map_defs.MapDef.{MapDef}
 use Rattle.isa_model.specs.Machine.States.{KeyValues}
-use Rattle.maps.specs.declared.commands.Command.{Command}
+use Rattle.maps.specs.declared.commands.MapCommand.{MapCommand}
 use Rattle.maps.specs.declared.commands.Reply.{Reply}
 use Rattle.map_indexes.specs.PlaceKeys.{Places}
 use Rattle.maps.specs.Contents.{content}
 use Rattle.maps.specs.Commands.{Said, said, reply_to, content_after, replies_of, content_left}
 
 -- one command more is answered over what the others left
-pub replies_of-snoc : (row : MapDef) (content : KeyValues) (cs : List Command) (c : Command)
+pub replies_of-snoc : (row : MapDef) (content : KeyValues) (cs : List MapCommand) (c : MapCommand)
     → replies_of row content (cs ++ c ∷ [])
     ≡ replies_of row content cs ++ reply_to row (content_left row content cs) c ∷ []
 replies_of-snoc row content [] c = refl
@@ -20,16 +20,16 @@ replies_of-snoc row content (d ∷ cs) c =
     ap (λ (rs : List Said). reply_to row content d ∷ rs)
     (replies_of-snoc row (content_after row content d) cs c)
 
-pub content_left-snoc : (row : MapDef) (content : KeyValues) (cs : List Command) (c : Command)
+pub content_left-snoc : (row : MapDef) (content : KeyValues) (cs : List MapCommand) (c : MapCommand)
     → content_left row content (cs ++ c ∷ []) ≡ content_after row (content_left row content cs) c
 content_left-snoc row content [] c = refl
 content_left-snoc row content (d ∷ cs) c = content_left-snoc row (content_after row content d) cs c
 
 -- one command more of a list, on a map whose content is what the ones before left
 module _ (row' row : MapDef) (same : row' ≡ row) (P : Places) (B : List ℕ) (before : KeyValues)
-    (cs : List Command) (i : ℕ) (low : i < length cs)
-    (now : content row.value_size P B ≡ content_left row before (take i cs)) (d : Command) where
-  abbrev c : Command
+    (cs : List MapCommand) (i : ℕ) (low : i < length cs)
+    (now : content row.value_size P B ≡ content_left row before (take i cs)) (d : MapCommand) where
+  abbrev c : MapCommand
   c = slice_index_or cs i d
 
   one_more : take (i + 1) cs ≡ take i cs ++ c ∷ []

@@ -8,8 +8,8 @@ use Rattle.std.specs.FinMap.{get, insert, remove, len, entries, entries_sorted, 
 use Rattle.std.specs.FinMap.Entries.{find, is_sorted, find-put, find-where_key, is_sorted-put, is_sorted-where_key, same_entries}
 use Rattle.isa_model.specs.Machine.States.{KeyValues}
 use Rattle.isa_model.specs.Machine.MapContents.{key_order, is_key, at_key, has_key, with_key, without_key}
-use Rattle.map_indexes.specs.Rows.{row_at, with_row}
-use Rattle.map_indexes.specs.RowLaws.{row_at-with_row, row_at-other}
+use Rattle.map_indexes.specs.BlockRows.{block_row, with_block_row}
+use Rattle.map_indexes.specs.BlockRowLaws.{block_row-written, block_row-other}
 use Rattle.map_indexes.specs.PlaceKeys.{Places, TakesPlace}
 use Rattle.map_indexes.proofs.PlaceKeysLaws.{is_key-itself}
 use Rattle.map_indexes.specs.PlaceKeyLaws.{is_key-equal}
@@ -29,10 +29,10 @@ module _ (size : ℕ) (P : Places) (block : List ℕ) where
   C = content size P block
 
   -- the value of a key is the row at its place
-  pub at_key-content : (q : List ℕ) → at_key q C ≡ option_map (row_at size block) (get P q)
+  pub at_key-content : (q : List ℕ) → at_key q C ≡ option_map (block_row size block) (get P q)
   at_key-content q =
-      find-changed (row_at size block) q (entries P)
-      ∙ ap (option_map (row_at size block)) (sym (get-entries P q))
+      find-changed (block_row size block) q (entries P)
+      ∙ ap (option_map (block_row size block)) (sym (get-entries P q))
 
   is_some-option_map : {X Y : Type 0} (f : X → Y) (o : Option X)
       → is_some (option_map f o) ≡ is_some o
@@ -41,28 +41,28 @@ module _ (size : ℕ) (P : Places) (block : List ℕ) where
 
   pub has_key-content : (q : List ℕ) → has_key q C ≡ is_some (get P q)
   has_key-content q =
-      ap is_some (at_key-content q) ∙ is_some-option_map (row_at size block) (get P q)
+      ap is_some (at_key-content q) ∙ is_some-option_map (block_row size block) (get P q)
 
   pub length-content : length C ≡ len P
-  length-content = length-changed (row_at size block) (entries P) ∙ sym (len-entries P)
+  length-content = length-changed (block_row size block) (entries P) ∙ sym (len-entries P)
 
   pub sorted-content : T (is_sorted key_order C)
   sorted-content =
-      subst T (sym (is_sorted-changed (row_at size block) (entries P))) (entries_sorted P)
+      subst T (sym (is_sorted-changed (block_row size block) (entries P))) (entries_sorted P)
 
 -- a key gets a place, and every other key keeps what it had
 pub content-insert : (size : ℕ) (P : Places) (block k : List ℕ) (p : ℕ)
-    → content size (insert P k p) block ≡ with_key k (row_at size block p) (content size P block)
+    → content size (insert P k p) block ≡ with_key k (block_row size block p) (content size P block)
 content-insert size P block k p =
-    let v : List ℕ = row_at size block p in
+    let v : List ℕ = block_row size block p in
     let C : KeyValues = content size P block in
     same_contents (content size (insert P k p) block) (with_key k v C)
     (sorted-content size (insert P k p) block)
     (is_sorted-put key_order nat_list_cmp_total k v C (sorted-content size P block))
     (λ q. at_key-content size (insert P k p) block q
-    ∙ ap (option_map (row_at size block)) (get-insert nat_list_cmp_total P k p q)
-    ∙ elim (is_key q k) as (λ b. option_map (row_at size block) (cond b (Some p) (get P q))
-    ≡ cond b (Some v) (option_map (row_at size block) (get P q))) [ true ↦ refl | false ↦ refl ]
+    ∙ ap (option_map (block_row size block)) (get-insert nat_list_cmp_total P k p q)
+    ∙ elim (is_key q k) as (λ b. option_map (block_row size block) (cond b (Some p) (get P q))
+    ≡ cond b (Some v) (option_map (block_row size block) (get P q))) [ true ↦ refl | false ↦ refl ]
     ∙ ap (cond (is_key q k) (Some v)) (sym (at_key-content size P block q))
     ∙ sym (find-put key_order nat_list_cmp_total q k v C))
 
@@ -73,14 +73,14 @@ module _ (size n : ℕ) (P P' : Places) (block : List ℕ) (k v : List ℕ) (p :
     (others : (q : List ℕ) → is_key q k ≡ false → get P' q ≡ get P q)
     (apart : (q : List ℕ) → is_key q k ≡ false → get P q ≡ Some p → ⊥) where
   abbrev B' : List ℕ
-  B' = with_row size block p v
+  B' = with_block_row size block p v
 
   -- the values at other places stay
   elsewhere : (o : Option ℕ) → (o ≡ Some p → ⊥)
-      → option_map (row_at size B') o ≡ option_map (row_at size block) o
+      → option_map (block_row size B') o ≡ option_map (block_row size block) o
   elsewhere None d = refl
   elsewhere (Some j) d =
-      ap Some (row_at-other size block p v n long whole inside j (λ e. d (ap Some e)))
+      ap Some (block_row-other size block p v n long whole inside j (λ e. d (ap Some e)))
 
   pub content-put : content size P' B' ≡ with_key k v (content size P block)
   content-put =
@@ -89,13 +89,13 @@ module _ (size n : ℕ) (P P' : Places) (block : List ℕ) (k v : List ℕ) (p :
       (is_sorted-put key_order nat_list_cmp_total k v (content size P block)
       (sorted-content size P block))
       (λ q. at_key-content size P' B' q
-      ∙ elim (is_key q k) as (λ b. is_key q k ≡ b → option_map (row_at size B') (get P' q)
+      ∙ elim (is_key q k) as (λ b. is_key q k ≡ b → option_map (block_row size B') (get P' q)
       ≡ cond b (Some v) (at_key q (content size P block))) [
         | true ↦ λ t.
-            ap (option_map (row_at size B')) (ap (get P') (is_key-equal q k t) ∙ here)
-            ∙ ap Some (row_at-with_row size block p v n long whole inside)
+            ap (option_map (block_row size B')) (ap (get P') (is_key-equal q k t) ∙ here)
+            ∙ ap Some (block_row-written size block p v n long whole inside)
         | false ↦
-            λ t. ap (option_map (row_at size B')) (others q t) ∙ elsewhere (get P q) (apart q t)
+            λ t. ap (option_map (block_row size B')) (others q t) ∙ elsewhere (get P q) (apart q t)
             ∙ sym (at_key-content size P block q)
       ] refl
       ∙ sym (find-put key_order nat_list_cmp_total q k v (content size P block)))
@@ -104,7 +104,7 @@ module _ (size n : ℕ) (P P' : Places) (block : List ℕ) (k v : List ℕ) (p :
 pub content-written : (size n : ℕ) (P : Places) (block k v : List ℕ) (p : ℕ) → length v ≡ size
     → length block ≡ n * size → p < n → get P k ≡ Some p
     → ((j : List ℕ) → get P j ≡ Some p → j ≡ k)
-    → content size P (with_row size block p v) ≡ with_key k v (content size P block)
+    → content size P (with_block_row size block p v) ≡ with_key k v (content size P block)
 content-written size n P block k v p long whole inside here apart =
     content-put size n P P block k v p long whole inside here (λ q t. refl)
     (λ q t e. let h = ap (λ (x : List ℕ). is_key x k) (apart q e) ∙ is_key-itself k in cc)
@@ -118,7 +118,7 @@ get-taken P P' k p t =
 -- a new key's value is written at the place that it takes
 pub content-added : (size n : ℕ) (P P' : Places) (block k v : List ℕ) (p : ℕ) → length v ≡ size
     → length block ≡ n * size → p < n → TakesPlace P k p P'
-    → content size P' (with_row size block p v) ≡ with_key k v (content size P block)
+    → content size P' (with_block_row size block p v) ≡ with_key k v (content size P block)
 content-added size n P P' block k v p long whole inside takes =
     let at = λ (q : List ℕ). ap (λ (m : Places). get m q) takes.added
     ∙ get-insert nat_list_cmp_total P k p q in
@@ -140,9 +140,9 @@ content-removed size P block k =
     (is_sorted-where_key key_order (λ q. not (is_key k q)) (content size P block)
     (sorted-content size P block))
     (λ q. at_key-content size (remove P k) block q
-    ∙ ap (option_map (row_at size block)) (get-remove nat_list_cmp_total P k q)
-    ∙ elim (is_key q k) as (λ b. option_map (row_at size block) (cond b None (get P q))
-    ≡ cond b None (option_map (row_at size block) (get P q))) [ true ↦ refl | false ↦ refl ]
+    ∙ ap (option_map (block_row size block)) (get-remove nat_list_cmp_total P k q)
+    ∙ elim (is_key q k) as (λ b. option_map (block_row size block) (cond b None (get P q))
+    ≡ cond b None (option_map (block_row size block) (get P q))) [ true ↦ refl | false ↦ refl ]
     ∙ ap (cond (is_key q k) None) (sym (at_key-content size P block q))
     ∙ ap (λ (b : Bool). cond b None (at_key q (content size P block)))
     ((eq_by_cmp_equiv nat_list_cmp_total).symm q k)

@@ -11,7 +11,7 @@ use Rattle.std.specs.FinMap.Entries.{below_all, by_order, put}
 use Rattle.std.proofs.Math.Dec.{eqb}
 use Rattle.std.proofs.Math.ListN.{get_or-map}
 use Rattle.std.proofs.lemmas.Bool.{eqb-true, eqb-false}
-use Rattle.map_indexes.specs.RowLaws.{below_or_above}
+use Rattle.map_indexes.specs.BlockRowLaws.{below_or_above}
 use Rattle.std.proofs.lemmas.List.{length-map}
 use Rattle.std.proofs.lemmas.Option.{slice_get-get_or}
 use Rattle.isa_model.specs.Machine.MapContents.{key_order, is_key}

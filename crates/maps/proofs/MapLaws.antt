@@ -26,8 +26,8 @@ use Rattle.maps.specs.Contents.{content, starting_places}
 use Rattle.maps.proofs.ContentLaws.{sorted-content, length-content, has_key-content, content-insert}
 use Rattle.maps.specs.Maps.{MapState, IsMap, content_in, contents_of, rows_of, map_at, starting_map}
 use Rattle.maps.proofs.ReportOrderLaws.{get_at}
-use Rattle.map_indexes.specs.Rows.{row_at}
-use Rattle.map_indexes.specs.RowLaws.{row_end, length-row_at}
+use Rattle.map_indexes.specs.BlockRows.{block_row}
+use Rattle.map_indexes.specs.BlockRowLaws.{row_end, length-block_row}
 use Rattle.map_indexes.specs.PlaceKeys.{Places}
 
 -- ---- a map's content fits its row
@@ -40,7 +40,7 @@ module _ (m : MapState) (is : IsMap m) where
   listed = entries m.places
 
   abbrev pair : List ℕ × ℕ → List ℕ × List ℕ
-  pair e = (e.0, row_at m.row.value_size m.block e.1)
+  pair e = (e.0, block_row m.row.value_size m.block e.1)
 
   abbrev at : ℕ → List ℕ × ℕ
   at i = slice_index_or listed i ([], 0)
@@ -57,7 +57,7 @@ module _ (m : MapState) (is : IsMap m) where
         key_size = key.long;
         key = key.bytes;
         value_size =
-            length-row_at size m.row.entries m.block e.1 is.whole inside 0 [] (omega arith);
+            length-block_row size m.row.entries m.block e.1 is.whole inside 0 [] (omega arith);
         value =
             All-take (λ b. b < 256) size _ (All-drop (λ b. b < 256) (e.1 * size) m.block is.bytes);
       }
@@ -116,7 +116,7 @@ range-snoc a (suc n) =
     ap (λ (xs : List ℕ). a ∷ xs)
     (range-snoc (a + 1) n ∙ ap (λ (x : ℕ). range_with_len (a + 1) n ++ x ∷ []) e)
 
-zero_row : (size m p : ℕ) → p < m → row_at size (replicate (m * size) 0) p ≡ replicate size 0
+zero_row : (size m p : ℕ) → p < m → block_row size (replicate (m * size) 0) p ≡ replicate size 0
 zero_row size m p below =
     let e = row_end p m size below in
     ap (λ (xs : List ℕ). take size xs) (drop-replicate (p * size) (m * size) 0)

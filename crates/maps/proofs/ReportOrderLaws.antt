@@ -25,7 +25,7 @@ use Rattle.map_indexes.specs.ArrayPlaces.{array_places}
 use Rattle.maps.proofs.ContentLaws.{at_key-content}
 use Rattle.maps.specs.Contents.{content}
 use Rattle.maps.specs.Either.{places_of, kind_of, room_of, either_in_range}
-use Rattle.map_indexes.specs.Rows.{row_at}
+use Rattle.map_indexes.specs.BlockRows.{block_row}
 use Rattle.map_indexes.specs.PlaceKeys.{Places, PlaceKeys, key_in, places}
 use Rattle.map_indexes.proofs.PlaceKeysLaws.{is_key-itself}
 use Rattle.map_indexes.specs.PlaceKeyLaws.{got}
@@ -47,13 +47,13 @@ map_twice {C = C} f g (x ∷ xs) = ap (λ (ys : List C). f (g x) ∷ ys) (map_tw
 
 by_index : (n size : ℕ) (block : List ℕ) → n ≤ 2 ^ 32 → (i : ℕ) → i < n
     → key_value_by_index (content size (array_places n) block) i
-    ≡ Some (little_bytes 4 i, row_at size block i)
+    ≡ Some (little_bytes 4 i, block_row size block i)
 by_index n size block small i l =
     ap (option_map (λ (value : List ℕ). (little_bytes 4 i, value)))
     (at_key-content size (array_places n) block (little_bytes 4 i)
-    ∙ ap (option_map (row_at size block)) (get_index n i small l))
+    ∙ ap (option_map (block_row size block)) (get_index n i small l))
 
--- an index below an array's count of keys is listed
+-- a number below an array's count of keys is an index that is listed
 pub listed-index : (n k : ℕ) → k < n
     → slice_get {X = List ℕ × ℕ} (map (λ i. (little_bytes 4 i, i)) (range_with_len 0 n)) k
     ≡ Some (little_bytes 4 k, k)
@@ -156,14 +156,14 @@ listed-none keys k none =
 pub in_report_order-listed : (index : EitherIndex) (kind : MapType) (n size : ℕ) (block : List ℕ)
     → kind_of index ≡ kind → room_of index ≡ n
     → in_report_order kind n (content size (places_of index) block)
-    ≡ map (λ e. (e.0, row_at size block e.1)) (listed_of index)
+    ≡ map (λ e. (e.0, block_row size block e.1)) (listed_of index)
 in_report_order-listed (either.Array s) Array n size block k room =
     let small = s.small in
     let es : KeyValues = content size (array_places s.entries) block in
     ap (λ (m : ℕ). filter_map (key_value_by_index es) (range_with_len 0 m)) (sym room)
-    ∙ all_some (key_value_by_index es) (λ i. (little_bytes 4 i, row_at size block i)) 0 s.entries
+    ∙ all_some (key_value_by_index es) (λ i. (little_bytes 4 i, block_row size block i)) 0 s.entries
     (λ i l m. by_index s.entries size block (omega arith) i (omega arith))
-    ∙ sym (map_twice (λ (e : List ℕ × ℕ). (e.0, row_at size block e.1))
+    ∙ sym (map_twice (λ (e : List ℕ × ℕ). (e.0, block_row size block e.1))
     (λ (i : ℕ). (little_bytes 4 i, i)) (range_with_len 0 s.entries))
 in_report_order-listed (either.Array s) Hash n size block k room = absurd (cc)
 in_report_order-listed (either.Chain s) Hash n size block k room = refl
@@ -194,13 +194,14 @@ listed-place index k p e =
     ] refl e
 
 value_of : (size : ℕ) (block : List ℕ) (o : Option (List ℕ × ℕ))
-    → option_map (λ e. e.1) (option_map {U = List ℕ × List ℕ} (λ e. (e.0, row_at size block e.1)) o)
-    ≡ option_map (row_at size block) (option_map (λ e. e.1) o)
+    → option_map (λ e. e.1) (option_map {U = List ℕ
+    × List ℕ} (λ e. (e.0, block_row size block e.1)) o)
+    ≡ option_map (block_row size block) (option_map (λ e. e.1) o)
 value_of size block None = refl
 value_of size block (Some e) = refl
 
 key_of : (size : ℕ) (block : List ℕ) (o : Option (List ℕ × ℕ)) (bytes : List ℕ)
-    → with_key_of (option_map {U = List ℕ × List ℕ} (λ e. (e.0, row_at size block e.1)) o) bytes
+    → with_key_of (option_map {U = List ℕ × List ℕ} (λ e. (e.0, block_row size block e.1)) o) bytes
     ≡ with_key_of o bytes
 key_of size block None bytes = refl
 key_of size block (Some e) bytes = refl
@@ -212,20 +213,21 @@ module _ (index : EitherIndex) (kind : MapType) (n size : ℕ) (block : List ℕ
   reported = in_report_order kind n (content size (places_of index) block)
 
   pair-listed : slice_get reported k
-      ≡ option_map {U = List ℕ × List ℕ} (λ e. (e.0, row_at size block e.1))
+      ≡ option_map {U = List ℕ × List ℕ} (λ e. (e.0, block_row size block e.1))
       (slice_get (listed_of index) k)
   pair-listed =
       ap (λ (es : KeyValues). slice_get es k)
       (in_report_order-listed index kind n size block same room)
-      ∙ slice_get-map {B = List ℕ × List ℕ} (λ e. (e.0, row_at size block e.1)) (listed_of index) k
+      ∙ slice_get-map {B = List ℕ × List ℕ} (λ e. (e.0, block_row size block e.1))
+      (listed_of index) k
 
   pub key_value-value : (place : Option ℕ)
       → place ≡ option_map (λ e. e.1) (slice_get (listed_of index) k)
-      → option_map (λ e. e.1) (slice_get reported k) ≡ option_map (row_at size block) place
+      → option_map (λ e. e.1) (slice_get reported k) ≡ option_map (block_row size block) place
   key_value-value place e =
       ap (option_map (λ (x : List ℕ × List ℕ). x.1)) pair-listed
       ∙ value_of size block (slice_get (listed_of index) k)
-      ∙ ap (option_map (row_at size block)) (sym e)
+      ∙ ap (option_map (block_row size block)) (sym e)
 
   pub key_value-key : (bytes : List ℕ)
       → with_key_of (slice_get reported k) bytes ≡ with_key_of (slice_get (listed_of index) k) bytes

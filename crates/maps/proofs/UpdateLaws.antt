@@ -7,7 +7,7 @@ use Rattle.isa_model.specs.declared.map_defs.MapType.TheVariants.{Hash, Array}
 use Rattle.isa_model.specs.declared.map_defs.MapDef.{MapDef}
 use Rattle.isa_model.specs.Machine.States.{KeyValues}
 use Rattle.isa_model.specs.Machine.MapContents.{with_key, without_key, enoent, e2big, exist, update_answer_by, delete_answer_by, update_answer, delete_answer, after_update, after_delete}
-use Rattle.map_indexes.specs.Rows.{with_row}
+use Rattle.map_indexes.specs.BlockRows.{with_block_row}
 use Rattle.maps.specs.Contents.{content}
 use Rattle.maps.proofs.ContentLaws.{has_key-content, length-content, content-written, content-added, content-removed, get-taken}
 use Rattle.map_indexes.specs.PlaceKeys.{Places, TakesPlace}
@@ -83,7 +83,7 @@ module _ (row : MapDef) (P : Places) (B : List ℕ) (key : List ℕ) where
 
     -- a present key's value is written at its place
     pub writes_present : (value : List ℕ) (p : ℕ) → get P key ≡ Some p → P' ≡ P
-        → B' ≡ with_row size B p value → WritesPair size key value P B P' B'
+        → B' ≡ with_block_row size B p value → WritesPair size key value P B P' B'
     writes_present value p here same written = record {
       place = p;
       there = ap (λ (m : Places). get m key) same ∙ here;
@@ -95,7 +95,8 @@ module _ (row : MapDef) (P : Places) (B : List ℕ) (key : List ℕ) where
     -- an absent key's value is written at the place that it takes
     pub writes_absent : (value : List ℕ) (found : Option ℕ) → get P key ≡ None → IsSome found
         → IfSome found (λ p. TakesPlace P key p P')
-        → IfSome found (λ p. B' ≡ with_row size B p value) → WritesPair size key value P B P' B'
+        → IfSome found (λ p. B' ≡ with_block_row size B p value)
+        → WritesPair size key value P B P' B'
     writes_absent value None none some takes written = absurd (cc)
     writes_absent value (Some p) none some takes written = record {
       place = p;

@@ -10,8 +10,8 @@ use Rattle.std.specs.Vec.{with_items}
 use Rattle.std.specs.Borrow.{MutBor, Fml, RattleType}
 use Rattle.maps.specs.LentBytes.{LendsBytes}
 use Rattle.map_indexes.specs.declared.index.Index.{Ghosts}
-use Rattle.map_indexes.specs.Rows.{with_row}
-use Rattle.map_indexes.specs.RowLaws.{length-with_row}
+use Rattle.map_indexes.specs.BlockRows.{with_block_row}
+use Rattle.map_indexes.specs.BlockRowLaws.{length-with_block_row}
 use Rattle.maps.specs.declared.store.Store.{Store}
 use Rattle.maps.specs.contracts.store.Store.{the_row}
 
@@ -73,15 +73,17 @@ module _ {I : Type 0} {g : Ghosts I} (s : Store I g) where
       with_values (take start s.values.items ++ (v ++ drop (length v) (drop start s.values.items)))
 
   -- a value of the right size changes its row of the block
-  pub stored_at-with_row : (p : ℕ) (v : List ℕ) → p < s.row.entries → length v ≡ s.row.value_size
-      → (stored_at p v).values.items ≡ with_row s.row.value_size s.values.items p v
-  stored_at-with_row p v inside size =
+  pub stored_at-with_block_row : (p : ℕ) (v : List ℕ) → p < s.row.entries
+      → length v ≡ s.row.value_size
+      → (stored_at p v).values.items ≡ with_block_row s.row.value_size s.values.items p v
+  stored_at-with_block_row p v inside size =
       let items = s.values.items in
       let start : ℕ = p * s.row.value_size in
-      let row : List ℕ = with_row s.row.value_size items p v in
+      let row : List ℕ = with_block_row s.row.value_size items p v in
       let same : take start items ++ (v ++ drop (length v) (drop start items)) ≡ row =
       ap (λ (l : List ℕ). take start items ++ (v ++ l)) (drop-drop (length v) start items) in
-      let long = length-with_row s.row.value_size items p v s.row.entries size s.whole inside in
+      let long =
+      length-with_block_row s.row.value_size items p v s.row.entries size s.whole inside in
       let fits : length row ≡ s.values.len = long ∙ sym s.whole ∙ sym s.values.ok.0 in
       ap (λ (l : List ℕ). take s.values.len (l ++ drop (length l) items)) same
       ∙ take_at row (drop (length row) items) s.values.len fits

@@ -11,7 +11,7 @@ use Rattle.isa_model.specs.Machine.MachineStates.{AreBytes}
 use Rattle.isa_model.specs.Machine.MapContents.{update_answer, delete_answer, after_update, after_delete}
 use Rattle.isa_model.specs.Reporting.Reports.{in_report_order}
 use Rattle.std.specs.List.{splice}
-use Rattle.map_indexes.specs.Rows.{row_at, with_row}
+use Rattle.map_indexes.specs.BlockRows.{block_row, with_block_row}
 use Rattle.map_indexes.specs.ArrayPlaces.{array_places}
 use Rattle.map_indexes.specs.PlaceKeys.{Places, IsKey}
 use Rattle.maps.specs.Contents.{content, starting_places}
@@ -61,7 +61,7 @@ contents_of maps = map content_in maps
 
 -- each place is below `entries`, no two keys have one place, there are no more keys than `entries`,
 -- and the block has a value for each place; keys are keys of the row's size, and values are bytes;
--- an array has the places of its indexes
+-- in an array, the place of each key is the number that it spells
 pub record IsMap (m : MapState) : Type 0 where
   pub in_range : (k : List ℕ) (p : ℕ) → get m.places k ≡ Some p → p < m.row.entries
   pub apart : (j k : List ℕ) (p : ℕ) → get m.places j ≡ Some p → get m.places k ≡ Some p → j ≡ k
@@ -74,7 +74,7 @@ pub record IsMap (m : MapState) : Type 0 where
 
 -- ---- the start
 
--- an array has all its indexes, a hash map no key, and all values are zero-filled
+-- an array has all its keys, a hash map none, and all values are zero-filled
 abbrev pub starting_map : MapDef → MapState
 starting_map row =
     record {
@@ -103,5 +103,5 @@ pub record Deleted (key : List ℕ) (result : ℕ) (old new : MapState) : Type 0
 pub record WritesValue (place at : ℕ) (bytes : List ℕ) (old new : MapState) : Type 0 where
   pub row : new.row ≡ old.row
   pub places : new.places ≡ old.places
-  pub block : new.block ≡ with_row old.row.value_size old.block place
-      (splice (row_at old.row.value_size old.block place) at (at + length bytes) bytes)
+  pub block : new.block ≡ with_block_row old.row.value_size old.block place
+      (splice (block_row old.row.value_size old.block place) at (at + length bytes) bytes)

@@ -17,7 +17,7 @@ pub record IsListed {I : Type 0} {g : Ghosts I} (room : ℕ) (s : Store I g) : T
   pub is_row : IsRow s.row
   pub listed : s.row.kind ≡ Hash → s.row.entries ≤ room
 
--- less room would not do for the places of each hash map of these rows
+-- a list with less room has no room for the places of each hash map of these rows
 abbrev pub IsLeastHashRoom : ℕ → List MapDef → Type 0
 IsLeastHashRoom room rows = (n : ℕ) → All (λ row. row.kind ≡ Hash → row.entries ≤ n) rows → room ≤ n
 

@@ -5,7 +5,7 @@ ghost use Rattle.std.specs.Borrow.{sem};
 ghost use Rattle.std.specs.FinMap as finmap;
 ghost use Rattle.std.specs.FinMap.{values};
 ghost use Rattle.isa_model.specs.Machine.MapContents.{at_key};
-ghost use Rattle.map_indexes.specs.Rows.{row_at};
+ghost use Rattle.map_indexes.specs.BlockRows.{block_row};
 ghost use Rattle.isa_model.specs.declared.map_defs.MapType.TheVariants.{Hash};
 ghost use Rattle.isa_model.specs.Code.MapRows.{IsRow};
 ghost use Rattle.maps.specs.Maps.{IsMap, Updated, Deleted, WritesValue, map_at, content_in, starting_map, ordered_in};
@@ -82,7 +82,7 @@ impl Maps {
         Maps::of_rows(alloc, rows_of(image))
     }
 
-    /// The maps of these rows as they start: arrays with all their indexes, hash maps without keys,
+    /// The maps of these rows as they start: arrays with all their keys, hash maps without keys,
     /// and all values zero-filled.
     pub fn of_rows(alloc: Global, rows: &[MapDef]) -> Result<Self, MapError>
         requires { All IsRow rows.now }
@@ -205,7 +205,7 @@ impl Maps {
     pub fn value(&self, map: usize, place: usize) -> &[u8]
         requires map { map < length self.now }
         requires place { place < (map_at self.now map).row.entries }
-        ensures { result.now ≡ row_at (map_at self.now map).row.value_size
+        ensures { result.now ≡ block_row (map_at self.now map).row.value_size
             (map_at self.now map).block place }
     {
         self.stores.all[map].value(place)
@@ -215,7 +215,7 @@ impl Maps {
     /// stay as they are.
     pub fn order(&mut self, map: usize) -> Ordered<'_>
         requires { map < length self.old }
-        ensures entries { listed_key_values result ≡ ordered_in (map_at self.old map) }
+        ensures pairs { listed_key_values result ≡ ordered_in (map_at self.old map) }
         ensures* stay { sem 𝓛 (Stay self.entry) }
     {
         self.stores.order(map)

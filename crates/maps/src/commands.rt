@@ -9,7 +9,7 @@ use crate::store::MapStore;
 use std::alloc::{AllocError, Global};
 
 /// A command on a map.
-pub enum Command<'a> {
+pub enum MapCommand<'a> {
     Lookup {
         key: &'a [u8],
     },
@@ -36,7 +36,7 @@ pub enum Reply {
 pub fn apply<S: MapStore>(
     alloc: Global,
     store: &mut S,
-    command: &Command<'_>,
+    command: &MapCommand<'_>,
 ) -> Result<Reply, AllocError>
     requires { Fits (S.row_of store.old) command.now }
     ensures answer { IfOk result (λ r. said r ≡ reply_to (S.row_of store.old)
@@ -50,14 +50,14 @@ pub fn apply<S: MapStore>(
     ensures row { S.row_of store.new ≡ S.row_of store.old }
 {
     match command {
-        Command::Lookup { key } => match lookup(store, key) {
+        MapCommand::Lookup { key } => match lookup(store, key) {
             Some(value) => Ok(Reply::Value(value.to_vec(alloc)?)),
             None => Ok(Reply::Absent),
         },
-        Command::Update { key, value, flags } => {
+        MapCommand::Update { key, value, flags } => {
             Ok(Reply::Number(update(store, key, value, *flags)))
         }
-        Command::Delete { key } => Ok(Reply::Number(delete(store, key))),
+        MapCommand::Delete { key } => Ok(Reply::Number(delete(store, key))),
     }
 }
 
@@ -66,7 +66,7 @@ pub fn apply<S: MapStore>(
 pub fn replies<S: MapStore>(
     alloc: Global,
     store: &mut S,
-    commands: &[Command<'_>],
+    commands: &[MapCommand<'_>],
 ) -> Result<Vec<Reply>, AllocError>
     requires { All (Fits (S.row_of store.old)) commands.now }
     ensures replies { IfOk result (λ rs. map said rs.items ≡ replies_of (S.row_of store.old)
@@ -81,8 +81,8 @@ pub fn replies<S: MapStore>(
 {
     let mut replies = Vec::with_capacity(alloc, commands.len())?;
     for i in 0..commands.len() {
-        let answer = apply(alloc, store, &commands[i])?;
-        replies.push_reserved(answer);
+        let reply = apply(alloc, store, &commands[i])?;
+        replies.push_reserved(reply);
     }
     Ok(replies)
 }

@@ -16,7 +16,7 @@ pub mod store;
 mod stores;
 
 pub use all::Maps;
-pub use commands::{Command, Reply, replies};
+pub use commands::{MapCommand, Reply, replies};
 pub use either::EitherIndex;
 pub use errors::MapError;
 pub use helpers::{delete, lookup, update};

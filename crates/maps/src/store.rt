@@ -7,7 +7,7 @@ ghost use Rattle.std.specs.List.{splice};
 ghost use Rattle.std.specs.FinMap as map;
 ghost use Rattle.isa_model.specs.declared.map_defs.MapType.TheVariants.{Hash, Array};
 ghost use Rattle.isa_model.specs.declared.map_defs.MapDef.{MapDef};
-ghost use Rattle.map_indexes.specs.Rows.{row_at, with_row};
+ghost use Rattle.map_indexes.specs.BlockRows.{block_row, with_block_row};
 ghost use Rattle.maps.specs.Contents.{hash_row};
 ghost use Rattle.map_indexes.specs.PlaceKeys.{Places, TakesPlace};
 
@@ -57,7 +57,7 @@ pub trait MapStore {
             → IsSome result × IfSome result (λ p. TakesPlace (places self.old) key.now p
             (places self.new)) }
         ensures written { IfSome result (λ p. block self.new
-            ≡ with_row (row_of self.old).value_size (block self.old) p value.now) }
+            ≡ with_block_row (row_of self.old).value_size (block self.old) p value.now) }
         ensures row { row_of self.new ≡ row_of self.old };
 
     /// Removes a key, and returns the place that it had. Nothing is removed from an array.
@@ -74,21 +74,22 @@ pub trait MapStore {
     /// The value at a place.
     fn value(&self, place: usize) -> &[u8]
         requires { place < (row_of self.now).entries }
-        ensures { result.now ≡ row_at (row_of self.now).value_size (block self.now) place };
+        ensures { result.now ≡ block_row (row_of self.now).value_size (block self.now) place };
 
     /// The value at a place, to be written.
     fn value_mut(&mut self, place: usize) -> &mut [u8]
         requires { place < (row_of self.old).entries }
         ensures* lends { sem 𝓛 (LendsBytes Self.row self.entry result
             (with_value self.old place)) }
-        ensures value { result.now ≡ row_at (row_of self.old).value_size (block self.old) place };
+        ensures value { result.now ≡ block_row (row_of self.old).value_size (block self.old)
+            place };
 
     /// Writes the value at a place.
     fn write(&mut self, place: usize, value: &[u8])
         requires place { place < (row_of self.old).entries }
         requires value_size { length value.now ≡ (row_of self.old).value_size }
         ensures block { block self.new
-            ≡ with_row (row_of self.old).value_size (block self.old) place value.now }
+            ≡ with_block_row (row_of self.old).value_size (block self.old) place value.now }
         ensures places { places self.new ≡ places self.old }
         ensures row { row_of self.new ≡ row_of self.old }
     {
@@ -115,7 +116,7 @@ pub trait MapStore {
 
     ghost written: { (s : Self) (p : ℕ) (v : List ℕ) → p < (row_of s).entries
         → length v ≡ (row_of s).value_size
-        → block (with_value s p v) ≡ with_row (row_of s).value_size (block s) p v };
+        → block (with_value s p v) ≡ with_block_row (row_of s).value_size (block s) p v };
 }
 
 /// The keys and values of a map over an index of its keys.
@@ -163,9 +164,9 @@ impl<I: Index> Store<I> {
         requires within { at + length bytes.now ≤ self.old.row.value_size }
         ensures row { self.new.row ≡ self.old.row }
         ensures index { self.new.index ≡ self.old.index }
-        ensures block { self.new.values.items ≡ with_row self.old.row.value_size
+        ensures block { self.new.values.items ≡ with_block_row self.old.row.value_size
             self.old.values.items place
-            (splice (row_at self.old.row.value_size self.old.values.items place) at
+            (splice (block_row self.old.row.value_size self.old.values.items place) at
             (at + length bytes.now) bytes.now) }
     {
         let start = place * self.row.value_size as usize;
@@ -189,8 +190,8 @@ impl<I: Index> Store<I> {
 }
 
 impl<I: Index> MapStore for Store<I> {
-    ghost use Rattle.map_indexes.specs.RowLaws.{below-same, at_most-same};
-    ghost use Rattle.maps.specs.Lending.{stored_at, stored_at-with_row};
+    ghost use Rattle.map_indexes.specs.BlockRowLaws.{below-same, at_most-same};
+    ghost use Rattle.maps.specs.Lending.{stored_at, stored_at-with_block_row};
 
     ghost row_of = { λ s. s.row };
 
@@ -248,7 +249,7 @@ impl<I: Index> MapStore for Store<I> {
 
     ghost written_places = { λ s p v. refl };
 
-    ghost written = { λ s p v inside size. stored_at-with_row s p v inside size };
+    ghost written = { λ s p v inside size. stored_at-with_block_row s p v inside size };
 }
 
 // The map row of a hash map.
@@ -269,7 +270,7 @@ pub type ArrayMap = Store<ArrayIndex>;
 impl Store<ArrayIndex> {
     ghost use Rattle.map_indexes.specs.ArrayPlaces.{array_places};
 
-    /// An array with all its indexes, and values that are zero-filled.
+    /// An array with all its keys, and values that are zero-filled.
     pub fn new(alloc: Global, value_size: u32, entries: u32) -> Result<Self, AllocError>
         ensures row { IfOk result (λ s. ⟦<Store<ArrayIndex> as MapStore>⟧.row_of s
             ≡ record { kind = Array; key_size = 4; value_size = value_size; entries = entries }) }

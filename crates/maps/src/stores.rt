@@ -42,7 +42,7 @@ impl Stores {
     pub fn order(&mut self, at: usize) -> Ordered<'_>
         requires at { at < length self.old.all.items }
         requires room { All (IsListed (vec_capacity self.old.list)) self.old.all.items }
-        ensures entries { listed_key_values result
+        ensures pairs { listed_key_values result
             ≡ ordered_in (map_at (map (state_by places_of) self.old.all.items) at) }
         ensures* stay { sem 𝓛 (StoresStay self.entry) }
     {

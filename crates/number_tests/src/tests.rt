@@ -2,7 +2,7 @@
 
 mod bits;
 mod branches;
-mod chains;
+mod changes;
 mod covers;
 mod kinds;
 mod limits;

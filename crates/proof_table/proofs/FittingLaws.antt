@@ -14,8 +14,8 @@ use Rattle.stack_state.specs.declared.states.AbstractFrame.{AbstractFrame}
 use Rattle.stack_state.specs.Slots.{frame_slots}
 use Rattle.table_entries.specs.Frames.{frame_allowed}
 use Rattle.table_entries.specs.Entries.{Entry, head_allowed}
-use Rattle.proof_table.specs.Spelling.{kind_bytes, slot_bytes, frame_bytes, named_bytes, entry_bytes}
-use Rattle.proof_table.specs.Fitting.{KindFits, SlotFits, FrameFits, EntryFits, slot_said, frame_said, entry_said}
+use Rattle.proof_table.specs.Spelling.{kind_bytes, stack_slot_bytes, frame_bytes, named_bytes, entry_bytes}
+use Rattle.proof_table.specs.Fitting.{KindFits, StackSlotFits, FrameFits, EntryFits, stack_slot_said, frame_said, entry_said}
 
 -- ---- the tests
 
@@ -24,22 +24,22 @@ All-mapped : {X Y : Type 0} (P : Y → Type 0) (f : X → Y) (xs : List X) → A
 All-mapped P f xs h k d less =
     subst P (get_or-map f xs k d (f d) less) (h k (f d) (omega (arith, length-map xs f)))
 
-pub FrameFits-said : (rows holder : ℕ) (outer : Bool) (f : AbstractFrame) (answer : Bool)
+pub FrameFits-said : (rows holder : ℕ) (outer : Bool) (f : AbstractFrame) (fits : Bool)
     → f.return_slot ≤ 65535 → length f.registers ≡ 10 → length f.stack.slots ≡ frame_slots
     → frame_allowed holder outer f.return_slot f.registers ≡ true
     → All (KindFits rows holder) f.registers
-    → (IsTrue answer ↔ All (λ slot. SlotFits rows holder (slot_said slot)) f.stack.slots)
-    → (IsTrue answer ↔ FrameFits rows holder outer (frame_said f))
-FrameFits-said rows holder outer f answer small ten all_slots allowed registers slots = (
+    → (IsTrue fits ↔ All (λ slot. StackSlotFits rows holder (stack_slot_said slot)) f.stack.slots)
+    → (IsTrue fits ↔ FrameFits rows holder outer (frame_said f))
+FrameFits-said rows holder outer f fits small ten all_slots allowed registers slots = (
   λ h. record {
     return_slot = omega arith;
     ten = ten;
     registers = registers;
-    all_slots = length-map f.stack.slots slot_said ∙ all_slots;
-    slots = All-map (SlotFits rows holder) slot_said f.stack.slots (slots.0 h);
+    all_slots = length-map f.stack.slots stack_slot_said ∙ all_slots;
+    slots = All-map (StackSlotFits rows holder) stack_slot_said f.stack.slots (slots.0 h);
     allowed = allowed;
   },
-  λ h. slots.1 (All-mapped (SlotFits rows holder) slot_said f.stack.slots h.slots),
+  λ h. slots.1 (All-mapped (StackSlotFits rows holder) stack_slot_said f.stack.slots h.slots),
 )
 
 -- the call frames of callers fit, each as a table says it
@@ -68,15 +68,15 @@ pub EntryFits-callers : (p : Program) (e : Entry) → EntryFits p (entry_said e)
     → CallersFit (length p.maps) e.state.callers.items
 EntryFits-callers p e h = CallersFit-said (length p.maps) e.state.callers.items h.callers
 
-pub EntryFits-said : (p : Program) (e : Entry) (answer : Bool)
+pub EntryFits-said : (p : Program) (e : Entry) (fits : Bool)
     → head_allowed p e.number e.state.slot ≡ true → e.state.slot ≤ 65535
     → length e.state.callers.items < max_call_frames
     → CallersFit (length p.maps) e.state.callers.items → length e.successors ≤ 2
     → All (λ i. i < 2 ^ 32) e.successors
-    → (IsTrue answer
+    → (IsTrue fits
     ↔ FrameFits (length p.maps) (length e.state.callers.items) false (frame_said e.state.innermost))
-    → (IsTrue answer ↔ EntryFits p (entry_said e))
-EntryFits-said p e answer allowed small few callers named indexes innermost =
+    → (IsTrue fits ↔ EntryFits p (entry_said e))
+EntryFits-said p e fits allowed small few callers named indexes innermost =
     let rows = length p.maps in
     let count = length-map e.state.callers.items frame_said in (
       λ h. record {
@@ -97,18 +97,18 @@ EntryFits-said p e answer allowed small few callers named indexes innermost =
 
 -- ---- the spelling
 
-slot_bytes-said : (s : StackSlot) → slot_bytes (slot_said s) ≡ slot_bytes s
-unfolding slot_bytes
-slot_bytes-said (Written marks) = refl
-slot_bytes-said (Spilled Unset) = refl
-slot_bytes-said (Spilled (Number s)) = refl
-slot_bytes-said (Spilled Context) = refl
-slot_bytes-said (Spilled (Stack frame offset)) = refl
-slot_bytes-said (Spilled (Packet fixed identity least greatest proved)) = refl
-slot_bytes-said (Spilled PacketEnd) = refl
-slot_bytes-said (Spilled (Map index)) = refl
-slot_bytes-said (Spilled (MapValue index least greatest)) = refl
-slot_bytes-said (Spilled (MapValueOrNull index identity)) = refl
+stack_slot_bytes-said : (s : StackSlot) → stack_slot_bytes (stack_slot_said s) ≡ stack_slot_bytes s
+unfolding stack_slot_bytes
+stack_slot_bytes-said (Written marks) = refl
+stack_slot_bytes-said (Spilled Unset) = refl
+stack_slot_bytes-said (Spilled (Number s)) = refl
+stack_slot_bytes-said (Spilled Context) = refl
+stack_slot_bytes-said (Spilled (Stack frame offset)) = refl
+stack_slot_bytes-said (Spilled (Packet fixed identity least greatest proved)) = refl
+stack_slot_bytes-said (Spilled PacketEnd) = refl
+stack_slot_bytes-said (Spilled (Map index)) = refl
+stack_slot_bytes-said (Spilled (MapValue index least greatest)) = refl
+stack_slot_bytes-said (Spilled (MapValueOrNull index identity)) = refl
 
 flat_map-same : {X : Type 0} (spell : X → List ℕ) (said : X → X)
     → ((x : X) → spell (said x) ≡ spell x) → (xs : List X)
@@ -122,7 +122,7 @@ frame_bytes-said : (f : AbstractFrame) → frame_bytes (frame_said f) ≡ frame_
 unfolding frame_bytes
 frame_bytes-said f =
     ap (λ (l : List ℕ). little_bytes 2 f.return_slot ++ (flat_map kind_bytes f.registers ++ l))
-    (flat_map-same slot_bytes slot_said slot_bytes-said f.stack.slots)
+    (flat_map-same stack_slot_bytes stack_slot_said stack_slot_bytes-said f.stack.slots)
 
 -- an entry is spelled as a table says it
 pub entry_bytes-said : (e : Entry) → entry_bytes (entry_said e) ≡ entry_bytes e

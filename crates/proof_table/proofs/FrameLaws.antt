@@ -8,11 +8,11 @@ use Rattle.byteorder.specs.Numbers.{little_number-reads_back}
 use Rattle.stack_state.specs.declared.states.AbstractFrame.{AbstractFrame}
 use Rattle.stack_state.specs.Slots.{frame_slots}
 use Rattle.table_entries.specs.Reading.{Read, then_read, joined, many}
-use Rattle.table_entries.specs.Kinds.{kind_in, slot_in}
+use Rattle.table_entries.specs.Kinds.{kind_in, stack_slot_in}
 use Rattle.table_entries.specs.Frames.{frame_in, callers_in}
-use Rattle.proof_table.specs.Spelling.{kind_bytes, slot_bytes, frame_bytes}
-use Rattle.proof_table.specs.Fitting.{KindFits, SlotFits, FrameFits}
-use Rattle.proof_table.proofs.KindLaws.{kind_in-reads, slot_in-reads}
+use Rattle.proof_table.specs.Spelling.{kind_bytes, stack_slot_bytes, frame_bytes}
+use Rattle.proof_table.specs.Fitting.{KindFits, StackSlotFits, FrameFits}
+use Rattle.proof_table.proofs.KindLaws.{kind_in-reads, stack_slot_in-reads}
 
 -- what is spelled one after the other is read one after the other, from the k-th on
 pub many-reads : {X : Type 0} (one : ℕ → List ℕ → Read X) (spell : X → List ℕ) (P : ℕ → X → Type 0)
@@ -43,7 +43,7 @@ many-reads {X} one spell P reads (x ∷ xs) (suc n) k rest size each =
 frame_parts : (f : AbstractFrame) (rest : List ℕ)
     → frame_bytes f ++ rest
     ≡ little_bytes 2 f.return_slot
-    ++ (flat_map kind_bytes f.registers ++ (flat_map slot_bytes f.stack.slots ++ rest))
+    ++ (flat_map kind_bytes f.registers ++ (flat_map stack_slot_bytes f.stack.slots ++ rest))
 unfolding frame_bytes
 frame_parts f rest = simp append_assoc
 
@@ -51,11 +51,11 @@ frame_read : (rows holder : ℕ) (outer : Bool) (f : AbstractFrame) (rest : List
     → FrameFits rows holder outer f
     → frame_in rows holder outer
     (little_bytes 2 f.return_slot
-    ++ (flat_map kind_bytes f.registers ++ (flat_map slot_bytes f.stack.slots ++ rest)))
+    ++ (flat_map kind_bytes f.registers ++ (flat_map stack_slot_bytes f.stack.slots ++ rest)))
     ≡ Ok (Some f, rest)
 unfolding frame_in
 frame_read rows holder outer f rest h =
-    let marks = flat_map slot_bytes f.stack.slots ++ rest in
+    let marks = flat_map stack_slot_bytes f.stack.slots ++ rest in
     let values = flat_map kind_bytes f.registers ++ marks in
     let bytes = little_bytes 2 f.return_slot ++ values in
     let long : nat_lt (length bytes) 2 ≡ false =
@@ -64,10 +64,10 @@ frame_read rows holder outer f rest h =
     let first : many (λ k. kind_in rows holder) 10 0 values ≡ Ok (Some f.registers, marks) =
     many-reads (λ k. kind_in rows holder) kind_bytes (λ k. KindFits rows holder)
     (λ k. kind_in-reads rows holder) f.registers 10 0 marks h.ten h.registers in
-    let second : many (λ k. slot_in rows holder) frame_slots 0 marks
+    let second : many (λ k. stack_slot_in rows holder) frame_slots 0 marks
     ≡ Ok (Some f.stack.slots, rest) =
-    many-reads (λ k. slot_in rows holder) slot_bytes (λ k. SlotFits rows holder)
-    (λ k. slot_in-reads rows holder) f.stack.slots frame_slots 0 rest h.all_slots h.slots in
+    many-reads (λ k. stack_slot_in rows holder) stack_slot_bytes (λ k. StackSlotFits rows holder)
+    (λ k. stack_slot_in-reads rows holder) f.stack.slots frame_slots 0 rest h.all_slots h.slots in
     let slot : little_number 2 bytes ≡ f.return_slot =
     little_number-reads_back 2 f.return_slot values h.return_slot in
     rw (long, first, second, slot, h.allowed) refl

@@ -18,10 +18,10 @@ use Rattle.reg_state.specs.declared.kinds.Kind.TheVariants.{Unset, Number, Conte
 use Rattle.stack_state.specs.declared.slots.StackSlot.{StackSlot}
 use Rattle.stack_state.specs.declared.slots.StackSlot.TheVariants.{Written, Spilled}
 use Rattle.table_entries.specs.Reading.{sized}
-use Rattle.table_entries.specs.Kinds.{signed_32, signed_64, bits_of, wide_of, low_of, range_of, scalar_of, bits_in, wide_in, low_in, scalar_in, limits_of, limits_in, has_no_part, lacks_identity, packet_of, packet_in, stack_in, map_in, value_of, value_in, null_in, fields_in, kind_in, spilled_in, slot_in}
+use Rattle.table_entries.specs.Kinds.{signed_32, signed_64, bits_of, wide_of, low_of, range_of, scalar_of, bits_in, wide_in, low_in, scalar_in, limits_of, limits_in, has_no_part, lacks_identity, packet_of, packet_in, stack_in, map_in, value_of, value_in, null_in, fields_in, kind_in, spilled_in, stack_slot_in}
 use Rattle.table_entries.proofs.KindLaws.{bits_of-is, wide_of-is, low_of-is, limits_of-some}
-use Rattle.proof_table.specs.Spelling.{signed_4, signed_8, bits_bytes, wide_bytes, low_bytes, scalar_bytes, stack_bytes, packet_bytes, value_bytes, null_bytes, kind_bytes, slot_bytes}
-use Rattle.proof_table.specs.Fitting.{WideFits, LowFits, ScalarFits, StackFits, PacketFits, MapFits, ValueFits, NullFits, KindFits, SlotFits}
+use Rattle.proof_table.specs.Spelling.{signed_4, signed_8, bits_bytes, wide_bytes, low_bytes, scalar_bytes, stack_bytes, packet_bytes, value_bytes, null_bytes, kind_bytes, stack_slot_bytes}
+use Rattle.proof_table.specs.Fitting.{WideFits, LowFits, ScalarFits, StackFits, PacketFits, MapFits, ValueFits, NullFits, KindFits, StackSlotFits}
 
 -- ---- numbers
 
@@ -286,24 +286,25 @@ kind_in-reads rows holder (MapValueOrNull index identity) rest h =
 
 -- ---- stack slots
 
-pub slot_in-reads : (rows holder : ℕ) (s : StackSlot) (rest : List ℕ) → SlotFits rows holder s
-    → slot_in rows holder (slot_bytes s ++ rest) ≡ Ok (Some s, rest)
-unfolding slot_in slot_bytes
-slot_in-reads rows holder (Written marks) rest h = refl
-slot_in-reads rows holder (Spilled Unset) rest h = absurd h
-slot_in-reads rows holder (Spilled (Number s)) rest h =
+pub stack_slot_in-reads : (rows holder : ℕ) (s : StackSlot) (rest : List ℕ)
+    → StackSlotFits rows holder s
+    → stack_slot_in rows holder (stack_slot_bytes s ++ rest) ≡ Ok (Some s, rest)
+unfolding stack_slot_in stack_slot_bytes
+stack_slot_in-reads rows holder (Written marks) rest h = refl
+stack_slot_in-reads rows holder (Spilled Unset) rest h = absurd h
+stack_slot_in-reads rows holder (Spilled (Number s)) rest h =
     ap spilled_in (kind_in-reads rows holder (Number s) rest h)
-slot_in-reads rows holder (Spilled Context) rest h =
+stack_slot_in-reads rows holder (Spilled Context) rest h =
     ap spilled_in (kind_in-reads rows holder Context rest h)
-slot_in-reads rows holder (Spilled (Stack frame offset)) rest h =
+stack_slot_in-reads rows holder (Spilled (Stack frame offset)) rest h =
     ap spilled_in (kind_in-reads rows holder (Stack frame offset) rest h)
-slot_in-reads rows holder (Spilled (Packet fixed identity least greatest proved)) rest h =
+stack_slot_in-reads rows holder (Spilled (Packet fixed identity least greatest proved)) rest h =
     ap spilled_in (kind_in-reads rows holder (Packet fixed identity least greatest proved) rest h)
-slot_in-reads rows holder (Spilled PacketEnd) rest h =
+stack_slot_in-reads rows holder (Spilled PacketEnd) rest h =
     ap spilled_in (kind_in-reads rows holder PacketEnd rest h)
-slot_in-reads rows holder (Spilled (Map index)) rest h =
+stack_slot_in-reads rows holder (Spilled (Map index)) rest h =
     ap spilled_in (kind_in-reads rows holder (Map index) rest h)
-slot_in-reads rows holder (Spilled (MapValue index least greatest)) rest h =
+stack_slot_in-reads rows holder (Spilled (MapValue index least greatest)) rest h =
     ap spilled_in (kind_in-reads rows holder (MapValue index least greatest) rest h)
-slot_in-reads rows holder (Spilled (MapValueOrNull index identity)) rest h =
+stack_slot_in-reads rows holder (Spilled (MapValueOrNull index identity)) rest h =
     ap spilled_in (kind_in-reads rows holder (MapValueOrNull index identity) rest h)

@@ -21,7 +21,7 @@ use Rattle.isa_model.specs.declared.limits.TheConstants.{MAX_EXPLORED}
 use Rattle.table_entries.specs.Entries.{Entry}
 use Rattle.table_entries.specs.Tables.{table_read}
 use Rattle.proof_table.specs.Spelling.{entry_bytes, head_bytes, table_bytes}
-use Rattle.proof_table.specs.Fitting.{KindFits, SlotFits, EntryFits, entry_said}
+use Rattle.proof_table.specs.Fitting.{KindFits, StackSlotFits, EntryFits, entry_said}
 use Rattle.proof_table.specs.Writing.{GainsTable, BeginsTable, GainsEntries, BeginsEntries, SpellsEntry}
 use Rattle.proof_table.proofs.FittingLaws.{entry_bytes-said}
 use Rattle.proof_table.proofs.TableLaws.{table_read-table_bytes}
@@ -47,7 +47,7 @@ EntryFits-first p image =
             All-from_recursion (KindFits rows 0) first_registers
             (tt, (tt, (tt, (tt, (tt, (tt, (tt, (tt, (tt, (tt, tt))))))))));
         all_slots = length-replicate frame_slots (Written 0);
-        slots = All-replicate (SlotFits rows 0) frame_slots (Written 0) (omega arith);
+        slots = All-replicate (StackSlotFits rows 0) frame_slots (Written 0) (omega arith);
         allowed = refl;
       };
       named = omega arith;

@@ -84,10 +84,10 @@ KindFits rows holder (Map index) = MapFits rows index
 KindFits rows holder (MapValue index least greatest) = ValueFits rows index least greatest
 KindFits rows holder (MapValueOrNull index identity) = NullFits rows index identity
 
-abbrev pub SlotFits : ℕ → ℕ → StackSlot → Type 0
-SlotFits rows holder (Written marks) = marks < 2 ^ 8
-SlotFits rows holder (Spilled Unset) = ⊥
-SlotFits rows holder (Spilled kind) = KindFits rows holder kind
+abbrev pub StackSlotFits : ℕ → ℕ → StackSlot → Type 0
+StackSlotFits rows holder (Written marks) = marks < 2 ^ 8
+StackSlotFits rows holder (Spilled Unset) = ⊥
+StackSlotFits rows holder (Spilled kind) = KindFits rows holder kind
 
 -- ---- call frames and entries
 
@@ -96,7 +96,7 @@ pub record FrameFits (rows holder : ℕ) (outer : Bool) (f : AbstractFrame) : Ty
   pub ten : length f.registers ≡ 10
   pub registers : All (KindFits rows holder) f.registers
   pub all_slots : length f.stack.slots ≡ frame_slots
-  pub slots : All (SlotFits rows holder) f.stack.slots
+  pub slots : All (StackSlotFits rows holder) f.stack.slots
   pub allowed : frame_allowed holder outer f.return_slot f.registers ≡ true
 
 pub record EntryFits (p : Program) (e : Entry) : Type 0 where
@@ -111,12 +111,12 @@ pub record EntryFits (p : Program) (e : Entry) : Type 0 where
 
 -- ---- a state as a table says it: where a stack slot holds an unset value, no byte is written
 
-abbrev pub slot_said : StackSlot → StackSlot
-slot_said (Spilled Unset) = Written 0
-slot_said slot = slot
+abbrev pub stack_slot_said : StackSlot → StackSlot
+stack_slot_said (Spilled Unset) = Written 0
+stack_slot_said slot = slot
 
 abbrev pub frame_said : AbstractFrame → AbstractFrame
-frame_said f = record f { stack = record { slots = map slot_said f.stack.slots } }
+frame_said f = record f { stack = record { slots = map stack_slot_said f.stack.slots } }
 
 abbrev pub entry_said : Entry → Entry
 entry_said e =

@@ -71,17 +71,17 @@ kind_bytes (MapValueOrNull index identity) = null_bytes index identity
 
 -- a stack slot: 0 and the marks of written bytes, or 1 and a kind; a spilled value about which
 -- nothing is known is spelled as a stack slot without marks
-unfoldable pub slot_bytes : StackSlot → List ℕ
-slot_bytes (Written marks) = 0 ∷ (marks ∷ [])
-slot_bytes (Spilled Unset) = 0 ∷ (0 ∷ [])
-slot_bytes (Spilled kind) = 1 ∷ kind_bytes kind
+unfoldable pub stack_slot_bytes : StackSlot → List ℕ
+stack_slot_bytes (Written marks) = 0 ∷ (marks ∷ [])
+stack_slot_bytes (Spilled Unset) = 0 ∷ (0 ∷ [])
+stack_slot_bytes (Spilled kind) = 1 ∷ kind_bytes kind
 
 -- ---- call frames and entries
 
 -- the return slot, ten kinds, 64 stack slots
 unfoldable pub frame_bytes : AbstractFrame → List ℕ
 frame_bytes f = little_bytes 2 f.return_slot
-    ++ (flat_map kind_bytes f.registers ++ flat_map slot_bytes f.stack.slots)
+    ++ (flat_map kind_bytes f.registers ++ flat_map stack_slot_bytes f.stack.slots)
 
 -- the frames, the outermost first, after their count
 abbrev pub frames_bytes : List AbstractFrame → AbstractFrame → List ℕ

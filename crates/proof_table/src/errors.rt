@@ -12,8 +12,8 @@ use std::io::ErrorKind;
 pub enum WriteTableError {
     /// Memory ran out.
     Memory,
-    /// The verifier refuses the program, or shows an entry that no table can spell. No program that
-    /// it accepted before is refused.
+    /// The verifier refuses the program, or finds a state that no table can spell. It does not
+    /// refuse a program that it accepted before.
     Explored,
     /// The writer returned an error of this kind, or it took none of the bytes that it was given:
     /// `ErrorKind::WriteZero`.

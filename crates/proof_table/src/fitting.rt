@@ -4,7 +4,7 @@ ghost use Rattle.std.specs.Prelude.{◌≡◌, ◌↔◌, ℕ, ◌<◌, ◌≤�
 ghost use Rattle.stack_state.specs.declared.states.AbstractFrame.{AbstractFrame};
 ghost use Rattle.stack_state.specs.Slots.{frame_slots};
 ghost use Rattle.table_entries.specs.Frames.{frame_allowed};
-ghost use Rattle.proof_table.specs.Fitting.{ScalarFits, StackFits, PacketFits, MapFits, ValueFits, NullFits, KindFits, SlotFits, FrameFits, EntryFits, slot_said, frame_said, entry_said};
+ghost use Rattle.proof_table.specs.Fitting.{ScalarFits, StackFits, PacketFits, MapFits, ValueFits, NullFits, KindFits, StackSlotFits, FrameFits, EntryFits, stack_slot_said, frame_said, entry_said};
 
 use image::Image;
 use known_bits::Bits;
@@ -14,7 +14,7 @@ use stack_state::{AbstractFrame, FRAME_SLOTS, StackSlot, State};
 use table_entries::entries::head_allowed;
 use table_entries::frames::frame_allowed;
 
-// ---- kinds; `rows` is how many map rows there are, `holder` the call frame that has them
+// ---- kinds; `rows` is how many map rows there are, `holder` the call frame that holds them
 
 // Recalls that the fields of a number are of their widths, for the proof. It does nothing.
 fn number_fits(numbers: Scalar)
@@ -100,8 +100,8 @@ fn kind_fits(rows: usize, holder: usize, kind: &Kind) -> bool
     }
 }
 
-fn slot_fits(rows: usize, holder: usize, slot: &StackSlot) -> bool
-    ensures { IsTrue result ↔ SlotFits rows holder (slot_said slot.now) }
+fn stack_slot_fits(rows: usize, holder: usize, slot: &StackSlot) -> bool
+    ensures { IsTrue result ↔ StackSlotFits rows holder (stack_slot_said slot.now) }
 {
     match slot {
         StackSlot::Written(marks) => {
@@ -126,12 +126,13 @@ fn kinds_fit(rows: usize, holder: usize, kinds: &[Kind; 10]) -> bool
     true
 }
 
-fn slots_fit(rows: usize, holder: usize, slots: &[StackSlot; FRAME_SLOTS]) -> bool
-    ensures fit { IsTrue result ↔ All (λ slot. SlotFits rows holder (slot_said slot)) slots.now }
+fn stack_slots_fit(rows: usize, holder: usize, slots: &[StackSlot; FRAME_SLOTS]) -> bool
+    ensures fit { IsTrue result
+        ↔ All (λ slot. StackSlotFits rows holder (stack_slot_said slot)) slots.now }
     ensures count { length slots.now ≡ frame_slots }
 {
     for slot in slots {
-        if !slot_fits(rows, holder, slot) {
+        if !stack_slot_fits(rows, holder, slot) {
             return false;
         }
     }
@@ -150,7 +151,7 @@ fn frame_fits(rows: usize, holder: usize, outer: bool, frame: &AbstractFrame) ->
     if !kinds_fit(rows, holder, &frame.registers) {
         return false;
     }
-    slots_fit(rows, holder, &frame.stack.slots)
+    stack_slots_fit(rows, holder, &frame.stack.slots)
 }
 
 // Whether a table can spell outer call frames.

@@ -3,9 +3,9 @@
 ghost use Rattle.std.specs.Prelude.{◌≡◌, ◌++◌, OnOk};
 ghost use Rattle.std.specs.List.{flat_map};
 ghost use Rattle.byteorder.specs.Endian.{little_bytes};
-ghost use Rattle.proof_table.specs.Spelling.{kind_bytes, slot_bytes, frame_bytes};
+ghost use Rattle.proof_table.specs.Spelling.{kind_bytes, stack_slot_bytes, frame_bytes};
 
-use crate::kinds::{spell_kind, spell_slot};
+use crate::kinds::{spell_kind, spell_stack_slot};
 use reg_state::Kind;
 use stack_state::{AbstractFrame, FRAME_SLOTS, StackSlot};
 use std::alloc::AllocError;
@@ -27,11 +27,15 @@ fn spell_registers(registers: &[Kind; 10], buffer: &mut Vec<u8>) -> Result<(), A
     Ok(())
 }
 
-fn spell_slots(slots: &[StackSlot; FRAME_SLOTS], buffer: &mut Vec<u8>) -> Result<(), AllocError>
-    ensures { OnOk result (buffer.new.items ≡ buffer.old.items ++ flat_map slot_bytes slots.now) }
+fn spell_stack_slots(
+    slots: &[StackSlot; FRAME_SLOTS],
+    buffer: &mut Vec<u8>,
+) -> Result<(), AllocError>
+    ensures { OnOk result
+        (buffer.new.items ≡ buffer.old.items ++ flat_map stack_slot_bytes slots.now) }
 {
     for slot in slots {
-        spell_slot(slot, buffer)?;
+        spell_stack_slot(slot, buffer)?;
     }
     Ok(())
 }
@@ -43,7 +47,7 @@ pub fn spell_frame(frame: &AbstractFrame, buffer: &mut Vec<u8>) -> Result<(), Al
 {
     spell_code_slot(frame.return_slot, buffer)?;
     spell_registers(&frame.registers, buffer)?;
-    spell_slots(&frame.stack.slots, buffer)
+    spell_stack_slots(&frame.stack.slots, buffer)
 }
 
 /// Puts frames after what the buffer has, one after the other.

@@ -1,7 +1,7 @@
 //! The kinds of registers and stack slots, spelled as a table has them.
 
 ghost use Rattle.std.specs.Prelude.{◌≡◌, ◌++◌, OnOk};
-ghost use Rattle.proof_table.specs.Spelling.{bits_bytes, wide_bytes, low_bytes, scalar_bytes, stack_bytes, packet_bytes, value_bytes, null_bytes, kind_bytes, slot_bytes};
+ghost use Rattle.proof_table.specs.Spelling.{bits_bytes, wide_bytes, low_bytes, scalar_bytes, stack_bytes, packet_bytes, value_bytes, null_bytes, kind_bytes, stack_slot_bytes};
 
 use byteorder::{ByteOrder, LittleEndian};
 use known_bits::Bits;
@@ -139,9 +139,9 @@ pub fn spell_kind(kind: &Kind, buffer: &mut Vec<u8>) -> Result<(), AllocError>
 ///
 /// An exit leaves an unset value where a pointer into its call frame was spilled. A table has no
 /// spelling for it: it says that no byte of the stack slot is written, which says as little.
-#[tactic(auto, unfolding(crate::specs::Spelling::slot_bytes))]
-pub fn spell_slot(slot: &StackSlot, buffer: &mut Vec<u8>) -> Result<(), AllocError>
-    ensures { OnOk result (buffer.new.items ≡ buffer.old.items ++ slot_bytes slot.now) }
+#[tactic(auto, unfolding(crate::specs::Spelling::stack_slot_bytes))]
+pub fn spell_stack_slot(slot: &StackSlot, buffer: &mut Vec<u8>) -> Result<(), AllocError>
+    ensures { OnOk result (buffer.new.items ≡ buffer.old.items ++ stack_slot_bytes slot.now) }
 {
     match slot {
         StackSlot::Written(marks) => buffer.extend_from_slice(&[0, *marks]),

@@ -1,4 +1,5 @@
-//! Proof tables: written for a verified program, and tested.
+//! Proof tables, written for a verified program. `recheck`, which tests them, is passed on from
+//! `rechecking`.
 //!
 //! A table says of each abstract state that the verifier reached how many more steps a run makes
 //! from it at most, and which entries are its successors. `recheck` tests a table with no trust in

@@ -1,4 +1,4 @@
-//! Tables written.
+//! Whole tables, written entry by entry.
 
 ghost use Rattle.std.specs.Prelude.{◌≡◌, ◌≤◌, ◌⊎◌, OnOk, OnErr, IfErr};
 ghost use Rattle.std.specs.Io.KnownBytes.{Appends};
@@ -45,8 +45,7 @@ fn write_all<W: Write>(writer: &mut W, bytes: &[u8]) -> Result<(), WriteTableErr
     }
 }
 
-/// Spells an entry that was explored, in a buffer of its own. Its state is put into the room for
-/// it.
+/// Spells an entry that was explored, in a buffer of its own; its state is restored into `state`.
 fn spell_explored(
     image: &Image,
     entry: &ExploredInsn,

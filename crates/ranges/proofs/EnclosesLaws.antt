@@ -1,4 +1,4 @@
--- Wider limits.
+-- What is within limits is within wider ones.
 use Rattle.std.proofs.Common.{ℕ, ◌%◌, ◌^◌, arith}
 use Rattle.std.proofs.lemmas.Int.{ints}
 use Rattle.ranges.specs.Wides as W

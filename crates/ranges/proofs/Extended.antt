@@ -43,7 +43,7 @@ same_half_16 x =
       ]
     ]
 
--- ---- the extension changes no low half that is a signed number of what is read
+-- ---- the extension changes no low half that is a signed number of the bits that are read
 
 kept_8 : (x : ℕ) (l g : ℤ) → FitsSigned w8 l → FitsSigned w8 g → l ≤ℤ cast_signed w32 (x % 2 ^ 32)
     → cast_signed w32 (x % 2 ^ 32) ≤ℤ g → sign_extended Low8 x % 2 ^ 32 ≡ x % 2 ^ 32
@@ -77,7 +77,7 @@ extended_half Full32 x l g fl fg from to =
 
 -- ---- its signed reading
 
--- what an extension to 32 bits makes, read with a sign
+-- the result of an extension to 32 bits, read with a sign
 half_between : (e : Extension) (x h : ℕ) → h + h ≡ 2 ^ extension_bits e
     → extension_width e ≡ Low32 → 0 < h → h ≤ 2 ^ 31
     → (negsuc (h - 1) ≤ℤ cast_signed w32 (sign_extended e x % 2 ^ 32))
@@ -91,7 +91,7 @@ half_between e x h twice narrow some most =
       | inr p ↦ (omega (arith, ints, p.0, p.1), omega (arith, ints, p.0, p.1))
     ]
 
--- what an extension of 8 bits makes, read with a sign
+-- the result of an extension of 8 bits, read with a sign
 pub half_of_8 : (e : Extension) (x : ℕ) → extension_bits e ≡ 8
     → (negsuc 127 ≤ℤ cast_signed w32 (sign_extended e x % 2 ^ 32))
     × (cast_signed w32 (sign_extended e x % 2 ^ 32) ≤ℤ pos 127)
@@ -113,7 +113,7 @@ half_of_16 Low8 x is = absurd (omega arith)
 half_of_16 Full8 x is = absurd (omega arith)
 half_of_16 Full32 x is = absurd (omega arith)
 
--- what is made has a signed number of what is read as its low half
+-- the low half of the result is a signed number of the bits that are read
 pub half_extended_signed : (e : Extension) (x : ℕ)
     → FitsSigned (extension_signed e) (cast_signed w32 (sign_extended e x % 2 ^ 32))
 half_extended_signed Low8 x = let l = half_of_8 Low8 x refl in fits_8 _ l.0 l.1

@@ -1,4 +1,4 @@
--- Numbers between those of a signed type.
+-- What is between two numbers of a signed type is a number of the type.
 use Rattle.std.proofs.Common.{ℤ, pos, negsuc, ◌≤◌, arith}
 use Rattle.std.specs.Prelude.{◌≤ℤ◌, FitsSigned}
 use Rattle.std.specs.Int.{Width as IntWidth}

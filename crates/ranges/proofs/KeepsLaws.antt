@@ -14,7 +14,7 @@ use Rattle.isa_model.specs.declared.instructions.AluOp.TheVariants.{Add, Sub, Mu
 use Rattle.isa_model.specs.Code.Sizes.{width_bits}
 use Rattle.isa_model.specs.Code.Numbers.{result_of, shift, signed, unsigned}
 use Rattle.ranges.specs.Keeps.{KeepsUnsigned, KeepsSigned, KeepsSignedQuotient, KeepsSignedRemainder, signed_of}
-use Rattle.ranges.proofs.Limits.{sum_from, sum_to, difference_from, difference_to, difference_low, div_mono, shl_mono, zero_or_div, self_or_mod, mod_apart, div_apart, shr_mono, shr_fits, cast_fits}
+use Rattle.ranges.proofs.Limits.{sum_from, sum_to, difference_from, difference_to, difference_low, div_mono, shl_mono, zero_or_div, self_or_mod, mod_not_by_zero, div_not_by_zero, shr_mono, shr_fits, cast_fits}
 use Rattle.ranges.proofs.LowLaws.{low_signed_equation}
 use Rattle.ranges.proofs.QuotientLaws.{quotient_up, quotient_down, quotient_fits, quotient_fits_down, remainder_fits, remainder_within, remainder_near, remainder_by_zero, quotient_is, remainder_is, plain_quotient, plain_remainder}
 
@@ -36,22 +36,22 @@ keeps_member Mul w al ag bl bg x y h1 h2 h3 h4 x_in y_in = λ fits.
     (omega arith, omega arith)
 keeps_member Div w al ag bl bg x y h1 h2 h3 h4 x_in y_in =
     let z = zero_or_div x y in
-    ((omega arith, omega arith), λ some. div_apart x y al ag bl bg some h1 h2 h3 h4)
+    ((omega arith, omega arith), λ some. div_not_by_zero x y al ag bl bg some h1 h2 h3 h4)
 keeps_member Mod w al ag bl bg x y h1 h2 h3 h4 x_in y_in =
     let z = self_or_mod x y in (
       (omega arith, omega arith),
-      λ some. let d = mod_apart x y (omega arith) in
+      λ some. let d = mod_not_by_zero x y (omega arith) in
           (omega arith, omega arith),
     )
 keeps_member SignedDiv w al ag bl bg x y h1 h2 h3 h4 x_in y_in = λ plain.
     let z = zero_or_div x y in
     rw (plain_quotient w x y (omega (arith, plain.0)) (omega (arith, plain.1)))
-    ((omega arith, omega arith), λ some. div_apart x y al ag bl bg some h1 h2 h3 h4)
+    ((omega arith, omega arith), λ some. div_not_by_zero x y al ag bl bg some h1 h2 h3 h4)
 keeps_member SignedMod w al ag bl bg x y h1 h2 h3 h4 x_in y_in = λ plain.
     let z = self_or_mod x y in
     rw (plain_remainder w x y (omega (arith, plain.0)) (omega (arith, plain.1))) (
       (omega arith, omega arith),
-      λ some. let d = mod_apart x y (omega arith) in
+      λ some. let d = mod_not_by_zero x y (omega arith) in
           (omega arith, omega arith),
     )
 keeps_member And w al ag bl bg x y h1 h2 h3 h4 x_in y_in =

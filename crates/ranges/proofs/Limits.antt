@@ -97,13 +97,13 @@ zero_or_div x y = cond_le (nat_eq y 0) 0 (x / y) x (omega arith) (div-le_self x 
 pub self_or_mod : (x y : ℕ) → cond (nat_eq y 0) x (x % y) ≤ x
 self_or_mod x y = cond_le (nat_eq y 0) x (x % y) x (omega arith) (mod-le x y)
 
-pub mod_apart : (x y : ℕ) → 0 < y
+pub mod_not_by_zero : (x y : ℕ) → 0 < y
     → (cond (nat_eq y 0) x (x % y) ≤ x) × (cond (nat_eq y 0) x (x % y) < y)
-mod_apart x y h = rw (ne_eqb y 0 (λ e. omega arith)) (mod-le x y, mod_below x y h)
+mod_not_by_zero x y h = rw (ne_eqb y 0 (λ e. omega arith)) (mod-le x y, mod_below x y h)
 
-pub div_apart : (x y a b c d : ℕ) → 0 < c → a ≤ x → x ≤ b → c ≤ y → y ≤ d
+pub div_not_by_zero : (x y a b c d : ℕ) → 0 < c → a ≤ x → x ≤ b → c ≤ y → y ≤ d
     → (a / d ≤ cond (nat_eq y 0) 0 (x / y)) × (cond (nat_eq y 0) 0 (x / y) ≤ b / c)
-div_apart x y a b c d p h1 h2 h3 h4 =
+div_not_by_zero x y a b c d p h1 h2 h3 h4 =
     rw (ne_eqb y 0 (λ e. omega arith)) (
       le-div (a / d) x y (omega arith)
           (let l = div-mul-le_self a d in
@@ -139,14 +139,15 @@ pub signed_below_64 : (z : ℤ) → FitsSigned w64 z → cast_unsigned w64 z < 2
 signed_below_64 (pos n) f = let s = f.sfits in omega arith
 signed_below_64 (negsuc n) f = omega arith
 
--- at 32 bits a number below the half has no sign to keep
+-- at 32 bits a number without the sign bit has no sign to keep
 pub shift_low_small : (x k : ℕ) → x < 2 ^ 31 → k < 32 → result_of Arsh Low32 x k ≡ x / 2 ^ k
 shift_low_small x k h k_in =
     rw (lt-ltb x (2 ^ 31) h) (ap (λ n. x / 2 ^ n) (mod-eq_of_lt {n = k} {m = 32} k_in))
 
 -- ---- sign extensions to 64 bits
 
--- what is made lies within half of what is read, on both sides of 0
+-- the result is a signed number of the bits that are read: it lies on either side of 0, nearer than
+-- their sign bit
 extended_between : (e : Extension) (x h : ℕ) → h + h ≡ 2 ^ extension_bits e
     → extension_width e ≡ Full64 → 0 < h → h ≤ 2 ^ 63
     → (negsuc (h - 1) ≤ℤ cast_signed w64 (sign_extended e x))
@@ -184,7 +185,7 @@ difference_low x y n le h =
 pub shl_within : (g k : ℕ) → g * 2 ^ k < 2 ^ 64 → g ≤ (2 ^ 64 - 1) / 2 ^ k
 shl_within g k h = le-div g (2 ^ 64 - 1) (2 ^ k) (pow_pos k) (omega arith)
 
--- below half of what is read nothing is extended
+-- a number without the sign bit of the bits that are read is extended to itself
 pub extended_small : (e : Extension) (x : ℕ) → x + x < 2 ^ extension_bits e → sign_extended e x ≡ x
 extended_small Low8 x h = sign_extended-small Low8 x (2 ^ 7) refl (omega arith)
 extended_small Low16 x h = sign_extended-small Low16 x (2 ^ 15) refl (omega arith)
@@ -192,7 +193,7 @@ extended_small Full8 x h = sign_extended-small Full8 x (2 ^ 7) refl (omega arith
 extended_small Full16 x h = sign_extended-small Full16 x (2 ^ 15) refl (omega arith)
 extended_small Full32 x h = sign_extended-small Full32 x (2 ^ 31) refl (omega arith)
 
--- nor of a signed number of what is read
+-- and so is one that is a signed number of these bits
 pub extended_same : (e : Extension) (x : ℕ) (l g : ℤ) → extension_width e ≡ Full64 → x < 2 ^ 64
     → FitsSigned (extension_signed e) l → FitsSigned (extension_signed e) g → l ≤ℤ cast_signed w64 x
     → cast_signed w64 x ≤ℤ g → sign_extended e x ≡ x
@@ -217,14 +218,14 @@ extended_same Full32 x l g full x_in fl fg from to =
       | inr p ↦ omega (arith, ints, p.0, p.1, fl.sfits, fg.sfits)
     ]
 
--- half of what is read fits the width that is made
-pub half_narrow : (e : Extension) (h : ℕ) → h + h ≡ 2 ^ extension_bits e
+-- the sign bit of the bits that are read fits the width of the result
+pub sign_bit_narrow : (e : Extension) (h : ℕ) → h + h ≡ 2 ^ extension_bits e
     → h ≤ 2 ^ width_bits (extension_width e)
-half_narrow Low8 h twice = omega arith
-half_narrow Low16 h twice = omega arith
-half_narrow Full8 h twice = omega arith
-half_narrow Full16 h twice = omega arith
-half_narrow Full32 h twice = omega arith
+sign_bit_narrow Low8 h twice = omega arith
+sign_bit_narrow Low16 h twice = omega arith
+sign_bit_narrow Full8 h twice = omega arith
+sign_bit_narrow Full16 h twice = omega arith
+sign_bit_narrow Full32 h twice = omega arith
 
 pub fits_8 : (z : ℤ) → negsuc 127 ≤ℤ z → z ≤ℤ pos 127 → FitsSigned w8 z
 fits_8 (pos n) l g = record { sfits = omega (arith, ints) }
@@ -238,7 +239,7 @@ pub fits_32 : (z : ℤ) → negsuc 2147483647 ≤ℤ z → z ≤ℤ pos 21474836
 fits_32 (pos n) l g = record { sfits = omega (arith, ints) }
 fits_32 (negsuc n) l g = record { sfits = omega (arith, ints) }
 
--- what is made is a signed number of what is read
+-- the result is a signed number of the bits that are read
 pub extended_signed : (e : Extension) (x : ℕ) → extension_width e ≡ Full64
     → FitsSigned (extension_signed e) (cast_signed w64 (sign_extended e x))
 extended_signed Low8 x full = cc

@@ -12,7 +12,7 @@ use Rattle.ranges.specs.Lows.{IsOfEither, AreReached}
 use Rattle.ranges.specs.declared.low.Low.{Low}
 use Rattle.ranges.proofs.Limits.{fits_32}
 
--- one linear equation between a low half and its signed reading: the quotient by the half is 0 or 1
+-- one linear equation between a low half and its signed reading: the quotient is the sign bit
 pub low_signed_equation : (e : ℕ) → e < 2 ^ 32
     → up (cast_signed w32 e) + 2 ^ 32 * (e / 2 ^ 31) ≡ e + down (cast_signed w32 e)
 low_signed_equation e h =

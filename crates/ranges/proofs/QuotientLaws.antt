@@ -65,7 +65,7 @@ pub quotient_fits : (w : IntWidth) (a : ℤ) (by : ℕ) → FitsSigned w a
 quotient_fits w a zero f = by_zero w a f
 quotient_fits w a (suc by) f = quot_fits w a (pos (suc by)) f (omega (arith, ints))
 
--- where that of a smaller number is a signed number, so is that of a greater one
+-- where the quotient of a smaller number is a signed number, so is that of a greater one
 pub quotient_fits_down : (w : IntWidth) (a b : ℤ) (by : ℕ) → a ≤ℤ b → FitsSigned w b
     → FitsSigned w (int_div a (negsuc by)) → FitsSigned w (int_div b (negsuc by))
 quotient_fits_down w a (pos b) by h f fa =

@@ -56,7 +56,7 @@ alike_has r x below half alike from to =
       signed_to = rw alike.1 order.1;
     }
 
--- the low half of a number between such limits, which others enclose
+-- the low half of a number between limits whose readings have one order, and which others enclose
 pub among_half : (s r : Wide) (half : ℕ) → r.greatest < 2 ^ 64
     → (r.greatest < 2 ^ 63) ⊎ (2 ^ 63 ≤ r.least) → W.ReadsAlike r
     → ((x : ℕ) → W.Has r x → W.Has s x) → IsHalfBetween r.least r.greatest half → W.HasHalf s half

@@ -47,7 +47,7 @@ IsTight r =
 abbrev pub Encloses : Range → Range → Type 0
 Encloses a b = W.Encloses a.wide b.wide × L.Encloses a.low b.low
 
--- the low half of the result is the 32-bit result on low halves: so it is at 32 bits, and at 64
+-- the low half of the result is the 32-bit result on low halves. This holds at 32 bits, and at 64
 -- bits for Add, Sub, Mul, And, Or, Xor and Mov, and for Lsh by a known distance below 32
 abbrev pub ReadsLow : AluOp → Width → Wide → Type 0
 ReadsLow op Low32 b = ⊤

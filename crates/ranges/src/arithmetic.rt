@@ -183,7 +183,7 @@ impl Range {
         }
         match order {
             ByteOrder::Little => Range {
-                wide: a.wide.low(span),
+                wide: a.wide.low_bytes(span),
                 low: a.low.low_part(span),
             }
             .settled(),

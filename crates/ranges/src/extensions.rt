@@ -100,7 +100,7 @@ impl Wide {
             → IsSignedOf (extension_signed extension) self
             → IsTrue result }
     {
-        if self.greatest < half_read(extension) {
+        if self.greatest < sign_bit_read(extension) {
             return true;
         }
         match width_made(extension) {
@@ -139,8 +139,8 @@ fn width_made(extension: Extension) -> Width
     }
 }
 
-// Half of 2 to the number of bits read.
-fn half_read(extension: Extension) -> u64
+// The sign bit of the bits that are read, as a number.
+fn sign_bit_read(extension: Extension) -> u64
     ensures { result + result ≡ 2 ^ extension_bits extension }
 {
     match extension {

@@ -45,7 +45,8 @@ impl Low {
         Some((upper - 1) * HALVES + u64::from(self.greatest))
     }
 
-    // Those that numbers between two limits have, where the limits have such low halves themselves.
+    // Of these low halves, those of the numbers between two limits. The low halves of the limits
+    // themselves are among these.
     pub(crate) fn among(self, least: u64, greatest: u64) -> Low
         requires tight { IsTight self }
         requires ordered { least ≤ greatest }
@@ -85,13 +86,13 @@ impl Wide {
             → L.IsSignedBetween result self.signed_least self.signed_greatest }
         ensures reached { (x : ℕ) → W.Has self x → L.AreReached result (W.HasHalf self) }
     {
-        let Some(signed) = self.upper_half() else {
-            return match self.lower_half() {
+        let Some(signed) = self.signed_part() else {
+            return match self.plain_part() {
                 Some(plain) => plain.unsigned_halves(),
                 None => Low::any(),
             };
         };
-        match self.lower_half() {
+        match self.plain_part() {
             Some(plain) => plain.unsigned_halves().hull(signed.unsigned_halves()),
             None => signed.unsigned_halves(),
         }
@@ -109,4 +110,5 @@ impl Wide {
     }
 }
 
+// How many low halves there are.
 const HALVES: u64 = 0x1_0000_0000;

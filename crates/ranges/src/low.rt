@@ -4,7 +4,7 @@ ghost use Rattle.std.specs.Prelude.{◌≡◌, ℕ, ℤ, ◌+◌, ◌^◌, ◌<�
 ghost use Rattle.std.specs.Int.{w32, cast_signed, cast_unsigned};
 
 /// The low halves of numbers, within both pairs of limits: as unsigned and as signed numbers of 32
-/// bits. Linux calls these limits u32_min, u32_max, s32_min and s32_max. There may be none.
+/// bits. Linux calls these limits u32_min, u32_max, s32_min and s32_max. The set may be empty.
 #[derive(Clone, Copy, PartialEq, Eq, Debug)]
 pub struct Low {
     pub least: u32,
@@ -130,11 +130,11 @@ impl Low {
         }
     }
 
-    // Those below 2^31, without a sign bit.
+    // The low halves below 2^31, without a sign bit.
     fn plain_part(self) -> Option<Self>
         ensures common { (e : ℕ) → Has self e → e < 2 ^ 31 → IsSomeAnd result (λ h. Has h e) }
         ensures left { IfSome result (λ h. (e : ℕ) → Has h e → Has self e) }
-        ensures half { IfSome result (λ h. h.greatest < 2 ^ 31) }
+        ensures side { IfSome result (λ h. h.greatest < 2 ^ 31) }
         ensures alike { IfSome result ReadsAlike }
     {
         if self.signed_greatest < 0 {
@@ -148,11 +148,11 @@ impl Low {
         Some(Low::between(least, greatest))
     }
 
-    // Those from 2^31 on, with the sign bit.
+    // The low halves from 2^31 on, with the sign bit.
     fn signed_part(self) -> Option<Self>
         ensures common { (e : ℕ) → Has self e → 2 ^ 31 ≤ e → IsSomeAnd result (λ h. Has h e) }
         ensures left { IfSome result (λ h. (e : ℕ) → Has h e → Has self e) }
-        ensures half { IfSome result (λ h. 2 ^ 31 ≤ h.least) }
+        ensures side { IfSome result (λ h. 2 ^ 31 ≤ h.least) }
         ensures alike { IfSome result ReadsAlike }
     {
         if self.signed_least >= 0 {

@@ -1,5 +1,5 @@
-//! What a relation between the low halves of a number of one range and of another leaves of both
-//! ranges. Nothing is shown of the upper halves.
+//! What is left of two ranges where the low half of a number of the one has a relation to that of a
+//! number of the other. Nothing is shown of the upper halves.
 
 ghost use Rattle.std.specs.Prelude.{◌≡◌, ◌≢◌, ◌⊎◌, ℕ, ◌%◌, ◌^◌, ◌<◌, ◌≤◌, ◌<ℤ◌, ◌≤ℤ◌, None, IsSomeAnd, IfSome, bit_and};
 ghost use Rattle.std.specs.Int.{w32, cast_signed};
@@ -103,7 +103,7 @@ impl Range {
     }
 
     /// What is left of both where a low half of this differs from one of the other.
-    pub fn low_apart(self, other: Self) -> Option<(Self, Self)>
+    pub fn low_unequal(self, other: Self) -> Option<(Self, Self)>
         ensures common { (x y : ℕ) → Has self x → Has other y → x % 2 ^ 32 ≢ y % 2 ^ 32
             → IsSomeAnd result (λ p. Has p.0 x × Has p.1 y) }
         ensures left { IfSome result (λ p. (x : ℕ) → Has p.0 x → Has self x) }
@@ -115,8 +115,8 @@ impl Range {
         ensures tight { IsTight self → IsTight other
             → IfSome result (λ p. IsTight p.0 × IsTight p.1) }
     {
-        let left = self.low_apart_from(other)?;
-        let right = other.low_apart_from(self)?;
+        let left = self.low_unequal_to(other)?;
+        let right = other.low_unequal_to(self)?;
         Some((left, right))
     }
 
@@ -172,7 +172,7 @@ impl Range {
         Some((first, second))
     }
 
-    // Those whose low half is from one number to another.
+    // The numbers of this whose low half is from one number to another.
     fn low_from_to(self, least: u32, greatest: u32) -> Option<Self>
         requires { least ≤ greatest }
         ensures common { (x : ℕ) → Has self x → least ≤ x % 2 ^ 32 → x % 2 ^ 32 ≤ greatest
@@ -201,8 +201,8 @@ impl Range {
         self.low_limited(Low::signed_between(least, greatest))
     }
 
-    // Those whose low half differs from that of some number of the other.
-    fn low_apart_from(self, other: Self) -> Option<Self>
+    // The numbers of this whose low half differs from that of some number of the other.
+    fn low_unequal_to(self, other: Self) -> Option<Self>
         ensures common { (x y : ℕ) → Has self x → Has other y → x % 2 ^ 32 ≢ y % 2 ^ 32
             → IsSomeAnd result (λ r. Has r x) }
         ensures left { IfSome result (λ r. (x : ℕ) → Has r x → Has self x) }
@@ -216,7 +216,7 @@ impl Range {
         }
     }
 
-    // Those whose low half is not this one, where it is one of the limits.
+    // The numbers of this without one low half, where it is one of the limits.
     fn low_without(self, half: u32) -> Option<Self>
         ensures common { (x : ℕ) → Has self x → x % 2 ^ 32 ≢ half
             → IsSomeAnd result (λ r. Has r x) }
@@ -226,11 +226,11 @@ impl Range {
         ensures tight { IsTight self → IfSome result IsTight }
     {
         let unsigned = self.low_without_unsigned(half)?;
-        let left = unsigned.low_without_signed(half)?;
-        Some(left)
+        let rest = unsigned.low_without_signed(half)?;
+        Some(rest)
     }
 
-    // Those whose low half is not this one, where it is an unsigned limit.
+    // The numbers of this without one low half, where it is an unsigned limit.
     fn low_without_unsigned(self, half: u32) -> Option<Self>
         ensures common { (x : ℕ) → Has self x → x % 2 ^ 32 ≢ half
             → IsSomeAnd result (λ r. Has r x) }
@@ -255,7 +255,7 @@ impl Range {
         }
     }
 
-    // Those whose low half is not this one, where it is a signed limit.
+    // The numbers of this without one low half, where it is a signed limit.
     fn low_without_signed(self, half: u32) -> Option<Self>
         ensures common { (x : ℕ) → Has self x → x % 2 ^ 32 ≢ half
             → IsSomeAnd result (λ r. Has r x) }

@@ -10,7 +10,8 @@ use crate::low::Low;
 use crate::wide::Wide;
 use isa_model::{Width, numbers};
 
-/// The numbers within the limits at 64 bits whose low halves are within theirs. There may be none.
+/// The numbers within the limits at 64 bits whose low halves are within theirs. The set may be
+/// empty.
 #[derive(Clone, Copy, PartialEq, Eq, Debug)]
 pub struct Range {
     pub wide: Wide,
@@ -111,7 +112,7 @@ impl Range {
         both.tightened()
     }
 
-    // Those within limits at 64 bits.
+    // The numbers within these limits at 64 bits.
     pub(crate) fn limited(self, wide: Wide) -> Option<Self>
         ensures common { (x : ℕ) → Has self x → W.Has wide x → IsSomeAnd result (λ m. Has m x) }
         ensures left { IfSome result (λ m. (x : ℕ) → Has m x → Has self x) }
@@ -127,7 +128,7 @@ impl Range {
         both.tightened()
     }
 
-    // Those whose low halves are within limits.
+    // The numbers whose low halves are within these limits.
     pub(crate) fn low_limited(self, low: Low) -> Option<Self>
         ensures common { (x : ℕ) → Has self x → L.Has low (x % 2 ^ 32)
             → IsSomeAnd result (λ m. Has m x) }
@@ -160,47 +161,48 @@ impl Range {
         }
     }
 
-    // Those without a sign bit that have such low halves.
+    // The numbers without a sign bit whose low halves are within `low`.
     fn plain_part(self, low: Low) -> Option<Self>
         requires { L.IsTight low }
         ensures common { (x : ℕ) → W.Has self.wide x → L.Has low (x % 2 ^ 32) → x < 2 ^ 63
             → IsSomeAnd result (λ p. Has p x) }
         ensures enclosed { IfSome result (λ p. W.Encloses self.wide p.wide × L.Encloses low p.low) }
-        ensures half { IfSome result (λ p. p.wide.greatest < 2 ^ 63) }
+        ensures side { IfSome result (λ p. p.wide.greatest < 2 ^ 63) }
         ensures alike { IfSome result (λ p. W.ReadsAlike p.wide) }
         ensures tight { IfSome result IsTight }
     {
-        let half = self.wide.lower_half()?;
-        Range::narrowed(half, low)
+        let part = self.wide.plain_part()?;
+        Range::narrowed(part, low)
     }
 
-    // Those with the sign bit that have such low halves.
+    // The numbers with the sign bit whose low halves are within `low`.
     fn signed_part(self, low: Low) -> Option<Self>
         requires { L.IsTight low }
         ensures common { (x : ℕ) → W.Has self.wide x → L.Has low (x % 2 ^ 32) → 2 ^ 63 ≤ x
             → IsSomeAnd result (λ p. Has p x) }
         ensures enclosed { IfSome result (λ p. W.Encloses self.wide p.wide × L.Encloses low p.low) }
-        ensures half { IfSome result (λ p. 2 ^ 63 ≤ p.wide.least) }
+        ensures side { IfSome result (λ p. 2 ^ 63 ≤ p.wide.least) }
         ensures alike { IfSome result (λ p. W.ReadsAlike p.wide) }
         ensures tight { IfSome result IsTight }
     {
-        let half = self.wide.upper_half()?;
-        Range::narrowed(half, low)
+        let part = self.wide.signed_part()?;
+        Range::narrowed(part, low)
     }
 
-    // Those of one half of the numbers that have such low halves.
-    fn narrowed(half: Wide, low: Low) -> Option<Self>
+    // The numbers of one part, all without a sign bit or all with it, whose low halves are within
+    // `low`.
+    fn narrowed(part: Wide, low: Low) -> Option<Self>
         requires tight { L.IsTight low }
-        requires half { (half.greatest < 2 ^ 63) ⊎ (2 ^ 63 ≤ half.least) }
-        requires alike { W.ReadsAlike half }
-        ensures common { (x : ℕ) → W.Has half x → L.Has low (x % 2 ^ 32)
+        requires side { (part.greatest < 2 ^ 63) ⊎ (2 ^ 63 ≤ part.least) }
+        requires alike { W.ReadsAlike part }
+        ensures common { (x : ℕ) → W.Has part x → L.Has low (x % 2 ^ 32)
             → IsSomeAnd result (λ p. Has p x) }
-        ensures enclosed { IfSome result (λ p. W.Encloses half p.wide × L.Encloses low p.low) }
+        ensures enclosed { IfSome result (λ p. W.Encloses part p.wide × L.Encloses low p.low) }
         ensures alike { IfSome result (λ p. W.ReadsAlike p.wide) }
         ensures tight { IfSome result IsTight }
     {
-        let least = low.first_number(half.least)?;
-        let greatest = low.last_number(half.greatest)?;
+        let least = low.first_number(part.least)?;
+        let greatest = low.last_number(part.greatest)?;
         if least > greatest {
             return None;
         }

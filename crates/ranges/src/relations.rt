@@ -1,5 +1,5 @@
-//! What a relation between a number of one range and a number of another leaves of both: at least
-//! the numbers that have it to some number of the other range.
+//! What is left of two ranges where a number of the one has a relation to a number of the other: of
+//! each at least the numbers that have it to some number of the other range.
 
 ghost use Rattle.std.specs.Prelude.{◌≡◌, ◌≢◌, ◌⊎◌, ℕ, ◌<◌, ◌≤◌, ◌<ℤ◌, ◌≤ℤ◌, None, IsSomeAnd, IfSome, bit_and};
 ghost use Rattle.std.specs.Int.{w64, cast_signed};
@@ -85,7 +85,7 @@ impl Range {
     }
 
     /// What is left of both where a number of this differs from one of the other.
-    pub fn apart(self, other: Self) -> Option<(Self, Self)>
+    pub fn unequal(self, other: Self) -> Option<(Self, Self)>
         ensures common { (x y : ℕ) → Has self x → Has other y → x ≢ y
             → IsSomeAnd result (λ p. Has p.0 x × Has p.1 y) }
         ensures left { IfSome result (λ p. (x : ℕ) → Has p.0 x → Has self x) }
@@ -97,8 +97,8 @@ impl Range {
         ensures tight { IsTight self → IsTight other
             → IfSome result (λ p. IsTight p.0 × IsTight p.1) }
     {
-        let left = self.apart_from(other)?;
-        let right = other.apart_from(self)?;
+        let left = self.unequal_to(other)?;
+        let right = other.unequal_to(self)?;
         Some((left, right))
     }
 
@@ -149,7 +149,7 @@ impl Range {
         Some((first, second))
     }
 
-    // Those from one number to another.
+    // The numbers of this from one number to another.
     fn from_to(self, least: u64, greatest: u64) -> Option<Self>
         requires { least ≤ greatest }
         ensures common { (x : ℕ) → Has self x → least ≤ x → x ≤ greatest
@@ -176,8 +176,8 @@ impl Range {
         self.limited(Wide::signed_between(least, greatest))
     }
 
-    // Those that differ from some number of the other.
-    fn apart_from(self, other: Self) -> Option<Self>
+    // The numbers of this that differ from some number of the other.
+    fn unequal_to(self, other: Self) -> Option<Self>
         ensures common { (x y : ℕ) → Has self x → Has other y → x ≢ y
             → IsSomeAnd result (λ r. Has r x) }
         ensures left { IfSome result (λ r. (x : ℕ) → Has r x → Has self x) }
@@ -191,7 +191,7 @@ impl Range {
         }
     }
 
-    // Those that are not this number, where it is one of the limits.
+    // The numbers of this without one number, where it is one of the limits.
     fn without(self, number: u64) -> Option<Self>
         ensures common { (x : ℕ) → Has self x → x ≢ number → IsSomeAnd result (λ r. Has r x) }
         ensures left { IfSome result (λ r. (x : ℕ) → Has r x → Has self x) }
@@ -199,11 +199,11 @@ impl Range {
         ensures tight { IsTight self → IfSome result IsTight }
     {
         let unsigned = self.without_unsigned(number)?;
-        let left = unsigned.without_signed(number)?;
-        Some(left)
+        let rest = unsigned.without_signed(number)?;
+        Some(rest)
     }
 
-    // Those that are not this number, where it is an unsigned limit.
+    // The numbers of this without one number, where it is an unsigned limit.
     fn without_unsigned(self, number: u64) -> Option<Self>
         ensures common { (x : ℕ) → Has self x → x ≢ number → IsSomeAnd result (λ r. Has r x) }
         ensures left { IfSome result (λ r. (x : ℕ) → Has r x → Has self x) }
@@ -227,7 +227,7 @@ impl Range {
         }
     }
 
-    // Those that are not this number, where it is a signed limit.
+    // The numbers of this without one number, where it is a signed limit.
     fn without_signed(self, number: u64) -> Option<Self>
         ensures common { (x : ℕ) → Has self x → x ≢ number → IsSomeAnd result (λ r. Has r x) }
         ensures left { IfSome result (λ r. (x : ℕ) → Has r x → Has self x) }

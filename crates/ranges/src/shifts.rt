@@ -51,7 +51,7 @@ impl Wide {
     }
 
     // The low bytes.
-    pub(crate) fn low(self, span: SwapWidth) -> Self
+    pub(crate) fn low_bytes(self, span: SwapWidth) -> Self
         ensures contains { (x : ℕ) → Has self x → Has result (x % 2 ^ span_bits span) }
         ensures fits { result.greatest < 2 ^ span_bits span }
         ensures same { self.greatest < 2 ^ span_bits span → result ≡ self }
@@ -96,7 +96,7 @@ impl Wide {
         Wide::signed_between(self.signed_least >> by, self.signed_greatest >> by)
     }
 
-    // At 32 bits numbers below the half are shifted as unsigned ones.
+    // At 32 bits numbers without the sign bit are shifted as unsigned ones.
     fn shift_signed_low(self, by: u64) -> Self
         requires { by < 32 }
         ensures contains { (x : ℕ) → x < 2 ^ 32 → Has self x

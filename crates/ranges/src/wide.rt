@@ -7,7 +7,7 @@ ghost use Rattle.isa_model.specs.Code.Sizes.{width_bits};
 use isa_model::Width;
 
 /// The numbers within both pairs of limits: as unsigned and as signed numbers of 64 bits. Linux
-/// calls them umin, umax, smin and smax. There may be none.
+/// calls them umin, umax, smin and smax. The set may be empty.
 #[derive(Clone, Copy, PartialEq, Eq, Debug)]
 pub struct Wide {
     pub least: u64,
@@ -99,11 +99,11 @@ impl Wide {
     }
 
     // The numbers below 2^63, without a sign bit.
-    pub(crate) fn lower_half(self) -> Option<Self>
+    pub(crate) fn plain_part(self) -> Option<Self>
         ensures common { (x : ℕ) → Has self x → x < 2 ^ 63 → IsSomeAnd result (λ h. Has h x) }
         ensures left { IfSome result (λ h. (x : ℕ) → Has h x → Has self x) }
         ensures enclosed { IfSome result (Encloses self) }
-        ensures half { IfSome result (λ h. h.greatest < 2 ^ 63) }
+        ensures side { IfSome result (λ h. h.greatest < 2 ^ 63) }
         ensures alike { IfSome result ReadsAlike }
     {
         if self.signed_greatest < 0 {
@@ -118,11 +118,11 @@ impl Wide {
     }
 
     // The numbers from 2^63 on, with the sign bit.
-    pub(crate) fn upper_half(self) -> Option<Self>
+    pub(crate) fn signed_part(self) -> Option<Self>
         ensures common { (x : ℕ) → Has self x → 2 ^ 63 ≤ x → IsSomeAnd result (λ h. Has h x) }
         ensures left { IfSome result (λ h. (x : ℕ) → Has h x → Has self x) }
         ensures enclosed { IfSome result (Encloses self) }
-        ensures half { IfSome result (λ h. 2 ^ 63 ≤ h.least) }
+        ensures side { IfSome result (λ h. 2 ^ 63 ≤ h.least) }
         ensures alike { IfSome result ReadsAlike }
     {
         if self.signed_least >= 0 {

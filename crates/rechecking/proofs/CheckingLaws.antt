@@ -75,7 +75,7 @@ unfolding Covers
 MeansStarts-covers p a program covers head packet contents given =
     covers (start_state head packet contents) (Means-start p head packet contents program given)
 
--- ---- what is surely found
+-- ---- options that have an element
 
 -- the element of an option that has one
 there_is : {X : Type 0} (o : Option X) → IsSome o → (x : X) × (o ≡ Some x)
@@ -92,10 +92,10 @@ pub Enters-same : (p : Program) (t : EntryAt) (number index : ℕ) (a : State) (
     → HasEntry p t index head a
     → ((e : Entry) → t index ≡ Some e → e.number < number) → Enters t number index a
 unfolding Covers
-Enters-same p t number index a head stands smaller = record {
+Enters-same p t number index a head has smaller = record {
   entry = entry_of head a;
-  there = stands.there;
-  smaller = smaller (entry_of head a) stands.there;
+  there = has.there;
+  smaller = smaller (entry_of head a) has.there;
   covers = λ q s m. m;
 }
 
@@ -122,20 +122,20 @@ unclear_covers t number index a refuted h =
     })
 
 -- nor is one whose number is not smaller
-pub unclear_number : (t : EntryAt) (number index : ℕ) (a : State) (answer : Bool)
-    → ((e : Entry) → t index ≡ Some e → e.number < number → IsTrue answer) → answer ≡ false
+pub unclear_number : (t : EntryAt) (number index : ℕ) (a : State) (passes : Bool)
+    → ((e : Entry) → t index ≡ Some e → e.number < number → IsTrue passes) → passes ≡ false
     → EntersClearly t number index a → ⊥
-unclear_number t number index a answer finds refuted h =
-    let yes : answer ≡ true = finds h.entry h.there h.smaller in cc
+unclear_number t number index a passes finds refuted h =
+    let yes : passes ≡ true = finds h.entry h.there h.smaller in cc
 
 -- a test that finds clear cases, and failed for this entry
-pub unclear_entry : (t : EntryAt) (index : ℕ) (a : State) (e : Entry) (answer : Bool)
+pub unclear_entry : (t : EntryAt) (index : ℕ) (a : State) (e : Entry) (passes : Bool)
     → t index ≡ Some e
-    → ((packet null : ℕ → ℕ) → StateEncloses packet null e.state a → IsTrue answer)
-    → answer ≡ false → CoversClearly t index a → ⊥
-unclear_entry t index a e answer there finds refuted h =
+    → ((packet null : ℕ → ℕ) → StateEncloses packet null e.state a → IsTrue passes)
+    → passes ≡ false → CoversClearly t index a → ⊥
+unclear_entry t index a e passes there finds refuted h =
     let is : h.entry ≡ e = same_entry (t index) h.entry e h.there there in
-    let yes : answer ≡ true =
+    let yes : passes ≡ true =
     finds h.packet h.null
     (subst (λ (x : Entry). StateEncloses h.packet h.null x.state a) is h.covers) in
     cc
@@ -143,12 +143,12 @@ unclear_entry t index a e answer there finds refuted h =
 pub no_entry : (t : EntryAt) (index : ℕ) (a : State) → t index ≡ None → CoversClearly t index a → ⊥
 no_entry t index a none h = let there = h.there in absurd (cc)
 
-pub unclear_start : (t : EntryAt) (e : Entry) (answer : Bool) → t 0 ≡ Some e
-    → ((packet null : ℕ → ℕ) → StateEncloses packet null e.state start → IsTrue answer)
-    → answer ≡ false → StartsClearly t → ⊥
-unclear_start t e answer there finds refuted h =
+pub unclear_start : (t : EntryAt) (e : Entry) (passes : Bool) → t 0 ≡ Some e
+    → ((packet null : ℕ → ℕ) → StateEncloses packet null e.state start → IsTrue passes)
+    → passes ≡ false → StartsClearly t → ⊥
+unclear_start t e passes there finds refuted h =
     let is : h.first ≡ e = same_entry (t 0) h.first e h.there there in
-    let yes : answer ≡ true =
+    let yes : passes ≡ true =
     finds h.packet h.null
     (subst (λ (x : Entry). StateEncloses h.packet h.null x.state start) is h.covers) in
     cc
@@ -193,7 +193,7 @@ unnamed_step p t k e w a b there begins steps unnamed =
       },
     )
 
--- what holds of the entry with that index, by any name
+-- where the entry at an index is closed, each entry that is found at that index is
 pub fine_of : (p : Program) (t : EntryAt) (k : ℕ) (d : Entry) → t k ≡ Some d → IsClosedEntry p t d
     → (e : Entry) → t k ≡ Some e → IsClosedEntry p t e
 fine_of p t k d there fine e at = subst (IsClosedEntry p t) (same_entry (t k) d e there at) fine

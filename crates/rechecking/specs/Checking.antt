@@ -1,4 +1,4 @@
--- What the tests of an entry show, and what they surely find.
+-- What the tests of an entry show, and which entries are sure to pass them.
 use Rattle.std.specs.Prelude.{◌≡◌, ℕ, ◌<◌, List, [], ◌∷◌, Some}
 use Rattle.isa_model.specs.declared.instructions.Insn.{Insn}
 use Rattle.isa_model.specs.Code.Instructions.{Program, fetch}

@@ -1,4 +1,4 @@
--- Entries that need not be read again, since their states are still in one of two rooms.
+-- Entries that need not be read again, since one of two states that were read is theirs.
 use Rattle.std.specs.Prelude.{◌≡◌, ℕ, Some}
 use Rattle.isa_model.specs.Code.Instructions.{Program}
 use Rattle.stack_state.specs.declared.states.State.{State}
@@ -14,7 +14,7 @@ pub record HasEntry (p : Program) (t : EntryAt) (index : ℕ) (head : EntryHead)
   pub allowed : IsAllowed p head.number a.slot
   pub there : t index ≡ Some (entry_of head a)
 
--- the state of the known entry is in the first room or in the second
+-- the state of the known entry is the first of these two, or the second
 abbrev pub IsKnownEntry : Program → EntryAt → State → State → Known → Type 0
 IsKnownEntry p t a b known.None = Unit {0}
 IsKnownEntry p t a b (known.First index head) = HasEntry p t index head a

@@ -17,7 +17,7 @@ use state_cover::covers;
 use table_entries::{EntryHead, Growing, NamedEntries, Table};
 use transfer::{Ways, step_in_place};
 
-/// An entry whose state is in one of two rooms, by its index: it is not read again.
+/// An entry, by its index, whose state is in `state` or in `room` already: it is not read again.
 #[derive(Clone, Copy, Drop)]
 pub enum Known {
     None,
@@ -25,7 +25,7 @@ pub enum Known {
     Second(usize, EntryHead),
 }
 
-/// The same entry, after the two rooms were swapped.
+/// The same entry, after `state` and `room` were swapped.
 fn swapped(known: Known) -> Known
     ensures { (p : Program) (t : EntryAt) (a b : State) → IsKnownEntry p t a b known
         → IsKnownEntry p t b a result }
@@ -50,7 +50,7 @@ fn is_smaller(table: &Table, index: usize, number: u32) -> bool
     }
 }
 
-/// Reads the entry of that index into the room for it, if it covers a state.
+/// Reads the entry of that index, if it covers a state; its own state is read into `room`.
 fn read_covering(
     image: &Image,
     table: &Table,
@@ -58,7 +58,7 @@ fn read_covering(
     state: &State,
     room: &mut State,
 ) -> Option<EntryHead>
-    ensures stands { IfSome result
+    ensures has { IfSome result
         (λ head. HasEntry image.now (entry_at image.now table.now) index head room.new) }
     ensures covers { IfSome result
         (λ _. Covering (entry_at image.now table.now) index state.now) }
@@ -74,7 +74,7 @@ fn read_covering(
 }
 
 /// Whether the entry of that index covers a state, and its number is smaller, tested first. Its own
-/// state is read into its room only if its bytes do not spell this one.
+/// state is read into `room` only if its bytes do not spell this one.
 fn enters(
     image: &Image,
     table: &Table,
@@ -182,7 +182,7 @@ fn place_named(image: &Image, growing: &mut Growing, named: NamedEntries)
     }
 }
 
-/// Tests an entry whose state is in its room: P7 and P8.
+/// Tests an entry whose state was read into `state`: P7 and P8.
 fn test_read_entry(
     image: &Image,
     growing: &mut Growing,

@@ -9,12 +9,12 @@ use std::fmt;
 use table_entries::TableRefusal;
 use transfer::Refusal;
 
-/// Why a table is refused; entries by their index.
+/// Why a table is refused. An entry is named by its index.
 #[derive(Clone, Copy, Debug, Drop)]
 pub enum TableError {
-    /// The program's control flow is not good, with the slot: G1 to G6.
+    /// G1 to G6: the program's control flow is not good, at this slot.
     Flow(FlowError, usize),
-    /// The bytes are no table, or memory ran out: P1 to P5 and P9.
+    /// P1 to P5 and P9: the bytes are no table, or memory ran out.
     Bytes(TableRefusal),
     /// P6: entry 0 does not cover the start state.
     Start,

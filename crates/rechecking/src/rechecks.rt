@@ -82,7 +82,7 @@ fn slow_bound(alloc: Global, image: &Image, bytes: &[u8]) -> Result<u32, TableEr
     }
 }
 
-/// The bound that a table shows, or why it is refused: the quick way where that finds a bound.
+/// The bound that a table shows, or why it is refused. `quick_bound` is tried first.
 fn bound_of(alloc: Global, image: &Image, bytes: &[u8]) -> Result<u32, TableError>
     requires { IsFlow image.now }
     ensures shown { IfOk result (ShowsBound image.now bytes.now) }

@@ -6,7 +6,7 @@ use Rattle.ranges.specs.Ranges as R
 use Rattle.ranges.specs.Lows as L
 use Rattle.isa_model.specs.declared.sizes.Width.TheVariants.{Low32, Full64}
 use Rattle.reg_state.specs.Limits.{range_limits, no_limits}
-use Rattle.reg_state.specs.Reach.{IsLimit, IsAlone}
+use Rattle.reg_state.specs.Going.{IsLimit, IsAlone}
 use Rattle.reg_state.specs.declared.scalars.Scalar.{Scalar}
 use Rattle.reg_state.specs.Scalars.{Has, IsNumber}
 use Rattle.reg_state.specs.Constants.{bits_constant_only}
@@ -38,7 +38,7 @@ IsNumber-only s n x (inl bits) h = bits_constant_only s.bits n x bits h.0
 IsNumber-only s n x (inr alone) h =
     let from = h.1.0.from in let to = h.1.0.to in let limits = alone.1 in omega arith
 
--- no number is the only member between such limits
+-- where there are no limits, no number is the only one between them
 pub no_limits-IsAlone : (n : ℕ) → IsAlone no_limits n → ⊥
 no_limits-IsAlone n alone = let least = alone.0 in omega (arith, ints)
 

@@ -11,7 +11,7 @@ use Rattle.reg_state.specs.KindCover.{KindCovers}
 -- the assignment in which each identity is read as the one that the renamings call it
 abbrev pub renamed : (ℕ → ℕ) → (ℕ → ℕ) → Assigned → Assigned
 renamed packet null e =
-    record e { offset = λ i. e.offset (packet i); value = λ i. e.value (null i) }
+    record e { offset = λ i. e.offset (packet i); map_value = λ i. e.map_value (null i) }
 
 packet_allows : (packet null : ℕ → ℕ) (e : Assigned) (f f' l l' g g' : ℤ) (i i' p p' : ℕ)
     (v : Value)
@@ -28,10 +28,10 @@ packet_allows packet null e f f' l l' g g' i i' p p' v c h =
       inside = rw c.1 (λ some. omega (arith, ints, h.inside (omega arith)));
     }
 
-value_allows : (packet null : ℕ → ℕ) (e : Assigned) (m m' : ℕ) (l l' g g' : ℤ) (v : Value)
+map_value_allows : (packet null : ℕ → ℕ) (e : Assigned) (m m' : ℕ) (l l' g g' : ℤ) (v : Value)
     → KindCovers packet null (MapValue m l g) (MapValue m' l' g') → AllowsMapValue e m' l' g' v
     → AllowsMapValue (renamed packet null e) m l g v
-value_allows packet null e m m' l l' g g' v c h =
+map_value_allows packet null e m m' l l' g g' v c h =
     let least = c.1 in
     let greatest = c.2 in
     record {
@@ -55,6 +55,6 @@ Allows-covered packet null e (Packet f i l g p) (Packet f' i' l' g' p') v c h =
 Allows-covered packet null e PacketEnd PacketEnd v c h = h
 Allows-covered packet null e (Map m) (Map m') v c h = rw c h
 Allows-covered packet null e (MapValue m l g) (MapValue m' l' g') v c h =
-    value_allows packet null e m m' l l' g g' v c h
+    map_value_allows packet null e m m' l l' g g' v c h
 Allows-covered packet null e (MapValueOrNull m i) (MapValueOrNull m' i') v c h = rw (c.0, c.1) h
 Allows-covered packet null e a b v c h = absurd c

@@ -19,7 +19,7 @@ abbrev pub frame_of : Kind → Option ℕ
 frame_of (Stack frame offset) = Some frame
 frame_of k = None
 
--- the map to whose values a kind refers
+-- the map to whose map values a kind refers
 abbrev pub map_of : Kind → Option ℕ
 map_of (MapValue m least greatest) = Some m
 map_of (MapValueOrNull m identity) = Some m
@@ -29,7 +29,7 @@ map_of k = None
 -- its map are live
 pub record KeepsAssigned (k : Kind) (e f : Assigned) : Type 0 where
   pub offsets : IfSome (packet_identity_of k) (λ i. e.offset i ≡ f.offset i)
-  pub values : IfSome (null_identity_of k) (λ i. e.value i ≡ f.value i)
+  pub map_values : IfSome (null_identity_of k) (λ i. e.map_value i ≡ f.map_value i)
   pub packet_lengths : e.packet_length ≡ f.packet_length
   pub serials : IfSome (frame_of k) (λ j. slice_get e.frames j ≡ slice_get f.frames j)
   pub live : IfSome (map_of k) (λ m. (n : ℕ) → HasLiveValue e.maps m n → HasLiveValue f.maps m n)
@@ -66,23 +66,23 @@ Allows-kept (MapValue m l g) e f v a h =
       live = a.live h.serial h.live;
     }
 Allows-kept (MapValueOrNull m i) e f v a h =
-    rw (← a.values) (null_kept e f m (e.value i) v a.live h)
+    rw (← a.map_values) (null_kept e f m (e.map_value i) v a.live h)
 
 -- the assignment with another number for a packet identity
 abbrev pub with_offset : Assigned → ℕ → ℤ → Assigned
 with_offset e i z = record e { offset = λ j. if nat_eq i j then z else e.offset j }
 
 -- the assignment with another serial, or null, for a null identity
-abbrev pub with_value : Assigned → ℕ → Option ℕ → Assigned
-with_value e i n = record e { value = λ j. if nat_eq i j then n else e.value j }
+abbrev pub with_map_value : Assigned → ℕ → Option ℕ → Assigned
+with_map_value e i n = record e { map_value = λ j. if nat_eq i j then n else e.map_value j }
 
 other_offset : (e : Assigned) (i : ℕ) (z : ℤ) (j : ℕ) → j ≢ i
     → e.offset j ≡ (with_offset e i z).offset j
 other_offset e i z j other = grind (arith, nat_tests)
 
-other_value : (e : Assigned) (i : ℕ) (n : Option ℕ) (j : ℕ) → j ≢ i
-    → e.value j ≡ (with_value e i n).value j
-other_value e i n j other = grind (arith, nat_tests)
+other_map_value : (e : Assigned) (i : ℕ) (n : Option ℕ) (j : ℕ) → j ≢ i
+    → e.map_value j ≡ (with_map_value e i n).map_value j
+other_map_value e i n j other = grind (arith, nat_tests)
 
 -- a packet identity that the kind does not name may be assigned anew
 pub Allows-fresh_offset : (k : Kind) (e : Assigned) (i : ℕ) (z : ℤ) (v : Value)
@@ -92,7 +92,7 @@ Allows-fresh_offset k e i z v fresh h =
     record {
       offsets = if_some (packet_identity_of k) (λ j. e.offset j ≡ (with_offset e i z).offset j)
           (λ j is. other_offset e i z j (λ same. fresh (cc)));
-      values = if_some (null_identity_of k) (λ j. e.value j ≡ e.value j) (λ j is. refl);
+      map_values = if_some (null_identity_of k) (λ j. e.map_value j ≡ e.map_value j) (λ j is. refl);
       packet_lengths = refl;
       serials =
           if_some (frame_of k) (λ j. slice_get e.frames j ≡ slice_get e.frames j) (λ j is. refl);
@@ -103,14 +103,15 @@ Allows-fresh_offset k e i z v fresh h =
     h
 
 -- and so may a null identity
-pub Allows-fresh_value : (k : Kind) (e : Assigned) (i : ℕ) (n : Option ℕ) (v : Value)
-    → null_identity_of k ≢ Some i → Allows e k v → Allows (with_value e i n) k v
-Allows-fresh_value k e i n v fresh h =
-    Allows-kept k e (with_value e i n) v
+pub Allows-fresh_map_value : (k : Kind) (e : Assigned) (i : ℕ) (n : Option ℕ) (v : Value)
+    → null_identity_of k ≢ Some i → Allows e k v → Allows (with_map_value e i n) k v
+Allows-fresh_map_value k e i n v fresh h =
+    Allows-kept k e (with_map_value e i n) v
     record {
       offsets = if_some (packet_identity_of k) (λ j. e.offset j ≡ e.offset j) (λ j is. refl);
-      values = if_some (null_identity_of k) (λ j. e.value j ≡ (with_value e i n).value j)
-          (λ j is. other_value e i n j (λ same. fresh (cc)));
+      map_values =
+          if_some (null_identity_of k) (λ j. e.map_value j ≡ (with_map_value e i n).map_value j)
+          (λ j is. other_map_value e i n j (λ same. fresh (cc)));
       packet_lengths = refl;
       serials =
           if_some (frame_of k) (λ j. slice_get e.frames j ≡ slice_get e.frames j) (λ j is. refl);

@@ -1,5 +1,5 @@
 pub mod Numbers
-pub mod Going
+pub mod GoingLaws
 pub mod ConstantsLaws
 pub mod KindCoverLaws
 pub mod KindLaws

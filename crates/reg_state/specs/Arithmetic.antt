@@ -113,10 +113,10 @@ pub record IsReordered (order : ByteOrder) (span : SwapWidth) (a c : Scalar) : T
       → bit_at y i ≡ 1 → bit_at (a.bits.mask % 2 ^ span_bits span) i ≡ 1
   pub sharp : IsSharp a a (λ x y. reordered order span x) c
 
--- c has the numbers that `count` bits of a's members make, from bit `from` on. If no member of a has
--- a bit above these, a's limits without the bits below them are kept; if one has, and these are the
--- bits of the low half, a's limits of low halves are. Two members of c differ only in bits that are
--- unknown in a
+-- c has the numbers that `count` bits of a's members make, from bit `from` on. If no member of a
+-- has a bit above these, a's limits without the bits below them are kept; if one has, and these are
+-- the bits of the low half, a's limits of low halves are. Two members of c differ only in bits that
+-- are unknown in a
 pub record IsPart (from count : ℕ) (a c : Scalar) : Type 0 where
   pub contains : (x : ℕ) → Has a x → Has c (x / 2 ^ from % 2 ^ count)
   pub fits : (x : ℕ) → Has c x → x < 2 ^ count

@@ -12,7 +12,7 @@ use Rattle.isa_model.specs.Code.Numbers.{low}
 use Rattle.isa_model.specs.declared.sizes.Width.{Width}
 use Rattle.isa_model.specs.declared.sizes.Width.TheVariants.{Low32, Full64}
 use Rattle.reg_state.specs.Limits.{range_limits, no_limits}
-use Rattle.reg_state.specs.Reach.{IsWithinLimits}
+use Rattle.reg_state.specs.Going.{IsWithinLimits}
 
 one_has : (x : ℕ) → x < 2 ^ 64 → IsMember x 0 x
 one_has x h = record { below = h; known = and_mask x 64 ∙ omega arith }
@@ -48,7 +48,7 @@ pub range_constant_only : (d : Range) (u x : ℕ) → R.IsConstant d u → R.Has
 range_constant_only d u x c h =
     let from = h.0.from in let to = h.0.to in omega (arith, c.0.0, c.0.1)
 
--- every number of the width is within no limits
+-- `no_limits` leave out no number of the width
 pub any_inside : (w : Width) (x : ℕ) → IsWithinLimits w no_limits (low w x)
 any_inside Full64 x =
     let e = signed_equation (x % 2 ^ 64) (omega arith) in

@@ -10,12 +10,12 @@ use Rattle.reg_state.specs.declared.kinds.Kind.{Kind}
 use Rattle.reg_state.specs.declared.kinds.Kind.TheVariants.{Unset, Number, Context, Stack, Packet, PacketEnd, Map, MapValue, MapValueOrNull}
 use Rattle.reg_state.specs.Scalars.{Has}
 
--- the values of an abstract state's identities, and what its kinds refer to
+-- the number or the serial of each identity of an abstract state, and what else its kinds refer to
 pub record Assigned : Type 0 where
   -- of each packet identity, the variable part of its pointers
   pub offset : ℕ → ℤ
-  -- of each null identity, the serial of a live value, or null
-  pub value : ℕ → Option ℕ
+  -- of each null identity, the serial of a live map value, or null
+  pub map_value : ℕ → Option ℕ
   pub packet_length : ℕ
   -- the serials of the call frames, the outermost first
   pub frames : List ℕ
@@ -37,7 +37,7 @@ pub record AllowsPacket (e : Assigned) (fixed : ℤ) (identity : ℕ) (least gre
   pub to : e.offset identity ≤ℤ greatest
   pub inside : IsProved e identity proved
 
--- a pointer to a live value, within the limits
+-- a pointer to a live map value, within the limits
 pub record AllowsMapValue (e : Assigned) (m : ℕ) (least greatest : ℤ) (v : Value) : Type 0 where
   pub serial : ℕ
   pub offset : ℤ
@@ -46,7 +46,7 @@ pub record AllowsMapValue (e : Assigned) (m : ℕ) (least greatest : ℤ) (v : V
   pub to : offset ≤ℤ greatest
   pub live : HasLiveValue e.maps m serial
 
--- the number 0, or the beginning of a live value
+-- the number 0, or a pointer to the beginning of a live map value
 abbrev pub AllowsOrNull : Assigned → ℕ → Option ℕ → Value → Type 0
 AllowsOrNull e m None v = v ≡ Num 0
 AllowsOrNull e m (Some n) v = (v ≡ Ptr (region.MapValue m n) (pos 0)) × HasLiveValue e.maps m n
@@ -63,4 +63,4 @@ Allows e (Packet fixed identity least greatest proved) v =
 Allows e PacketEnd v = v ≡ Ptr region.PacketEnd (pos 0)
 Allows e (Map m) v = v ≡ Ptr (region.Map m) (pos 0)
 Allows e (MapValue m least greatest) v = AllowsMapValue e m least greatest v
-Allows e (MapValueOrNull m identity) v = AllowsOrNull e m (e.value identity) v
+Allows e (MapValueOrNull m identity) v = AllowsOrNull e m (e.map_value identity) v

@@ -4,7 +4,7 @@ pub mod Scalars
 pub mod Kinds
 pub mod KindCover
 pub mod Limits
-pub mod Reach
+pub mod Going
 pub mod Arithmetic
 pub mod Shown
 pub mod Splices

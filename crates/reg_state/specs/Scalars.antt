@@ -7,7 +7,7 @@ use Rattle.ranges.specs.Ranges as R
 use Rattle.ranges.specs.Lows as L
 use Rattle.reg_state.specs.declared.scalars.Scalar.{Scalar}
 
--- x is a member of both parts
+-- x is a member of the bits and of the range
 abbrev pub Has : Scalar → ℕ → Type 0
 Has s x = B.Has s.bits x × R.Has s.range x
 
@@ -15,7 +15,7 @@ Has s x = B.Has s.bits x × R.Has s.range x
 abbrev pub Encloses : Scalar → Scalar → Type 0
 Encloses a b = ((x : ℕ) → B.Has b.bits x → B.Has a.bits x) × R.Encloses a.range b.range
 
--- both parts mean x and no other number
+-- the bits mean x and no other number, and so does the range
 abbrev pub IsConstant : Scalar → ℕ → Type 0
 IsConstant s x = B.IsConstant s.bits x × R.IsConstant s.range x
 

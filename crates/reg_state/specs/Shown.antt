@@ -8,7 +8,7 @@ use Rattle.isa_model.specs.Code.Numbers.{holds, low}
 use Rattle.known_bits.specs.Bits.{greatest_of}
 use Rattle.reg_state.specs.declared.scalars.Scalar.{Scalar}
 use Rattle.reg_state.specs.Limits.{Limits, range_limits}
-use Rattle.reg_state.specs.Reach.{MayGo, MayShare, ReadsWhole, exchanged}
+use Rattle.reg_state.specs.Going.{MayGo, MayShare, ReadsWhole, exchanged}
 use Rattle.reg_state.specs.Scalars.{Has, IsConstant, allows}
 
 -- the set has more than one member

@@ -134,13 +134,13 @@ impl Domain for Bits {
         }
     }
 
-    fn apart(self, width: Width, other: Bits) -> Option<(Bits, Bits)> {
+    fn unequal(self, width: Width, other: Bits) -> Option<(Bits, Bits)> {
         match width {
-            Width::Full64 => Bits::apart(self, other),
+            Width::Full64 => Bits::unequal(self, other),
             Width::Low32 => plain_pair(
                 self,
                 other,
-                Bits::apart(plain_halves(self), plain_halves(other)),
+                Bits::unequal(plain_halves(self), plain_halves(other)),
             ),
         }
     }

@@ -4,7 +4,7 @@ ghost use Rattle.std.specs.Prelude.{◌≡◌, ◌≢◌, ℕ, ◌^◌, ◌<◌,
 ghost use Rattle.isa_model.specs.Code.Numbers.{holds, low};
 ghost use Rattle.isa_model.specs.declared.sizes.Width.TheVariants.{Low32, Full64};
 ghost use Rattle.reg_state.specs.Relations.{ComparesTo, reads_signed, low_half, low_half_limit};
-ghost use Rattle.reg_state.specs.Reach.{MayGo, MayShare, ReadsWhole, exchanged};
+ghost use Rattle.reg_state.specs.Going.{MayGo, MayShare, ReadsWhole, exchanged};
 ghost use Rattle.reg_state.specs.Shown.{DomainShows, ShowsAt, ShowsWhole, AreReadWhole};
 
 use crate::domains::Domain;
@@ -152,8 +152,8 @@ fn related<D: Domain>(
 {
     match (comparison, taken) {
         (Comparison::Equal, true) | (Comparison::NotEqual, false) => a.equal(width, b),
-        (Comparison::Equal, false) => a.apart(width, b),
-        (Comparison::NotEqual, true) => a.apart(width, b),
+        (Comparison::Equal, false) => a.unequal(width, b),
+        (Comparison::NotEqual, true) => a.unequal(width, b),
         (Comparison::Less, true) | (Comparison::GreaterEqual, false) => a.below(width, b),
         (Comparison::LessEqual, true) | (Comparison::Greater, false) => a.at_most(width, b),
         (Comparison::Greater, true) | (Comparison::LessEqual, false) => {

@@ -7,7 +7,7 @@ ghost use Rattle.isa_model.specs.Code.Numbers.{alu, negated, sign_extended, reor
 ghost use Rattle.reg_state.specs.Limits.{Limits};
 ghost use Rattle.isa_model.specs.declared.sizes.Width.{Width};
 ghost use Rattle.isa_model.specs.declared.sizes.Width.TheVariants.{Full64};
-ghost use Rattle.reg_state.specs.Reach.{IsWithinLimits, IsLimit, IsAlone};
+ghost use Rattle.reg_state.specs.Going.{IsWithinLimits, IsLimit, IsAlone};
 
 use isa_model::{AluOp, ByteOrder, Extension, SwapWidth, Width};
 
@@ -152,7 +152,7 @@ pub trait Domain: Copy {
             → (limits width self).signed_least ≤ℤ signed width (low width y)) };
 
     /// What is left of both where a member of this differs from one of the other.
-    fn apart(self, width: Width, other: Self) -> Option<(Self, Self)>
+    fn unequal(self, width: Width, other: Self) -> Option<(Self, Self)>
         ensures common { (x y : ℕ) → has self x → has other y → low width x ≢ low width y
             → IsSomeAnd result (λ p. has p.0 x × has p.1 y) }
         ensures left { IfSome result (λ p. (x : ℕ) → has p.0 x → has self x) }

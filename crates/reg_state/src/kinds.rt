@@ -43,8 +43,8 @@ pub enum Kind {
         least: i32,
         greatest: i32,
     },
-    /// What a look-up answered: a pointer to a live value of the map, or 0. All values of the
-    /// identity are the same of the two.
+    /// The answer of a look-up: a pointer to a live value of the map, or 0. All values of the
+    /// identity are that pointer, or all are 0.
     MapValueOrNull {
         index: u8,
         identity: u32,
@@ -75,16 +75,16 @@ impl Kind {
         }
     }
 
-    /// Whether it allows what `other` does, where `identity` is what `other`'s state calls the
+    /// Whether it allows what `other` does, where `counterpart` is what `other`'s state calls the
     /// identity that it names.
-    pub fn covers(self, other: Kind, identity: u32) -> bool
-        ensures yes { IsTrue result → (packet null : ℕ → ℕ) → IsCalled packet null self identity
+    pub fn covers(self, other: Kind, counterpart: u32) -> bool
+        ensures yes { IsTrue result → (packet null : ℕ → ℕ) → IsCalled packet null self counterpart
             → KindCovers packet null self other }
-        ensures encloses { (packet null : ℕ → ℕ) → IsCalled packet null self identity
+        ensures encloses { (packet null : ℕ → ℕ) → IsCalled packet null self counterpart
             → KindEncloses packet null self other → IsTrue result }
-        ensures no { IsNoNumber self → (packet null : ℕ → ℕ) → IsCalled packet null self identity
+        ensures no { IsNoNumber self → (packet null : ℕ → ℕ) → IsCalled packet null self counterpart
             → KindCovers packet null self other → IsTrue result }
-        ensures equal { self ≡ other → IsCalled (λ i. i) (λ i. i) self identity → IsTrue result }
+        ensures equal { self ≡ other → IsCalled (λ i. i) (λ i. i) self counterpart → IsTrue result }
     {
         match self {
             Kind::Unset => true,
@@ -95,12 +95,12 @@ impl Kind {
             Kind::Context => matches!(other, Kind::Context),
             Kind::Stack { frame, offset } => match other {
                 Kind::Stack {
-                    frame: level,
-                    offset: place,
-                } => frame == level && offset == place,
+                    frame: other_frame,
+                    offset: other_offset,
+                } => frame == other_frame && offset == other_offset,
                 _ => false,
             },
-            Kind::Packet { .. } => self.covers_packet(other, identity),
+            Kind::Packet { .. } => self.covers_packet(other, counterpart),
             Kind::PacketEnd => matches!(other, Kind::PacketEnd),
             Kind::Map { index } => match other {
                 Kind::Map { index: map } => index == map,
@@ -113,29 +113,29 @@ impl Kind {
             } => match other {
                 Kind::MapValue {
                     index: map,
-                    least: low,
-                    greatest: high,
-                } => index == map && least <= low && high <= greatest,
+                    least: other_least,
+                    greatest: other_greatest,
+                } => index == map && least <= other_least && other_greatest <= greatest,
                 _ => false,
             },
             Kind::MapValueOrNull { index, .. } => match other {
                 Kind::MapValueOrNull {
                     index: map,
                     identity: name,
-                } => index == map && identity == name,
+                } => index == map && counterpart == name,
                 _ => false,
             },
         }
     }
 
     // The same, of a packet pointer.
-    fn covers_packet(self, other: Kind, identity: u32) -> bool
+    fn covers_packet(self, other: Kind, counterpart: u32) -> bool
         requires { IsSome (packet_identity_of self) }
-        ensures yes { IsTrue result → (packet null : ℕ → ℕ) → IsCalled packet null self identity
+        ensures yes { IsTrue result → (packet null : ℕ → ℕ) → IsCalled packet null self counterpart
             → KindCovers packet null self other }
-        ensures no { (packet null : ℕ → ℕ) → IsCalled packet null self identity
+        ensures no { (packet null : ℕ → ℕ) → IsCalled packet null self counterpart
             → KindCovers packet null self other → IsTrue result }
-        ensures equal { self ≡ other → IsCalled (λ i. i) (λ i. i) self identity → IsTrue result }
+        ensures equal { self ≡ other → IsCalled (λ i. i) (λ i. i) self counterpart → IsTrue result }
     {
         match self {
             Kind::Packet {
@@ -146,16 +146,16 @@ impl Kind {
                 ..
             } => match other {
                 Kind::Packet {
-                    fixed: offset,
+                    fixed: other_fixed,
                     identity: name,
-                    least: low,
-                    greatest: high,
-                    proved: shown,
+                    least: other_least,
+                    greatest: other_greatest,
+                    proved: other_proved,
                 } => {
-                    if fixed != offset || identity != name || shown < proved {
+                    if fixed != other_fixed || counterpart != name || other_proved < proved {
                         return false;
                     }
-                    if low < least || greatest < high {
+                    if other_least < least || greatest < other_greatest {
                         return false;
                     }
                     true

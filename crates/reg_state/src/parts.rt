@@ -21,7 +21,7 @@ impl Scalar {
         Scalar::limited(self.bits.part(from, count), limits.least, limits.greatest)
     }
 
-    // The numbers with known bits between two limits: each part is narrowed by the other.
+    // The numbers with known bits between two limits: bits and limits narrow each other.
     fn limited(bits: Bits, least: u64, greatest: u64) -> Scalar
         requires { least ≤ greatest }
         ensures contains { (x : ℕ) → B.Has bits x → least ≤ x → x ≤ greatest → Has result x }

@@ -110,10 +110,10 @@ impl Domain for Range {
         }
     }
 
-    fn apart(self, width: Width, other: Range) -> Option<(Range, Range)> {
+    fn unequal(self, width: Width, other: Range) -> Option<(Range, Range)> {
         match width {
-            Width::Full64 => Range::apart(self, other),
-            Width::Low32 => Range::low_apart(self, other),
+            Width::Full64 => Range::unequal(self, other),
+            Width::Low32 => Range::low_unequal(self, other),
         }
     }
 

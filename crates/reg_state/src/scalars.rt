@@ -10,7 +10,7 @@ use isa_model::{AluOp, ByteOrder, Extension, SwapWidth, Width};
 use known_bits::Bits;
 use ranges::{Low, Range, Wide};
 
-/// The numbers that are members of both parts.
+/// The numbers that are members both of the known bits and of the range.
 #[derive(Clone, Copy, PartialEq, Eq, Debug)]
 pub struct Scalar {
     pub bits: Bits,
@@ -21,7 +21,7 @@ impl Scalar {
     ghost use Rattle.known_bits.specs.Bits as B;
     ghost use Rattle.reg_state.specs.Scalars.{Has, IsConstant};
 
-    // Each part is narrowed by the other; if one number is left, it is represented as a constant.
+    // Bits and limits narrow each other; if one number is left, it is represented as a constant.
     fn tightened(self) -> Option<Scalar>
         ensures common { (x : ℕ) → Has self x → IsSomeAnd result (λ s. Has s x) }
         ensures narrower { IfSome result (λ s. (x : ℕ) → Has s x → Has self x) }
@@ -33,7 +33,7 @@ impl Scalar {
         }
     }
 
-    // What the limits show of the bits, and then the bits of the limits.
+    // The bits are narrowed by the limits, and then the limits by the bits.
     fn shared(self) -> Option<Scalar>
         ensures common { (x : ℕ) → Has self x → IsSomeAnd result (λ s. Has s x) }
         ensures narrower { IfSome result (λ s. (x : ℕ) → Has s x → Has self x) }
@@ -53,7 +53,7 @@ impl Scalar {
         }
     }
 
-    // The same; a set without members is returned as it is.
+    // The same; a set without members is returned unchanged.
     fn settled(self) -> Scalar
         ensures contains { (x : ℕ) → Has self x → Has result x }
         ensures narrower { (x : ℕ) → Has result x → Has self x }
@@ -85,7 +85,7 @@ impl Scalar {
         self.bits.covers(Bits::constant(number)) && self.range.covers(Range::constant(number))
     }
 
-    // Two sets from their parts.
+    // Two sets, each from its bits and its range.
     fn joined(bits: (Bits, Bits), ranges: (Range, Range)) -> Option<(Scalar, Scalar)>
         ensures common { (x y : ℕ) → B.Has bits.0 x → R.Has ranges.0 x → B.Has bits.1 y
             → R.Has ranges.1 y
@@ -335,9 +335,9 @@ impl Domain for Scalar {
         Scalar::joined(bits, ranges)
     }
 
-    fn apart(self, width: Width, other: Scalar) -> Option<(Scalar, Scalar)> {
-        let bits = Domain::apart(self.bits, width, other.bits)?;
-        let ranges = Domain::apart(self.range, width, other.range)?;
+    fn unequal(self, width: Width, other: Scalar) -> Option<(Scalar, Scalar)> {
+        let bits = Domain::unequal(self.bits, width, other.bits)?;
+        let ranges = Domain::unequal(self.range, width, other.range)?;
         Scalar::joined(bits, ranges)
     }
 

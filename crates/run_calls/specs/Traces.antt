@@ -4,7 +4,7 @@ use Rattle.isa_model.specs.Code.Instructions.{Program}
 use Rattle.isa_model.specs.declared.ends.End.{End}
 use Rattle.isa_model.specs.declared.ends.End.TheVariants.{Exit, Trap, Limit}
 use Rattle.isa_model.specs.declared.ends.TrapReason.{TrapReason}
-use Rattle.isa_model.specs.declared.ends.TrapReason.TheVariants.{NoCode, UnsetRead, ReadOnly, BadPointer, OutOfRange, BadAccess, BadCompare, BadHelper, TooManyFrames, NoResult, BadAction}
+use Rattle.isa_model.specs.declared.ends.TrapReason.TheVariants.{NoCode, UnsetRead, ReadOnly, BadPointer, OutOfRange, BadAccess, BadCompare, BadHelper, TooManyCallFrames, NoResult, BadAction}
 use Rattle.isa_model.specs.declared.frames.FrameHead.{FrameHead}
 use Rattle.isa_model.specs.Running.Runs.{turn}
 use Rattle.isa_model.specs.Reporting.Reports.{starting_contents}
@@ -20,7 +20,7 @@ trap_number OutOfRange = 5
 trap_number BadAccess = 6
 trap_number BadCompare = 7
 trap_number BadHelper = 8
-trap_number TooManyFrames = 9
+trap_number TooManyCallFrames = 9
 trap_number NoResult = 10
 trap_number BadAction = 11
 
@@ -31,8 +31,8 @@ end_of (Trap reason steps) limit =
     record { r0 = 0; steps = steps; kind = 1; reason = trap_number reason }
 end_of Limit limit = record { r0 = 0; steps = limit; kind = 2; reason = 0 }
 
--- the bytes are an image, and the run of its program within the limit, on maps as they start, ends
--- in this way and leaves this packet
+-- the bytes are an image, and the run of its program within the limit, on starting maps, has this
+-- end and leaves this packet
 pub record ReturnsTrace (bytes : List ℕ) (head : FrameHead) (packet : List ℕ) (limit : ℕ)
     (end : TracedEnd) (after : List ℕ) : Type 0 where
   pub program : Program

@@ -34,7 +34,7 @@ pub struct Ended {
     pub steps: u32,
 }
 
-/// The machine of an accepted program, on maps as they start. None: memory ran out.
+/// The machine of an accepted program, on starting maps. None: memory ran out.
 pub fn machine_of(alloc: Global, verified: Verified) -> Option<Machine>
     ensures made { IfSome result (λ machine. machine ≡ record {
       program = verified.program;
@@ -51,7 +51,7 @@ pub fn machine_of(alloc: Global, verified: Verified) -> Option<Machine>
     }
 }
 
-/// Verifies an image, and runs its program on a packet, on maps as they start. `verify_image` says
+/// Verifies an image, and runs its program on a packet, on starting maps. `verify_image` says
 /// why an image is refused.
 pub fn run_once(alloc: Global, image: &[u8], head: &Head, packet: &mut [u8], out: &mut Ended) -> u32
     ensures ran { result ≡ 0 → RunsProgram image.now (record {

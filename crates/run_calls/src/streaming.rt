@@ -40,7 +40,8 @@ fn number_of(fault: Fault) -> u32
     }
 }
 
-// The result of a run with this tally, and with a report and frames out of these sizes.
+// The result of a run over a stream with this tally, and with a report and frames out of these
+// sizes.
 fn streamed_of(tally: Tally, report: usize, sent: usize) -> Streamed
     ensures { result ≡ streamed_of tally report sent }
 {
@@ -110,7 +111,7 @@ pub fn run_stream(
         return MEMORY;
     };
     let reported = fill(report, written.report.as_slice());
-    let forwarded = fill(sent, written.sent.as_slice());
-    *out = streamed_of(written.tally, reported, forwarded);
+    let sent_out = fill(sent, written.sent.as_slice());
+    *out = streamed_of(written.tally, reported, sent_out);
     OK
 }

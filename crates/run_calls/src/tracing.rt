@@ -39,7 +39,7 @@ fn number_of(reason: TrapReason) -> u32
         TrapReason::BadAccess => 6,
         TrapReason::BadCompare => 7,
         TrapReason::BadHelper => 8,
-        TrapReason::TooManyFrames => 9,
+        TrapReason::TooManyCallFrames => 9,
         TrapReason::NoResult => 10,
         TrapReason::BadAction => 11,
     }
@@ -70,7 +70,7 @@ fn end_of(end: End, limit: u32) -> TracedEnd
     }
 }
 
-/// Runs the program of an image on a packet, on maps as they start, at most `limit` steps (1 to
+/// Runs the program of an image on a packet, on starting maps, at most `limit` steps (1 to
 /// 1,000,000), verified or not. After a trap or the limit the packet is as the last step left it.
 pub fn trace_once(
     alloc: Global,

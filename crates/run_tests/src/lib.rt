@@ -1,4 +1,5 @@
-//! Tests of map stores, of a clock, and of streams that fail, by calls.
+//! Tests by calls: of map stores, of a clock, of streams that fail, and of the calls from C and
+//! Rust.
 //!
 //! They have a crate of their own, since a crate with tests is proved twice.
 #![tactic(auto)]

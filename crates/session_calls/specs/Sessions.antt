@@ -1,4 +1,4 @@
--- What the calls that open and run a session return.
+-- What the calls that open a session and run its program return.
 use Rattle.std.specs.Prelude.{◌≡◌, ℕ, List, Option, Some}
 use Rattle.isa_model.specs.declared.frames.FrameHead.{FrameHead}
 use Rattle.isa_model.specs.Machine.States.{KeyValues}
@@ -7,7 +7,7 @@ use Rattle.machine.specs.declared.machines.Exit.{Exit}
 use Rattle.machine.specs.Running.{Running, ReturnsOutcome}
 use Rattle.verdict_calls.specs.Verdicts.{IsAcceptedImage}
 
--- the bytes are an accepted image, and the session holds its program, with maps as they start
+-- the bytes are an accepted image, and the session holds its program, with starting maps
 pub record OpensSession (bytes : List ℕ) (held : Option Running) : Type 0 where
   pub bound : ℕ
   pub accepts : IsAcceptedImage bytes bound

@@ -1,4 +1,4 @@
-//! Calls that open, run and close sessions.
+//! Calls that open and close sessions, and run their programs.
 
 ghost use Rattle.std.specs.Prelude.{◌≡◌, ◌≢◌, ◌<◌, ◌↔◌, ◌⊎◌, length, is_some, None, Some};
 ghost use Rattle.isa_model.specs.{max_packet};
@@ -18,7 +18,7 @@ use table_calls::rechecks::table_verified;
 use verdict_calls::judging::verified_of;
 use verdict_calls::statuses::{MEMORY, NotAccepted, OK, REFUSED, WRONG};
 
-// Opens a session on an accepted program, with maps as they start.
+// Opens a session on an accepted program, with starting maps.
 fn open(alloc: Global, verified: Verified, session: &mut Session) -> u32
     ensures opened { result ≡ 0 → session.new.held ≡ Some (record {
       program = verified.program;
@@ -54,8 +54,8 @@ fn is_open(alloc: Global, session: &mut Session) -> bool
     }
 }
 
-/// Verifies an image, and opens a session on its program, with maps as they start. The session is
-/// closed before: all zero bytes, or what `close_session` left.
+/// Verifies an image, and opens a session on its program, with starting maps. Before the call the
+/// session is closed: all zero bytes, or what `close_session` left.
 pub fn open_image(alloc: Global, image: &[u8], session: &mut Session) -> u32
     ensures opened { result ≡ 0 → OpensSession image.now session.new.held }
     ensures wrong { (result ≡ 1) ↔ (session.old.held ≢ None) }
@@ -133,7 +133,7 @@ pub fn run_session(
     OK
 }
 
-/// Closes a session, and frees its memory. A closed one stays as it is.
+/// Closes a session, and frees its memory. A closed one stays closed.
 pub fn close_session(alloc: Global, session: &mut Session)
     ensures { session.new.held ≡ None }
 {

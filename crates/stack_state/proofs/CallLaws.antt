@@ -3,13 +3,13 @@ use Rattle.std.specs.Prelude.{◌≡◌, ℕ, zero, suc, ◌+◌, ◌-◌, ◌<�
 use Rattle.std.proofs.Common.{sym, ap, ◌∙◌, subst, inl, inr, arith}
 use Rattle.std.proofs.lemmas.Bool.{cases_lt}
 use Rattle.std.proofs.lemmas.List.{length-append, length-replicate, map-append, get_or_append_left, get_or-append_right}
-use Rattle.isa_model.specs.Code.Limits.{frame_size}
+use Rattle.isa_model.specs.Code.Limits.{stack_size}
 use Rattle.isa_model.specs.declared.values.Value.{Value}
 use Rattle.isa_model.specs.declared.values.Cell.{Cell}
 use Rattle.isa_model.specs.declared.values.Cell.TheVariants.{Unwritten}
 use Rattle.isa_model.specs.declared.values.CallFrame.{CallFrame}
 use Rattle.isa_model.specs.Code.Instructions.{Program}
-use Rattle.isa_model.specs.Machine.States.{value_at, new_frame, frame_at}
+use Rattle.isa_model.specs.Machine.States.{value_at, new_call_frame, call_frame_at}
 use Rattle.isa_model.specs.Machine.States as Machine
 use Rattle.isa_model.specs.Machine.Calls.{saved_registers, regs_within, enter, innermost}
 use Rattle.isa_model.specs.Machine.MachineStates.{IsState}
@@ -58,7 +58,7 @@ Allows-deeper e serial (MapValue m l g) v h =
       to = h.to;
       live = h.live;
     }
-Allows-deeper e serial (MapValueOrNull m i) v h = null_deeper e serial m (e.value i) v h
+Allows-deeper e serial (MapValueOrNull m i) v h = null_deeper e serial m (e.map_value i) v h
 
 SlotMeans-deeper : (e : Assigned) (serial : ℕ) (t : StackSlot) (cs : List Cell) → SlotMeans e t cs
     → SlotMeans (with_new_frame e serial) t cs
@@ -74,17 +74,18 @@ StackMeans-deeper e serial slots cells m =
 
 -- ---- one frame more at the end
 
-last_frame : (fs : List CallFrame) (f : CallFrame) → frame_at (fs ++ f ∷ []) (length fs) ≡ f
+last_frame : (fs : List CallFrame) (f : CallFrame) → call_frame_at (fs ++ f ∷ []) (length fs) ≡ f
 last_frame fs f =
     let here : length fs - length fs ≡ 0 = omega arith in
-    get_or-append_right fs (f ∷ []) (length fs) (length fs) (new_frame 0 0 []) refl (omega arith)
-    ∙ ap (frame_at (f ∷ [])) here
+    get_or-append_right fs (f ∷ []) (length fs) (length fs) (new_call_frame 0 0 []) refl
+    (omega arith)
+    ∙ ap (call_frame_at (f ∷ [])) here
 
 innermost-push : (fs : List CallFrame) (f : CallFrame) → innermost (fs ++ f ∷ []) ≡ f
 innermost-push fs f =
     let long : length (fs ++ f ∷ []) ≡ length fs + 1 = length-append fs (f ∷ []) in
     let last : length (fs ++ f ∷ []) - 1 ≡ length fs = omega arith in
-    ap (frame_at (fs ++ f ∷ [])) last ∙ last_frame fs f
+    ap (call_frame_at (fs ++ f ∷ [])) last ∙ last_frame fs f
 
 -- ---- registers
 
@@ -163,18 +164,18 @@ returns-entered a target =
 stack_entered : (p : Program) (e : Assigned) (a : State) (s : Machine.State) (target j : ℕ)
     → j < depth (entered a target) → MeansBy p e a s
     → StackMeans (with_new_frame e s.next_serial) (stack_slots_of (entered a target) j)
-    (frame_at (enter s target).frames j).cells
-unfolding new_frame unset_slots
+    (call_frame_at (enter s target).frames j).cells
+unfolding new_call_frame unset_slots
 stack_entered p e a s target j below m =
     let n : ℕ = length a.callers.items in
     let more : Assigned = with_new_frame e s.next_serial in
-    let new : CallFrame = new_frame s.next_serial (s.slot + 1) (saved_registers s.regs) in
+    let new : CallFrame = new_call_frame s.next_serial (s.slot + 1) (saved_registers s.regs) in
     let count = depth_is_length p e a s m in
     let deep = depth-entered a target in
     elim (cases_lt j (depth a)) [
       | inl inside ↦
-          let old : frame_at (s.frames ++ new ∷ []) j ≡ frame_at s.frames j =
-          get_or_append_left s.frames (new ∷ []) (new_frame 0 0 []) j (omega arith) in
+          let old : call_frame_at (s.frames ++ new ∷ []) j ≡ call_frame_at s.frames j =
+          get_or_append_left s.frames (new ∷ []) (new_call_frame 0 0 []) j (omega arith) in
           let same : stack_slots_of (entered a target) j
           ≡ stack_slots_of a j = elim (cases_lt j n) [
             | inl outer ↦
@@ -186,50 +187,50 @@ stack_entered p e a s target j below m =
                 ∙ ap (stack_slots_of a) (sym here)
           ] in
           subst (λ f. StackMeans more (stack_slots_of (entered a target) j) f.cells) (sym old)
-          (subst (λ slots. StackMeans more slots (frame_at s.frames j).cells) (sym same)
-          (StackMeans-deeper e s.next_serial (stack_slots_of a j) (frame_at s.frames j).cells
+          (subst (λ slots. StackMeans more slots (call_frame_at s.frames j).cells) (sym same)
+          (StackMeans-deeper e s.next_serial (stack_slots_of a j) (call_frame_at s.frames j).cells
           (m.stacks j inside)))
       | inr past ↦
           let here : j ≡ length s.frames = omega arith in
           let callee : j ≡ depth a = omega arith in
-          let cells : frame_at (s.frames ++ new ∷ []) j ≡ new =
-          ap (frame_at (s.frames ++ new ∷ [])) here ∙ last_frame s.frames new in
+          let frame : call_frame_at (s.frames ++ new ∷ []) j ≡ new =
+          ap (call_frame_at (s.frames ++ new ∷ [])) here ∙ last_frame s.frames new in
           let slots : stack_slots_of (entered a target) j ≡ unset_slots =
           ap (stack_slots_of (entered a target)) callee
           ∙ ap (λ f. f.stack.slots) (abstract_frame_at-entered_callee a target) in
-          subst (λ f. StackMeans more (stack_slots_of (entered a target) j) f.cells) (sym cells)
+          subst (λ f. StackMeans more (stack_slots_of (entered a target) j) f.cells) (sym frame)
           (subst (λ l. StackMeans more l new.cells) (sym slots)
-          (StackMeans-new more new.cells (length-replicate frame_size Unwritten)))
+          (StackMeans-new more new.cells (length-replicate stack_size Unwritten)))
     ]
 
 kept_entered : (p : Program) (e : Assigned) (a : State) (s : Machine.State) (target j k : ℕ)
     → suc j < depth (entered a target) → k < 4 → MeansBy p e a s
     → Allows (with_new_frame e s.next_serial) (kind_at (kinds_of (entered a target) j) (6 + k))
-    (value_at (frame_at (enter s target).frames (suc j)).saved k)
-unfolding new_frame
+    (value_at (call_frame_at (enter s target).frames (suc j)).saved k)
+unfolding new_call_frame
 kept_entered p e a s target j k below within m =
     let n : ℕ = length a.callers.items in
     let more : Assigned = with_new_frame e s.next_serial in
-    let new : CallFrame = new_frame s.next_serial (s.slot + 1) (saved_registers s.regs) in
+    let new : CallFrame = new_call_frame s.next_serial (s.slot + 1) (saved_registers s.regs) in
     let count = depth_is_length p e a s m in
     let deep = depth-entered a target in
     elim (cases_lt j n) [
       | inl outer ↦
-          let old : frame_at (s.frames ++ new ∷ []) (suc j) ≡ frame_at s.frames (suc j) =
-          get_or_append_left s.frames (new ∷ []) (new_frame 0 0 []) (suc j) (omega arith) in
+          let old : call_frame_at (s.frames ++ new ∷ []) (suc j) ≡ call_frame_at s.frames (suc j) =
+          get_or_append_left s.frames (new ∷ []) (new_call_frame 0 0 []) (suc j) (omega arith) in
           subst (λ f. Allows more (kind_at (kinds_of (entered a target) j) (6 + k))
           (value_at f.saved k)) (sym old)
           (subst (λ f.
           Allows more (kind_at f.registers (6 + k))
-          (value_at (frame_at s.frames (suc j)).saved k))
+          (value_at (call_frame_at s.frames (suc j)).saved k))
           (sym (abstract_frame_at-entered_outer a target j (omega arith)))
           (Allows-deeper e s.next_serial (kind_at (kinds_of a j) (6 + k)) _
           (m.kept j k (omega arith) within)))
       | inr last ↦
           let here : j ≡ n = omega arith in
           let top : suc j ≡ length s.frames = omega arith in
-          let frame : frame_at (s.frames ++ new ∷ []) (suc j) ≡ new =
-          ap (frame_at (s.frames ++ new ∷ [])) top ∙ last_frame s.frames new in
+          let frame : call_frame_at (s.frames ++ new ∷ []) (suc j) ≡ new =
+          ap (call_frame_at (s.frames ++ new ∷ [])) top ∙ last_frame s.frames new in
           subst (λ f. Allows more (kind_at (kinds_of (entered a target) j) (6 + k))
           (value_at f.saved k)) (sym frame)
           (subst (λ f.
@@ -245,9 +246,9 @@ kept_entered p e a s target j k below within m =
 pub MeansBy-enter : (p : Program) (e : Assigned) (a : State) (s : Machine.State) (target : ℕ)
     → IsState p (enter s target) → MeansBy p e a s
     → MeansBy p (with_new_frame e s.next_serial) (entered a target) (enter s target)
-unfolding new_frame
+unfolding new_call_frame
 MeansBy-enter p e a s target is m =
-    let new : CallFrame = new_frame s.next_serial (s.slot + 1) (saved_registers s.regs) in
+    let new : CallFrame = new_call_frame s.next_serial (s.slot + 1) (saved_registers s.regs) in
     record {
       is_state = is;
       assigned = record {

@@ -22,7 +22,7 @@ use Rattle.isa_model.specs.Code.Sizes.{size_bytes}
 use Rattle.isa_model.specs.Code.Numbers.{bytes_of, number_from}
 use Rattle.isa_model.specs.Machine.Memory.{is_unwritten, is_byte, number_of, number_in, pieces, value_in, same_region, same_int}
 use Rattle.isa_model.proofs.ByteCells.{map-byte_in-Byte, value_in-Byte, take-drop-Byte}
-use Rattle.isa_model.specs.Code.LittleEndian.{EachByte}
+use Rattle.isa_model.specs.Code.EachByte.{EachByte}
 use Rattle.reg_state.specs.declared.kinds.Kind.{Kind}
 use Rattle.reg_state.specs.declared.kinds.Kind.TheVariants.{Unset, Number, Context, Stack, Packet, PacketEnd, Map, MapValue, MapValueOrNull}
 use Rattle.reg_state.specs.Kinds.{Assigned, Allows, AllowsOrNull}
@@ -247,7 +247,7 @@ value_stored e (Packet f i l g p) v set h = pointer_stored v _ _ h.points
 value_stored e PacketEnd v set h = pointer_stored v _ _ h
 value_stored e (Map m) v set h = pointer_stored v _ _ h
 value_stored e (MapValue m l g) v set h = pointer_stored v _ _ h.points
-value_stored e (MapValueOrNull m i) v set h = null_stored e m (e.value i) v h
+value_stored e (MapValueOrNull m i) v set h = null_stored e m (e.map_value i) v h
 
 -- a value is stored in eight cells
 pub length-stored_cells : (v : Value) → v ≢ value.Unset → length (stored_cells v) ≡ 8

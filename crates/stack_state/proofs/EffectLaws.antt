@@ -16,7 +16,7 @@ use Rattle.isa_model.specs.declared.values.CallFrame.{CallFrame}
 use Rattle.isa_model.specs.declared.ends.TrapReason.{TrapReason}
 use Rattle.isa_model.specs.Code.Sizes.{size_bytes}
 use Rattle.isa_model.specs.Code.Instructions.{Program}
-use Rattle.isa_model.specs.Machine.States.{value_at, frame_pointer, new_frame, frame_at}
+use Rattle.isa_model.specs.Machine.States.{value_at, frame_pointer, new_call_frame, call_frame_at}
 use Rattle.isa_model.specs.Machine.States as Machine
 use Rattle.isa_model.specs.Machine.Memory.{load, load_number, store}
 use Rattle.isa_model.specs.Machine.Calls.{innermost}
@@ -79,7 +79,7 @@ abstract_frame_at-with_frame_other a j i f inside other =
     ap (λ fs. slice_index_or fs i no_frame) (frames_of-with_frame a j f inside)
     ∙ get_or-set_other (frames_of a) j i f no_frame other
 
--- the registers as they are stay
+-- the innermost frame's registers stay
 registers-with_frame_slots : (a : State) (j : ℕ) (slots : List StackSlot)
     → registers_of (with_frame_slots a j slots) ≡ registers_of a
 registers-with_frame_slots a j slots =
@@ -111,41 +111,41 @@ kept_in_frame view a j i f inside same =
 
 -- what a call frame has beside its cells stays
 kept_in_call : {X : Type 0} (view : CallFrame → X) (fs : List CallFrame) (j i : ℕ) (f : CallFrame)
-    → j < length fs → view f ≡ view (frame_at fs j)
-    → view (frame_at (slice_set fs j f) i) ≡ view (frame_at fs i)
+    → j < length fs → view f ≡ view (call_frame_at fs j)
+    → view (call_frame_at (slice_set fs j f) i) ≡ view (call_frame_at fs i)
 kept_in_call view fs j i f inside same =
     elim (cases_eq i j) [
       | inl here ↦
-          ap (λ k. view (frame_at (slice_set fs j f) k)) here
-          ∙ ap view (get_or-set_same fs j f (new_frame 0 0 []) inside) ∙ same
-          ∙ ap (λ k. view (frame_at fs k)) (sym here)
-      | inr other ↦ ap view (get_or-set_other fs j i f (new_frame 0 0 []) other)
+          ap (λ k. view (call_frame_at (slice_set fs j f) k)) here
+          ∙ ap view (get_or-set_same fs j f (new_call_frame 0 0 []) inside) ∙ same
+          ∙ ap (λ k. view (call_frame_at fs k)) (sym here)
+      | inr other ↦ ap view (get_or-set_other fs j i f (new_call_frame 0 0 []) other)
     ]
 
 -- ---- a write into the jth frame
 
 stack_written : (e : Assigned) (a : State) (s : Machine.State) (j i : ℕ) (slots : List StackSlot)
     (cells : List Cell) → j < depth a → j < length s.frames
-    → StackMeans e slots cells → StackMeans e (stack_slots_of a i) (frame_at s.frames i).cells
+    → StackMeans e slots cells → StackMeans e (stack_slots_of a i) (call_frame_at s.frames i).cells
     → StackMeans e (stack_slots_of (with_frame_slots a j slots) i)
-    (frame_at (with_cells s j cells).frames i).cells
+    (call_frame_at (with_cells s j cells).frames i).cells
 stack_written e a s j i slots cells inside live new old =
     let f : AbstractFrame = with_slots (abstract_frame_at a j) slots in
-    let g : CallFrame = record (frame_at s.frames j) { cells = cells } in
+    let g : CallFrame = record (call_frame_at s.frames j) { cells = cells } in
     elim (cases_eq i j) [
       | inl here ↦
           subst (λ k.
           StackMeans e (stack_slots_of (with_frame_slots a j slots) k)
-          (frame_at (slice_set s.frames j g) k).cells) (sym here)
-          (subst (λ h. StackMeans e h.stack.slots (frame_at (slice_set s.frames j g) j).cells)
+          (call_frame_at (slice_set s.frames j g) k).cells) (sym here)
+          (subst (λ h. StackMeans e h.stack.slots (call_frame_at (slice_set s.frames j g) j).cells)
           (sym (abstract_frame_at-with_frame_same a j f inside))
           (subst (λ h. StackMeans e slots h.cells)
-          (sym (get_or-set_same s.frames j g (new_frame 0 0 []) live)) new))
+          (sym (get_or-set_same s.frames j g (new_call_frame 0 0 []) live)) new))
       | inr other ↦
-          subst (λ h. StackMeans e h.stack.slots (frame_at (slice_set s.frames j g) i).cells)
+          subst (λ h. StackMeans e h.stack.slots (call_frame_at (slice_set s.frames j g) i).cells)
           (sym (abstract_frame_at-with_frame_other a j i f inside other))
           (subst (λ h. StackMeans e (stack_slots_of a i) h.cells)
-          (sym (get_or-set_other s.frames j i g (new_frame 0 0 []) other)) old)
+          (sym (get_or-set_other s.frames j i g (new_call_frame 0 0 []) other)) old)
     ]
 
 -- the jth frame has other cells, and slots that mean them
@@ -155,14 +155,14 @@ pub MeansBy-cells : (p : Program) (e : Assigned) (a : State) (s : Machine.State)
     → MeansBy p e (with_frame_slots a j slots) (with_cells s j cells)
 MeansBy-cells p e a s j slots cells inside is stack m =
     let f : AbstractFrame = with_slots (abstract_frame_at a j) slots in
-    let g : CallFrame = record (frame_at s.frames j) { cells = cells } in
-    let none : CallFrame = new_frame 0 0 [] in
+    let g : CallFrame = record (call_frame_at s.frames j) { cells = cells } in
+    let none : CallFrame = new_call_frame 0 0 [] in
     let count = depth_is_length p e a s m in
     let live : j < length s.frames = omega arith in
     let long : length (slice_set s.frames j g) ≡ length s.frames = length-set s.frames j g in
     let deep = depth-with_frame a j f inside in
     let last : (innermost (slice_set s.frames j g)).serial ≡ (innermost s.frames).serial =
-    ap (λ n. (frame_at (slice_set s.frames j g) (n - 1)).serial) long
+    ap (λ n. (call_frame_at (slice_set s.frames j g) (n - 1)).serial) long
     ∙ kept_in_call (λ h. h.serial) s.frames j (length s.frames - 1) g live refl in
     record {
       is_state = is;
@@ -183,7 +183,7 @@ MeansBy-cells p e a s j slots cells inside is stack m =
       kept = λ i k below within.
           subst (λ ks.
           Allows e (kind_at ks (6 + k))
-          (value_at (frame_at (slice_set s.frames j g) (suc i)).saved k))
+          (value_at (call_frame_at (slice_set s.frames j g) (suc i)).saved k))
           (sym (kept_in_frame (λ h. h.registers) a j i f inside refl))
           (subst (λ vs. Allows e (kind_at (kinds_of a i) (6 + k)) (value_at vs k))
           (sym (kept_in_call (λ h. h.saved) s.frames j (suc i) g live refl))
@@ -225,11 +225,11 @@ MeansBy-spills p e a s new serial j k z by kind v inside here set allowed spills
 -- ---- a read of the jth frame
 
 cells_fit : (p : Program) (e : Assigned) (a : State) (s : Machine.State) (j : ℕ) → j < depth a
-    → MeansBy p e a s → All (IsCell (length p.maps) s.next_serial) (frame_at s.frames j).cells
+    → MeansBy p e a s → All (IsCell (length p.maps) s.next_serial) (call_frame_at s.frames j).cells
 cells_fit p e a s j inside m =
     let count = depth_is_length p e a s m in
-    let fits : IsCallFrame p s.next_serial (frame_at s.frames j) =
-    m.is_state.frames j (new_frame 0 0 []) (omega arith) in
+    let fits : IsCallFrame p s.next_serial (call_frame_at s.frames j) =
+    m.is_state.frames j (new_call_frame 0 0 []) (omega arith) in
     fits.cells
 
 -- bytes are loaded: their number is one of those that `load` returns

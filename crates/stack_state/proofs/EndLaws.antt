@@ -39,7 +39,7 @@ Allows-forgotten : (e : Assigned) (n : ℕ) (k : Kind) (v : Value) → Allows e 
 Allows-forgotten e n (Stack f z) v h = stack_forgotten e f z v (f == n) h
 Allows-forgotten e n k v h = h
 
--- ---- what is left does not depend on the frame
+-- ---- what remains does not depend on the frame
 
 SlotMeans-without_frame : (e : Assigned) (n : ℕ) (t : StackSlot) (cs : List Cell)
     → length e.frames ≡ suc n → SlotMeans e (with_spilled (without_frame n) t) cs
@@ -89,7 +89,7 @@ MeansBy-ended p e a s called is m =
     (sym (abstract_frame_at-map (with_kinds (without_frame n)) a j (omega arith)))
     (FrameKeeps-without_frame e n (abstract_frame_at a j) top)) forgotten
 
--- the exits of the frames that are left lead where they did, and the run continues where the exit
+-- the exits of the frames that remain lead where they did, and the run continues where the exit
 -- of the frame that ends leads
 pub returns-ended : (a : State) → 1 < depth a
     → map (λ f. f.return_slot) (frames_of a)

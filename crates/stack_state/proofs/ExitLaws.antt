@@ -11,7 +11,7 @@ use Rattle.std.proofs.Math.ListN.{get_or-map as get_or-map_default}
 use Rattle.isa_model.specs.declared.values.Value.{Value}
 use Rattle.isa_model.specs.declared.values.CallFrame.{CallFrame}
 use Rattle.isa_model.specs.Code.Instructions.{Program}
-use Rattle.isa_model.specs.Machine.States.{value_at, new_frame, frame_at}
+use Rattle.isa_model.specs.Machine.States.{value_at, new_call_frame, call_frame_at}
 use Rattle.isa_model.specs.Machine.States as Machine
 use Rattle.isa_model.specs.Machine.Calls.{regs_after, leave, callers, innermost}
 use Rattle.isa_model.specs.Machine.MachineStates.{IsState}
@@ -75,7 +75,7 @@ Allows-without_frame e n (MapValue m l g) v long h =
       to = h.to;
       live = h.live;
     }
-Allows-without_frame e n (MapValueOrNull m i) v long h = null_left e m (e.value i) v h
+Allows-without_frame e n (MapValueOrNull m i) v long h = null_left e m (e.map_value i) v h
 
 -- ---- registers
 
@@ -170,7 +170,7 @@ returns_last a d =
     ∙ get_or-map_default return_slot_of (frames_of a) n no_frame
     ∙ ap return_slot_of (abstract_frame_at-innermost a)
 
--- the slots of the frames that are left stay
+-- the slots of the frames that remain stay
 slots_left : (a : State) (j : ℕ) → 1 < depth a → j < depth (left a)
     → stack_slots_of (left a) j ≡ stack_slots_of a j
 slots_left a j called below =
@@ -186,7 +186,7 @@ slots_left a j called below =
 
 -- ---- the meaning after an exit
 
--- a frame is popped: nothing that is left points into it, and r6 to r9 are as they were kept
+-- a frame is popped: nothing that remains points into it, and r6 to r9 are as they were kept
 pub MeansBy-leave : (p : Program) (e : Assigned) (a : State) (s : Machine.State) → 1 < depth a
     → IsState p (leave s)
     → ((j : ℕ) → j < depth a
@@ -202,8 +202,9 @@ MeansBy-leave p e a s called is each m =
     let long : length e.frames ≡ length fs = ap length m.assigned.serials ∙ serials in
     let most : length fs - 1 ≡ n = omega arith in
     let last : suc (n - 1) ≡ n = omega arith in
-    let top : frame_at fs (suc (n - 1)) ≡ innermost fs = ap (frame_at fs) (last ∙ sym most) in
-    let none : CallFrame = new_frame 0 0 [] in
+    let top : call_frame_at fs (suc (n - 1))
+    ≡ innermost fs = ap (call_frame_at fs) (last ∙ sym most) in
+    let none : CallFrame = new_call_frame 0 0 [] in
     let slot : (innermost fs).return_slot ≡ a.innermost.return_slot =
     sym (get_or-map_default (λ h. h.return_slot) fs (length fs - 1) none)
     ∙ ap (λ l. slice_index_or l (length fs - 1) none.return_slot) m.returns
@@ -240,23 +241,24 @@ MeansBy-leave p e a s called is each m =
           (subst (λ h. Allows e (kind_at (kinds_of a (n - 1)) (6 + i)) (value_at h.saved i)) top
           (m.kept (n - 1) i (omega arith) within)));
       kept = λ j k below within.
-          let inner : frame_at (callers fs) (suc j) ≡ frame_at fs (suc j) =
+          let inner : call_frame_at (callers fs) (suc j) ≡ call_frame_at fs (suc j) =
           get_or-take (length fs - 1) fs (suc j) none (omega arith) in
           subst (λ h. Allows f (kind_at (kinds_of (left a) j) (6 + k)) (value_at h.saved k))
           (sym inner)
           (subst (λ h.
-          Allows f (kind_at h.registers (6 + k)) (value_at (frame_at fs (suc j)).saved k))
+          Allows f (kind_at h.registers (6 + k)) (value_at (call_frame_at fs (suc j)).saved k))
           (sym (abstract_frame_at-left_outer a j called below))
-          ((each j (omega arith)).registers (6 + k) (value_at (frame_at fs (suc j)).saved k)
+          ((each j (omega arith)).registers (6 + k) (value_at (call_frame_at fs (suc j)).saved k)
           (m.kept j k (omega arith) within)));
       stacks = λ j below.
-          let same : frame_at (callers fs) j ≡ frame_at fs j =
+          let same : call_frame_at (callers fs) j ≡ call_frame_at fs j =
           get_or-take (length fs - 1) fs j none (omega arith) in
           let slots : stack_slots_of (left a) j
           ≡ stack_slots_of a j = slots_left a j called below in
           subst (λ h. StackMeans f (stack_slots_of (left a) j) h.cells) (sym same)
-          (subst (λ l. StackMeans f l (frame_at fs j).cells) (sym slots)
-          (StackMeans-change e f (stack_slots_of a j) (stack_slots_of a j) (frame_at fs j).cells
+          (subst (λ l. StackMeans f l (call_frame_at fs j).cells) (sym slots)
+          (StackMeans-change e f (stack_slots_of a j) (stack_slots_of a j)
+          (call_frame_at fs j).cells
           (λ k cs inside. (each j (omega arith)).slots k cs inside)
           (m.stacks j (omega arith))));
     }

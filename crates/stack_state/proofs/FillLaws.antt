@@ -3,7 +3,7 @@ use Rattle.std.specs.Prelude.{◌≡◌, ◌≢◌, ℕ, ◌*◌, ◌^◌, ◌<�
 use Rattle.std.proofs.Common.{sym, ap, ◌∙◌, subst, arith}
 use Rattle.std.proofs.lemmas.Bool.Decides.{nat_tests}
 use Rattle.std.proofs.lemmas.Nat.Bits.{bit_at_ones}
-use Rattle.isa_model.specs.Code.Limits.{frame_size}
+use Rattle.isa_model.specs.Code.Limits.{stack_size}
 use Rattle.isa_model.specs.declared.sizes.Size.TheVariants.{U64}
 use Rattle.isa_model.specs.declared.values.Value.{Value}
 use Rattle.isa_model.specs.declared.values.Value.TheVariants.{Num}
@@ -32,7 +32,7 @@ fills_written : (slots : List StackSlot) (k marks : ℕ) (loaded : Option Kind) 
 unfolding LoadsSlot
 fills_written slots k marks None within here is = tt
 fills_written slots k marks (Some kind) within here is = λ e rows next cells fit m.
-    let wide : length cells ≡ frame_size = m.size in
+    let wide : length cells ≡ stack_size = m.size in
     let marked : Marked 255 (chunk_of k cells) =
     subst (λ (s : StackSlot). SlotMeans e s (chunk_of k cells)) (here ∙ ap Written is.0)
     (m.each k within) in
@@ -90,11 +90,12 @@ null_kept : (e : Assigned) (maps : List Content) (m n : ℕ) (o : Option ℕ) (v
 null_kept e maps m n None v other keeps h = h
 null_kept e maps m n (Some serial) v other keeps h = (h.0, keeps n serial other h.1)
 
-forgets_value : (e : Assigned) (maps : List Content) (m n : ℕ) (l g : ℤ) (cs : List Cell) (b : Bool)
+forgets_map_value : (e : Assigned) (maps : List Content) (m n : ℕ) (l g : ℤ) (cs : List Cell)
+    (b : Bool)
     → (n == m) ≡ b → KeepsOtherMaps m e.maps maps → SlotMeans e (Spilled (MapValue n l g)) cs
     → SlotMeans (with_maps e maps) (if b then Written 0 else Spilled (MapValue n l g)) cs
-forgets_value e maps m n l g cs true is keeps h = no_marks cs
-forgets_value e maps m n l g cs false is keeps h =
+forgets_map_value e maps m n l g cs true is keeps h = no_marks cs
+forgets_map_value e maps m n l g cs false is keeps h =
     let other : n ≢ m = grind (arith, nat_tests) in
     let x = h.1 in (
       h.0,
@@ -115,14 +116,14 @@ forgets_null : (e : Assigned) (maps : List Content) (m n i : ℕ) (cs : List Cel
 forgets_null e maps m n i cs true is keeps h = no_marks cs
 forgets_null e maps m n i cs false is keeps h =
     let other : n ≢ m = grind (arith, nat_tests) in
-    (h.0, null_kept e maps m n (e.value i) h.0 other keeps h.1, h.2)
+    (h.0, null_kept e maps m n (e.map_value i) h.0 other keeps h.1, h.2)
 
 pub SlotMeans-forgotten : (e : Assigned) (maps : List Content) (m : ℕ) (s : StackSlot)
     (cs : List Cell) → KeepsOtherMaps m e.maps maps
     → SlotMeans e s cs → SlotMeans (with_maps e maps) (forgotten_slot m s) cs
 SlotMeans-forgotten e maps m (Written marks) cs keeps h = h
 SlotMeans-forgotten e maps m (Spilled (MapValue n l g)) cs keeps h =
-    forgets_value e maps m n l g cs (n == m) refl keeps h
+    forgets_map_value e maps m n l g cs (n == m) refl keeps h
 SlotMeans-forgotten e maps m (Spilled (MapValueOrNull n i)) cs keeps h =
     forgets_null e maps m n i cs (n == m) refl keeps h
 SlotMeans-forgotten e maps m (Spilled (Packet f i l g p)) cs keeps h =

@@ -3,7 +3,7 @@ use Rattle.std.specs.Prelude.{◌≡◌, ◌≢◌, ℕ, ◌+◌, ◌*◌, ◌�
 use Rattle.std.proofs.Common.{sym, ◌∙◌, subst}
 use Rattle.std.proofs.lemmas.Bool.{le-leb}
 use Rattle.std.proofs.lemmas.List.{length-map}
-use Rattle.isa_model.specs.Code.Limits.{frame_size}
+use Rattle.isa_model.specs.Code.Limits.{stack_size}
 use Rattle.isa_model.specs.declared.sizes.Size.{Size}
 use Rattle.isa_model.specs.declared.sizes.Size.TheVariants.{U64}
 use Rattle.isa_model.specs.declared.values.Region.TheVariants as region
@@ -15,8 +15,8 @@ use Rattle.isa_model.specs.declared.values.Cell.TheVariants.{Byte}
 use Rattle.isa_model.specs.declared.ends.TrapReason.{TrapReason}
 use Rattle.isa_model.specs.Code.Sizes.{size_bytes}
 use Rattle.isa_model.specs.Code.Numbers.{bytes_of}
-use Rattle.isa_model.specs.Machine.States.{State, frame_at}
-use Rattle.isa_model.specs.Machine.Memory.{frame_index, index_from, index_at, read, write, number_in, value_in, load, load_number, store}
+use Rattle.isa_model.specs.Machine.States.{State, call_frame_at}
+use Rattle.isa_model.specs.Machine.Memory.{call_frame_index, index_from, index_at, read, write, number_in, value_in, load, load_number, store}
 use Rattle.isa_model.specs.Machine.MachineStates.{IsCell}
 use Rattle.reg_state.specs.declared.scalars.Scalar.{Scalar}
 use Rattle.reg_state.specs.declared.kinds.Kind.{Kind}
@@ -29,30 +29,30 @@ use Rattle.stack_state.proofs.CellLaws.{length-bytes_of}
 -- a pointer into the frame of serial n, which is the jth, moved by an instruction's offset: n cells
 -- from `at` on are there
 pub record IsHere (s : State) (serial j at n : ℕ) (z by : ℤ) : Type 0 where
-  pub found : frame_index s.frames serial ≡ Some j
-  pub index : index_from ((z +ℤ by) +ℤ pos frame_size) ≡ Some at
-  pub inside : at + n ≤ length (frame_at s.frames j).cells
+  pub found : call_frame_index s.frames serial ≡ Some j
+  pub index : index_from ((z +ℤ by) +ℤ pos stack_size) ≡ Some at
+  pub inside : at + n ≤ length (call_frame_at s.frames j).cells
 
 -- the state with other cells in the jth frame
 abbrev pub with_cells : State → ℕ → List Cell → State
 with_cells s j cells =
-    record s { frames = slice_set s.frames j (record (frame_at s.frames j) { cells = cells }) }
+    record s { frames = slice_set s.frames j (record (call_frame_at s.frames j) { cells = cells }) }
 
 pub read_here : (s : State) (serial j at n : ℕ) (z by : ℤ) → IsHere s serial j at n z by
     → read s (region.CallFrame serial) (index_at (region.CallFrame serial) (z +ℤ by)) n
-    ≡ Ok (part_of (frame_at s.frames j).cells at n)
+    ≡ Ok (part_of (call_frame_at s.frames j).cells at n)
 read_here s serial j at n z by h =
-    let inside : nat_le (at + n) (length (frame_at s.frames j).cells) ≡ true =
-    le-leb (at + n) (length (frame_at s.frames j).cells) h.inside in
+    let inside : nat_le (at + n) (length (call_frame_at s.frames j).cells) ≡ true =
+    le-leb (at + n) (length (call_frame_at s.frames j).cells) h.inside in
     rw (h.index, h.found, inside)
 
 write_here : (s : State) (serial j at : ℕ) (z by : ℤ) (new : List Cell)
     → IsHere s serial j at (length new) z by
     → write s (region.CallFrame serial) (index_at (region.CallFrame serial) (z +ℤ by)) new
-    ≡ Ok (with_cells s j (cells_with (frame_at s.frames j).cells at new))
+    ≡ Ok (with_cells s j (cells_with (call_frame_at s.frames j).cells at new))
 write_here s serial j at z by new h =
-    let inside : nat_le (at + length new) (length (frame_at s.frames j).cells) ≡ true =
-    le-leb (at + length new) (length (frame_at s.frames j).cells) h.inside in
+    let inside : nat_le (at + length new) (length (call_frame_at s.frames j).cells) ≡ true =
+    le-leb (at + length new) (length (call_frame_at s.frames j).cells) h.inside in
     rw (h.index, h.found, inside)
 
 -- ---- loads
@@ -60,35 +60,35 @@ write_here s serial j at z by new h =
 pub load_number_here : (s : State) (size : Size) (serial j at : ℕ) (z by : ℤ)
     → IsHere s serial j at (size_bytes size) z by
     → load_number s size (Ptr (region.CallFrame serial) z) by
-    ≡ number_in (part_of (frame_at s.frames j).cells at (size_bytes size))
+    ≡ number_in (part_of (call_frame_at s.frames j).cells at (size_bytes size))
 load_number_here s size serial j at z by h = rw (read_here s serial j at (size_bytes size) z by h)
 
 pub load_here : (s : State) (serial j at : ℕ) (z by : ℤ) → IsHere s serial j at 8 z by
     → load s U64 (Ptr (region.CallFrame serial) z) by
-    ≡ value_in (part_of (frame_at s.frames j).cells at 8)
+    ≡ value_in (part_of (call_frame_at s.frames j).cells at 8)
 load_here s serial j at z by h = rw (read_here s serial j at 8 z by h)
 
 -- where `load` returns numbers, the load of the bytes returns one of them
 pub loads_here : (e : Assigned) (s : State) (slots : List StackSlot) (size : Size)
     (serial j at rows next : ℕ) (z by : ℤ) (numbers : Scalar)
     → IsHere s serial j at (size_bytes size) z by
-    → All (IsCell rows next) (frame_at s.frames j).cells
-    → StackMeans e slots (frame_at s.frames j).cells → LoadsNumber slots at size (Some numbers)
+    → All (IsCell rows next) (call_frame_at s.frames j).cells
+    → StackMeans e slots (call_frame_at s.frames j).cells → LoadsNumber slots at size (Some numbers)
     → (n : ℕ) × (load_number s size (Ptr (region.CallFrame serial) z) by ≡ Ok n) × Has numbers n
 unfolding LoadsNumber
 loads_here e s slots size serial j at rows next z by numbers h fit m l =
-    let (n, read, has) = l e rows next (frame_at s.frames j).cells fit m in
+    let (n, read, has) = l e rows next (call_frame_at s.frames j).cells fit m in
     (n, load_number_here s size serial j at z by h ∙ read, has)
 
 -- where `fill` returns a kind, the load of the whole slot returns a value that it allows
 pub fills_here : (e : Assigned) (s : State) (slots : List StackSlot) (serial j k rows next : ℕ)
     (z by : ℤ) (kind : Kind)
-    → IsHere s serial j (8 * k) 8 z by → All (IsCell rows next) (frame_at s.frames j).cells
-    → StackMeans e slots (frame_at s.frames j).cells → LoadsSlot slots k (Some kind)
+    → IsHere s serial j (8 * k) 8 z by → All (IsCell rows next) (call_frame_at s.frames j).cells
+    → StackMeans e slots (call_frame_at s.frames j).cells → LoadsSlot slots k (Some kind)
     → (v : Value) × (load s U64 (Ptr (region.CallFrame serial) z) by ≡ Ok v) × Allows e kind v
 unfolding LoadsSlot
 fills_here e s slots serial j k rows next z by kind h fit m f =
-    let (v, read, allowed) = f e rows next (frame_at s.frames j).cells fit m in
+    let (v, read, allowed) = f e rows next (call_frame_at s.frames j).cells fit m in
     (v, load_here s serial j (8 * k) z by h ∙ read, allowed)
 
 -- ---- stores
@@ -100,7 +100,8 @@ LeavesFrame s j e slots went =
 
 pub stores_here : (e : Assigned) (s : State) (old new : List StackSlot) (size : Size)
     (serial j at n : ℕ) (z by : ℤ)
-    → IsHere s serial j at (size_bytes size) z by → StackMeans e old (frame_at s.frames j).cells
+    → IsHere s serial j at (size_bytes size) z by
+    → StackMeans e old (call_frame_at s.frames j).cells
     → StoresBytes old at size new
     → LeavesFrame s j e new (store s size (Ptr (region.CallFrame serial) z) by (Num n))
 unfolding StoresBytes
@@ -110,25 +111,25 @@ stores_here e s old new size serial j at n z by h m stores =
     ∙ length-bytes_of size n in
     let here : IsHere s serial j at (length bytes) z by =
     subst (λ (k : ℕ). IsHere s serial j at k z by) (sym long) h in (
-      cells_with (frame_at s.frames j).cells at bytes,
+      cells_with (call_frame_at s.frames j).cells at bytes,
       write_here s serial j at z by bytes here,
-      stores e (frame_at s.frames j).cells n m,
+      stores e (call_frame_at s.frames j).cells n m,
     )
 
 pub spills_here : (e : Assigned) (s : State) (old new : List StackSlot) (serial j k : ℕ) (z by : ℤ)
     (kind : Kind) (v : Value)
     → IsHere s serial j (8 * k) 8 z by → v ≢ value.Unset → Allows e kind v
-    → StackMeans e old (frame_at s.frames j).cells → Spills old k kind new
+    → StackMeans e old (call_frame_at s.frames j).cells → Spills old k kind new
     → LeavesFrame s j e new (store s U64 (Ptr (region.CallFrame serial) z) by v)
 unfolding Spills
 spills_here e s old new serial j k z by kind value.Unset h set allowed m spills = absurd (set refl)
 spills_here e s old new serial j k z by kind (Num n) h set allowed m spills = (
-  cells_with (frame_at s.frames j).cells (8 * k) (stored_cells (Num n)),
+  cells_with (call_frame_at s.frames j).cells (8 * k) (stored_cells (Num n)),
   write_here s serial j (8 * k) z by (stored_cells (Num n)) h,
-  spills e (frame_at s.frames j).cells (Num n) set allowed m,
+  spills e (call_frame_at s.frames j).cells (Num n) set allowed m,
 )
 spills_here e s old new serial j k z by kind (Ptr r y) h set allowed m spills = (
-  cells_with (frame_at s.frames j).cells (8 * k) (stored_cells (Ptr r y)),
+  cells_with (call_frame_at s.frames j).cells (8 * k) (stored_cells (Ptr r y)),
   write_here s serial j (8 * k) z by (stored_cells (Ptr r y)) h,
-  spills e (frame_at s.frames j).cells (Ptr r y) set allowed m,
+  spills e (call_frame_at s.frames j).cells (Ptr r y) set allowed m,
 )

@@ -7,15 +7,15 @@ use Rattle.std.proofs.lemmas.Bool.Decides.{nat_tests}
 use Rattle.std.proofs.lemmas.Option.{slice_get_within, get_or_from_slice_get}
 use Rattle.std.proofs.lemmas.List.{length-map, length-append, get_or-map, get_or-append_right}
 use Rattle.std.proofs.lemmas.List.Sums.{position_or_len_is}
-use Rattle.isa_model.specs.Code.Limits.{frame_size}
+use Rattle.isa_model.specs.Code.Limits.{stack_size}
 use Rattle.isa_model.specs.declared.sizes.Size.{Size}
 use Rattle.isa_model.specs.declared.sizes.Size.TheVariants.{U8, U16, U32, U64}
 use Rattle.isa_model.specs.declared.values.CallFrame.{CallFrame}
 use Rattle.isa_model.specs.Code.Sizes.{size_bytes}
 use Rattle.isa_model.specs.Code.Instructions.{Program}
-use Rattle.isa_model.specs.Machine.States.{new_frame, frame_at}
+use Rattle.isa_model.specs.Machine.States.{new_call_frame, call_frame_at}
 use Rattle.isa_model.specs.Machine.States as Machine
-use Rattle.isa_model.specs.Machine.Memory.{frame_index, index_from}
+use Rattle.isa_model.specs.Machine.Memory.{call_frame_index, index_from}
 use Rattle.isa_model.specs.Machine.MachineStates.{IsState, IsCallFrame, value_serials}
 use Rattle.reg_state.specs.Kinds.{Assigned}
 use Rattle.stack_state.specs.declared.states.State.{State}
@@ -26,7 +26,7 @@ use Rattle.stack_state.specs.FramePlaces.{IsPlace}
 
 -- ---- slots
 
-pub place_below : (z : ℤ) (size : Size) (at : ℕ) → IsPlace z size at → at < frame_size
+pub place_below : (z : ℤ) (size : Size) (at : ℕ) → IsPlace z size at → at < stack_size
 place_below z U8 at h = let i = h.inside in omega arith
 place_below z U16 at h = let i = h.inside in omega arith
 place_below z U32 at h = let i = h.inside in omega arith
@@ -46,33 +46,35 @@ place_whole z at h = let a = h.aligned in omega arith
 -- ---- frame pointers
 
 -- serials are given once, so the serial of the jth frame finds that frame
-pub frame_index-serial : (p : Program) (s : Machine.State) (j n : ℕ) → IsState p s
-    → slice_get (map (λ f. f.serial) s.frames) j ≡ Some n → frame_index s.frames n ≡ Some j
-frame_index-serial p s j n is found =
+pub call_frame_index-serial : (p : Program) (s : Machine.State) (j n : ℕ) → IsState p s
+    → slice_get (map (λ f. f.serial) s.frames) j ≡ Some n → call_frame_index s.frames n ≡ Some j
+call_frame_index-serial p s j n is found =
     let fs : List CallFrame = s.frames in
-    let none : CallFrame = new_frame 0 0 [] in
+    let none : CallFrame = new_call_frame 0 0 [] in
     let values : List ℕ = flat_map value_serials s.maps in
     let serials : List ℕ = map (λ f. f.serial) fs in
     let count : length serials ≡ length fs = length-map fs (λ f. f.serial) in
     let long : length (values ++ serials) ≡ length values + length serials =
     length-append values serials in
     let inside : j < length serials = slice_get_within serials j n found in
-    let serial_at : (k : ℕ) → k < length fs → slice_index_or serials k 0 ≡ (frame_at fs k).serial =
+    let serial_at : (k : ℕ) → k < length fs
+    → slice_index_or serials k 0 ≡ (call_frame_at fs k).serial =
     (λ k below. get_or-map (λ f. f.serial) fs k none 0 below) in
     let given_at : (k : ℕ)
     → slice_index_or (values ++ serials) (length values + k) 0 ≡ slice_index_or serials k 0 =
     (λ k. let back : (length values + k) - length values ≡ k = omega arith in
     get_or-append_right values serials (length values) (length values + k) 0 refl (omega arith)
     ∙ ap (λ i. slice_index_or serials i 0) back) in
-    let here : (frame_at fs j).serial ≡ n = sym (serial_at j (omega arith))
+    let here : (call_frame_at fs j).serial ≡ n = sym (serial_at j (omega arith))
     ∙ get_or_from_slice_get serials j n 0 found in
-    let before : (k : ℕ) → k < j → (frame_at fs k).serial ≢ n =
+    let before : (k : ℕ) → k < j → (call_frame_at fs k).serial ≢ n =
     (λ k below same. is.once (length values + k) (length values + j) 0 (omega arith) (omega arith)
     (given_at k ∙ serial_at k (omega arith) ∙ same ∙ sym here ∙ sym (serial_at j (omega arith))
     ∙ sym (given_at j))) in
     let first : position_or_len (λ f. f.serial == n) fs ≡ j =
     position_or_len_is (λ f. f.serial == n) fs j none (omega arith)
-    (λ k below. let other : (frame_at fs k).serial ≢ n = before k below in grind (arith, nat_tests))
+    (λ k below. let other : (call_frame_at fs k).serial
+    ≢ n = before k below in grind (arith, nat_tests))
     (λ _. grind (arith, nat_tests)) in
     let test : nat_lt j (length fs) ≡ true = grind (arith, nat_tests) in
     rw (first, test) refl
@@ -89,12 +91,12 @@ IsHere-place p e a s size serial j at z by m found h =
     length-map s.frames (λ f. f.serial) in
     let within : j < length (map (λ f. f.serial) s.frames) =
     slice_get_within (map (λ f. f.serial) s.frames) j serial mine in
-    let fits : IsCallFrame p s.next_serial (frame_at s.frames j) =
-    m.is_state.frames j (new_frame 0 0 []) (omega arith) in
-    let whole : length (frame_at s.frames j).cells ≡ frame_size = fits.whole in
+    let fits : IsCallFrame p s.next_serial (call_frame_at s.frames j) =
+    m.is_state.frames j (new_call_frame 0 0 []) (omega arith) in
+    let whole : length (call_frame_at s.frames j).cells ≡ stack_size = fits.whole in
     let inside = h.inside in
     record {
-      found = frame_index-serial p s j serial m.is_state mine;
+      found = call_frame_index-serial p s j serial m.is_state mine;
       index = ap index_from h.from_start;
       inside = omega arith;
     }

@@ -10,7 +10,7 @@ use Rattle.isa_model.specs.declared.map_defs.MapDef.{MapDef}
 use Rattle.isa_model.specs.declared.values.Value.{Value}
 use Rattle.isa_model.specs.declared.values.Value.TheVariants as value
 use Rattle.isa_model.specs.Code.Instructions.{Program}
-use Rattle.isa_model.specs.Machine.States.{Stored, Content, value_at, frame_at, content_of, key_values_of}
+use Rattle.isa_model.specs.Machine.States.{Stored, Content, value_at, call_frame_at, content_of, key_values_of}
 use Rattle.isa_model.specs.Machine.States as Machine
 use Rattle.isa_model.specs.Machine.MapContents.{at_key, with_key, without_key, update_answer, delete_answer}
 use Rattle.isa_model.specs.Machine.MapHelpers.{Helped, serial_given, serial_after, put_bytes, remove_key, pointer_or_zero, map_update_elem, map_delete_elem}
@@ -22,7 +22,7 @@ use Rattle.isa_model.proofs.ContentLaws.{is_sorted-key_values_of, at_key-value_s
 use Rattle.reg_state.specs.declared.kinds.Kind.{Kind}
 use Rattle.reg_state.specs.declared.kinds.Kind.TheVariants.{MapValueOrNull}
 use Rattle.reg_state.specs.Kinds.{Assigned, Allows, AllowsOrNull, HasLiveValue}
-use Rattle.reg_state.proofs.KindLaws.{with_value}
+use Rattle.reg_state.proofs.KindLaws.{with_map_value}
 use Rattle.stack_state.specs.declared.states.State.{State}
 use Rattle.stack_state.specs.Meaning.{frames_of, abstract_frame_at, kind_at, stack_slots_of, depth, registers_of, MeansBy}
 use Rattle.stack_state.proofs.MeaningLaws.{abstract_frame_at-caller, stack_at-last, MeansBy-fresh_null}
@@ -31,7 +31,7 @@ use Rattle.stack_state.specs.StackMeaning.{StackMeans, KeepsOtherMaps, with_maps
 use Rattle.stack_state.specs.Effects.{forgotten_in}
 use Rattle.stack_state.proofs.KindEffects.{MeansBy-forgets}
 use Rattle.stack_state.specs.Calls.{left_kinds, resumed_of}
-use Rattle.stack_state.specs.Answers.{with_answer}
+use Rattle.stack_state.specs.HelperAnswers.{with_answer}
 use Rattle.stack_state.proofs.ValueEffects.{KeepsLive, MeansBy-given}
 
 -- ---- an answer in r0
@@ -98,11 +98,12 @@ MeansBy-answered p e a helped k is new m =
       kept =
           λ j i below within.
           subst (λ f.
-          Allows e (kind_at f.registers (6 + i)) (value_at (frame_at s.frames (suc j)).saved i))
+          Allows e (kind_at f.registers (6 + i))
+          (value_at (call_frame_at s.frames (suc j)).saved i))
           (sym (abstract_frame_at-with_answer a k j below)) (m.kept j i below within);
       stacks =
           λ j below.
-          subst (λ slots. StackMeans e slots (frame_at s.frames j).cells)
+          subst (λ slots. StackMeans e slots (call_frame_at s.frames j).cells)
           (sym (stack_slots_of-with_answer a k j)) (m.stacks j below);
     }
 
@@ -112,8 +113,8 @@ same_identity : (i : ℕ) → nat_eq i i ≡ true
 same_identity i = grind (arith, nat_tests)
 
 -- a fresh identity is assigned what was found
-found_here : (e : Assigned) (i : ℕ) (o : Option ℕ) → (with_value e i o).value i ≡ o
-found_here e i o = ap (λ (b : Bool). if b then o else e.value i) (same_identity i)
+found_here : (e : Assigned) (i : ℕ) (o : Option ℕ) → (with_map_value e i o).map_value i ≡ o
+found_here e i o = ap (λ (b : Bool). if b then o else e.map_value i) (same_identity i)
 
 serial_of : Option Stored → Option ℕ
 serial_of (Some stored) = Some stored.serial
@@ -137,14 +138,14 @@ MeansBy-looked_up p e a s m i key fresh means = by (at_key key (content_of s m))
     by : (o : Option Stored) → at_key key (content_of s m) ≡ o
         → (f : Assigned) × MeansBy p f a s × Allows f (MapValueOrNull m i) (pointer_or_zero m o)
     by None found =
-        let f : Assigned = with_value e i None in
+        let f : Assigned = with_map_value e i None in
         let v : Value = pointer_or_zero m None in (
           f,
           MeansBy-fresh_null p e a s i None fresh means,
           subst (λ n. AllowsOrNull f m n v) (sym (found_here e i None)) refl,
         )
     by (Some stored) found =
-        let f : Assigned = with_value e i (Some stored.serial) in
+        let f : Assigned = with_map_value e i (Some stored.serial) in
         let v : Value = pointer_or_zero m (Some stored) in
         let live : HasLiveValue s.maps m stored.serial =
         HasLiveValue-at_key s.maps m key stored found in (
@@ -171,7 +172,7 @@ more_live n x some more one h =
           (Contains-append_right (n ∷ []) one.back x after)
     ])
 
--- where the serials of one content stay, so do the live values of all
+-- where the serials of one content stay, so do the live map values of all
 KeepsLive-set : (maps : List Content) (m : ℕ) (content : Content)
     → ((n : ℕ) → Contains (value_serials (slice_index_or maps m [])) n
     → Contains (value_serials content) n)

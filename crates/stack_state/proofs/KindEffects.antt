@@ -148,23 +148,23 @@ tested_allows e m (Some n) false zeros v is has h =
 
 tested_if : (e : Assigned) (i m identity : ℕ) (null : Bool) (zeros : Scalar) (v : Value) (b : Bool)
     → (identity == i) ≡ b
-    → IsNull (e.value i) null → Has zeros 0 → AllowsOrNull e m (e.value identity) v
+    → IsNull (e.map_value i) null → Has zeros 0 → AllowsOrNull e m (e.map_value identity) v
     → Allows e (if b then tested_value null zeros m else MapValueOrNull m identity) v
 tested_if e i m identity null zeros v false is known has h = h
 tested_if e i m identity null zeros v true is known has h =
     let same : identity ≡ i = grind (arith, nat_tests) in
-    tested_allows e m (e.value i) null zeros v known has
-    (subst (λ n. AllowsOrNull e m (e.value n) v) same h)
+    tested_allows e m (e.map_value i) null zeros v known has
+    (subst (λ n. AllowsOrNull e m (e.map_value n) v) same h)
 
-Allows-tested : (e : Assigned) (i : ℕ) (null : Bool) (zeros : Scalar) → IsNull (e.value i) null
+Allows-tested : (e : Assigned) (i : ℕ) (null : Bool) (zeros : Scalar) → IsNull (e.map_value i) null
     → Has zeros 0 → (k : Kind) (v : Value) → Allows e k v → Allows e (tested_kind i null zeros k) v
 Allows-tested e i null zeros known has (MapValueOrNull m identity) v h =
     tested_if e i m identity null zeros v (identity == i) refl known has h
 Allows-tested e i null zeros known has k v h = h
 
--- values of the identity are null, or point to a live value
+-- values of the identity are null, or point to a live map value
 pub MeansBy-tested : (p : Program) (e : Assigned) (a : State) (s : Machine.State) (i : ℕ)
-    (null : Bool) (zeros : Scalar) → IsNull (e.value i) null
+    (null : Bool) (zeros : Scalar) → IsNull (e.map_value i) null
     → Has zeros 0 → MeansBy p e a s → MeansBy p e (map_kinds (tested_kind i null zeros) a) s
 MeansBy-tested p e a s i null zeros known has m =
     MeansBy-map_kinds p e (tested_kind i null zeros) a s refl
@@ -183,13 +183,14 @@ forgotten_or_null : (e : Assigned) (maps : List Content) (m n i : ℕ) (v : Valu
 forgotten_or_null e maps m n i v true is keeps h = tt
 forgotten_or_null e maps m n i v false is keeps h =
     let other : n ≢ m = grind (arith, nat_tests) in
-    forgotten_null e maps m n (e.value i) v other keeps h
+    forgotten_null e maps m n (e.map_value i) v other keeps h
 
-forgotten_value : (e : Assigned) (maps : List Content) (m n : ℕ) (l g : ℤ) (v : Value) (b : Bool)
+forgotten_map_value : (e : Assigned) (maps : List Content) (m n : ℕ) (l g : ℤ) (v : Value)
+    (b : Bool)
     → (n == m) ≡ b → KeepsOtherMaps m e.maps maps → Allows e (MapValue n l g) v
     → Allows (with_maps e maps) (kind_in (if b then Written 0 else Spilled (MapValue n l g))) v
-forgotten_value e maps m n l g v true is keeps h = tt
-forgotten_value e maps m n l g v false is keeps h =
+forgotten_map_value e maps m n l g v true is keeps h = tt
+forgotten_map_value e maps m n l g v false is keeps h =
     let other : n ≢ m = grind (arith, nat_tests) in
     record {
       serial = h.serial;
@@ -204,7 +205,7 @@ Allows-forgotten : (e : Assigned) (maps : List Content) (m : ℕ) (k : Kind) (v 
     → KeepsOtherMaps m e.maps maps → Allows e k v
     → Allows (with_maps e maps) (forgotten_register m k) v
 Allows-forgotten e maps m (MapValue n l g) v keeps h =
-    forgotten_value e maps m n l g v (n == m) refl keeps h
+    forgotten_map_value e maps m n l g v (n == m) refl keeps h
 Allows-forgotten e maps m (MapValueOrNull n i) v keeps h =
     forgotten_or_null e maps m n i v (n == m) refl keeps h
 Allows-forgotten e maps m (Packet f i l g p) v keeps h =

@@ -1,5 +1,5 @@
 -- Effects on an abstract state keep its meaning: the machine state after the same effect is a
--- member of the state after it.
+-- member of the abstract state after it.
 use Rattle.std.specs.Prelude.{◌≡◌, ◌≢◌, ℕ, zero, suc, ◌+◌, ◌-◌, ◌<◌, ℤ, pos, List, [], ◌∷◌, ◌++◌, map, length, slice_get, slice_set, slice_index_or, Option, Some, refl}
 use Rattle.std.proofs.Common.{sym, ap, ◌∙◌, subst, arith}
 use Rattle.std.proofs.lemmas.Bool.Decides.{nat_tests}
@@ -13,7 +13,7 @@ use Rattle.isa_model.specs.declared.values.Cell.{Cell}
 use Rattle.isa_model.specs.declared.values.CallFrame.{CallFrame}
 use Rattle.isa_model.specs.Code.Registers.{reg_number}
 use Rattle.isa_model.specs.Code.Instructions.{Program}
-use Rattle.isa_model.specs.Machine.States.{value_at, reg, set_reg, frame_pointer, new_frame, frame_at}
+use Rattle.isa_model.specs.Machine.States.{value_at, reg, set_reg, frame_pointer, new_call_frame, call_frame_at}
 use Rattle.isa_model.specs.Machine.States as Machine
 use Rattle.isa_model.specs.Machine.Calls.{innermost}
 use Rattle.isa_model.specs.Machine.MachineStates.{IsState, IsValue, IsSlot}
@@ -21,7 +21,7 @@ use Rattle.isa_model.proofs.StateLaws.{IsState-go_to, IsState-set_reg, reg_fits}
 use Rattle.reg_state.specs.declared.kinds.Kind.{Kind}
 use Rattle.reg_state.specs.declared.kinds.Kind.TheVariants.{Stack}
 use Rattle.reg_state.specs.Kinds.{Assigned, Allows}
-use Rattle.reg_state.proofs.KindLaws.{with_offset, with_value, Allows-fresh_offset, Allows-fresh_value}
+use Rattle.reg_state.proofs.KindLaws.{with_offset, with_map_value, Allows-fresh_offset, Allows-fresh_map_value}
 use Rattle.reg_state.specs.KindCover.{packet_identity_of, null_identity_of}
 use Rattle.stack_state.specs.declared.slots.StackSlot.{StackSlot}
 use Rattle.stack_state.specs.declared.slots.StackSlot.TheVariants.{Written, Spilled}
@@ -74,7 +74,7 @@ frame_pointer_allowed p e a s m =
     let long = length-map s.frames (λ f. f.serial) in
     let last : ℕ = length s.frames - 1 in
     let here : length a.callers.items ≡ last = omega arith in
-    let none : CallFrame = new_frame 0 0 [] in
+    let none : CallFrame = new_call_frame 0 0 [] in
     let found : slice_get serials last ≡ Some (slice_index_or serials last none.serial) =
     slice_get-get_or serials last none.serial (omega arith) in
     let serial : slice_index_or serials last none.serial ≡ (innermost s.frames).serial =
@@ -100,7 +100,7 @@ reg_allowed p e a s m R8 = m.registers 8
 reg_allowed p e a s m R9 = m.registers 9
 reg_allowed p e a s m R10 = frame_pointer_allowed p e a s m
 
--- ---- another slot
+-- ---- another slot of the code
 
 pub MeansBy-go_to : (p : Program) (e : Assigned) (a : State) (s : Machine.State) (slot : ℕ)
     → IsSlot p slot → MeansBy p e a s → MeansBy p e (go_to a slot) (Machine.go_to s slot)
@@ -137,7 +137,7 @@ abstract_frame_at-with a r k j below =
     abstract_frame_at-caller (with_register a r k) j below
     ∙ sym (abstract_frame_at-caller a j below)
 
--- where the last of two lists of frames have one stack, all frames have those that they had
+-- where the last frame is replaced by one with the same stack, each frame's stack stays
 pub stack_at-last : (fs : List AbstractFrame) (f g : AbstractFrame) (j : ℕ) → f.stack ≡ g.stack
     → (slice_index_or (fs ++ f ∷ []) j no_frame).stack
     ≡ (slice_index_or (fs ++ g ∷ []) j no_frame).stack
@@ -200,11 +200,12 @@ MeansBy-set p e a s r k v own new fits m =
       kept =
           λ j i below within.
           subst (λ f.
-          Allows e (kind_at f.registers (6 + i)) (value_at (frame_at s.frames (suc j)).saved i))
+          Allows e (kind_at f.registers (6 + i))
+          (value_at (call_frame_at s.frames (suc j)).saved i))
           (sym (abstract_frame_at-with a r k j below)) (m.kept j i below within);
       stacks =
           λ j below.
-          subst (λ slots. StackMeans e slots (frame_at s.frames j).cells)
+          subst (λ slots. StackMeans e slots (call_frame_at s.frames j).cells)
           (sym (stack_slots_of-with a r k j)) (m.stacks j below);
     }
 
@@ -220,16 +221,15 @@ MeansBy-narrow p e a s r k own new m =
     subst (λ t. MeansBy p e (with_register a r k) t) same
     (MeansBy-set p e a s r k (reg s r) own new (reg_fits p s r m.is_state) m)
 
--- all that one frame's kinds and stack slots allow under an assignment the other's allow under
--- another
+-- what the kinds and the stack slots of frame g allow under assignment e, those of h allow under f
 pub record FrameKeeps (e f : Assigned) (g h : AbstractFrame) : Type 0 where
   pub registers : (k : ℕ) (v : Value) → Allows e (kind_at g.registers k) v
       → Allows f (kind_at h.registers k) v
   pub slots : (k : ℕ) (cs : List Cell) → k < frame_slots → SlotMeans e (slot_at g.stack.slots k) cs
       → SlotMeans f (slot_at h.stack.slots k) cs
 
--- other kinds and stack slots, or another assignment, that allow in each frame all that was allowed
--- there, for a machine state with the same slot of code, registers and frames
+-- b allows under f, frame by frame, all that a allows under e. So b means what a means, also a
+-- machine state t that has the slot, the registers and the frames of s
 pub MeansBy-onto : (p : Program) (e f : Assigned) (a b : State) (s t : Machine.State)
     → t.slot ≡ s.slot → t.regs ≡ s.regs
     → t.frames ≡ s.frames → IsState p t → AssignmentFits f t → b.slot ≡ a.slot
@@ -261,18 +261,19 @@ MeansBy-onto p e f a b s t same_slot regs frames is of slot returns each m =
       kept =
           λ j k below within.
           subst (λ fs.
-          Allows f (kind_at (kinds_of b j) (6 + k)) (value_at (frame_at fs (suc j)).saved k))
+          Allows f (kind_at (kinds_of b j) (6 + k)) (value_at (call_frame_at fs (suc j)).saved k))
           (sym frames)
-          ((each j (omega arith)).registers (6 + k) (value_at (frame_at s.frames (suc j)).saved k)
+          ((each j (omega arith)).registers (6 + k)
+          (value_at (call_frame_at s.frames (suc j)).saved k)
           (m.kept j k (omega arith) within));
       stacks = λ j below. let within : j < depth a = omega arith in
-          subst (λ fs. StackMeans f (stack_slots_of b j) (frame_at fs j).cells) (sym frames)
+          subst (λ fs. StackMeans f (stack_slots_of b j) (call_frame_at fs j).cells) (sym frames)
           (StackMeans-change e f (stack_slots_of a j) (stack_slots_of b j)
-          (frame_at s.frames j).cells
+          (call_frame_at s.frames j).cells
           (λ k cs inside. (each j within).slots k cs inside) (m.stacks j within));
     }
 
--- for the same machine state
+-- the same, of one machine state
 pub MeansBy-change : (p : Program) (e f : Assigned) (a b : State) (s : Machine.State)
     → AssignmentFits f s → b.slot ≡ a.slot
     → map (λ g. g.return_slot) (frames_of b) ≡ map (λ g. g.return_slot) (frames_of a)
@@ -294,11 +295,13 @@ SlotMeans-fresh_offset e i z (Written marks) cs fresh h = h
 SlotMeans-fresh_offset e i z (Spilled k) cs fresh h =
     SlotMeans-spilled e (with_offset e i z) k k cs (λ v. Allows-fresh_offset k e i z v fresh) h
 
-SlotMeans-fresh_value : (e : Assigned) (i : ℕ) (o : Option ℕ) (t : StackSlot) (cs : List Cell)
-    → null_identity_of (kind_in t) ≢ Some i → SlotMeans e t cs → SlotMeans (with_value e i o) t cs
-SlotMeans-fresh_value e i o (Written marks) cs fresh h = h
-SlotMeans-fresh_value e i o (Spilled k) cs fresh h =
-    SlotMeans-spilled e (with_value e i o) k k cs (λ v. Allows-fresh_value k e i o v fresh) h
+SlotMeans-fresh_map_value : (e : Assigned) (i : ℕ) (o : Option ℕ) (t : StackSlot) (cs : List Cell)
+    → null_identity_of (kind_in t) ≢ Some i → SlotMeans e t cs
+    → SlotMeans (with_map_value e i o) t cs
+SlotMeans-fresh_map_value e i o (Written marks) cs fresh h = h
+SlotMeans-fresh_map_value e i o (Spilled k) cs fresh h =
+    SlotMeans-spilled e (with_map_value e i o) k k cs
+    (λ v. Allows-fresh_map_value k e i o v fresh) h
 
 -- a packet identity that no kind of the state uses may be assigned any number
 pub MeansBy-fresh : (p : Program) (e : Assigned) (a : State) (s : Machine.State) (i : ℕ) (z : ℤ)
@@ -320,12 +323,12 @@ MeansBy-fresh p e a s i z some fresh m =
           SlotMeans-fresh_offset e i z (slot_at (stack_slots_of a j) k) cs (fresh.slots j k) h;
     }) m
 
--- and a null identity for null or for any value
+-- and a null identity that none uses may be assigned null or the serial of any map value
 pub MeansBy-fresh_null : (p : Program) (e : Assigned) (a : State) (s : Machine.State) (i : ℕ)
     (o : Option ℕ) → IsFreshNull a i
-    → MeansBy p e a s → MeansBy p (with_value e i o) a s
+    → MeansBy p e a s → MeansBy p (with_map_value e i o) a s
 MeansBy-fresh_null p e a s i o fresh m =
-    MeansBy-change p e (with_value e i o) a a s
+    MeansBy-change p e (with_map_value e i o) a a s
     (record {
       none = m.assigned.none;
       length_is = m.assigned.length_is;
@@ -335,8 +338,9 @@ MeansBy-fresh_null p e a s i o fresh m =
     refl refl
     (λ j below. record {
       registers =
-          λ k v h. Allows-fresh_value (kind_at (kinds_of a j) k) e i o v (fresh.registers j k) h;
+          λ k v h.
+          Allows-fresh_map_value (kind_at (kinds_of a j) k) e i o v (fresh.registers j k) h;
       slots =
           λ k cs inside h.
-          SlotMeans-fresh_value e i o (slot_at (stack_slots_of a j) k) cs (fresh.slots j k) h;
+          SlotMeans-fresh_map_value e i o (slot_at (stack_slots_of a j) k) cs (fresh.slots j k) h;
     }) m

@@ -12,7 +12,7 @@ use Rattle.isa_model.specs.declared.values.Cell.TheVariants.{Byte}
 use Rattle.isa_model.specs.Code.Sizes.{size_bytes}
 use Rattle.isa_model.specs.Code.Numbers.{bytes_of}
 use Rattle.isa_model.specs.Code.Instructions.{Program}
-use Rattle.isa_model.specs.Machine.States.{new_frame, frame_at}
+use Rattle.isa_model.specs.Machine.States.{new_call_frame, call_frame_at}
 use Rattle.isa_model.specs.Machine.States as Machine
 use Rattle.isa_model.specs.Machine.Memory.{index_at, write, store}
 use Rattle.isa_model.specs.Machine.MachineStates.{IsCell, IsCallFrame}
@@ -33,17 +33,17 @@ use Rattle.stack_state.proofs.EffectLaws.{IfLeft, MeansBy-cells}
 write_there : (s : Machine.State) (serial j at : ℕ) (z by : ℤ) (new : List Cell)
     → IsHere s serial j at (length new) z by
     → write s (region.CallFrame serial) (index_at (region.CallFrame serial) (z +ℤ by)) new
-    ≡ Ok (with_cells s j (cells_with (frame_at s.frames j).cells at new))
+    ≡ Ok (with_cells s j (cells_with (call_frame_at s.frames j).cells at new))
 write_there s serial j at z by new h =
-    let inside : nat_le (at + length new) (length (frame_at s.frames j).cells) ≡ true =
-    le-leb (at + length new) (length (frame_at s.frames j).cells) h.inside in
+    let inside : nat_le (at + length new) (length (call_frame_at s.frames j).cells) ≡ true =
+    le-leb (at + length new) (length (call_frame_at s.frames j).cells) h.inside in
     rw (h.index, h.found, inside)
 
 stores_number_here : (e : Assigned) (s : Machine.State) (old new : List StackSlot) (size : Size)
     (serial j at n rows next : ℕ) (z by : ℤ) (numbers : Scalar)
     → IsHere s serial j at (size_bytes size) z by
-    → All (IsCell rows next) (frame_at s.frames j).cells → Has numbers n
-    → StackMeans e old (frame_at s.frames j).cells → StoresNumber old at size numbers new
+    → All (IsCell rows next) (call_frame_at s.frames j).cells → Has numbers n
+    → StackMeans e old (call_frame_at s.frames j).cells → StoresNumber old at size numbers new
     → LeavesFrame s j e new (store s size (Ptr (region.CallFrame serial) z) by (Num n))
 unfolding StoresNumber
 stores_number_here e s old new size serial j at n rows next z by numbers h fit has m stores =
@@ -52,17 +52,17 @@ stores_number_here e s old new size serial j at n rows next z by numbers h fit h
     ∙ length-bytes_of size n in
     let here : IsHere s serial j at (length bytes) z by =
     subst (λ (k : ℕ). IsHere s serial j at k z by) (sym long) h in (
-      cells_with (frame_at s.frames j).cells at bytes,
+      cells_with (call_frame_at s.frames j).cells at bytes,
       write_there s serial j at z by bytes here,
-      stores e rows next (frame_at s.frames j).cells n fit has m,
+      stores e rows next (call_frame_at s.frames j).cells n fit has m,
     )
 
 frame_cells_fit : (p : Program) (e : Assigned) (a : State) (s : Machine.State) (j : ℕ) → j < depth a
-    → MeansBy p e a s → All (IsCell (length p.maps) s.next_serial) (frame_at s.frames j).cells
+    → MeansBy p e a s → All (IsCell (length p.maps) s.next_serial) (call_frame_at s.frames j).cells
 frame_cells_fit p e a s j inside m =
     let count = depth_is_length p e a s m in
-    let fits : IsCallFrame p s.next_serial (frame_at s.frames j) =
-    m.is_state.frames j (new_frame 0 0 []) (omega arith) in
+    let fits : IsCallFrame p s.next_serial (call_frame_at s.frames j) =
+    m.is_state.frames j (new_call_frame 0 0 []) (omega arith) in
     fits.cells
 
 -- bytes of one of the numbers are stored

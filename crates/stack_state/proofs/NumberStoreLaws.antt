@@ -9,7 +9,7 @@ use Rattle.std.proofs.lemmas.Nat.Bits.{bit_at_ones}
 use Rattle.std.proofs.lemmas.List.{length-map, get_or_past}
 use Rattle.std.proofs.lemmas.List.Elements.{All-take, All-drop}
 use Rattle.std.proofs.Math.ListN.{get_or-map as get_or-map_default}
-use Rattle.isa_model.specs.Code.Limits.{frame_size}
+use Rattle.isa_model.specs.Code.Limits.{stack_size}
 use Rattle.isa_model.specs.declared.sizes.Size.{Size}
 use Rattle.isa_model.specs.declared.sizes.Size.TheVariants.{U8, U16, U32, U64}
 use Rattle.isa_model.specs.declared.values.Value.TheVariants.{Num}
@@ -17,7 +17,7 @@ use Rattle.isa_model.specs.declared.values.Cell.{Cell}
 use Rattle.isa_model.specs.declared.values.Cell.TheVariants.{Unwritten, Byte, Piece}
 use Rattle.isa_model.specs.Code.Sizes.{size_bytes}
 use Rattle.isa_model.specs.Code.Numbers.{bytes_of, number_from}
-use Rattle.isa_model.specs.Code.LittleEndian.{EachByte}
+use Rattle.isa_model.specs.Code.EachByte.{EachByte}
 use Rattle.isa_model.specs.Machine.Memory.{is_byte, byte_in, number_of}
 use Rattle.isa_model.specs.Machine.MachineStates.{IsCell}
 use Rattle.isa_model.proofs.ByteCells.{map-byte_in-Byte}
@@ -47,9 +47,9 @@ bytes_number U64 y fits = number_of-part y 0 U64 fits (omega arith) ∙ omega ar
 
 -- ---- cells
 
-byte_at_place : (cs : List Cell) (i : ℕ)
+byte_at_index : (cs : List Cell) (i : ℕ)
     → slice_index (map byte_in cs) i ≡ byte_in (slice_index_or cs i Unwritten)
-byte_at_place cs i = get_or-map_default byte_in cs i Unwritten
+byte_at_index cs i = get_or-map_default byte_in cs i Unwritten
 
 -- cells that are all bytes are those of their bytes
 cells_of_bytes : (cs : List Cell)
@@ -83,24 +83,24 @@ chunk_spliced cells at ys inside fits =
     let new : List Cell = chunk_of k (cells_with cells at (map Byte ys)) in
     let long : length (map Byte ys) ≡ length ys = length-map ys Byte in
     record {
-      below = λ i lt. byte_at_place new i
+      below = λ i lt. byte_at_index new i
           ∙ ap byte_in
           (chunk_kept cells (map Byte ys) at k i Unwritten (omega arith) (inl (omega arith))
           (omega arith))
-          ∙ sym (byte_at_place old i);
+          ∙ sym (byte_at_index old i);
       there = λ i lt.
           let same : 8 * k + (at % 8 + i) - at ≡ i = omega arith in
-          byte_at_place new (at % 8 + i)
+          byte_at_index new (at % 8 + i)
           ∙ ap byte_in
           (chunk_written cells (map Byte ys) at k (at % 8 + i) Unwritten (omega arith) (omega arith)
           (omega arith) (omega arith))
           ∙ ap (λ j. byte_in (slice_index_or (map Byte ys) j Unwritten)) same
-          ∙ sym (byte_at_place (map Byte ys) i)
+          ∙ sym (byte_at_index (map Byte ys) i)
           ∙ ap (λ bytes. slice_index bytes i) (map-byte_in-Byte ys);
-      above = λ i from lt. byte_at_place new i
+      above = λ i from lt. byte_at_index new i
           ∙ ap byte_in
           (chunk_kept cells (map Byte ys) at k i Unwritten lt (inr (omega arith)) (omega arith))
-          ∙ sym (byte_at_place old i);
+          ∙ sym (byte_at_index old i);
     }
 
 -- the number of a slot's cells after the bytes of another were written inside it
@@ -114,16 +114,16 @@ number_of-spliced cells at y size inside fits small old =
     let bs : List ℕ = map byte_in (chunk_of (at / 8) cells) in
     let cs : List ℕ = map byte_in (chunk_of (at / 8) (cells_with cells at (map Byte ys))) in
     let long : length ys ≡ size_bytes size = length-bytes_of size y in
-    let places = chunk_spliced cells at ys (omega arith) (omega arith) in
+    let splice = chunk_spliced cells at ys (omega arith) (omega arith) in
     spliced_number (at % 8) (size_bytes size) (8 - (at % 8 + size_bytes size)) bs ys cs y
     (omega arith) old long (bytes_number size y small)
-    (subst (λ n. AreSpliced (at % 8) n bs ys cs) long places)
+    (subst (λ n. AreSpliced (at % 8) n bs ys cs) long splice)
 
--- each byte of a number is one
+-- each byte of a number is under 256
 each_byte_of : (size : Size) (y : ℕ) → EachByte (bytes_of size y)
 each_byte_of size y = slice_index_fits (bytes_of size y) (bytes_of_fit size y)
 
--- and so are those of a list with bytes of another in it
+-- and so is each of a list with bytes of another in it
 spliced_bytes : (r n : ℕ) (bs ys cs : List ℕ) → length cs ≡ 8 → EachByte bs → EachByte ys
     → AreSpliced r n bs ys cs → EachByte cs
 spliced_bytes r n bs ys cs long old new h i =
@@ -132,10 +132,10 @@ spliced_bytes r n bs ys cs long old new h i =
         | inl below ↦ let e = h.below i below in let b = old i in omega arith
         | inr from ↦ elim (cases_lt i (r + n)) [
           | inl before ↦
-              let place : r + (i - r) ≡ i = omega arith in
+              let index : r + (i - r) ≡ i = omega arith in
               let e = h.there (i - r) (omega arith) in
               let b = new (i - r) in
-              let same = ap (λ j. slice_index cs j) place in
+              let same = ap (λ j. slice_index cs j) index in
               omega arith
           | inr above ↦ let e = h.above i (omega arith) within in let b = old i in omega arith
         ]
@@ -182,12 +182,12 @@ slot_stored e rows next s t cells at n size numbers inside fits eight fit has h 
     subst (λ m. Marked m new)
     (ap (λ k. bit_or (marks_of s) (mask_of (at % 8) (at % 8 + k))) some ∙ all) marked in
     let number = number_of-spliced cells at n size inside fits small old_bytes in
-    let places = chunk_spliced cells at bytes (omega arith) (omega arith) in
+    let splice = chunk_spliced cells at bytes (omega arith) (omega arith) in
     let new_bytes : EachByte (map byte_in new) =
     spliced_bytes (at % 8) (length bytes) (map byte_in old) bytes (map byte_in new)
     (length-map new byte_in
     ∙ length-chunk (at / 8) (cells_with cells at (map Byte bytes)) (omega arith)) old_bytes
-    (each_byte_of size n) places in
+    (each_byte_of size n) splice in
     let same : new ≡ stored_cells (Num (number_of new)) =
     stored_bytes new
     (length-chunk (at / 8) (cells_with cells at (map Byte bytes)) (omega arith)) new_bytes
@@ -199,12 +199,12 @@ slot_stored e rows next s t cells at n size numbers inside fits eight fit has h 
     (number_of new, refl, one) same
 
 pub stores_number : (slots : List StackSlot) (at : ℕ) (size : Size) (numbers : Scalar)
-    (t : StackSlot) → length slots ≡ frame_slots → at < frame_size
+    (t : StackSlot) → length slots ≡ frame_slots → at < stack_size
     → at % 8 + size_bytes size ≤ 8 → IsSlotStored (slot_at slots (at / 8)) (at % 8) size numbers t
     → StoresNumber slots at size numbers (slice_set slots (at / 8) t)
 unfolding StoresNumber
 stores_number slots at size numbers t count below inside is = λ e rows next cells n fit has m.
-    let wide : length cells ≡ frame_size = m.size in
+    let wide : length cells ≡ stack_size = m.size in
     let bytes : List ℕ = bytes_of size n in
     let some : length bytes ≡ size_bytes size = length-bytes_of size n in
     let long : length (map Byte bytes) ≡ length bytes = length-map bytes Byte in
@@ -236,7 +236,7 @@ stores_number slots at size numbers t count below inside is = λ e rows next cel
     slot_changed e slots cells (map Byte bytes) at (at / 8) t count within (omega arith)
     (omega arith) m after
 
--- a size is some bytes
+-- each size is at least one byte
 pub size_some : (size : Size) → 0 < size_bytes size
 size_some U8 = omega arith
 size_some U16 = omega arith

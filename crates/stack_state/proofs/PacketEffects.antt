@@ -10,7 +10,7 @@ use Rattle.stack_state.specs.declared.states.State.{State}
 use Rattle.stack_state.specs.Meaning.{MeansBy}
 use Rattle.stack_state.proofs.MeaningLaws.{MeansBy-onto}
 
--- the packet's bytes are others, and as many
+-- the packet has other bytes, and the same number of them
 pub MeansBy-packet : (p : Program) (e : Assigned) (a : State) (s : Machine.State) (bytes : List ℕ)
     → length bytes ≡ length s.packet → IsState p (record s { packet = bytes }) → MeansBy p e a s
     → MeansBy p e a (record s { packet = bytes })

@@ -6,7 +6,7 @@ use Rattle.std.proofs.Math.Nat.{add-zero}
 use Rattle.std.proofs.lemmas.Nat.{pow-add, mul-add-lt, mod-mul-add, div-mul-add}
 use Rattle.std.proofs.lemmas.List.{get_or_past}
 use Rattle.isa_model.specs.Code.Numbers.{number_from}
-use Rattle.isa_model.specs.Code.LittleEndian.{EachByte}
+use Rattle.isa_model.specs.Code.EachByte.{EachByte}
 use Rattle.known_bits.specs.Bits.{spliced}
 
 -- ---- the number of bytes, the lowest first
@@ -75,7 +75,7 @@ number_from-short ys n k all long =
     number_from-spelled ys ∙ ap (spelled (slice_index ys)) (sym all)
     ∙ omega (arith, rw none at upper)
 
--- which has as many bits
+-- n bytes spell a number of 8 * n bits
 pub number_from-fits : (ys : List ℕ) (n : ℕ) → n ≤ 8 → length ys ≡ n → EachByte ys
     → number_from ys < 2 ^ (8 * n)
 number_from-fits ys n few long each =

@@ -100,7 +100,7 @@ part_of-chunk xs at n inside =
     let r = at % 8 in
     let ys = drop (8 * k) xs in
     let eight : r + (8 - r) ≡ 8 = omega arith in
-    let place : 8 * k + r ≡ at = omega arith in
+    let index : 8 * k + r ≡ at = omega arith in
     let short = ap (λ m. drop r (take m ys)) (sym eight) ∙ drop-take r (8 - r) ys in
     sym (ap (take n) short ∙ take-take n (8 - r) (drop r ys) (omega arith)
-    ∙ ap (take n) (drop-drop r (8 * k) xs ∙ ap (λ m. drop m xs) place))
+    ∙ ap (take n) (drop-drop r (8 * k) xs ∙ ap (λ m. drop m xs) index))

@@ -1,4 +1,4 @@
--- What the calls of `StackState` do to the cells that the slots mean.
+-- What the methods of `StackState` do to the cells that the slots mean.
 use Rattle.std.specs.Prelude.{◌≡◌, ◌≢◌, ℕ, ◌+◌, ◌*◌, ◌/◌, ◌%◌, ◌^◌, ◌<◌, ◌≤◌, true, List, map, drop, length, replicate, slice_set, slice_index_or, All, Option, Some, None, ◌⊎◌, bit_or}
 use Rattle.std.specs.Int.{bit_at}
 use Rattle.std.specs.List.{list_all}
@@ -6,7 +6,7 @@ use Rattle.std.proofs.Common.{sym, ap, ◌∙◌, subst, inl, inr, arith}
 use Rattle.std.proofs.lemmas.Bool.{cases_eq, cases_lt}
 use Rattle.std.proofs.lemmas.List.{length-map, length-take, length-take-le, length-drop, get_or-take, get_or-drop, get_or-map, get_or-replicate, get_or-set_same, get_or-set_other}
 use Rattle.std.proofs.lemmas.List.Elements.{All-take, All-drop}
-use Rattle.isa_model.specs.Code.Limits.{frame_size}
+use Rattle.isa_model.specs.Code.Limits.{stack_size}
 use Rattle.isa_model.specs.declared.sizes.Size.{Size}
 use Rattle.isa_model.specs.declared.sizes.Size.TheVariants.{U8, U16, U32, U64}
 use Rattle.isa_model.specs.declared.values.Value.{Value}
@@ -63,7 +63,7 @@ pub slot_changed : (e : Assigned) (slots : List StackSlot) (cells new : List Cel
     → SlotMeans e s (chunk_of k (cells_with cells at new))
     → StackMeans e (slice_set slots k s) (cells_with cells at new)
 slot_changed e slots cells new at k s count within from to m h =
-    let size : length cells ≡ frame_size = m.size in
+    let size : length cells ≡ stack_size = m.size in
     record {
       size = length-cells_with cells new at (omega arith) ∙ m.size;
       each = λ j below. elim (cases_eq j k) [
@@ -114,7 +114,7 @@ SlotMeans-marks e f s marks cs fewer h =
     λ i within bit. marked_slot e s cs h i within (fewer i within bit)
 
 -- of a new call frame nothing is known
-pub StackMeans-new : (e : Assigned) (cells : List Cell) → length cells ≡ frame_size
+pub StackMeans-new : (e : Assigned) (cells : List Cell) → length cells ≡ stack_size
     → StackMeans e (replicate frame_slots (Written 0)) cells
 StackMeans-new e cells wide = record {
   size = wide;
@@ -128,14 +128,14 @@ StackMeans-new e cells wide = record {
 -- ---- writes
 
 pub stores : (slots new : List StackSlot) (at : ℕ) (size : Size) → length slots ≡ frame_slots
-    → at < frame_size → at % 8 + size_bytes size ≤ 8
+    → at < stack_size → at % 8 + size_bytes size ≤ 8
     → new ≡ after_store slots at (size_bytes size) → StoresBytes slots at size new
 unfolding StoresBytes
 stores slots new at size count below inside is = λ e cells n m.
     let bytes : List ℕ = bytes_of size n in
     let some : length bytes ≡ size_bytes size = length-bytes_of size n in
     let long : length (map Byte bytes) ≡ length bytes = length-map bytes Byte in
-    let wide : length cells ≡ frame_size = m.size in
+    let wide : length cells ≡ stack_size = m.size in
     let within : at / 8 < frame_slots = omega arith in
     let marks : ℕ = marks_of (slot_at slots (at / 8)) in
     let before =
@@ -172,7 +172,7 @@ pub spills : (slots new : List StackSlot) (k : ℕ) (kind : Kind) → length slo
     → new ≡ slice_set slots k (slot_at new k) → Spills slots k kind new
 unfolding Spills
 spills slots new k kind count within is others = λ e cells v set allowed m.
-    let wide : length cells ≡ frame_size = m.size in
+    let wide : length cells ≡ stack_size = m.size in
     let eight : length (stored_cells v) ≡ 8 = length-stored_cells v set in
     subst (λ (l : List StackSlot). StackMeans e l (cells_with cells (8 * k) (stored_cells v)))
     (sym others)
@@ -184,7 +184,7 @@ spills slots new k kind count within is others = λ e cells v set allowed m.
 -- ---- reads
 
 -- a byte that is marked
-byte_at : (e : Assigned) (slots : List StackSlot) (cells : List Cell) (i : ℕ) → i < frame_size
+byte_at : (e : Assigned) (slots : List StackSlot) (cells : List Cell) (i : ℕ) → i < stack_size
     → StackMeans e slots cells → bit_at (marks_of (slot_at slots (i / 8))) (i % 8) ≡ 1
     → is_byte (slice_index_or cells i Unwritten) ≡ true
 byte_at e slots cells i below m bit =
@@ -198,10 +198,10 @@ byte_at e slots cells i below m bit =
     (get_or-chunk (i / 8) (i % 8) cells Unwritten inside) here)
 
 pub marked_are_bytes : (e : Assigned) (slots : List StackSlot) (cells : List Cell) (from n : ℕ)
-    → from + n ≤ frame_size → AreMarked slots from (from + n) → StackMeans e slots cells
+    → from + n ≤ stack_size → AreMarked slots from (from + n) → StackMeans e slots cells
     → list_all is_byte (part_of cells from n) ≡ true
 marked_are_bytes e slots cells from n inside marked m =
-    let wide : length cells ≡ frame_size = m.size in
+    let wide : length cells ≡ stack_size = m.size in
     all_bytes (part_of cells from n) (λ i below.
     let short : i < n = (let l = length-take n (drop from cells) in omega arith) in
     ap is_byte (get_or-take n (drop from cells) i Unwritten short
@@ -209,7 +209,7 @@ marked_are_bytes e slots cells from n inside marked m =
     ∙ byte_at e slots cells (from + i) (omega arith) m
     (marked (from + i) (omega arith) (omega arith)))
 
-pub are_bytes : (slots : List StackSlot) (from n : ℕ) → from + n ≤ frame_size
+pub are_bytes : (slots : List StackSlot) (from n : ℕ) → from + n ≤ stack_size
     → AreMarked slots from (from + n) → AreNumberBytes slots from n
 unfolding AreNumberBytes
 are_bytes slots from n inside marked = λ e cells m.
@@ -285,12 +285,12 @@ part_number e (Spilled (Number numbers)) cells at U64 loaded inside are h below 
 part_number e (Spilled k) cells at size loaded inside are h below = (are _).1 below
 
 pub loads : (slots : List StackSlot) (at : ℕ) (size : Size) (loaded : Option Scalar)
-    → at < frame_size → at % 8 + size_bytes size ≤ 8
+    → at < stack_size → at % 8 + size_bytes size ≤ 8
     → IsLoad slots at size loaded → LoadsNumber slots at size loaded
 unfolding LoadsNumber
 loads slots at size None below inside is = tt
 loads slots at size (Some numbers) below inside is = λ e rows next cells fit m.
-    let wide : length cells ≡ frame_size = m.size in
+    let wide : length cells ≡ stack_size = m.size in
     let within : at / 8 < frame_slots = omega arith in
     let all = marked_are_bytes e slots cells at (size_bytes size) (omega arith) is.0 m in (
       number_of (part_of cells at (size_bytes size)),

@@ -2,13 +2,13 @@
 use Rattle.std.specs.Prelude.{ℕ, zero, suc, ◌<◌, pos, List, [], ◌∷◌, None, refl, length, replicate}
 use Rattle.std.proofs.Common.{arith}
 use Rattle.std.proofs.lemmas.List.{length-replicate}
-use Rattle.isa_model.specs.Code.Limits.{frame_size}
+use Rattle.isa_model.specs.Code.Limits.{stack_size}
 use Rattle.isa_model.specs.declared.values.Value.{Value}
 use Rattle.isa_model.specs.declared.values.Cell.TheVariants.{Unwritten}
 use Rattle.isa_model.specs.declared.frames.FrameHead.{FrameHead}
 use Rattle.isa_model.specs.Code.Instructions.{Program}
-use Rattle.isa_model.specs.Machine.States.{KeyValues, value_at, new_frame, frame_at}
-use Rattle.isa_model.specs.Running.Runs.{count_values, numbered_maps, start_regs, start_state}
+use Rattle.isa_model.specs.Machine.States.{KeyValues, value_at, new_call_frame, call_frame_at}
+use Rattle.isa_model.specs.Running.Runs.{count_map_values, numbered_maps, start_regs, start_state}
 use Rattle.isa_model.specs.Machine.MachineStates.{IsProgram, IsGiven}
 use Rattle.isa_model.proofs.StepLaws.{start_is_state}
 use Rattle.reg_state.specs.Kinds.{Assigned, Allows}
@@ -22,9 +22,9 @@ abbrev pub at_start : List ℕ → List KeyValues → Assigned
 at_start packet contents =
     record {
       offset = λ identity. pos 0;
-      value = λ identity. None;
+      map_value = λ identity. None;
       packet_length = length packet;
-      frames = count_values contents ∷ [];
+      frames = count_map_values contents ∷ [];
       maps = numbered_maps 0 contents;
     }
 
@@ -44,17 +44,18 @@ first_allowed e serial (suc (suc (suc (suc (suc (suc (suc (suc (suc (suc k))))))
 
 -- all bytes of the first call frame are unset
 first_stack : (e : Assigned) (serial j : ℕ) (saved : List Value) → j < 1
-    → StackMeans e (stack_slots_of start j) (frame_at (new_frame serial 0 saved ∷ []) j).cells
-unfolding start new_frame
+    → StackMeans e (stack_slots_of start j)
+    (call_frame_at (new_call_frame serial 0 saved ∷ []) j).cells
+unfolding start new_call_frame
 first_stack e serial zero saved below =
-    StackMeans-new e (replicate frame_size Unwritten) (length-replicate frame_size Unwritten)
+    StackMeans-new e (replicate stack_size Unwritten) (length-replicate stack_size Unwritten)
 first_stack e serial (suc j) saved below = absurd (omega arith)
 
 -- it means every state in which a run begins
 pub Means-start : (p : Program) (head : FrameHead) (packet : List ℕ) (contents : List KeyValues)
     → IsProgram p
     → IsGiven p head packet contents → Means p start (start_state head packet contents)
-unfolding Means start start_state new_frame
+unfolding Means start start_state new_call_frame
 Means-start p head packet contents program given = (at_start packet contents, means)
   where
     means : MeansBy p (at_start packet contents) start (start_state head packet contents)
@@ -64,7 +65,9 @@ Means-start p head packet contents program given = (at_start packet contents, me
       slot_is = refl;
       returns = refl;
       pointer = refl;
-      registers = λ k. first_allowed (at_start packet contents) (count_values contents) k;
+      registers = λ k. first_allowed (at_start packet contents) (count_map_values contents) k;
       kept = λ j k below within. absurd (omega arith);
-      stacks = λ j below. first_stack (at_start packet contents) (count_values contents) j _ below;
+      stacks =
+          λ j below.
+          first_stack (at_start packet contents) (count_map_values contents) j _ below;
     }

@@ -20,7 +20,7 @@ use Rattle.stack_state.specs.StackMeaning.{SlotMeans, with_maps}
 use Rattle.stack_state.proofs.StackLaws.{SlotMeans-spilled}
 use Rattle.stack_state.proofs.MeaningLaws.{MeansBy-onto}
 
--- the live values stay live
+-- the live map values stay live
 abbrev pub KeepsLive : List Content → List Content → Type 0
 KeepsLive before after = (m n : ℕ) → HasLiveValue before m n → HasLiveValue after m n
 
@@ -32,7 +32,7 @@ KeepsAssigned-live : (k : Kind) (e : Assigned) (maps : List Content) → KeepsLi
     → KeepsAssigned k e (with_maps e maps)
 KeepsAssigned-live k e maps keeps = record {
   offsets = each_some (packet_identity_of k) (λ i. e.offset i ≡ e.offset i) (λ i. refl);
-  values = each_some (null_identity_of k) (λ i. e.value i ≡ e.value i) (λ i. refl);
+  map_values = each_some (null_identity_of k) (λ i. e.map_value i ≡ e.map_value i) (λ i. refl);
   packet_lengths = refl;
   serials = each_some (frame_in k) (λ j. slice_get e.frames j ≡ slice_get e.frames j) (λ j. refl);
   live =
@@ -46,8 +46,8 @@ SlotMeans-live e maps (Spilled k) cs keeps h =
     SlotMeans-spilled e (with_maps e maps) k k cs
     (λ v. Allows-kept k e (with_maps e maps) v (KeepsAssigned-live k e maps keeps)) h
 
--- the maps have other contents, in which all live values are live, whatever serials and answers of
--- the clock were given
+-- the maps have other contents, in which all live map values are live, whatever serials and
+-- answers of the clock were given
 pub MeansBy-given : (p : Program) (e : Assigned) (a : State) (s : Machine.State)
     (maps : List Content) (next calls : ℕ) → KeepsLive s.maps maps
     → IsState p (record s { maps = maps; clock_calls = calls; next_serial = next })

@@ -1,6 +1,6 @@
 -- Places in a call frame, and what is written there in any live frame of a state.
 use Rattle.std.specs.Prelude.{◌≡◌, ℕ, ◌+◌, ◌%◌, ℤ, pos, ◌+ℤ◌, ◌≤◌, slice_set, Option, Some, None}
-use Rattle.isa_model.specs.Code.Limits.{frame_size}
+use Rattle.isa_model.specs.Code.Limits.{stack_size}
 use Rattle.isa_model.specs.declared.sizes.Size.{Size}
 use Rattle.isa_model.specs.Code.Sizes.{size_bytes}
 use Rattle.reg_state.specs.declared.kinds.Kind.{Kind}
@@ -13,14 +13,14 @@ use Rattle.stack_state.specs.Effects.{with_frame_slots}
 
 -- n bytes of a frame from a place on; `None`: they are not all in the frame
 abbrev pub FindsBytes : ℤ → ℕ → Option ℕ → Type 0
-FindsBytes z n (Some at) = (z ≡ pos at) × (at + n ≤ frame_size)
-FindsBytes z n None = (at : ℕ) → z ≡ pos at → ¬ (at + n ≤ frame_size)
+FindsBytes z n (Some at) = (z ≡ pos at) × (at + n ≤ stack_size)
+FindsBytes z n None = (at : ℕ) → z ≡ pos at → ¬ (at + n ≤ stack_size)
 
 -- an offset from a frame's end is that of byte `at`: the bytes of the size are all in the frame,
 -- and begin at a multiple of the size
 pub record IsPlace (z : ℤ) (size : Size) (at : ℕ) : Type 0 where
-  pub from_start : z +ℤ pos frame_size ≡ pos at
-  pub inside : at + size_bytes size ≤ frame_size
+  pub from_start : z +ℤ pos stack_size ≡ pos at
+  pub inside : at + size_bytes size ≤ stack_size
   pub aligned : at % size_bytes size ≡ 0
 
 abbrev pub FindsPlace : ℤ → Size → Option ℕ → Type 0

@@ -10,4 +10,4 @@ pub mod Effects
 pub mod FramePlaces
 pub mod NumberStores
 pub mod Calls
-pub mod Answers
+pub mod HelperAnswers

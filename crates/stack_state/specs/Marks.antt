@@ -16,8 +16,8 @@ pub record IsFreshIn (sort : IdentitySort) (f : AbstractFrame) (i : ℕ) : Type 
   pub registers : (k : ℕ) → named_by sort (kind_at f.registers k) ≢ Some i
   pub slots : (k : ℕ) → named_by sort (kind_in (slot_at f.stack.slots k)) ≢ Some i
 
--- none of the first n places names the identity; `Free` says of a place which identities it does
--- not name
+-- none of the first n registers, slots or call frames names the identity; `Free` says of each
+-- which identities it does not name
 abbrev pub AreFree : (ℕ → ℕ → Type 0) → ℕ → ℕ → Type 0
 AreFree Free n i = (k : ℕ) → k < n → Free k i
 

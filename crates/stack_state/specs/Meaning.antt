@@ -2,7 +2,7 @@
 use Rattle.std.specs.Prelude.{◌≡◌, ℕ, suc, ◌+◌, ◌<◌, pos, List, [], ◌∷◌, ◌++◌, map, length, slice_index_or}
 use Rattle.isa_model.specs.declared.registers.Reg.TheVariants.{R10}
 use Rattle.isa_model.specs.Code.Instructions.{Program}
-use Rattle.isa_model.specs.Machine.States.{value_at, reg, frame_pointer, frame_at}
+use Rattle.isa_model.specs.Machine.States.{value_at, reg, frame_pointer, call_frame_at}
 use Rattle.isa_model.specs.Machine.States as Machine
 use Rattle.isa_model.specs.Machine.Calls.{innermost}
 use Rattle.isa_model.specs.Running.Ends.{Ends}
@@ -67,9 +67,11 @@ pub record MeansBy (p : Program) (e : Assigned) (a : State) (s : Machine.State) 
   pub registers : (k : ℕ) → Allows e (kind_at (registers_of a) k) (value_at s.regs k)
   -- the registers that a call saved for the frame are in the frame that it pushed
   pub kept : (j k : ℕ) → suc j < depth a → k < 4
-      → Allows e (kind_at (kinds_of a j) (6 + k)) (value_at (frame_at s.frames (suc j)).saved k)
+      → Allows e (kind_at (kinds_of a j) (6 + k))
+      (value_at (call_frame_at s.frames (suc j)).saved k)
   -- each live frame's stack slots mean its cells
-  pub stacks : (j : ℕ) → j < depth a → StackMeans e (stack_slots_of a j) (frame_at s.frames j).cells
+  pub stacks : (j : ℕ) → j < depth a
+      → StackMeans e (stack_slots_of a j) (call_frame_at s.frames j).cells
 
 -- one assignment is used for the whole state
 unfoldable pub Means : Program → State → Machine.State → Type 0

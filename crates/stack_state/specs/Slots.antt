@@ -1,7 +1,7 @@
--- The slots of a call frame, and what the calls of `StackState` do with them.
+-- The slots of a call frame, and what the methods of `StackState` do with them.
 use Rattle.std.specs.Prelude.{◌≡◌, ◌≢◌, ℕ, ◌+◌, ◌-◌, ◌*◌, ◌/◌, ◌%◌, ◌^◌, ◌<◌, ◌≤◌, ◌==◌, ◌↔◌, List, map, slice_set, slice_index_or, Option, Some, None, bit_or, if◌then◌else◌}
 use Rattle.std.specs.Int.{bit_at}
-use Rattle.isa_model.specs.Code.Limits.{frame_size}
+use Rattle.isa_model.specs.Code.Limits.{stack_size}
 use Rattle.isa_model.specs.declared.sizes.Size.{Size}
 use Rattle.isa_model.specs.declared.sizes.Size.TheVariants.{U64}
 use Rattle.isa_model.specs.Code.Sizes.{size_bytes}
@@ -15,7 +15,7 @@ use Rattle.stack_state.specs.declared.slots.StackSlot.TheVariants.{Written, Spil
 
 -- how many slots of 8 bytes a call frame has
 abbrev pub frame_slots : ℕ
-frame_slots = frame_size / 8
+frame_slots = stack_size / 8
 
 abbrev pub slot_at : List StackSlot → ℕ → StackSlot
 slot_at slots k = slice_index_or slots k (Written 0)

@@ -1,9 +1,9 @@
--- What the slots of a call frame mean: cells; and how the calls of `StackState` change that. The
+-- What the slots of a call frame mean: cells; and how the methods of `StackState` change that. The
 -- contracts cite the definitions below; StackLaws and FrameLaws have the laws.
 use Rattle.std.specs.Prelude.{◌≡◌, ◌≢◌, ℕ, ◌+◌, ◌*◌, ◌<◌, true, List, [], map, take, drop, length, slice_index_or, All, Option, Ok, IfSome}
 use Rattle.std.specs.Int.{bit_at}
 use Rattle.std.specs.List.{splice, list_all}
-use Rattle.isa_model.specs.Code.Limits.{frame_size}
+use Rattle.isa_model.specs.Code.Limits.{stack_size}
 use Rattle.isa_model.specs.declared.sizes.Size.{Size}
 use Rattle.isa_model.specs.declared.sizes.Size.TheVariants.{U64}
 use Rattle.isa_model.specs.declared.values.Value.{Value}
@@ -33,7 +33,7 @@ part_of cells at n = take n (drop at cells)
 abbrev pub chunk_of : {X : Type 0} → ℕ → List X → List X
 chunk_of k cells = part_of cells (8 * k) 8
 
--- the cells with new ones written at a place
+-- the cells with new ones written from an index on
 abbrev pub cells_with : {X : Type 0} → List X → ℕ → List X → List X
 cells_with cells at new = splice cells at (at + length new) new
 
@@ -54,12 +54,12 @@ abbrev pub SlotMeans : Assigned → StackSlot → List Cell → Type 0
 SlotMeans e (Written marks) cs = Marked marks cs
 SlotMeans e (Spilled k) cs = (v : Value) × Allows e k v × (cs ≡ stored_cells v)
 
--- under the assignment, the cells are members of the slots
+-- under the assignment, the slots mean the cells
 pub record StackMeans (e : Assigned) (slots : List StackSlot) (cells : List Cell) : Type 0 where
-  pub size : length cells ≡ frame_size
+  pub size : length cells ≡ stack_size
   pub each : (k : ℕ) → k < frame_slots → SlotMeans e (slot_at slots k) (chunk_of k cells)
 
--- ---- what the calls keep
+-- ---- what the methods keep
 
 -- the bytes of any number, stored at a place
 unfoldable pub StoresBytes : List StackSlot → ℕ → Size → List StackSlot → Type 0

@@ -44,16 +44,17 @@ fn left_kinds(answer: Kind, kinds: &[Kind; 10]) -> [Kind; 10]
 // ---- frames
 
 impl AbstractFrame {
-    /// It has called a function, and waits for its return.
-    fn wait(&mut self)
+    /// The frame becomes a caller's: only r6 to r9 are kept.
+    fn become_caller(&mut self)
         ensures { self.new ≡ caller_of self.old }
     {
         self.registers = kept_kinds(&self.registers);
     }
 
-    /// The frame becomes a caller's: it calls a function that returns to the slot of the code.
+    /// A caller's frame becomes that of the function that it calls, which returns to the slot of
+    /// the code.
     #[tactic(auto, unfolding(crate::specs::Calls::unset_slots))]
-    fn give_way(&mut self, slot: usize)
+    fn become_callee(&mut self, slot: usize)
         ensures { self.new ≡ callee_of self.old slot }
     {
         self.return_slot = slot;
@@ -79,9 +80,9 @@ impl State {
         ensures { self.new ≡ entered self.old target }
     {
         let mut caller = self.innermost;
-        caller.wait();
+        caller.become_caller();
         self.callers.push(caller);
-        self.innermost.give_way(self.slot + 1);
+        self.innermost.become_callee(self.slot + 1);
         self.slot = target;
     }
 

@@ -17,8 +17,8 @@ pub enum Fact {
         identity: u32,
         bytes: u32,
     },
-    /// What was looked up is null, or a live value; `zero` is what null is then known as: the
-    /// number 0.
+    /// What was looked up is null, or a pointer to a live map value; `zero` is what null is then
+    /// known as: the number 0.
     Tested {
         identity: u32,
         null: bool,

@@ -2,7 +2,7 @@
 
 ghost use Rattle.std.specs.Prelude.{◌≡◌, map};
 ghost use Rattle.stack_state.specs.Effects.{forgotten_register, forgotten_frame, forgotten_in};
-ghost use Rattle.stack_state.specs.Answers.{with_answer};
+ghost use Rattle.stack_state.specs.HelperAnswers.{with_answer};
 
 use crate::slots::{StackSlot, forgotten};
 use crate::states::{AbstractFrame, State};

@@ -2,21 +2,21 @@
 
 ghost use Rattle.std.specs.Prelude.{◌≡◌, ℤ, ◌+◌, ◌%◌, ◌<◌, ◌≤◌, ◌+ℤ◌, pos, MatchOption};
 ghost use Rattle.stack_state.specs.Slots.{frame_slots};
-ghost use Rattle.isa_model.specs.Code.Limits.{frame_size};
+ghost use Rattle.isa_model.specs.Code.Limits.{stack_size};
 ghost use Rattle.isa_model.specs.Code.Sizes.{size_bytes};
 ghost use Rattle.stack_state.specs.Meaning.{depth, abstract_frame_at};
 ghost use Rattle.stack_state.specs.FramePlaces.{FindsBytes, FindsPlace, IsStoredIn, IsSpilledIn};
 
 use crate::stacks::StackState;
 use crate::states::State;
-use isa_model::{FRAME_SIZE, Size};
+use isa_model::{STACK_SIZE, Size};
 use reg_state::Kind;
 
-/// How far a place is from the frame's start.
+/// The offset of a place from the frame's start.
 fn from_start(offset: i32, by: i16) -> i64
-    ensures { result ≡ (offset +ℤ by) +ℤ pos frame_size }
+    ensures { result ≡ (offset +ℤ by) +ℤ pos stack_size }
 {
-    i64::from(offset) + i64::from(by) + FRAME_SIZE as i64
+    i64::from(offset) + i64::from(by) + STACK_SIZE as i64
 }
 
 /// The byte at an offset from a frame's start, if the `count` bytes from there are in the frame.
@@ -26,15 +26,15 @@ pub fn frame_bytes(from_start: i64, count: u32) -> Option<usize>
     let Ok(at) = usize::try_from(from_start) else {
         return None;
     };
-    if at > FRAME_SIZE || count as usize > FRAME_SIZE - at {
+    if at > STACK_SIZE || count as usize > STACK_SIZE - at {
         return None;
     }
     Some(at)
 }
 
-/// The byte that far from the frame's start, if the bytes of the size are there and aligned.
+/// The byte at an offset from a frame's start, if the bytes of the size are there and aligned.
 fn aligned(from_start: i64, size: Size) -> Option<usize>
-    ensures { (z : ℤ) → from_start ≡ z +ℤ pos frame_size → FindsPlace z size result }
+    ensures { (z : ℤ) → from_start ≡ z +ℤ pos stack_size → FindsPlace z size result }
 {
     let at = frame_bytes(from_start, size.bytes() as u32)?;
     if at % size.bytes() != 0 {
@@ -72,7 +72,7 @@ impl State {
     /// Bytes of a number are written in a live frame.
     pub fn store(&mut self, frame: u8, at: usize, size: Size)
         requires live { frame < depth self.old }
-        requires inside { at < frame_size }
+        requires inside { at < stack_size }
         requires in_slot { at % 8 + size_bytes size ≤ 8 }
         ensures { IsStoredIn self.old frame at size self.new }
     {

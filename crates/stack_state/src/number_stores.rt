@@ -1,7 +1,7 @@
 //! Bytes of a number that are written into a stack slot.
 
 ghost use Rattle.std.specs.Prelude.{◌≡◌, ◌+◌, ◌*◌, ◌/◌, ◌%◌, ◌<◌, ◌≤◌, IsTrue, slice_set};
-ghost use Rattle.isa_model.specs.Code.Limits.{frame_size};
+ghost use Rattle.isa_model.specs.Code.Limits.{stack_size};
 ghost use Rattle.isa_model.specs.Code.Sizes.{size_bytes};
 ghost use Rattle.stack_state.specs.Meaning.{depth};
 ghost use Rattle.stack_state.specs.Slots.{slot_at, IsAny};
@@ -41,7 +41,7 @@ fn whole(slot: StackSlot) -> Scalar
 }
 
 /// Whether each number that the bytes may spell is one of the numbers.
-fn are_all(size: Size, numbers: Scalar) -> bool
+fn have_all(size: Size, numbers: Scalar) -> bool
     ensures { IsTrue result → HaveAll size numbers }
 {
     numbers.covers(all(size))
@@ -52,7 +52,7 @@ fn is_blank(slot: StackSlot, size: Size, numbers: Scalar) -> bool
     ensures { IsTrue result → IsBlank slot size numbers }
 {
     match slot {
-        StackSlot::Written(_) => are_all(size, numbers),
+        StackSlot::Written(_) => have_all(size, numbers),
         StackSlot::Spilled(_) => false,
     }
 }
@@ -77,7 +77,7 @@ impl StackState {
     /// Bytes of one of the numbers are written. Where all bytes of the slot are number bytes after
     /// it, what is known of their number is kept.
     pub fn store_number(&mut self, at: usize, size: Size, numbers: Scalar)
-        requires inside { at < frame_size }
+        requires inside { at < stack_size }
         requires in_slot { at % 8 + size_bytes size ≤ 8 }
         ensures exact { IsSlotStored (slot_at self.old.slots (at / 8)) (at % 8) size numbers
             (slot_at self.new.slots (at / 8)) }
@@ -93,7 +93,7 @@ impl State {
     /// Bytes of one of the numbers are written in a live call frame.
     pub fn store_number(&mut self, frame: u8, at: usize, size: Size, numbers: Scalar)
         requires live { frame < depth self.old }
-        requires inside { at < frame_size }
+        requires inside { at < stack_size }
         requires in_slot { at % 8 + size_bytes size ≤ 8 }
         ensures { IsNumberStoredIn self.old frame at size numbers self.new }
     {

@@ -1,4 +1,4 @@
-//! What is known of eight bytes of a call frame.
+//! What is known of a stack slot, and what a spill or a fill of it gives.
 
 ghost use Rattle.std.specs.Prelude.{◌≡◌, ℕ, ◌+◌, ◌-◌, ◌*◌, ◌^◌, ◌<◌, ◌≤◌, ◌↔◌, IsTrue};
 ghost use Rattle.isa_model.specs.Code.Sizes.{size_bytes};
@@ -40,7 +40,7 @@ impl StackSlot {
     }
 }
 
-/// The marks of this number of bytes of a slot, from byte `from` on.
+/// Marks for this many bytes of a slot, from byte `from` on.
 pub(crate) fn mask(from: usize, bytes: usize) -> u8
     requires { from + bytes ≤ 8 }
     ensures { result ≡ mask_of from (from + bytes) }
@@ -139,7 +139,7 @@ pub(crate) fn filled(slot: StackSlot) -> Option<Kind>
     }
 }
 
-/// The slot without what points to values of the map.
+/// The slot without a pointer to a map value of the map.
 pub(crate) fn forgotten(slot: StackSlot, map: u8) -> StackSlot
     ensures { result ≡ forgotten_slot map slot }
 {

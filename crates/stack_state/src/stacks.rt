@@ -1,7 +1,7 @@
 //! What is known of the bytes of a call frame.
 
 ghost use Rattle.std.specs.Prelude.{◌≡◌, List, length, ◌+◌, ◌/◌, ◌%◌, ◌<◌, ◌≤◌, ◌↔◌, IsTrue, replicate, slice_set};
-ghost use Rattle.isa_model.specs.Code.Limits.{frame_size};
+ghost use Rattle.isa_model.specs.Code.Limits.{stack_size};
 ghost use Rattle.isa_model.specs.declared.values.Cell.{Cell};
 ghost use Rattle.isa_model.specs.Code.Sizes.{size_bytes};
 ghost use Rattle.reg_state.specs.Kinds.{Assigned};
@@ -10,11 +10,11 @@ ghost use Rattle.stack_state.specs.Slots.{slot_at, IsNumberByte, AreMarked, afte
 ghost use Rattle.stack_state.specs.StackMeaning.{StackMeans, StoresBytes, Spills, LoadsNumber, LoadsSlot, AreNumberBytes, ForgetsMap};
 
 use crate::slots::{StackSlot, filled, forgotten, mask, numbers, spilled};
-use isa_model::{FRAME_SIZE, Size};
+use isa_model::{STACK_SIZE, Size};
 use reg_state::{Kind, Scalar};
 
 /// How many slots of 8 bytes a call frame has.
-pub const FRAME_SLOTS: usize = FRAME_SIZE / 8;
+pub const FRAME_SLOTS: usize = STACK_SIZE / 8;
 
 /// What is known of the bytes of a call frame: slot 0 is its first, the farthest from the frame's
 /// end.
@@ -35,7 +35,7 @@ impl StackState {
     /// A frame about which nothing is known.
     pub fn new() -> StackState
         ensures exact { result.slots ≡ replicate frame_slots (StackSlot.Written 0) }
-        ensures meant { (e : Assigned) (cells : List Cell) → length cells ≡ frame_size
+        ensures meant { (e : Assigned) (cells : List Cell) → length cells ≡ stack_size
             → StackMeans e result.slots cells }
     {
         StackState {
@@ -52,7 +52,7 @@ impl StackState {
 
     /// Bytes of a number are written.
     pub fn store(&mut self, at: usize, size: Size)
-        requires inside { at < frame_size }
+        requires inside { at < stack_size }
         requires in_slot { at % 8 + size_bytes size ≤ 8 }
         ensures exact { self.new.slots ≡ after_store self.old.slots at (size_bytes size) }
         ensures meant { StoresBytes self.old.slots at size self.new.slots }
@@ -65,7 +65,7 @@ impl StackState {
     /// The numbers that a load of the bytes may return. `None`: not all of them are written number
     /// bytes.
     pub fn load(&self, at: usize, size: Size) -> Option<Scalar>
-        requires inside { at < frame_size }
+        requires inside { at < stack_size }
         requires in_slot { at % 8 + size_bytes size ≤ 8 }
         ensures exact { IsLoad self.now.slots at size result }
         ensures meant { LoadsNumber self.now.slots at size result }
@@ -100,7 +100,7 @@ impl StackState {
 
     /// Whether the byte is a written number byte.
     fn is_byte(&self, at: usize) -> bool
-        requires { at < frame_size }
+        requires { at < stack_size }
         ensures { IsTrue result ↔ IsNumberByte self.now.slots at }
     {
         (self.slots[at / 8].marks() >> (at % 8)) & 1 == 1
@@ -108,7 +108,7 @@ impl StackState {
 
     /// Whether the bytes are all written number bytes.
     pub fn is_bytes(&self, from: usize, count: usize) -> bool
-        requires { from + count ≤ frame_size }
+        requires { from + count ≤ stack_size }
         ensures exact { IsTrue result ↔ AreMarked self.now.slots from (from + count) }
         ensures meant { IsTrue result → AreNumberBytes self.now.slots from count }
     {

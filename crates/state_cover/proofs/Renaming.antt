@@ -15,15 +15,15 @@ use Rattle.stack_state.specs.declared.states.AbstractFrame.{AbstractFrame}
 use Rattle.stack_state.specs.declared.states.State.{State}
 use Rattle.stack_state.specs.Slots.{slot_at, kind_in}
 use Rattle.stack_state.specs.Meaning.{frames_of, no_frame, abstract_frame_at, kind_at, kinds_of, stack_slots_of}
-use Rattle.state_cover.specs.declared.names.Sort.{Sort}
-use Rattle.state_cover.specs.declared.names.Sort.TheVariants as sort
-use Rattle.state_cover.specs.Names.{identity_of, is_number, is_named, spilled_kinds, frame_places, places, first_named, name_at, name_of, packet_name, null_name}
+use Rattle.state_cover.specs.declared.names.NameSort.{NameSort}
+use Rattle.state_cover.specs.declared.names.NameSort.TheVariants as sort
+use Rattle.state_cover.specs.Names.{identity_of, is_identity, is_named, spilled_kinds, frame_places, places, first_named, name_at, name_of, packet_name, null_name}
 use Rattle.state_cover.specs.FrameCover.{SlotEncloses, SlotsEnclose, StateEncloses}
 
 -- ---- one place
 
 -- the second kind has the name that the renaming gives
-abbrev IsOpposite : Sort → (ℕ → ℕ) → Kind → Kind → Type 0
+abbrev IsOpposite : NameSort → (ℕ → ℕ) → Kind → Kind → Type 0
 IsOpposite s m x y = IfSome (identity_of s x) (λ i. identity_of s y ≡ Some (m i))
 
 opposite_packet : (packet null : ℕ → ℕ) (x y : Kind) → KindEncloses packet null x y
@@ -38,42 +38,42 @@ opposite_null packet null (MapValueOrNull m i) (MapValueOrNull m' i') c = ap Som
 opposite_null packet null (MapValueOrNull m i) y c = absurd c
 opposite_null packet null x y c = tt
 
-number_is : (o : Option ℕ) (i : ℕ) → is_number o i ≡ true → o ≡ Some i
-number_is None i h = absurd (cc)
-number_is (Some j) i h = let same : j ≡ i = grind (arith, nat_tests) in ap Some same
+identity_is : (o : Option ℕ) (i : ℕ) → is_identity o i ≡ true → o ≡ Some i
+identity_is None i h = absurd (cc)
+identity_is (Some j) i h = let same : j ≡ i = grind (arith, nat_tests) in ap Some same
 
-is_own_number : (o : Option ℕ) (i : ℕ) → o ≡ Some i → is_number o i ≡ true
-is_own_number None i h = absurd (cc)
-is_own_number (Some j) i h = let same : j ≡ i = cc in grind (arith, nat_tests)
+is_own_identity : (o : Option ℕ) (i : ℕ) → o ≡ Some i → is_identity o i ≡ true
+is_own_identity None i h = absurd (cc)
+is_own_identity (Some j) i h = let same : j ≡ i = cc in grind (arith, nat_tests)
 
-unset_opposite : (s : Sort) (m : ℕ → ℕ) (y : Kind) → IsOpposite s m Unset y
+unset_opposite : (s : NameSort) (m : ℕ → ℕ) (y : Kind) → IsOpposite s m Unset y
 unset_opposite sort.Packet m y = tt
 unset_opposite sort.Null m y = tt
 
-unset_names : (s : Sort) (i : ℕ) → identity_of s Unset ≡ Some i → ⊥
+unset_names : (s : NameSort) (i : ℕ) → identity_of s Unset ≡ Some i → ⊥
 unset_names sort.Packet i h = cc
 unset_names sort.Null i h = cc
 
 -- ---- the first place that names an identity
 
 -- the place that was found has the counterpart of i
-abbrev HasCounterpart : Sort → (ℕ → ℕ) → ℕ → Option (Kind × Kind) → Type 0
+abbrev HasCounterpart : NameSort → (ℕ → ℕ) → ℕ → Option (Kind × Kind) → Type 0
 HasCounterpart s m i found = IfSome found (λ place. identity_of s place.1 ≡ Some (m i))
 
-opposite_named : (s : Sort) (m : ℕ → ℕ) (i : ℕ) (x y : Kind) → IsOpposite s m x y
+opposite_named : (s : NameSort) (m : ℕ → ℕ) (i : ℕ) (x y : Kind) → IsOpposite s m x y
     → identity_of s x ≡ Some i → identity_of s y ≡ Some (m i)
 opposite_named s m i x y o names = subst (λ n. IfSome n (λ i. identity_of s y ≡ Some (m i))) names o
 
-counterpart_first : (s : Sort) (m : ℕ → ℕ) (i : ℕ) (x y : Kind) (rest : Option (Kind × Kind))
+counterpart_first : (s : NameSort) (m : ℕ → ℕ) (i : ℕ) (x y : Kind) (rest : Option (Kind × Kind))
     → IsOpposite s m x y → HasCounterpart s m i rest
     → HasCounterpart s m i (cond (is_named s i x) (Some (x, y)) rest)
 counterpart_first s m i x y rest o h =
     elim (is_named s i x) as (λ b. is_named s i x ≡ b
     → HasCounterpart s m i (cond b (Some (x, y)) rest))
-    [ true ↦ λ e. opposite_named s m i x y o (number_is (identity_of s x) i e) | false ↦ λ e. h ]
+    [ true ↦ λ e. opposite_named s m i x y o (identity_is (identity_of s x) i e) | false ↦ λ e. h ]
     refl
 
-counterpart_or : (s : Sort) (m : ℕ → ℕ) (i : ℕ) (found rest : Option (Kind × Kind))
+counterpart_or : (s : NameSort) (m : ℕ → ℕ) (i : ℕ) (found rest : Option (Kind × Kind))
     → HasCounterpart s m i found → HasCounterpart s m i rest
     → HasCounterpart s m i (option_or found rest)
 counterpart_or s m i None rest h k = k
@@ -99,10 +99,11 @@ or_later (Some place) rest h = refl
 
 -- ---- registers
 
-abbrev AreOpposite : Sort → (ℕ → ℕ) → List Kind → List Kind → Type 0
+abbrev AreOpposite : NameSort → (ℕ → ℕ) → List Kind → List Kind → Type 0
 AreOpposite s m xs ys = (k : ℕ) → IsOpposite s m (kind_at xs k) (kind_at ys k)
 
-counterpart_registers : (s : Sort) (m : ℕ → ℕ) (i : ℕ) (xs ys : List Kind) → AreOpposite s m xs ys
+counterpart_registers : (s : NameSort) (m : ℕ → ℕ) (i : ℕ) (xs ys : List Kind)
+    → AreOpposite s m xs ys
     → HasCounterpart s m i (first_named s i (zip xs ys))
 counterpart_registers s m i [] ys h = tt
 counterpart_registers s m i (x ∷ xs) [] h = tt
@@ -110,21 +111,22 @@ counterpart_registers s m i (x ∷ xs) (y ∷ ys) h =
     counterpart_first s m i x y (first_named s i (zip xs ys)) (h 0)
     (counterpart_registers s m i xs ys (λ k. h (suc k)))
 
-some_registers : (s : Sort) (m : ℕ → ℕ) (i : ℕ) (xs ys : List Kind) (k : ℕ) → AreOpposite s m xs ys
+some_registers : (s : NameSort) (m : ℕ → ℕ) (i : ℕ) (xs ys : List Kind) (k : ℕ)
+    → AreOpposite s m xs ys
     → identity_of s (kind_at xs k) ≡ Some i → IsSome (first_named s i (zip xs ys))
 some_registers s m i [] ys k h e = absurd (unset_names s i e)
 some_registers s m i (x ∷ xs) [] k h e =
     absurd (unset_names s (m i) (opposite_named s m i (kind_at (x ∷ xs) k) Unset (h k) e))
 some_registers s m i (x ∷ xs) (y ∷ ys) zero h e =
     some_first (is_named s i x) (x, y) (first_named s i (zip xs ys))
-    (is_own_number (identity_of s x) i e)
+    (is_own_identity (identity_of s x) i e)
 some_registers s m i (x ∷ xs) (y ∷ ys) (suc k) h e =
     some_later (is_named s i x) (x, y) (first_named s i (zip xs ys))
     (some_registers s m i xs ys k (λ k. h (suc k)) e)
 
 -- ---- slots
 
-opposite_in_slot : (s : Sort) (m : ℕ → ℕ) (packet null : ℕ → ℕ) (x y : StackSlot)
+opposite_in_slot : (s : NameSort) (m : ℕ → ℕ) (packet null : ℕ → ℕ) (x y : StackSlot)
     → ((k l : Kind) → KindEncloses packet null k l → IsOpposite s m k l)
     → SlotEncloses packet null x y → IsOpposite s m (kind_in x) (kind_in y)
 opposite_in_slot s m packet null (Written marks) y each c = unset_opposite s m (kind_in y)
@@ -138,7 +140,7 @@ kind_in_slot [] k = refl
 kind_in_slot (x ∷ slots) zero = refl
 kind_in_slot (x ∷ slots) (suc k) = kind_in_slot slots k
 
-opposite_slots : (s : Sort) (m : ℕ → ℕ) (packet null : ℕ → ℕ) (xs ys : List StackSlot)
+opposite_slots : (s : NameSort) (m : ℕ → ℕ) (packet null : ℕ → ℕ) (xs ys : List StackSlot)
     → ((k l : Kind) → KindEncloses packet null k l → IsOpposite s m k l)
     → SlotsEnclose packet null xs ys → AreOpposite s m (spilled_kinds xs) (spilled_kinds ys)
 opposite_slots s m packet null xs ys each c = λ k.
@@ -147,18 +149,19 @@ opposite_slots s m packet null xs ys each c = λ k.
 
 -- ---- call frames
 
--- so it is with the kinds in registers and slots of two frames
-record FramesOpposite (s : Sort) (m : ℕ → ℕ) (f g : AbstractFrame) : Type 0 where
+-- the kinds in the registers and in the slots of two frames are opposite
+record FramesOpposite (s : NameSort) (m : ℕ → ℕ) (f g : AbstractFrame) : Type 0 where
   registers : AreOpposite s m f.registers g.registers
   slots : AreOpposite s m (spilled_kinds f.stack.slots) (spilled_kinds g.stack.slots)
 
 -- the identity is named in a register or in a slot
-abbrev NamedIn : Sort → AbstractFrame → ℕ → Type 0
+abbrev NamedIn : NameSort → AbstractFrame → ℕ → Type 0
 NamedIn s f i =
     ((k : ℕ) × (identity_of s (kind_at f.registers k) ≡ Some i))
     ⊎ ((k : ℕ) × (identity_of s (kind_at (spilled_kinds f.stack.slots) k) ≡ Some i))
 
-counterpart_frame : (s : Sort) (m : ℕ → ℕ) (i : ℕ) (f g : AbstractFrame) → FramesOpposite s m f g
+counterpart_frame : (s : NameSort) (m : ℕ → ℕ) (i : ℕ) (f g : AbstractFrame)
+    → FramesOpposite s m f g
     → HasCounterpart s m i (first_named s i (frame_places f g))
 counterpart_frame s m i f g h =
     rw (find-append (λ place. is_named s i place.0) (zip f.registers g.registers)
@@ -169,7 +172,7 @@ counterpart_frame s m i f g h =
     (counterpart_registers s m i (spilled_kinds f.stack.slots)
     (spilled_kinds g.stack.slots) h.slots))
 
-some_frame : (s : Sort) (m : ℕ → ℕ) (i : ℕ) (f g : AbstractFrame) → FramesOpposite s m f g
+some_frame : (s : NameSort) (m : ℕ → ℕ) (i : ℕ) (f g : AbstractFrame) → FramesOpposite s m f g
     → NamedIn s f i → IsSome (first_named s i (frame_places f g))
 some_frame s m i f g h (inl named) =
     rw (find-append (λ place. is_named s i place.0) (zip f.registers g.registers)
@@ -186,10 +189,10 @@ some_frame s m i f g h (inr named) =
     (spilled_kinds g.stack.slots) named.0 h.slots named.1))
 
 -- of each frame
-abbrev AllOpposite : Sort → (ℕ → ℕ) → List AbstractFrame → List AbstractFrame → Type 0
+abbrev AllOpposite : NameSort → (ℕ → ℕ) → List AbstractFrame → List AbstractFrame → Type 0
 AllOpposite s m fs gs = (j : ℕ) → FramesOpposite s m (get_or fs j no_frame) (get_or gs j no_frame)
 
-counterpart_frames : (s : Sort) (m : ℕ → ℕ) (i : ℕ) (fs gs : List AbstractFrame)
+counterpart_frames : (s : NameSort) (m : ℕ → ℕ) (i : ℕ) (fs gs : List AbstractFrame)
     → AllOpposite s m fs gs → HasCounterpart s m i (first_named s i (places fs gs))
 counterpart_frames s m i [] gs h = tt
 counterpart_frames s m i (f ∷ fs) [] h = tt
@@ -198,12 +201,13 @@ counterpart_frames s m i (f ∷ fs) (g ∷ gs) h =
     (counterpart_or s m i (first_named s i (frame_places f g)) (first_named s i (places fs gs))
     (counterpart_frame s m i f g (h 0)) (counterpart_frames s m i fs gs (λ j. h (suc j))))
 
-no_frame_names : (s : Sort) (i : ℕ) → NamedIn s no_frame i → ⊥
+no_frame_names : (s : NameSort) (i : ℕ) → NamedIn s no_frame i → ⊥
 no_frame_names s i (inl named) = unset_names s i named.1
 no_frame_names s i (inr named) = unset_names s i named.1
 
 -- a frame with no frame opposite names nothing
-none_opposite : (s : Sort) (m : ℕ → ℕ) (i : ℕ) (f : AbstractFrame) → FramesOpposite s m f no_frame
+none_opposite : (s : NameSort) (m : ℕ → ℕ) (i : ℕ) (f : AbstractFrame)
+    → FramesOpposite s m f no_frame
     → NamedIn s f i → ⊥
 none_opposite s m i f h (inl named) =
     unset_names s (m i)
@@ -213,7 +217,7 @@ none_opposite s m i f h (inr named) =
     (opposite_named s m i (kind_at (spilled_kinds f.stack.slots) named.0) Unset
     (h.slots named.0) named.1)
 
-some_frames : (s : Sort) (m : ℕ → ℕ) (i : ℕ) (fs gs : List AbstractFrame) (j : ℕ)
+some_frames : (s : NameSort) (m : ℕ → ℕ) (i : ℕ) (fs gs : List AbstractFrame) (j : ℕ)
     → AllOpposite s m fs gs
     → NamedIn s (get_or fs j no_frame) i → IsSome (first_named s i (places fs gs))
 some_frames s m i [] gs j h named = absurd (no_frame_names s i named)
@@ -230,13 +234,14 @@ some_frames s m i (f ∷ fs) (g ∷ gs) (suc j) h named =
 
 -- ---- names
 
-name_at-counterpart : (s : Sort) (m : ℕ → ℕ) (i : ℕ) (found : Option (Kind × Kind)) → IsSome found
+name_at-counterpart : (s : NameSort) (m : ℕ → ℕ) (i : ℕ) (found : Option (Kind × Kind))
+    → IsSome found
     → HasCounterpart s m i found → name_at s i found ≡ m i
 name_at-counterpart s m i None some h = absurd (cc)
 name_at-counterpart s m i (Some place) some h = rw h refl
 
 -- an identity that a frame names has the name that the renaming gives
-name_of-opposite : (s : Sort) (m : ℕ → ℕ) (i : ℕ) (a b : State) (j : ℕ)
+name_of-opposite : (s : NameSort) (m : ℕ → ℕ) (i : ℕ) (a b : State) (j : ℕ)
     → AllOpposite s m (frames_of a) (frames_of b)
     → NamedIn s (abstract_frame_at a j) i → name_of s a b i ≡ m i
 unfolding name_of
@@ -259,30 +264,30 @@ renamed_kind : (packet null names nulls : ℕ → ℕ) (x y : Kind)
     → IfSome (packet_identity_of x) (λ i. names i ≡ packet i)
     → IfSome (null_identity_of x) (λ i. nulls i ≡ null i) → KindEncloses packet null x y
     → KindEncloses names nulls x y
-renamed_kind packet null names nulls Unset y packets values c = tt
-renamed_kind packet null names nulls (Number numbers) (Number others) packets values c = c
-renamed_kind packet null names nulls Context Context packets values c = tt
-renamed_kind packet null names nulls (Stack f o) (Stack f' o') packets values c = c
-renamed_kind packet null names nulls (Packet f i l g p) (Packet f' i' l' g' p') packets values c =
+renamed_kind packet null names nulls Unset y packets null_is c = tt
+renamed_kind packet null names nulls (Number numbers) (Number others) packets null_is c = c
+renamed_kind packet null names nulls Context Context packets null_is c = tt
+renamed_kind packet null names nulls (Stack f o) (Stack f' o') packets null_is c = c
+renamed_kind packet null names nulls (Packet f i l g p) (Packet f' i' l' g' p') packets null_is c =
     (c.0, packets ∙ c.1, c.2, c.3, c.4)
-renamed_kind packet null names nulls PacketEnd PacketEnd packets values c = tt
-renamed_kind packet null names nulls (Map m) (Map m') packets values c = c
-renamed_kind packet null names nulls (MapValue m l g) (MapValue m' l' g') packets values c = c
-renamed_kind packet null names nulls (MapValueOrNull m i) (MapValueOrNull m' i') packets values c =
-    (c.0, values ∙ c.1)
-renamed_kind packet null names nulls x y packets values c = absurd c
+renamed_kind packet null names nulls PacketEnd PacketEnd packets null_is c = tt
+renamed_kind packet null names nulls (Map m) (Map m') packets null_is c = c
+renamed_kind packet null names nulls (MapValue m l g) (MapValue m' l' g') packets null_is c = c
+renamed_kind packet null names nulls (MapValueOrNull m i) (MapValueOrNull m' i') packets null_is c =
+    (c.0, null_is ∙ c.1)
+renamed_kind packet null names nulls x y packets null_is c = absurd c
 
 -- what a kind names gets the same names from `names` and `nulls` as from `packet` and `null`
 record AgreeOn (packet null names nulls : ℕ → ℕ) (x : Kind) : Type 0 where
-  packets : IfSome (packet_identity_of x) (λ i. names i ≡ packet i)
-  values : IfSome (null_identity_of x) (λ i. nulls i ≡ null i)
+  packets_agree : IfSome (packet_identity_of x) (λ i. names i ≡ packet i)
+  nulls_agree : IfSome (null_identity_of x) (λ i. nulls i ≡ null i)
 
 renamed_slot : (packet null names nulls : ℕ → ℕ) (x y : StackSlot)
     → AgreeOn packet null names nulls (kind_in x) → SlotEncloses packet null x y
     → SlotEncloses names nulls x y
 renamed_slot packet null names nulls (Written marks) y agree c = c
 renamed_slot packet null names nulls (Spilled k) (Spilled l) agree c =
-    renamed_kind packet null names nulls k l agree.packets agree.values c
+    renamed_kind packet null names nulls k l agree.packets_agree agree.nulls_agree c
 renamed_slot packet null names nulls (Spilled k) (Written marks) agree c = absurd c
 
 all_opposite_packet : (packet null : ℕ → ℕ) (a b : State) → StateEncloses packet null a b
@@ -308,15 +313,15 @@ all_opposite_null packet null a b c = λ j. record {
 }
 
 agree : (packet null : ℕ → ℕ) (a b : State) (j : ℕ) (x : Kind) → StateEncloses packet null a b
-    → ((s : Sort) (i : ℕ) → identity_of s x ≡ Some i → NamedIn s (abstract_frame_at a j) i)
+    → ((s : NameSort) (i : ℕ) → identity_of s x ≡ Some i → NamedIn s (abstract_frame_at a j) i)
     → AgreeOn packet null (packet_name a b) (null_name a b) x
 agree packet null a b j x c named = record {
-  packets =
+  packets_agree =
       if_some (packet_identity_of x) (λ i. packet_name a b i ≡ packet i)
       (λ i e. packet_name-is a b packet i c.none
       (name_of-opposite sort.Packet packet i a b j (all_opposite_packet packet null a b c)
       (named sort.Packet i e)));
-  values = if_some (null_identity_of x) (λ i. null_name a b i ≡ null i) (λ i e.
+  nulls_agree = if_some (null_identity_of x) (λ i. null_name a b i ≡ null i) (λ i e.
       name_of-opposite sort.Null null i a b j (all_opposite_null packet null a b c)
       (named sort.Null i e));
 }
@@ -331,7 +336,7 @@ StateEncloses-names packet null a b c = record {
   registers = λ j k. let x : Kind = kind_at (kinds_of a j) k in
       let here = agree packet null a b j x c (λ s i e. inl (k, e)) in
       renamed_kind packet null (packet_name a b) (null_name a b) x
-      (kind_at (kinds_of b j) k) here.packets here.values (c.registers j k);
+      (kind_at (kinds_of b j) k) here.packets_agree here.nulls_agree (c.registers j k);
   slots = λ j k. let x : StackSlot = slot_at (stack_slots_of a j) k in
       renamed_slot packet null (packet_name a b) (null_name a b) x (slot_at (stack_slots_of b j) k)
       (agree packet null a b j (kind_in x) c

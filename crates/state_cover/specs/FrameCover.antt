@@ -18,7 +18,7 @@ abbrev pub AreAmong : ℕ → ℕ → Type 0
 AreAmong marks others = (i : ℕ) → i < 8 → bit_at marks i ≡ 1 → bit_at others i ≡ 1
 
 -- the bytes that are known to be written in a are in b, where a spilled number is eight written
--- bytes; a spilled value covers a spilled one
+-- bytes; the kind of a spilled value covers that of a spilled one
 abbrev pub SlotCovers : (ℕ → ℕ) → (ℕ → ℕ) → StackSlot → StackSlot → Type 0
 SlotCovers packet null (Written marks) b = AreAmong marks (marks_of b)
 SlotCovers packet null (Spilled k) (Spilled l) = KindCovers packet null k l
@@ -32,11 +32,11 @@ SlotEncloses packet null (Spilled k) (Written marks) = ⊥
 
 -- ---- frames
 
--- of each register
+-- each register covers the same one
 abbrev pub KindsCover : (ℕ → ℕ) → (ℕ → ℕ) → List Kind → List Kind → Type 0
 KindsCover packet null xs ys = (k : ℕ) → KindCovers packet null (kind_at xs k) (kind_at ys k)
 
--- of each slot
+-- each slot covers the same one
 abbrev pub SlotsCover : (ℕ → ℕ) → (ℕ → ℕ) → List StackSlot → List StackSlot → Type 0
 SlotsCover packet null xs ys =
     (k : ℕ) → k < frame_slots → SlotCovers packet null (slot_at xs k) (slot_at ys k)
@@ -46,11 +46,11 @@ pub record FrameCovers (packet null : ℕ → ℕ) (f g : AbstractFrame) : Type 
   pub registers : KindsCover packet null f.registers g.registers
   pub slots : SlotsCover packet null f.stack.slots g.stack.slots
 
--- of each register
+-- each register encloses the same one
 abbrev pub KindsEnclose : (ℕ → ℕ) → (ℕ → ℕ) → List Kind → List Kind → Type 0
 KindsEnclose packet null xs ys = (k : ℕ) → KindEncloses packet null (kind_at xs k) (kind_at ys k)
 
--- of each slot
+-- each slot encloses the same one
 abbrev pub SlotsEnclose : (ℕ → ℕ) → (ℕ → ℕ) → List StackSlot → List StackSlot → Type 0
 SlotsEnclose packet null xs ys = (k : ℕ) → SlotEncloses packet null (slot_at xs k) (slot_at ys k)
 

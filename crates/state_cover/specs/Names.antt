@@ -1,5 +1,5 @@
--- What one state calls the identities of another: the name that it has at the first place where the
--- other uses them.
+-- The counterparts of identities: the name that a covered state has at the first place where the
+-- covering state uses an identity.
 use Rattle.std.specs.Prelude.{ℕ, List, [], ◌∷◌, ◌++◌, map, Bool, false, Option, Some, None, nat_eq, unwrap_or, if◌then◌else◌}
 use Rattle.std.specs.List.{find, zip}
 use Rattle.reg_state.specs.declared.kinds.Kind.{Kind}
@@ -9,25 +9,26 @@ use Rattle.stack_state.specs.declared.states.AbstractFrame.{AbstractFrame}
 use Rattle.stack_state.specs.declared.states.State.{State}
 use Rattle.stack_state.specs.Meaning.{frames_of}
 use Rattle.stack_state.specs.Slots.{kind_in}
-use Rattle.state_cover.specs.declared.names.Sort.{Sort}
-use Rattle.state_cover.specs.declared.names.Sort.TheVariants.{Packet, Null}
+use Rattle.state_cover.specs.declared.names.NameSort.{NameSort}
+use Rattle.state_cover.specs.declared.names.NameSort.TheVariants.{Packet, Null}
 
-abbrev pub identity_of : Sort → Kind → Option ℕ
+abbrev pub identity_of : NameSort → Kind → Option ℕ
 identity_of Packet k = packet_identity_of k
 identity_of Null k = null_identity_of k
 
-abbrev pub is_number : Option ℕ → ℕ → Bool
-is_number None i = false
-is_number (Some j) i = nat_eq j i
+-- whether there is an identity, and it is i
+abbrev pub is_identity : Option ℕ → ℕ → Bool
+is_identity None i = false
+is_identity (Some j) i = nat_eq j i
 
-abbrev pub is_named : Sort → ℕ → Kind → Bool
-is_named sort i k = is_number (identity_of sort k) i
+abbrev pub is_named : NameSort → ℕ → Kind → Bool
+is_named sort i k = is_identity (identity_of sort k) i
 
 -- the kinds of spilled values, slot by slot
 abbrev pub spilled_kinds : List StackSlot → List Kind
 spilled_kinds slots = map kind_in slots
 
--- the kinds of two call frames, place by place: registers, then slots
+-- the kinds of two call frames in pairs, place by place: registers, then slots
 abbrev pub frame_places : AbstractFrame → AbstractFrame → List (Kind × Kind)
 frame_places f g =
     zip f.registers g.registers ++ zip (spilled_kinds f.stack.slots) (spilled_kinds g.stack.slots)
@@ -38,16 +39,16 @@ places [] gs = []
 places (f ∷ fs) [] = []
 places (f ∷ fs) (g ∷ gs) = frame_places f g ++ places fs gs
 
--- the first place whose first kind names the identity
-abbrev pub first_named : Sort → ℕ → List (Kind × Kind) → Option (Kind × Kind)
+-- the kinds at the first place whose first kind has the identity
+abbrev pub first_named : NameSort → ℕ → List (Kind × Kind) → Option (Kind × Kind)
 first_named sort i ps = find (λ place. is_named sort i place.0) ps
 
 -- the counterpart of an identity, or the identity itself if there is none
-abbrev pub name_at : Sort → ℕ → Option (Kind × Kind) → ℕ
+abbrev pub name_at : NameSort → ℕ → Option (Kind × Kind) → ℕ
 name_at sort i None = i
 name_at sort i (Some place) = unwrap_or (identity_of sort place.1) i
 
-unfoldable pub name_of : Sort → State → State → ℕ → ℕ
+unfoldable pub name_of : NameSort → State → State → ℕ → ℕ
 name_of sort a b i = name_at sort i (first_named sort i (places (frames_of a) (frames_of b)))
 
 -- packet identity 0 means no identity, in every state

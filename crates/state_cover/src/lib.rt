@@ -1,4 +1,4 @@
-//! A test that one abstract state covers another.
+//! A test whether one abstract state covers another.
 #![tactic(auto)]
 
 ghost use Rattle.std.specs.Prelude.{◌≡◌, ℕ, ◌↔◌, IsTrue, length};
@@ -117,7 +117,7 @@ fn slot_covers(left: &StackSlot, right: &StackSlot, a: &State, b: &State) -> boo
     }
 }
 
-// Whether the bytes that the marks name are written in the stack slot. Most have no marks.
+// Whether the bytes that are marked are written in the stack slot. Most slots have no marks.
 #[inline(always)]
 fn are_written(marks: u8, slot: &StackSlot) -> bool
     ensures { IsTrue result ↔ AreAmong marks (marks_of slot.now) }

@@ -11,18 +11,18 @@ use stack_state::{AbstractFrame, FRAME_SLOTS, StackSlot, State};
 
 /// The two sorts of identities, which are numbered apart.
 #[derive(Clone, Copy)]
-pub(crate) enum Sort {
+pub(crate) enum NameSort {
     Packet,
     Null,
 }
 
-impl Sort {
+impl NameSort {
     fn identity_of(self, kind: Kind) -> Option<u32>
         ensures { result ≡ identity_of self kind }
     {
         match self {
-            Sort::Packet => kind.packet_identity(),
-            Sort::Null => kind.null_identity(),
+            NameSort::Packet => kind.packet_identity(),
+            NameSort::Null => kind.null_identity(),
         }
     }
 
@@ -131,7 +131,7 @@ impl Sort {
     }
 }
 
-/// What b calls the identity that a kind of a names; any number, if it names none.
+/// What b calls the identity that a kind of a names; any identity, if it names none.
 pub(crate) fn name_in(kind: Kind, a: &State, b: &State) -> u32
     requires { length a.now.callers.items ≡ length b.now.callers.items }
     ensures { IsCalled (packet_name a.now b.now) (null_name a.now b.now) kind result }
@@ -141,9 +141,9 @@ pub(crate) fn name_in(kind: Kind, a: &State, b: &State) -> u32
             if identity == 0 {
                 return 0;
             }
-            Sort::Packet.name_of(identity, a, b)
+            NameSort::Packet.name_of(identity, a, b)
         }
-        Kind::MapValueOrNull { identity, .. } => Sort::Null.name_of(identity, a, b),
+        Kind::MapValueOrNull { identity, .. } => NameSort::Null.name_of(identity, a, b),
         _ => 0,
     }
 }

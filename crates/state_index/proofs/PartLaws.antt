@@ -59,7 +59,7 @@ slot_parts-skip now all ts i inside blank before =
     slot_parts-more now now all ts i (Written 0) inside
     (sym (append-nil now) ∙ ap (λ l. now ++ l) (sym none)) before
 
--- nor have some of them in a row
+-- nor have several in a row
 pub slot_parts-skip_all : (now all : List Part) (ts : List StackSlot) (i n : ℕ) → i + n ≤ length ts
     → ((j : ℕ) → i ≤ j → j < i + n → slot_at ts j ≡ Written 0)
     → now ++ slot_parts i (drop i ts) ≡ all

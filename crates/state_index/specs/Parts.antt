@@ -46,9 +46,9 @@ pub record AreParts (parts : List Part) (f : AbstractFrame) : Type 0 where
 
 -- nothing is known of the other stack slots
 abbrev pub AreBlankBeside : SlotMask → List StackSlot → Type 0
-AreBlankBeside known slots = (j : ℕ) → j < 64 → (¬ HasSlot known j) → slot_at slots j ≡ Written 0
+AreBlankBeside kept slots = (j : ℕ) → j < 64 → (¬ HasSlot kept j) → slot_at slots j ≡ Written 0
 
--- what is known there in the frame
+-- the frame has this part
 abbrev pub IsPartOf : AbstractFrame → Part → Type 0
 IsPartOf f (InRegister n k) = kind_at f.registers n ≡ k
 IsPartOf f (InSlot n t) = slot_at f.stack.slots n ≡ t

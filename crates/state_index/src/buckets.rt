@@ -41,12 +41,14 @@ pub struct UnfinishedBucket {
     pub marks: u32,
 }
 
+/// An empty bucket of finished states.
 pub const NO_FINISHED: FinishedBucket = FinishedBucket {
     first: None,
     last: None,
     marks: 0,
 };
 
+/// An empty bucket of unfinished states.
 pub const NO_UNFINISHED: UnfinishedBucket = UnfinishedBucket {
     first: None,
     marks: 0,
@@ -57,8 +59,8 @@ pub fn bucket_of(fingerprint: u64, buckets: usize) -> usize {
     (fingerprint >> 16) as usize & buckets.wrapping_sub(1)
 }
 
-/// The mark that a stored state with the fingerprint leaves on its bucket. A bucket without it has
-/// no such stored state.
+/// The mark that a stored state with the fingerprint leaves on its bucket. Without that mark a
+/// bucket has no state with the fingerprint.
 pub fn mark_of(fingerprint: u64) -> u32 {
     1 << (fingerprint >> 59)
 }

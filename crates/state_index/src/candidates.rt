@@ -61,7 +61,7 @@ impl<'a> Iterator for UnfinishedCandidates<'a> {
 #[derive(Drop)]
 pub struct FinishedCandidates<'a> {
     pub links: &'a [StateLink],
-    /// What is known of the state.
+    /// What is known of the state, as `StateLink::known` says it.
     pub known: u64,
     pub limits: &'a [PartLimits],
     pub trees: &'a [Tree],

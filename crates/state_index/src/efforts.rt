@@ -30,8 +30,8 @@ impl Effort {
     }
 
     /// Notes this number of comparisons.
-    pub fn spend(&mut self, parts: usize) {
-        self.spent = self.spent.saturating_add(parts as u64);
+    pub fn spend(&mut self, comparisons: usize) {
+        self.spent = self.spent.saturating_add(comparisons as u64);
     }
 
     /// Notes the cost of a test that usually ends at its first comparison.

@@ -133,8 +133,8 @@ fn is_same(part: &Part, other: &Part) -> bool
         (Part::InRegister(own, kind), Part::InRegister(number, others)) => {
             *own == *number && is_same_kind(kind, others)
         }
-        (Part::InSlot(own, slot), Part::InSlot(number, others)) => {
-            *own == *number && is_same_slot(slot, others)
+        (Part::InSlot(own, slot), Part::InSlot(index, others)) => {
+            *own == *index && is_same_slot(slot, others)
         }
         _ => false,
     }

@@ -79,9 +79,9 @@ fn with_signed(print: u64, number: i32) -> u64 {
     mixed(print, u64::from(number.cast_unsigned()))
 }
 
-/// Two halves in a word.
-fn pair(low: u32, high: u32) -> u64 {
-    u64::from(low) | u64::from(high) << 32
+/// Two numbers of 32 bits in a word.
+fn pair(low: u32, upper: u32) -> u64 {
+    u64::from(low) | u64::from(upper) << 32
 }
 
 /// A factor for each word of a number, so that the products do not depend on one another.
@@ -158,18 +158,18 @@ fn with_register(print: u64, number: u8, kind: &Kind) -> u64 {
     with_kind(mixed(print, u64::from(number)), kind)
 }
 
-fn with_slot(print: u64, number: u8, slot: &StackSlot) -> u64 {
+fn with_slot(print: u64, index: u8, slot: &StackSlot) -> u64 {
     match slot {
         StackSlot::Written(marks) => {
-            mixed(mixed(print, 128 + u64::from(number)), u64::from(*marks))
+            mixed(mixed(print, 128 + u64::from(index)), u64::from(*marks))
         }
-        StackSlot::Spilled(kind) => with_kind(mixed(print, 64 + u64::from(number)), kind),
+        StackSlot::Spilled(kind) => with_kind(mixed(print, 64 + u64::from(index)), kind),
     }
 }
 
 fn with_part(print: u64, part: &Part) -> u64 {
     match part {
         Part::InRegister(number, kind) => with_register(print, *number, kind),
-        Part::InSlot(number, slot) => with_slot(print, *number, slot),
+        Part::InSlot(index, slot) => with_slot(print, *index, slot),
     }
 }

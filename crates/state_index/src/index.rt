@@ -85,7 +85,7 @@ impl StateIndex {
         }
     }
 
-    /// The finished states with these known bits that may cover a state with such limits.
+    /// The finished states with these known bits that may cover a state with these limits.
     pub fn finished_candidates<'a>(
         &'a self,
         known: u64,
@@ -290,8 +290,8 @@ impl StateIndex {
         }
     }
 
-    /// Puts a stored state into its bucket of unfinished ones, if it is unfinished; all such ones
-    /// that were stored before it were put there, and those after it were not.
+    /// Puts a stored state into its bucket of unfinished ones, if it is unfinished; all unfinished
+    /// ones that were stored before it were put there, and those after it were not.
     fn file_by_fingerprint(&mut self, index: usize) {
         let Some(link) = self.links.get_mut(index) else {
             return;

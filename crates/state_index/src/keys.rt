@@ -10,7 +10,7 @@ use control_flow::SlotMask;
 use stack_state::{FRAME_SLOTS, State};
 use std::alloc::{AllocError, Global};
 
-/// How many parts a call frame has: its registers and its stack slots.
+/// How many parts a call frame has at most: one for each register and each stack slot.
 const PARTS: usize = 10 + FRAME_SLOTS;
 
 /// The parts of a state's innermost frame, fingerprints of all its frames, and their limits if
@@ -22,7 +22,7 @@ pub struct Key {
     pub limits: Vec<PartLimits>,
     /// Whether the limits are wanted.
     pub has_limits: bool,
-    /// Whether more than the parts is wanted.
+    /// Whether states are looked up by the key; else only the parts are wanted.
     pub is_sought: bool,
 }
 
@@ -38,15 +38,16 @@ impl Key {
         })
     }
 
-    /// Becomes the key of the state. Nothing is known of its innermost stack but of these slots.
-    pub fn take(&mut self, state: &State, known: SlotMask) -> Result<(), AllocError>
-        requires { AreBlankBeside known state.now.innermost.stack.slots }
+    /// Becomes the key of the state. Of its innermost stack, something may be known only of the
+    /// slots that are in `kept`.
+    pub fn take(&mut self, state: &State, kept: SlotMask) -> Result<(), AllocError>
+        requires { AreBlankBeside kept state.now.innermost.stack.slots }
         ensures { OnOk result (AreParts self.new.parts.items state.now.innermost) }
     {
         if self.is_sought {
             self.take_callers(state)?;
         }
-        take_parts_in(&mut self.parts, &state.innermost, known)?;
+        take_parts_in(&mut self.parts, &state.innermost, kept)?;
         if self.is_sought {
             self.add_innermost(state)?;
         }
@@ -56,7 +57,7 @@ impl Key {
     /// Takes fingerprints, and limits if these are wanted, of all frames but the innermost.
     fn take_callers(&mut self, state: &State) -> Result<(), AllocError> {
         let mut fingerprints = Fingerprints::of(state.slot);
-        let mut level = 0;
+        let mut frame_index = 0;
         self.limits.clear();
         for frame in state.callers.as_slice() {
             fingerprints = fingerprints
@@ -64,9 +65,9 @@ impl Key {
                 .with_parts_of(frame);
             if self.has_limits {
                 take_parts(&mut self.parts, frame)?;
-                add_limits(&mut self.limits, level, &self.parts)?;
+                add_limits(&mut self.limits, frame_index, &self.parts)?;
             }
-            level = u32::wrapping_add(level, 1);
+            frame_index = u32::wrapping_add(frame_index, 1);
         }
         self.fingerprints = fingerprints;
         Ok(())
@@ -77,8 +78,8 @@ impl Key {
         ensures { self.new.parts.items ≡ self.old.parts.items }
     {
         if self.has_limits {
-            let level = u32::try_from(state.callers.as_slice().len()).unwrap_or(0);
-            add_limits(&mut self.limits, level, &self.parts)?;
+            let frame_index = u32::try_from(state.callers.as_slice().len()).unwrap_or(0);
+            add_limits(&mut self.limits, frame_index, &self.parts)?;
         }
         let return_slot = state.innermost.return_slot;
         self.fingerprints = self

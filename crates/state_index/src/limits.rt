@@ -1,5 +1,5 @@
-//! Limits of what is known of parts of call frames: what a search for a state that covers another
-//! one goes by.
+//! Limits of what is known of parts of call frames. The look-up of a state that covers another one
+//! goes by them.
 //!
 //! No contract rests on them: they propose states, and `covers` decides.
 
@@ -12,9 +12,9 @@ use std::alloc::AllocError;
 /// How many measures a part has.
 pub const MEASURES: usize = 9;
 
-/// What is known of a part.
+/// Which variant of what is known a part has.
 #[derive(Clone, Copy, PartialEq, Eq, Drop)]
-enum Sort {
+enum Variant {
     Number,
     Context,
     Stack,
@@ -29,21 +29,22 @@ enum Sort {
 /// Monotone measures of a part: if a covers b, each measure of a is at least that of b.
 #[derive(Clone, Copy, Drop)]
 pub struct PartLimits {
-    /// Frames come one after another, and in each of them registers before stack slots.
-    pub number: u32,
-    sort: Sort,
+    /// Which part it is: frames come one after another, and in each of them registers before stack
+    /// slots.
+    pub part_index: u32,
+    variant: Variant,
     measures: [u64; MEASURES],
 }
 
-/// A measure of a part.
+/// Which measure of which part.
 #[derive(Clone, Copy, Drop)]
 pub struct Measure {
-    pub number: u32,
+    pub part_index: u32,
     pub index: usize,
 }
 
-/// How wide what is known of a part is in some states: limits that enclose those of each, and
-/// besides them the least of each measure.
+/// What is known of a part in some states: limits that enclose those of each state, and the least
+/// of each measure.
 #[derive(Clone, Copy, Drop)]
 pub struct PartSpan {
     pub limits: PartLimits,
@@ -72,7 +73,7 @@ fn of_two(first: [u64; 2], second: [u64; 2]) -> [u64; MEASURES] {
 fn of_number(numbers: &Scalar) -> [u64; MEASURES] {
     let wide: &Wide = &numbers.range.wide;
     let low: &Low = &numbers.range.low;
-    let halves = between(low.signed_least, low.signed_greatest);
+    let signed_low = between(low.signed_least, low.signed_greatest);
     [
         !wide.least,
         wide.greatest,
@@ -80,21 +81,24 @@ fn of_number(numbers: &Scalar) -> [u64; MEASURES] {
         rising(wide.signed_greatest),
         !u64::from(low.least),
         u64::from(low.greatest),
-        halves[0],
-        halves[1],
-        // which bits may be any: of two such sets the one that has the other is no less in either
-        // order of the bits, and the limits go by the order from the top
+        signed_low[0],
+        signed_low[1],
+        // the bits that are not known: where they include those of another number, they are no less
+        // in either order of the bits; the limits go by the order from the top already
         numbers.bits.mask.reverse_bits(),
     ]
 }
 
-fn of_kind(kind: &Kind) -> Option<(Sort, [u64; MEASURES])> {
+fn of_kind(kind: &Kind) -> Option<(Variant, [u64; MEASURES])> {
     let found = match kind {
         Kind::Unset => return None,
-        Kind::Number(numbers) => (Sort::Number, of_number(numbers)),
-        Kind::Context => (Sort::Context, [0; MEASURES]),
+        Kind::Number(numbers) => (Variant::Number, of_number(numbers)),
+        Kind::Context => (Variant::Context, [0; MEASURES]),
         Kind::Stack { frame, offset } => {
-            (Sort::Stack, of_two(same(i32::from(*frame)), same(*offset)))
+            (
+                Variant::Stack,
+                of_two(same(i32::from(*frame)), same(*offset)),
+            )
         }
         Kind::Packet {
             fixed,
@@ -105,21 +109,21 @@ fn of_kind(kind: &Kind) -> Option<(Sort, [u64; MEASURES])> {
         } => {
             let mut measures = of_two(same(*fixed), between(*least, *greatest));
             measures[4] = !u64::from(*proved);
-            (Sort::Packet, measures)
+            (Variant::Packet, measures)
         }
-        Kind::PacketEnd => (Sort::PacketEnd, [0; MEASURES]),
-        Kind::Map { index } => (Sort::Map, of_two(same(i32::from(*index)), [0; 2])),
+        Kind::PacketEnd => (Variant::PacketEnd, [0; MEASURES]),
+        Kind::Map { index } => (Variant::Map, of_two(same(i32::from(*index)), [0; 2])),
         Kind::MapValue {
             index,
             least,
             greatest,
         } => {
             let map = same(i32::from(*index));
-            (Sort::MapValue, of_two(map, between(*least, *greatest)))
+            (Variant::MapValue, of_two(map, between(*least, *greatest)))
         }
         Kind::MapValueOrNull { index, .. } => {
             let map = same(i32::from(*index));
-            (Sort::MapValueOrNull, of_two(map, [0; 2]))
+            (Variant::MapValueOrNull, of_two(map, [0; 2]))
         }
     };
     Some(found)
@@ -141,25 +145,27 @@ fn of_marks(marks: u8) -> [u64; MEASURES] {
     ]
 }
 
-/// How far the parts of one frame are from those of the next.
-const LEVEL: u32 = 1 << 9;
+/// How many indexes there are for the parts of a frame.
+const FRAME_INDEXES: u32 = 1 << 9;
 
 impl PartLimits {
-    /// The measures of a part of a frame; the outermost frame is at level 0. A part that allows all
-    /// has none.
-    fn of(level: u32, part: &Part) -> Option<Self> {
-        let (number, (sort, measures)) = match part {
+    /// The measures of a part of the frame with this index, from 0 for the outermost one. A part
+    /// that allows all has none.
+    fn of(frame_index: u32, part: &Part) -> Option<Self> {
+        let (index_in_frame, (variant, measures)) = match part {
             Part::InRegister(number, kind) => (u32::from(*number), of_kind(kind)?),
-            Part::InSlot(number, StackSlot::Written(marks)) => {
-                (16 + u32::from(*number), (Sort::Written, of_marks(*marks)))
+            Part::InSlot(index, StackSlot::Written(marks)) => {
+                (16 + u32::from(*index), (Variant::Written, of_marks(*marks)))
             }
-            Part::InSlot(number, StackSlot::Spilled(kind)) => {
-                (16 + u32::from(*number), of_kind(kind)?)
+            Part::InSlot(index, StackSlot::Spilled(kind)) => {
+                (16 + u32::from(*index), of_kind(kind)?)
             }
         };
         Some(PartLimits {
-            number: level.wrapping_mul(LEVEL).wrapping_add(number),
-            sort,
+            part_index: frame_index
+                .wrapping_mul(FRAME_INDEXES)
+                .wrapping_add(index_in_frame),
+            variant,
             measures,
         })
     }
@@ -167,8 +173,8 @@ impl PartLimits {
     /// Whether a state with this part may cover one with the other part: `false` says that it does
     /// not.
     fn may_enclose(&self, other: &PartLimits) -> bool {
-        if self.sort != other.sort {
-            return self.sort == Sort::Written;
+        if self.variant != other.variant {
+            return self.variant == Variant::Written;
         }
         for index in 0..MEASURES {
             if self.measures[index] < other.measures[index] {
@@ -190,8 +196,8 @@ impl PartSpan {
 
     /// Takes in the limits of one more state, and says whether those of all still say anything.
     fn widen(&mut self, other: &PartLimits) -> bool {
-        let sort = self.limits.sort;
-        if sort != other.sort {
+        let variant = self.limits.variant;
+        if variant != other.variant {
             return false;
         }
         for index in 0..MEASURES {
@@ -199,7 +205,7 @@ impl PartSpan {
             self.least[index] = self.least[index].min(measure);
             self.limits.measures[index] = self.limits.measures[index].max(measure);
         }
-        sort != Sort::Written || self.limits.measures != [1; MEASURES]
+        variant != Variant::Written || self.limits.measures != [1; MEASURES]
     }
 
     /// Whether the states differ in a measure.
@@ -211,23 +217,23 @@ impl PartSpan {
 /// Puts the limits of a frame's parts after those of the frames around it.
 pub fn add_limits(
     limits: &mut Vec<PartLimits>,
-    level: u32,
+    frame_index: u32,
     parts: &[Part],
 ) -> Result<(), AllocError> {
     for part in parts {
-        if let Some(found) = PartLimits::of(level, part) {
+        if let Some(found) = PartLimits::of(frame_index, part) {
             limits.push(found)?;
         }
     }
     Ok(())
 }
 
-/// The limits from a part on, in the order of their numbers.
-pub fn from_part(limits: &[PartLimits], number: u32) -> &[PartLimits] {
+/// The limits from a part on, in the order of the parts.
+pub fn from_part(limits: &[PartLimits], part_index: u32) -> &[PartLimits] {
     let mut rest = limits;
     for _skipped in 0..limits.len() {
         match rest {
-            [first, others @ ..] if first.number < number => rest = others,
+            [first, others @ ..] if first.part_index < part_index => rest = others,
             _ => return rest,
         }
     }
@@ -238,9 +244,9 @@ pub fn from_part(limits: &[PartLimits], number: u32) -> &[PartLimits] {
 pub fn may_enclose(limits: &[PartLimits], others: &[PartLimits]) -> bool {
     let mut rest = others;
     for own in limits {
-        rest = from_part(rest, own.number);
+        rest = from_part(rest, own.part_index);
         match rest.first() {
-            Some(other) if other.number == own.number && own.may_enclose(other) => {}
+            Some(other) if other.part_index == own.part_index && own.may_enclose(other) => {}
             _ => return false,
         }
     }
@@ -251,7 +257,7 @@ pub fn may_enclose(limits: &[PartLimits], others: &[PartLimits]) -> bool {
 /// known of it.
 pub fn measured(limits: &[PartLimits], measure: Measure) -> u64 {
     match limits.first() {
-        Some(own) if own.number == measure.number => {
+        Some(own) if own.part_index == measure.part_index => {
             own.measures.get(measure.index).copied().unwrap_or(0)
         }
         _ => u64::MAX,
@@ -267,10 +273,10 @@ pub fn widen(spans: &mut Vec<PartSpan>, others: &[PartLimits]) {
             break;
         };
         let mut wider = *own;
-        let number = wider.limits.number;
-        rest = from_part(rest, number);
+        let part_index = wider.limits.part_index;
+        rest = from_part(rest, part_index);
         if let Some(other) = rest.first() {
-            if other.number == number && wider.widen(other) {
+            if other.part_index == part_index && wider.widen(other) {
                 if let Some(room) = spans.get_mut(kept) {
                     *room = wider;
                 }

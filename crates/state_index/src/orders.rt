@@ -6,8 +6,8 @@ use std::alloc::{AllocError, Global};
 /// How many rows are looked at to see whether they differ in a column.
 const SAMPLE: usize = 16;
 
-/// How often a size is doubled or halved at most: once for each bit of its word.
-const WORD: usize = 64;
+/// How often a size is doubled or halved at most: once for each bit of a number of 64 bits.
+const BITS: usize = 64;
 
 /// A row by its index, and its word by which it is put into order.
 #[derive(Clone, Copy, Drop)]
@@ -57,8 +57,9 @@ fn differing(order: &[Row], rows: &[u64], width: usize, skipped: usize) -> (usiz
     (count, None)
 }
 
-/// Puts half of the rows before the others, by a column in which they differ: by each in turn.
-fn split(order: &mut [Row], half: usize, turn: usize, rows: &[u64], width: usize) {
+/// Puts half of the rows before the others, by a column in which they differ: by the next one each
+/// time.
+fn split(order: &mut [Row], half: usize, halvings: usize, rows: &[u64], width: usize) {
     if order.len() <= half {
         return;
     }
@@ -66,13 +67,13 @@ fn split(order: &mut [Row], half: usize, turn: usize, rows: &[u64], width: usize
     if count == 0 {
         return;
     }
-    let (_, Some(column)) = differing(order, rows, width, turn % count) else {
+    let (_, Some(column)) = differing(order, rows, width, halvings % count) else {
         return;
     };
     for row in order.iter_mut() {
         row.word = word_at(rows, width, row.index, column);
     }
-    let _halves = order.select_nth_unstable_by_key(half, |row| row.word);
+    let _split = order.select_nth_unstable_by_key(half, |row| row.word);
 }
 
 impl RowOrder {
@@ -88,23 +89,23 @@ impl RowOrder {
     /// Puts rows of this width into order.
     pub fn arrange(&mut self, rows: &[u64], width: usize) {
         let mut size = FAN;
-        for _doubled in 0..WORD {
+        for _doubled in 0..BITS {
             if size < self.order.len() {
                 size = size.saturating_mul(2);
             }
         }
-        for turn in 0..WORD {
+        for halvings in 0..BITS {
             if size <= FAN {
                 return;
             }
-            for part in self.order.chunks_mut(size) {
-                split(part, size / 2, turn, rows, width);
+            for chunk in self.order.chunks_mut(size) {
+                split(chunk, size / 2, halvings, rows, width);
             }
             size /= 2;
         }
     }
 
-    /// The index of the row that is the next one after so many in the order.
+    /// The index of the row that has this many rows before it in the order.
     pub fn row_index(&self, before: usize) -> Option<usize> {
         let row = self.order.get(before)?;
         Some(row.index)

@@ -31,22 +31,22 @@ fn push_register(parts: &mut Vec<Part>, number: u8, kind: &Kind) -> Result<(), A
     Ok(())
 }
 
-fn push_slot(parts: &mut Vec<Part>, number: u8, slot: &StackSlot) -> Result<(), AllocError>
+fn push_slot(parts: &mut Vec<Part>, index: u8, slot: &StackSlot) -> Result<(), AllocError>
     ensures { OnOk result (parts.new.items
-        ≡ parts.old.items ++ option_to_list (slot_part number slot.now)) }
+        ≡ parts.old.items ++ option_to_list (slot_part index slot.now)) }
 {
     match slot {
         StackSlot::Written(marks) => {
             if *marks != 0 {
-                parts.push(Part::InSlot(number, *slot))?;
+                parts.push(Part::InSlot(index, *slot))?;
             }
         }
-        StackSlot::Spilled(_) => parts.push(Part::InSlot(number, *slot))?,
+        StackSlot::Spilled(_) => parts.push(Part::InSlot(index, *slot))?,
     }
     Ok(())
 }
 
-/// Puts the registers that are set after the parts.
+/// Appends the registers that are set.
 fn push_registers(parts: &mut Vec<Part>, registers: &[Kind; 10]) -> Result<(), AllocError>
     ensures pushed { OnOk result (parts.new.items
         ≡ parts.old.items ++ register_parts 0 registers.now) }
@@ -58,44 +58,44 @@ fn push_registers(parts: &mut Vec<Part>, registers: &[Kind; 10]) -> Result<(), A
     Ok(())
 }
 
-/// Whether nothing is known of eight stack slots, those of a byte of `known`. Nothing is known of a
-/// stack slot that is not in `known`.
+/// Whether nothing is known of eight stack slots, those of a byte of `kept`. Nothing is known of a
+/// stack slot that is not in `kept`.
 #[inline(always)]
-fn are_blank(slots: &[StackSlot; FRAME_SLOTS], known: SlotMask, byte: usize) -> bool
+fn are_blank(slots: &[StackSlot; FRAME_SLOTS], kept: SlotMask, byte: usize) -> bool
     requires inside { byte < 8 }
-    requires blank { AreBlankBeside known slots.now }
+    requires blank { AreBlankBeside kept slots.now }
     ensures { IsTrue result → (j : ℕ) → 8 * byte ≤ j → j < 8 * byte + 8
         → slot_at slots.now j ≡ StackSlot.Written 0 }
 {
-    if known.is_empty_in(byte as u8) {
+    if kept.is_empty_in(byte as u8) {
         return true;
     }
-    for number in 0..8 {
-        let StackSlot::Written(0) = &slots[8 * byte + number] else {
+    for bit in 0..8 {
+        let StackSlot::Written(0) = &slots[8 * byte + bit] else {
             return false;
         };
     }
     true
 }
 
-/// Appends the stack slots about which something is known; all of them are in `known`. Most often
+/// Appends the stack slots about which something is known; all of them are in `kept`. Most often
 /// nothing is known about eight in a row, and they are skipped.
 fn push_slots(
     parts: &mut Vec<Part>,
     slots: &[StackSlot; FRAME_SLOTS],
-    known: SlotMask,
+    kept: SlotMask,
 ) -> Result<(), AllocError>
-    requires { AreBlankBeside known slots.now }
+    requires { AreBlankBeside kept slots.now }
     ensures pushed { OnOk result (parts.new.items ≡ parts.old.items ++ slot_parts 0 slots.now) }
     ensures wide { length slots.now ≡ frame_slots }
 {
-    if known.is_empty() {
+    if kept.is_empty() {
         return Ok(());
     }
     for byte in 0..FRAME_SLOTS / 8 {
-        if !are_blank(slots, known, byte) {
-            for number in 0..8 {
-                let index = 8 * byte + number;
+        if !are_blank(slots, kept, byte) {
+            for bit in 0..8 {
+                let index = 8 * byte + bit;
                 push_slot(parts, index as u8, &slots[index])?;
             }
         }
@@ -103,22 +103,23 @@ fn push_slots(
     Ok(())
 }
 
-/// Becomes the parts of the frame. Nothing is known of the stack slots that are not in `known`.
+/// Replaces `parts` by those of the frame. Nothing is known of the stack slots that are not in
+/// `kept`.
 pub fn take_parts_in(
     parts: &mut Vec<Part>,
     frame: &AbstractFrame,
-    known: SlotMask,
+    kept: SlotMask,
 ) -> Result<(), AllocError>
-    requires { AreBlankBeside known frame.now.stack.slots }
+    requires { AreBlankBeside kept frame.now.stack.slots }
     ensures { OnOk result (AreParts parts.new.items frame.now) }
 {
     parts.clear();
     push_registers(parts, &frame.registers)?;
-    push_slots(parts, &frame.stack.slots, known)?;
+    push_slots(parts, &frame.stack.slots, kept)?;
     Ok(())
 }
 
-/// Becomes the parts of the frame.
+/// Replaces `parts` by those of the frame.
 pub fn take_parts(parts: &mut Vec<Part>, frame: &AbstractFrame) -> Result<(), AllocError>
     ensures { OnOk result (AreParts parts.new.items frame.now) }
 {
@@ -137,14 +138,14 @@ fn set_register(registers: &mut [Kind; 10], number: u8, kind: Kind)
     registers[number] = kind;
 }
 
-fn set_slot(slots: &mut [StackSlot; FRAME_SLOTS], number: u8, slot: StackSlot)
-    ensures { slots.new ≡ slice_set slots.old number slot }
+fn set_slot(slots: &mut [StackSlot; FRAME_SLOTS], index: u8, slot: StackSlot)
+    ensures { slots.new ≡ slice_set slots.old index slot }
 {
-    let number = usize::from(number);
-    if number >= FRAME_SLOTS {
+    let index = usize::from(index);
+    if index >= FRAME_SLOTS {
         return;
     }
-    slots[number] = slot;
+    slots[index] = slot;
 }
 
 /// Writes a part where it belongs.
@@ -153,7 +154,7 @@ pub fn write(frame: &mut AbstractFrame, part: &Part)
 {
     match *part {
         Part::InRegister(number, kind) => set_register(&mut frame.registers, number, kind),
-        Part::InSlot(number, slot) => set_slot(&mut frame.stack.slots, number, slot),
+        Part::InSlot(index, slot) => set_slot(&mut frame.stack.slots, index, slot),
     }
 }
 
@@ -186,8 +187,8 @@ fn may_hold(slot: &StackSlot, other: &StackSlot) -> bool
     }
 }
 
-/// Whether what is known of a part may cover what a frame knows of it. `false` says that it does
-/// not.
+/// Whether what is known of a part may cover what is known of it in a frame. `false` says that it
+/// does not.
 pub fn may_cover_part(part: &Part, frame: &AbstractFrame) -> bool
     ensures { IsPartOf frame.now part.now → IsTrue result }
 {
@@ -199,12 +200,12 @@ pub fn may_cover_part(part: &Part, frame: &AbstractFrame) -> bool
             }
             may_allow(&kind, &frame.registers[number])
         }
-        Part::InSlot(number, slot) => {
-            let number = usize::from(number);
-            if number >= FRAME_SLOTS {
+        Part::InSlot(index, slot) => {
+            let index = usize::from(index);
+            if index >= FRAME_SLOTS {
                 return true;
             }
-            may_hold(&slot, &frame.stack.slots[number])
+            may_hold(&slot, &frame.stack.slots[index])
         }
     }
 }

@@ -6,7 +6,7 @@ use std::alloc::{AllocError, Global};
 /// How many words a row has at most.
 pub const WIDTH: usize = 32;
 
-/// How wide what is known of each part is in the states that are put into a tree.
+/// What is known of each part in the states that are put into a tree, all states together.
 #[derive(Drop)]
 pub struct Spread {
     spans: Vec<PartSpan>,
@@ -20,7 +20,7 @@ pub struct Spread {
 pub struct Rows {
     /// Limits that enclose those of all states.
     pub common: Vec<PartLimits>,
-    /// Those in which states differ, in the order of their parts.
+    /// The measures in which states differ, in the order of their parts.
     pub measures: Vec<Measure>,
     pub stored: Vec<u32>,
     pub words: Vec<u64>,
@@ -48,11 +48,11 @@ impl Spread {
         Ok(())
     }
 
-    /// In how many measures of this index, and of those before it, the states differ.
-    fn differing(&self, indexes: usize) -> usize {
+    /// In how many measures the states differ, of the first `most` ones of each part.
+    fn differing(&self, most: usize) -> usize {
         let mut count: usize = 0;
         for span in &self.spans {
-            for index in 0..indexes {
+            for index in 0..most {
                 if span.differs(index) {
                     count = count.saturating_add(1);
                 }
@@ -61,11 +61,11 @@ impl Spread {
         count
     }
 
-    /// How many of the measures of a part have room in rows.
-    fn indexes(&self) -> usize {
-        for indexes in 1..MEASURES {
-            if self.differing(indexes.saturating_add(1)) >= WIDTH {
-                return indexes;
+    /// How many measures of each part have room in rows.
+    fn most_measures(&self) -> usize {
+        for most in 1..MEASURES {
+            if self.differing(most.saturating_add(1)) >= WIDTH {
+                return most;
             }
         }
         MEASURES
@@ -74,12 +74,12 @@ impl Spread {
     /// The measures in which the states differ, as many as a row has room for.
     fn measures(&self, alloc: Global) -> Result<Vec<Measure>, AllocError> {
         let mut measures = Vec::new(alloc);
-        let indexes = self.indexes();
+        let most = self.most_measures();
         for span in &self.spans {
-            let number = span.limits.number;
-            for index in 0..indexes {
+            let part_index = span.limits.part_index;
+            for index in 0..most {
                 if span.differs(index) && measures.len() < WIDTH - 1 {
-                    measures.push(Measure { number, index })?;
+                    measures.push(Measure { part_index, index })?;
                 }
             }
         }
@@ -124,7 +124,7 @@ pub fn put_measured(row: &mut [u64; WIDTH], measures: &[Measure], limits: &[Part
     let mut rest = limits;
     let mut column: usize = 1;
     for measure in measures {
-        rest = from_part(rest, measure.number);
+        rest = from_part(rest, measure.part_index);
         if let Some(word) = row.get_mut(column) {
             *word = measured(rest, *measure);
         }

@@ -14,8 +14,8 @@ use std::alloc::{AllocError, Global};
 /// A register or a stack slot that is known to hold a number.
 #[derive(Clone, Copy, Drop)]
 struct Known {
-    /// Registers come first, then stack slots.
-    number: u64,
+    /// Which part it is: registers come first, then stack slots.
+    part_index: u64,
     /// The bits that are not known.
     unknown: u64,
 }
@@ -26,12 +26,12 @@ pub struct Shape {
     numbers: Vec<Known>,
 }
 
-/// A number for the part, and what it is known to hold, if that is known to be a number.
+/// The index of the part, and what it is known to hold, if that is known to be a number.
 fn number_in(part: &Part) -> Option<(u64, &Scalar)> {
     match part {
         Part::InRegister(number, Kind::Number(numbers)) => Some((u64::from(*number), numbers)),
-        Part::InSlot(number, StackSlot::Spilled(Kind::Number(numbers))) => {
-            Some((16 + u64::from(*number), numbers))
+        Part::InSlot(index, StackSlot::Spilled(Kind::Number(numbers))) => {
+            Some((16 + u64::from(*index), numbers))
         }
         _ => None,
     }
@@ -49,9 +49,12 @@ impl Shape {
     pub fn of(alloc: Global, key: &Key) -> Result<Self, AllocError> {
         let mut known = Vec::new(alloc);
         for part in &key.parts {
-            if let Some((number, numbers)) = number_in(part) {
+            if let Some((part_index, numbers)) = number_in(part) {
                 let unknown = numbers.bits.mask;
-                known.push(Known { number, unknown })?;
+                known.push(Known {
+                    part_index,
+                    unknown,
+                })?;
             }
         }
         Ok(Shape { numbers: known })
@@ -68,11 +71,11 @@ impl Shape {
     pub fn is_of(&self, key: &Key) -> bool {
         let mut rest = self.numbers.as_slice();
         for part in &key.parts {
-            if let Some((number, numbers)) = number_in(part) {
+            if let Some((part_index, numbers)) = number_in(part) {
                 let [first, others @ ..] = rest else {
                     return false;
                 };
-                if first.number != number || first.unknown != numbers.bits.mask {
+                if first.part_index != part_index || first.unknown != numbers.bits.mask {
                     return false;
                 }
                 rest = others;
@@ -90,8 +93,8 @@ impl Shape {
             let [first, others @ ..] = rest else {
                 return Some(print);
             };
-            if let Some((number, numbers)) = number_in(part) {
-                if first.number == number {
+            if let Some((part_index, numbers)) = number_in(part) {
+                if first.part_index == part_index {
                     if numbers.bits.mask & !first.unknown != 0 {
                         return None;
                     }

@@ -41,6 +41,7 @@ pub struct TreeSets {
 }
 
 impl TreeSets {
+    /// No sets yet.
     pub fn new(alloc: Global) -> Self {
         TreeSets {
             sets: Vec::new(alloc),
@@ -48,6 +49,7 @@ impl TreeSets {
         }
     }
 
+    /// Whether there are no sets.
     pub fn is_empty(&self) -> bool {
         self.sets.is_empty()
     }
@@ -85,8 +87,8 @@ impl TreeSets {
         if self.sets.is_empty() {
             return None;
         }
-        let number = self.find(known)?;
-        let set = self.sets.get_mut(number)?;
+        let set_index = self.find(known)?;
+        let set = self.sets.get_mut(set_index)?;
         if set.trees.is_empty() {
             return None;
         }
@@ -101,11 +103,11 @@ impl TreeSets {
         known: u64,
         count: usize,
     ) -> Result<bool, AllocError> {
-        let number = match self.find(known) {
-            Some(number) => number,
+        let set_index = match self.find(known) {
+            Some(set_index) => set_index,
             None => self.add(alloc, known)?,
         };
-        let Some(set) = self.sets.get_mut(number) else {
+        let Some(set) = self.sets.get_mut(set_index) else {
             return Ok(false);
         };
         set.scanned = set.scanned.saturating_add(count);
@@ -118,10 +120,10 @@ impl TreeSets {
 
     fn add(&mut self, alloc: Global, known: u64) -> Result<usize, AllocError> {
         self.spread(alloc)?;
-        let number = self.sets.len();
+        let set_index = self.sets.len();
         let bucket = bucket_of(known, self.buckets.len());
         let next = match self.buckets.get_mut(bucket) {
-            Some(first) => mem::replace(first, u32::try_from(number).ok()),
+            Some(first) => mem::replace(first, u32::try_from(set_index).ok()),
             None => None,
         };
         self.sets.push(TreeSet {
@@ -132,7 +134,7 @@ impl TreeSets {
             unplaced_count: 0,
             scanned: 0,
         })?;
-        Ok(number)
+        Ok(set_index)
     }
 
     /// Spreads the sets over more buckets, if there are too many for these.
@@ -142,10 +144,10 @@ impl TreeSets {
         }
         let buckets = self.buckets.len().saturating_mul(2).max(BUCKETS);
         self.buckets = vec![in alloc; None; buckets]?;
-        for number in 0..self.sets.len() {
-            if let Some(set) = self.sets.get_mut(number) {
+        for set_index in 0..self.sets.len() {
+            if let Some(set) = self.sets.get_mut(set_index) {
                 if let Some(first) = self.buckets.get_mut(bucket_of(set.known, buckets)) {
-                    set.next = mem::replace(first, u32::try_from(number).ok());
+                    set.next = mem::replace(first, u32::try_from(set_index).ok());
                 }
             }
         }
@@ -176,10 +178,10 @@ impl TreeSets {
 
     /// Puts a tree after the first `left` of the others: no stored state is without one then.
     pub fn add_tree(&mut self, known: u64, left: usize, tree: Tree) -> Result<(), AllocError> {
-        let Some(number) = self.find(known) else {
+        let Some(set_index) = self.find(known) else {
             return Ok(());
         };
-        let Some(set) = self.sets.get_mut(number) else {
+        let Some(set) = self.sets.get_mut(set_index) else {
             return Ok(());
         };
         set.trees.truncate(left);

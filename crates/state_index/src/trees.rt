@@ -58,8 +58,8 @@ fn reaches(row: &[u64], sought: &[u64]) -> bool {
 fn level_above(alloc: Global, level: &[u64], width: usize) -> Result<Vec<u64>, AllocError> {
     let mut above = Vec::new(alloc);
     let rows = level.len().checked_div(width).unwrap_or(0);
-    for node in 0..rows.saturating_add(FAN - 1) / FAN {
-        let first = node.saturating_mul(FAN);
+    for row_index in 0..rows.saturating_add(FAN - 1) / FAN {
+        let first = row_index.saturating_mul(FAN);
         for column in 0..width {
             let mut greatest: u64 = 0;
             for index in first..first.saturating_add(FAN) {
@@ -75,17 +75,17 @@ fn level_above(alloc: Global, level: &[u64], width: usize) -> Result<Vec<u64>, A
 
 /// The rows of states, and the levels above them.
 fn levels_over(alloc: Global, rows: Vec<u64>, width: usize) -> Result<Vec<Vec<u64>>, AllocError> {
-    let mut nodes = rows;
+    let mut highest = rows;
     let mut levels = Vec::new(alloc);
     for _level in 0..32 {
-        let above = level_above(alloc, &nodes, width)?;
-        levels.push(nodes)?;
-        nodes = above;
-        if nodes.len() <= FAN.saturating_mul(width) {
+        let above = level_above(alloc, &highest, width)?;
+        levels.push(highest)?;
+        highest = above;
+        if highest.len() <= FAN.saturating_mul(width) {
             break;
         }
     }
-    levels.push(nodes)?;
+    levels.push(highest)?;
     Ok(levels)
 }
 
@@ -97,15 +97,15 @@ impl Tree {
         let mut order = RowOrder::of(alloc, count)?;
         order.arrange(&rows.words, width);
         let mut indexes = Vec::with_capacity(alloc, count)?;
-        let mut nodes = Vec::with_capacity(alloc, rows.words.len())?;
+        let mut words = Vec::with_capacity(alloc, rows.words.len())?;
         for index in 0..count {
             let row_index = order.row_index(index).unwrap_or(0);
             if let Some(index) = rows.stored.get(row_index) {
                 indexes.push(*index)?;
-                nodes.extend_from_slice(row(&rows.words, width, row_index).unwrap_or(&[]))?;
+                words.extend_from_slice(row(&rows.words, width, row_index).unwrap_or(&[]))?;
             }
         }
-        let levels = levels_over(alloc, nodes, width)?;
+        let levels = levels_over(alloc, words, width)?;
         Ok(Tree {
             common: rows.common,
             measures: rows.measures,
@@ -129,7 +129,7 @@ impl Tree {
         Some(sought)
     }
 
-    /// The index of the stored state that a row of the lowest level is of.
+    /// The index of the stored state whose row this is, in the lowest level.
     pub fn index_at(&self, row_index: usize) -> Option<usize> {
         let index = *self.indexes.get(row_index)?;
         Some(index as usize)
@@ -157,16 +157,17 @@ impl Tree {
     }
 
     /// The row of the lowest level after those to pass over: all that are summarized by the highest
-    /// row which begins at this one and does not reach the words. None: there is no such row.
+    /// row that begins at this one and does not reach the words. None: each row that begins at this
+    /// one reaches them.
     fn barred_from(&self, row_index: usize, sought: &Sought, effort: &mut Effort) -> Option<usize> {
         for level in (0..self.levels.len()).rev() {
             let shift = FAN_BITS.wrapping_mul(u32::try_from(level).unwrap_or(0));
-            let node = row_index.wrapping_shr(shift);
-            if node.wrapping_shl(shift) == row_index {
-                let row = row(self.levels.get(level)?, width(&self.measures), node)?;
+            let above_index = row_index.wrapping_shr(shift);
+            if above_index.wrapping_shl(shift) == row_index {
+                let row = row(self.levels.get(level)?, width(&self.measures), above_index)?;
                 effort.spend_test();
                 if !reaches(row, sought) {
-                    return Some(node.wrapping_add(1).wrapping_shl(shift));
+                    return Some(above_index.wrapping_add(1).wrapping_shl(shift));
                 }
             }
         }

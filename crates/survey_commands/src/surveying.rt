@@ -143,14 +143,14 @@ fn all_named<R: Files + AllocGlobal + Clone + Drop>(
 fn summary_line(alloc: Global, summary: &Summary) -> Result<String, AllocError> {
     let accepted = summary.accepted;
     let refused = summary.refused;
-    let unreadable = summary.unreadable;
+    let unread = summary.unreadable;
     let unjudged = summary.unjudged;
     format!(in alloc;
-        "{accepted} accepted, {refused} refused, {unreadable} unreadable, {unjudged} out of memory\n"
+        "{accepted} accepted, {refused} refused, {unread} unreadable, {unjudged} out of memory\n"
     )
 }
 
-/// Says on standard error how many images were judged in which way.
+/// Says on standard error how many images got which verdict.
 fn say_summary<W: Write>(alloc: Global, summary: &Summary, err: &mut W) -> Result<(), AllocError> {
     let line = summary_line(alloc, summary)?;
     let _ = write_bytes(err, line.as_bytes());
@@ -173,7 +173,7 @@ fn put_row<W: Write>(
 }
 
 /// Judges images, and writes the row of each one unless rows have to wait. Returns the rows that
-/// wait, and how many images were judged in which way.
+/// wait, and how many images got which verdict.
 fn judge_all<R: Files + Clock + AllocGlobal, W1: Write, W2: Write>(
     rt: &R,
     sheet: &Sheet<'_>,
@@ -201,8 +201,8 @@ fn judge_all<R: Files + Clock + AllocGlobal, W1: Write, W2: Write>(
 
 /// Judges images. Standard output gets a row for each image as it is judged, or at the end all rows
 /// in their order, or the differences from an earlier survey. Standard error gets a line for each
-/// file that cannot be read, and the progress if that is wanted. Returns how many images were
-/// judged in which way.
+/// file that cannot be read, and the progress if that is wanted. Returns how many images got
+/// which verdict.
 fn survey_named<R: Files + Clock + AllocGlobal, W1: Write, W2: Write>(
     rt: &R,
     survey: &Survey<'_>,
@@ -223,7 +223,7 @@ fn survey_named<R: Files + Clock + AllocGlobal, W1: Write, W2: Write>(
 /// Surveys images. Standard output gets a row for each image as it is judged, or at the end all
 /// rows in their order, or the differences from an earlier survey. Standard error gets a line for
 /// each file that cannot be read, the progress if that is wanted, and at the end how many images
-/// were judged in which way. Returns the status that says so.
+/// got which verdict. Returns the status that says so.
 pub fn survey<R: Files + Clock + AllocGlobal + Clone + Drop, W1: Write, W2: Write>(
     rt: &R,
     survey: &Survey<'_>,

@@ -139,7 +139,7 @@ fn compared<R: Files>(
     match changes_since(alloc, bytes.as_slice(), rows) {
         Ok(grid) => Ok(grid),
         Err(EarlierError::Memory) => Err(SurveyError::Memory),
-        Err(EarlierError::Form) => {
+        Err(EarlierError::NoSurvey) => {
             let line = format!(in alloc; "cannot compare with {path}: it is no survey as csv\n")?;
             Err(SurveyError::File(line))
         }

@@ -1,4 +1,4 @@
--- How many images were judged in which way, and the status that says so.
+-- How many images got which verdict, and the status that says so.
 use Rattle.std.specs.Prelude.{◌+◌, ◌==◌, ◌-◌, ◌^◌, ℕ, min, if◌then◌else◌}
 use Rattle.survey_rows.specs.declared.rows.Judgement.{Judgement}
 use Rattle.survey_rows.specs.declared.rows.Judgement.TheVariants as verdict
@@ -9,7 +9,7 @@ abbrev pub status_of : Summary → ℕ
 status_of s = if s.unjudged == 0
     then (if s.unreadable == 0 then (if s.refused == 0 then 0 else 2) else 4) else 5
 
--- the next count in 64 bits; the greatest count stays as it is
+-- the next count in 64 bits; after the greatest count it is the same
 abbrev pub one_more : ℕ → ℕ
 one_more count = min (count + 1) (2 ^ 64 - 1)
 

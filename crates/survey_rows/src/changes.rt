@@ -190,7 +190,7 @@ fn add_all_gone(
     Ok(())
 }
 
-/// A row for each value that changed, for each image that is new, and for each one that is gone.
+/// A row for each cell that changed, for each image that is new, and for each one that is gone.
 fn rows_since(
     alloc: Global,
     earlier: &Earlier,

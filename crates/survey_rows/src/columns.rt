@@ -14,7 +14,7 @@ pub enum Column {
     Slot,
     /// How many slots the code has.
     Slots,
-    /// How many maps it has.
+    /// How many map rows the image has.
     Maps,
     /// The most steps of a run.
     Bound,
@@ -97,7 +97,7 @@ impl Column {
         )
     }
 
-    /// Whether only a survey of proof tables has it.
+    /// Whether only a survey that writes proof tables has it.
     pub fn is_of_proof_tables(self) -> bool {
         matches!(
             self,

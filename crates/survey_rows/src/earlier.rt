@@ -10,7 +10,7 @@ use std::io;
 #[derive(Clone, Copy, Drop)]
 pub enum EarlierError {
     /// It is not CSV, or has no column `file`.
-    Form,
+    NoSurvey,
     Memory,
 }
 
@@ -37,9 +37,9 @@ fn error_of(error: &Error) -> EarlierError {
         ErrorKind::OutOfMemory => EarlierError::Memory,
         ErrorKind::Io(error) => match error.kind() {
             io::ErrorKind::OutOfMemory => EarlierError::Memory,
-            _ => EarlierError::Form,
+            _ => EarlierError::NoSurvey,
         },
-        _ => EarlierError::Form,
+        _ => EarlierError::NoSurvey,
     }
 }
 
@@ -73,10 +73,10 @@ fn index_of(names: &ByteRecord, column: Column) -> Option<usize> {
 /// The names of the columns, which are in the first row.
 fn names_in(alloc: Global, reader: &mut Reader<&[u8]>) -> Result<ByteRecord, EarlierError> {
     let Some(names) = next(alloc, reader)? else {
-        return Err(EarlierError::Form);
+        return Err(EarlierError::NoSurvey);
     };
     if index_of(&names, Column::File).is_none() {
-        return Err(EarlierError::Form);
+        return Err(EarlierError::NoSurvey);
     }
     Ok(names)
 }

@@ -13,8 +13,8 @@ fn show(alloc: Global, shown: &mut String, character: char) -> Result<(), AllocE
     shown.push_str(escape.as_str())
 }
 
-/// A text as grids and messages show it: `\x1b` for each control character, the others as they
-/// are.
+/// A text as grids and messages show it: `\x1b` for each control character, the others
+/// unchanged.
 pub fn shown(alloc: Global, text: &str) -> Result<String, AllocError> {
     let mut shown = String::new(alloc);
     for character in text.chars() {

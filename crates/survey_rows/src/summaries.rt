@@ -1,11 +1,11 @@
-//! How many images were judged in which way, and the status that says so.
+//! How many images got which verdict, and the status that says so.
 
 ghost use Rattle.std.specs.Prelude.{◌≡◌, ◌≤◌};
 ghost use Rattle.survey_rows.specs.Summaries.{status_of, with_image};
 
 use crate::rows::Judgement;
 
-/// How many images were judged in which way.
+/// How many images got which verdict.
 #[derive(Clone, Copy, Default, Drop)]
 pub struct Summary {
     pub accepted: u64,

@@ -10,14 +10,16 @@ const VERSION: &str = "0.1.0";
 const ABOUT: &str = "Judges many images at once, a row for each, and looks into one";
 
 const AFTER: &str =
-    "Of a folder the files that end in .image are judged, in the order of their names. The status is 0 where all are accepted, 2 where one is refused, 4 where one cannot be read, 5 where memory runs out.";
+    "Of a folder the files that end in .image are judged, in the order of their names. The \
+     status is 0 where all are accepted, 2 where one is refused, 4 where one cannot be read, 5 \
+     where memory runs out.";
 
 const LOG_ABOUT: &str = "Prints each explored instruction with the state that it was reached in";
 
 const DIS_ABOUT: &str =
-    "Prints slots, bytes, labels and text of an image, or its blocks as a graph";
+    "Prints slots, bytes, labels and text of an image, or its basic blocks as a graph";
 
-// An option that takes a value.
+// An option that takes a value, the name of its value in the help, and its help text.
 #[derive(Clone, Copy)]
 struct Choice {
     name: &'static str,
@@ -44,7 +46,7 @@ const CHOICES: [Choice; 5] = [
     Choice {
         name: "compare",
         value: "OLD.csv",
-        help: "Prints what is other than in an earlier survey, written as csv",
+        help: "Prints what differs from an earlier survey, written as csv",
     },
     Choice {
         name: "tables",
@@ -119,7 +121,11 @@ pub fn program<'a>(alloc: Global) -> Result<Command<'a>, AllocError> {
         .args_conflicts_with_subcommands(true)
         .bin_name(NAME)?;
     let log = look(alloc, "log", LOG_ABOUT)?.arg(option(alloc, SLOT))?;
-    let graph = flag(alloc, "dot", "Prints the blocks as a graph for dot -Tsvg");
+    let graph = flag(
+        alloc,
+        "dot",
+        "Prints the basic blocks as a graph for dot -Tsvg",
+    );
     let dis = look(alloc, "dis", DIS_ABOUT)?.arg(graph)?;
     let with_paths = with_paths(alloc, empty)?;
     let surveying = with_options(alloc, with_paths)?;

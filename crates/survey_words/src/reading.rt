@@ -104,8 +104,8 @@ fn look_in<'a>(
     }
 }
 
-// Why clap refused the arguments, or the help that they ask for.
-fn refusal_of(alloc: Global, error: &clap::Error) -> WordsError {
+// Why clap did not accept the arguments, or the help that they ask for.
+fn words_error_of(alloc: Global, error: &clap::Error) -> WordsError {
     match error.kind() {
         ErrorKind::OutOfMemory => WordsError::Memory,
         _ => match format!(in alloc; "{error}") {
@@ -119,7 +119,7 @@ fn refusal_of(alloc: Global, error: &clap::Error) -> WordsError {
 pub fn read_words<'a>(alloc: Global, words: &'a [String]) -> Result<Asked<'a>, WordsError> {
     let matches = match program(alloc)?.try_get_matches_from(words) {
         Ok(matches) => matches,
-        Err(error) => return Err(refusal_of(alloc, &error)),
+        Err(error) => return Err(words_error_of(alloc, &error)),
     };
     match matches.subcommand() {
         Some((name, given)) => look_in(alloc, name, given),

@@ -1,7 +1,7 @@
 //! The basic blocks of a program as a graph, in the language of Graphviz.
 
 use crate::errors::LookError;
-use crate::targets::{Mark, marks, target_of};
+use crate::targets::{SlotLabel, labels, target_of};
 use crate::texts::insn_text;
 use exact_io::write_bytes;
 use image::Image;
@@ -26,8 +26,8 @@ fn falls_through(image: &Image, slot: usize) -> bool {
 }
 
 /// Whether a jump or a call goes to a slot.
-fn begins(marks: &[Mark], slot: usize) -> bool {
-    marks.get(slot).copied().unwrap_or(Mark::Nothing) != Mark::Nothing
+fn begins(labels: &[SlotLabel], slot: usize) -> bool {
+    labels.get(slot).copied().unwrap_or(SlotLabel::Nothing) != SlotLabel::Nothing
 }
 
 /// Adds a text to a quoted one.
@@ -128,7 +128,7 @@ fn put_insn(alloc: Global, image: &Image, slot: usize, out: &mut String) -> Resu
 fn insn_node(
     alloc: Global,
     image: &Image,
-    marks: &[Mark],
+    labels: &[SlotLabel],
     slot: usize,
     graph: &mut Graph,
 ) -> Result<String, AllocError> {
@@ -136,7 +136,7 @@ fn insn_node(
     let mut text = head_of(alloc, graph.block, slot)?;
     put_insn(alloc, image, slot, &mut text)?;
     put_call(alloc, image, graph.block, slot, &mut graph.edges)?;
-    if is_end(image, slot) || begins(marks, next) || next >= image.slots() {
+    if is_end(image, slot) || begins(labels, next) || next >= image.slots() {
         text.push_str("\"];\n")?;
         put_edges(alloc, image, graph.block, slot, next, &mut graph.edges)?;
         graph.block = next;
@@ -148,13 +148,13 @@ fn insn_node(
 fn write_blocks<W: Write>(
     alloc: Global,
     image: &Image,
-    marks: &[Mark],
+    labels: &[SlotLabel],
     graph: &mut Graph,
     out: &mut W,
 ) -> Result<(), LookError> {
     for slot in 0..image.slots() {
         if image.at(slot).is_some() {
-            let text = insn_node(alloc, image, marks, slot, graph)?;
+            let text = insn_node(alloc, image, labels, slot, graph)?;
             write_bytes(out, text.as_bytes())?;
         }
     }
@@ -164,7 +164,7 @@ fn write_blocks<W: Write>(
 /// Writes the basic blocks of a program as a graph for `dot`: a plain edge where control falls
 /// through, a dashed one for each jump, and a dotted one for each call.
 pub fn write_graph<W: Write>(alloc: Global, image: &Image, out: &mut W) -> Result<(), LookError> {
-    let marks = marks(alloc, image)?;
+    let labels = labels(alloc, image)?;
     let mut graph = Graph {
         block: 0,
         edges: String::new(alloc),
@@ -173,7 +173,7 @@ pub fn write_graph<W: Write>(alloc: Global, image: &Image, out: &mut W) -> Resul
         out,
         b"digraph program {\n  node [shape=box, fontname=monospace];\n",
     )?;
-    write_blocks(alloc, image, marks.as_slice(), &mut graph, out)?;
+    write_blocks(alloc, image, labels.as_slice(), &mut graph, out)?;
     write_bytes(out, graph.edges.as_bytes())?;
     write_bytes(out, b"}\n")?;
     Ok(())

@@ -1,4 +1,4 @@
-//! An image judged: its verdict, what was counted, and how long it took.
+//! Judges an image: its verdict, what was counted, and how long it took.
 
 ghost use Rattle.std.specs.Prelude.{◌≡◌, false, IfSome, None, Some};
 ghost use Rattle.isa_model.specs.{Program};

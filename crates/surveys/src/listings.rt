@@ -1,7 +1,7 @@
 //! A program as a listing: slots, bytes, labels and canonical text.
 
 use crate::errors::LookError;
-use crate::targets::{Mark, marks, target_of};
+use crate::targets::{SlotLabel, labels, target_of};
 use crate::texts::insn_text;
 use exact_io::write_bytes;
 use image::Image;
@@ -35,35 +35,36 @@ fn slot_bytes(alloc: Global, code: &[u8], slot: usize) -> Result<String, AllocEr
     Ok(text)
 }
 
-/// The label above a slot; before a function's there is an empty line.
-fn label_above(alloc: Global, mark: Mark, slot: usize) -> Result<String, AllocError> {
-    let front = match mark {
-        Mark::Nothing => return Ok(String::new(alloc)),
-        Mark::Target => "L",
-        Mark::Function => "\nF",
+/// The label above a slot, with an empty line before the label of a function.
+fn label_above(alloc: Global, label: SlotLabel, slot: usize) -> Result<String, AllocError> {
+    let front = match label {
+        SlotLabel::Nothing => return Ok(String::new(alloc)),
+        SlotLabel::Target => "L",
+        SlotLabel::Function => "\nF",
     };
     format!(in alloc; "{front}{slot}:\n")
 }
 
-/// The comment after an instruction's text, with the label to which it leads.
+/// The comment after an instruction's text: the label of the slot to which the instruction jumps
+/// or which it calls.
 fn label_behind(
     alloc: Global,
     image: &Image,
-    marks: &[Mark],
+    labels: &[SlotLabel],
     slot: usize,
 ) -> Result<String, AllocError> {
     let Some(target) = target_of(image, slot) else {
         return Ok(String::new(alloc));
     };
-    let letter = match marks.get(target) {
-        Some(Mark::Function) => "F",
+    let letter = match labels.get(target) {
+        Some(SlotLabel::Function) => "F",
         Some(_) => "L",
         None => return String::from_str(alloc, "  # outside the code"),
     };
     format!(in alloc; "  # {letter}{target}")
 }
 
-/// The number of a slot, and its bytes.
+/// The index of a slot, and its bytes.
 fn slot_front(alloc: Global, code: &[u8], slot: usize) -> Result<String, AllocError> {
     let bytes = slot_bytes(alloc, code, slot)?;
     format!(in alloc; "{slot:5}: {bytes}")
@@ -73,14 +74,14 @@ fn slot_front(alloc: Global, code: &[u8], slot: usize) -> Result<String, AllocEr
 fn insn_lines(
     alloc: Global,
     image: &Image,
-    marks: &[Mark],
+    labels: &[SlotLabel],
     slot: usize,
     front: &str,
     insn: &str,
 ) -> Result<String, AllocError> {
-    let mark = marks.get(slot).copied().unwrap_or(Mark::Nothing);
-    let above = label_above(alloc, mark, slot)?;
-    let behind = label_behind(alloc, image, marks, slot)?;
+    let label = labels.get(slot).copied().unwrap_or(SlotLabel::Nothing);
+    let above = label_above(alloc, label, slot)?;
+    let behind = label_behind(alloc, image, labels, slot)?;
     format!(in alloc; "{above}{front}  {insn}{behind}\n")
 }
 
@@ -89,7 +90,7 @@ fn slot_text(
     alloc: Global,
     image: &Image,
     code: &[u8],
-    marks: &[Mark],
+    labels: &[SlotLabel],
     slot: usize,
 ) -> Result<String, AllocError> {
     let mut front = slot_front(alloc, code, slot)?;
@@ -99,16 +100,16 @@ fn slot_text(
         front.push('\n')?;
         return Ok(front);
     }
-    insn_lines(alloc, image, marks, slot, front.as_str(), insn)
+    insn_lines(alloc, image, labels, slot, front.as_str(), insn)
 }
 
 /// Writes a program: a line for each slot with its index, its bytes and the canonical text of its
 /// instruction, labels at the targets of jumps and calls, and an empty line before each function.
 pub fn write_listing<W: Write>(alloc: Global, image: &Image, out: &mut W) -> Result<(), LookError> {
     let code = code_bytes(alloc, image)?;
-    let marks = marks(alloc, image)?;
+    let labels = labels(alloc, image)?;
     for slot in 0..image.slots() {
-        let text = slot_text(alloc, image, code.as_slice(), marks.as_slice(), slot)?;
+        let text = slot_text(alloc, image, code.as_slice(), labels.as_slice(), slot)?;
         write_bytes(out, text.as_bytes())?;
     }
     Ok(())

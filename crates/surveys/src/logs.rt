@@ -18,7 +18,7 @@ use transfer::Ways;
 struct Log<'a, W: Write + Drop> {
     alloc: Global,
     image: &'a Image,
-    /// The slot whose instructions are written, if not all are.
+    /// The slot at which explored instructions are written, if not all are.
     only: Option<usize>,
     out: W,
     tally: SearchTally,
@@ -46,16 +46,16 @@ impl<W: Write + Drop> Log<'_, W> {
     /// The lines of an instruction: its number in the log, its slot, and the state that it is
     /// reached in.
     fn explored_text(&self, state: &State, is_stored: bool) -> Result<String, AllocError> {
-        let (number, slot) = (self.tally.explored, state.slot);
-        let from = from_text(self.alloc, self.path.as_slice(), number)?;
+        let (log_number, slot) = (self.tally.explored, state.slot);
+        let from = from_text(self.alloc, self.path.as_slice(), log_number)?;
         let stored = if is_stored { ", stored" } else { "" };
         let insn = insn_text(self.alloc, self.image, slot)?;
-        let mut text = format!(in self.alloc; "#{number} slot {slot}{from}{stored}: {insn}")?;
+        let mut text = format!(in self.alloc; "#{log_number} slot {slot}{from}{stored}: {insn}")?;
         put_state(self.alloc, state, &mut text)?;
         Ok(text)
     }
 
-    /// The line for a state that a stored one covers, with the instruction that this was stored at.
+    /// The line for a state that a stored one covers, with the instruction whose state that is.
     fn covered_text(&self, index: usize, steps: u32) -> Result<String, AllocError> {
         let slot = self.arrived;
         let from = from_text(self.alloc, self.path.as_slice(), self.tally.explored)?;
@@ -72,8 +72,8 @@ impl<W: Write + Drop> Log<'_, W> {
         Ok(())
     }
 
-    /// Keeps the number of the instruction that is explored.
-    fn number(&mut self, is_stored: bool) -> Result<(), AllocError> {
+    /// Keeps the number in the log of the instruction that is explored.
+    fn keep_number(&mut self, is_stored: bool) -> Result<(), AllocError> {
         if is_stored {
             self.stored.push(self.tally.explored)?;
         }
@@ -122,7 +122,7 @@ impl<W: Write + Drop> Listener for Log<'_, W> {
         kept: Option<&Kept>,
     ) -> Result<(), LookError> {
         self.write_explored(state, stored.is_some())?;
-        self.number(stored.is_some())?;
+        self.keep_number(stored.is_some())?;
         self.tally.explore(stored, kept);
         Ok(())
     }

@@ -1,7 +1,7 @@
 //! The lines that show an abstract state.
 
 use explanations::{kind_words, slot_line};
-use isa_model::{FRAME_SIZE, MAX_CALL_FRAMES, Reg};
+use isa_model::{MAX_CALL_FRAMES, Reg, STACK_SIZE};
 use reg_state::Kind;
 use stack_state::{StackSlot, State};
 use std::alloc::{AllocError, Global};
@@ -26,8 +26,8 @@ fn put_registers(alloc: Global, state: &State, text: &mut String) -> Result<(), 
         let kind = state.kind_of(register);
         if kind != Kind::Unset {
             let number = register.number();
-            let words = kind_words(alloc, innermost, kind)?;
-            let line = format!(in alloc; "    r{number}: {words}\n")?;
+            let kind_text = kind_words(alloc, innermost, kind)?;
+            let line = format!(in alloc; "    r{number}: {kind_text}\n")?;
             text.push_str(line.as_str())?;
         }
     }
@@ -47,7 +47,7 @@ fn is_known(state: &State, frame: u8, slot: usize) -> bool {
 
 /// Adds a line for each stack slot of a call frame about which something is known.
 fn put_frame(alloc: Global, state: &State, frame: u8, text: &mut String) -> Result<(), AllocError> {
-    for slot in 0..FRAME_SIZE / 8 {
+    for slot in 0..STACK_SIZE / 8 {
         if is_known(state, frame, slot) {
             let line = slot_line(alloc, state, frame, slot)?;
             text.push_str("    ")?;

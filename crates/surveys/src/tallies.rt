@@ -57,7 +57,7 @@ impl SearchTally {
         }
     }
 
-    /// The last instruction of the path has got its number, and leaves the path.
+    /// The last state of the path has got its number, and its instruction leaves the path.
     pub fn finish(&mut self)
         ensures { self.new ≡ record self.old { depth = self.old.depth - 1 } }
     {

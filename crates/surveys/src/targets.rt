@@ -1,4 +1,4 @@
-//! The targets of jumps and calls.
+//! The targets of jumps and calls, and the labels that they give to slots.
 
 ghost use Rattle.std.specs.Prelude.{◌≡◌, IfOk, length};
 
@@ -26,28 +26,29 @@ pub fn target_of(image: &Image, slot: usize) -> Option<usize> {
     Some(destination(slot, by, image.slots()))
 }
 
-/// Whether a jump or a call leads to a slot.
+/// The label of a slot, by what leads to it.
 #[derive(Clone, Copy, PartialEq, Eq, Drop)]
-pub enum Mark {
+pub enum SlotLabel {
+    /// It has none: no jump and no call leads to it.
     Nothing,
-    /// A jump.
+    /// That of a jump's target.
     Target,
-    /// A call.
+    /// That of a function.
     Function,
 }
 
-/// Whether a jump or a call leads to each slot of the code.
-pub fn marks(alloc: Global, image: &Image) -> Result<Vec<Mark>, AllocError> {
-    let mut marks = vec![in alloc; Mark::Nothing; image.slots()]?;
+/// The label of each slot of the code.
+pub fn labels(alloc: Global, image: &Image) -> Result<Vec<SlotLabel>, AllocError> {
+    let mut labels = vec![in alloc; SlotLabel::Nothing; image.slots()]?;
     for slot in 0..image.slots() {
         let is_call = matches!(image.at(slot), Some(Insn::CallLocal(_)));
         if let Some(target) = target_of(image, slot) {
-            if target < marks.len() && is_call {
-                marks[target] = Mark::Function;
-            } else if target < marks.len() && marks[target] == Mark::Nothing {
-                marks[target] = Mark::Target;
+            if target < labels.len() && is_call {
+                labels[target] = SlotLabel::Function;
+            } else if target < labels.len() && labels[target] == SlotLabel::Nothing {
+                labels[target] = SlotLabel::Target;
             }
         }
     }
-    Ok(marks)
+    Ok(labels)
 }

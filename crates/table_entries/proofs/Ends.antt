@@ -6,11 +6,11 @@ use Rattle.std.specs.Option.{option_map}
 use Rattle.byteorder.specs.Endian.{little_number}
 use Rattle.reg_state.specs.declared.kinds.Kind.TheVariants.{Number}
 use Rattle.stack_state.specs.Slots.{frame_slots}
-use Rattle.table_entries.specs.declared.stops.StopReason.TheVariants.{Form}
+use Rattle.table_entries.specs.declared.stops.StopReason.TheVariants.{Meaningless}
 use Rattle.isa_model.specs.Code.Instructions.{Program}
 use Rattle.table_entries.specs.Deciding.{decide}
 use Rattle.table_entries.specs.Reading.{Read, sized, then_read, joined, many}
-use Rattle.table_entries.specs.Kinds.{scalar_in, stack_in, packet_in, map_in, value_in, null_in, fields_in, kind_in, slot_in, marks_in, spilled}
+use Rattle.table_entries.specs.Kinds.{scalar_in, stack_in, packet_in, map_in, value_in, null_in, fields_in, kind_in, stack_slot_in, marks_in, spilled}
 use Rattle.table_entries.specs.Frames.{frame_in, callers_in}
 use Rattle.table_entries.specs.Entries.{Entry, named_in, rest_in, entry_in}
 use Rattle.table_entries.specs.Growing.{IsEnd}
@@ -106,15 +106,16 @@ LeavesEnd-marks : (tag : ℕ) (bytes : List ℕ) → LeavesEnd (tag ∷ bytes) (
 LeavesEnd-marks tag [] = tt
 LeavesEnd-marks tag (marks ∷ bytes) = (2, refl)
 
-LeavesEnd-slot : (rows holder : ℕ) (bytes : List ℕ) → LeavesEnd bytes (slot_in rows holder bytes)
-unfolding slot_in
-LeavesEnd-slot rows holder [] = tt
-LeavesEnd-slot rows holder (tag ∷ bytes) =
-    let value : LeavesEnd bytes (kind_in rows holder bytes) = LeavesEnd-kind rows holder bytes in
+LeavesEnd-stack_slot : (rows holder : ℕ) (bytes : List ℕ)
+    → LeavesEnd bytes (stack_slot_in rows holder bytes)
+unfolding stack_slot_in
+LeavesEnd-stack_slot rows holder [] = tt
+LeavesEnd-stack_slot rows holder (tag ∷ bytes) =
+    let kind : LeavesEnd bytes (kind_in rows holder bytes) = LeavesEnd-kind rows holder bytes in
     LeavesEnd-if (tag ∷ bytes) (tag == 0) _ _ (LeavesEnd-marks tag bytes)
     (LeavesEnd-if (tag ∷ bytes) (tag == 1) _ _
     (LeavesEnd-then (tag ∷ bytes) (kind_in rows holder bytes) (λ k rest. Ok (spilled k, rest))
-    (LeavesEnd-more (tag ∷ bytes) bytes (kind_in rows holder bytes) (1, refl) value)
+    (LeavesEnd-more (tag ∷ bytes) bytes (kind_in rows holder bytes) (1, refl) kind)
     (λ k rest. (0, refl))) tt)
 
 LeavesEnd-frame : (rows holder : ℕ) (outer : Bool) (bytes : List ℕ)
@@ -127,9 +128,9 @@ LeavesEnd-frame rows holder outer bytes =
     (2, refl)
     (LeavesEnd-many (λ k. kind_in rows holder) (λ k b. LeavesEnd-kind rows holder b) 10 0
     (drop 2 bytes)))
-    (λ kinds rest. LeavesEnd-then rest (many (λ k. slot_in rows holder) frame_slots 0 rest) _
-    (LeavesEnd-many (λ k. slot_in rows holder)
-    (λ k b. LeavesEnd-slot rows holder b) frame_slots 0 rest) (λ slots after. (0, refl))))
+    (λ kinds rest. LeavesEnd-then rest (many (λ k. stack_slot_in rows holder) frame_slots 0 rest) _
+    (LeavesEnd-many (λ k. stack_slot_in rows holder)
+    (λ k b. LeavesEnd-stack_slot rows holder b) frame_slots 0 rest) (λ slots after. (0, refl))))
 
 LeavesEnd-named : (bytes : List ℕ) → LeavesEnd bytes (named_in bytes)
 unfolding named_in
@@ -142,18 +143,18 @@ LeavesEnd-named (count ∷ bytes) =
     (LeavesEnd-if (count ∷ bytes) (count == 1) _ _
     (LeavesEnd-more (count ∷ bytes) bytes (sized 4 one bytes) (1, refl)
     (LeavesEnd-sized 4 one bytes))
-    (LeavesEnd-if (count ∷ bytes) (count == 2) _ (Err Form)
+    (LeavesEnd-if (count ∷ bytes) (count == 2) _ (Err Meaningless)
     (LeavesEnd-more (count ∷ bytes) bytes (sized 8 two bytes) (1, refl)
     (LeavesEnd-sized 8 two bytes)) tt))
 
-LeavesEnd-rest : (p : Program) (number slot outer : ℕ) (bytes : List ℕ)
-    → LeavesEnd bytes (rest_in p number slot outer bytes)
-LeavesEnd-rest p number slot outer bytes =
-    LeavesEnd-then bytes (callers_in (length p.maps) outer bytes) _
+LeavesEnd-rest : (p : Program) (number slot caller_count : ℕ) (bytes : List ℕ)
+    → LeavesEnd bytes (rest_in p number slot caller_count bytes)
+LeavesEnd-rest p number slot caller_count bytes =
+    LeavesEnd-then bytes (callers_in (length p.maps) caller_count bytes) _
     (LeavesEnd-many (λ k. frame_in (length p.maps) k true)
-    (λ k b. LeavesEnd-frame (length p.maps) k true b) outer 0 bytes)
-    (λ callers rest. LeavesEnd-then rest (frame_in (length p.maps) outer false rest) _
-    (LeavesEnd-frame (length p.maps) outer false rest)
+    (λ k b. LeavesEnd-frame (length p.maps) k true b) caller_count 0 bytes)
+    (λ callers rest. LeavesEnd-then rest (frame_in (length p.maps) caller_count false rest) _
+    (LeavesEnd-frame (length p.maps) caller_count false rest)
     (λ innermost others. LeavesEnd-then others (named_in others) _ (LeavesEnd-named others)
     (λ successors after. (0, refl))))
 

@@ -221,9 +221,9 @@ passed_over p rest after h =
     let there = some_of found.0 found.2 in
     (there.0, found.1 ∙ ap (λ (o : Option Entry). Ok (o, after)) there.1)
 
-pub Grows-placed : (p : Program) (g h : Grown) (e : Entry) (after : List ℕ) (answer : Bool)
+pub Grows-placed : (p : Program) (g h : Grown) (e : Entry) (after : List ℕ) (placed : Bool)
     → count_of g.table < g.count → entry_in p g.rest ≡ Ok (Some e, after)
-    → (IsTrue answer → h ≡ taken g after) → (answer ≡ false → h ≡ g) → Grows p g h
+    → (IsTrue placed → h ≡ taken g after) → (placed ≡ false → h ≡ g) → Grows p g h
 Grows-placed p g h e after true less read there left =
     subst (Grows p g) (sym (there refl)) (Grows-more p g e after less read)
 Grows-placed p g h e after false less read there left =

@@ -6,8 +6,8 @@ pub mod EntryOrder
 pub mod Numbers
 pub mod Spelled
 pub mod Seen
-pub mod BlankSlots
+pub mod BlankStackSlots
 pub mod UnsetCallers
-pub mod NumberSlots
+pub mod NumberStackSlots
 pub mod KindLaws
 pub mod GrowingLaws

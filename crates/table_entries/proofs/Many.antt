@@ -1,4 +1,4 @@
--- What is read one after the other, as a loop does.
+-- What a loop reads one after the other: what it has so far, and what is still to be read.
 use Rattle.std.specs.Prelude.{◌≡◌, ℕ, suc, ◌+◌, ◌-◌, ◌<◌, ◌≤◌, ◌&&◌, Bool, true, false, List, [], ◌∷◌, ◌++◌, length, take, slice_set, Option, Some, None, Ok, Err, refl}
 use Rattle.std.proofs.Common.{sym, ap, ◌∙◌, append_assoc, arith, subst, get_or, take_all}
 use Rattle.std.proofs.lemmas.List.{append-nil, take_more, take_more_set}

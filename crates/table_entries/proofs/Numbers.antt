@@ -81,11 +81,12 @@ EntryIs-either : (P : Entry → Type 0) (b : Bool) (r s : Read Entry) → EntryI
 EntryIs-either P true r s first second = first
 EntryIs-either P false r s first second = second
 
-BeginsWith-rest : (p : Program) (number slot outer : ℕ) (bytes : List ℕ)
-    → EntryIs (BeginsWith p number) (allowed (rest_in p number slot outer bytes))
-BeginsWith-rest p number slot outer bytes =
-    EntryIs-then (BeginsWith p number) (callers_in (length p.maps) outer bytes) _ (λ callers rest.
-    EntryIs-then (BeginsWith p number) (frame_in (length p.maps) outer false rest) _
+BeginsWith-rest : (p : Program) (number slot caller_count : ℕ) (bytes : List ℕ)
+    → EntryIs (BeginsWith p number) (allowed (rest_in p number slot caller_count bytes))
+BeginsWith-rest p number slot caller_count bytes =
+    EntryIs-then (BeginsWith p number) (callers_in (length p.maps) caller_count bytes) _
+    (λ callers rest.
+    EntryIs-then (BeginsWith p number) (frame_in (length p.maps) caller_count false rest) _
     (λ innermost others.
     EntryIs-then (BeginsWith p number) (named_in others) _
     (λ successors after. BeginsWith-with p number slot callers innermost successors)))
@@ -118,7 +119,7 @@ allowed-in p bytes e after h =
     (BeginsWith-entry p bytes) in
     begins.allowed
 
--- too few bytes are no entry
+-- fewer than 4 bytes are no entry
 pub short-from : (p : Program) (bytes : List ℕ) → length bytes < 4
     → allowed (entry_in p bytes) ≡ None
 unfolding entry_in

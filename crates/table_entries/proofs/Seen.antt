@@ -11,7 +11,7 @@ use Rattle.stack_state.specs.declared.states.AbstractFrame.{AbstractFrame}
 use Rattle.stack_state.specs.Slots.{frame_slots}
 use Rattle.table_entries.specs.declared.stops.StopReason.{StopReason}
 use Rattle.table_entries.specs.Reading.{Read, kept, seen, then_read, joined, many}
-use Rattle.table_entries.specs.Kinds.{kind_in, slot_in}
+use Rattle.table_entries.specs.Kinds.{kind_in, stack_slot_in}
 use Rattle.table_entries.specs.Frames.{frame_allowed, allowed_frame, frame_in, callers_in}
 use Rattle.table_entries.specs.Entries.{named_in, head_allowed, entry_with, rest_in}
 
@@ -112,56 +112,56 @@ some-if : {X : Type 0} (b : Bool) (x : X) → is_some (if b then Some x else Non
 some-if true x = refl
 some-if false x = refl
 
-some-frame : (holder slot : ℕ) (kinds : Option (List Kind)) (slots : Option (List StackSlot))
-    → is_some (allowed_frame holder false slot kinds slots)
-    ≡ ((is_some kinds && is_some slots) && (not (holder == 0) || slot == 0))
-some-frame holder slot (Some kinds) (Some slots) =
-    some-if (frame_allowed holder false slot kinds)
-    (record { return_slot = slot; registers = kinds; stack = record { slots = slots } })
-    ∙ and-true (not (holder == 0) || slot == 0)
-some-frame holder slot (Some kinds) None = refl
-some-frame holder slot None slots = refl
+some-frame : (holder return_slot : ℕ) (kinds : Option (List Kind)) (slots : Option (List StackSlot))
+    → is_some (allowed_frame holder false return_slot kinds slots)
+    ≡ ((is_some kinds && is_some slots) && (not (holder == 0) || return_slot == 0))
+some-frame holder return_slot (Some kinds) (Some slots) =
+    some-if (frame_allowed holder false return_slot kinds)
+    (record { return_slot = return_slot; registers = kinds; stack = record { slots = slots } })
+    ∙ and-true (not (holder == 0) || return_slot == 0)
+some-frame holder return_slot (Some kinds) None = refl
+some-frame holder return_slot None slots = refl
 
 -- the innermost call frame
 pub seen-frame : (rows holder : ℕ) (bytes : List ℕ) → 2 ≤ length bytes
     → seen (frame_in rows holder false bytes)
     ≡ then_seen (seen (many (λ k. kind_in rows holder) 10 0 (drop 2 bytes))) (λ allowed rest.
-    then_seen (seen (many (λ k. slot_in rows holder) frame_slots 0 rest)) (λ slots after.
+    then_seen (seen (many (λ k. stack_slot_in rows holder) frame_slots 0 rest)) (λ slots after.
     Ok ((allowed && slots) && (not (holder == 0) || little_number 2 bytes == 0), after)))
 unfolding frame_in
 seen-frame rows holder bytes long =
     rw (le-ltb (length bytes) 2 long)
     (seen-then (many (λ k. kind_in rows holder) 10 0 (drop 2 bytes)) _
-    (λ allowed rest. then_seen (seen (many (λ k. slot_in rows holder) frame_slots 0 rest))
+    (λ allowed rest. then_seen (seen (many (λ k. stack_slot_in rows holder) frame_slots 0 rest))
     (λ slots after.
     Ok ((allowed && slots) && (not (holder == 0) || little_number 2 bytes == 0), after)))
-    (λ kinds rest. seen-then (many (λ k. slot_in rows holder) frame_slots 0 rest) _
+    (λ kinds rest. seen-then (many (λ k. stack_slot_in rows holder) frame_slots 0 rest) _
     (λ slots after. Ok
     ((is_some kinds && slots) && (not (holder == 0) || little_number 2 bytes == 0), after))
     (λ slots after. ap (λ (b : Bool). Ok (b, after))
     (some-frame holder (little_number 2 bytes) kinds slots))))
 
-some-kept : (holder slot : ℕ) (outer allowed : Bool) (kinds : List Kind)
+some-kept : (holder return_slot : ℕ) (outer allowed : Bool) (kinds : List Kind)
     (slots : Option (List StackSlot))
-    → is_some (allowed_frame holder outer slot (kept allowed kinds) slots)
-    ≡ ((allowed && is_some slots) && frame_allowed holder outer slot kinds)
-some-kept holder slot outer true kinds (Some slots) =
-    some-if (frame_allowed holder outer slot kinds)
-    (record { return_slot = slot; registers = kinds; stack = record { slots = slots } })
-some-kept holder slot outer true kinds None = refl
-some-kept holder slot outer false kinds slots = refl
+    → is_some (allowed_frame holder outer return_slot (kept allowed kinds) slots)
+    ≡ ((allowed && is_some slots) && frame_allowed holder outer return_slot kinds)
+some-kept holder return_slot outer true kinds (Some slots) =
+    some-if (frame_allowed holder outer return_slot kinds)
+    (record { return_slot = return_slot; registers = kinds; stack = record { slots = slots } })
+some-kept holder return_slot outer true kinds None = refl
+some-kept holder return_slot outer false kinds slots = refl
 
 -- a call frame whose kinds were read
 pub seen-caller : (rows holder : ℕ) (outer : Bool) (bytes : List ℕ) (allowed : Bool)
     (kinds : List Kind) (rest : List ℕ) → 2 ≤ length bytes
     → many (λ k. kind_in rows holder) 10 0 (drop 2 bytes) ≡ Ok (kept allowed kinds, rest)
     → seen (frame_in rows holder outer bytes)
-    ≡ then_seen (seen (many (λ k. slot_in rows holder) frame_slots 0 rest)) (λ slots after.
+    ≡ then_seen (seen (many (λ k. stack_slot_in rows holder) frame_slots 0 rest)) (λ slots after.
     Ok ((allowed && slots) && frame_allowed holder outer (little_number 2 bytes) kinds, after))
 unfolding frame_in
 seen-caller rows holder outer bytes allowed kinds rest long read =
     rw (le-ltb (length bytes) 2 long, read)
-    (seen-then (many (λ k. slot_in rows holder) frame_slots 0 rest) _
+    (seen-then (many (λ k. stack_slot_in rows holder) frame_slots 0 rest) _
     (λ slots after. Ok
     ((allowed && slots) && frame_allowed holder outer (little_number 2 bytes) kinds, after))
     (λ slots after. ap (λ (b : Bool). Ok (b, after))
@@ -197,20 +197,20 @@ some-entry p number slot (Some callers) None successors = refl
 some-entry p number slot None innermost successors = refl
 
 -- the parts of an entry
-pub seen-rest : (p : Program) (number slot outer : ℕ) (bytes : List ℕ)
-    → seen (rest_in p number slot outer bytes)
-    ≡ then_seen (seen (callers_in (length p.maps) outer bytes)) (λ callers rest.
-    then_seen (seen (frame_in (length p.maps) outer false rest)) (λ innermost others.
+pub seen-rest : (p : Program) (number slot caller_count : ℕ) (bytes : List ℕ)
+    → seen (rest_in p number slot caller_count bytes)
+    ≡ then_seen (seen (callers_in (length p.maps) caller_count bytes)) (λ callers rest.
+    then_seen (seen (frame_in (length p.maps) caller_count false rest)) (λ innermost others.
     then_seen (seen (named_in others)) (λ named after.
     Ok (((callers && innermost) && head_allowed p number slot) && named, after))))
-seen-rest p number slot outer bytes =
-    seen-then (callers_in (length p.maps) outer bytes) _
-    (λ callers rest. then_seen (seen (frame_in (length p.maps) outer false rest))
+seen-rest p number slot caller_count bytes =
+    seen-then (callers_in (length p.maps) caller_count bytes) _
+    (λ callers rest. then_seen (seen (frame_in (length p.maps) caller_count false rest))
     (λ innermost others.
     then_seen (seen (named_in others))
     (λ named after. Ok
     (((callers && innermost) && head_allowed p number slot) && named, after))))
-    (λ callers rest. seen-then (frame_in (length p.maps) outer false rest) _
+    (λ callers rest. seen-then (frame_in (length p.maps) caller_count false rest) _
     (λ innermost others. then_seen (seen (named_in others))
     (λ named after. Ok
     (((is_some callers && innermost) && head_allowed p number slot) && named, after)))

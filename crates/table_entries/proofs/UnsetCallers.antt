@@ -11,7 +11,7 @@ use Rattle.stack_state.specs.Slots.{frame_slots}
 use Rattle.table_entries.specs.declared.stops.StopReason.TheVariants.{Short}
 use Rattle.table_entries.specs.Blanks.{AreZeros}
 use Rattle.table_entries.specs.Reading.{Read, then_read, joined, many}
-use Rattle.table_entries.specs.Kinds.{kind_in, fields_in, slot_in}
+use Rattle.table_entries.specs.Kinds.{kind_in, fields_in, stack_slot_in}
 use Rattle.table_entries.specs.Frames.{allowed_frame, frame_in}
 
 -- the first j kinds that were read are unset
@@ -76,12 +76,13 @@ zeros_unset rows holder (suc j) (suc m) k (b ∷ rest) le z =
     subst (λ (x : ℕ). FirstUnset (suc j) (many (λ k. kind_in rows holder) (suc m) k (x ∷ rest)))
     (sym zero_first) all
 
-frame_same : (holder slot : ℕ) (kinds : Option (List Kind)) (slots : Option (List StackSlot))
+frame_same : (holder return_slot : ℕ) (kinds : Option (List Kind)) (slots : Option (List StackSlot))
     → AreUnset 6 kinds
-    → allowed_frame holder true slot kinds slots ≡ allowed_frame holder false slot kinds slots
-frame_same holder slot None slots each = refl
-frame_same holder slot (Some kinds) None each = refl
-frame_same holder slot (Some kinds) (Some slots) each =
+    → allowed_frame holder true return_slot kinds slots
+    ≡ allowed_frame holder false return_slot kinds slots
+frame_same holder return_slot None slots each = refl
+frame_same holder return_slot (Some kinds) None each = refl
+frame_same holder return_slot (Some kinds) (Some slots) each =
     rw (
       each 0 (omega arith),
       each 1 (omega arith),
@@ -98,9 +99,9 @@ then_same : {X Y : Type 0} (r : Read X) (f g : Option X → List ℕ → Read Y)
 then_same (Ok x) f g each = each x.0 x.1 refl
 then_same (Err stop) f g each = refl
 
-abbrev then_slots : ℕ → ℕ → Bool → ℕ → Option (List Kind) → List ℕ → Read AbstractFrame
-then_slots rows holder outer leads kinds rest =
-    then_read (many (λ k. slot_in rows holder) frame_slots 0 rest)
+abbrev then_stack_slots : ℕ → ℕ → Bool → ℕ → Option (List Kind) → List ℕ → Read AbstractFrame
+then_stack_slots rows holder outer leads kinds rest =
+    then_read (many (λ k. stack_slot_in rows holder) frame_slots 0 rest)
     (λ slots after. Ok (allowed_frame holder outer leads kinds slots, after))
 
 pub unset_outer : (rows holder : ℕ) (bytes : List ℕ) → AreZeros 6 (drop 2 bytes)
@@ -112,9 +113,10 @@ unset_outer rows holder bytes z =
     let unset : FirstUnset 6 kinds =
     zeros_unset rows holder 6 10 0 (drop 2 bytes) (omega arith) z in
     ap (λ (r : Read AbstractFrame). if nat_lt (length bytes) 2 then Err Short else r)
-    (then_same kinds (then_slots rows holder true leads) (then_slots rows holder false leads)
+    (then_same kinds (then_stack_slots rows holder true leads)
+    (then_stack_slots rows holder false leads)
     (λ ks rest read.
-    then_same (many (λ k. slot_in rows holder) frame_slots 0 rest)
+    then_same (many (λ k. stack_slot_in rows holder) frame_slots 0 rest)
     (λ slots after. Ok (allowed_frame holder true leads ks slots, after))
     (λ slots after. Ok (allowed_frame holder false leads ks slots, after)) (λ slots after other.
     ap (λ (f : Option AbstractFrame). Ok (f, after))

@@ -10,7 +10,7 @@ use Rattle.stack_state.specs.declared.states.State.{State}
 use Rattle.table_entries.specs.declared.entries.NamedEntries.{NamedEntries}
 use Rattle.table_entries.specs.declared.entries.NamedEntries.TheVariants as named
 use Rattle.table_entries.specs.declared.entries.EntryHead.{EntryHead}
-use Rattle.table_entries.specs.declared.stops.StopReason.TheVariants.{Short, Form}
+use Rattle.table_entries.specs.declared.stops.StopReason.TheVariants.{Short, Meaningless}
 use Rattle.table_entries.specs.Reading.{Read, sized, then_read}
 use Rattle.table_entries.specs.Frames.{frame_in, callers_in}
 
@@ -37,7 +37,7 @@ named_in (count ∷ bytes) =
     else if count == 1 then sized 4 (λ b. Some (little_number 4 b ∷ [])) bytes
     else if count == 2
     then sized 8 (λ b. Some (little_number 4 b ∷ (little_number 4 (drop 4 b) ∷ []))) bytes
-    else Err Form
+    else Err Meaningless
 
 -- a number from 1 to the greatest bound, and a slot where an instruction begins
 pub record IsAllowed (p : Program) (number slot : ℕ) : Type 0 where
@@ -64,9 +64,9 @@ entry_with p number slot callers innermost successors = None
 
 -- the call frames, the innermost one last, and the entries that are named
 abbrev pub rest_in : Program → ℕ → ℕ → ℕ → List ℕ → Read Entry
-rest_in p number slot outer bytes =
-    then_read (callers_in (length p.maps) outer bytes) (λ callers rest.
-    then_read (frame_in (length p.maps) outer false rest) (λ innermost others.
+rest_in p number slot caller_count bytes =
+    then_read (callers_in (length p.maps) caller_count bytes) (λ callers rest.
+    then_read (frame_in (length p.maps) caller_count false rest) (λ innermost others.
     then_read (named_in others) (λ successors after.
     Ok (entry_with p number slot callers innermost successors, after))))
 
@@ -75,6 +75,6 @@ unfoldable pub entry_in : Program → List ℕ → Read Entry
 entry_in p bytes =
     if nat_lt (length bytes) 7 then Err Short
     else let count = little_number 1 (drop 6 bytes) in
-    if count == 0 || nat_lt max_call_frames count then Err Form
+    if count == 0 || nat_lt max_call_frames count then Err Meaningless
     else rest_in p (little_number 4 bytes) (little_number 2 (drop 4 bytes)) (count - 1)
     (drop 7 bytes)

@@ -10,7 +10,7 @@ use Rattle.stack_state.specs.Meaning.{kind_at}
 use Rattle.stack_state.specs.Slots.{frame_slots}
 use Rattle.table_entries.specs.declared.stops.StopReason.TheVariants.{Short}
 use Rattle.table_entries.specs.Reading.{Read, then_read, many}
-use Rattle.table_entries.specs.Kinds.{kind_in, slot_in}
+use Rattle.table_entries.specs.Kinds.{kind_in, stack_slot_in}
 
 abbrev pub is_unset : Kind → Bool
 is_unset Unset = true
@@ -25,26 +25,26 @@ are_unset kinds =
 
 -- the outermost call frame returns to slot 0; of an outer one, r0 to r5 are unset
 abbrev pub frame_allowed : ℕ → Bool → ℕ → List Kind → Bool
-frame_allowed holder outer slot kinds =
-    (not (holder == 0) || slot == 0) && (not outer || are_unset kinds)
+frame_allowed holder outer return_slot kinds =
+    (not (holder == 0) || return_slot == 0) && (not outer || are_unset kinds)
 
 abbrev pub allowed_frame : ℕ → Bool → ℕ → Option (List Kind) → Option (List StackSlot)
     → Option AbstractFrame
-allowed_frame holder outer slot (Some kinds) (Some slots) =
-    if frame_allowed holder outer slot kinds
+allowed_frame holder outer return_slot (Some kinds) (Some slots) =
+    if frame_allowed holder outer return_slot kinds
     then Some (record {
-      return_slot = slot;
+      return_slot = return_slot;
       registers = kinds;
       stack = record { slots = slots };
     }) else None
-allowed_frame holder outer slot kinds slots = None
+allowed_frame holder outer return_slot kinds slots = None
 
 -- u16 return slot, ten kinds, the stack slots
 unfoldable pub frame_in : ℕ → ℕ → Bool → List ℕ → Read AbstractFrame
 frame_in rows holder outer bytes =
     if nat_lt (length bytes) 2 then Err Short
     else then_read (many (λ k. kind_in rows holder) 10 0 (drop 2 bytes)) (λ kinds rest.
-    then_read (many (λ k. slot_in rows holder) frame_slots 0 rest) (λ slots after.
+    then_read (many (λ k. stack_slot_in rows holder) frame_slots 0 rest) (λ slots after.
     Ok (allowed_frame holder outer (little_number 2 bytes) kinds slots, after)))
 
 -- n outer call frames

@@ -15,7 +15,7 @@ use Rattle.reg_state.specs.declared.kinds.Kind.{Kind}
 use Rattle.reg_state.specs.declared.kinds.Kind.TheVariants.{Unset, Number, Context, Stack, Packet, PacketEnd, Map, MapValue, MapValueOrNull}
 use Rattle.stack_state.specs.declared.slots.StackSlot.{StackSlot}
 use Rattle.stack_state.specs.declared.slots.StackSlot.TheVariants.{Written, Spilled}
-use Rattle.table_entries.specs.declared.stops.StopReason.TheVariants.{Short, Form}
+use Rattle.table_entries.specs.declared.stops.StopReason.TheVariants.{Short, Meaningless}
 use Rattle.table_entries.specs.Deciding.{decide, decide_less, decide_z}
 use Rattle.table_entries.specs.Reading.{Read, sized, then_read}
 
@@ -175,7 +175,7 @@ fields_in rows holder kind bytes =
     else if kind == 6 then sized 1 (map_in rows) bytes
     else if kind == 7 then sized 9 (value_in rows) bytes
     else if kind == 8 then sized 5 (null_in rows) bytes
-    else Err Form
+    else Err Meaningless
 
 -- a kind: its number, and its fields
 unfoldable pub kind_in : ℕ → ℕ → List ℕ → Read Kind
@@ -197,9 +197,9 @@ marks_in [] = Err Short
 marks_in (marks ∷ bytes) = Ok (Some (Written marks), bytes)
 
 -- a stack slot: 0 and marks, or 1 and a kind
-unfoldable pub slot_in : ℕ → ℕ → List ℕ → Read StackSlot
-slot_in rows holder [] = Err Short
-slot_in rows holder (tag ∷ bytes) =
+unfoldable pub stack_slot_in : ℕ → ℕ → List ℕ → Read StackSlot
+stack_slot_in rows holder [] = Err Short
+stack_slot_in rows holder (tag ∷ bytes) =
     if tag == 0 then marks_in bytes
     else if tag == 1 then spilled_in (kind_in rows holder bytes)
-    else Err Form
+    else Err Meaningless

@@ -1,4 +1,4 @@
--- Readings of bytes, one and several in a row.
+-- What is read from bytes, once and several times.
 use Rattle.std.specs.Prelude.{◌≡◌, ℕ, zero, suc, ◌+◌, nat_lt, Bool, true, false, if◌then◌else◌, List, [], ◌∷◌, ◌++◌, length, drop, Option, Some, None, Result, Ok, Err}
 use Rattle.std.specs.Option.{is_some}
 use Rattle.table_entries.specs.declared.stops.StopReason.{StopReason}
@@ -14,7 +14,7 @@ abbrev pub ReturnsRead : {X Y : Type 0} → (X → Y) → Result X StopReason �
 ReturnsRead view (Ok x) read = read ≡ Ok (view x)
 ReturnsRead view (Err stop) read = read ≡ Err stop
 
--- what was put into the room for it, if it is allowed
+-- what was read, if it is allowed
 abbrev pub kept : {X : Type 0} → Bool → X → Option X
 kept true x = Some x
 kept false x = None

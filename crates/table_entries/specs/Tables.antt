@@ -7,7 +7,7 @@ use Rattle.isa_model.specs.Code.Instructions.{Program}
 use Rattle.table_entries.specs.declared.refusals.TableRefusal.{TableRefusal}
 use Rattle.table_entries.specs.declared.refusals.TableRefusal.TheVariants as refusal
 use Rattle.table_entries.specs.declared.stops.StopReason.{StopReason}
-use Rattle.table_entries.specs.declared.stops.StopReason.TheVariants.{Short, Form}
+use Rattle.table_entries.specs.declared.stops.StopReason.TheVariants.{Short, Meaningless}
 use Rattle.isa_model.specs.declared.limits.TheConstants.{MAX_EXPLORED}
 use Rattle.table_entries.specs.Reading.{Read, allowed}
 use Rattle.table_entries.specs.Entries.{Entry, entry_in}
@@ -15,7 +15,7 @@ use Rattle.table_entries.specs.Entries.{Entry, entry_in}
 -- the refusal for bytes that end, or for a byte without a meaning in the entry of index k
 abbrev pub refusal_of : StopReason → ℕ → TableRefusal
 refusal_of Short k = refusal.Short
-refusal_of Form k = refusal.Entry k
+refusal_of Meaningless k = refusal.Entry k
 
 abbrev pub before : Option Entry → Result (List (Option Entry) × List ℕ) TableRefusal
     → Result (List (Option Entry) × List ℕ) TableRefusal

@@ -63,7 +63,7 @@ fn begins_with_four(bytes: &[u8]) -> bool
 /// How many stack slots about which nothing is known the bytes begin with, by fours: there may be
 /// more.
 #[inline(always)]
-pub fn blank_slots(bytes: &[u8]) -> usize
+pub fn blank_stack_slots(bytes: &[u8]) -> usize
     ensures most { result ≤ frame_slots }
     ensures zeros { AreZeros (2 * result) bytes.now }
 {

@@ -54,10 +54,11 @@ pub fn named_in(bytes: &[u8]) -> Result<(NamedEntries, &[u8]), StopReason>
                 skip(rest, 8),
             ))
         }
-        [_, ..] => Err(StopReason::Form),
+        [_, ..] => Err(StopReason::Meaningless),
     }
 }
 
+/// Whether an entry may have this number, and a state at this slot.
 pub fn head_allowed(image: &Image, number: u32, slot: usize) -> bool
     ensures { result ≡ head_allowed image.now number slot }
 {
@@ -74,23 +75,23 @@ fn head_if(allowed: bool, head: EntryHead) -> Option<EntryHead>
 fn read_rest<'a>(
     image: &Image,
     number: u32,
-    outer: usize,
+    caller_count: usize,
     bytes: &'a [u8],
     state: &mut State,
 ) -> Result<(Option<EntryHead>, &'a [u8]), StopReason>
-    requires { outer < max_call_frames }
+    requires { caller_count < max_call_frames }
     ensures { ReturnsRead (λ x. (option_map (λ head. entry_of head state.new) x.0, x.1.now)) result
-        (rest_in image.now number state.old.slot outer bytes.now) }
+        (rest_in image.now number state.old.slot caller_count bytes.now) }
 {
     let rows = image.maps().len();
     let (callers, rest) = read_callers(
         rows,
-        outer,
+        caller_count,
         bytes,
         &mut state.callers,
         &mut state.innermost,
     )?;
-    let (innermost, rest) = read_frame(rows, outer, false, rest, &mut state.innermost)?;
+    let (innermost, rest) = read_frame(rows, caller_count, false, rest, &mut state.innermost)?;
     let (named, rest) = named_in(rest)?;
     let fits = head_allowed(image, number, state.slot);
     let head = head_if(
@@ -100,8 +101,8 @@ fn read_rest<'a>(
     Ok((head, rest))
 }
 
-/// The entry that the bytes begin with, whose state is put into the room for it, and the bytes
-/// after it. None: it has a field that is not allowed.
+/// The entry that the bytes begin with, and the bytes after it; its state is read into `state`.
+/// None: it has a field that is not allowed.
 #[tactic(auto, unfolding(crate::specs::Entries::entry_in))]
 pub fn read_entry<'a>(
     image: &Image,
@@ -116,7 +117,7 @@ pub fn read_entry<'a>(
     }
     let frames = usize::from(bytes[6]);
     if frames == 0 || frames > MAX_CALL_FRAMES {
-        return Err(StopReason::Form);
+        return Err(StopReason::Meaningless);
     }
     let number = u32_at(bytes, 0);
     state.slot = usize::from(u16_at(bytes, 4));

@@ -5,7 +5,7 @@ ghost use Rattle.isa_model.specs.Code.Limits.{max_call_frames};
 ghost use Rattle.table_entries.specs.Frames.{is_unset, are_unset, frame_allowed, frame_in, callers_in};
 ghost use Rattle.table_entries.specs.Reading.{ReturnsRead, kept};
 
-use crate::loops::{both, read_registers, read_slots};
+use crate::loops::{both, read_registers, read_stack_slots};
 use crate::slices::{skip, u16_at};
 use crate::stops::StopReason;
 use arrayvec::ArrayVec;
@@ -30,13 +30,14 @@ fn are_unset(registers: &[Kind; 10]) -> bool
         && is_unset(&registers[5])
 }
 
-pub fn frame_allowed(holder: usize, outer: bool, slot: usize, registers: &[Kind; 10]) -> bool
-    ensures { result ≡ frame_allowed holder outer slot registers.now }
+/// Whether a call frame may have this return slot and these registers.
+pub fn frame_allowed(holder: usize, outer: bool, return_slot: usize, registers: &[Kind; 10]) -> bool
+    ensures { result ≡ frame_allowed holder outer return_slot registers.now }
 {
-    (holder != 0 || slot == 0) && (!outer || are_unset(registers))
+    (holder != 0 || return_slot == 0) && (!outer || are_unset(registers))
 }
 
-/// A call frame, read into the room for it: whether it is allowed, and the bytes after it.
+/// A call frame, read into `frame`: whether it is allowed, and the bytes after it.
 #[tactic(auto, unfolding(crate::specs::Frames::frame_in))]
 pub fn read_frame<'a>(
     rows: usize,
@@ -53,12 +54,12 @@ pub fn read_frame<'a>(
     }
     frame.return_slot = usize::from(u16_at(bytes, 0));
     let (kinds, rest) = read_registers(rows, holder, skip(bytes, 2), &mut frame.registers)?;
-    let (slots, rest) = read_slots(rows, holder, rest, &mut frame.stack.slots)?;
+    let (stack_slots, rest) = read_stack_slots(rows, holder, rest, &mut frame.stack.slots)?;
     let fits = frame_allowed(holder, outer, frame.return_slot, &frame.registers);
-    Ok((both(both(kinds, slots), fits), rest))
+    Ok((both(both(kinds, stack_slots), fits), rest))
 }
 
-/// The outer frames, each read into a frame that is free for it: whether all are allowed, and the
+/// The outer frames, each read into `free` and added to `callers`: whether all are allowed, and the
 /// bytes after them.
 pub fn read_callers<'a>(
     rows: usize,

@@ -1,7 +1,7 @@
 //! The kinds of registers and stack slots in the bytes of a table.
 
 ghost use Rattle.std.specs.Prelude.{◌≡◌, ◌≤◌, length, MatchResult, Ok, Err};
-ghost use Rattle.table_entries.specs.Kinds.{bits_of, wide_of, low_of, scalar_in, packet_in, stack_in, map_in, value_in, null_in, fields_in, kind_in, slot_in, marks_in, spilled, has_no_part, limits_of, limits_in, range_of, scalar_of, packet_of, lacks_identity, bits_in, wide_in, low_in};
+ghost use Rattle.table_entries.specs.Kinds.{bits_of, wide_of, low_of, scalar_in, packet_in, stack_in, map_in, value_in, null_in, fields_in, kind_in, stack_slot_in, marks_in, spilled, has_no_part, limits_of, limits_in, range_of, scalar_of, packet_of, lacks_identity, bits_in, wide_in, low_in};
 ghost use Rattle.std.specs.Option.{option_map};
 ghost use Rattle.table_entries.specs.Reading.{ReturnsRead};
 
@@ -116,6 +116,7 @@ fn low_in(bytes: &[u8]) -> Option<Low>
 
 #[tactic(auto, unfolding(crate::specs::Kinds::scalar_in))]
 #[inline(always)]
+/// What is known of a number: 64 bytes. None: a field is not allowed.
 pub fn scalar_in(bytes: &[u8]) -> Option<Scalar>
     requires { 64 ≤ length bytes.now }
     ensures { result ≡ scalar_in bytes.now }
@@ -178,6 +179,7 @@ fn packet_of(fixed: i32, identity: u32, limits: Option<(i32, i32)>, proved: u32)
 }
 
 #[tactic(auto, unfolding(crate::specs::Kinds::packet_in))]
+/// A pointer into the packet: 20 bytes. None: a field is not allowed.
 pub fn packet_in(bytes: &[u8]) -> Option<Kind>
     requires { 20 ≤ length bytes.now }
     ensures { result ≡ packet_in bytes.now }
@@ -195,6 +197,7 @@ pub fn packet_in(bytes: &[u8]) -> Option<Kind>
 
 #[tactic(auto, unfolding(crate::specs::Kinds::stack_in))]
 #[inline(always)]
+/// A frame pointer: 5 bytes. None: a field is not allowed.
 pub fn stack_in(holder: usize, bytes: &[u8]) -> Option<Kind>
     requires { 5 ≤ length bytes.now }
     ensures { result ≡ stack_in holder bytes.now }
@@ -256,6 +259,7 @@ fn null_in(rows: usize, bytes: &[u8]) -> Option<Kind>
 }
 
 #[inline(always)]
+/// The kind of a number: 64 bytes. None: a field is not allowed.
 pub fn number_in(bytes: &[u8]) -> Option<Kind>
     requires { 64 ≤ length bytes.now }
     ensures { result ≡ option_map Kind.Number (scalar_in bytes.now) }
@@ -316,7 +320,7 @@ fn fields_in(
             }
             Ok((null_in(rows, bytes), skip(bytes, 5)))
         }
-        _ => Err(StopReason::Form),
+        _ => Err(StopReason::Meaningless),
     }
 }
 
@@ -356,13 +360,13 @@ fn spilled(kind: Option<Kind>) -> Option<StackSlot>
 }
 
 /// A stack slot: what is known of its bytes.
-#[tactic(auto, unfolding(crate::specs::Kinds::slot_in))]
-pub fn slot_in(
+#[tactic(auto, unfolding(crate::specs::Kinds::stack_slot_in))]
+pub fn stack_slot_in(
     rows: usize,
     holder: usize,
     bytes: &[u8],
 ) -> Result<(Option<StackSlot>, &[u8]), StopReason>
-    ensures { ReturnsRead (λ x. (x.0, x.1.now)) result (slot_in rows holder bytes.now) }
+    ensures { ReturnsRead (λ x. (x.0, x.1.now)) result (stack_slot_in rows holder bytes.now) }
 {
     match bytes {
         [] => Err(StopReason::Short),
@@ -371,6 +375,6 @@ pub fn slot_in(
             let (kind, rest) = kind_in(rows, holder, rest)?;
             Ok((spilled(kind), rest))
         }
-        [_, ..] => Err(StopReason::Form),
+        [_, ..] => Err(StopReason::Meaningless),
     }
 }

@@ -2,11 +2,11 @@
 
 ghost use Rattle.std.specs.Prelude.{◌≡◌, ◌≤◌, ◌&&◌, take, replicate};
 ghost use Rattle.stack_state.specs.Slots.{frame_slots};
-ghost use Rattle.table_entries.specs.Kinds.{kind_in, slot_in};
+ghost use Rattle.table_entries.specs.Kinds.{kind_in, stack_slot_in};
 ghost use Rattle.table_entries.specs.Reading.{ReturnsRead, kept, many};
 
-use crate::blanks::blank_slots;
-use crate::kinds::{kind_in, slot_in};
+use crate::blanks::blank_stack_slots;
+use crate::kinds::{kind_in, stack_slot_in};
 use crate::slices::skip;
 use crate::stops::StopReason;
 use reg_state::Kind;
@@ -19,7 +19,7 @@ pub fn both(first: bool, second: bool) -> bool
     first && second
 }
 
-/// A kind, read into the room for it: whether it is allowed, and the bytes after it.
+/// A kind, read into `kind`: whether it is allowed, and the bytes after it.
 #[inline(always)]
 #[tactic(auto, unfolding(crate::specs::Kinds::kind_in, crate::specs::Kinds::fields_in))]
 fn read_kind<'a>(
@@ -60,20 +60,20 @@ fn mark(slot: &mut StackSlot, marks: u8)
     }
 }
 
-/// A stack slot, read into the room for it: whether it is allowed, and the bytes after it.
+/// A stack slot, read into `slot`: whether it is allowed, and the bytes after it.
 ///
 /// Nothing is known of most stack slots: they are read several at a time, since they are most of a
 /// table.
 #[inline(always)]
-#[tactic(auto, unfolding(crate::specs::Kinds::slot_in))]
-fn read_slot<'a>(
+#[tactic(auto, unfolding(crate::specs::Kinds::stack_slot_in))]
+fn read_stack_slot<'a>(
     rows: usize,
     holder: usize,
     bytes: &'a [u8],
     slot: &mut StackSlot,
 ) -> Result<(bool, &'a [u8]), StopReason>
     ensures { ReturnsRead (λ x. (kept x.0 slot.new, x.1.now)) result
-        (slot_in rows holder bytes.now) }
+        (stack_slot_in rows holder bytes.now) }
 {
     match bytes {
         [0, marks, rest @ ..] => {
@@ -81,7 +81,7 @@ fn read_slot<'a>(
             Ok((true, rest))
         }
         _ => {
-            let (found, rest) = slot_in(rows, holder, bytes)?;
+            let (found, rest) = stack_slot_in(rows, holder, bytes)?;
             match found {
                 Some(found) => {
                     *slot = found;
@@ -126,21 +126,21 @@ fn clear(slots: &mut [StackSlot; FRAME_SLOTS], count: usize)
 
 /// The stack slots of a frame: whether all are allowed, and the bytes after them. Most have no
 /// value, and those that come first are read many at a time.
-pub fn read_slots<'a>(
+pub fn read_stack_slots<'a>(
     rows: usize,
     holder: usize,
     bytes: &'a [u8],
     slots: &mut [StackSlot; FRAME_SLOTS],
 ) -> Result<(bool, &'a [u8]), StopReason>
     ensures { ReturnsRead (λ x. (kept x.0 slots.new, x.1.now)) result
-        (many (λ k. slot_in rows holder) frame_slots 0 bytes.now) }
+        (many (λ k. stack_slot_in rows holder) frame_slots 0 bytes.now) }
 {
-    let blank = blank_slots(bytes);
+    let blank = blank_stack_slots(bytes);
     clear(slots, blank);
     let mut rest = skip(bytes, 2 * blank);
     let mut allowed = true;
     for index in blank..FRAME_SLOTS {
-        let (fits, after) = read_slot(rows, holder, rest, &mut slots[index])?;
+        let (fits, after) = read_stack_slot(rows, holder, rest, &mut slots[index])?;
         allowed = both(allowed, fits);
         rest = after;
     }

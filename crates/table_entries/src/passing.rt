@@ -3,15 +3,15 @@
 ghost use Rattle.std.specs.Prelude.{◌≡◌, ◌==◌, ◌||◌, ◌≤◌, not, false, true, length};
 ghost use Rattle.std.specs.Option.{is_some};
 ghost use Rattle.stack_state.specs.Slots.{frame_slots};
-ghost use Rattle.table_entries.specs.Kinds.{kind_in, slot_in, stack_in};
+ghost use Rattle.table_entries.specs.Kinds.{kind_in, stack_slot_in, stack_in};
 ghost use Rattle.table_entries.specs.Frames.{frame_in, callers_in};
 ghost use Rattle.table_entries.specs.Entries.{rest_in, entry_in};
 ghost use Rattle.table_entries.specs.Reading.{ReturnsRead, seen, many};
 
-use crate::blanks::{begins_unset, blank_slots};
+use crate::blanks::{begins_unset, blank_stack_slots};
 use crate::entries::{head_allowed, named_in};
 use crate::frames::frame_allowed;
-use crate::kinds::{kind_in, packet_in, scalar_in, slot_in};
+use crate::kinds::{kind_in, packet_in, scalar_in, stack_slot_in};
 use crate::loops::{both, read_registers};
 use crate::slices::{skip, u16_at, u32_at};
 use crate::stops::StopReason;
@@ -44,7 +44,7 @@ fn is_stack(holder: usize, bytes: &[u8]) -> bool
 }
 
 #[inline(always)]
-#[tactic(auto, using(crate::proofs::NumberSlots::number_there), unfolding(crate::specs::Kinds::kind_in, crate::specs::Kinds::fields_in))]
+#[tactic(auto, using(crate::proofs::NumberStackSlots::number_there), unfolding(crate::specs::Kinds::kind_in, crate::specs::Kinds::fields_in))]
 fn pass_kind(rows: usize, holder: usize, bytes: &[u8]) -> Result<(bool, &[u8]), StopReason>
     ensures { ReturnsRead (λ x. (x.0, x.1.now)) result (seen (kind_in rows holder bytes.now)) }
 {
@@ -77,16 +77,18 @@ fn pass_kind(rows: usize, holder: usize, bytes: &[u8]) -> Result<(bool, &[u8]), 
 // A stack slot with the kind of a spilled value, or bytes that begin with no stack slot.
 #[inline(never)]
 fn pass_spilled(rows: usize, holder: usize, bytes: &[u8]) -> Result<(bool, &[u8]), StopReason>
-    ensures { ReturnsRead (λ x. (x.0, x.1.now)) result (seen (slot_in rows holder bytes.now)) }
+    ensures { ReturnsRead (λ x. (x.0, x.1.now)) result
+        (seen (stack_slot_in rows holder bytes.now)) }
 {
-    let (slot, rest) = slot_in(rows, holder, bytes)?;
-    Ok((slot.is_some(), rest))
+    let (found, rest) = stack_slot_in(rows, holder, bytes)?;
+    Ok((found.is_some(), rest))
 }
 
 #[inline(always)]
-#[tactic(auto, using(crate::proofs::NumberSlots::spilled_number), unfolding(crate::specs::Kinds::slot_in, crate::specs::Kinds::kind_in, crate::specs::Kinds::fields_in))]
-fn pass_slot(rows: usize, holder: usize, bytes: &[u8]) -> Result<(bool, &[u8]), StopReason>
-    ensures { ReturnsRead (λ x. (x.0, x.1.now)) result (seen (slot_in rows holder bytes.now)) }
+#[tactic(auto, using(crate::proofs::NumberStackSlots::spilled_number), unfolding(crate::specs::Kinds::stack_slot_in, crate::specs::Kinds::kind_in, crate::specs::Kinds::fields_in))]
+fn pass_stack_slot(rows: usize, holder: usize, bytes: &[u8]) -> Result<(bool, &[u8]), StopReason>
+    ensures { ReturnsRead (λ x. (x.0, x.1.now)) result
+        (seen (stack_slot_in rows holder bytes.now)) }
 {
     match bytes {
         [0, _, rest @ ..] => Ok((true, rest)),
@@ -116,25 +118,25 @@ fn pass_kinds(rows: usize, holder: usize, bytes: &[u8]) -> Result<(bool, &[u8]),
     Ok((allowed, rest))
 }
 
-fn pass_slots(rows: usize, holder: usize, bytes: &[u8]) -> Result<(bool, &[u8]), StopReason>
+fn pass_stack_slots(rows: usize, holder: usize, bytes: &[u8]) -> Result<(bool, &[u8]), StopReason>
     ensures { ReturnsRead (λ x. (x.0, x.1.now)) result
-        (seen (many (λ k. slot_in rows holder) frame_slots 0 bytes.now)) }
+        (seen (many (λ k. stack_slot_in rows holder) frame_slots 0 bytes.now)) }
 {
-    let blank = blank_slots(bytes);
+    let blank = blank_stack_slots(bytes);
     let mut rest = skip(bytes, 2 * blank);
     let mut allowed = true;
     for index in blank..FRAME_SLOTS {
-        let (fits, after) = pass_slot(rows, holder, rest)?;
+        let (fits, after) = pass_stack_slot(rows, holder, rest)?;
         allowed = both(allowed, fits);
         rest = after;
     }
     Ok((allowed, rest))
 }
 
-fn returns_right(holder: usize, slot: u16) -> bool
-    ensures { result ≡ (not (holder == 0) || slot == 0) }
+fn returns_right(holder: usize, return_slot: u16) -> bool
+    ensures { result ≡ (not (holder == 0) || return_slot == 0) }
 {
-    holder != 0 || slot == 0
+    holder != 0 || return_slot == 0
 }
 
 /// The innermost call frame.
@@ -147,11 +149,11 @@ fn pass_frame(rows: usize, holder: usize, bytes: &[u8]) -> Result<(bool, &[u8]),
     }
     let fits = returns_right(holder, u16_at(bytes, 0));
     let (kinds, rest) = pass_kinds(rows, holder, skip(bytes, 2))?;
-    let (slots, rest) = pass_slots(rows, holder, rest)?;
-    Ok((both(both(kinds, slots), fits), rest))
+    let (stack_slots, rest) = pass_stack_slots(rows, holder, rest)?;
+    Ok((both(both(kinds, stack_slots), fits), rest))
 }
 
-/// An outer frame, whose registers are read into the room for them.
+/// An outer frame, whose registers are read into `room`.
 fn pass_registers<'a>(
     rows: usize,
     holder: usize,
@@ -165,9 +167,9 @@ fn pass_registers<'a>(
         return Err(StopReason::Short);
     }
     let (kinds, rest) = read_registers(rows, holder, skip(bytes, 2), room)?;
-    let (slots, rest) = pass_slots(rows, holder, rest)?;
+    let (stack_slots, rest) = pass_stack_slots(rows, holder, rest)?;
     let fits = frame_allowed(holder, true, usize::from(u16_at(bytes, 0)), room);
-    Ok((both(both(kinds, slots), fits), rest))
+    Ok((both(both(kinds, stack_slots), fits), rest))
 }
 
 /// An outer call frame. Where r0 to r5 are unset, as they have to be, it is read as an innermost
@@ -211,23 +213,23 @@ fn pass_rest<'a>(
     image: &Image,
     number: u32,
     slot: usize,
-    outer: usize,
+    caller_count: usize,
     bytes: &'a [u8],
     room: &mut [Kind; 10],
 ) -> Result<(bool, &'a [u8]), StopReason>
     ensures { ReturnsRead (λ x. (x.0, x.1.now)) result
-        (seen (rest_in image.now number slot outer bytes.now)) }
+        (seen (rest_in image.now number slot caller_count bytes.now)) }
 {
     let rows = image.maps().len();
-    let (callers, rest) = pass_callers(rows, outer, bytes, room)?;
-    let (innermost, rest) = pass_frame(rows, outer, rest)?;
+    let (callers, rest) = pass_callers(rows, caller_count, bytes, room)?;
+    let (innermost, rest) = pass_frame(rows, caller_count, rest)?;
     let (_, rest) = named_in(rest)?;
     let fits = head_allowed(image, number, slot);
     Ok((both(both(callers, innermost), fits), rest))
 }
 
 /// Whether the entry at the front of the bytes has only fields that are allowed, and the bytes
-/// after it. The room is for the registers of its outer call frames.
+/// after it. The registers of its outer call frames are read into `room`.
 #[tactic(auto, unfolding(crate::specs::Entries::entry_in))]
 pub fn pass_entry<'a>(
     image: &Image,
@@ -241,7 +243,7 @@ pub fn pass_entry<'a>(
     }
     let frames = usize::from(bytes[6]);
     if frames == 0 || frames > MAX_CALL_FRAMES {
-        return Err(StopReason::Form);
+        return Err(StopReason::Meaningless);
     }
     let number = u32_at(bytes, 0);
     let slot = usize::from(u16_at(bytes, 4));

@@ -1,16 +1,16 @@
-//! Entries compared with a state byte by byte: one that spells the state is not read as well.
+//! Entries compared with a state byte by byte: one that spells the state need not be read.
 //!
 //! Each function returns the bytes after the spelling of its argument, if the bytes begin with
 //! that spelling. Nothing follows from None.
 
 ghost use Rattle.std.specs.Prelude.{◌≡◌, ◌≤◌, Some, Ok, IfSome, IsTrue, length, drop};
 ghost use Rattle.stack_state.specs.Slots.{frame_slots};
-ghost use Rattle.table_entries.specs.Kinds.{bits_in, wide_in, low_in, scalar_in, kind_in, packet_in, slot_in, stack_in};
+ghost use Rattle.table_entries.specs.Kinds.{bits_in, wide_in, low_in, scalar_in, kind_in, packet_in, stack_slot_in, stack_in};
 ghost use Rattle.table_entries.specs.Frames.{frame_in, callers_in};
 ghost use Rattle.table_entries.specs.Entries.{entry_in, entry_of, rest_in};
 ghost use Rattle.table_entries.specs.Reading.{many};
 
-use crate::blanks::{are_blank, blank_slots};
+use crate::blanks::{are_blank, blank_stack_slots};
 use crate::entries::{EntryHead, head_allowed, named_in};
 use crate::frames::frame_allowed;
 use crate::kinds::{kind_in, packet_in, stack_in};
@@ -245,10 +245,15 @@ fn after_kind<'a>(rows: usize, holder: usize, bytes: &'a [u8], kind: &Kind) -> O
 }
 
 #[inline(always)]
-#[tactic(auto, unfolding(crate::specs::Kinds::slot_in))]
-fn after_slot<'a>(rows: usize, holder: usize, bytes: &'a [u8], slot: &StackSlot) -> Option<&'a [u8]>
+#[tactic(auto, unfolding(crate::specs::Kinds::stack_slot_in))]
+fn after_stack_slot<'a>(
+    rows: usize,
+    holder: usize,
+    bytes: &'a [u8],
+    slot: &StackSlot,
+) -> Option<&'a [u8]>
     ensures { IfSome result
-        (λ rest. slot_in rows holder bytes.now ≡ Ok (Some slot.now, rest.now)) }
+        (λ rest. stack_slot_in rows holder bytes.now ≡ Ok (Some slot.now, rest.now)) }
 {
     match (slot, bytes) {
         (StackSlot::Written(marks), [0, there, rest @ ..]) => {
@@ -276,22 +281,22 @@ fn after_registers<'a>(
     Some(rest)
 }
 
-fn after_slots<'a>(
+fn after_stack_slots<'a>(
     rows: usize,
     holder: usize,
     bytes: &'a [u8],
     slots: &[StackSlot; FRAME_SLOTS],
 ) -> Option<&'a [u8]>
-    ensures { IfSome result (λ rest. many (λ k. slot_in rows holder) frame_slots 0 bytes.now
+    ensures { IfSome result (λ rest. many (λ k. stack_slot_in rows holder) frame_slots 0 bytes.now
         ≡ Ok (Some slots.now, rest.now)) }
 {
-    let blank = blank_slots(bytes);
+    let blank = blank_stack_slots(bytes);
     if !are_blank(slots, blank) {
         return None;
     }
     let mut rest = skip(bytes, 2 * blank);
     for index in blank..FRAME_SLOTS {
-        rest = after_slot(rows, holder, rest, &slots[index])?;
+        rest = after_stack_slot(rows, holder, rest, &slots[index])?;
     }
     Some(rest)
 }
@@ -310,7 +315,7 @@ fn after_frame<'a>(
         return None;
     }
     let rest = after_registers(rows, holder, skip(bytes, 2), &frame.registers)?;
-    let rest = after_slots(rows, holder, rest, &frame.stack.slots)?;
+    let rest = after_stack_slots(rows, holder, rest, &frame.stack.slots)?;
     if frame_allowed(holder, outer, frame.return_slot, &frame.registers) {
         Some(rest)
     } else {

@@ -142,12 +142,12 @@ fn refusal_of(stop: StopReason, index: usize) -> TableRefusal
 {
     match stop {
         StopReason::Short => TableRefusal::Short,
-        StopReason::Form => TableRefusal::Entry(index),
+        StopReason::Meaningless => TableRefusal::Entry(index),
     }
 }
 
 impl<'a> Table<'a> {
-    /// The table that the bytes are: P1 to P5 and P9.
+    /// The table that the bytes spell, or why they spell none: P1 to P5 and P9.
     ///
     /// A byte that has no meaning ends the reading, with P5 of its entry; a field that is not
     /// allowed does not, and its P5 comes last.
@@ -210,7 +210,7 @@ impl<'a> Table<'a> {
         Some(u32_at(bytes, 0))
     }
 
-    /// The entry of that index, whose state is put into the room for it.
+    /// The entry of that index; its state is read into `state`.
     ///
     /// The image is the one that the table was made with.
     pub fn read(&self, image: &Image, index: usize, state: &mut State) -> Option<EntryHead>

@@ -17,7 +17,7 @@ use Rattle.transfer.specs.declared.Ways.{Ways}
 use Rattle.transfer.specs.declared.Ways.TheVariants as ways
 use Rattle.transfer.specs.declared.refusals.Refusal.{Refusal}
 use Rattle.transfer.specs.declared.refusals.Refusal.TheVariants.{ExitValue, NoAction}
-use Rattle.transfer.specs.Exact.{shows_action, exit_answer}
+use Rattle.transfer.specs.Exact.{shows_action, exit_result}
 
 -- ---- what is shown
 
@@ -61,7 +61,7 @@ shows_action-constant Two numbers x h =
 -- ---- what is answered
 
 -- where an answer is not refused, it is a number that is shown to name an action, and ends the run
-pub answered_number : (v : Version) (k : Kind) (w : Ways) → Ok w ≡ exit_answer v k
+pub answered_number : (v : Version) (k : Kind) (w : Ways) → Ok w ≡ exit_result v k
     → (numbers : Scalar) × (k ≡ Number numbers) × (shows_action v numbers ≡ true) × (w ≡ ways.None)
 answered_number v (Number numbers) w h = of (shows_action v numbers) refl h
   where
@@ -74,7 +74,7 @@ answered_number v k w h = absurd (cc)
 
 -- an answer is refused where it is no number, or in version 2 a number that is not shown to name an
 -- action
-pub answered_refused : (v : Version) (k : Kind) (e : Refusal) → Err e ≡ exit_answer v k
+pub answered_refused : (v : Version) (k : Kind) (e : Refusal) → Err e ≡ exit_result v k
     → ((e ≡ ExitValue) × ((numbers : Scalar) → k ≢ Number numbers))
     ⊎ ((numbers : Scalar) × (k ≡ Number numbers) × (shows_action v numbers ≡ false) × (e ≡ NoAction)
     × (v ≡ Two))
@@ -92,7 +92,7 @@ answered_refused v k e h = inl (cc, λ numbers is. cc)
 
 -- a constant that names an action is not refused
 pub answered_constant : (v : Version) (k : Kind) (x : ℕ) → IsJust k x → is_answer v x ≡ true
-    → exit_answer v k ≡ Ok ways.None
+    → exit_result v k ≡ Ok ways.None
 answered_constant v (Number c) x h names =
     let shown : shows_action v c ≡ true = shows_action-constant v c x h.1 ∙ names in
     rw shown refl

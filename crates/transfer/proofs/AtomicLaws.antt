@@ -188,11 +188,11 @@ swap_goes p e a s k base v w place register b new keep m own operand allowed sam
     let none = h.1 in absurd (cc)
 
 compared_goes : (p : Program) (e : Assigned) (a : State) (s : Machine.State)
-    (compared source base : Kind) (u v : Value) (w : Width) (place : Place)
+    (expected source base : Kind) (u v : Value) (w : Width) (place : Place)
     (b : State) (new : ℕ → ℕ → ℕ → ℕ) (keep : ℕ → Machine.State → Machine.State) → MeansBy p e a s
-    → Allows e compared u → Allows e source v → Allows e base (base_of s place)
+    → Allows e expected u → Allows e source v → Allows e base (base_of s place)
     → keep ≡ keep_old (Some R0)
-    → ComparesIn p.maps a compared source base place.offset (width_size w) b (Ok tt)
+    → ComparesIn p.maps a expected source base place.offset (width_size w) b (Ok tt)
     → GoesIntoSome p b
     (and_then (atomic_number v)
     (λ y. and_then (atomic_number u) (λ x. swaps_in s w place (new y x) keep)))

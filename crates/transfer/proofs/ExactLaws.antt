@@ -16,7 +16,7 @@ use Rattle.isa_model.specs.declared.instructions.Insn.TheVariants.{StoreConstant
 use Rattle.isa_model.specs.declared.values.Value.{Value}
 use Rattle.isa_model.specs.declared.values.Value.TheVariants as value
 use Rattle.isa_model.specs.declared.ends.TrapReason.{TrapReason}
-use Rattle.isa_model.specs.declared.ends.TrapReason.TheVariants.{TooManyFrames}
+use Rattle.isa_model.specs.declared.ends.TrapReason.TheVariants.{TooManyCallFrames}
 use Rattle.isa_model.specs.declared.versions.Version.{Version}
 use Rattle.isa_model.specs.Code.Numbers.{alu, low, unsigned, atomic_alu}
 use Rattle.isa_model.specs.Code.Spelling.{InsnFits}
@@ -122,7 +122,7 @@ jumps_in p e a s by w b c is m h =
     (subst (λ m. MeansBy p e (go_to a (destination p m by)) (Machine.go_to s n)) m.slot_is
     (MeansBy-go_to p e a s n is.slot m))
 
--- the side that the test goes to is one of the successors
+-- the state on the side that the test takes is one of the successors
 stay_means : (p : Program) (e : Assigned) (stays goes : Bool) (stay go : State) (w : Ways)
     (b c : State) (t : Machine.State)
     → Sides stays goes stay go w b c → stays ≡ true → MeansBy p e stay t → InSome p w b c t
@@ -175,7 +175,7 @@ calls_in p e a s by w b c is m h =
     let f : Assigned = with_new_frame e s.next_serial in
     let t : Machine.State = enter s (destination p s.slot by) in
     let t_is : IsState p t =
-    subst (λ x. IfNext (if x then Trapped TooManyFrames else Next t) (IsState p)) free is in
+    subst (λ x. IfNext (if x then Trapped TooManyCallFrames else Next t) (IsState p)) free is in
     rw free (one_means p f w b c (entered a (destination p a.slot by)) t h.1 h.2
     (subst (λ n. MeansBy p f (entered a (destination p n by)) t) m.slot_is
     (MeansBy-enter p e a s (destination p s.slot by) t_is m)))

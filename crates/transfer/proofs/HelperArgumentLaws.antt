@@ -5,7 +5,7 @@ use Rattle.std.proofs.Common.{sym, ap, ◌∙◌, subst, arith}
 use Rattle.std.proofs.lemmas.Bool.{le-leb}
 use Rattle.std.proofs.lemmas.Int.{ints}
 use Rattle.std.proofs.lemmas.List.{length-map}
-use Rattle.isa_model.specs.Code.Limits.{frame_size}
+use Rattle.isa_model.specs.Code.Limits.{stack_size}
 use Rattle.isa_model.specs.declared.map_defs.MapType.{MapType}
 use Rattle.isa_model.specs.declared.map_defs.MapType.TheVariants.{Hash, Array}
 use Rattle.isa_model.specs.declared.map_defs.MapDef.{MapDef}
@@ -16,7 +16,7 @@ use Rattle.isa_model.specs.declared.values.Cell.{Cell}
 use Rattle.isa_model.specs.declared.values.Cell.TheVariants.{Byte}
 use Rattle.isa_model.specs.Code.Instructions.{Program}
 use Rattle.isa_model.specs.Code.MapRows.{KeyFits}
-use Rattle.isa_model.specs.Machine.States.{content_of, frame_at, new_frame}
+use Rattle.isa_model.specs.Machine.States.{content_of, call_frame_at, new_call_frame}
 use Rattle.isa_model.specs.Machine.States as Machine
 use Rattle.isa_model.specs.Machine.Memory.{and_then, is_byte, byte_in, index_from, index_at, key_value_at, read}
 use Rattle.isa_model.specs.Machine.MachineStates.{IsCallFrame}
@@ -32,7 +32,7 @@ use Rattle.stack_state.specs.StackMeaning.{part_of}
 use Rattle.stack_state.proofs.CellLaws.{none_unwritten}
 use Rattle.stack_state.proofs.StackLaws.{marked_are_bytes}
 use Rattle.stack_state.proofs.FrameLaws.{IsHere, read_here}
-use Rattle.stack_state.proofs.FramePlaceLaws.{frame_index-serial}
+use Rattle.stack_state.proofs.FramePlaceLaws.{call_frame_index-serial}
 use Rattle.transfer.specs.declared.refusals.Refusal.{Refusal}
 use Rattle.transfer.specs.declared.helpers.CalledMap.{CalledMap}
 use Rattle.transfer.proofs.PacketLaws.{packet_place}
@@ -116,16 +116,16 @@ frame_points p e a s frame n serial z m found h =
     rw (sym m.assigned.serials) found in
     let count = depth_is_length p e a s m in
     let live = h.live in
-    let fits : IsCallFrame p s.next_serial (frame_at s.frames frame) =
-    m.is_state.frames frame (new_frame 0 0 []) (omega arith) in
-    let whole : length (frame_at s.frames frame).cells ≡ frame_size = fits.whole in
+    let fits : IsCallFrame p s.next_serial (call_frame_at s.frames frame) =
+    m.is_state.frames frame (new_call_frame 0 0 []) (omega arith) in
+    let whole : length (call_frame_at s.frames frame).cells ≡ stack_size = fits.whole in
     let inside = h.inside in
     let here : IsHere s serial frame h.at n z (pos 0) = record {
-      found = frame_index-serial p s frame serial m.is_state mine;
-      index = ap index_from (ap (λ y. y +ℤ pos frame_size) (no_move z) ∙ h.from_start);
+      found = call_frame_index-serial p s frame serial m.is_state mine;
+      index = ap index_from (ap (λ y. y +ℤ pos stack_size) (no_move z) ∙ h.from_start);
       inside = omega arith;
     } in
-    let cs : List Cell = part_of (frame_at s.frames frame).cells h.at n in
+    let cs : List Cell = part_of (call_frame_at s.frames frame).cells h.at n in
     let is : read s (region.CallFrame serial) (index_at (region.CallFrame serial) z) n ≡ Ok cs =
     subst (λ y. read s (region.CallFrame serial) (index_at (region.CallFrame serial) y) n ≡ Ok cs)
     (no_move z)
@@ -135,7 +135,7 @@ frame_points p e a s frame n serial z m found h =
       refl,
       read_there s at n cs is
           (marked_are_bytes e (stack_slots_of a frame)
-          (frame_at s.frames frame).cells h.at n inside h.marked (m.stacks frame live)),
+          (call_frame_at s.frames frame).cells h.at n inside h.marked (m.stacks frame live)),
     )
 
 -- bytes of the packet
@@ -153,7 +153,7 @@ packet_points s n i z found inside =
           (list_all-is_byte-Byte bytes),
     )
 
--- bytes of a live value
+-- bytes of a live map value
 value_points : (p : Program) (s : Machine.State) (m serial n : ℕ) (z : ℤ)
     → HasBytesAt p s m serial z n → Points s (Ptr (region.MapValue m serial) z) n
 value_points p s m serial n z h =

@@ -29,7 +29,7 @@ use Rattle.stack_state.specs.Meaning.{MeansBy}
 use Rattle.stack_state.proofs.MeaningLaws.{reg_allowed}
 use Rattle.stack_state.specs.Places.{kind_of}
 use Rattle.stack_state.proofs.FillLaws.{any_number}
-use Rattle.stack_state.specs.Answers.{with_answer}
+use Rattle.stack_state.specs.HelperAnswers.{with_answer}
 use Rattle.stack_state.proofs.HelperEffects.{MeansBy-answered, MeansBy-looked_up, MeansBy-update, MeansBy-asked, MeansBy-delete}
 use Rattle.transfer.specs.declared.refusals.Refusal.{Refusal}
 use Rattle.transfer.specs.declared.helpers.CalledMap.{CalledMap}

@@ -128,7 +128,7 @@ grows_within : (back : Bool) (q : PacketPointer) (off near far by : ℤ) → nea
 grows_within true q off near far by low high = omega (arith, ints)
 grows_within false q off near far by low high = omega (arith, ints)
 
--- so the last of the bytes that stay proved is no further than the last was
+-- so the last byte that stays proved is no further than the last proved one was
 still_inside : (e : Assigned) (off part growth : ℤ) (proved left : ℕ)
     → StaysProved proved growth left → part ≤ℤ (off +ℤ growth)
     → AreInside e off proved → AreInside e part left

@@ -1,5 +1,5 @@
--- Registers that are known to be set are set, so that a machine passes the tests that its abstract
--- state passes.
+-- Registers that are known to be set are set, so that a machine state passes the tests that its
+-- abstract state passes.
 use Rattle.std.specs.Prelude.{◌≡◌, ℕ, Bool, false, List, [], ◌∷◌, Option, Some, None, refl}
 use Rattle.std.specs.List.{list_any}
 use Rattle.std.proofs.Common.{ap}
@@ -39,7 +39,7 @@ set_is_set e kind.PacketEnd v known allowed = ap is_unset allowed
 set_is_set e (kind.Map index) v known allowed = ap is_unset allowed
 set_is_set e (kind.MapValue index least greatest) v known allowed = ap is_unset allowed.points
 set_is_set e (kind.MapValueOrNull index identity) v known allowed =
-    or_null_is_set e index (e.value identity) v allowed
+    or_null_is_set e index (e.map_value identity) v allowed
 
 abbrev pub unset_in : Machine.State → Reg → Bool
 unset_in s r = is_unset (reg s r)

@@ -1,5 +1,5 @@
--- Every instruction but a local call and an exit leaves the live call frames' exits where they
--- lead.
+-- Every instruction but a local call and an exit keeps the slots to which the live call frames
+-- return.
 use Rattle.std.specs.Prelude.{◌≡◌, ℕ, ◌<◌, ℤ, Bool, true, false, if◌then◌else◌, List, [], ◌∷◌, ◌++◌, map, Option, Some, None, Result, Ok, Err, refl}
 use Rattle.std.proofs.Common.{sym, ap, ◌∙◌}
 use Rattle.std.proofs.lemmas.List.{map-append}
@@ -98,12 +98,12 @@ returns-swaps rows a b (kind.Number numbers) base by size register h =
 returns-swaps rows a b source base by size register h = ap returns_of h.0
 
 -- CMPXCHG
-pub returns-compares : (rows : List MapDef) (a b : State) (compared source base : Kind) (by : ℤ)
-    (size : Size) → ComparesIn rows a compared source base by size b (Ok tt)
+pub returns-compares : (rows : List MapDef) (a b : State) (expected source base : Kind) (by : ℤ)
+    (size : Size) → ComparesIn rows a expected source base by size b (Ok tt)
     → returns_of b ≡ returns_of a
 returns-compares rows a b (kind.Number numbers) source base by size h =
     returns-swaps rows a b source base by size (Some R0) h
-returns-compares rows a b compared source base by size h = ap returns_of h.0
+returns-compares rows a b expected source base by size h = ap returns_of h.0
 
 -- ---- jumps
 
@@ -137,7 +137,7 @@ returns-leaves cond taken a some b (compared.OrNull identity null) is h l =
 returns-leaves cond taken a some b (compared.Live null) is h l = ap returns_of l.1
 returns-leaves cond taken a some b compared.Undefined is h l = ap returns_of l.1
 
--- each side of a conditional jump
+-- each outcome of a conditional jump
 pub returns-refines : (cond : Cond) (taken : Bool) (a : State) (some : Bool) (b : State)
     → Refines cond taken a some b → returns_of b ≡ returns_of a
 returns-refines cond taken a some b h =

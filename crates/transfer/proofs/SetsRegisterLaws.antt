@@ -183,7 +183,8 @@ below_eleven : (r : Reg) → reg_number r < 11
 below_eleven R0 = omega arith
 below_eleven r = omega arith
 
--- if so, the machine's next state is a member of the state with that kind in the register
+-- where a kind allows the value that is put into a register, the machine's next state is a member
+-- of the state with that kind in the register
 sets_goes : (p : Program) (clock : ℕ → ℕ) (e : Assigned) (a : State) (s : Machine.State) (i : Insn)
     (d : Reg) (k : Kind) (r : Result Value TrapReason)
     → IfNext (act p clock s i) (IsState p) → MeansBy p e a s → d ≢ R10

@@ -166,7 +166,7 @@ stored_set e a frame size (Packet f i l g n) v pass h = λ none. let there = h.p
 stored_set e a frame size PacketEnd v pass h = λ none. absurd (cc)
 stored_set e a frame size (Map m) v pass h = λ none. absurd (cc)
 stored_set e a frame size (MapValue m l g) v pass h = λ none. let there = h.points in absurd (cc)
-stored_set e a frame size (MapValueOrNull m i) v pass h = or_null_set e m (e.value i) v h
+stored_set e a frame size (MapValueOrNull m i) v pass h = or_null_set e m (e.map_value i) v h
 
 -- by fewer bytes than 8, only numbers are stored
 short_refused : (r : Refusal) (size : Size) → size ≢ U64 → whole_or r size ≡ Some r

@@ -51,9 +51,9 @@ use Rattle.transfer.proofs.PacketLaws.{place_from, number_yields, extended_fits}
 use Rattle.transfer.proofs.StackAccessLaws.{ContinuesIn}
 use Rattle.transfer.specs.Values.{value_size, AreInValue, ValueLoads, ValueLoadsSigned, ValueStores}
 
--- ---- live values
+-- ---- live map values
 
--- a test that passes somewhere passes first at an index that is there
+-- a test that passes somewhere in a list has a first index in it at which it passes
 first_there : {X : Type 0} (p : X → Bool) (xs : List X) (k : ℕ) (d : X) → k < length xs
     → p (slice_index_or xs k d) ≡ true → position_or_len p xs < length xs
 first_there p xs k d within passes =
@@ -115,14 +115,14 @@ live_value p s m n (Some row) here is live some =
 
 -- ---- places
 
--- bytes that are known to be in a value are there
-value_place : (room : ℕ) (least greatest z by : ℤ) (bytes : ℕ)
-    → AreInValue room least greatest by bytes → least ≤ℤ z → z ≤ℤ greatest
-    → (i : ℕ) × (index_from (z +ℤ by) ≡ Some i) × (i + bytes ≤ room)
-value_place room least greatest z by bytes h from to =
+-- bytes that are known to be in a map value are there
+value_place : (value_bytes : ℕ) (least greatest z by : ℤ) (bytes : ℕ)
+    → AreInValue value_bytes least greatest by bytes → least ≤ℤ z → z ≤ℤ greatest
+    → (i : ℕ) × (index_from (z +ℤ by) ≡ Some i) × (i + bytes ≤ value_bytes)
+value_place value_bytes least greatest z by bytes h from to =
     let low = h.from in
     let high = h.to in
-    place_from (z +ℤ by) bytes room (omega (arith, ints)) (omega (arith, ints))
+    place_from (z +ℤ by) bytes value_bytes (omega (arith, ints)) (omega (arith, ints))
 
 some_bytes : (size : Size) → 0 < size_bytes size
 some_bytes U8 = omega arith
@@ -130,7 +130,7 @@ some_bytes U16 = omega arith
 some_bytes U32 = omega arith
 some_bytes U64 = omega arith
 
--- where the bytes of a pointer to a value are
+-- where the bytes of a pointer to a map value are
 pub record HasBytesAt (p : Program) (s : Machine.State) (m n : ℕ) (z : ℤ) (bytes : ℕ) : Type 0 where
   pub nth : ℕ
   pub live : IsLiveValue p s m n nth
@@ -138,15 +138,16 @@ pub record HasBytesAt (p : Program) (s : Machine.State) (m n : ℕ) (z : ℤ) (b
   pub found : index_from z ≡ Some index
   pub inside : index + bytes ≤ length (key_value_at (content_of s m) nth).1.bytes
 
--- some bytes that are known to be in a value are there
+-- some bytes that are known to be in a map value are there
 pub at_value : (p : Program) (e : Assigned) (a : State) (s : Machine.State) (m : ℕ)
     (least greatest by : ℤ) (v : Value) (bytes : ℕ) → 0 < bytes
     → MeansBy p e a s → (h : AllowsMapValue e m least greatest v)
     → AreInValue (value_size (slice_get p.maps m)) least greatest by bytes
     → HasBytesAt p s m h.serial (h.offset +ℤ by) bytes
 at_value p e a s m least greatest by v bytes some means h inside =
-    let room : ℕ = value_size (slice_get p.maps m) in
-    let (i, found, within) = value_place room least greatest h.offset by bytes inside h.from h.to in
+    let value_bytes : ℕ = value_size (slice_get p.maps m) in
+    let (i, found, within) =
+    value_place value_bytes least greatest h.offset by bytes inside h.from h.to in
     let live : HasLiveValue s.maps m h.serial =
     subst (λ maps. HasLiveValue maps m h.serial) means.assigned.contents h.live in
     let (j, value) =
@@ -245,7 +246,7 @@ value_load_signed_yields p e a s size m least greatest by k v means (inside, num
 abbrev pub GoesIntoSome : Program → State → Result Machine.State TrapReason → Type 0
 GoesIntoSome p b went = (f : Assigned) × ContinuesIn p f b went
 
--- a content with the same serials in place of another keeps all values live
+-- a content with the same serials in place of another keeps all map values live
 kept_live : (maps : List Content) (m : ℕ) (content : Content)
     → value_serials content ≡ value_serials (slice_index_or maps m [])
     → KeepsLive maps (slice_set maps m content)
@@ -257,7 +258,7 @@ kept_live maps m content same = λ j n live.
     ∙ get_or-map_default value_serials maps j [] in
     subst (λ l. Contains l n) (sym serials) live
 
--- a number's bytes go where they are known to be in the value
+-- a number's bytes go where they are known to be in the map value
 pub value_stored : (p : Program) (e : Assigned) (a : State) (s : Machine.State) (size : Size)
     (m : ℕ) (least greatest by : ℤ) (x : ℕ) (v : Value)
     → MeansBy p e a s

@@ -96,7 +96,7 @@ abbrev pub ComparesIn : List MapDef → State → Kind → Kind → Kind → ℤ
     → Result (Unit {0}) Refusal → Type 0
 ComparesIn rows a (Number numbers) source base by size b result =
     Swaps rows a source base by size (Some R0) b result
-ComparesIn rows a compared source base by size b result = RefusesAtomic a b result PointerOperand
+ComparesIn rows a expected source base by size b result = RefusesAtomic a b result PointerOperand
 
 abbrev pub Compares : List MapDef → State → Kind → Kind → ℤ → Size → State
     → Result (Unit {0}) Refusal → Type 0

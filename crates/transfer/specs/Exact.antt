@@ -60,7 +60,7 @@ IsSetter (Load size d place) = Unit {0}
 IsSetter (LoadSx size d place) = Unit {0}
 IsSetter i = ⊥
 
--- the kind that such a form puts into its register, or its refusal; `rows` are the map rows
+-- the kind that a form puts into its register, or its refusal; `rows` are the map rows
 abbrev pub ResultKind : List MapDef → State → Insn → Result Kind Refusal → Type 0
 ResultKind rows a (Alu w op d source) result =
     (b : Kind) × OperandKind a w source b × Arithmetic a op w (kind_of a d) b result
@@ -154,7 +154,7 @@ StepsJump p a by result b = (result ≡ Ok ways.One) × (b ≡ go_to a (destinat
 
 -- ---- calls and exits
 
--- a call frame is pushed, unless the most frames are live already
+-- a call frame is pushed, unless as many are live as may be
 abbrev pub StepsCall : Program → State → ℤ → Result Ways Refusal → State → Type 0
 StepsCall p a by (Ok w) b =
     (depth a < max_call_frames) × (w ≡ ways.One) × (b ≡ entered a (destination p a.slot by))
@@ -168,10 +168,11 @@ shows_action version.Two numbers =
     nat_le (greatest_of numbers.bits % 2 ^ 32) 4
     || (nat_le numbers.range.low.greatest 4 || nat_le numbers.range.wide.greatest 4)
 
--- what the program answers: a number, and an action
-abbrev pub exit_answer : Version → Kind → Result Ways Refusal
-exit_answer v (Number numbers) = if shows_action v numbers then Ok ways.None else Err NoAction
-exit_answer v k = Err ExitValue
+-- the result of the program's exit: no successor if the answer is a number, in version 2 that of an
+-- action
+abbrev pub exit_result : Version → Kind → Result Ways Refusal
+exit_result v (Number numbers) = if shows_action v numbers then Ok ways.None else Err NoAction
+exit_result v k = Err ExitValue
 
 -- whether the kind points into the nth frame
 abbrev pub points_into : ℕ → Kind → Bool
@@ -186,7 +187,7 @@ StepsReturn a (Err e) b =
     (points_into (length a.callers.items) (kind_of a R0) ≡ true) × (e ≡ ExitValue)
 
 abbrev pub ExitsFrom : Version → ℕ → State → Result Ways Refusal → State → Type 0
-ExitsFrom v zero a result b = result ≡ exit_answer v (kind_of a R0)
+ExitsFrom v zero a result b = result ≡ exit_result v (kind_of a R0)
 ExitsFrom v (suc n) a result b = StepsReturn a result b
 
 -- the first frame, which has no callers, answers

@@ -2,7 +2,7 @@
 -- leaves.
 -- bpf-helpers(7); Linux, Documentation/bpf/verifier.rst.
 use Rattle.std.specs.Prelude.{◌≡◌, ℕ, ◌+◌, ◌<◌, ◌≤◌, ℤ, pos, ◌+ℤ◌, Bool, true, false, ◌||◌, ◌&&◌, if◌then◌else◌, List, slice_get, Option, Some, None, Result, Ok, Err}
-use Rattle.isa_model.specs.Code.Limits.{frame_size}
+use Rattle.isa_model.specs.Code.Limits.{stack_size}
 use Rattle.isa_model.specs.declared.registers.Reg.TheVariants.{R1, R2, R3, R4}
 use Rattle.isa_model.specs.declared.helpers.Helper.{Helper}
 use Rattle.isa_model.specs.declared.helpers.Helper.TheVariants.{MapLookupElem, MapUpdateElem, MapDeleteElem, KtimeGetNs}
@@ -18,7 +18,7 @@ use Rattle.stack_state.specs.Places.{kind_of}
 use Rattle.stack_state.specs.Slots.{AreMarked, IsAnyNumber}
 use Rattle.stack_state.specs.Identities.{IsLeastFreshNull}
 use Rattle.stack_state.specs.Effects.{forgotten_in}
-use Rattle.stack_state.specs.Answers.{with_answer}
+use Rattle.stack_state.specs.HelperAnswers.{with_answer}
 use Rattle.transfer.specs.declared.refusals.Refusal.{Refusal}
 use Rattle.transfer.specs.declared.refusals.Refusal.TheVariants.{NullNotTested, HelperArgument, HelperBytes}
 use Rattle.transfer.specs.declared.helpers.CalledMap.{CalledMap}
@@ -74,8 +74,8 @@ update_arguments rows a =
 pub record AreInFrame (a : State) (frame : ℕ) (z : ℤ) (n : ℕ) : Type 0 where
   pub live : frame < depth a
   pub at : ℕ
-  pub from_start : (z +ℤ pos frame_size) ≡ pos at
-  pub inside : at + n ≤ frame_size
+  pub from_start : (z +ℤ pos stack_size) ≡ pos at
+  pub inside : at + n ≤ stack_size
   pub marked : AreMarked (stack_slots_of a frame) at (at + n)
 
 -- n bytes at a pointer are known to be there, and to be number bytes

@@ -104,7 +104,7 @@ abbrev pub Combined : State → AluOp → Width → Kind → Kind → Result Kin
 Combined a op w (Number x) y result = NumberAnd a op w x y result
 Combined a op w x y result = PointerAnd a op w x y result
 
--- MOV: at 64 bits the kind as it is, at 32 bits a number's low half
+-- MOV: at 64 bits the same kind, at 32 bits a number's low half
 abbrev pub Copied : Width → Kind → Result Kind Refusal → Type 0
 Copied Full64 y result = result ≡ Ok y
 Copied Low32 y result = OfNumber IsLowNumber y result

@@ -89,7 +89,7 @@ store_refusal a frame size (MapValueOrNull m identity) = whole_or NullNotTested 
 store_refusal a frame size k = whole_or PointerStored size
 
 -- 8 bytes keep what is known of the value; others are number bytes, and keep what is known of the
--- number where the other bytes of the stack slot are such bytes too
+-- number where the other bytes of the stack slot are number bytes too
 abbrev pub IsLeft : State → ℕ → ℕ → Size → Kind → State → Type 0
 IsLeft a frame at U64 source b = IsSpilledIn a frame (at / 8) source b
 IsLeft a frame at size (Number numbers) b = IsNumberStoredIn a frame at size numbers b

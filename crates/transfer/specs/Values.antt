@@ -31,27 +31,29 @@ abbrev pub value_size : Option MapDef → ℕ
 value_size (Some row) = row.value_size
 value_size None = 0
 
--- this number of bytes is in a value of this size, wherever the pointer points
-pub record AreInValue (room : ℕ) (least greatest by : ℤ) (bytes : ℕ) : Type 0 where
+-- this number of bytes is in a map value of `value_bytes` bytes, wherever the pointer points
+pub record AreInValue (value_bytes : ℕ) (least greatest by : ℤ) (bytes : ℕ) : Type 0 where
   pub from : pos 0 ≤ℤ (least +ℤ by)
-  pub to : ((greatest +ℤ by) +ℤ pos bytes) ≤ℤ pos room
+  pub to : ((greatest +ℤ by) +ℤ pos bytes) ≤ℤ pos value_bytes
 
 -- ---- loads and stores
 
--- nothing is known of the bytes of a value
+-- nothing is known of the bytes of a map value
 abbrev pub ValueLoads : Size → ℕ → ℤ → ℤ → ℤ → Result Kind Refusal → Type 0
-ValueLoads size room least greatest by result =
-    GivesIf MapValueBytes (AreInValue room least greatest by (size_bytes size))
+ValueLoads size value_bytes least greatest by result =
+    GivesIf MapValueBytes (AreInValue value_bytes least greatest by (size_bytes size))
     (IsOfSize size) result
 
 abbrev pub ValueLoadsSigned : SignedSize → ℕ → ℤ → ℤ → ℤ → Result Kind Refusal → Type 0
-ValueLoadsSigned size room least greatest by result =
-    GivesIf MapValueBytes (AreInValue room least greatest by (size_bytes (unsigned_size size)))
+ValueLoadsSigned size value_bytes least greatest by result =
+    GivesIf MapValueBytes
+    (AreInValue value_bytes least greatest by (size_bytes (unsigned_size size)))
     (IsOfSignedSize size) result
 
 abbrev pub ValueStores : Size → ℕ → ℤ → ℤ → ℤ → Kind → Result (Unit {0}) Refusal → Type 0
-ValueStores size room least greatest by source result =
-    StoresIf MapValueBytes (AreInValue room least greatest by (size_bytes size)) source result
+ValueStores size value_bytes least greatest by source result =
+    StoresIf MapValueBytes (AreInValue value_bytes least greatest by (size_bytes size))
+    source result
 
 -- ---- moves
 

@@ -52,7 +52,7 @@ fn stack_swap(
 /// In a map's value; nothing is known of its bytes.
 fn value_swap(
     state: &mut State,
-    room: u32,
+    value_bytes: u32,
     least: i32,
     greatest: i32,
     by: i16,
@@ -60,10 +60,10 @@ fn value_swap(
     register: Option<Reg>,
 ) -> Result<(), Refusal>
     requires { is_frame_pointer register ≡ false }
-    ensures { ValueSwaps (AreInValue room least greatest by (size_bytes size)) state.old size
+    ensures { ValueSwaps (AreInValue value_bytes least greatest by (size_bytes size)) state.old size
         register state.new result }
 {
-    if !are_in_value(room, least, greatest, by, size.bytes() as u32) {
+    if !are_in_value(value_bytes, least, greatest, by, size.bytes() as u32) {
         return Err(Refusal::MapValueBytes);
     }
     keep_old(state, register, of_size(size));

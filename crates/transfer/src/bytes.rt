@@ -6,7 +6,7 @@ ghost use Rattle.transfer.specs.Values.{value_size, AreInValue};
 ghost use Rattle.transfer.specs.HelperCalls.{AreInFrame, AreKnown};
 
 use crate::offsets::{moved_by, sum};
-use isa_model::{FRAME_SIZE, MapDef};
+use isa_model::{MapDef, STACK_SIZE};
 use reg_state::Kind;
 use stack_state::{State, frame_bytes};
 
@@ -17,7 +17,7 @@ fn are_in_frame(state: &State, frame: u8, offset: i32, count: u32) -> bool
     let Some(stack) = state.stack_of(frame) else {
         return false;
     };
-    let Some(at) = frame_bytes(i64::from(offset) + FRAME_SIZE as i64, count) else {
+    let Some(at) = frame_bytes(i64::from(offset) + STACK_SIZE as i64, count) else {
         return false;
     };
     stack.is_bytes(at, count as usize)
@@ -40,7 +40,7 @@ pub fn are_in_packet(fixed: i32, least: i32, proved: u32, by: i16, count: u32) -
     true
 }
 
-/// How many bytes each value of the map has: none, if there is no such map.
+/// How many bytes each value of the map has: 0, if no map has the index.
 pub fn value_size(maps: &[MapDef], index: u8) -> u32
     ensures { result ≡ value_size (slice_get maps.now index) }
 {
@@ -50,15 +50,15 @@ pub fn value_size(maps: &[MapDef], index: u8) -> u32
     }
 }
 
-/// Whether the bytes are in the value, wherever between its limits the pointer points.
-pub fn are_in_value(room: u32, least: i32, greatest: i32, by: i16, count: u32) -> bool
-    ensures { IsTrue result ↔ AreInValue room least greatest by count }
+/// Whether the bytes are in the map value, wherever between its limits the pointer points.
+pub fn are_in_value(value_bytes: u32, least: i32, greatest: i32, by: i16, count: u32) -> bool
+    ensures { IsTrue result ↔ AreInValue value_bytes least greatest by count }
 {
     if sum(least, i32::from(by)) < 0 {
         return false;
     }
     let offset = sum(greatest, i32::from(by));
-    if moved_by(false, offset, i64::from(count)) > i128::from(room) {
+    if moved_by(false, offset, i64::from(count)) > i128::from(value_bytes) {
         return false;
     }
     true

@@ -4,7 +4,7 @@ ghost use Rattle.std.specs.Prelude.{◌≡◌, ◌+◌, ◌<◌, ◌^◌, length
 ghost use Rattle.stack_state.specs.Meaning.{depth};
 ghost use Rattle.stack_state.specs.Places.{kind_of};
 ghost use Rattle.isa_model.specs.Code.Instructions.{Program};
-ghost use Rattle.transfer.specs.Exact.{shows_action, exit_answer, points_into, StepsCall, StepsExit, StepsReturn};
+ghost use Rattle.transfer.specs.Exact.{shows_action, exit_result, points_into, StepsCall, StepsExit, StepsReturn};
 
 use crate::Ways;
 use crate::refusals::Refusal;
@@ -30,9 +30,9 @@ fn shows_action(version: Version, numbers: Scalar) -> bool
     }
 }
 
-/// The last exit of a program of this version, with this kind in r0: an answer, or a refusal.
-fn exit_answer(version: Version, kind: Kind) -> Result<Ways, Refusal>
-    ensures { result ≡ exit_answer version kind }
+/// The exit of a program of this version, with this kind in r0: no successor, or a refusal.
+fn exit_result(version: Version, kind: Kind) -> Result<Ways, Refusal>
+    ensures { result ≡ exit_result version kind }
 {
     match kind {
         Kind::Number(numbers) => {
@@ -86,7 +86,7 @@ pub fn exit(version: Version, state: &mut State) -> Result<Ways, Refusal>
     ensures { StepsExit version state.old result state.new }
 {
     if state.callers.is_empty() {
-        return exit_answer(version, state.kind_of(Reg::R0));
+        return exit_result(version, state.kind_of(Reg::R0));
     }
     let ways = return_to_caller(state)?;
     Ok(ways)

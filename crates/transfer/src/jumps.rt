@@ -59,19 +59,19 @@ fn comparison_refusal(cond: Cond, state: &State) -> Refusal
 /// copied.
 fn split(
     cond: Cond,
-    ways: (BranchOutcome, BranchOutcome),
-    slots: (usize, usize),
+    outcomes: (BranchOutcome, BranchOutcome),
+    destinations: (usize, usize),
     state: &mut State,
     other: &mut State,
 ) -> Ways
-    requires stay { MayBePut cond ways.0 }
-    requires go { MayBePut cond ways.1 }
-    ensures { Sides (goes ways.0) (goes ways.1)
-        (go_to (left_in cond state.old ways.0) slots.0)
-        (go_to (left_in cond state.old ways.1) slots.1) result state.new other.new }
+    requires stay { MayBePut cond outcomes.0 }
+    requires go { MayBePut cond outcomes.1 }
+    ensures { Sides (goes outcomes.0) (goes outcomes.1)
+        (go_to (left_in cond state.old outcomes.0) destinations.0)
+        (go_to (left_in cond state.old outcomes.1) destinations.1) result state.new other.new }
 {
-    let (stay, go) = ways;
-    let (next, target) = slots;
+    let (stay, go) = outcomes;
+    let (next, target) = destinations;
     match (stay.goes(), go.goes()) {
         (true, true) => {
             other.copy_from(state);

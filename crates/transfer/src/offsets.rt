@@ -35,8 +35,8 @@ fn limited(offset: i128) -> Result<i32, Refusal>
     }
 }
 
-/// Two such offsets.
-pub fn limits(from: i128, to: i128) -> Result<(i32, i32), Refusal>
+/// Two offsets that a pointer may have.
+pub fn both_limited(from: i128, to: i128) -> Result<(i32, i32), Refusal>
     ensures { AreLimited from to result }
 {
     let Ok(from) = limited(from) else {

@@ -6,7 +6,7 @@ ghost use Rattle.ranges.specs.Keeps.{extension_signed};
 ghost use Rattle.transfer.specs.Packets.{IsOfSize, IsOfSignedSize, PacketLoads, PacketLoadsSigned, IsStoredNumber, PacketStores, lowest, highest, AreLimited, IsOffsetPart, AreOffsetParts, StaysProved, IsFreshPointer, MovesBetween, MovesBy, PacketMoves};
 
 use crate::bytes::are_in_packet;
-use crate::offsets::{limits, moved_by, sum};
+use crate::offsets::{both_limited, moved_by, sum};
 use crate::refusals::Refusal;
 use crate::stacks::unsigned_size;
 use isa_model::{SignedSize, Size, Width};
@@ -123,7 +123,7 @@ pub fn stored(source: Kind) -> Result<(), Refusal>
     }
 }
 
-/// Whether the kind may be stored.
+/// Whether a value of the kind may be stored.
 pub fn packet_store(
     size: Size,
     fixed: i32,
@@ -153,7 +153,7 @@ fn lowest(back: bool, pointer: PacketPointer, near: i64, far: i64) -> i128
     }
 }
 
-/// The greatest offset after it.
+/// The greatest offset after such a move.
 fn highest(back: bool, pointer: PacketPointer, near: i64, far: i64) -> i128
     ensures { result ≡ highest back pointer near far }
 {
@@ -165,11 +165,11 @@ fn highest(back: bool, pointer: PacketPointer, near: i64, far: i64) -> i128
     }
 }
 
-/// Both offsets.
+/// The least and the greatest offset, if a pointer may have both.
 fn both(back: bool, pointer: PacketPointer, near: i64, far: i64) -> Result<(i32, i32), Refusal>
     ensures { AreLimited (lowest back pointer near far) (highest back pointer near far) result }
 {
-    limits(
+    both_limited(
         lowest(back, pointer, near, far),
         highest(back, pointer, near, far),
     )

@@ -38,9 +38,9 @@ pub enum Refusal {
     PointerStored,
     /// A comparison that is not defined on its operands.
     Comparison,
-    /// No such helper, or an argument of another kind than it takes.
+    /// No helper has the number, or an argument is of another kind than it takes.
     HelperArgument,
-    /// Key or value bytes of a helper that are not all written number bytes in bounds.
+    /// Key or value bytes of a helper that are not all known to be there and to be number bytes.
     HelperBytes,
     /// A call at the deepest frame.
     TooManyFrames,

@@ -1,7 +1,7 @@
 //! Loads and stores through frame pointers.
 
 ghost use Rattle.std.specs.Prelude.{◌≡◌, ◌+◌, ◌%◌, ◌<◌, ◌≤◌, ◌+ℤ◌};
-ghost use Rattle.isa_model.specs.Code.Limits.{frame_size};
+ghost use Rattle.isa_model.specs.Code.Limits.{stack_size};
 ghost use Rattle.isa_model.specs.Code.Sizes.{size_bytes, unsigned_size, size_extension};
 ghost use Rattle.transfer.specs.StackAccesses.{FindsFramePlace, IsNumberLoad, IsStackLoad, IsSignedLoad, StackLoads, StackLoadsSigned, whole_or, store_refusal, IsLeft, StackStores};
 ghost use Rattle.stack_state.specs.Meaning.{depth};
@@ -46,7 +46,7 @@ fn size_extension(size: SignedSize) -> Extension
 
 /// The number that bytes spell.
 fn number(stack: &StackState, at: usize, size: Size) -> Option<Kind>
-    requires inside { at < frame_size }
+    requires inside { at < stack_size }
     requires in_slot { at % 8 + size_bytes size ≤ 8 }
     ensures { IsNumberLoad stack.now.slots at size result }
 {
@@ -58,7 +58,7 @@ fn number(stack: &StackState, at: usize, size: Size) -> Option<Kind>
 
 /// The kind that a load of the bytes returns.
 fn loaded(stack: &StackState, at: usize, size: Size) -> Option<Kind>
-    requires inside { at < frame_size }
+    requires inside { at < stack_size }
     requires in_slot { at % 8 + size_bytes size ≤ 8 }
     ensures { IsStackLoad stack.now.slots at size result }
 {
@@ -70,7 +70,7 @@ fn loaded(stack: &StackState, at: usize, size: Size) -> Option<Kind>
 
 /// The same with the sign extended.
 fn loaded_signed(stack: &StackState, at: usize, size: SignedSize) -> Option<Kind>
-    requires inside { at < frame_size }
+    requires inside { at < stack_size }
     requires in_slot { at % 8 + size_bytes (unsigned_size size) ≤ 8 }
     ensures { IsSignedLoad stack.now.slots at size result }
 {
@@ -156,9 +156,9 @@ fn store_refusal(state: &State, frame: u8, size: Size, source: Kind) -> Option<R
 }
 
 /// Writes a value into bytes of a live call frame.
-fn leave(state: &mut State, frame: u8, at: usize, size: Size, source: Kind)
+fn write(state: &mut State, frame: u8, at: usize, size: Size, source: Kind)
     requires live { frame < depth state.old }
-    requires inside { at < frame_size }
+    requires inside { at < stack_size }
     requires in_slot { at % 8 + size_bytes size ≤ 8 }
     ensures { IsLeft state.old frame at size source state.new }
 {
@@ -188,6 +188,6 @@ pub fn stack_store(
     if let Some(refusal) = store_refusal(state, frame, size, source) {
         return Err(refusal);
     }
-    leave(state, frame, at, size, source);
+    write(state, frame, at, size, source);
     Ok(())
 }

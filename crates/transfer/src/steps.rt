@@ -141,12 +141,12 @@ fn swap_at(
         (SwapsAtPlace maps.now state.old width place source register) result state.new }
 {
     let base = state.kind_of(place.base);
-    let value = state.kind_of(source);
+    let kind = state.kind_of(source);
     let next = state.slot + 1;
     swap(
         maps,
         state,
-        value,
+        kind,
         base,
         place.offset,
         width.size(),
@@ -169,9 +169,9 @@ fn compare_at(
         (ComparesAtPlace maps.now state.old width place source) result state.new }
 {
     let base = state.kind_of(place.base);
-    let value = state.kind_of(source);
+    let kind = state.kind_of(source);
     let next = state.slot + 1;
-    compare_and_swap(maps, state, value, base, place.offset, width.size())?;
+    compare_and_swap(maps, state, kind, base, place.offset, width.size())?;
     state.slot = next;
     Ok(Ways::One)
 }

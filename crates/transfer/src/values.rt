@@ -5,7 +5,7 @@ ghost use Rattle.isa_model.specs.Code.Sizes.{size_bytes};
 ghost use Rattle.transfer.specs.Values.{ValueLoads, ValueLoadsSigned, ValueStores, nearest, farthest, moved_least, moved_greatest, ValueMoves};
 
 use crate::bytes::are_in_value;
-use crate::offsets::{limits, moved_by};
+use crate::offsets::{both_limited, moved_by};
 use crate::packets::{of_signed_size, of_size, stored};
 use crate::refusals::Refusal;
 use crate::stacks::unsigned_size;
@@ -40,14 +40,14 @@ pub fn value_pointer(index: u32, offset: u32) -> Kind
 /// The result of a load that extends no sign.
 pub fn value_load(
     size: Size,
-    room: u32,
+    value_bytes: u32,
     least: i32,
     greatest: i32,
     by: i16,
 ) -> Result<Kind, Refusal>
-    ensures { ValueLoads size room least greatest by result }
+    ensures { ValueLoads size value_bytes least greatest by result }
 {
-    if are_in_value(room, least, greatest, by, size.bytes() as u32) {
+    if are_in_value(value_bytes, least, greatest, by, size.bytes() as u32) {
         Ok(Kind::Number(of_size(size)))
     } else {
         Err(Refusal::MapValueBytes)
@@ -57,15 +57,15 @@ pub fn value_load(
 /// The result of a sign-extending load.
 pub fn value_load_signed(
     size: SignedSize,
-    room: u32,
+    value_bytes: u32,
     least: i32,
     greatest: i32,
     by: i16,
 ) -> Result<Kind, Refusal>
-    ensures { ValueLoadsSigned size room least greatest by result }
+    ensures { ValueLoadsSigned size value_bytes least greatest by result }
 {
     if are_in_value(
-        room,
+        value_bytes,
         least,
         greatest,
         by,
@@ -77,18 +77,18 @@ pub fn value_load_signed(
     }
 }
 
-/// Whether the kind may be stored.
+/// Whether a value of the kind may be stored.
 pub fn value_store(
     size: Size,
-    room: u32,
+    value_bytes: u32,
     least: i32,
     greatest: i32,
     by: i16,
     source: Kind,
 ) -> Result<(), Refusal>
-    ensures { ValueStores size room least greatest by source result }
+    ensures { ValueStores size value_bytes least greatest by source result }
 {
-    if are_in_value(room, least, greatest, by, size.bytes() as u32) {
+    if are_in_value(value_bytes, least, greatest, by, size.bytes() as u32) {
         stored(source)
     } else {
         Err(Refusal::MapValueBytes)
@@ -107,7 +107,7 @@ pub fn nearest(by: Scalar, number: Option<u64>) -> i64
     }
 }
 
-/// The greatest such distance.
+/// The greatest distance by which it does.
 pub fn farthest(by: Scalar, number: Option<u64>) -> i64
     ensures { result ≡ farthest by number }
 {
@@ -128,7 +128,7 @@ fn moved_least(back: bool, least: i32, near: i64, far: i64) -> i128
     }
 }
 
-/// The greatest offset after it.
+/// The greatest offset after a move by a distance between two limits.
 fn moved_greatest(back: bool, greatest: i32, near: i64, far: i64) -> i128
     ensures { result ≡ moved_greatest back greatest near far }
 {
@@ -152,7 +152,7 @@ pub fn value_moved(
 {
     let from = moved_least(back, least, near, far);
     let to = moved_greatest(back, greatest, near, far);
-    let Ok((least, greatest)) = limits(from, to) else {
+    let Ok((least, greatest)) = both_limited(from, to) else {
         return Err(Refusal::PointerOffset);
     };
     Ok(Kind::MapValue {

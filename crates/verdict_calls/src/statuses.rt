@@ -3,7 +3,8 @@
 /// Done.
 pub const OK: u32 = 0;
 
-/// An argument is outside its limits, and nothing was done.
+/// Nothing was done: an argument is outside its limits, or the session is closed (for an opening:
+/// is open), or it has no such map.
 pub const WRONG: u32 = 1;
 
 /// The text, the image, the program or the table is refused.

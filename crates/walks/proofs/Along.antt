@@ -1,4 +1,5 @@
--- A step of a walk stays beside a step of a run: conditional jumps, stores, and any step.
+-- After a step of a walk and a step of the run, the abstract state stays beside the machine state:
+-- conditional jumps, stores, and any step.
 use Rattle.std.proofs.Common.{◌≡◌, ◌+◌, ◌<◌, ◌∷◌, ℕ, suc, Some, None, Ok, Bool, true, false, length, arith, refl, sym, ap, ◌∙◌, subst, inl, inr}
 use Rattle.std.specs.Prelude.{◌≢◌, ℤ, ◌^◌}
 use Rattle.std.proofs.lemmas.Int.{ints}
@@ -20,8 +21,8 @@ use Rattle.isa_model.specs.Machine.Steps.{Next, destination, branches, tested, t
 use Rattle.isa_model.specs.Machine.Successors.{jump_distance, FallsTo}
 use Rattle.isa_model.proofs.EndsLaws.{Reaches-then}
 use Rattle.isa_model.specs.MustAccept.Paths.{Each}
-use Rattle.isa_model.specs.MustAccept.Determined.{slot_offset, slot_place, IsSlotPlace, IsDeterminedForm, IsDetermined}
-use Rattle.isa_model.proofs.SlotLaws.{HasKnownSlots-store, HasKnownSlots-keep, stored, store_acts, store_constant_acts}
+use Rattle.isa_model.specs.MustAccept.Determined.{stack_slot_offset, stack_slot_place, IsStackSlotPlace, IsDeterminedForm, IsDetermined}
+use Rattle.isa_model.proofs.StackSlotLaws.{HasKnownStackSlots-store, HasKnownStackSlots-keep, stored, store_acts, store_constant_acts}
 use Rattle.reg_state.specs.declared.kinds.Kind.{Kind}
 use Rattle.stack_state.specs.declared.states.State.{State}
 use Rattle.stack_state.specs.Places.{kind_of, go_to}
@@ -40,12 +41,13 @@ use Rattle.walks.proofs.StillBeside.{NextAlong, Mirrors-go, not_yet, here_too, s
 
 -- ---- conditional jumps
 
-record Tested (s : State) (t : Machine.State) (c : Cond) : Type 0 where
+-- the test compares two numbers that the abstract state knows
+record KnownTest (s : State) (t : Machine.State) (c : Cond) : Type 0 where
   x : ℕ
   y : ℕ
   says : test_of t c ≡ Ok (holds c.comparison c.width x y)
-  left : IsJust (kind_of s c.register) x
-  right : IsJustOperand s c.width c.operand y
+  register_is : IsJust (kind_of s c.register) x
+  operand_is : IsJustOperand s c.width c.operand y
 
 tested_by : (s : State) (t : Machine.State) (c : Cond) (operand : Operand) (x : ℕ)
     → reg t c.register ≡ Num x → Each (KnowsRegister s t) (operand_reads operand)
@@ -55,11 +57,11 @@ tested_by s t c (Constant k) x is set = (unsigned c.width k, rw is refl, refl)
 tested_by s t c (Register r) x is set = (set.0.0, rw (is, set.0.1) refl, set.0.2)
 
 tested_there : (s : State) (t : Machine.State) (c : Cond)
-    → Each (KnowsRegister s t) (c.register ∷ operand_reads c.operand) → Tested s t c
+    → Each (KnowsRegister s t) (c.register ∷ operand_reads c.operand) → KnownTest s t c
 tested_there s t c set =
     let (x, is, just) = set.0 in
     let (y, says, right) = tested_by s t c c.operand x is set.1 in
-    record { x = x; y = y; says = says; left = just; right = right }
+    record { x = x; y = y; says = says; register_is = just; operand_is = right }
 
 only_goes : (p : Program) (steps : ℕ) (d : IsDetermined p steps) (k : ℕ) (stays goes : Bool)
     (stay go : State) (w : Ways) (a b : State)
@@ -90,7 +92,7 @@ branch_along : (p : Program) (steps : ℕ) (d : IsDetermined p steps) (k : ℕ) 
     → NextAlong p steps d k w a
 branch_along p steps d k s t c by i w a b along here silent falls jumps acts set h =
     of (holds c.comparison c.width test.x test.y) refl where
-      test : Tested s t c
+      test : KnownTest s t c
       test = tested_there s t c set
 
       numbers : Each (NumbersIn s) (c.register ∷ operand_reads c.operand)
@@ -109,7 +111,8 @@ branch_along p steps d k s t c by i w a b along here silent falls jumps acts set
       of true is =
           only_goes p steps d k h.stays h.goes (go_to h.stay (s.slot + 1))
           (go_to h.go (destination p s.slot by)) w a b
-          (h.left_there.constants test.x test.y test.left test.right (λ e. absurd (cc (e, is))))
+          (h.left_there.constants test.x test.y test.register_is test.operand_is
+          (λ e. absurd (cc (e, is))))
           h.sides (
             Machine.go_to t (destination p t.slot by),
             goes_along p steps d k s h.go t i (destination p s.slot by)
@@ -125,7 +128,8 @@ branch_along p steps d k s t c by i w a b along here silent falls jumps acts set
       of false is =
           only_stays p steps d k h.stays h.goes (go_to h.stay (s.slot + 1))
           (go_to h.go (destination p s.slot by)) w a b
-          (h.taken_there.constants test.x test.y test.left test.right (λ e. absurd (cc (e, is))))
+          (h.taken_there.constants test.x test.y test.register_is test.operand_is
+          (λ e. absurd (cc (e, is))))
           h.sides (
             Machine.go_to t (t.slot + 1),
             goes_along p steps d k s h.stay t i (s.slot + 1) (t.slot + 1) along here silent
@@ -141,10 +145,10 @@ branch_along p steps d k s t c by i w a b along here silent falls jumps acts set
 
 -- ---- stores
 
--- a stack slot begins at one place
-other_slot : (j n : ℕ) → n ≢ j → IsWholeSlot (slot_place j) n → ⊥
-other_slot j n apart (below, is) =
-    let same : slot_offset j ≡ slot_offset n = ap (λ (q : Place). q.offset) is in
+-- different stack slots begin at different places
+other_stack_slot : (j n : ℕ) → n ≢ j → IsWholeSlot (stack_slot_place j) n → ⊥
+other_stack_slot j n apart (below, is) =
+    let same : stack_slot_offset j ≡ stack_slot_offset n = ap (λ (q : Place). q.offset) is in
     apart (omega (arith, ints, same))
 
 -- a number goes into a stack slot
@@ -154,14 +158,14 @@ put_along : (p : Program) (steps : ℕ) (d : IsDetermined p steps) (k : ℕ) (s 
     → FallsTo s.slot i (s.slot + 1)
     → ((n : ℕ) → n ≢ j → WritesSlot i n → ⊥) → j < 64 → y < 2 ^ 64 → PutsSlot s left j y
     → act p d.run.clock t i
-    ≡ Next (Machine.go_to (stored t along.mirrors.stack.frame j y) (t.slot + 1))
+    ≡ Next (Machine.go_to (stored t along.mirrors.stack.call_frame j y) (t.slot + 1))
     → Along p steps d (suc k) (go_to left (s.slot + 1))
-    (Machine.go_to (stored t along.mirrors.stack.frame j y) (t.slot + 1))
+    (Machine.go_to (stored t along.mirrors.stack.call_frame j y) (t.slot + 1))
 unfolding stored
 put_along p steps d k s left t i j y along here silent falls keeps below fits put acts =
     let m = along.mirrors in
-    let u = stored t m.stack.frame j y in
-    let cells = HasKnownSlots-store (HoldsIf (λ h. IsHomeLive p h s.slot) s)
+    let u = stored t m.stack.call_frame j y in
+    let known = HasKnownStackSlots-store (HoldsIf (λ h. IsHomeLive p h s.slot) s)
     (HoldsIf (λ h. IsHomeLive p h (s.slot + 1)) left) t m.stack j y below fits
     (λ live. put.there)
     (λ n z apart held live.
@@ -184,11 +188,11 @@ put_along p steps d k s left t i j y along here silent falls keeps below fits pu
             (m.regs r own
             (still_known p steps d k s t i (s.slot + 1) along here silent
             (inl falls) r live));
-        cells = put.wide ∙ m.cells;
+        all_slots = put.wide ∙ m.all_slots;
         stack =
-            HasKnownSlots-keep (HoldsIf (λ h. IsHomeLive p h (s.slot + 1)) left)
+            HasKnownStackSlots-keep (HoldsIf (λ h. IsHomeLive p h (s.slot + 1)) left)
             (HoldsIf (λ h. IsHomeLive p h (s.slot + 1)) (go_to left (s.slot + 1))) u
-            (Machine.go_to u (t.slot + 1)) cells refl refl (λ k z held. held);
+            (Machine.go_to u (t.slot + 1)) known refl refl (λ k z held. held);
       };
       numbers = λ r own. elim (along.numbers r own) [
         | inl plain ↦ inl plain
@@ -206,51 +210,52 @@ goes_on_along : (p : Program) (steps : ℕ) (d : IsDetermined p steps) (k : ℕ)
     → (along : Along p steps d k s t)
     → fetch p t.slot ≡ Some i → writes i ≡ None → FallsTo s.slot i (s.slot + 1)
     → ((n : ℕ) → n ≢ j → WritesSlot i n → ⊥) → j < 64 → IsJust source y → act p d.run.clock t i
-    ≡ Next (Machine.go_to (stored t along.mirrors.stack.frame j y) (t.slot + 1))
-    → w ≡ ways.One → GoesOnWith s (StoresAt p.maps s U64 (slot_place j) source) a
+    ≡ Next (Machine.go_to (stored t along.mirrors.stack.call_frame j y) (t.slot + 1))
+    → w ≡ ways.One → GoesOnWith s (StoresAt p.maps s U64 (stack_slot_place j) source) a
     → NextAlong p steps d k w a
 goes_on_along p steps d k s t i j y source w a along here silent falls keeps below just acts one h =
-    let wide = along.mirrors.cells in
+    let wide = along.mirrors.all_slots in
     let put = store_puts s h.left j y source (omega (arith, below, wide)) just h.leaving in
     one_next p steps d k w a (go_to h.left (s.slot + 1))
-    (Machine.go_to (stored t along.mirrors.stack.frame j y) (t.slot + 1)) one h.next
+    (Machine.go_to (stored t along.mirrors.stack.call_frame j y) (t.slot + 1)) one h.next
     (put_along p steps d k s h.left t i j y along here silent falls keeps below
     (just_below source y just) put acts)
 
 store_along : (p : Program) (steps : ℕ) (d : IsDetermined p steps) (k : ℕ) (s : State)
     (t : Machine.State) (place : Place) (r : Reg) (w : Ways) (a : State)
-    → Along p steps d k s t → IsSlotPlace place
+    → Along p steps d k s t → IsStackSlotPlace place
     → fetch p t.slot ≡ Some (Store U64 place r) → w ≡ ways.One
     → GoesOnWith s (StoresAt p.maps s U64 place (kind_of s r)) a → NextAlong p steps d k w a
 store_along p steps d k s t place r w a along (j, below, is) here one h =
     of (subst (λ q. fetch p t.slot ≡ Some (Store U64 q r)) is here)
     (subst (λ q. GoesOnWith s (StoresAt p.maps s U64 q (kind_of s r)) a) is h) where
-      of : fetch p t.slot ≡ Some (Store U64 (slot_place j) r)
-          → GoesOnWith s (StoresAt p.maps s U64 (slot_place j) (kind_of s r)) a
+      of : fetch p t.slot ≡ Some (Store U64 (stack_slot_place j) r)
+          → GoesOnWith s (StoresAt p.maps s U64 (stack_slot_place j) (kind_of s r)) a
           → NextAlong p steps d k w a
       of here h =
           let (y, there, just) =
-          (read_numbers p steps d k s t (Store U64 (slot_place j) r) along here).0 in
-          goes_on_along p steps d k s t (Store U64 (slot_place j) r) j y
-          (kind_of s r) w a along here refl (refl, refl) (other_slot j) below just
+          (read_numbers p steps d k s t (Store U64 (stack_slot_place j) r) along here).0 in
+          goes_on_along p steps d k s t (Store U64 (stack_slot_place j) r) j y
+          (kind_of s r) w a along here refl (refl, refl) (other_stack_slot j) below just
           (store_acts (HoldsIf (λ q. IsHomeLive p q s.slot) s) p d.run.clock t r j y
           along.mirrors.stack
           below there) one h
 
 store_constant_along : (p : Program) (steps : ℕ) (d : IsDetermined p steps) (k : ℕ) (s : State)
     (t : Machine.State) (place : Place) (n : ℤ) (source : Kind) (w : Ways) (a : State)
-    → Along p steps d k s t → IsSlotPlace place
+    → Along p steps d k s t → IsStackSlotPlace place
     → fetch p t.slot ≡ Some (StoreConstant U64 place n) → IsJust source (unsigned Full64 n)
     → w ≡ ways.One → GoesOnWith s (StoresAt p.maps s U64 place source) a → NextAlong p steps d k w a
 store_constant_along p steps d k s t place n source w a along (j, below, is) here just one h =
     of (subst (λ q. fetch p t.slot ≡ Some (StoreConstant U64 q n)) is here)
     (subst (λ q. GoesOnWith s (StoresAt p.maps s U64 q source) a) is h) where
-      of : fetch p t.slot ≡ Some (StoreConstant U64 (slot_place j) n)
-          → GoesOnWith s (StoresAt p.maps s U64 (slot_place j) source) a → NextAlong p steps d k w a
+      of : fetch p t.slot ≡ Some (StoreConstant U64 (stack_slot_place j) n)
+          → GoesOnWith s (StoresAt p.maps s U64 (stack_slot_place j) source) a
+          → NextAlong p steps d k w a
       of here h =
-          goes_on_along p steps d k s t (StoreConstant U64 (slot_place j) n) j
-          (unsigned Full64 n) source w a along here refl (refl, refl) (other_slot j) below just
-          (store_constant_acts
+          goes_on_along p steps d k s t (StoreConstant U64 (stack_slot_place j) n) j
+          (unsigned Full64 n) source w a along here refl (refl, refl) (other_stack_slot j) below
+          just (store_constant_acts
           (HoldsIf (λ q. IsHomeLive p q s.slot) s) p d.run.clock t n j along.mirrors.stack
           below) one h
 

@@ -8,12 +8,12 @@ use Rattle.isa_model.specs.declared.registers.Reg.TheVariants.{R1, R10}
 use Rattle.isa_model.specs.Code.Registers.{reg_number}
 use Rattle.isa_model.specs.Code.Instructions.{Program}
 use Rattle.isa_model.specs.Machine.States as Machine
-use Rattle.isa_model.specs.Machine.States.{reg, set_reg, value_at, new_frame}
+use Rattle.isa_model.specs.Machine.States.{reg, set_reg, value_at, new_call_frame}
 use Rattle.isa_model.specs.Machine.Steps.{step}
-use Rattle.isa_model.specs.Running.Runs.{start_state, start_regs, count_values}
+use Rattle.isa_model.specs.Running.Runs.{start_state, start_regs, count_map_values}
 use Rattle.isa_model.proofs.RunLaws.{progress-zero}
 use Rattle.isa_model.specs.MustAccept.Determined.{IsDetermined}
-use Rattle.isa_model.proofs.SlotLaws.{HasKnownSlots, HasKnownSlots-start}
+use Rattle.isa_model.proofs.StackSlotLaws.{HasKnownStackSlots, HasKnownStackSlots-start}
 use Rattle.stack_state.specs.declared.states.State.{State}
 use Rattle.stack_state.specs.Places.{kind_of}
 use Rattle.stack_state.specs.Starts.{start}
@@ -21,21 +21,21 @@ use Rattle.stack_state.specs.Slots.{kind_in, frame_slots}
 use Rattle.branch_refine.specs.Refining.{IsJust}
 use Rattle.transfer.specs.declared.Ways.{Ways}
 use Rattle.transfer.specs.declared.Ways.TheVariants as ways
-use Rattle.walks.specs.Walks.{IsAmong, StepsTo, HasPath}
+use Rattle.walks.specs.Walks.{IsAmong, StepsTo, HasSteps}
 use Rattle.control_flow.specs.Liveness.{IsLive, IsSlotLive, IsHomeLive}
 use Rattle.walks.specs.Forgetting.{Forgets}
 use Rattle.walks.specs.Counts.{AreForgotten, StepsInto}
-use Rattle.walks.proofs.Forgotten.{Forgets-slot, Forgets-depth, Forgets-live, Forgets-slot_live}
+use Rattle.walks.proofs.Forgotten.{Forgets-slot, Forgets-depth, Forgets-live, Forgets-stack_slot_live}
 use Rattle.walks.proofs.Beside.{HoldsIf, Mirrored, IsNoPointer, first, Along}
 use Rattle.walks.proofs.StillBeside.{NextAlong}
 use Rattle.walks.proofs.Along.{step_along}
 
 -- stack slots that are live are known as before
 kept_slots : (p : Program) (a b : State) (t : Machine.State) → Forgets p a b
-    → HasKnownSlots (HoldsIf (λ h. IsHomeLive p h a.slot) a) t
-    → HasKnownSlots (HoldsIf (λ h. IsHomeLive p h b.slot) b) t
+    → HasKnownStackSlots (HoldsIf (λ h. IsHomeLive p h a.slot) a) t
+    → HasKnownStackSlots (HoldsIf (λ h. IsHomeLive p h b.slot) b) t
 kept_slots p a b t f h = record {
-  frame = h.frame;
+  call_frame = h.call_frame;
   only = h.only;
   pointer = h.pointer;
   wide = h.wide;
@@ -48,8 +48,8 @@ kept_slots p a b t f h = record {
       λ live.
           let before : IsSlotLive p j a.slot =
           subst (λ n. IsSlotLive p j n) (Forgets-slot p a b f) live in
-          subst (λ x. IsJust (kind_in x) known.0) (sym (Forgets-slot_live p a b j f below before))
-          (known.3 before),
+          subst (λ x. IsJust (kind_in x) known.0)
+          (sym (Forgets-stack_slot_live p a b j f below before)) (known.3 before),
     )
   ];
 }
@@ -72,7 +72,7 @@ Along-forgets p steps d k a b t f along =
             subst (λ n. IsLive p r n) (Forgets-slot p a b f) live in
             subst (Mirrored (reg t r)) (sym (Forgets-live p a b r f own before))
             (m.regs r own before);
-        cells = f.slots.all;
+        all_slots = f.slots.all;
         stack = kept_slots p a b t f m.stack;
       };
       numbers = along.numbers;
@@ -111,8 +111,8 @@ to_along p steps d k s c t along step =
 
 pub walk_along : (p : Program) (steps : ℕ) (d : IsDetermined p steps) (n k : ℕ) (a b : State)
     (t : Machine.State)
-    → Along p steps d k a t → HasPath p n a b → (u : Machine.State) × Along p steps d (k + n) b u
-unfolding HasPath
+    → Along p steps d k a t → HasSteps p n a b → (u : Machine.State) × Along p steps d (k + n) b u
+unfolding HasSteps
 walk_along p steps d zero k a b t along h = (
   t,
   subst (λ j. Along p steps d j b t) (omega arith)
@@ -136,9 +136,9 @@ start_number serial r own = inl tt
 
 pub start_along : (p : Program) (steps : ℕ) (d : IsDetermined p steps)
     → Along p steps d 0 start (first p steps d)
-unfolding start start_state new_frame
+unfolding start start_state new_call_frame
 start_along p steps d =
-    let serial = count_values d.run.contents in
+    let serial = count_map_values d.run.contents in
     record {
       reached = progress-zero p d.run.clock (first p steps d);
       mirrors =
@@ -148,8 +148,9 @@ start_along p steps d =
             room = refl;
             wide = refl;
             regs = λ r own live. start_mirrored serial r own;
-            cells = length-replicate frame_slots (Written 0);
-            stack = HasKnownSlots-start (HoldsIf (λ h. IsHomeLive p h start.slot) start) d.run.head
+            all_slots = length-replicate frame_slots (Written 0);
+            stack =
+                HasKnownStackSlots-start (HoldsIf (λ h. IsHomeLive p h start.slot) start) d.run.head
                 d.run.packet d.run.contents;
           };
       numbers = λ r own. elim (start_number serial r own) [

@@ -22,14 +22,14 @@ use Rattle.isa_model.specs.Code.Numbers.{alu, low, unsigned, negated, sign_exten
 use Rattle.isa_model.specs.Code.NumberLaws.{low_same}
 use Rattle.isa_model.specs.Code.Instructions.{Program, fetch, operand_reads, alu_reads, reads, writes}
 use Rattle.isa_model.specs.Machine.States as Machine
-use Rattle.isa_model.specs.Machine.States.{reg, set_reg, value_at, new_frame}
+use Rattle.isa_model.specs.Machine.States.{reg, set_reg, value_at, new_call_frame}
 use Rattle.isa_model.specs.Machine.Pointers.{arithmetic, on_number}
 use Rattle.isa_model.specs.Machine.Steps.{Trapped, is_unset, operand_value, sets, act}
 use Rattle.isa_model.specs.Running.Runs.{start_state, Reaches}
 use Rattle.isa_model.specs.MustAccept.Paths.{Each, IsOneOf}
-use Rattle.isa_model.specs.MustAccept.Determined.{slot_place, IsSlotPlace, IsDeterminedForm, operands, WritesIn, IsDetermined}
+use Rattle.isa_model.specs.MustAccept.Determined.{stack_slot_place, IsStackSlotPlace, IsDeterminedForm, operands, WritesIn, IsDetermined}
 use Rattle.isa_model.proofs.RunSteps.{no_trap, is_set, step_unset}
-use Rattle.isa_model.proofs.SlotLaws.{HasKnownSlots, load_acts}
+use Rattle.isa_model.proofs.StackSlotLaws.{HasKnownStackSlots, load_acts}
 use Rattle.reg_state.specs.declared.kinds.Kind.{Kind}
 use Rattle.reg_state.specs.declared.kinds.Kind.TheVariants as kind
 use Rattle.reg_state.specs.declared.scalars.Scalar.{Scalar}
@@ -59,7 +59,7 @@ abbrev pub IsNoPointer : Value → Type 0
 IsNoPointer (Ptr r z) = ⊥
 IsNoPointer v = Unit {0}
 
--- slot j of the stack is this number, if it is one of those
+-- slot j of the stack holds this number, if it is one of these homes
 abbrev pub HoldsIf : (Home → Type 0) → State → ℕ → ℕ → Type 0
 HoldsIf alive s j y = alive (InSlot j) → SlotHolds s j y
 
@@ -70,8 +70,8 @@ pub record Mirrors (alive : Home → Type 0) (s : State) (t : Machine.State) : T
   pub room : length (registers_of s) ≡ 10
   pub wide : length t.regs ≡ 11
   pub regs : (r : Reg) → r ≢ R10 → alive (InRegister r) → Mirrored (reg t r) (kind_of s r)
-  pub cells : length s.innermost.stack.slots ≡ frame_slots
-  pub stack : HasKnownSlots (HoldsIf alive s) t
+  pub all_slots : length s.innermost.stack.slots ≡ frame_slots
+  pub stack : HasKnownStackSlots (HoldsIf alive s) t
 
 abbrev pub first : (p : Program) (steps : ℕ) → IsDetermined p steps → Machine.State
 first p steps d = start_state d.run.head d.run.packet d.run.contents
@@ -231,7 +231,7 @@ pub record Computed (p : Program) (clock : ℕ → ℕ) (t : Machine.State) (i :
   pub just : IsJust k number
 
 -- a load from the place of a stack slot reads it
-pub within_place : (d : Reg) (place : Place) (j : ℕ) → j < 64 → place ≡ slot_place j
+pub within_place : (d : Reg) (place : Place) (j : ℕ) → j < 64 → place ≡ stack_slot_place j
     → ReadsSlot (Load U64 d place) j
 within_place d place j below is = (
   8 * j,
@@ -243,15 +243,15 @@ within_place d place j below is = (
 -- 8 bytes that a run loads from a stack slot
 load_computed : (alive : Home → Type 0) (p : Program) (clock : ℕ → ℕ) (s : State)
     (t : Machine.State) (d : Reg) (k : Kind) (place : Place)
-    → HasKnownSlots (HoldsIf alive s) t
-    → ((j : ℕ) → ReadsSlot (Load U64 d place) j → alive (InSlot j)) → IsSlotPlace place
+    → HasKnownStackSlots (HoldsIf alive s) t
+    → ((j : ℕ) → ReadsSlot (Load U64 d place) j → alive (InSlot j)) → IsStackSlotPlace place
     → ((e : TrapReason) → act p clock t (Load U64 d place) ≡ Trapped e → ⊥)
     → ResultKind p.maps s (Load U64 d place) (Ok k) → Computed p clock t (Load U64 d place) d k
 load_computed alive p clock s t d k place stack read (j, below, is) goes h =
     of place is goes h where
-      there : ((e : TrapReason) → act p clock t (Load U64 d (slot_place j)) ≡ Trapped e → ⊥)
-          → ResultKind p.maps s (Load U64 d (slot_place j)) (Ok k)
-          → Computed p clock t (Load U64 d (slot_place j)) d k
+      there : ((e : TrapReason) → act p clock t (Load U64 d (stack_slot_place j)) ≡ Trapped e → ⊥)
+          → ResultKind p.maps s (Load U64 d (stack_slot_place j)) (Ok k)
+          → Computed p clock t (Load U64 d (stack_slot_place j)) d k
       there goes h =
           let (y, held, acts) = load_acts (HoldsIf alive s) p clock t d j stack below goes in
           record {
@@ -260,7 +260,7 @@ load_computed alive p clock s t d k place stack read (j, below, is) goes h =
             just = load_just s j y k (held (read j (within_place d place j below is))) h;
           }
 
-      of : (place : Place) → place ≡ slot_place j
+      of : (place : Place) → place ≡ stack_slot_place j
           → ((e : TrapReason) → act p clock t (Load U64 d place) ≡ Trapped e → ⊥)
           → ResultKind p.maps s (Load U64 d place) (Ok k)
           → Computed p clock t (Load U64 d place) d k
@@ -271,7 +271,8 @@ load_computed alive p clock s t d k place stack read (j, below, is) goes h =
 
 pub computed : (alive : Home → Type 0) (p : Program) (clock : ℕ → ℕ) (s : State) (t : Machine.State)
     (i : Insn) (d : Reg) (k : Kind)
-    → IsDeterminedForm i → Each (KnowsRegister s t) (operands i) → HasKnownSlots (HoldsIf alive s) t
+    → IsDeterminedForm i → Each (KnowsRegister s t) (operands i)
+    → HasKnownStackSlots (HoldsIf alive s) t
     → ((j : ℕ) → ReadsSlot i j → alive (InSlot j))
     → ((e : TrapReason) → act p clock t i ≡ Trapped e → ⊥) → writes i ≡ Some d
     → ResultKind p.maps s i (Ok k) → Computed p clock t i d k

@@ -22,7 +22,7 @@ use Rattle.transfer.specs.Leading.{LeadsTo}
 use Rattle.transfer.specs.Exact.{StepsToWays}
 use Rattle.walks.specs.declared.refusals.Refusal.{Refusal}
 use Rattle.walks.specs.Accepting.{IsOutOfMemory}
-use Rattle.walks.specs.Walks.{IsAmong, StepsTo, HasPath, ComesBack}
+use Rattle.walks.specs.Walks.{IsAmong, StepsTo, HasSteps, ComesBack}
 use Rattle.walks.specs.Counts.{StepsInto, HasNumber, LeadsNowhere, LeadsToOne, LeadsToTwo, IsCoveredBy}
 use Rattle.walks.specs.Refused.{IsRefused}
 use Rattle.control_flow.specs.Graph.{call_distance}
@@ -109,7 +109,7 @@ member_runs p steps d k n s t program (IsCoveredBy _ e far _ walk same covers nu
     let (u, there) = walks_along p steps d far e walk in
     member_runs p steps d (0 + far) n e u program number there clock answers v (covers v means)
 
--- ---- no way back
+-- ---- no path comes back
 
 -- the end of a member's run, after a walk
 record Later (p : Program) (b : State) (steps n : ℕ) : Type 0 where
@@ -153,10 +153,10 @@ one_to p steps d k s c t along step =
 
 walk_members : (p : Program) (steps : ℕ) (d : IsDetermined p steps) (j k n : ℕ) (a b : State)
     (t : Machine.State)
-    → IsProgram p → Along p steps d k a t → HasPath p j a b
+    → IsProgram p → Along p steps d k a t → HasSteps p j a b
     → (clock : ℕ → ℕ) → IsClock clock → (v : Machine.State) → Means p a v → Ends p clock v n
     → Later p b j n
-unfolding HasPath
+unfolding HasSteps
 walk_members p steps d zero k n a b t program along h =
     λ clock answers v means ends.
     record {
@@ -192,7 +192,7 @@ walk_members p steps d (suc j) k n a b t program along h = λ clock answers v me
 
 no_end : (p : Program) (steps : ℕ) (d : IsDetermined p steps) (k j : ℕ) (a b : State)
     (t : Machine.State)
-    → IsProgram p → Along p steps d k a t → HasPath p (suc j) a b → Covers p a b
+    → IsProgram p → Along p steps d k a t → HasSteps p (suc j) a b → Covers p a b
     → (fuel n : ℕ) → n ≤ fuel → (clock : ℕ → ℕ) → IsClock clock → (v : Machine.State) → Means p a v
     → Ends p clock v n → ⊥
 unfolding Covers
@@ -209,9 +209,9 @@ no_end p steps d k j a b t program along h covers (suc fuel) n le clock answers 
     (omega (arith, is, le)) later.clock later.answers later.state
     (covers later.state later.meant) later.ends
 
-no_way_back : (p : Program) (steps : ℕ) (d : IsDetermined p steps) (slot : ℕ) → IsProgram p
+ComesBack-determined : (p : Program) (steps : ℕ) (d : IsDetermined p steps) (slot : ℕ) → IsProgram p
     → ComesBack p slot → ⊥
-no_way_back p steps d slot program h =
+ComesBack-determined p steps d slot program h =
     let from = first p steps d in
     let means = Means-start p d.run.head d.run.packet d.run.contents program d.run.given in
     let ends = Ends-Runs p d.run.clock from steps steps d.run.number d.run.runs (omega arith) in
@@ -237,7 +237,7 @@ IsDetermined-refused p steps e slot program refused d =
     let rest = IsRefused-want p e slot (λ e. ⊥)
     (IsFlow-whole p d.whole (λ slot i here. determined_no_call i (d.forms slot i here)))
     (λ e slot h. never_stuck p steps d e slot h)
-    (λ slot h. no_way_back p steps d slot program h)
+    (λ slot h. ComesBack-determined p steps d slot program h)
     (λ (s, begins, takes). let few =
     takes_along p steps d 0 s (first p steps d) 1000001
     (first_along p steps d s begins) takes in let most = d.most in omega (arith, few, most))

@@ -175,7 +175,7 @@ AreSlotsKept-left p slot old new join left = record {
 
 -- ---- callers
 
--- all callers as they are
+-- nothing is forgotten of callers
 callers_kept_all : (p : Program) (a : State) → AreCallersKept p a a
 callers_kept_all p a =
     record {
@@ -186,7 +186,7 @@ callers_kept_all p a =
 pub callers_none : (p : Program) (a : State) → CallersForgotten p a a
 callers_none p a = record { rest = refl; callers = callers_kept_all p a }
 
--- the last one with other stack slots, which are left as they are or forgotten
+-- of the last caller, stack slots are left or forgotten
 pub caller_left : (p : Program) (a b : State) (n : ℕ) (f g : AbstractFrame)
     → n + 1 ≡ length a.callers.items → f ≡ abstract_frame_at a n
     → b ≡ record a { callers = record { items = set a.callers.items n g } }

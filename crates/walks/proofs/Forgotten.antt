@@ -99,7 +99,7 @@ Forgets-live p a b r f own live = elim (Forgets-each p a b r f own) [
   | inr gone ↦ absurd (gone.0.1 live)
 ]
 
--- where no paths meet each one is
+-- where no paths meet, every register is known as before
 pub Forgets-alone : (p : Program) (a b : State) (r : Reg) → Forgets p a b → r ≢ R10
     → (IsJoin p a.slot → ⊥) → kind_of b r ≡ kind_of a r
 Forgets-alone p a b r f own alone = elim (Forgets-each p a b r f own) [
@@ -109,32 +109,32 @@ Forgets-alone p a b r f own alone = elim (Forgets-each p a b r f own) [
 
 -- ---- what is known of stack slots
 
--- one that is live is known as before
-pub Forgets-slot_live : (p : Program) (a b : State) (j : ℕ) → Forgets p a b → j < 64
+-- a stack slot that is live is known as before
+pub Forgets-stack_slot_live : (p : Program) (a b : State) (j : ℕ) → Forgets p a b → j < 64
     → IsSlotLive p j a.slot → slot_at (slots_in b) j ≡ slot_at (slots_in a) j
-Forgets-slot_live p a b j f below live = elim (f.slots.each j below) [
+Forgets-stack_slot_live p a b j f below live = elim (f.slots.each j below) [
   | inl same ↦ same.1
   | inr gone ↦ absurd (gone.0.1 live)
 ]
 
 -- ---- meanings
 
-slot_kept_means : (p : Program) (slot j : ℕ) (e : Assigned) (before after : StackSlot)
+stack_slot_kept_means : (p : Program) (slot j : ℕ) (e : Assigned) (before after : StackSlot)
     (cs : List Cell)
     → IsSlotKept p slot j before after → SlotMeans e before cs → SlotMeans e after cs
-slot_kept_means p slot j e before after cs (inl same) h =
+stack_slot_kept_means p slot j e before after cs (inl same) h =
     subst (λ s. SlotMeans e s cs) (sym same.1) h
-slot_kept_means p slot j e before after cs (inr gone) h =
+stack_slot_kept_means p slot j e before after cs (inr gone) h =
     let nothing : SlotMeans e (Written 0) cs = λ i below marked. let none = bit_at-zero i in
     absurd cc in
     subst (λ s. SlotMeans e s cs) (sym gone.1) nothing
 
-caller_slot_means : (p : Program) (slot j : ℕ) (e : Assigned) (before after : StackSlot)
+caller_stack_slot_means : (p : Program) (slot j : ℕ) (e : Assigned) (before after : StackSlot)
     (cs : List Cell)
     → IsCallerSlotKept p slot j before after → SlotMeans e before cs → SlotMeans e after cs
-caller_slot_means p slot j e before after cs (inl same) h =
+caller_stack_slot_means p slot j e before after cs (inl same) h =
     subst (λ s. SlotMeans e s cs) (sym same) h
-caller_slot_means p slot j e before after cs (inr gone) h =
+caller_stack_slot_means p slot j e before after cs (inr gone) h =
     let nothing : SlotMeans e (Written 0) cs = λ i below marked. let none = bit_at-zero i in
     absurd cc in
     subst (λ s. SlotMeans e s cs) (sym gone.1) nothing
@@ -177,7 +177,7 @@ frames_keep p a b e j f below = elim (cases_eq j (length a.callers.items)) [
         registers = λ k v h. registers_allow p a b e k v f h;
         slots =
             λ k cs within h.
-            slot_kept_means p a.slot k e (slot_at (slots_in a) k) (slot_at (slots_in b) k) cs
+            stack_slot_kept_means p a.slot k e (slot_at (slots_in a) k) (slot_at (slots_in b) k) cs
             (f.slots.each k within) h;
       } in
       subst (λ x. FrameKeeps e e x (abstract_frame_at b j)) (sym here)
@@ -188,7 +188,8 @@ frames_keep p a b e j f below = elim (cases_eq j (length a.callers.items)) [
         registers =
             λ k v h.
             subst (λ (x : AbstractFrame). Allows e (kind_at x.registers k) v) (sym kept.rest) h;
-        slots = λ k cs within h. caller_slot_means p (abstract_frame_at a (j + 1)).return_slot k e
+        slots = λ k cs within h.
+            caller_stack_slot_means p (abstract_frame_at a (j + 1)).return_slot k e
             (slot_at (abstract_frame_at a j).stack.slots k)
             (slot_at (abstract_frame_at b j).stack.slots k) cs (kept.slots k within) h;
       }
@@ -208,7 +209,7 @@ pub Forgets-covers : (p : Program) (a b : State) → Forgets p a b → Covers p 
 unfolding Covers
 Forgets-covers p a b f = λ w means. Means-forgets p a b w f means
 
--- ---- ways
+-- ---- successors
 
 some_forgotten : (p : Program) (w : Ways) (a b first other : State) (v : Machine.State)
     → AreForgotten p w a b first other → InSome p w a b v → InSome p w first other v

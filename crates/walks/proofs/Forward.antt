@@ -28,7 +28,7 @@ use Rattle.walks.specs.Refused.{StartTakes}
 use Rattle.walks.proofs.Forgotten.{Forgets-depth, GoesOnTo-forgets}
 use Rattle.walks.proofs.Exits.{exits_not_two}
 use Rattle.walks.proofs.OnNumbers.{StepsToWays-performs}
-use Rattle.walks.specs.Walks.{StepsTo, HasPath, WalksTo, ComesBack, IsAmong}
+use Rattle.walks.specs.Walks.{StepsTo, HasSteps, WalksTo, ComesBack, IsAmong}
 use Rattle.walks.specs.Counts.{StepsInto, HasNumber, LeadsNowhere, LeadsToOne, LeadsToTwo, IsCoveredBy, Takes, Nothing, ItsOwn, OneMore, BothMore}
 use Rattle.isa_model.specs.MustAccept.Paths.{is_conditional, IsForward}
 
@@ -93,16 +93,16 @@ pub one_frame-start : depth start ≡ 1
 unfolding start
 one_frame-start = refl
 
-pub HasPath-alone : (p : Program) (n : ℕ) (a b : State) → HasNoCalls p → depth a ≡ 1
-    → HasPath p n a b → depth b ≡ 1
-unfolding HasPath
-HasPath-alone p zero a b free one h = ap depth h ∙ one
-HasPath-alone p (suc n) a b free one h =
-    HasPath-alone p n h.0 b free (StepsTo-alone p a h.0 free one h.1).one h.2
+pub HasSteps-alone : (p : Program) (n : ℕ) (a b : State) → HasNoCalls p → depth a ≡ 1
+    → HasSteps p n a b → depth b ≡ 1
+unfolding HasSteps
+HasSteps-alone p zero a b free one h = ap depth h ∙ one
+HasSteps-alone p (suc n) a b free one h =
+    HasSteps-alone p n h.0 b free (StepsTo-alone p a h.0 free one h.1).one h.2
 
 pub WalksTo-alone : (p : Program) (n : ℕ) (s : State) → HasNoCalls p → WalksTo p n s → depth s ≡ 1
 WalksTo-alone p n s free walk =
-    HasPath-alone p n walk.first s free
+    HasSteps-alone p n walk.first s free
     (Forgets-depth p start walk.first walk.begins ∙ one_frame-start) walk.leads
 
 -- ---- steps lead forward
@@ -318,29 +318,29 @@ Takes-few p s free forward one h =
     let most = pow-le-pow_right {n = 2}
     (omega arith) {i = conditionals_from p.insns s.slot} {j = count_by is_conditional p.insns}
     (conditionals_most p.insns s.slot) in
-    let bound = mul-le (length p.insns - s.slot) (2 ^ conditionals_from p.insns s.slot)
+    let product = mul-le (length p.insns - s.slot) (2 ^ conditionals_from p.insns s.slot)
     (length p.insns) (2 ^ count_by is_conditional p.insns) (omega arith) most in
     let limit = forward.few in
-    absurd (omega (arith, few, bound, limit))
+    absurd (omega (arith, few, product, limit))
 
 pub StartTakes-few : (p : Program) → HasNoCalls p → IsForward p → StartTakes p 1000001 → ⊥
 StartTakes-few p free forward (first, begins, takes) =
     Takes-few p first free forward (Forgets-depth p start first begins ∙ one_frame-start) takes
 
--- ---- no way back
+-- ---- no path comes back
 
-pub HasPath-up : (p : Program) (n : ℕ) (a b : State) → HasNoCalls p → IsForward p → depth a ≡ 1
-    → HasPath p n a b → a.slot + n ≤ b.slot
-unfolding HasPath
-HasPath-up p zero a b free forward one h =
+pub HasSteps-up : (p : Program) (n : ℕ) (a b : State) → HasNoCalls p → IsForward p → depth a ≡ 1
+    → HasSteps p n a b → a.slot + n ≤ b.slot
+unfolding HasSteps
+HasSteps-up p zero a b free forward one h =
     let same = ap (λ (x : State). x.slot) h in omega (arith, same)
-HasPath-up p (suc n) a b free forward one h =
+HasSteps-up p (suc n) a b free forward one h =
     let step = steps_up p a h.0 free forward one (StepsTo-goes p a h.0 h.1) in
-    let rest = HasPath-up p n h.0 b free forward step.one h.2 in
+    let rest = HasSteps-up p n h.0 b free forward step.one h.2 in
     omega (arith, step.up, rest)
 
 pub ComesBack-forward : (p : Program) (slot : ℕ) → HasNoCalls p → IsForward p → ComesBack p slot → ⊥
 ComesBack-forward p slot free forward h =
     let one = WalksTo-alone p h.before h.first free h.walk in
-    let up = HasPath-up p (suc h.between) h.first h.again free forward one h.leads_back in
+    let up = HasSteps-up p (suc h.between) h.first h.again free forward one h.leads_back in
     absurd (omega (arith, up, h.first_slot, h.again_slot))

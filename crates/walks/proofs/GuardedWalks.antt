@@ -23,7 +23,7 @@ use Rattle.stack_state.specs.Starts.{start}
 use Rattle.transfer.specs.declared.Ways.{Ways}
 use Rattle.transfer.specs.Exact.{StepsToWays}
 use Rattle.control_flow.specs.Liveness.{IsLive}
-use Rattle.walks.specs.Walks.{IsAmong, StepsTo, HasPath, WalksTo}
+use Rattle.walks.specs.Walks.{IsAmong, StepsTo, HasSteps, WalksTo}
 use Rattle.walks.proofs.Accepted.{needs_reads}
 use Rattle.walks.proofs.Forward.{StepsToWays-follows, follows_up}
 use Rattle.walks.proofs.Living.{needs_live, live_before}
@@ -310,9 +310,9 @@ step_guards p len g s t step h =
     (makes_guards p len g s step.next step.insn step.taken step.first step.other step.here
     step.makes step.among h)
 
-walk_guards : (p : Program) (len : ℕ) (g : IsGuarded p len) (n : ℕ) (a b : State) → HasPath p n a b
+walk_guards : (p : Program) (len : ℕ) (g : IsGuarded p len) (n : ℕ) (a b : State) → HasSteps p n a b
     → Guards p len g a → Guards p len g b
-unfolding HasPath
+unfolding HasSteps
 walk_guards p len g zero a b h guards = subst (Guards p len g) (sym h) guards
 walk_guards p len g (suc n) a b h guards =
     walk_guards p len g n h.0 b h.2 (step_guards p len g a h.0 h.1 guards)

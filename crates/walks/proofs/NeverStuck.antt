@@ -21,9 +21,9 @@ use Rattle.isa_model.specs.Machine.States.{reg}
 use Rattle.isa_model.specs.Machine.Steps.{Finished, Trapped, is_answer, finishes, exits, act, step}
 use Rattle.isa_model.specs.Machine.MachineStates.{IsProgram}
 use Rattle.isa_model.specs.MustAccept.Paths.{Each}
-use Rattle.isa_model.specs.MustAccept.Determined.{slot_place, IsSlotPlace, IsDeterminedForm, operands, IsDetermined}
+use Rattle.isa_model.specs.MustAccept.Determined.{stack_slot_place, IsStackSlotPlace, IsDeterminedForm, operands, IsDetermined}
 use Rattle.isa_model.proofs.RunSteps.{below_steps, no_trap}
-use Rattle.isa_model.proofs.SlotLaws.{load_acts}
+use Rattle.isa_model.proofs.StackSlotLaws.{load_acts}
 use Rattle.reg_state.specs.declared.kinds.Kind.{Kind}
 use Rattle.stack_state.specs.declared.states.State.{State}
 use Rattle.stack_state.specs.Places.{kind_of}
@@ -90,7 +90,7 @@ numbers_along p steps d k s t i along here =
     (λ r known. just_number (kind_of s r) known.0 known.2)
     (read_numbers p steps d k s t i along (here_too p s t i along.mirrors.slot here))
 
-base_set : (s : State) (place : Place) → IsSlotPlace place
+base_set : (s : State) (place : Place) → IsStackSlotPlace place
     → is_unset_kind (kind_of s place.base) ≡ false
 base_set s place (j, below, is) = ap (λ q. is_unset_kind (kind_of s q.base)) is
 
@@ -161,28 +161,28 @@ exit_answer p steps d k s t along here =
 load_along : (p : Program) (steps : ℕ) (d : IsDetermined p steps) (k : ℕ) (s : State)
     (t : Machine.State) (x : Reg) (place : Place) (e : StepRefusal)
     → Along p steps d k s t → fetch p t.slot ≡ Some (Load U64 x place)
-    → IsSlotPlace place → ResultKind p.maps s (Load U64 x place) (Err e) → ⊥
+    → IsStackSlotPlace place → ResultKind p.maps s (Load U64 x place) (Err e) → ⊥
 load_along p steps d k s t x place e along here (j, below, is) h =
     of (subst (λ q. fetch p t.slot ≡ Some (Load U64 x q)) is here)
     (subst (λ q. ResultKind p.maps s (Load U64 x q) (Err e)) is h) where
-      of : fetch p t.slot ≡ Some (Load U64 x (slot_place j))
-          → ResultKind p.maps s (Load U64 x (slot_place j)) (Err e) → ⊥
+      of : fetch p t.slot ≡ Some (Load U64 x (stack_slot_place j))
+          → ResultKind p.maps s (Load U64 x (stack_slot_place j)) (Err e) → ⊥
       of here h =
-          let acts = run_acts p steps d k s t (Load U64 x (slot_place j)) along here in
+          let acts = run_acts p steps d k s t (Load U64 x (stack_slot_place j)) along here in
           let (y, held, is) =
           load_acts
           (HoldsIf (λ q. IsHomeLive p q s.slot) s) p d.run.clock t x j along.mirrors.stack below
           (λ f trap. no_trap p d.run.clock
           (first p steps d) steps d.run.number k t f d.run.runs along.reached
           (acts ∙ trap)) in
-          let there : fetch p s.slot ≡ Some (Load U64 x (slot_place j)) =
+          let there : fetch p s.slot ≡ Some (Load U64 x (stack_slot_place j)) =
           ap (fetch p) (sym along.mirrors.slot) ∙ here in
-          let live = IsSlotLive-read p j s.slot (Load U64 x (slot_place j)) there
-          (within_place x (slot_place j) j below refl) in
+          let live = IsSlotLive-read p j s.slot (Load U64 x (stack_slot_place j)) there
+          (within_place x (stack_slot_place j) j below refl) in
           load_goes s j y e below (held live) h
 
 refuses_store : (rows : List MapDef) (s b : State) (place : Place) (source : Kind) (e : StepRefusal)
-    → IsSlotPlace place → IsNumberKind source → StoresAt rows s U64 place source b (Err e) → ⊥
+    → IsStackSlotPlace place → IsNumberKind source → StoresAt rows s U64 place source b (Err e) → ⊥
 refuses_store rows s b place source e (j, below, is) number h =
     store_goes s b j source e below number
     (subst (λ q. StoresAt rows s U64 q source b (Err e)) is h)

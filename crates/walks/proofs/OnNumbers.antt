@@ -239,7 +239,7 @@ Refines-remains c taken true s t compared h =
       constants = n.constants;
     }
 
--- ---- the ways that are taken
+-- ---- which successors there are
 
 pub one_among : (w : Ways) (a b t : State) → w ≡ ways.One → IsAmong w a b t → t ≡ a
 one_among w a b t one among = subst (λ x. IsAmong x a b t) one among

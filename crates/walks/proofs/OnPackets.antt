@@ -273,7 +273,7 @@ pub record Proves (n : ℕ) (s t : State) : Type 0 where
   pub copies : (r : Reg) (fixed m : ℕ) → r ≢ R10 → kind_of s r ≡ packet_from fixed m
       → (more : ℕ) × (kind_of t r ≡ packet_from fixed more) × (n ≤ more)
 
--- or nothing is shown
+-- where it is beyond the end nothing is shown of bytes: as many call frames and registers are left
 pub record ShowsBytes (s t : State) : Type 0 where
   pub one : depth t ≡ depth s
   pub room : length (registers_of t) ≡ length (registers_of s)

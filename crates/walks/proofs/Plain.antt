@@ -11,7 +11,7 @@ use Rattle.stack_state.specs.Starts.{start}
 use Rattle.transfer.specs.declared.refusals.Refusal.{Refusal as StepRefusal}
 use Rattle.walks.specs.declared.refusals.Refusal.{Refusal}
 use Rattle.walks.specs.declared.refusals.Refusal.TheVariants.{Step}
-use Rattle.walks.specs.Walks.{StepsTo, HasPath, IsStuck}
+use Rattle.walks.specs.Walks.{StepsTo, HasSteps, IsStuck}
 use Rattle.walks.specs.Counts.{HasNumber}
 use Rattle.walks.specs.Refused.{IsRefused}
 use Rattle.walks.specs.Accepting.{IsOutOfMemory, IsUnanswered}
@@ -101,9 +101,9 @@ step_known p s t plain step h =
           [ inl written ↦ inl written | inr early ↦ inr (h.live r early) ]) among;
     })
 
-walk_known : (p : Program) (n : ℕ) (a b : State) → IsPlain p → HasPath p n a b → KnowsWritten p a
+walk_known : (p : Program) (n : ℕ) (a b : State) → IsPlain p → HasSteps p n a b → KnowsWritten p a
     → KnowsWritten p b
-unfolding HasPath
+unfolding HasSteps
 walk_known p zero a b plain h known = subst (KnowsWritten p) (sym h) known
 walk_known p (suc n) a b plain h known =
     walk_known p n h.0 b plain h.2 (step_known p a h.0 plain h.1 known)

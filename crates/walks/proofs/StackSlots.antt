@@ -4,11 +4,11 @@ use Rattle.std.specs.Prelude.{◌≢◌, ◌/◌, pos, ◌+ℤ◌, ◌==◌, sli
 use Rattle.std.proofs.lemmas.Bool.Decides.{nat_tests}
 use Rattle.std.proofs.lemmas.Int.{ints}
 use Rattle.std.proofs.lemmas.List.{length-set, get_or-set_same, get_or-set_other}
-use Rattle.isa_model.specs.Code.Limits.{frame_size}
+use Rattle.isa_model.specs.Code.Limits.{stack_size}
 use Rattle.isa_model.specs.declared.sizes.Size.TheVariants.{U64}
 use Rattle.isa_model.specs.declared.registers.Reg.{Reg}
 use Rattle.isa_model.specs.declared.registers.Reg.TheVariants.{R10}
-use Rattle.isa_model.specs.MustAccept.Determined.{slot_offset}
+use Rattle.isa_model.specs.MustAccept.Determined.{stack_slot_offset}
 use Rattle.reg_state.specs.declared.kinds.Kind.{Kind}
 use Rattle.reg_state.specs.declared.kinds.Kind.TheVariants.{Number}
 use Rattle.reg_state.proofs.ConstantsLaws.{IsNumber-only}
@@ -38,17 +38,17 @@ innermost s = length s.callers.items
 slots_here : (s : State) → stack_slots_of s (innermost s) ≡ s.innermost.stack.slots
 slots_here s = ap (λ f. f.stack.slots) (abstract_frame_at-innermost s)
 
-starts_at : (j : ℕ) → (pos 0 +ℤ slot_offset j) +ℤ pos frame_size ≡ pos (8 * j)
+starts_at : (j : ℕ) → (pos 0 +ℤ stack_slot_offset j) +ℤ pos stack_size ≡ pos (8 * j)
 starts_at j = omega (arith, ints)
 
-slot_of_place : (j at : ℕ) → IsPlace (pos 0 +ℤ slot_offset j) U64 at → at / 8 ≡ j
+slot_of_place : (j at : ℕ) → IsPlace (pos 0 +ℤ stack_slot_offset j) U64 at → at / 8 ≡ j
 slot_of_place j at place =
     let same : pos at ≡ pos (8 * j) = sym place.from_start ∙ starts_at j in
     let here : at ≡ 8 * j = cc same in
     omega (arith, here)
 
 place_there : (s : State) (j : ℕ) → j < 64
-    → IsFramePlace s (innermost s) (pos 0 +ℤ slot_offset j) U64 (8 * j)
+    → IsFramePlace s (innermost s) (pos 0 +ℤ stack_slot_offset j) U64 (8 * j)
 place_there s j below =
     record {
       live = omega arith;
@@ -82,7 +82,7 @@ held_at s j y at same held =
 
 -- what is loaded is the number
 pub load_just : (s : State) (j y : ℕ) (k : Kind) → SlotHolds s j y
-    → StackLoads s (innermost s) (pos 0 +ℤ slot_offset j) U64 (Ok k) → IsJust k y
+    → StackLoads s (innermost s) (pos 0 +ℤ stack_slot_offset j) U64 (Ok k) → IsJust k y
 load_just s j y k held h =
     let same = slot_of_place j h.0 h.1.place in
     fill_just (slot_at (stack_slots_of s (innermost s)) (h.0 / 8)) k y h.2
@@ -90,7 +90,7 @@ load_just s j y k held h =
 
 -- and the load is not refused
 pub load_goes : (s : State) (j y : ℕ) (e : Refusal) → j < 64 → SlotHolds s j y
-    → StackLoads s (innermost s) (pos 0 +ℤ slot_offset j) U64 (Err e) → ⊥
+    → StackLoads s (innermost s) (pos 0 +ℤ stack_slot_offset j) U64 (Err e) → ⊥
 load_goes s j y StackPlace below held h = h (8 * j) (place_there s j below)
 load_goes s j y StackBytes below held h =
     let same = slot_of_place j h.0 h.1.place in
@@ -151,7 +151,8 @@ puts_in s j y slot below just = record {
 }
 
 pub store_puts : (s left : State) (j y : ℕ) (source : Kind) → j < length s.innermost.stack.slots
-    → IsJust source y → StackStores s (innermost s) (pos 0 +ℤ slot_offset j) U64 source left (Ok tt)
+    → IsJust source y → StackStores s (innermost s) (pos 0 +ℤ stack_slot_offset j) U64 source left
+    (Ok tt)
     → PutsSlot s left j y
 store_puts s left j y source below just h =
     let same = slot_of_place j h.0 h.1.place in
@@ -175,8 +176,9 @@ numbers_stored s n source number = absurd number
 -- a store of a number is not refused
 pub store_goes : (s left : State) (j : ℕ) (source : Kind) (e : Refusal) → j < 64
     → IsNumberKind source
-    → StackStores s (innermost s) (pos 0 +ℤ slot_offset j) U64 source left (Err e) → ⊥
+    → StackStores s (innermost s) (pos 0 +ℤ stack_slot_offset j) U64 source left (Err e) → ⊥
 store_goes s left j source e below number h = of e h.1 where
-  of : (e : Refusal) → IsStoreRefused s (innermost s) (pos 0 +ℤ slot_offset j) U64 source e → ⊥
+  of : (e : Refusal) → IsStoreRefused s (innermost s) (pos 0 +ℤ stack_slot_offset j) U64 source e
+      → ⊥
   of StackPlace h = h (8 * j) (place_there s j below)
   of e h = let stored = numbers_stored s (innermost s) source number in absurd (cc (h.2, stored))

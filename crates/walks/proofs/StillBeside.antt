@@ -20,7 +20,7 @@ use Rattle.isa_model.specs.Running.Runs.{Reaches}
 use Rattle.isa_model.proofs.EndsLaws.{Reaches-then}
 use Rattle.isa_model.specs.MustAccept.Determined.{WritesIn, IsDetermined}
 use Rattle.isa_model.proofs.RunSteps.{no_trap, step_acts}
-use Rattle.isa_model.proofs.SlotLaws.{HasKnownSlots-keep}
+use Rattle.isa_model.proofs.StackSlotLaws.{HasKnownStackSlots-keep}
 use Rattle.reg_state.specs.declared.kinds.Kind.{Kind}
 use Rattle.stack_state.specs.declared.states.State.{State}
 use Rattle.stack_state.specs.Places.{kind_of, with_register, go_to}
@@ -71,9 +71,9 @@ Mirrors-go alive more s b t slot to same n less m = record {
       mirrored_more (reg t r) (kind_of s r) (kind_of (go_to b slot) r)
       (λ x just. subst (λ k. IsJust k x) (sym (kind_of-go_to b slot r)) (n.constants r x just))
       (m.regs r own (less (InRegister r) live));
-  cells = ap (λ k. length k.slots) n.stack ∙ m.cells;
+  all_slots = ap (λ k. length k.slots) n.stack ∙ m.all_slots;
   stack =
-      HasKnownSlots-keep (HoldsIf alive s) (HoldsIf more (go_to b slot)) t
+      HasKnownStackSlots-keep (HoldsIf alive s) (HoldsIf more (go_to b slot)) t
       (Machine.go_to t to) m.stack refl refl
       (λ k z held live.
       subst (λ x. IsJust (kind_in (slot_at x.slots k)) z) (sym n.stack)
@@ -128,9 +128,9 @@ Mirrors-set alive s t r k n own just m = record {
         rw (reg_with_other t r q (Num n) apart, kind_of-with_other s r q k apart)
         (m.regs q other before)
   ];
-  cells = m.cells;
+  all_slots = m.all_slots;
   stack =
-      HasKnownSlots-keep (HoldsIf alive s)
+      HasKnownStackSlots-keep (HoldsIf alive s)
       (HoldsIf (λ q. (q ≡ InRegister r) ⊎ alive q) (with_register s r k)) t
       (set_reg t r (Num n)) m.stack refl (reg_with_other t r R10 (Num n) (λ e. own (sym e)))
       (λ j z held live.

@@ -17,8 +17,8 @@ AreForgotten p ways.None a b first other = Unit {0}
 AreForgotten p ways.One a b first other = Forgets p a first
 AreForgotten p ways.Two a b first other = Forgets p a first × Forgets p b other
 
--- the instruction at a state's slot has these ways, and these successors after what is dead was
--- forgotten
+-- the instruction at a state's slot has this number of successors, and they are these states after
+-- what is dead was forgotten
 pub record StepsInto (p : Program) (s : State) (taken : Ways) (first other : State) : Type 0 where
   pub insn : Insn
   pub here : fetch p s.slot ≡ Some insn

@@ -1,6 +1,6 @@
 -- What is forgotten of a state when a path reaches it: at joins, the registers and stack slots of
--- the innermost call frame that no path reads before it writes them. Of callers' stacks, slots may
--- be forgotten that no path reads from where the caller goes on.
+-- the innermost call frame that no path reads before it writes them. What is known of a slot of a
+-- caller's stack may be forgotten too, if no path reads it from where the caller goes on.
 use Rattle.std.specs.Prelude.{◌≡◌, ◌≢◌, ◌⊎◌, ℕ, ◌+◌, ◌<◌, List, length}
 use Rattle.isa_model.specs.declared.registers.Reg.{Reg}
 use Rattle.isa_model.specs.declared.registers.Reg.TheVariants.{R10}
@@ -58,13 +58,13 @@ pub record AreSlotsKept (p : Program) (slot : ℕ) (old new : List StackSlot) : 
 abbrev pub slots_in : State → List StackSlot
 slots_in s = s.innermost.stack.slots
 
--- what is known of a slot of a caller's stack stays known, or the slot is dead where the caller
--- goes on, and nothing is
+-- what is known of a slot of a caller's stack stays known; or nothing is, and the slot is dead
+-- where the caller goes on
 abbrev pub IsCallerSlotKept : Program → ℕ → ℕ → StackSlot → StackSlot → Type 0
 IsCallerSlotKept p slot j before after =
     (after ≡ before) ⊎ ((¬ IsSlotLive p j slot) × (after ≡ Written 0))
 
--- a caller that goes on at the slot stays as it is but for such slots
+-- a caller that goes on at the slot: only what is known of dead slots of its stack may be forgotten
 pub record IsCallerKept (p : Program) (slot : ℕ) (old new : AbstractFrame) : Type 0 where
   pub rest : new ≡ record old { stack = record { slots = new.stack.slots } }
   pub slots : (j : ℕ) → j < 64

@@ -31,15 +31,15 @@ pub record StepsTo (p : Program) (a b : State) : Type 0 where
   pub forgets : Forgets p next b
 
 -- n steps lead from a to b
-unfoldable pub HasPath : Program → ℕ → State → State → Type 0
-HasPath p zero a b = b ≡ a
-HasPath p (suc n) a b = (c : State) × StepsTo p a c × HasPath p n c b
+unfoldable pub HasSteps : Program → ℕ → State → State → Type 0
+HasSteps p zero a b = b ≡ a
+HasSteps p (suc n) a b = (c : State) × StepsTo p a c × HasSteps p n c b
 
 -- a walk of n steps from the start reaches a state
 pub record WalksTo (p : Program) (n : ℕ) (s : State) : Type 0 where
   pub first : State
   pub begins : Forgets p start first
-  pub leads : HasPath p n first s
+  pub leads : HasSteps p n first s
 
 -- ---- where walks stop
 
@@ -70,7 +70,7 @@ pub record ComesBack (p : Program) (slot : ℕ) : Type 0 where
   pub before : ℕ
   pub between : ℕ
   pub walk : WalksTo p before first
-  pub leads_back : HasPath p (suc between) first again
+  pub leads_back : HasSteps p (suc between) first again
   pub first_slot : first.slot ≡ slot
   pub again_slot : again.slot ≡ slot
   pub covers : Covers p first again

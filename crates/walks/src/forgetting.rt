@@ -51,14 +51,14 @@ fn clear(slot: &mut StackSlot)
     }
 }
 
-/// Forgets what is known of all stack slots of a call frame: eight in each turn of the loop, which
-/// the compiler unrolls.
+/// Forgets what is known of all stack slots of a call frame, eight in each turn of the outer loop:
+/// those of one byte of a `SlotMask`. The compiler unrolls the inner loop.
 pub fn clear_slots(slots: &mut [StackSlot; FRAME_SLOTS])
     ensures { slots.new ≡ replicate frame_slots (StackSlot.Written 0) }
 {
     for byte in 0..FRAME_SLOTS / 8 {
-        for number in 0..8 {
-            clear(&mut slots[8 * byte + number]);
+        for bit in 0..8 {
+            clear(&mut slots[8 * byte + bit]);
         }
     }
 }
@@ -77,12 +77,12 @@ fn forget_slots(flow: &Flow<'_>, slot: usize, slots: &mut [StackSlot; FRAME_SLOT
     }
     for byte in 0..(FRAME_SLOTS / 8) as u8 {
         if live.is_empty_in(byte) {
-            for number in 0..8u8 {
-                clear(&mut slots[usize::from(8 * byte + number)]);
+            for bit in 0..8u8 {
+                clear(&mut slots[usize::from(8 * byte + bit)]);
             }
         } else {
-            for number in 0..8u8 {
-                let index = 8 * byte + number;
+            for bit in 0..8u8 {
+                let index = 8 * byte + bit;
                 if !live.has(index) {
                     clear(&mut slots[usize::from(index)]);
                 }

@@ -5,7 +5,7 @@ pub mod Running
 pub mod SlotOps
 pub mod Arguments
 pub mod Constants
-pub mod FlowLaws
+pub mod EffectsLaws
 pub mod FrameLaws
 pub mod HelpingLaws
 pub mod ShortNumbers

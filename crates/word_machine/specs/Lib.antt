@@ -4,5 +4,5 @@ pub mod Frames
 pub mod Ops
 pub mod Helping
 pub mod Machine
-pub mod Flows
+pub mod Effects
 pub mod Runs

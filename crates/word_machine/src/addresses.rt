@@ -1,9 +1,9 @@
 //! Addresses: the upper half says which region; in the low half, 2 ^ 31 is the region's offset 0.
 
 ghost use Rattle.std.specs.Prelude.{◌≡◌, ◌-◌, ◌<◌, ◌≤◌, ◌^◌};
-ghost use Rattle.word_machine.specs.Addresses.{base, region_of, packet_index, block_map, block_index, first_frame, frame_index};
+ghost use Rattle.word_machine.specs.Addresses.{base, region_of, packet_index, block_map, block_index, first_frame, frames_index};
 
-use isa_model::{FRAME_SIZE, MAX_CALL_FRAMES};
+use isa_model::{MAX_CALL_FRAMES, STACK_SIZE};
 
 // How many addresses a region has.
 const REGION_SIZE: u64 = 0x1_0000_0000;
@@ -12,7 +12,7 @@ const REGION_SIZE: u64 = 0x1_0000_0000;
 const REGION_MIDDLE: u64 = 0x8000_0000;
 
 // How many bytes a call frame has.
-const FRAME_BYTES: u64 = FRAME_SIZE as u64;
+const FRAME_BYTES: u64 = STACK_SIZE as u64;
 
 // How many addresses there are for each byte of a call frame, since each call frame has a region of
 // its own.
@@ -25,13 +25,13 @@ pub const CONTEXT_REGION: u64 = 1;
 pub const PACKET_REGION: u64 = 2;
 
 /// The number of the region of the first map.
-pub const FIRST_MAP: u64 = 16;
+pub const FIRST_MAP_REGION: u64 = 16;
 
 /// The number of the region of the values of the first map.
-pub const FIRST_VALUES: u64 = 32;
+pub const FIRST_VALUES_REGION: u64 = 32;
 
-/// The number of the region of the outermost call frame.
-pub const FIRST_FRAME: u64 = 48;
+/// The number of the region of the first call frame.
+pub const FIRST_FRAME_REGION: u64 = 48;
 
 /// The address of the context.
 pub const CONTEXT: u64 = CONTEXT_REGION * REGION_SIZE + REGION_MIDDLE;
@@ -39,15 +39,14 @@ pub const CONTEXT: u64 = CONTEXT_REGION * REGION_SIZE + REGION_MIDDLE;
 /// The address of the packet.
 pub const PACKET: u64 = PACKET_REGION * REGION_SIZE + REGION_MIDDLE;
 
-/// The end of the outermost call frame.
-pub const FRAME_END: u64 = FIRST_FRAME * REGION_SIZE + REGION_MIDDLE;
+/// The end of the first call frame.
+pub const FRAME_END: u64 = FIRST_FRAME_REGION * REGION_SIZE + REGION_MIDDLE;
 
-/// The address of the first byte of the outermost call frame, which is the least of all call
-/// frames.
+/// The address of the first byte of the first call frame, the least of all bytes of call frames.
 pub const FRAMES: u64 = FRAME_END - FRAME_BYTES;
 
 /// How many bytes all call frames have.
-pub const FRAMES_SIZE: usize = MAX_CALL_FRAMES * FRAME_SIZE;
+pub const FRAMES_SIZE: usize = MAX_CALL_FRAMES * STACK_SIZE;
 
 /// The address of a region's offset 0.
 #[inline(always)]
@@ -80,7 +79,7 @@ pub fn block_map(address: u64) -> usize
     requires { 32 ≤ region_of address }
     ensures { result ≡ block_map address }
 {
-    (region_of(address) - FIRST_VALUES) as usize
+    (region_of(address) - FIRST_VALUES_REGION) as usize
 }
 
 /// The index of the byte in that block.
@@ -93,9 +92,9 @@ pub fn block_index(address: u64) -> usize
 
 /// The index of the byte in the block of all call frames.
 #[inline(always)]
-pub fn frame_index(address: u64) -> usize
+pub fn frames_index(address: u64) -> usize
     requires { first_frame ≤ address }
-    ensures { result ≡ frame_index (address - first_frame) }
+    ensures { result ≡ frames_index (address - first_frame) }
 {
     let past = address - FRAMES;
     (past / ADDRESSES_PER_BYTE + past % FRAME_BYTES) as usize

@@ -9,7 +9,7 @@ ghost use Rattle.word_machine.specs.Helping.{CallFits, Calls, asks, NamesKey, Ha
 ghost use Rattle.word_machine.specs.Machine.{words_of, KeepsRest};
 ghost use Rattle.word_machine.specs.Ops.{constant_of, HasConstant};
 
-use crate::addresses::{FIRST_MAP, FIRST_VALUES, base, region_of};
+use crate::addresses::{FIRST_MAP_REGION, FIRST_VALUES_REGION, base, region_of};
 use crate::memory::{Memory, bytes, bytes_apart};
 use crate::ops::Op;
 use helpers::{Answer, Request, call};
@@ -21,7 +21,7 @@ use maps::KEY_ROOM;
 fn map_named(regs: &[u64; 11]) -> usize
     ensures { result ≡ region_of (slice_index regs.now 1) - 16 }
 {
-    region_of(regs[1]).saturating_sub(FIRST_MAP) as usize
+    region_of(regs[1]).saturating_sub(FIRST_MAP_REGION) as usize
 }
 
 // The number that is answered, where it is no place.
@@ -72,7 +72,7 @@ fn lookup<C: Clock>(regs: &[u64; 11], memory: &mut Memory, packet: &[u8], clock:
     match call(&mut memory.maps, &request, clock) {
         Answer::Value(place) => {
             let start = place as u64 * u64::from(row.value_size);
-            base(FIRST_VALUES + map as u64) + start
+            base(FIRST_VALUES_REGION + map as u64) + start
         }
         Answer::Number(n) => n,
     }

@@ -10,7 +10,7 @@ ghost use Rattle.word_machine.specs.Machine.{words_of, seen, WritesBytes};
 
 use crate::addresses::{
     CONTEXT, CONTEXT_REGION, FRAMES, FRAMES_SIZE, PACKET, PACKET_REGION, block_index, block_map,
-    frame_index, packet_index, region_of,
+    frames_index, packet_index, region_of,
 };
 use crate::room::{Room, zeros};
 use crate::sizes;
@@ -44,7 +44,7 @@ impl Memory {
     pub fn new(alloc: Global, maps: Maps) -> Result<Self, AllocError>
         ensures frames { IfOk result (λ memory. length memory.frames.items ≡ frames_size) }
         ensures saved { IfOk result (λ memory. memory.saved.items ≡ []) }
-        ensures room { IfOk result (λ memory. vec_capacity memory.saved ≡ max_call_frames) }
+        ensures capacity { IfOk result (λ memory. vec_capacity memory.saved ≡ max_call_frames) }
         ensures exact { IfOk result (λ memory. vec_capacity memory.frames ≡ frames_size) }
         ensures maps { IfOk result (λ memory. memory.maps ≡ maps) }
     {
@@ -81,7 +81,7 @@ pub fn bytes<'a>(
         let at = packet_index(address);
         &packet[at..at + count]
     } else if address >= FRAMES {
-        let at = frame_index(address);
+        let at = frames_index(address);
         &frames[at..at + count]
     } else {
         let block = maps.block(block_map(address));
@@ -111,7 +111,7 @@ pub fn bytes_apart<'a>(
         let at = packet_index(address);
         &packet[at..at + count]
     } else if address >= FRAMES {
-        let at = frame_index(address);
+        let at = frames_index(address);
         &frames[at..at + count]
     } else {
         let block = maps.block(block_map(address));
@@ -148,7 +148,7 @@ pub fn get(size: Size, memory: &Memory, packet: &[u8], address: u64) -> u64
     if region_of(address) == PACKET_REGION {
         sizes::get(size, packet, packet_index(address))
     } else if address >= FRAMES {
-        sizes::get(size, memory.frames.as_slice(), frame_index(address))
+        sizes::get(size, memory.frames.as_slice(), frames_index(address))
     } else {
         let block = memory.maps.block(block_map(address));
         sizes::get(size, block, block_index(address))
@@ -167,7 +167,7 @@ pub fn put(size: Size, memory: &mut Memory, packet: &mut [u8], address: u64, num
         sizes::put(size, packet, packet_index(address), number);
     } else if address >= FRAMES {
         let frames = memory.frames.as_mut_slice();
-        sizes::put(size, frames, frame_index(address), number);
+        sizes::put(size, frames, frames_index(address), number);
     } else {
         let block = memory.maps.block_mut(block_map(address));
         sizes::put(size, block, block_index(address), number);

@@ -10,7 +10,7 @@ use Rattle.clap.proofs.OnLiterals.{clap_on_literals}
 use Rattle.isa_model.specs.Code.Limits.{max_steps}
 use Rattle.words.specs.CommandLine.{program, asm, dis, verify, run, trace, prove, recheck}
 use Rattle.words.specs.Requests.{Assemble, Disassemble, Prove, Recheck, Run, Trace, Verify}
-use Rattle.words.specs.Asked.{asked, limit_of, request_by, request_met, unless_faulty}
+use Rattle.words.specs.Asked.{asked, limit_of, request_by, request_met, unless_wrong}
 use Rattle.words.proofs.WalkLaws.{ReadsTo, end_fault, fault-command, is_plain, level_fault-read, met-command, reads-none, reads-option, reads-plain, reads-value}
 
 -- the words after the program's name
@@ -34,11 +34,11 @@ pub asked-command : (name command : Text) (rest : List Text) (s : Shape)
     → bytes_eq command (codes "help") ≡ false
     → find (λ t. answers_to command (label_of t)) (built program).subs ≡ Some s
     → asked (name ∷ command ∷ rest)
-    ≡ unless_faulty (level_fault s [] nothing_held rest false [])
+    ≡ unless_wrong (level_fault s [] nothing_held rest false [])
     (request_by s.name (rows_after s.rules [] rest))
 unfolding asked
 asked-command name command rest s met apart found =
-    ap₂ unless_faulty
+    ap₂ unless_wrong
     (ap (built_fault (built program) nothing_held) (words-program name (command ∷ rest))
     ∙ fault-command (built program) command rest s met apart found quiet-program)
     (ap request_met
@@ -57,7 +57,7 @@ asked-read : (name command : Text) (words : List Text) (s : Shape) (end : Walk)
 unfolding ReadsTo
 asked-read name command words s end met apart found reads quiet =
     asked-command name command words s met apart found
-    ∙ ap₂ unless_faulty (level_fault-read s words end reads quiet)
+    ∙ ap₂ unless_wrong (level_fault-read s words end reads quiet)
     (ap (λ (w : Walk). request_by s.name (finished s.rules w.held)) reads.0)
 
 -- ---- the commands, on plain paths

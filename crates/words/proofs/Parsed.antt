@@ -14,7 +14,7 @@ use Rattle.words.specs.declared.tasks.WordsError.{WordsError}
 use Rattle.words.specs.declared.tasks.WordsError.TheVariants.{Wrong, Memory}
 use Rattle.words.specs.CommandLine.{program, asm, dis, verify, run, trace, prove, recheck}
 use Rattle.words.specs.Requests.{TaskRequest}
-use Rattle.words.specs.Asked.{AsksFor, TellsOf, asked, request_by, request_met, unless_faulty}
+use Rattle.words.specs.Asked.{AsksFor, TellsOf, asked, request_by, request_met, unless_wrong}
 
 -- for this command line clap's contracts say what a parse finds, and how it fails
 is_simple-program : is_simple program ≡ true
@@ -25,10 +25,10 @@ is_simple_and_free-program : is_simple_and_free program ≡ true
 unfolding program asm dis verify run trace prove recheck
 is_simple_and_free-program = refl
 
-unless_faulty-among : (k : ErrorKind) (kinds : Kinds) (r : Option TaskRequest) → IsAmong k kinds
-    → unless_faulty kinds r ≡ None
-unless_faulty-among k [] r among = absurd among
-unless_faulty-among k (x ∷ xs) r among = refl
+unless_wrong-among : (k : ErrorKind) (kinds : Kinds) (r : Option TaskRequest) → IsAmong k kinds
+    → unless_wrong kinds r ≡ None
+unless_wrong-among k [] r among = absurd among
+unless_wrong-among k (x ∷ xs) r among = refl
 
 -- the parse failed
 pub failed-reads : (a : App) (words : List (List ℕ)) (e : Error) (w : WordsError) → a ≡ program
@@ -40,7 +40,7 @@ failed-reads a words e (Wrong text) is h memory =
     elim (h (ap is_simple_and_free is ∙ is_simple_and_free-program)) [
       | inl out ↦ let same : Wrong text ≡ Memory = memory out in cc
       | inr among ↦
-          unless_faulty-among (kind_of e) (fault_of program words) _
+          unless_wrong-among (kind_of e) (fault_of program words) _
           (subst (λ (x : App). IsAmong (kind_of e) (fault_of x words)) is among)
     ]
 
@@ -56,7 +56,7 @@ asked-parsed a words m is h found =
     let met : subcommand_rows_of m ≡ subcommand_of program words =
     (found (ap is_simple is ∙ is_simple-program)).1
     ∙ ap (λ (x : App). subcommand_of x words) is in
-    ap₂ unless_faulty none (ap request_met (sym met))
+    ap₂ unless_wrong none (ap request_met (sym met))
 
 maps : {A B C : Type 0} (g : B → C) (f : A → B) (o : Option A)
     → option_map (λ x. g (f x)) o ≡ option_map g (option_map f o)

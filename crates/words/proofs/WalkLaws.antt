@@ -51,7 +51,7 @@ walk_fault-stopped s names h p name before [] = refl
 walk_fault-stopped s names h p name before (w ∷ ws) =
     walk_fault-stopped s names h p name (before ++ w ∷ []) ws
 
--- a command's name stops the walk
+-- a command's name stops clap's walk
 walked-command : (rules : List Rule) (names : Names) (command : Text)
     → subcommand_met names idle command ≡ Some command
     → walked rules names (walk_from nothing_held) command

@@ -79,14 +79,14 @@ request_by name rows =
 abbrev pub request_met : Option (List ℕ × List Row) → Option TaskRequest
 request_met = option_and_then (λ met. request_by met.0 met.1)
 
--- arguments that clap refuses ask for nothing
-abbrev pub unless_faulty : Kinds → Option TaskRequest → Option TaskRequest
-unless_faulty [] request = request
-unless_faulty (wrong ∷ more) request = None
+-- arguments that clap does not accept ask for nothing
+abbrev pub unless_wrong : Kinds → Option TaskRequest → Option TaskRequest
+unless_wrong [] request = request
+unless_wrong (wrong ∷ more) request = None
 
 -- what the arguments ask for: what their command does; the first word is the program's name
 unfoldable pub asked : List (List ℕ) → Option TaskRequest
-asked words = unless_faulty (fault_of program words) (request_met (subcommand_of program words))
+asked words = unless_wrong (fault_of program words) (request_met (subcommand_of program words))
 
 -- ---- the result of reading them
 

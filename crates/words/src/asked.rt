@@ -137,14 +137,14 @@ fn without_tip(alloc: Global, message: String) -> Result<String, AllocError> {
     Ok(message)
 }
 
-// The text that clap makes for a command line that it refused, or for help or the version.
+// The text that clap makes for a command line that it did not accept, or for help or the version.
 fn message_of(alloc: Global, error: &clap::Error) -> Result<String, AllocError> {
     let message = format!(in alloc; "{error}")?;
     without_tip(alloc, message)
 }
 
-// Why a command line was refused.
-fn refusal_of(alloc: Global, error: &clap::Error) -> WordsError
+// Why a command line was not accepted.
+fn words_error_of(alloc: Global, error: &clap::Error) -> WordsError
     ensures { kind_of error.now ≡ ErrorKind.OutOfMemory → result ≡ WordsError.Memory }
 {
     match error.kind() {
@@ -162,7 +162,7 @@ pub fn read_words<'a>(alloc: Global, words: &'a [String]) -> Result<Task<'a>, Wo
 {
     let matches = match program(alloc)?.try_get_matches_from(words) {
         Ok(matches) => matches,
-        Err(error) => return Err(refusal_of(alloc, &error)),
+        Err(error) => return Err(words_error_of(alloc, &error)),
     };
     match matches.subcommand() {
         Some((name, given)) => wanted_task(alloc, name, given),

@@ -90,8 +90,7 @@ const PROVE_ABOUT: &str = "Verifies a program and writes a proof table, which ot
 
 const RECHECK_ABOUT: &str = "Tests a proof table and prints the most steps that a run takes";
 
-const PROGRAM_ABOUT: &str =
-    "Verifies BPF programs of the XDP kind and runs them on streams of frames";
+const PROGRAM_ABOUT: &str = "Verifies BPF programs of type XDP and runs them on streams of frames";
 
 // An argument that is required, and takes one value.
 fn wanted<'a>(alloc: Global, argument: Argument) -> Arg<'a>

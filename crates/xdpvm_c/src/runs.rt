@@ -14,7 +14,7 @@ use run_calls::streaming::{Streamed, run_stream};
 use run_calls::tracing::{TracedEnd, trace_once};
 use std::alloc::Global;
 
-/// Verifies an image, and runs its program on a packet, on maps as they start. `xdpvm_verify` says
+/// Verifies an image, and runs its program on a packet, on starting maps. `xdpvm_verify` says
 /// why an image is refused.
 #[unsafe(no_mangle)]
 pub extern "C" fn xdpvm_run_once(
@@ -38,7 +38,7 @@ pub extern "C" fn xdpvm_run_once(
     run_once(alloc, image, head, packet, out)
 }
 
-/// Runs the program of an image on a packet, on maps as they start, at most `limit` steps (1 to
+/// Runs the program of an image on a packet, on starting maps, at most `limit` steps (1 to
 /// 1,000,000), verified or not. After a trap or the limit the packet is as the last step left it.
 #[unsafe(no_mangle)]
 pub extern "C" fn xdpvm_trace_once(

@@ -1,4 +1,4 @@
-//! Exports that open, run and close sessions.
+//! Exports that open and close sessions, and run their programs.
 
 ghost use Rattle.std.specs.Prelude.{◌≡◌, ◌≢◌, ◌↔◌, None, ◌<◌, ◌⊎◌, length};
 ghost use Rattle.isa_model.specs.{max_packet};
@@ -12,8 +12,8 @@ use run_calls::running::{Ended, Head};
 use session_calls::opening::{close_session, open_image, open_with_table, run_session};
 use std::alloc::Global;
 
-/// Verifies an image, and opens a session on its program, with maps as they start. The session is
-/// closed before: all zero bytes, or what `xdpvm_close` left.
+/// Verifies an image, and opens a session on its program, with starting maps. Before the call the
+/// session is closed: all zero bytes, or what `xdpvm_close` left.
 #[unsafe(no_mangle)]
 pub extern "C" fn xdpvm_open(alloc: Global, image: &[u8], session: &mut Session) -> u32
     ensures opened { result ≡ 0 → OpensSession image.now session.new.held }
@@ -66,7 +66,7 @@ pub extern "C" fn xdpvm_run(
     run_session(alloc, session, head, packet, out)
 }
 
-/// Closes a session, and frees its memory. A closed one stays as it is.
+/// Closes a session, and frees its memory. A closed one stays closed.
 #[unsafe(no_mangle)]
 pub extern "C" fn xdpvm_close(alloc: Global, session: &mut Session)
     ensures { session.new.held ≡ None }

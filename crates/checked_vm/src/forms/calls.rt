@@ -5,7 +5,7 @@ ghost use Rattle.isa_model.specs.Code.Limits.{max_call_frames};
 ghost use Rattle.isa_model.specs.Machine.Calls.{enter, leave};
 ghost use Rattle.checked_vm.specs.Machine.{state_of};
 
-use crate::core_state::{Core, new_frame};
+use crate::core_state::{Core, new_call_frame};
 use isa_model::{Region, Value};
 
 impl Core {
@@ -25,7 +25,7 @@ impl Core {
     {
         let saved = [self.regs[6], self.regs[7], self.regs[8], self.regs[9]];
         let serial = self.maps.take_serial();
-        let frame = new_frame(serial, self.slot + 1, saved);
+        let frame = new_call_frame(serial, self.slot + 1, saved);
         self.frames.push_reserved(frame);
         self.slot = target;
         self.regs = [

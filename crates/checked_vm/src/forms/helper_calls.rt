@@ -1,5 +1,5 @@
-//! Calls of helpers: the arguments are tested first, then the key is read, then the value, and the
-//! map is changed last.
+//! Calls of helpers: the arguments are tested first, then the key is read, then the map value, and
+//! the map is changed last.
 
 ghost use Rattle.std.specs.Prelude.{◌≡◌, ◌+◌, ◌<◌, ◌≤◌, ◌^◌, ℕ, List, length, slice_get, Some, Ok, Err, IfOk, MatchResult};
 ghost use Rattle.isa_model.specs.Code.Limits.{max_key_size, max_value_size};
@@ -52,7 +52,7 @@ fn key_room() -> [u8; KEY_ROOM]
 }
 
 /// Room for the longest map value.
-fn value_room() -> [u8; VALUE_ROOM]
+fn map_value_room() -> [u8; VALUE_ROOM]
     ensures { length result ≡ max_value_size }
 {
     [0; VALUE_ROOM]
@@ -103,7 +103,7 @@ impl Core {
                 Ok(())
             }
             Region::MapValue(index, serial) => {
-                bytes.copy_from_slice(self.read_value(index, serial, at, bytes.len())?);
+                bytes.copy_from_slice(self.read_map_value(index, serial, at, bytes.len())?);
                 Ok(())
             }
             _ => Err(TrapReason::BadAccess),
@@ -138,7 +138,7 @@ impl Core {
     /// The answer of ktime_get_ns.
     pub fn answer_time(&mut self, time: u64)
         requires slot { self.old.slot + 1 < 2 ^ 64 }
-        requires calls { self.old.clock_calls < 2 ^ 63 }
+        requires clock_calls { self.old.clock_calls < 2 ^ 63 }
         ensures frames { KeepsFrames (record self.old {
           clock_calls = self.old.clock_calls + 1;
         }) self.new }
@@ -183,10 +183,10 @@ impl Core {
         let mut key = key_room();
         let key = &mut key[..usize::from(row.key_size)];
         self.read_argument(packet, region, offset, key)?;
-        let mut value = value_room();
-        let value = &mut value[..row.value_size as usize];
-        self.read_argument(packet, value_region, value_offset, value)?;
-        let answer = self.maps.update(index as usize, key, value, flags);
+        let mut map_value = map_value_room();
+        let map_value = &mut map_value[..row.value_size as usize];
+        self.read_argument(packet, value_region, value_offset, map_value)?;
+        let answer = self.maps.update(index as usize, key, map_value, flags);
         self.answer(Value::Num(answer));
         Ok(())
     }
@@ -228,7 +228,7 @@ impl Core {
         };
         match done {
             Ok(()) => Stepped::Went,
-            Err(reason) => Stepped::Stopped(reason),
+            Err(reason) => Stepped::Trapped(reason),
         }
     }
 }

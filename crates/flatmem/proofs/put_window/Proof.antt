@@ -57,8 +57,8 @@ module _ (n : ℕ) where
   abbrev fn' : Fn
   fn' = inst_fn args code.function
 
-  abbrev Word : RattleType
-  Word = ArrayAt u8 (param 0 (number n))
+  abbrev Window : RattleType
+  Window = ArrayAt u8 (param 0 (number n))
 
   abbrev ended : Ended
   ended = F.ended (number n)
@@ -70,7 +70,7 @@ module _ (n : ℕ) where
       stay_dropped (plain (λ _. usize)) yes,
       (
         stay_dropped (plain
-            (λ _. Word)) yes,
+            (λ _. Window)) yes,
         tt,
       ),
     ),
@@ -93,19 +93,19 @@ module _ (n : ℕ) {M : Type 1} {𝓤 : Ura M} (𝓛 : Logic 𝓤) (at_mem : Mem
     abbrev buf : List ℕ → MutBor (List ℕ)
     buf zs = record { ref_ptr = (b, o); ghost_name = γ; now = zs }
 
-    abbrev words : List Val × (List Val × (List Val × Unit {0}))
-    words = (mut_slice_vals (buf xs), (vint w64 m ∷ [], (bytes_val w ∷ [], tt)))
+    abbrev passed : List Val × (List Val × (List Val × Unit {0}))
+    passed = (mut_slice_vals (buf xs), (vint w64 m ∷ [], (bytes_val w ∷ [], tt)))
 
     abbrev bound : (walk_of 𝓛 (ended n) (stayed n) clauses).Ghost
-    bound = (((κ, (κN, tt)), (q, (qN, tt)), bd, (buf xs, (m, (w, tt))), words), tt)
+    bound = (((κ, (κN, tt)), (q, (qN, tt)), bd, (buf xs, (m, (w, tt))), passed), tt)
 
     abbrev Post : Val → SProp 𝓤
     Post = (walk_of 𝓛 (ended n) (stayed n) clauses).post bound
 
-    walk : m < 2 ^ 64 → Room u8 (length xs) → Is (Word n) w (bytes_val w ∷ []) → length w ≡ n
+    walk : m < 2 ^ 64 → Room u8 (length xs) → Is (Window n) w (bytes_val w ∷ []) → length w ≡ n
         → m + n ≤ length xs
         → ent 𝓤 (on_entry 𝓛 (ended n).signature (κ, (κN, tt)) (q, (qN, tt))
-        (buf xs, (m, (w, tt))) words)
+        (buf xs, (m, (w, tt))) passed)
         (WpFn 𝓤 H C Λ (fn' n) (slice_val (b, o) (length xs) ∷ vint w64 m ∷ bytes_val w ∷ []) Post)
     walk fm rm is lw le =
         let front : List ℕ = take m xs in
@@ -124,8 +124,8 @@ module _ (n : ℕ) {M : Type 1} {𝓤 : Ura M} (𝓛 : Logic 𝓤) (at_mem : Mem
         let on : at o 1 (length front) ≡ p = at_byte o (length front) ∙ ap (λ (k : ℕ). k + o) lf in
         let ok = (Array-Lawful 𝓛 u8 (uint_Lawful 𝓛 w8) n).typed w (bytes_val w ∷ []) is in
         qed 𝓛 ((‵ (flft κ q) ⊛ ‵ (flft κN qN) ⊛ ‵ ftrue)
-        ∷ ‵ (owns (MutSlice (named 0) κ u8 ∷ usize ∷ Word n ∷ [])
-        (buf xs, (m, (w, tt))) words) ∷ []) ∵ enter ! C Λ (fn' n) (slice_val (b, o)
+        ∷ ‵ (owns (MutSlice (named 0) κ u8 ∷ usize ∷ Window n ∷ [])
+        (buf xs, (m, (w, tt))) passed) ∷ []) ∵ enter ! C Λ (fn' n) (slice_val (b, o)
         (length xs) ∷ vint w64 m ∷ bytes_val w ∷ []) _ $
         alloc_all ! (λ l. pass_all ! refl (
           (tt, (tt, (record { fits = rm.0 }, tt))),
@@ -175,7 +175,7 @@ module _ (n : ℕ) {M : Type 1} {𝓤 : Ura M} (𝓛 : Logic 𝓤) (at_mem : Mem
           Goes-dropped 𝓛 2 (plain
               (λ _. usize)) yes (λ κs x f. refl),
           (
-            Goes-dropped 𝓛 2 (plain (λ _. Word n)) yes
+            Goes-dropped 𝓛 2 (plain (λ _. Window n)) yes
                 (λ κs x f. refl),
             tt,
           ),
@@ -202,7 +202,7 @@ module _ (n : ℕ) {M : Type 1} {𝓤 : Ura M} (𝓛 : Logic 𝓤) (at_mem : Mem
           (bytes_val a.1.1.0 ∷ [], tt),
         ),
       ) in
-      qed 𝓛 (raw On ∷ (given (κs.1.0 ⊑ []) (‵ ftrue) ⊛ given (size (layout (Word n)) < 2 ^ 63)
+      qed 𝓛 (raw On ∷ (given (κs.1.0 ⊑ []) (‵ ftrue) ⊛ given (size (layout (Window n)) < 2 ^ 63)
       (‵ ftrue) ⊛ given (a.1.0 + n ≤ length a.0.now) (‵ ftrue)) ∷ []) ∵
       move ! (1 ∷ []) $ split3 ! $ drop ! $ drop ! $ learn ! (λ le. drop ! $
       by ! (walk 𝓣.C 𝓣.Λ κs.0 κs.1.0 qs.0 qs.1.0 bounds a.0.ref_ptr.0 a.0.ref_ptr.1 a.0.ghost_name

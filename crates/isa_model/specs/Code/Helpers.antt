@@ -1,4 +1,4 @@
--- The helpers by their numbers, and the registers that hold their arguments. bpf-helpers(7).
+-- The helpers by their numbers, and their arguments: the registers that they read. bpf-helpers(7).
 use Rattle.std.specs.Prelude.{◌==◌, if◌then◌else◌, ℤ, pos, negsuc, List, [], ◌∷◌, Option, Some, None}
 use Rattle.isa_model.specs.declared.registers.Reg.{Reg}
 use Rattle.isa_model.specs.declared.registers.Reg.TheVariants.{R1, R2, R3, R4}

@@ -39,8 +39,8 @@ max_map_room = 16777216
 -- ---- memory
 
 -- bytes of stack of a call frame. Linux, MAX_BPF_STACK
-abbrev pub frame_size : ℕ
-frame_size = 512
+abbrev pub stack_size : ℕ
+stack_size = 512
 
 -- live call frames. Linux, MAX_CALL_FRAMES
 abbrev pub max_call_frames : ℕ

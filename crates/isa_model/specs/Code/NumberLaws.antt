@@ -16,7 +16,7 @@ low_same w n h = mod-eq_of_lt h
 
 -- ---- signed readings
 
--- one linear equation between a number and its signed reading: the quotient by the half is 0 or 1
+-- one linear equation between a number and its signed reading: the quotient is the sign bit
 pub signed_equation : (x : ℕ) → x < 2 ^ 64
     → up (cast_signed w64 x) + 2 ^ 64 * (x / 2 ^ 63) ≡ x + down (cast_signed w64 x)
 signed_equation x h =

@@ -99,12 +99,12 @@ extension_class Full16 = 0x07
 extension_class Full32 = 0x07
 
 -- the selector in offset: how many bits are extended
-abbrev pub extension_bits : Extension → ℕ
-extension_bits Low8 = 8
-extension_bits Low16 = 16
-extension_bits Full8 = 8
-extension_bits Full16 = 16
-extension_bits Full32 = 32
+abbrev pub extension_offset : Extension → ℕ
+extension_offset Low8 = 8
+extension_offset Low16 = 16
+extension_offset Full8 = 8
+extension_offset Full16 = 16
+extension_offset Full32 = 32
 
 abbrev pub order_opcode : ByteOrder → ℕ
 order_opcode Little = 0xd4
@@ -156,7 +156,7 @@ first_slot (Alu w op d x) =
     (operand_imm x)
 first_slot (Neg w d) = slot (0x80 + alu_class w) (reg_number d) 0 0 0
 first_slot (MovSx e d s) =
-    slot (0xb8 + extension_class e) (reg_number d) (reg_number s) (extension_bits e) 0
+    slot (0xb8 + extension_class e) (reg_number d) (reg_number s) (extension_offset e) 0
 first_slot (ByteSwap order span d) = slot (order_opcode order) (reg_number d) 0 0 (span_bits span)
 first_slot (LoadNumber d n) = slot 0x18 (reg_number d) 0 0 (n % 2 ^ 32)
 first_slot (LoadMap d m) = slot 0x18 (reg_number d) 5 0 m

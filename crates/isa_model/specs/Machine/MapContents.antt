@@ -66,7 +66,7 @@ hash_update has full flags =
     else if not has && full then e2big
     else 0
 
--- an array has all its indexes: a key that it does not have is past its end
+-- an array has all keys below its end: one that it does not have is past it
 abbrev pub array_update : (has : Bool) → (flags : ℕ) → ℕ
 array_update has flags =
     if nat_lt exist flags then einval

@@ -9,7 +9,7 @@ use Rattle.isa_model.specs.declared.values.Value.TheVariants.{Num, Ptr}
 use Rattle.isa_model.specs.Machine.States.{Stored, Content, State, content_of}
 use Rattle.isa_model.specs.Machine.MapContents.{at_key, with_key, without_key, update_answer, delete_answer}
 
--- what a helper returns: its answer, and the state that it leaves
+-- a helper's answer, and the state that it leaves
 pub record Helped : Type 0 where
   pub answer : Value
   pub state : State

@@ -11,26 +11,26 @@ use Rattle.isa_model.specs.Code.Instructions.{Program, fetch, reads, writes}
 use Rattle.isa_model.specs.Machine.States.{KeyValues, State}
 use Rattle.isa_model.specs.Machine.MachineStates.{IsGiven, IsClock}
 use Rattle.isa_model.specs.Running.Runs.{start_state, Reaches, Runs}
-use Rattle.isa_model.specs.Code.Limits.{max_steps, frame_size}
+use Rattle.isa_model.specs.Code.Limits.{max_steps, stack_size}
 use Rattle.isa_model.specs.MustAccept.Paths.{IsPlainForm, Each, IsOneOf, IsWhole}
 
 -- ---- forms
 
 -- from a call frame's end, stack slot j, counted from the lowest address on
-abbrev pub slot_offset : ℕ → ℤ
-slot_offset j = pos (8 * j) -ℤ pos frame_size
+abbrev pub stack_slot_offset : ℕ → ℤ
+stack_slot_offset j = pos (8 * j) -ℤ pos stack_size
 
-abbrev pub slot_place : ℕ → Place
-slot_place j = record { base = R10; offset = slot_offset j }
+abbrev pub stack_slot_place : ℕ → Place
+stack_slot_place j = record { base = R10; offset = stack_slot_offset j }
 
-abbrev pub IsSlotPlace : Place → Type 0
-IsSlotPlace place = (j : ℕ) × (j < 64) × (place ≡ slot_place j)
+abbrev pub IsStackSlotPlace : Place → Type 0
+IsStackSlotPlace place = (j : ℕ) × (j < 64) × (place ≡ stack_slot_place j)
 
 -- plain forms, and loads and stores of 8 bytes through r10
 abbrev pub IsDeterminedForm : Insn → Type 0
-IsDeterminedForm (Load U64 d place) = IsSlotPlace place
-IsDeterminedForm (Store U64 place r) = IsSlotPlace place
-IsDeterminedForm (StoreConstant U64 place k) = IsSlotPlace place
+IsDeterminedForm (Load U64 d place) = IsStackSlotPlace place
+IsDeterminedForm (Store U64 place r) = IsStackSlotPlace place
+IsDeterminedForm (StoreConstant U64 place k) = IsStackSlotPlace place
 IsDeterminedForm i = IsPlainForm i
 
 -- the registers that an instruction reads, the base of a place aside

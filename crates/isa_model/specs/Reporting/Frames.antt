@@ -1,9 +1,9 @@
--- Packet frames: the actions that results name. Linux, include/uapi/linux/bpf.h, enum xdp_action.
+-- Packet frames: the actions that answers name. Linux, include/uapi/linux/bpf.h, enum xdp_action.
 use Rattle.std.specs.Prelude.{ℕ, ◌%◌, ◌^◌, ◌==◌, if◌then◌else◌}
 use Rattle.isa_model.specs.declared.frames.Action.{Action}
 use Rattle.isa_model.specs.declared.frames.Action.TheVariants as action
 
--- the action of a result, by its low 32 bits
+-- the action that an answer names, by its low 32 bits
 abbrev pub action_of : ℕ → Action
 action_of n = action_coded (n % 2 ^ 32)
   where

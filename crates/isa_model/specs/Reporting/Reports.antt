@@ -5,7 +5,7 @@ use Rattle.std.specs.List.{flat_map, filter_map, range_with_len}
 use Rattle.std.specs.Option.{option_map}
 use Rattle.std.specs.Ordering.{nat_cmp}
 use Rattle.std.specs.Cmp.Lexicographic.{slice_cmp}
-use Rattle.std.specs.FinMap.Entries.{find, put as put_entry}
+use Rattle.std.specs.FinMap.Entries.{find, put as put_pair}
 use Rattle.byteorder.specs.Endian.{little_bytes}
 use Rattle.hex.specs.Hex.{encode_lower}
 use Rattle.isa_model.specs.declared.map_defs.MapType.{MapType}
@@ -17,7 +17,7 @@ use Rattle.isa_model.specs.declared.frames.Action.TheVariants as action
 use Rattle.isa_model.specs.declared.streams.Finish.{Finish}
 use Rattle.isa_model.specs.declared.streams.Finish.TheVariants as finish
 use Rattle.isa_model.specs.declared.ends.TrapReason.{TrapReason}
-use Rattle.isa_model.specs.declared.ends.TrapReason.TheVariants.{NoCode, UnsetRead, ReadOnly, BadPointer, OutOfRange, BadAccess, BadCompare, BadHelper, TooManyFrames, NoResult, BadAction}
+use Rattle.isa_model.specs.declared.ends.TrapReason.TheVariants.{NoCode, UnsetRead, ReadOnly, BadPointer, OutOfRange, BadAccess, BadCompare, BadHelper, TooManyCallFrames, NoResult, BadAction}
 use Rattle.isa_model.specs.declared.ends.End.{End}
 use Rattle.isa_model.specs.declared.ends.End.TheVariants.{Exit, Trap, Limit}
 use Rattle.isa_model.specs.Reporting.Frames.{action_of}
@@ -41,18 +41,18 @@ action_name action.Tx = codes "TX"
 action_name action.Redirect = codes "REDIRECT"
 action_name action.Invalid = codes "INVALID"
 
-abbrev pub reason_name : TrapReason → List ℕ
-reason_name NoCode = codes "code"
-reason_name UnsetRead = codes "unset"
-reason_name ReadOnly = codes "readonly"
-reason_name BadPointer = codes "pointer"
-reason_name OutOfRange = codes "range"
-reason_name BadAccess = codes "access"
-reason_name BadCompare = codes "compare"
-reason_name BadHelper = codes "helper"
-reason_name TooManyFrames = codes "frames"
-reason_name NoResult = codes "exit"
-reason_name BadAction = codes "action"
+abbrev pub trap_reason_name : TrapReason → List ℕ
+trap_reason_name NoCode = codes "code"
+trap_reason_name UnsetRead = codes "unset"
+trap_reason_name ReadOnly = codes "readonly"
+trap_reason_name BadPointer = codes "pointer"
+trap_reason_name OutOfRange = codes "range"
+trap_reason_name BadAccess = codes "access"
+trap_reason_name BadCompare = codes "compare"
+trap_reason_name BadHelper = codes "helper"
+trap_reason_name TooManyCallFrames = codes "frames"
+trap_reason_name NoResult = codes "exit"
+trap_reason_name BadAction = codes "action"
 
 -- ---- what is done with a frame, and why
 
@@ -61,12 +61,12 @@ is_forwarded action.Pass = true
 is_forwarded action.Tx = true
 is_forwarded other = false
 
--- in version 2 the upper half of an answer says why a frame is not sent on; without one it is 1
+-- in version 2 the upper half of an answer says why a frame is dropped; without one it is 1
 abbrev pub drop_reason : Version → ℕ → ℕ
 drop_reason One value = 1
 drop_reason Two value = if value / 2 ^ 32 == 0 then 1 else value / 2 ^ 32
 
--- the reason of a frame, by the program's version and answer; 0 where the frame is sent on
+-- the reason of a frame, by the program's version and answer; 0 where the frame is forwarded
 abbrev pub reason_of : Version → ℕ → ℕ
 reason_of program value = if is_forwarded (action_of value) then 0 else drop_reason program value
 
@@ -90,9 +90,9 @@ frame_line form number (Exit value steps) size =
     decimal number ++ codes " " ++ action_name (action_of value) ++ codes " " ++ decimal size
     ++ codes " " ++ decimal steps
     ++ reason_text form.stream (reason_of form.program value) ++ codes "\n"
-frame_line form number (Trap reason steps) size =
-    decimal number ++ codes " TRAP " ++ reason_name reason ++ codes " " ++ decimal size ++ codes " "
-    ++ decimal steps ++ codes "\n"
+frame_line form number (Trap trap_reason steps) size =
+    decimal number ++ codes " TRAP " ++ trap_reason_name trap_reason ++ codes " " ++ decimal size
+    ++ codes " " ++ decimal steps ++ codes "\n"
 frame_line form number Limit size =
     decimal number ++ codes " LIMIT " ++ decimal size ++ codes " " ++ decimal form.limit
     ++ codes "\n"
@@ -114,25 +114,25 @@ last_line number finish.End = codes "end " ++ decimal number ++ codes "\n"
 last_line number (finish.Fault f offset) =
     codes "fault " ++ code_of f ++ codes " at " ++ decimal offset ++ codes "\n"
 
--- ---- pieces: each is written whole, or a beginning of it is the last that is written
+-- ---- pieces of a report: each is written whole, or a beginning of it is the last that is written
 
-pub data OutputPart : Type 0 where
-  ToReport : List ℕ → OutputPart
-  ToFrames : List ℕ → OutputPart
+pub data OutputPiece : Type 0 where
+  ToReport : List ℕ → OutputPiece
+  ToFrames : List ℕ → OutputPiece
 
-abbrev pub report_part : OutputPart → List ℕ
+abbrev pub report_part : OutputPiece → List ℕ
 report_part (ToReport bytes) = bytes
 report_part (ToFrames bytes) = []
 
-abbrev pub frames_part : OutputPart → List ℕ
+abbrev pub frames_part : OutputPiece → List ℕ
 frames_part (ToReport bytes) = []
 frames_part (ToFrames bytes) = bytes
 
 -- the report, and the frames out
-abbrev pub report_bytes : List OutputPart → List ℕ
+abbrev pub report_bytes : List OutputPiece → List ℕ
 report_bytes pieces = flat_map report_part pieces
 
-abbrev pub frames_out : List OutputPart → List ℕ
+abbrev pub frames_out : List OutputPiece → List ℕ
 frames_out pieces = flat_map frames_part pieces
 
 -- ---- frames
@@ -148,7 +148,7 @@ abbrev pub end_reason : Version → End → ℕ
 end_reason program (Exit value steps) = reason_of program value
 end_reason program end = 0
 
-abbrev pub record_pieces : ReportForm → FrameHead → Turn → List OutputPart
+abbrev pub record_pieces : ReportForm → FrameHead → Turn → List OutputPiece
 record_pieces form head t =
     if is_sent form.stream t.ends
     then ToFrames
@@ -157,12 +157,12 @@ record_pieces form head t =
     else []
 
 -- a frame's line, and then its record if it has one
-unfoldable pub frame_pieces : ReportForm → ℕ → PacketFrame → Turn → List OutputPart
+unfoldable pub frame_pieces : ReportForm → ℕ → PacketFrame → Turn → List OutputPiece
 frame_pieces form number f t =
     ToReport (frame_line form number t.ends (length f.body)) ∷ record_pieces form f.head t
 
 -- a frame that is not run is written out as it was read
-unfoldable pub skip_pieces : ReportForm → ℕ → PacketFrame → List OutputPart
+unfoldable pub skip_pieces : ReportForm → ℕ → PacketFrame → List OutputPiece
 skip_pieces form number f =
     ToReport (skip_line number (length f.body) f.reason) ∷ ToFrames (frame_bytes form.stream f) ∷ []
 
@@ -174,7 +174,7 @@ Rule = FrameHead → List ℕ → List KeyValues → Turn
 abbrev pub turn_on : Rule → List KeyValues → PacketFrame → Option Turn
 turn_on rule contents f = if f.reason == 0 then Some (rule f.head f.body contents) else None
 
-abbrev pub turn_pieces : ReportForm → ℕ → PacketFrame → Option Turn → List OutputPart
+abbrev pub turn_pieces : ReportForm → ℕ → PacketFrame → Option Turn → List OutputPiece
 turn_pieces form number f (Some t) = frame_pieces form number f t
 turn_pieces form number f None = skip_pieces form number f
 
@@ -184,7 +184,7 @@ contents_left contents None = contents
 
 -- the frames' pieces, the maps' contents carried along
 abbrev pub turns_pieces : ReportForm → Rule → ℕ → List KeyValues → List PacketFrame
-    → List OutputPart
+    → List OutputPiece
 turns_pieces form rule number contents [] = []
 turns_pieces form rule number contents (f ∷ frames) =
     let t = turn_on rule contents f in
@@ -208,12 +208,12 @@ abbrev pub in_report_order : MapType → ℕ → KeyValues → KeyValues
 in_report_order Hash entries es = es
 in_report_order Array entries es = filter_map (key_value_by_index es) (range_with_len 0 entries)
 
-abbrev pub map_pieces : ℕ → MapDef → KeyValues → List OutputPart
+abbrev pub map_pieces : ℕ → MapDef → KeyValues → List OutputPiece
 map_pieces index row es =
     map (λ e. ToReport (map_line index e)) (in_report_order row.kind row.entries es)
 
 -- the maps' lines, map by map
-abbrev pub maps_pieces : ℕ → List MapDef → List KeyValues → List OutputPart
+abbrev pub maps_pieces : ℕ → List MapDef → List KeyValues → List OutputPiece
 maps_pieces index [] contents = []
 maps_pieces index (row ∷ rows) [] = []
 maps_pieces index (row ∷ rows) (es ∷ contents) =
@@ -223,7 +223,7 @@ maps_pieces index (row ∷ rows) (es ∷ contents) =
 abbrev pub starting_key_values : MapType → MapDef → KeyValues
 starting_key_values Hash row = []
 starting_key_values Array row =
-    fold (λ es i. put_entry (slice_cmp nat_cmp) (little_bytes 4 i) (replicate row.value_size 0) es)
+    fold (λ es i. put_pair (slice_cmp nat_cmp) (little_bytes 4 i) (replicate row.value_size 0) es)
     [] (range_with_len 0 row.entries)
 
 abbrev pub starting_contents : List MapDef → List KeyValues
@@ -232,7 +232,7 @@ starting_contents rows = map (λ row. starting_key_values row.kind row) rows
 -- ---- reports
 
 -- the magic, each frame's pieces, the maps' lines, and the last line
-abbrev pub report_of : ℕ → Version → List MapDef → Rule → List KeyValues → Stream → List OutputPart
+abbrev pub report_of : ℕ → Version → List MapDef → Rule → List KeyValues → Stream → List OutputPiece
 report_of limit program rows rule contents found =
     let form : ReportForm = record { limit = limit; program = program; stream = found.version } in
     (ToFrames (stream_magic found.version) ∷ turns_pieces form rule 0 contents found.frames)
@@ -244,7 +244,7 @@ abbrev pub checked_rule : Program → ℕ → Rule
 checked_rule p limit head body contents = turn p limit (λ k. head.time) head body contents
 
 -- the checked report of a program, a limit, and a stream
-abbrev pub checked_report : Program → ℕ → Stream → List OutputPart
+abbrev pub checked_report : Program → ℕ → Stream → List OutputPiece
 checked_report p limit found =
     report_of limit p.version p.maps (checked_rule p limit) (starting_contents p.maps) found
 
@@ -261,7 +261,7 @@ turn_by o =
 -- a frame without a reason has the pieces of its run's outcome, which leaves the contents;
 -- every other one is skipped
 abbrev pub ReportsFrame : ReportForm → Program → ℕ → List KeyValues → PacketFrame → Bool
-    → List OutputPart
+    → List OutputPiece
     → List KeyValues → Type 0
 ReportsFrame form p number contents f true pieces next =
     (o : Outcome) × HasOutcome p f.head f.body contents (λ k. f.head.time) o
@@ -271,11 +271,11 @@ ReportsFrame form p number contents f false pieces next =
 
 -- the frames' pieces by the outcomes of their runs, and the contents that the last one leaves
 abbrev pub ReportsFrames : ReportForm → Program → ℕ → List KeyValues → List PacketFrame
-    → List OutputPart
+    → List OutputPiece
     → List KeyValues → Type 0
 ReportsFrames form p number contents [] pieces last = (pieces ≡ []) × (last ≡ contents)
 ReportsFrames form p number contents (f ∷ frames) pieces last =
-    (front : List OutputPart) × (rest : List OutputPart) × (next : List KeyValues)
+    (front : List OutputPiece) × (rest : List OutputPiece) × (next : List KeyValues)
     × ReportsFrame form p number contents f (f.reason == 0) front next
     × (pieces ≡ front ++ rest) × ReportsFrames form p (number + 1) next frames rest last
 
@@ -284,8 +284,8 @@ abbrev pub report_form_of : Program → Stream → ReportForm
 report_form_of p found = record { limit = max_steps; program = p.version; stream = found.version }
 
 -- the report of a program, and a stream: every run exits
-pub record IsReport (p : Program) (found : Stream) (pieces : List OutputPart) : Type 0 where
-  pub turns : List OutputPart
+pub record IsReport (p : Program) (found : Stream) (pieces : List OutputPiece) : Type 0 where
+  pub turns : List OutputPiece
   pub last : List KeyValues
   pub frames : ReportsFrames (report_form_of p found) p 0
       (starting_contents p.maps) found.frames turns last

@@ -38,7 +38,7 @@ head_bytes version head n reason =
 abbrev pub frame_bytes : Version → PacketFrame → List ℕ
 frame_bytes version f = head_bytes version f.head (length f.body) f.reason ++ f.body
 
--- records in a row
+-- records, one after the other
 abbrev pub records_bytes : Version → List PacketFrame → List ℕ
 records_bytes version frames = flat_map (frame_bytes version) frames
 

@@ -7,24 +7,24 @@ use Rattle.isa_model.specs.declared.frames.FrameHead.{FrameHead}
 use Rattle.isa_model.specs.declared.ends.End.{End}
 use Rattle.isa_model.specs.declared.ends.End.TheVariants.{Exit, Trap, Limit}
 use Rattle.isa_model.specs.Code.Instructions.{Program}
-use Rattle.isa_model.specs.Machine.States.{Content, KeyValues, key_values_of, State, frame_pointer, new_frame}
+use Rattle.isa_model.specs.Machine.States.{Content, KeyValues, key_values_of, State, frame_pointer, new_call_frame}
 use Rattle.isa_model.specs.Machine.Steps.{StepResult, Next, Finished, Trapped, step}
 
 -- ---- the start
 
--- the values of a map get serials from n on, in the order of the list
+-- the map values of a map get serials from n on, in the order of the list
 abbrev pub numbered : ℕ → KeyValues → Content
 numbered n [] = []
 numbered n (e ∷ es) = (e.0, record { serial = n; bytes = e.1 }) ∷ numbered (suc n) es
 
--- and so do those of all maps, map by map
+-- and so do those of all maps, map after map
 abbrev pub numbered_maps : ℕ → List KeyValues → List Content
 numbered_maps n [] = []
 numbered_maps n (m ∷ ms) = numbered n m ∷ numbered_maps (n + length m) ms
 
-abbrev pub count_values : List KeyValues → ℕ
-count_values [] = 0
-count_values (m ∷ ms) = length m + count_values ms
+abbrev pub count_map_values : List KeyValues → ℕ
+count_map_values [] = 0
+count_map_values (m ∷ ms) = length m + count_map_values ms
 
 -- r1 points to the context and r10 to the end of the first call frame
 abbrev pub start_regs : ℕ → List Value
@@ -33,22 +33,23 @@ start_regs serial =
     ∷ Unset
     ∷ frame_pointer serial ∷ []
 
--- the values have the serials 0, 1, .. and the first call frame the next one
+-- the map values have the serials 0, 1, .. and the first call frame the next one
 unfoldable pub start_state : FrameHead → List ℕ → List KeyValues → State
 start_state head packet contents =
     record {
       slot = 0;
-      regs = start_regs (count_values contents);
-      frames = new_frame (count_values contents) 0 (Unset ∷ Unset ∷ Unset ∷ Unset ∷ []) ∷ [];
+      regs = start_regs (count_map_values contents);
+      frames =
+          new_call_frame (count_map_values contents) 0 (Unset ∷ Unset ∷ Unset ∷ Unset ∷ []) ∷ [];
       packet = packet;
       interface = head.interface;
       queue = head.queue;
       maps = numbered_maps 0 contents;
       clock_calls = 0;
-      next_serial = suc (count_values contents);
+      next_serial = suc (count_map_values contents);
     }
 
--- ---- steps in a row
+-- ---- one step after another
 
 -- a run so far: it goes on from a state, or it has ended in one
 pub data Progress : Type 0 where
@@ -81,7 +82,7 @@ Runs p clock s (suc n) a = (t : State) × Reaches p clock s n t × (step p clock
 
 -- ---- outcomes
 
--- the outcome of a run that exits: r0, the packet and the map contents as they are then, its steps,
+-- the outcome of a run that exits: r0, the packet and the map contents at its end, its steps,
 -- and how often it asked the clock
 pub record Outcome : Type 0 where
   pub number : ℕ

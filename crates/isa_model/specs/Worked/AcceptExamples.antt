@@ -9,7 +9,7 @@ use Rattle.isa_model.specs.declared.instructions.Operand.TheVariants.{Constant}
 use Rattle.isa_model.specs.declared.instructions.Insn.{Insn}
 use Rattle.isa_model.specs.declared.instructions.Insn.TheVariants.{Alu, Exit}
 use Rattle.isa_model.specs.Code.Instructions.{Program, fetch, slots_filled, reads, writes}
-use Rattle.isa_model.specs.Machine.States.{new_frame}
+use Rattle.isa_model.specs.Machine.States.{new_call_frame}
 use Rattle.isa_model.specs.Machine.Steps.{act, step}
 use Rattle.isa_model.specs.Machine.Successors.{falls_through, jump_distance}
 use Rattle.isa_model.specs.Running.Runs.{start_state, progress}
@@ -112,7 +112,7 @@ passes_is_plain = record {
 }
 
 run : HasRun passes 2
-unfolding progress start_state new_frame step act
+unfolding progress start_state new_call_frame step act
 run = record {
   clock = λ k. 0;
   clock_is = λ k. omega arith;

@@ -16,9 +16,9 @@ use Rattle.isa_model.specs.declared.instructions.Insn.{Insn}
 use Rattle.isa_model.specs.declared.instructions.Insn.TheVariants as insn
 use Rattle.isa_model.specs.declared.ends.End.{End}
 use Rattle.isa_model.specs.declared.ends.End.TheVariants.{Exit, Trap, Limit}
-use Rattle.isa_model.specs.declared.ends.TrapReason.TheVariants.{NoCode, UnsetRead, ReadOnly, BadAccess, TooManyFrames, NoResult}
+use Rattle.isa_model.specs.declared.ends.TrapReason.TheVariants.{NoCode, UnsetRead, ReadOnly, BadAccess, TooManyCallFrames, NoResult}
 use Rattle.isa_model.specs.Code.Numbers.{alu, holds, sign_extended, reordered}
-use Rattle.isa_model.specs.Machine.States.{new_frame}
+use Rattle.isa_model.specs.Machine.States.{new_call_frame}
 use Rattle.isa_model.specs.Machine.Steps.{act, step}
 use Rattle.isa_model.specs.Running.Runs.{start_state, progress, turn}
 use Rattle.isa_model.specs.Worked.Examples.{end_on, set, copy, add, above, below, if_constant, if_register}
@@ -32,7 +32,7 @@ past_one i = end_on (i ∷ set R0 (pos 1) ∷ insn.Exit ∷ set R0 (pos 2) ∷ i
 pub jumps_count_from_the_next_slot : map past_one
     (insn.Jump (pos 2) ∷ insn.Jump (pos 0) ∷ insn.JumpLong (pos 2) ∷ insn.JumpLong (pos 0) ∷ [])
     ≡ Exit 2 3 ∷ Exit 1 3 ∷ Exit 2 3 ∷ Exit 1 3 ∷ []
-unfolding turn progress start_state new_frame step act alu holds sign_extended reordered
+unfolding turn progress start_state new_call_frame step act alu holds sign_extended reordered
 jumps_count_from_the_next_slot = refl
 
 -- after the last slot, past it, and before slot 0
@@ -40,7 +40,7 @@ pub jumps_out_of_the_code : map past_one
     (insn.Jump (pos 4) ∷ insn.Jump (pos 300) ∷ insn.Jump (negsuc 1)
     ∷ insn.JumpLong (negsuc 0x7fffffff) ∷ insn.CallLocal (pos 4) ∷ insn.CallLocal (negsuc 1) ∷ [])
     ≡ replicate 6 (Trap NoCode 1)
-unfolding turn progress start_state new_frame step act alu holds sign_extended reordered
+unfolding turn progress start_state new_call_frame step act alu holds sign_extended reordered
 jumps_out_of_the_code = refl
 
 -- r3 = 0; i; r0 = 1; exit; r0 = 2; exit: where the test holds, two slots on
@@ -50,7 +50,7 @@ pub conditional_jumps : map
     (if_constant Equal R3 (pos 0) (pos 2) ∷ if_constant Equal R3 (pos 1) (pos 2)
     ∷ if_register NotEqual R3 R3 (pos 2) ∷ if_register Equal R3 R3 (pos 2) ∷ [])
     ≡ Exit 2 4 ∷ Exit 1 4 ∷ Exit 1 4 ∷ Exit 2 4 ∷ []
-unfolding turn progress start_state new_frame step act alu holds sign_extended reordered
+unfolding turn progress start_state new_call_frame step act alu holds sign_extended reordered
 conditional_jumps = refl
 
 -- a wide load fills two slots: r0 = 7 ll; exit, and goto +2 over it
@@ -58,18 +58,18 @@ pub wide_loads_fill_two_slots : end_on (insn.LoadNumber R0 7 ∷ insn.Exit ∷ [
     ∷ end_on (insn.Jump (pos 2) ∷ insn.LoadNumber R1 7 ∷ set R0 (pos 1) ∷ insn.Exit ∷ []) [] 3
     ∷ end_on (insn.Jump (pos 1) ∷ insn.LoadNumber R1 7 ∷ set R0 (pos 1) ∷ insn.Exit ∷ []) [] 3 ∷ []
     ≡ Exit 7 2 ∷ Exit 1 3 ∷ Trap NoCode 1 ∷ []
-unfolding turn progress start_state new_frame step act alu holds sign_extended reordered
+unfolding turn progress start_state new_call_frame step act alu holds sign_extended reordered
 wide_loads_fill_two_slots = refl
 
 -- r0 = 1; exit, within 2 steps and within 1
 pub limits : map (end_on (set R0 (pos 1) ∷ insn.Exit ∷ []) []) (2 ∷ 1 ∷ []) ≡ Exit 1 2 ∷ Limit ∷ []
-unfolding turn progress start_state new_frame step act alu holds sign_extended reordered
+unfolding turn progress start_state new_call_frame step act alu holds sign_extended reordered
 limits = refl
 
 -- a trap at the step after the limit is not met
 pub trap_behind_the_limit : map (end_on (set R1 (pos 1) ∷ insn.Exit ∷ []) []) (2 ∷ 1 ∷ [])
     ≡ Trap NoResult 1 ∷ Limit ∷ []
-unfolding turn progress start_state new_frame step act alu holds sign_extended reordered
+unfolding turn progress start_state new_call_frame step act alu holds sign_extended reordered
 trap_behind_the_limit = refl
 
 -- ---- registers that have to be set, and r10
@@ -85,7 +85,7 @@ pub reads_of_an_unset_register : map past_one
     ∷ if_constant Equal R3 (pos 0) (pos 1) ∷ if_register Equal R3 R1 (pos 1)
     ∷ if_register Equal R1 R3 (pos 1) ∷ [])
     ≡ replicate 14 (Trap UnsetRead 0)
-unfolding turn progress start_state new_frame step act alu holds sign_extended reordered
+unfolding turn progress start_state new_call_frame step act alu holds sign_extended reordered
 reads_of_an_unset_register = refl
 
 -- MOV, MOVSX, wide loads and loads do not read their destination
@@ -93,14 +93,14 @@ pub destinations_that_are_not_read : map past_one
     (insn.Alu Full64 Mov R3 (Register R1) ∷ insn.Alu Low32 Mov R3 (Constant (pos 1))
     ∷ insn.LoadNumber R3 1 ∷ insn.Load U64 R3 (below R10 8) ∷ [])
     ≡ Exit 1 3 ∷ Exit 1 3 ∷ Exit 1 3 ∷ Trap UnsetRead 0 ∷ []
-unfolding turn progress start_state new_frame step act alu holds sign_extended reordered
+unfolding turn progress start_state new_call_frame step act alu holds sign_extended reordered
 destinations_that_are_not_read = refl
 
 -- at the start only r1 and r10 are set
 pub registers_at_the_start : map (λ r. past_one (insn.Alu Full64 Mov R0 (Register r)))
     (R0 ∷ R1 ∷ R2 ∷ R3 ∷ R4 ∷ R5 ∷ R6 ∷ R7 ∷ R8 ∷ R9 ∷ R10 ∷ [])
     ≡ Trap UnsetRead 0 ∷ Exit 1 3 ∷ replicate 8 (Trap UnsetRead 0) ++ Exit 1 3 ∷ []
-unfolding turn progress start_state new_frame step act alu holds sign_extended reordered
+unfolding turn progress start_state new_call_frame step act alu holds sign_extended reordered
 registers_at_the_start = refl
 
 -- no form writes r10
@@ -110,12 +110,12 @@ pub writes_of_the_frame_pointer : map past_one
     ∷ insn.ByteSwap Little B16 R10 ∷ insn.LoadNumber R10 1 ∷ insn.Load U8 R10 (above R1 0)
     ∷ insn.LoadSx S8 R10 (above R1 0) ∷ [])
     ≡ replicate 8 (Trap ReadOnly 0)
-unfolding turn progress start_state new_frame step act alu holds sign_extended reordered
+unfolding turn progress start_state new_call_frame step act alu holds sign_extended reordered
 writes_of_the_frame_pointer = refl
 
 -- r10 = r3: the unset register counts first
 pub unset_before_readonly : past_one (copy R10 R3) ≡ Trap UnsetRead 0
-unfolding turn progress start_state new_frame step act alu holds sign_extended reordered
+unfolding turn progress start_state new_call_frame step act alu holds sign_extended reordered
 unset_before_readonly = refl
 
 -- ---- calls
@@ -134,13 +134,13 @@ kept_over_a_call i =
 
 -- r6 to r9 and r10 are the caller's, r0 is returned
 pub registers_kept : kept_over_a_call (insn.StoreConstant U8 (below R10 512) (pos 1)) ≡ Exit 130 18
-unfolding turn progress start_state new_frame step act alu holds sign_extended reordered
+unfolding turn progress start_state new_call_frame step act alu holds sign_extended reordered
 registers_kept = refl
 
 -- r1 to r5 are unset after it
 pub arguments_unset_after : map (λ r. kept_over_a_call (copy R0 r)) (R1 ∷ R2 ∷ R3 ∷ R4 ∷ R5 ∷ [])
     ≡ replicate 5 (Trap UnsetRead 16)
-unfolding turn progress start_state new_frame step act alu holds sign_extended reordered
+unfolding turn progress start_state new_call_frame step act alu holds sign_extended reordered
 arguments_unset_after = refl
 
 -- r0 to r9 = 1; call pc+1; exit; and within, inner; exit
@@ -153,44 +153,44 @@ within_a_call inner =
 pub registers_within : map (λ r. within_a_call (copy R0 r ∷ []))
     (R0 ∷ R1 ∷ R2 ∷ R3 ∷ R4 ∷ R5 ∷ R6 ∷ R7 ∷ R8 ∷ R9 ∷ [])
     ≡ Trap UnsetRead 11 ∷ replicate 5 (Exit 1 14) ++ replicate 4 (Trap UnsetRead 11)
-unfolding turn progress start_state new_frame step act alu holds sign_extended reordered
+unfolding turn progress start_state new_call_frame step act alu holds sign_extended reordered
 registers_within = refl
 
 -- r0 is returned unset, too
 pub result_handed_over_unset : within_a_call [] ≡ Trap NoResult 12
-unfolding turn progress start_state new_frame step act alu holds sign_extended reordered
+unfolding turn progress start_state new_call_frame step act alu holds sign_extended reordered
 result_handed_over_unset = refl
 
 -- unset arguments are no trap: call pc+1; exit; r0 = 3; exit
 pub call_with_no_arguments : end_on
     (insn.CallLocal (pos 1) ∷ insn.Exit ∷ set R0 (pos 3) ∷ insn.Exit ∷ []) [] 4 ≡ Exit 3 4
-unfolding turn progress start_state new_frame step act alu holds sign_extended reordered
+unfolding turn progress start_state new_call_frame step act alu holds sign_extended reordered
 call_with_no_arguments = refl
 
 -- *(u64 *)(r10 - 8) = 5; call pc+2; r0 = *(u64 *)(r10 - 8); exit; and within, i; r0 = 1; exit
-abbrev pub with_frames_of_their_own : Insn → End
-with_frames_of_their_own i =
+abbrev pub with_call_frames_of_their_own : Insn → End
+with_call_frames_of_their_own i =
     end_on (insn.StoreConstant U64 (below R10 8) (pos 5) ∷ insn.CallLocal (pos 2)
     ∷ insn.Load U64 R0 (below R10 8) ∷ insn.Exit ∷ i ∷ set R0 (pos 1) ∷ insn.Exit ∷ []) [] 7
 
--- what a function writes is its own, and nothing is written there at its start
-pub frames_of_their_own : map with_frames_of_their_own
+-- each function has a stack of its own, in which nothing is written at its start
+pub call_frames_of_their_own : map with_call_frames_of_their_own
     (insn.StoreConstant U64 (below R10 8) (pos 9) ∷ insn.Load U64 R1 (below R10 8) ∷ [])
     ≡ Exit 5 7 ∷ Trap UnsetRead 2 ∷ []
-unfolding turn progress start_state new_frame step act alu holds sign_extended reordered
-frames_of_their_own = refl
+unfolding turn progress start_state new_call_frame step act alu holds sign_extended reordered
+call_frames_of_their_own = refl
 
 -- call pc+3; r1 = r0; call pc+3; exit; r0 = r10; exit; *(u64 *)(r10 - 8) = 1;
 -- r0 = *(u64 *)(r1 - 8); exit:
 -- the call frame of the first call is gone for ever, also while another one lives at its depth
-pub pointer_into_a_frame_that_is_gone : end_on
+pub pointer_into_a_call_frame_that_is_gone : end_on
     (insn.CallLocal (pos 3) ∷ copy R1 R0 ∷ insn.CallLocal (pos 3) ∷ insn.Exit ∷ copy R0 R10
     ∷ insn.Exit
     ∷ insn.StoreConstant U64 (below R10 8) (pos 1) ∷ insn.Load U64 R0 (below R1 8) ∷ insn.Exit ∷ [])
     [] 100
     ≡ Trap BadAccess 6
-unfolding turn progress start_state new_frame step act alu holds sign_extended reordered
-pointer_into_a_frame_that_is_gone = refl
+unfolding turn progress start_state new_call_frame step act alu holds sign_extended reordered
+pointer_into_a_call_frame_that_is_gone = refl
 
 -- r1 = n; if r1 == 0 goto +2; r1 -= 1; call pc-3; r0 = 4; exit
 abbrev pub deep : ℤ → End
@@ -199,6 +199,6 @@ deep n =
     ∷ insn.CallLocal (negsuc 2) ∷ set R0 (pos 4) ∷ insn.Exit ∷ []) [] 100
 
 -- seven calls in one another make eight call frames, and the eighth call a ninth
-pub eight_frames : map deep (pos 7 ∷ pos 8 ∷ []) ≡ Exit 4 39 ∷ Trap TooManyFrames 24 ∷ []
-unfolding turn progress start_state new_frame step act alu holds sign_extended reordered
-eight_frames = refl
+pub eight_call_frames : map deep (pos 7 ∷ pos 8 ∷ []) ≡ Exit 4 39 ∷ Trap TooManyCallFrames 24 ∷ []
+unfolding turn progress start_state new_call_frame step act alu holds sign_extended reordered
+eight_call_frames = refl

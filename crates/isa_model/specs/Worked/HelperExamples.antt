@@ -11,7 +11,7 @@ use Rattle.isa_model.specs.declared.ends.End.TheVariants.{Exit, Trap}
 use Rattle.isa_model.specs.declared.ends.TrapReason.TheVariants.{UnsetRead, BadAccess, BadHelper}
 use Rattle.isa_model.specs.Code.Numbers.{alu}
 use Rattle.isa_model.specs.Code.Instructions.{slots}
-use Rattle.isa_model.specs.Machine.States.{KeyValues, new_frame}
+use Rattle.isa_model.specs.Machine.States.{KeyValues, new_call_frame}
 use Rattle.isa_model.specs.Machine.Steps.{act, step}
 use Rattle.isa_model.specs.Running.Runs.{start_state, progress, Turn, turn}
 use Rattle.isa_model.specs.Worked.Examples.{head_by, end_on, set, copy, add, above, below, minus}
@@ -24,9 +24,9 @@ turn_with row content code =
     turn (record { insns = slots code; maps = row ∷ []; version = One }) 100 (λ k. k + 7)
     (head_by 0) [] (content ∷ [])
 
--- the map's content that it leaves, where it did not ask the clock
-abbrev pub left : End → KeyValues → Turn
-left e content = record { ends = e; packet = []; contents = content ∷ []; clock_calls = 0 }
+-- a turn that leaves the map with this content, where the run did not ask the clock
+abbrev pub turn_leaving : End → KeyValues → Turn
+turn_leaving e content = record { ends = e; packet = []; contents = content ∷ []; clock_calls = 0 }
 
 -- how it ends
 abbrev pub end_with : MapDef → KeyValues → List Insn → End
@@ -78,8 +78,8 @@ update_past_the_end flags more =
 -- past the end it is -7, and with flags over 2 it is -22 before that; nothing is written
 pub updates_past_the_end : update_past_the_end (pos 1) (pos 9)
     ∷ update_past_the_end (pos 9) (pos 24) ∷ []
-    ≡ replicate 2 (left (Exit 2 11) zero_filled)
-unfolding turn progress start_state new_frame step act alu
+    ≡ replicate 2 (turn_leaving (Exit 2 11) zero_filled)
+unfolding turn progress start_state new_call_frame step act alu
 updates_past_the_end = refl
 
 -- ---- hash maps
@@ -92,11 +92,11 @@ two_key_row = record one_key { entries = 2 }
 pub two_keys : turn_with two_key_row []
     (put_byte 1 9 ∷ put_byte 2 7 ∷ update_bytes ++ put_byte 1 3 ∷ update_bytes
     ++ set R0 (pos 2) ∷ insn.Exit ∷ [])
-    ≡ left (Exit 2 19) ((3 ∷ [], 7 ∷ []) ∷ (9 ∷ [], 7 ∷ []) ∷ [])
-unfolding turn progress start_state new_frame step act alu
+    ≡ turn_leaving (Exit 2 19) ((3 ∷ [], 7 ∷ []) ∷ (9 ∷ [], 7 ∷ []) ∷ [])
+unfolding turn progress start_state new_call_frame step act alu
 two_keys = refl
 
--- map hash 1 1 1: key 9 is put with 7 and looked up into r6; is; it is put again;
+-- map hash 1 1 1: key 9 is put with 7 and looked up into r6; `is` run; it is put again;
 -- r0 = *(u8 *)(r6 + 0); exit
 abbrev pub put_again_after : List Insn → Turn
 put_again_after is =
@@ -107,14 +107,14 @@ put_again_after is =
 
 -- deleted in between: what r6 points to is gone for ever, though the map has the key again
 pub pointer_to_a_deleted_value : put_again_after (map_and_key 1 ++ delete ∷ [])
-    ≡ left (Trap BadAccess 25) ((9 ∷ [], 7 ∷ []) ∷ [])
-unfolding turn progress start_state new_frame step act alu
+    ≡ turn_leaving (Trap BadAccess 25) ((9 ∷ [], 7 ∷ []) ∷ [])
+unfolding turn progress start_state new_call_frame step act alu
 pointer_to_a_deleted_value = refl
 
 -- and with no delete: the value is written over, and r6 points to it still
 pub pointer_to_a_kept_value : put_again_after (put_byte 2 8 ∷ [])
-    ≡ left (Exit 8 24) ((9 ∷ [], 8 ∷ []) ∷ [])
-unfolding turn progress start_state new_frame step act alu
+    ≡ turn_leaving (Exit 8 24) ((9 ∷ [], 8 ∷ []) ∷ [])
+unfolding turn progress start_state new_call_frame step act alu
 pointer_to_a_kept_value = refl
 
 -- *(u8 *)(r10 - 1) = 9; r1 = map_by_idx(0); r2 = r10; r2 += -1; i; r0 += 2; exit
@@ -125,7 +125,7 @@ on_an_absent_key i =
 -- a look-up gives 0, and a delete -2
 pub absent_key : map on_an_absent_key (lookup ∷ delete ∷ [])
     ≡ Exit 2 7 ∷ Exit 0 7 ∷ []
-unfolding turn progress start_state new_frame step act alu
+unfolding turn progress start_state new_call_frame step act alu
 absent_key = refl
 
 -- ---- the order of the tests
@@ -136,7 +136,7 @@ pub unset_arguments : end_on (lookup ∷ insn.Exit ∷ []) [] 9
     ∷ end_on (insn.CallHelper (pos 4) ∷ insn.Exit ∷ []) [] 9
     ∷ end_with one_key [] (map_and_key 1 ++ set R4 (pos 0) ∷ update ∷ insn.Exit ∷ []) ∷ []
     ≡ Trap UnsetRead 0 ∷ Trap BadHelper 0 ∷ Trap UnsetRead 4 ∷ []
-unfolding turn progress start_state new_frame step act alu
+unfolding turn progress start_state new_call_frame step act alu
 unset_arguments = refl
 
 -- j; r1 = map_by_idx(0); r2 = r10; r2 += -1; r3 = r10; r3 += -2; r4 = 0; i; call 2; exit:
@@ -147,19 +147,19 @@ update_by j i =
     (j ∷ map_and_key 1 ++ stack R3 2 ++ set R4 (pos 0) ∷ i ∷ update ∷ insn.Exit ∷ [])
 
 -- the type of each argument is tested before the key, which is unset
-pub kinds_of_arguments : map (update_by (set R0 (pos 0)))
+pub types_of_arguments : map (update_by (set R0 (pos 0)))
     (set R1 (pos 0) ∷ copy R1 R10 ∷ set R2 (pos 0) ∷ copy R2 R1 ∷ set R3 (pos 0) ∷ copy R3 R1
     ∷ copy R4 R10 ∷ [])
     ≡ replicate 7 (Trap BadHelper 8)
-unfolding turn progress start_state new_frame step act alu
-kinds_of_arguments = refl
+unfolding turn progress start_state new_call_frame step act alu
+types_of_arguments = refl
 
 -- the key is unset and the value past the call frame, the key is past the call frame and the value
 -- unset: the key comes first
 pub key_before_value : update_by (set R0 (pos 0)) (copy R3 R10)
     ∷ update_by (set R0 (pos 0)) (copy R2 R10) ∷ []
     ≡ Trap UnsetRead 8 ∷ Trap BadAccess 8 ∷ []
-unfolding turn progress start_state new_frame step act alu
+unfolding turn progress start_state new_call_frame step act alu
 key_before_value = refl
 
 -- the key is there. The value is past the call frame, and it is unset where the flags are over 2:
@@ -167,12 +167,12 @@ key_before_value = refl
 pub value_before_flags : update_by (put_byte 1 9) (copy R3 R10)
     ∷ update_by (put_byte 1 9) (set R4 (pos 3)) ∷ []
     ≡ Trap BadAccess 8 ∷ Trap UnsetRead 8 ∷ []
-unfolding turn progress start_state new_frame step act alu
+unfolding turn progress start_state new_call_frame step act alu
 value_before_flags = refl
 
 -- *(u64 *)(r10 - 8) = r10: a key of pieces of a pointer
 pub key_of_pieces : update_by (insn.Store U64 (below R10 8) R10) (set R0 (pos 0)) ≡ Trap BadAccess 8
-unfolding turn progress start_state new_frame step act alu
+unfolding turn progress start_state new_call_frame step act alu
 key_of_pieces = refl
 
 -- ---- what is in the registers after a call
@@ -187,13 +187,13 @@ after_ktime r =
 -- r1 to r5 are unset, and r0 and r6 are not
 pub registers_after_a_helper : map after_ktime (R1 ∷ R2 ∷ R3 ∷ R4 ∷ R5 ∷ R6 ∷ R0 ∷ [])
     ≡ replicate 5 (Trap UnsetRead 7) ++ Exit 1 9 ∷ Exit 7 9 ∷ []
-unfolding turn progress start_state new_frame step act alu
+unfolding turn progress start_state new_call_frame step act alu
 registers_after_a_helper = refl
 
 -- call 5; call 5; exit: the clock's second answer, and it was asked twice
 pub answers_of_the_clock : turn_with one_key [] (ktime ∷ ktime ∷ insn.Exit ∷ [])
     ≡ record { ends = Exit 8 3; packet = []; contents = [] ∷ []; clock_calls = 2 }
-unfolding turn progress start_state new_frame step act alu
+unfolding turn progress start_state new_call_frame step act alu
 answers_of_the_clock = refl
 
 -- ---- wide loads of maps
@@ -204,20 +204,20 @@ pub value_pointer_of_an_array : turn_with one_index ((index 0, value 1) ∷ [])
     (insn.LoadMapValue R1 0 7 ∷ insn.Load U8 R0 (above R1 0)
     ∷ insn.StoreConstant U8 (below R1 7) (pos 5)
     ∷ insn.Exit ∷ [])
-    ≡ left (Exit 1 4) ((index 0, 5 ∷ replicate 7 1) ∷ [])
-unfolding turn progress start_state new_frame step act alu
+    ≡ turn_leaving (Exit 1 4) ((index 0, 5 ∷ replicate 7 1) ∷ [])
+unfolding turn progress start_state new_call_frame step act alu
 value_pointer_of_an_array = refl
 
 -- one byte past the value: r1 = map_val(map_by_idx(0)) + 7; r0 = *(u8 *)(r1 + 1)
 pub past_a_value : end_with one_index zero_filled
     (insn.LoadMapValue R1 0 7 ∷ insn.Load U8 R0 (above R1 1) ∷ insn.Exit ∷ [])
     ≡ Trap BadAccess 1
-unfolding turn progress start_state new_frame step act alu
+unfolding turn progress start_state new_call_frame step act alu
 past_a_value = refl
 
 -- a map itself is not read: r1 = map_by_idx(0); r0 = *(u8 *)(r1 + 0)
 pub read_of_a_map : end_with one_index zero_filled
     (insn.LoadMap R1 0 ∷ insn.Load U8 R0 (above R1 0) ∷ insn.Exit ∷ [])
     ≡ Trap BadAccess 1
-unfolding turn progress start_state new_frame step act alu
+unfolding turn progress start_state new_call_frame step act alu
 read_of_a_map = refl

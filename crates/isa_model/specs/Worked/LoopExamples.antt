@@ -9,20 +9,20 @@ use Rattle.isa_model.specs.declared.instructions.Insn.{Insn}
 use Rattle.isa_model.specs.declared.instructions.Insn.TheVariants as insn
 use Rattle.isa_model.specs.Code.Numbers.{alu, holds, sign_extended, reordered}
 use Rattle.isa_model.specs.Code.Instructions.{Program, fetch, reads}
-use Rattle.isa_model.specs.Machine.States.{State, new_frame}
+use Rattle.isa_model.specs.Machine.States.{State, new_call_frame}
 use Rattle.isa_model.specs.Machine.MachineStates.{IsGiven}
 use Rattle.isa_model.specs.Machine.Steps.{act, step}
 use Rattle.isa_model.specs.Running.Runs.{start_state, Progress, GoesOn, Ended, progress, Reaches}
 use Rattle.isa_model.specs.MustAccept.Paths.{IsOneOf}
-use Rattle.isa_model.specs.MustAccept.Determined.{IsSlotPlace, IsDeterminedForm, operands, WritesIn, HasRun, IsDetermined}
+use Rattle.isa_model.specs.MustAccept.Determined.{IsStackSlotPlace, IsDeterminedForm, operands, WritesIn, HasRun, IsDetermined}
 use Rattle.isa_model.specs.Worked.Examples.{set, copy, add, subtract, below, if_constant, head_by}
 use Rattle.isa_model.specs.Worked.WorkedLaws.{of_each, IsWhole-tested, names, is_not_one_of, never_named, never_written}
 
 -- the lowest and the highest stack slot of the call frame
-lowest : IsSlotPlace (below R10 512)
+lowest : IsStackSlotPlace (below R10 512)
 lowest = (0, omega arith, refl)
 
-highest : IsSlotPlace (below R10 8)
+highest : IsStackSlotPlace (below R10 8)
 highest = (63, omega arith, refl)
 
 abbrev start : State
@@ -61,7 +61,7 @@ without_r1 =
 
 -- two steps, a hundred turns of the loop with four steps each, and three steps
 threes_run : HasRun by_threes 405
-unfolding progress start_state new_frame step act alu holds sign_extended reordered
+unfolding progress start_state new_call_frame step act alu holds sign_extended reordered
 threes_run = record {
   clock = λ k. 0;
   clock_is = λ k. omega arith;
@@ -119,7 +119,7 @@ slot_after (Ended e s) = s.slot
 -- the first two instructions do not read r1, and the second one writes it
 reads_r1_late : (n : ℕ) (t : State) (i : Insn) → Reaches by_ones (λ k. 0) start n t
     → fetch by_ones t.slot ≡ Some i → IsOneOf (reads i) R1 → WritesIn by_ones (λ k. 0) start n R1
-unfolding progress start_state new_frame step act alu holds sign_extended reordered
+unfolding progress start_state new_call_frame step act alu holds sign_extended reordered
 reads_r1_late zero t i reached here among =
     let at : t.slot ≡ 0 = sym (ap slot_after reached) in
     let first : fetch by_ones 0 ≡ Some i = subst (λ slot. fetch by_ones slot ≡ Some i) at here in
@@ -143,7 +143,7 @@ reads_r1_late (suc (suc n)) t i reached here among =
 
 -- one step, four turns of the loop with four steps each, and two steps
 ones_run : HasRun by_ones 19
-unfolding progress start_state new_frame step act alu holds sign_extended reordered
+unfolding progress start_state new_call_frame step act alu holds sign_extended reordered
 ones_run = record {
   clock = λ k. 0;
   clock_is = λ k. omega arith;

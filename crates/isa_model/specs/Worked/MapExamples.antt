@@ -5,13 +5,13 @@ use Rattle.isa_model.specs.declared.map_defs.MapDef.{MapDef}
 use Rattle.isa_model.specs.declared.values.Region.TheVariants as region
 use Rattle.isa_model.specs.declared.values.Value.TheVariants.{Num, Ptr}
 use Rattle.isa_model.specs.declared.values.Cell.TheVariants.{Byte}
-use Rattle.isa_model.specs.Machine.States.{KeyValues, State, new_frame}
+use Rattle.isa_model.specs.Machine.States.{KeyValues, State, new_call_frame}
 use Rattle.isa_model.specs.Machine.Memory.{region_cells}
 use Rattle.isa_model.specs.Machine.MapContents.{update_answer, after_update, delete_answer, after_delete}
 use Rattle.isa_model.specs.Machine.MapHelpers.{Helped, map_lookup_elem, map_update_elem, map_delete_elem}
 use Rattle.isa_model.specs.Running.Runs.{start_state}
 
--- ---- commands in a row on one map
+-- ---- changes of one map, one after the other
 
 pub data MapChange : Type 0 where
   Update : List ℕ → List ℕ → ℕ → MapChange
@@ -47,12 +47,12 @@ abbrev pub delete_k : MapChange
 delete_k = Delete (1 ∷ [])
 
 -- two keys on a map with room for one: -2, -2, 0, -17, -7, -2, -22, 0, 0, 0
-pub ten_commands : answers one_key []
+pub ten_changes : answers one_key []
     (delete_k ∷ update_k 2 ∷ update_k 0 ∷ update_k 1 ∷ update_m 0 ∷ update_m 2 ∷ update_m 3
     ∷ update_k 2 ∷ delete_k ∷ update_m 1 ∷ [])
     ≡ 0xfffffffffffffffe ∷ 0xfffffffffffffffe ∷ 0 ∷ 0xffffffffffffffef ∷ 0xfffffffffffffff9
     ∷ 0xfffffffffffffffe ∷ 0xffffffffffffffea ∷ 0 ∷ 0 ∷ 0 ∷ []
-ten_commands = refl
+ten_changes = refl
 
 -- keys are in the order of their bytes, and the value of a key that is there is
 -- overwritten
@@ -79,13 +79,13 @@ zero_filled = (index 0, value 0) ∷ []
 
 -- past the end -7, with wrong flags -22 before that; index 0 by flags 0, 1, 2 and 3;
 -- nothing is deleted
-pub array_commands : answers one_index zero_filled
+pub array_changes : answers one_index zero_filled
     (Update (index 1) (value 9) 1 ∷ Update (index 1) (value 9) 9 ∷ Update (index 0) (value 9) 0
     ∷ Update (index 0) (value 9) 1 ∷ Update (index 0) (value 9) 2
     ∷ Update (index 0) (value 9) 3 ∷ Delete (index 0) ∷ Delete (index 1) ∷ [])
     ≡ 0xfffffffffffffff9 ∷ 0xffffffffffffffea ∷ 0 ∷ 0xffffffffffffffef ∷ 0 ∷ 0xffffffffffffffea
     ∷ 0xffffffffffffffea ∷ 0xffffffffffffffea ∷ []
-array_commands = refl
+array_changes = refl
 
 -- ---- serials
 
@@ -110,7 +110,7 @@ found_again =
 pub look_ups : found_first.answer ∷ (map_lookup_elem deleted.state 0 (1 ∷ [])).answer
     ∷ found_again.answer ∷ []
     ≡ Ptr (region.MapValue 0 1) (pos 0) ∷ Num 0 ∷ Ptr (region.MapValue 0 2) (pos 0) ∷ []
-unfolding start_state new_frame
+unfolding start_state new_call_frame
 look_ups = refl
 
 -- the value that was deleted is gone, also once its key is there again
@@ -119,7 +119,7 @@ pub deleted_value_stays_dead : region_cells found_first.state (region.MapValue 0
     ∷ region_cells found_again.state (region.MapValue 0 1)
     ∷ region_cells found_again.state (region.MapValue 0 2) ∷ []
     ≡ Some (Byte 7 ∷ []) ∷ None ∷ None ∷ Some (Byte 8 ∷ []) ∷ []
-unfolding start_state new_frame
+unfolding start_state new_call_frame
 deleted_value_stays_dead = refl
 
 -- a present key keeps its value's serial, and no serial is given
@@ -127,14 +127,14 @@ pub serial_kept_over_an_update : (map_lookup_elem
     (map_update_elem one_key found_first.state 0 (1 ∷ []) (9 ∷ []) 2).state 0 (1 ∷ [])).answer
     ∷ []
     ≡ Ptr (region.MapValue 0 1) (pos 0) ∷ []
-unfolding start_state new_frame
+unfolding start_state new_call_frame
 serial_kept_over_an_update = refl
 
 pub next_serials : (found_first.state).next_serial
     ∷ (map_update_elem one_key found_first.state 0 (1 ∷ []) (9 ∷ []) 2).state.next_serial
     ∷ found_again.state.next_serial ∷ []
     ≡ 2 ∷ 2 ∷ 3 ∷ []
-unfolding start_state new_frame
+unfolding start_state new_call_frame
 next_serials = refl
 
 -- an update that answers an error changes nothing: map array 4 8 1, past its end and with wrong
@@ -144,5 +144,5 @@ pub refused_updates_change_nothing : (map_update_elem one_index (before zero_fil
     ∷ (map_update_elem one_index (before zero_filled) 0 (index 1) (value 9) 9) ∷ []
     ≡ record { answer = Num 0xfffffffffffffff9; state = before zero_filled }
     ∷ record { answer = Num 0xffffffffffffffea; state = before zero_filled } ∷ []
-unfolding start_state new_frame
+unfolding start_state new_call_frame
 refused_updates_change_nothing = refl

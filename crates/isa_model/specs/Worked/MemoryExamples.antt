@@ -18,11 +18,11 @@ use Rattle.isa_model.specs.declared.ends.TrapReason.{TrapReason}
 use Rattle.isa_model.specs.declared.ends.TrapReason.TheVariants.{UnsetRead, BadAccess}
 use Rattle.isa_model.specs.declared.frames.FrameHead.{FrameHead}
 use Rattle.isa_model.specs.Code.Numbers.{alu, holds, sign_extended, reordered}
-use Rattle.isa_model.specs.Machine.States.{State, KeyValues, key_values_of, new_frame}
+use Rattle.isa_model.specs.Machine.States.{State, KeyValues, key_values_of, new_call_frame}
 use Rattle.isa_model.specs.Machine.Memory.{pieces, value_in, load, load_signed, store}
 use Rattle.isa_model.specs.Machine.Steps.{act, step}
 use Rattle.isa_model.specs.Running.Runs.{start_state, progress, turn}
-use Rattle.isa_model.specs.Worked.Examples.{turn_on, end_on, head_by, set, add, above, below, zeros, if_register}
+use Rattle.isa_model.specs.Worked.Examples.{turn_of_code, end_on, head_by, set, add, above, below, zeros, if_register}
 
 -- ---- the stack: bytes, the lowest first
 
@@ -35,21 +35,21 @@ pub loads_by_size : map (with_stored 0x8090a0b0c0d0e0f0)
     (insn.Load U8 R0 (below R10 8) ∷ insn.Load U8 R0 (below R10 1) ∷ insn.Load U16 R0 (below R10 7)
     ∷ insn.Load U32 R0 (below R10 4) ∷ insn.Load U64 R0 (below R10 8) ∷ [])
     ≡ Exit 0xf0 4 ∷ Exit 0x80 4 ∷ Exit 0xd0e0 4 ∷ Exit 0x8090a0b0 4 ∷ Exit 0x8090a0b0c0d0e0f0 4 ∷ []
-unfolding turn progress start_state new_frame step act alu holds sign_extended reordered
+unfolding turn progress start_state new_call_frame step act alu holds sign_extended reordered
 loads_by_size = refl
 
 pub sign_extending_loads : map (with_stored 0x8090a0b0c0d0e0f0)
     (insn.LoadSx S8 R0 (below R10 8) ∷ insn.LoadSx S16 R0 (below R10 8)
     ∷ insn.LoadSx S32 R0 (below R10 8) ∷ [])
     ≡ Exit 0xfffffffffffffff0 4 ∷ Exit 0xffffffffffffe0f0 4 ∷ Exit 0xffffffffc0d0e0f0 4 ∷ []
-unfolding turn progress start_state new_frame step act alu holds sign_extended reordered
+unfolding turn progress start_state new_call_frame step act alu holds sign_extended reordered
 sign_extending_loads = refl
 
 pub sign_extending_loads_of_positive_numbers : map (with_stored 0x7f6f5f4f3f2f1f0f)
     (insn.LoadSx S8 R0 (below R10 8) ∷ insn.LoadSx S16 R0 (below R10 8)
     ∷ insn.LoadSx S32 R0 (below R10 8) ∷ [])
     ≡ Exit 0x0f 4 ∷ Exit 0x1f0f 4 ∷ Exit 0x3f2f1f0f 4 ∷ []
-unfolding turn progress start_state new_frame step act alu holds sign_extended reordered
+unfolding turn progress start_state new_call_frame step act alu holds sign_extended reordered
 sign_extending_loads_of_positive_numbers = refl
 
 -- *(u64 *)(r10 - 8) = 0; r1 = 0x8090a0b0c0d0e0f0 ll; i; r0 = *(u64 *)(r10 - 8); exit
@@ -63,7 +63,7 @@ pub stores_by_size : map over_zeros
     (insn.Store U8 (below R10 7) R1 ∷ insn.Store U16 (below R10 7) R1
     ∷ insn.Store U32 (below R10 7) R1 ∷ insn.Store U64 (below R10 8) R1 ∷ [])
     ≡ Exit 0xf000 5 ∷ Exit 0xe0f000 5 ∷ Exit 0xc0d0e0f000 5 ∷ Exit 0x8090a0b0c0d0e0f0 5 ∷ []
-unfolding turn progress start_state new_frame step act alu holds sign_extended reordered
+unfolding turn progress start_state new_call_frame step act alu holds sign_extended reordered
 stores_by_size = refl
 
 -- the constant -2; with 8 bytes it is sign-extended
@@ -73,7 +73,7 @@ pub stores_of_a_constant : map over_zeros
     ∷ insn.StoreConstant U32 (below R10 8) (negsuc 1)
     ∷ insn.StoreConstant U64 (below R10 8) (negsuc 1) ∷ [])
     ≡ Exit 0xfe 5 ∷ Exit 0xfffe 5 ∷ Exit 0xfffffffe 5 ∷ Exit 0xfffffffffffffffe 5 ∷ []
-unfolding turn progress start_state new_frame step act alu holds sign_extended reordered
+unfolding turn progress start_state new_call_frame step act alu holds sign_extended reordered
 stores_of_a_constant = refl
 
 -- ---- the stack: its edges
@@ -87,7 +87,7 @@ pub stores_at_the_edges : map alone
     ∷ insn.StoreConstant U8 (below R10 1) (pos 1) ∷ insn.StoreConstant U64 (below R10 8) (pos 1)
     ∷ [])
     ≡ replicate 4 (Exit 0 3)
-unfolding turn progress start_state new_frame step act alu holds sign_extended reordered
+unfolding turn progress start_state new_call_frame step act alu holds sign_extended reordered
 stores_at_the_edges = refl
 
 pub stores_past_the_edges : map alone
@@ -95,7 +95,7 @@ pub stores_past_the_edges : map alone
     ∷ insn.StoreConstant U8 (above R10 0) (pos 1) ∷ insn.StoreConstant U64 (below R10 7) (pos 1)
     ∷ insn.Store U64 (below R10 7) R10 ∷ [])
     ≡ replicate 5 (Trap BadAccess 0)
-unfolding turn progress start_state new_frame step act alu holds sign_extended reordered
+unfolding turn progress start_state new_call_frame step act alu holds sign_extended reordered
 stores_past_the_edges = refl
 
 -- the place is tested before unset bytes
@@ -103,7 +103,7 @@ pub loads_past_the_edges : map alone
     (insn.Load U8 R0 (below R10 513) ∷ insn.Load U64 R0 (below R10 7)
     ∷ insn.Load U8 R0 (below R10 1) ∷ [])
     ≡ Trap BadAccess 0 ∷ Trap BadAccess 0 ∷ Trap UnsetRead 0 ∷ []
-unfolding turn progress start_state new_frame step act alu holds sign_extended reordered
+unfolding turn progress start_state new_call_frame step act alu holds sign_extended reordered
 loads_past_the_edges = refl
 
 -- ---- pointers on the stack
@@ -118,12 +118,12 @@ pub loads_of_a_pointer : map after_a_spill
     (insn.Load U64 R0 (below R10 16) ∷ insn.Load U32 R0 (below R10 16)
     ∷ insn.Load U8 R0 (below R10 16) ∷ insn.LoadSx S32 R0 (below R10 16) ∷ [])
     ≡ Exit 0 4 ∷ Trap BadAccess 1 ∷ Trap BadAccess 1 ∷ Trap BadAccess 1 ∷ []
-unfolding turn progress start_state new_frame step act alu holds sign_extended reordered
+unfolding turn progress start_state new_call_frame step act alu holds sign_extended reordered
 loads_of_a_pointer = refl
 
 -- four pieces and four unset bytes: unset bytes count first
 pub pieces_and_unset_bytes : after_a_spill (insn.Load U64 R0 (below R10 12)) ≡ Trap UnsetRead 1
-unfolding turn progress start_state new_frame step act alu holds sign_extended reordered
+unfolding turn progress start_state new_call_frame step act alu holds sign_extended reordered
 pieces_and_unset_bytes = refl
 
 -- *(u64 *)(r10 - 16) = r10; i; r0 = *(u64 *)(r10 - k); r0 = 0; exit
@@ -137,7 +137,7 @@ pub mixed_pieces : after_two_stores (insn.StoreConstant U64 (below R10 8) (pos 0
     ∷ after_two_stores (insn.Store U64 (below R10 8) R10) 12
     ∷ after_two_stores (insn.Store U64 (below R10 12) R10) 16 ∷ []
     ≡ replicate 3 (Trap BadAccess 2)
-unfolding turn progress start_state new_frame step act alu holds sign_extended reordered
+unfolding turn progress start_state new_call_frame step act alu holds sign_extended reordered
 mixed_pieces = refl
 
 -- the second pointer is whole, at a place that is no multiple of 8 too
@@ -145,7 +145,7 @@ pub whole_pointers : after_two_stores (insn.Store U64 (below R10 12) R10) 12
     ∷ after_two_stores (insn.Store U64 (below R10 8) R1) 8
     ∷ after_two_stores (insn.Store U64 (below R10 8) R1) 16 ∷ []
     ≡ replicate 3 (Exit 0 5)
-unfolding turn progress start_state new_frame step act alu holds sign_extended reordered
+unfolding turn progress start_state new_call_frame step act alu holds sign_extended reordered
 whole_pointers = refl
 
 -- pieces 0 to 3 of a pointer and 4 to 7 of another: of another call frame, another offset, and
@@ -177,7 +177,7 @@ pub short_stores_of_a_pointer : map alone
     (insn.Store U32 (below R10 8) R10 ∷ insn.Store U16 (below R10 8) R10
     ∷ insn.Store U8 (below R10 8) R10 ∷ [])
     ≡ replicate 3 (Trap BadAccess 0)
-unfolding turn progress start_state new_frame step act alu holds sign_extended reordered
+unfolding turn progress start_state new_call_frame step act alu holds sign_extended reordered
 short_stores_of_a_pointer = refl
 
 -- ---- the packet
@@ -192,7 +192,7 @@ pub packet_loads : map on_three_bytes
     (insn.Load U8 R0 (above R2 0) ∷ insn.Load U8 R0 (above R2 2) ∷ insn.Load U16 R0 (above R2 1)
     ∷ insn.LoadSx S16 R0 (above R2 0) ∷ [])
     ≡ Exit 0x80 4 ∷ Exit 0xa0 4 ∷ Exit 0xa090 4 ∷ Exit 0xffffffffffff9080 4 ∷ []
-unfolding turn progress start_state new_frame step act alu holds sign_extended reordered
+unfolding turn progress start_state new_call_frame step act alu holds sign_extended reordered
 packet_loads = refl
 
 -- before the first byte, across the last, through the packet end, and a store of a pointer
@@ -201,13 +201,13 @@ pub packet_accesses_past_the_edges : map on_three_bytes
     ∷ insn.Load U8 R0 (below R3 1)
     ∷ insn.Store U32 (above R2 0) R10 ∷ insn.StoreConstant U32 (above R2 0) (pos 0) ∷ [])
     ≡ replicate 6 (Trap BadAccess 2)
-unfolding turn progress start_state new_frame step act alu holds sign_extended reordered
+unfolding turn progress start_state new_call_frame step act alu holds sign_extended reordered
 packet_accesses_past_the_edges = refl
 
 -- r2 = *(u32 *)(r1 + 0); i; r0 = 2; exit: the bytes that are left of eight zeros
 abbrev pub left_of_zeros : Insn → List ℕ
 left_of_zeros i =
-    (turn_on (insn.Load U32 R2 (above R1 0) ∷ i ∷ set R0 (pos 2) ∷ insn.Exit ∷ []) (head_by 0)
+    (turn_of_code (insn.Load U32 R2 (above R1 0) ∷ i ∷ set R0 (pos 2) ∷ insn.Exit ∷ []) (head_by 0)
     (zeros 8) 4).packet
 
 pub packet_stores : map left_of_zeros
@@ -215,12 +215,12 @@ pub packet_stores : map left_of_zeros
     ∷ insn.StoreConstant U32 (above R2 4) (pos 0x05060708)
     ∷ insn.StoreConstant U8 (above R2 7) (pos 0x1ff) ∷ [])
     ≡ (0 ∷ 8 ∷ 7 ∷ zeros 5) ∷ (zeros 4 ++ 8 ∷ 7 ∷ 6 ∷ 5 ∷ []) ∷ (zeros 7 ++ 0xff ∷ []) ∷ []
-unfolding turn progress start_state new_frame step act alu holds sign_extended reordered
+unfolding turn progress start_state new_call_frame step act alu holds sign_extended reordered
 packet_stores = refl
 
 -- a pointer does not go into the packet, and the packet stays as it was
 pub pointer_stored_in_the_packet : left_of_zeros (insn.Store U64 (above R2 0) R10) ≡ zeros 8
-unfolding turn progress start_state new_frame step act alu holds sign_extended reordered
+unfolding turn progress start_state new_call_frame step act alu holds sign_extended reordered
 pointer_stored_in_the_packet = refl
 
 -- ---- the context
@@ -230,13 +230,13 @@ head = record { time = 9; interface = 5; queue = 7 }
 
 -- i; exit
 abbrev pub on_the_context : Insn → End
-on_the_context i = (turn_on (i ∷ insn.Exit ∷ []) head (zeros 3) 2).ends
+on_the_context i = (turn_of_code (i ∷ insn.Exit ∷ []) head (zeros 3) 2).ends
 
 -- ingress_ifindex and rx_queue_index
 pub context_numbers : map on_the_context
     (insn.Load U32 R0 (above R1 12) ∷ insn.Load U32 R0 (above R1 16) ∷ [])
     ≡ Exit 5 2 ∷ Exit 7 2 ∷ []
-unfolding turn progress start_state new_frame step act alu holds sign_extended reordered
+unfolding turn progress start_state new_call_frame step act alu holds sign_extended reordered
 context_numbers = refl
 
 -- other offsets, other sizes, sign-extending and atomic instructions, and stores
@@ -247,7 +247,7 @@ pub other_context_accesses : map on_the_context (
     ∷ insn.StoreConstant U32 (above R1 12) (pos 0) ∷ insn.Store U64 (above R1 0) R10
     ∷ [])
     ≡ replicate 11 (Trap BadAccess 0)
-unfolding turn progress start_state new_frame step act alu holds sign_extended reordered
+unfolding turn progress start_state new_call_frame step act alu holds sign_extended reordered
 other_context_accesses = refl
 
 -- r0 = 1; i; exit
@@ -255,7 +255,7 @@ pub atomic_context_accesses : map (λ i. end_on (set R0 (pos 1) ∷ i ∷ insn.E
     (insn.Atomic Low32 atomic.Add false (above R1 12) R0 ∷ insn.Exchange Low32 (above R1 12) R0
     ∷ [])
     ≡ replicate 2 (Trap BadAccess 1)
-unfolding turn progress start_state new_frame step act alu holds sign_extended reordered
+unfolding turn progress start_state new_call_frame step act alu holds sign_extended reordered
 atomic_context_accesses = refl
 
 -- r2 = *(u32 *)(r1 + 0); r3 = *(u32 *)(r1 + 4); r2 += k; if r2 > r3 goto +2; r0 = 2; exit; r0 = 1;
@@ -268,7 +268,7 @@ longer_than k =
 
 -- the end lies after the packet's three bytes
 pub data_and_data_end : map longer_than (pos 3 ∷ pos 4 ∷ []) ≡ Exit 2 6 ∷ Exit 1 6 ∷ []
-unfolding turn progress start_state new_frame step act alu holds sign_extended reordered
+unfolding turn progress start_state new_call_frame step act alu holds sign_extended reordered
 data_and_data_end = refl
 
 -- ---- numbers are no places
@@ -279,7 +279,7 @@ pub accesses_through_a_number : map (λ i. end_on (set R0 (pos 0) ∷ i ∷ insn
     ∷ insn.StoreConstant U8 (above R0 0) (pos 1) ∷ insn.Store U64 (above R0 0) R10
     ∷ insn.Atomic Full64 atomic.Add false (above R0 0) R0 ∷ [])
     ≡ replicate 5 (Trap BadAccess 1)
-unfolding turn progress start_state new_frame step act alu holds sign_extended reordered
+unfolding turn progress start_state new_call_frame step act alu holds sign_extended reordered
 accesses_through_a_number = refl
 
 -- ---- map values
@@ -299,7 +299,7 @@ pub value_loads : load state U8 (value 0 1 (pos 1)) (pos 0)
     ∷ load state U16 (value 0 0 (pos 4)) (negsuc 3) ∷ load state U8 (value 1 2 (pos 0)) (pos 0)
     ∷ load_signed state S16 (value 0 0 (pos 0)) (pos 0) ∷ []
     ≡ Ok (Num 9) ∷ Ok (Num 0xe0f0) ∷ Ok (Num 5) ∷ Ok (Num 0xffffffffffffe0f0) ∷ []
-unfolding start_state new_frame sign_extended
+unfolding start_state new_call_frame sign_extended
 value_loads = refl
 
 -- before a value, past its end, of a serial that is gone or another map's, and of a map itself
@@ -309,7 +309,7 @@ pub other_value_loads : load state U8 (value 0 1 (pos 0)) (negsuc 0)
     ∷ load state U8 (value 2 0 (pos 0)) (pos 0)
     ∷ load state U8 (Ptr (region.Map 0) (pos 0)) (pos 0) ∷ []
     ≡ replicate 7 (Err BadAccess)
-unfolding start_state new_frame
+unfolding start_state new_call_frame
 other_value_loads = refl
 
 -- the maps' contents after a store, where there is one
@@ -320,13 +320,13 @@ contents_then (Err e) = Err e
 pub value_store : contents_then (store state U8 (value 0 1 (pos 0)) (pos 1) (Num 0x1ff))
     ≡ Ok (((1 ∷ [], 0xf0 ∷ 0xe0 ∷ []) ∷ (2 ∷ [], 7 ∷ 0xff ∷ []) ∷ []) ∷ ((3 ∷ [], 5 ∷ []) ∷ [])
     ∷ [])
-unfolding start_state new_frame
+unfolding start_state new_call_frame
 value_store = refl
 
 pub value_store_in_the_second_map : contents_then
     (store state U8 (value 1 2 (pos 0)) (pos 0) (Num 6))
     ≡ Ok (((1 ∷ [], 0xf0 ∷ 0xe0 ∷ []) ∷ (2 ∷ [], 7 ∷ 9 ∷ []) ∷ []) ∷ ((3 ∷ [], 6 ∷ []) ∷ []) ∷ [])
-unfolding start_state new_frame
+unfolding start_state new_call_frame
 value_store_in_the_second_map = refl
 
 -- past the end, of a serial that is gone, and a pointer
@@ -334,12 +334,12 @@ pub other_value_stores : contents_then (store state U16 (value 0 1 (pos 1)) (pos
     ∷ contents_then (store state U8 (value 0 3 (pos 0)) (pos 0) (Num 1))
     ∷ contents_then (store state U64 (value 0 1 (pos 0)) (pos 0) (value 0 1 (pos 0))) ∷ []
     ≡ replicate 3 (Err BadAccess)
-unfolding start_state new_frame
+unfolding start_state new_call_frame
 other_value_stores = refl
 
 -- a value that is 8 bytes long takes no pointer either
 pub pointer_stored_in_a_value : contents_then
     (store (start_state head [] (((1 ∷ [], zeros 8) ∷ []) ∷ [])) U64 (value 0 0 (pos 0)) (pos 0)
     (value 0 0 (pos 0))) ≡ Err BadAccess
-unfolding start_state new_frame
+unfolding start_state new_call_frame
 pointer_stored_in_a_value = refl

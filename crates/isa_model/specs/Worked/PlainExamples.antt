@@ -41,8 +41,8 @@ modulo_by_zero_is_plain = record {
 -- ---- two paths that meet
 
 -- if w2 != 7 goto +3
-abbrev pub other_way : Insn
-other_way =
+abbrev pub other_path : Insn
+other_path =
     insn.JumpIf (record {
       width = Low32;
       comparison = NotEqual;
@@ -53,25 +53,26 @@ other_way =
 
 -- r2 = 7; if w2 != 7 goto +3; r0 = 0x100000002 ll; gotol +1; r0 = 2; if r0 > 9 goto +1; r0 = 3;
 -- exit
-abbrev pub two_ways : Program
-two_ways = record {
+abbrev pub two_paths : Program
+two_paths = record {
   insns =
-      slots (set R2 (pos 7) ∷ other_way ∷ insn.LoadNumber R0 0x100000002 ∷ insn.JumpLong (pos 1)
+      slots (set R2 (pos 7) ∷ other_path ∷ insn.LoadNumber R0 0x100000002 ∷ insn.JumpLong (pos 1)
       ∷ set R0 (pos 2) ∷ if_constant Greater R0 (pos 9) (pos 1) ∷ set R0 (pos 3) ∷ insn.Exit ∷ []);
   maps = [];
   version = One;
 }
 
 -- the paths part at slot 1 and meet at slot 6
-pub two_ways_is_plain : IsPlain two_ways
-two_ways_is_plain = record {
+pub two_paths_is_plain : IsPlain two_paths
+two_paths_is_plain = record {
   forms =
-      of_each two_ways (λ slot i. IsPlainForm i) (tt, (tt, (tt, (tt, (tt, (tt, (tt, (tt, tt))))))));
-  whole = IsWhole-tested two_ways (0 ∷ 0 ∷ 1 ∷ 0 ∷ 2 ∷ 1 ∷ 4 ∷ 6 ∷ 6 ∷ []) refl refl;
-  forward = record { forward = ahead two_ways refl; few = omega arith };
-  own = never_written two_ways refl;
+      of_each two_paths (λ slot i. IsPlainForm i)
+      (tt, (tt, (tt, (tt, (tt, (tt, (tt, (tt, tt))))))));
+  whole = IsWhole-tested two_paths (0 ∷ 0 ∷ 1 ∷ 0 ∷ 2 ∷ 1 ∷ 4 ∷ 6 ∷ 6 ∷ []) refl refl;
+  forward = record { forward = ahead two_paths refl; few = omega arith };
+  own = never_written two_paths refl;
   written =
-      AreWritten-tested two_ways []
+      AreWritten-tested two_paths []
       ([] ∷ (R2 ∷ []) ∷ [] ∷ [] ∷ (R0 ∷ []) ∷ [] ∷ (R0 ∷ []) ∷ (R0 ∷ []) ∷ (R0 ∷ []) ∷ []) refl refl
       refl;
 }

@@ -17,7 +17,7 @@ use Rattle.isa_model.specs.declared.values.Value.TheVariants.{Num, Ptr}
 use Rattle.isa_model.specs.declared.ends.End.TheVariants.{Trap}
 use Rattle.isa_model.specs.declared.ends.TrapReason.TheVariants.{BadPointer, OutOfRange, BadCompare}
 use Rattle.isa_model.specs.Code.Numbers.{alu, holds, sign_extended, reordered}
-use Rattle.isa_model.specs.Machine.States.{new_frame}
+use Rattle.isa_model.specs.Machine.States.{new_call_frame}
 use Rattle.isa_model.specs.Machine.Steps.{act, step}
 use Rattle.isa_model.specs.Running.Runs.{start_state, progress, turn}
 use Rattle.isa_model.specs.Machine.Pointers.{arithmetic, compared, compared_constant}
@@ -74,11 +74,11 @@ pub undefined_sums : arithmetic Sub Full64 (Num 8) (packet (pos 4))
 undefined_sums = refl
 
 -- no other operation is defined on a pointer, on either side
-abbrev pub numbers_alone : List AluOp
-numbers_alone = Mul ∷ Div ∷ SignedDiv ∷ Or ∷ And ∷ Lsh ∷ Rsh ∷ Mod ∷ SignedMod ∷ Xor ∷ Arsh ∷ []
+abbrev pub numbers_only : List AluOp
+numbers_only = Mul ∷ Div ∷ SignedDiv ∷ Or ∷ And ∷ Lsh ∷ Rsh ∷ Mod ∷ SignedMod ∷ Xor ∷ Arsh ∷ []
 
-pub other_operations : map (λ op. arithmetic op Full64 (packet (pos 0)) (Num 1)) numbers_alone
-    ++ map (λ op. arithmetic op Full64 (Num 1) (packet (pos 0))) numbers_alone
+pub other_operations : map (λ op. arithmetic op Full64 (packet (pos 0)) (Num 1)) numbers_only
+    ++ map (λ op. arithmetic op Full64 (Num 1) (packet (pos 0))) numbers_only
     ≡ replicate 22 (Err BadPointer)
 other_operations = refl
 
@@ -95,7 +95,7 @@ copies_at_32_bits = refl
 pub operations_on_one_operand : map (λ i. end_on (copy R0 R10 ∷ i ∷ insn.Exit ∷ []) [] 100)
     (insn.Neg Full64 R0 ∷ insn.MovSx Full32 R0 R0 ∷ insn.ByteSwap Swap B64 R0 ∷ [])
     ≡ replicate 3 (Trap BadPointer 1)
-unfolding turn progress start_state new_frame step act alu holds sign_extended reordered
+unfolding turn progress start_state new_call_frame step act alu holds sign_extended reordered
 operations_on_one_operand = refl
 
 -- ---- the limit of offsets, 2^29 both ways

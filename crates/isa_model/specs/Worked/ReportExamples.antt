@@ -10,13 +10,13 @@ use Rattle.isa_model.specs.declared.map_defs.MapType.TheVariants.{Hash, Array}
 use Rattle.isa_model.specs.declared.map_defs.MapDef.{MapDef}
 use Rattle.isa_model.specs.declared.frames.Action.TheVariants as action
 use Rattle.isa_model.specs.declared.ends.End.TheVariants.{Exit, Trap, Limit}
-use Rattle.isa_model.specs.declared.ends.TrapReason.TheVariants.{NoCode, UnsetRead, ReadOnly, BadPointer, OutOfRange, BadAccess, BadCompare, BadHelper, TooManyFrames, NoResult, BadAction}
+use Rattle.isa_model.specs.declared.ends.TrapReason.TheVariants.{NoCode, UnsetRead, ReadOnly, BadPointer, OutOfRange, BadAccess, BadCompare, BadHelper, TooManyCallFrames, NoResult, BadAction}
 use Rattle.isa_model.specs.declared.streams.Fault.TheVariants.{BadMagic, TruncatedHead, TooLong, TruncatedBody, ReadFailed, TooManyRecords}
 use Rattle.isa_model.specs.declared.streams.Finish.TheVariants as finish
 use Rattle.isa_model.specs.Code.Numbers.{alu}
 use Rattle.isa_model.specs.Reporting.Frames.{action_of}
 use Rattle.isa_model.specs.Code.Instructions.{Program, slots}
-use Rattle.isa_model.specs.Machine.States.{new_frame}
+use Rattle.isa_model.specs.Machine.States.{new_call_frame}
 use Rattle.isa_model.specs.Machine.Steps.{act, step}
 use Rattle.isa_model.specs.Running.Runs.{start_state, progress, turn}
 use Rattle.isa_model.specs.Code.Versions.{stream_magic}
@@ -47,37 +47,37 @@ abbrev pub one_empty_record : List ℕ
 one_empty_record = stream_magic One ++ zeros 20
 
 pub passes_an_empty_frame : report_on passes one_empty_record ≡ codes "0 PASS 0 2\nend 1\n"
-unfolding frames_from opened stop_at turn progress start_state new_frame step act alu frame_pieces
-    frame_line last_line digits
+unfolding frames_from opened stop_at turn progress start_state new_call_frame step act alu
+    frame_pieces frame_line last_line digits
 passes_an_empty_frame = refl
 
 pub passed_frame_is_written_out : out_on passes one_empty_record ≡ one_empty_record
-unfolding frames_from opened stop_at turn progress start_state new_frame step act alu frame_pieces
-    frame_line last_line head_bytes digits
+unfolding frames_from opened stop_at turn progress start_state new_call_frame step act alu
+    frame_pieces frame_line last_line head_bytes digits
 passed_frame_is_written_out = refl
 
 pub too_long_a_body : report_on passes (one_empty_record ++ head_of 4097)
     ≡ codes "0 PASS 0 2\nfault F3 at 24\n"
-unfolding frames_from opened stop_at turn progress start_state new_frame step act alu frame_pieces
-    frame_line last_line digits
+unfolding frames_from opened stop_at turn progress start_state new_call_frame step act alu
+    frame_pieces frame_line last_line digits
 too_long_a_body = refl
 
 pub body_cut_off : report_on passes (one_empty_record ++ head_of 10 ++ zeros 9)
     ≡ codes "0 PASS 0 2\nfault F4 at 24\n"
-unfolding frames_from opened stop_at turn progress start_state new_frame step act alu frame_pieces
-    frame_line last_line digits
+unfolding frames_from opened stop_at turn progress start_state new_call_frame step act alu
+    frame_pieces frame_line last_line digits
 body_cut_off = refl
 
 pub head_cut_off : report_on passes (one_empty_record ++ zeros 5)
     ≡ codes "0 PASS 0 2\nfault F2 at 24\n"
-unfolding frames_from opened stop_at turn progress start_state new_frame step act alu frame_pieces
-    frame_line last_line digits
+unfolding frames_from opened stop_at turn progress start_state new_call_frame step act alu
+    frame_pieces frame_line last_line digits
 head_cut_off = refl
 
 pub longest_body : report_on passes (one_empty_record ++ head_of 4096 ++ zeros 4096)
     ≡ codes "0 PASS 0 2\n1 PASS 4096 2\nend 2\n"
-unfolding frames_from opened stop_at turn progress start_state new_frame step act alu frame_pieces
-    frame_line last_line digits
+unfolding frames_from opened stop_at turn progress start_state new_call_frame step act alu
+    frame_pieces frame_line last_line digits
 longest_body = refl
 
 pub empty_stream : report_on passes [] ≡ codes "fault F1 at 0\n"
@@ -92,15 +92,15 @@ empty_stream_out = refl
 pub trap_line : report_on
     (record { insns = slots (copy R0 R2 ∷ insn.Exit ∷ []); maps = []; version = One })
     one_empty_record ≡ codes "0 TRAP unset 0 0\nend 1\n"
-unfolding frames_from opened stop_at turn progress start_state new_frame step act alu frame_pieces
-    frame_line last_line digits
+unfolding frames_from opened stop_at turn progress start_state new_call_frame step act alu
+    frame_pieces frame_line last_line digits
 trap_line = refl
 
 pub trapped_frame_is_not_written_out : out_on
     (record { insns = slots (copy R0 R2 ∷ insn.Exit ∷ []); maps = []; version = One })
     one_empty_record ≡ codes "XPF1"
-unfolding frames_from opened stop_at turn progress start_state new_frame step act alu frame_pieces
-    frame_line last_line digits
+unfolding frames_from opened stop_at turn progress start_state new_call_frame step act alu
+    frame_pieces frame_line last_line digits
 trapped_frame_is_not_written_out = refl
 
 -- goto +0; goto -1
@@ -110,8 +110,8 @@ pub limit_line : report_on
       maps = [];
       version = One;
     }) one_empty_record ≡ codes "0 LIMIT 0 100\nend 1\n"
-unfolding frames_from opened stop_at turn progress start_state new_frame step act alu frame_pieces
-    frame_line last_line digits
+unfolding frames_from opened stop_at turn progress start_state new_call_frame step act alu
+    frame_pieces frame_line last_line digits
 limit_line = refl
 
 -- ---- actions and lines
@@ -120,7 +120,7 @@ limit_line = refl
 abbrev report_form : ℕ → ReportForm
 report_form limit = record { limit = limit; program = One; stream = One }
 
--- 0 to 5, and results whose low 32 bits are 2, 4 and 2^32 - 1
+-- 0 to 5, and answers whose low 32 bits are 2, 4 and 2^32 - 1
 pub actions : map action_of (0 ∷ 1 ∷ 2 ∷ 3 ∷ 4 ∷ 5 ∷ 0x700000002 ∷ 0x100000004 ∷ 0xffffffff ∷ [])
     ≡ action.Aborted ∷ action.Drop ∷ action.Pass ∷ action.Tx ∷ action.Redirect ∷ action.Invalid
     ∷ action.Pass ∷ action.Redirect ∷ action.Invalid ∷ []
@@ -134,9 +134,9 @@ pub lines_of_actions : map (λ n. frame_line (report_form 100) 12 (Exit n 7) 60)
 unfolding frame_line digits
 lines_of_actions = refl
 
-pub lines_of_traps : map (λ reason. frame_line (report_form 100) 12 (Trap reason 7) 60)
+pub lines_of_traps : map (λ trap_reason. frame_line (report_form 100) 12 (Trap trap_reason 7) 60)
     (NoCode ∷ UnsetRead ∷ ReadOnly ∷ BadPointer ∷ OutOfRange ∷ BadAccess ∷ BadCompare ∷ BadHelper
-    ∷ TooManyFrames ∷ NoResult ∷ BadAction ∷ [])
+    ∷ TooManyCallFrames ∷ NoResult ∷ BadAction ∷ [])
     ≡ codes "12 TRAP code 60 7\n" ∷ codes "12 TRAP unset 60 7\n" ∷ codes "12 TRAP readonly 60 7\n"
     ∷ codes "12 TRAP pointer 60 7\n" ∷ codes "12 TRAP range 60 7\n"
     ∷ codes "12 TRAP access 60 7\n" ∷ codes "12 TRAP compare 60 7\n" ∷ codes "12 TRAP helper 60 7\n"
@@ -192,8 +192,8 @@ pub frames_out_as_they_are_left : report_on writes_and_sends_back three_records
     ∷ out_on writes_and_sends_back three_records ∷ []
     ≡ codes "0 TX 2 4\n1 TRAP access 1 1\n2 TX 3 4\nend 3\n"
     ∷ (stream_magic One ++ record_of (8 ∷ 7 ∷ []) ++ record_of (5 ∷ 7 ∷ 5 ∷ [])) ∷ []
-unfolding frames_from opened stop_at turn progress start_state new_frame step act alu frame_pieces
-    frame_line last_line head_bytes digits
+unfolding frames_from opened stop_at turn progress start_state new_call_frame step act alu
+    frame_pieces frame_line last_line head_bytes digits
 frames_out_as_they_are_left = refl
 
 -- ---- maps
@@ -264,8 +264,8 @@ pub reason_goes_out : report_on (answers Two 0x700000001)
     (stream_magic Two ++ head_with_reason 3 0 ++ 170 ∷ 187 ∷ 204 ∷ []) ∷ []
     ≡ codes "0 DROP 3 2 7\nend 1\n"
     ∷ (stream_magic Two ++ head_with_reason 3 7 ++ 170 ∷ 187 ∷ 204 ∷ []) ∷ []
-unfolding frames_from opened stop_at turn progress start_state new_frame step act alu frame_pieces
-    frame_line last_line head_bytes digits
+unfolding frames_from opened stop_at turn progress start_state new_call_frame step act alu
+    frame_pieces frame_line last_line head_bytes digits
 reason_goes_out = refl
 
 -- on a stream without reasons it is not written
@@ -273,8 +273,8 @@ pub no_reason_goes_out : report_on (answers Two 0x700000001)
     (stream_magic One ++ head_of 3 ++ 170 ∷ 187 ∷ 204 ∷ [])
     ∷ out_on (answers Two 0x700000001) (stream_magic One ++ head_of 3 ++ 170 ∷ 187 ∷ 204 ∷ []) ∷ []
     ≡ codes "0 DROP 3 2\nend 1\n" ∷ codes "XPF1" ∷ []
-unfolding frames_from opened stop_at turn progress start_state new_frame step act alu frame_pieces
-    frame_line last_line head_bytes digits
+unfolding frames_from opened stop_at turn progress start_state new_call_frame step act alu
+    frame_pieces frame_line last_line head_bytes digits
 no_reason_goes_out = refl
 
 -- a frame that has a reason is not run, and is written out as it was read
@@ -284,8 +284,8 @@ pub frame_with_a_reason_is_skipped : report_on (answers One 0x700000001)
     (stream_magic Two ++ head_with_reason 0 0 ++ head_with_reason 2 5 ++ 1 ∷ 2 ∷ []) ∷ []
     ≡ codes "0 DROP 0 2 1\n1 SKIP 2 0 5\nend 2\n"
     ∷ (stream_magic Two ++ head_with_reason 0 1 ++ head_with_reason 2 5 ++ 1 ∷ 2 ∷ []) ∷ []
-unfolding frames_from opened stop_at turn progress start_state new_frame step act alu frame_pieces
-    frame_line skip_pieces skip_line last_line head_bytes digits
+unfolding frames_from opened stop_at turn progress start_state new_call_frame step act alu
+    frame_pieces frame_line skip_pieces skip_line last_line head_bytes digits
 frame_with_a_reason_is_skipped = refl
 
 -- a program of version 2 has to return an action; one of version 1 may return any number
@@ -293,15 +293,15 @@ pub action_over_4 : map
     (λ version. report_on (answers version 6) (stream_magic Two ++ head_with_reason 0 0))
     (One ∷ Two ∷ [])
     ≡ codes "0 INVALID 0 2 1\nend 1\n" ∷ codes "0 TRAP action 0 1\nend 1\n" ∷ []
-unfolding frames_from opened stop_at turn progress start_state new_frame step act alu frame_pieces
-    frame_line last_line digits
+unfolding frames_from opened stop_at turn progress start_state new_call_frame step act alu
+    frame_pieces frame_line last_line digits
 action_over_4 = refl
 
 -- a trapped frame is not written out
 pub trapped_frame_has_no_record : out_on (answers Two 6) (stream_magic Two ++ head_with_reason 0 0)
     ≡ codes "XPF2"
-unfolding frames_from opened stop_at turn progress start_state new_frame step act alu frame_pieces
-    frame_line last_line digits
+unfolding frames_from opened stop_at turn progress start_state new_call_frame step act alu
+    frame_pieces frame_line last_line digits
 trapped_frame_has_no_record = refl
 
 -- the reason is 0 for PASS and TX; else it is the upper half of the number that the program

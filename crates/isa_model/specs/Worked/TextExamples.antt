@@ -185,7 +185,7 @@ pub program : canonical_text (two_loaded One) ≡ codes "map array 4 16 1\nr0 = 
 unfolding canonical_text row_line line_of digits
 program = refl
 
--- a program of version 2 begins with it
+-- the text of a program of version 2 begins with the line of its version
 pub program_of_version_2 : canonical_text (two_loaded Two)
     ≡ codes "version 2\nmap array 4 16 1\nr0 = 0x2 ll\nexit\n"
 unfolding canonical_text row_line line_of digits

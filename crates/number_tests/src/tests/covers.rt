@@ -114,9 +114,9 @@ const POINTER_IN_5: Sample = Sample::Outer(3, &[Put::Spill(5, Held::Context)]);
 
 const SEVEN_IN_5: Sample = Sample::Outer(3, &[Put::Spill(5, Held::Number(7))]);
 
-const HALF: Sample = Sample::Outer(3, &[Put::Written(63, 0x0f)]);
+const HALF_WRITTEN: Sample = Sample::Outer(3, &[Put::Written(63, 0x0f)]);
 
-const WHOLE: Sample = Sample::Outer(3, &[Put::Written(63, 0xff)]);
+const ALL_WRITTEN: Sample = Sample::Outer(3, &[Put::Written(63, 0xff)]);
 
 const SEVEN_IN_63: Sample = Sample::Outer(3, &[Put::Spill(63, Held::Number(7))]);
 
@@ -174,14 +174,14 @@ const STACKS: &[Row] = &[
     (POINTER_IN_5, SEVEN_IN_5, false),
     (SEVEN_IN_5, POINTER_IN_5, false),
     // Written bytes cover a number.
-    (NOTHING, HALF, true),
-    (HALF, NOTHING, false),
-    (HALF, WHOLE, true),
-    (WHOLE, HALF, false),
-    (WHOLE, SEVEN_IN_63, true),
-    (SEVEN_IN_63, WHOLE, false),
+    (NOTHING, HALF_WRITTEN, true),
+    (HALF_WRITTEN, NOTHING, false),
+    (HALF_WRITTEN, ALL_WRITTEN, true),
+    (ALL_WRITTEN, HALF_WRITTEN, false),
+    (ALL_WRITTEN, SEVEN_IN_63, true),
+    (SEVEN_IN_63, ALL_WRITTEN, false),
     (SEVEN_IN_63, EIGHT_IN_63, false),
-    (WHOLE, POINTER_IN_63, false),
+    (ALL_WRITTEN, POINTER_IN_63, false),
     // Identities are the same in all stack slots.
     (ONE_IN_SLOTS, SAME_IN_SLOTS, true),
     (ONE_IN_SLOTS, TWO_IN_SLOTS, false),

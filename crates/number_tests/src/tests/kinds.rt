@@ -54,7 +54,7 @@ const LOOKED_UP: Kind = Kind::MapValueOrNull {
 
 const UNTESTED: Held = Held::Is(LOOKED_UP);
 
-const LIVE: Held = Held::Is(Kind::MapValue {
+const MAP_VALUE: Held = Held::Is(Kind::MapValue {
     index: 0,
     least: 0,
     greatest: 8,
@@ -72,9 +72,9 @@ const COVERED: [(Held, Held, u32, bool); 11] = [
     (PROVED_10, PROVED_14, OWN, true),
     (PROVED_14, PROVED_14, OWN, true),
     (PROVED_14, PROVED_14, OWN + 1, false),
-    // A map value does not cover a map value or null.
-    (LIVE, UNTESTED, OWN, false),
-    (LIVE, LIVE, OWN, true),
+    // A pointer to a map value does not cover one that may be null.
+    (MAP_VALUE, UNTESTED, OWN, false),
+    (MAP_VALUE, MAP_VALUE, OWN, true),
     (UNTESTED, UNTESTED, OWN, true),
 ];
 

@@ -17,7 +17,7 @@ enum Set {
     One(u64),
     /// By its least and its greatest number.
     Between(u64, u64),
-    /// The same as signed numbers.
+    /// By its least and its greatest number as signed ones.
     Signed(i64, i64),
     /// Numbers of 32 bits, by their least and greatest as signed ones of 32 bits.
     Signed32(i32, i32),
@@ -334,18 +334,18 @@ const RELATIONS: &[(Relation, Set, Set, Option<(Set, Set)>)] = &[
     (Relation::SignedAtMost, BYTE, MINUS_ONE, None),
     (Relation::SignedAtMost, TEN, TEN, Some((TEN, TEN))),
     (
-        Relation::Apart,
+        Relation::Unequal,
         BYTE,
         ZERO,
         Some((Set::Between(1, 255), ZERO)),
     ),
     (
-        Relation::Apart,
+        Relation::Unequal,
         Set::Signed(-2, 5),
         MINUS_TWO,
         Some((Set::Signed(-1, 5), MINUS_TWO)),
     ),
-    (Relation::Apart, TEN, TEN, None),
+    (Relation::Unequal, TEN, TEN, None),
     (
         Relation::Overlapping,
         BYTE,
@@ -358,7 +358,7 @@ const RELATIONS: &[(Relation, Set, Set, Option<(Set, Set)>)] = &[
     (Relation::AtMost, BIT, ZERO, Some((ZERO, ZERO))),
     (Relation::SignedBelow, BIT, ONE, Some((ZERO, ONE))),
     (Relation::SignedAtMost, BIT, ZERO, Some((ZERO, ZERO))),
-    (Relation::Apart, BIT, ZERO, Some((ONE, ZERO))),
+    (Relation::Unequal, BIT, ZERO, Some((ONE, ZERO))),
     (Relation::Overlapping, BIT, ONE, Some((ONE, ONE))),
     (
         Relation::AtMost,
@@ -383,7 +383,7 @@ fn related(relation: &Relation, width: Width, a: Range, b: Range) -> Option<(Ran
         Relation::AtMost => Domain::at_most(a, width, b),
         Relation::SignedBelow => Domain::signed_below(a, width, b),
         Relation::SignedAtMost => Domain::signed_at_most(a, width, b),
-        Relation::Apart => Domain::apart(a, width, b),
+        Relation::Unequal => Domain::unequal(a, width, b),
         Relation::Disjoint => Domain::disjoint(a, width, b),
         Relation::Overlapping => Domain::overlapping(a, width, b),
     }

@@ -1,7 +1,7 @@
 //! How tight limits of low halves are, for numbers whose upper halves are not known: examples
 //! worked out by hand.
 
-use super::chains::{Change, Look, Row, Set, are_seen, refined, set_of};
+use super::changes::{Change, Look, Row, Set, are_seen, refined, set_of};
 use super::operations::Unary;
 use isa_model::{AluOp, ByteOrder, Comparison, Extension, SwapWidth, Width};
 use reg_state::Scalar;

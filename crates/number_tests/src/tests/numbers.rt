@@ -1,4 +1,5 @@
-//! Vectors at the ends of the ranges, worked out from the rules of RFC 9669, sections 4.1 to 4.3.
+//! Results at the least and the greatest numbers, worked out from the rules of RFC 9669, sections
+//! 4.1 to 4.3.
 
 use super::operations::Unary;
 use isa_model::numbers::{compare, compute, negate, reorder, sign_extend};
@@ -201,8 +202,8 @@ fn computed(op: AluOp, a: u64, b: u64) -> (u64, u64) {
 
 #[test]
 fn arithmetic_at_the_ends(rt: HostRuntime) -> Result<(), Fail> {
-    for (op, a, b, wide, narrow) in ARITHMETIC.iter() {
-        assert_eq!(rt; computed(*op, *a, *b), (*wide, *narrow), "{op:?} of {a:x}");
+    for (op, a, b, full, low) in ARITHMETIC.iter() {
+        assert_eq!(rt; computed(*op, *a, *b), (*full, *low), "{op:?} of {a:x}");
     }
     Ok(())
 }
@@ -216,9 +217,9 @@ fn compared(comparison: Comparison, a: u64, b: u64) -> (bool, bool) {
 
 #[test]
 fn comparisons_at_the_ends(rt: HostRuntime) -> Result<(), Fail> {
-    for (comparison, a, b, wide, narrow) in COMPARISONS.iter() {
+    for (comparison, a, b, full, low) in COMPARISONS.iter() {
         let found = compared(*comparison, *a, *b);
-        assert_eq!(rt; found, (*wide, *narrow), "{comparison:?} of {a:x}");
+        assert_eq!(rt; found, (*full, *low), "{comparison:?} of {a:x}");
     }
     Ok(())
 }

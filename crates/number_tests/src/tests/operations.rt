@@ -16,7 +16,7 @@ pub enum Relation {
     AtMost,
     SignedBelow,
     SignedAtMost,
-    Apart,
+    Unequal,
     Disjoint,
     Overlapping,
 }

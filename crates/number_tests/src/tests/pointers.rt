@@ -46,7 +46,7 @@ fn packet(fixed: i32, identity: u32, proved: u32) -> Kind {
     }
 }
 
-const VALUE: Kind = Kind::MapValue {
+const MAP_VALUE: Kind = Kind::MapValue {
     index: 2,
     least: 0,
     greatest: 0,
@@ -108,11 +108,11 @@ fn condition(comparison: Comparison, width: Width, register: Reg, operand: Opera
     }
 }
 
-/// The copies that are left, if there are members that go this way.
-fn left_of(cond: Cond, taken: bool, state: &State) -> Option<[Kind; 4]> {
+/// The copies after a comparison, if there are members for which it has this result.
+fn copies_after(cond: Cond, taken: bool, state: &State) -> Option<[Kind; 4]> {
     match refine(cond, taken, state) {
         Branch::Never => None,
-        Branch::Goes(left) => Some(copies_in(&left)),
+        Branch::Goes(state) => Some(copies_in(&state)),
     }
 }
 
@@ -120,9 +120,9 @@ fn left_of(cond: Cond, taken: bool, state: &State) -> Option<[Kind; 4]> {
 enum Held {
     /// A packet pointer: its fixed part, its identity and how many bytes are proved.
     Packet(i32, u32, u32),
-    /// A map value or null, by its identity.
+    /// A pointer to a map value, or null, by its identity.
     LookedUp(u32),
-    Value,
+    MapValue,
     Zero,
 }
 
@@ -133,7 +133,7 @@ fn kind_of(held: &Held) -> Kind {
             index: 2,
             identity: *identity,
         },
-        Held::Value => VALUE,
+        Held::MapValue => MAP_VALUE,
         Held::Zero => Kind::Number(Scalar::constant(0)),
     }
 }
@@ -152,7 +152,7 @@ fn packet_test(test: Test, fixed: i32, copies: &[Held; 4]) -> Option<[Kind; 4]> 
     let register = if end_first { Reg::R3 } else { Reg::R2 };
     let operand = Operand::Register(if end_first { Reg::R2 } else { Reg::R3 });
     let state = in_call(packet(fixed, 3, 0), Kind::PacketEnd, kinds_of(copies));
-    left_of(
+    copies_after(
         condition(comparison, FULL, register, operand),
         taken,
         &state,
@@ -188,12 +188,13 @@ const IS_BEFORE: Test = (Comparison::Less, false, true);
 
 const AT_OR_BEFORE: Test = (Comparison::LessEqual, false, true);
 
-/// A pointer with more proved bytes; one of another identity; one of none; no packet pointer.
+/// A pointer with more proved bytes; one of another identity; one without identity; and no packet
+/// pointer.
 const OTHERS: [Held; 4] = [
     Held::Packet(0, 3, 40),
     Held::Packet(14, 4, 2),
     Held::Packet(14, 0, 0),
-    Held::Value,
+    Held::MapValue,
 ];
 
 const NONE: Held = Held::Packet(0, 3, 0);
@@ -251,17 +252,22 @@ const UNTESTED: [Held; 4] = [
 
 const NULL: [Held; 4] = [Held::Zero, Held::Zero, Held::Zero, Held::LookedUp(6)];
 
-const LIVE: [Held; 4] = [Held::Value, Held::Value, Held::Value, Held::LookedUp(6)];
+const NOT_NULL: [Held; 4] = [
+    Held::MapValue,
+    Held::MapValue,
+    Held::MapValue,
+    Held::LookedUp(6),
+];
 
-const SOME_LIVE: [Held; 4] = [
-    Held::Value,
+const SOME_NOT_NULL: [Held; 4] = [
+    Held::MapValue,
     Held::LookedUp(5),
     Held::LookedUp(5),
-    Held::Value,
+    Held::MapValue,
 ];
 
 /// What r2 holds, the copies, a comparison of r2 with 0 and whether it holds, and the copies after
-/// it. Null tests decide every copy; live values are not null.
+/// it. Null tests decide every copy; a pointer to a map value is not null.
 const NULL_TESTS: [(Held, [Held; 4], Comparison, bool, Option<[Held; 4]>); 8] = [
     (
         Held::LookedUp(5),
@@ -275,14 +281,14 @@ const NULL_TESTS: [(Held, [Held; 4], Comparison, bool, Option<[Held; 4]>); 8] = 
         UNTESTED,
         Comparison::Equal,
         false,
-        Some(LIVE),
+        Some(NOT_NULL),
     ),
     (
         Held::LookedUp(5),
         UNTESTED,
         Comparison::NotEqual,
         true,
-        Some(LIVE),
+        Some(NOT_NULL),
     ),
     (
         Held::LookedUp(5),
@@ -291,22 +297,28 @@ const NULL_TESTS: [(Held, [Held; 4], Comparison, bool, Option<[Held; 4]>); 8] = 
         false,
         Some(NULL),
     ),
-    (Held::Value, SOME_LIVE, Comparison::Equal, true, None),
+    (Held::MapValue, SOME_NOT_NULL, Comparison::Equal, true, None),
     (
-        Held::Value,
-        SOME_LIVE,
+        Held::MapValue,
+        SOME_NOT_NULL,
         Comparison::Equal,
         false,
-        Some(SOME_LIVE),
+        Some(SOME_NOT_NULL),
     ),
     (
-        Held::Value,
-        SOME_LIVE,
+        Held::MapValue,
+        SOME_NOT_NULL,
         Comparison::NotEqual,
         true,
-        Some(SOME_LIVE),
+        Some(SOME_NOT_NULL),
     ),
-    (Held::Value, SOME_LIVE, Comparison::NotEqual, false, None),
+    (
+        Held::MapValue,
+        SOME_NOT_NULL,
+        Comparison::NotEqual,
+        false,
+        None,
+    ),
 ];
 
 fn null_test(
@@ -316,7 +328,7 @@ fn null_test(
     taken: bool,
 ) -> Option<[Kind; 4]> {
     let state = in_call(kind_of(tested), Kind::Unset, kinds_of(copies));
-    left_of(condition(comparison, FULL, Reg::R2, ZERO), taken, &state)
+    copies_after(condition(comparison, FULL, Reg::R2, ZERO), taken, &state)
 }
 
 fn kinds_if(held: &Option<[Held; 4]>) -> Option<[Kind; 4]> {
@@ -344,7 +356,13 @@ const UNDEFINED: [(Comparison, Width, Operand, Kind, Kind); 12] = [
     (Comparison::Less, FULL, R3, POINTER, POINTER),
     (Comparison::Less, FULL, R3, Kind::PacketEnd, Kind::PacketEnd),
     (Comparison::Equal, FULL, ZERO, POINTER, Kind::Unset),
-    (Comparison::Equal, Width::Low32, ZERO, VALUE, Kind::Unset),
+    (
+        Comparison::Equal,
+        Width::Low32,
+        ZERO,
+        MAP_VALUE,
+        Kind::Unset,
+    ),
     (Comparison::Greater, FULL, ZERO, LOOKED_UP, Kind::Unset),
     (
         Comparison::Equal,
@@ -357,14 +375,14 @@ const UNDEFINED: [(Comparison, Width, Operand, Kind, Kind); 12] = [
     (Comparison::Equal, FULL, ZERO, Kind::Unset, Kind::Unset),
 ];
 
-/// Whether the comparison of r2 with r3 is not defined, and all copies stay both ways.
+/// Whether a comparison is not defined, and whether all copies stay if it holds and if it does not.
 fn is_undefined(cond: Cond, left: Kind, right: Kind) -> [bool; 3] {
     let copies = [left, right, right, left];
     let state = in_call(left, right, copies);
     [
         compared_by(cond, &state) == Compared::Undefined,
-        left_of(cond, true, &state) == Some(copies),
-        left_of(cond, false, &state) == Some(copies),
+        copies_after(cond, true, &state) == Some(copies),
+        copies_after(cond, false, &state) == Some(copies),
     ]
 }
 

@@ -37,9 +37,9 @@ pub enum Put {
     Written(usize, u8),
 }
 
-fn frame_with(frame: AbstractFrame, act: &Put) -> AbstractFrame {
+fn frame_with(frame: AbstractFrame, put: &Put) -> AbstractFrame {
     let mut frame = frame;
-    match act {
+    match put {
         Put::Register(index, held) => {
             if *index < 10 {
                 frame.registers[*index] = kind_of(held);
@@ -60,11 +60,11 @@ fn frame_with(frame: AbstractFrame, act: &Put) -> AbstractFrame {
 }
 
 /// A frame in which only these registers and bytes are set.
-fn frame_of(return_slot: usize, acts: &[Put]) -> AbstractFrame {
+fn frame_of(return_slot: usize, puts: &[Put]) -> AbstractFrame {
     let mut frame = AbstractFrame::default();
     frame.return_slot = return_slot;
-    for act in acts {
-        frame = frame_with(frame, act);
+    for put in puts {
+        frame = frame_with(frame, put);
     }
     frame
 }

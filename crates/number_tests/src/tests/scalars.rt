@@ -1,6 +1,6 @@
 //! How sharp both domains together are: examples worked out by hand.
 
-use super::chains::{Change, Look, Row, Set, are_seen, refined, set_of};
+use super::changes::{Change, Look, Row, Set, are_seen, refined, set_of};
 use super::operations::Unary;
 use isa_model::{AluOp, ByteOrder, Comparison, Extension, SwapWidth, Width};
 use reg_state::{Domain, Scalar};
@@ -241,7 +241,7 @@ const ZERO: Option<Limits> = Some((0, 0));
 
 const ONE: Option<Limits> = Some((1, 1));
 
-/// What both domains leave; the tables of each domain have its own part.
+/// What both domains leave together; the tests of each domain have what it leaves by itself.
 const NARROWINGS: &[Narrowing] = &[
     (Comparison::Less, true, BIT, 1, ZERO),
     (Comparison::LessEqual, true, BIT, 0, ZERO),

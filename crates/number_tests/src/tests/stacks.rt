@@ -21,14 +21,14 @@ fn numbers_of(numbers: &Numbers) -> Scalar {
     }
 }
 
-/// What a stack slot holds; values and look-ups are of a map.
+/// What a stack slot holds. Pointers to a map or a map value, and look-ups, have the map's index.
 enum Held {
     Unset,
     Context,
     PacketEnd,
     Numbers(Numbers),
     Map(u8),
-    Value(u8),
+    MapValue(u8),
     LookedUp(u8),
 }
 
@@ -39,7 +39,7 @@ fn kind_of(held: &Held) -> Kind {
         Held::PacketEnd => Kind::PacketEnd,
         Held::Numbers(numbers) => Kind::Number(numbers_of(numbers)),
         Held::Map(index) => Kind::Map { index: *index },
-        Held::Value(index) => Kind::MapValue {
+        Held::MapValue(index) => Kind::MapValue {
             index: *index,
             least: 0,
             greatest: 0,
@@ -160,7 +160,7 @@ const STORES: &[Row] = &[
 ];
 
 #[test]
-fn each_size_at_each_place(rt: HostRuntime) {
+fn each_size_at_each_offset(rt: HostRuntime) {
     are_shown(&rt, STORES);
 }
 
@@ -310,7 +310,7 @@ fn an_unknown_number_is_written_bytes(rt: HostRuntime) {
 
 const FORGOTTEN: &[Row] = &[(
     &[
-        Act::Spill(0, Held::Value(1)),
+        Act::Spill(0, Held::MapValue(1)),
         Act::Spill(1, Held::LookedUp(1)),
         Act::Spill(2, Held::LookedUp(2)),
         Act::Spill(3, Held::Map(1)),

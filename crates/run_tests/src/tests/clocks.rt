@@ -9,9 +9,9 @@ use std::alloc::Global;
 use std::test::Fail;
 
 #[derive(Drop)]
-struct Last;
+struct GreatestTime;
 
-impl Clock for Last {
+impl Clock for GreatestTime {
     ghost at = { λ _ _. 0xffffffffffffffff };
 
     ghost within = { λ _ _. lit< tt };
@@ -30,7 +30,7 @@ const HEAD: FrameHead = FrameHead {
 /// How a run of a program on an empty packet ends with that clock.
 fn end_of(alloc: Global, text: &str) -> Result<End, Fail> {
     let mut checked = Checked::new(alloc, image_of(alloc, text)?)?;
-    Ok(checked.run(HEAD, &mut [], &mut Last, 100))
+    Ok(checked.run(HEAD, &mut [], &mut GreatestTime, 100))
 }
 
 #[test]

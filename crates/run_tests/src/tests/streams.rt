@@ -1,8 +1,8 @@
-//! Streams and outputs that fail: bytes, records, and programs that are run on a stream.
+//! Reads and writes that fail: of bytes, of records, and in runs over a stream.
 
 mod broken;
 mod buffers;
 mod cases;
 mod failures;
+mod reads_and_writes;
 mod records;
-mod transfers;

@@ -40,7 +40,7 @@ returns-in-Err c =
     let at : lexeme_at c.loop-rest.rest.now ≡ None = sym c.in-Err.ensures.found in
     let more : 0 < length c.loop-rest.rest.now = search rules in
     let few : length c.loop-rest.rest.now ≤ length c.args.text.now = c.loop-rest.invariant.1 in
-    let unknown : c.in-Err.at ≡ unknown_at c.loop-rest.rest.now = c.in-Err.ensures.fault in
+    let unknown : c.in-Err.at ≡ unknown_at c.loop-rest.rest.now = c.in-Err.ensures.unknown in
     let within : unknown_at c.loop-rest.rest.now ≤ length c.loop-rest.rest.now =
     unknown_at-within c.loop-rest.rest.now more in
     let small : length c.args.text.now < 2 ^ 63 = search rules in

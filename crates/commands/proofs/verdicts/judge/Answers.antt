@@ -10,14 +10,14 @@ returns-clause-refused g c =
     ∙ (c.at.ensures ∙ ap (λ (p : Program). fetch p c.in-Err.slot) c.in-Ok.ensures))
     c.of_program.ensures.outcome c.say_refused-outcome.ensures
 
-pub returns-in-Ok-verify_shown-clause-program : goal.returns-in-Ok-verify_shown-clause-program
-returns-in-Ok-verify_shown-clause-program g c = search rules
+pub returns-in-Ok-verify_watched-clause-program : goal.returns-in-Ok-verify_watched-clause-program
+returns-in-Ok-verify_watched-clause-program g c = search rules
 
-pub returns-in-Ok-verify_shown-clause-verified : goal.returns-in-Ok-verify_shown-clause-verified
-returns-in-Ok-verify_shown-clause-verified g c = search rules
+pub returns-in-Ok-verify_watched-clause-verified : goal.returns-in-Ok-verify_watched-clause-verified
+returns-in-Ok-verify_watched-clause-verified g c = search rules
 
-pub returns-in-Ok-verify_shown-clause-number : goal.returns-in-Ok-verify_shown-clause-number
-returns-in-Ok-verify_shown-clause-number g c = search rules
+pub returns-in-Ok-verify_watched-clause-number : goal.returns-in-Ok-verify_watched-clause-number
+returns-in-Ok-verify_watched-clause-number g c = search rules
 
-pub returns-in-Ok-verify_shown-clause-bounds : goal.returns-in-Ok-verify_shown-clause-bounds
-returns-in-Ok-verify_shown-clause-bounds g c = search rules
+pub returns-in-Ok-verify_watched-clause-bounds : goal.returns-in-Ok-verify_watched-clause-bounds
+returns-in-Ok-verify_watched-clause-bounds g c = search rules

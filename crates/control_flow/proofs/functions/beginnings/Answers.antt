@@ -1,6 +1,6 @@
 use Rattle.std.proofs.Common.{◌≡◌, length, arith, sym}
 use Rattle.control_flow.specs.Graph.{call_to}
-use Rattle.control_flow.proofs.Owners.{MarksFunctions-below}
+use Rattle.control_flow.proofs.FunctionsLaws.{MarksFunctions-below}
 use Rattle.control_flow.proofs.TargetTests.{call-inside}
 use Rattle.control_flow.proofs.MarkLemmas.{marks_more_none, marks_more_some}
 use Rattle.control_flow.proofs.functions.beginnings.Goals as goal

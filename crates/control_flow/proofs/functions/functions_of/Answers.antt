@@ -1,7 +1,7 @@
 use Rattle.std.proofs.Common.{◌≡◌, ◌<◌, false, length, get_or, ◌∙◌, arith}
 use Rattle.std.proofs.lemmas.Bool.{both_ways}
 use Rattle.control_flow.proofs.MarkLemmas.{read_at}
-use Rattle.control_flow.proofs.Owners.{functions_more_new, functions_more_old}
+use Rattle.control_flow.proofs.FunctionsLaws.{functions_more_new, functions_more_old}
 use Rattle.control_flow.proofs.functions.functions_of.Goals as goal
 use Rattle.control_flow.proofs.functions.functions_of.Goals.{then-index, else-index}
 

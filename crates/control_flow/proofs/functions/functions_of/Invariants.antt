@@ -1,4 +1,4 @@
-use Rattle.control_flow.proofs.Owners.{FunctionsBelow}
+use Rattle.control_flow.proofs.FunctionsLaws.{FunctionsBelow}
 use Rattle.control_flow.proofs.functions.functions_of.Given as goal
 
 abbrev pub invariant-loop-slot : goal.invariant-loop-slot

@@ -2,7 +2,7 @@ use Rattle.std.proofs.Common.{◌<◌, ◌≤◌, length, sym, arith, get_or, no
 use Rattle.isa_model.specs.Code.Limits.{max_slots}
 use Rattle.control_flow.specs.Functions.{SameFunction}
 use Rattle.control_flow.proofs.TargetTests.{from_some, jump-inside}
-use Rattle.control_flow.proofs.Owners.{differ}
+use Rattle.control_flow.proofs.FunctionsLaws.{differ}
 use Rattle.control_flow.proofs.functions.leaves_function.Goals as goal
 
 pub offset_bounds-functions-to : goal.offset_bounds-functions-to

@@ -1,12 +1,13 @@
 use Rattle.std.proofs.Common.{sym, ◌∙◌, arith}
 use Rattle.std.proofs.lemmas.Option.{slice_get-get_or}
 use Rattle.control_flow.specs.Masks.{mask_at}
-use Rattle.control_flow.proofs.MaskSteps.{step_more, masks_apart}
+use Rattle.control_flow.proofs.MaskUpdates.{mask_grown, masks_apart}
 use Rattle.control_flow.proofs.liveness.add_live.Goals as goal
 
 pub returns : goal.returns
 returns c =
-    step_more c.args.nodes.now c.args.slot _ c.args.masks.now c.live_before.result c.or-new.result (
+    mask_grown c.args.nodes.now c.args.slot _ c.args.masks.now c.live_before.result
+    c.or-new.result (
       slice_get-get_or c.args.nodes.now c.args.slot _ c.requires.inside,
       c.live_before.ensures,
       c.or-new.ensures.all,

@@ -9,7 +9,7 @@ use Rattle.control_flow.proofs.liveness.go_back.Goals.{In-Some}
 
 pub find-requires : goal.find-requires
 find-requires c =
-    λ k e. omega (arith, ((c.falling.ensures k).0 e).0, c.requires.inside, c.requires.room)
+    λ k e. omega (arith, ((c.falling.ensures k).0 e).0, c.requires.inside, c.requires.same)
 
 pub find-requires-2 : goal.find-requires-2
 find-requires-2 c =
@@ -18,7 +18,7 @@ find-requires-2 c =
       ((c.falling-2.ensures k).0 e).0,
       c.in_ok-find.ensures.same,
       c.requires.inside,
-      c.requires.room,
+      c.requires.same,
     )
 
 pub loop-from-init : goal.loop-from-init
@@ -48,7 +48,7 @@ pub find-requires-in-Some : goal.find-requires-in-Some
 find-requires-in-Some c = λ k e.
     let inside = inside_of (goal.at.find-requires-in-Some c).In-Some in
     let same : c.in-Some.source ≡ k = same_Some c.in-Some.source k e in
-    omega (arith, inside, same, c.loop-from.invariant.found.same, c.requires.room)
+    omega (arith, inside, same, c.loop-from.invariant.found.same, c.requires.same)
 
 pub index-from-requires-in-Some : goal.index-from-requires-in-Some
 index-from-requires-in-Some c =

@@ -1,4 +1,4 @@
-use Rattle.control_flow.specs.Searches.{room_of}
+use Rattle.control_flow.specs.Searches.{search_left}
 use Rattle.control_flow.proofs.SlotSearch.{IsReaching}
 use Rattle.control_flow.proofs.reachability.reached.Given as goal
 
@@ -6,4 +6,4 @@ abbrev pub invariant-loop-slot : goal.invariant-loop-slot
 invariant-loop-slot l = IsReaching l.image l.search.found.items l.search.frontier.items
 
 abbrev pub decreases-loop-slot : goal.decreases-loop-slot
-decreases-loop-slot l = room_of l.search.found.items l.search.frontier.items
+decreases-loop-slot l = search_left l.search.found.items l.search.frontier.items

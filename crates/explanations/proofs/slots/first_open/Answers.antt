@@ -2,7 +2,7 @@ use Rattle.std.proofs.Common.{◌≡◌, ◌∙◌, suc, ◌+◌, ◌-◌, arith
 use Rattle.stack_state.specs.Meaning.{stack_slots_of}
 use Rattle.stack_state.specs.Slots.{slot_at, marks_of}
 use Rattle.explanations.specs.Slots.{first_open}
-use Rattle.explanations.proofs.Words.{first_open-next}
+use Rattle.explanations.proofs.Texts.{first_open-next}
 use Rattle.explanations.proofs.slots.first_open.Goals as goal
 
 pub loop-at-preserved : goal.loop-at-preserved

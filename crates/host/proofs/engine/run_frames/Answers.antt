@@ -1,6 +1,6 @@
 use Rattle.std.proofs.Common.{rules, refl}
 use Rattle.host.proofs.Notes.{noted_more}
-use Rattle.host.proofs.Turns.{begin_opens, magic_failed, no_turn, turn_more, turn_failed, run_ended}
+use Rattle.host.proofs.FrameLoop.{begin_opens, magic_failed, none_taken, one_taken, one_failed, stream_ended}
 use Rattle.host.proofs.engine.run_frames.Goals as goal
 
 pub returns-in-Err-clause-reports : goal.returns-in-Err-clause-reports
@@ -10,10 +10,10 @@ returns-in-Err-clause-reports g c =
     (search rules) c.begin.ensures.opens c.begin.ensures.begun c.version_begun-stream.ensures)
     c.in-Err.ensures.err
 
-pub turns-init : goal.turns-init
-turns-init g c = (
+pub frames-init : goal.frames-init
+frames-init g c = (
   _,
-  no_turn _ _ _ _ _ _ _ _ _ _
+  none_taken _ _ _ _ _ _ _ _ _ _
       (begin_opens _ _ _ _ _ _ _ (search rules)
       (search rules) c.begin.ensures.opens c.begin.ensures.begun
       c.version_begun-stream.ensures) refl c.in-Ok.ensures.ok,
@@ -23,11 +23,11 @@ turns-init g c = (
   refl,
 )
 
-pub turns-preserved : goal.turns-preserved
-turns-preserved g c =
-    let (frames, s, r, q, m, k) = c.turns.invariant in (
+pub frames-preserved : goal.frames-preserved
+frames-preserved g c =
+    let (frames, s, r, q, m, k) = c.frames.invariant in (
       _,
-      turn_more _ _ _ _ _ frames _ _ _ _ _ _ _ s _ c.in-Frame.ensures.finds _ _
+      one_taken _ _ _ _ _ frames _ _ _ _ _ _ _ s _ c.in-Frame.ensures.finds _ _
           (rw (← r) c.in-Ok-take_frame.ensures.writes)
           (rw (← r) c.in-Ok-take_frame.ensures.contents),
       search rules,
@@ -39,19 +39,20 @@ turns-preserved g c =
 
 pub returns-in-Err-take_frame-clause-reports : goal.returns-in-Err-take_frame-clause-reports
 returns-in-Err-take_frame-clause-reports g c =
-    let (frames, s, r, q, m, k) = c.turns.invariant in
-    turn_failed _ _ _ _ _ _ _ _ _ _ frames _ _ _ _ _ _ _ _ _ _ s c.in-Frame.ensures.finds
+    let (frames, s, r, q, m, k) = c.frames.invariant in
+    one_failed _ _ _ _ _ _ _ _ _ _ frames _ _ _ _ _ _ _ _ _ _ s c.in-Frame.ensures.finds
     (rw (← r) c.in-Err-take_frame.ensures.writes)
 
 pub returns-in-End-clause-reports : goal.returns-in-End-clause-reports
 returns-in-End-clause-reports g c =
-    let (frames, s, r, q, m, k) = c.turns.invariant in
-    run_ended _ _ _ _ _ _ _ _ _ _ frames _ _ _ _ _ _ _ _ _ _ _ _ s c.in-End.ensures.finds
-    (rw (← q) (c.end_run.ensures.writes _)) c.end_run.ensures.tally c.end_run.ensures.noted k
+    let (frames, s, r, q, m, k) = c.frames.invariant in
+    stream_ended _ _ _ _ _ _ _ _ _ _ frames _ _ _ _ _ _ _ _ _ _ _ _ s c.in-End.ensures.finds
+    (rw (← q) (c.end_report.ensures.writes _)) c.end_report.ensures.tally
+    c.end_report.ensures.noted k
 
 pub returns-in-Fault-clause-reports : goal.returns-in-Fault-clause-reports
 returns-in-Fault-clause-reports g c =
-    let (frames, s, r, q, m, k) = c.turns.invariant in
-    run_ended _ _ _ _ _ _ _ _ _ _ frames _ _ _ _ _ _ _ _ _ _ _ _ s c.in-Fault.ensures.finds
-    (rw (← q) (c.end_run-in-Fault.ensures.writes _)) c.end_run-in-Fault.ensures.tally
-    c.end_run-in-Fault.ensures.noted k
+    let (frames, s, r, q, m, k) = c.frames.invariant in
+    stream_ended _ _ _ _ _ _ _ _ _ _ frames _ _ _ _ _ _ _ _ _ _ _ _ s c.in-Fault.ensures.finds
+    (rw (← q) (c.end_report-in-Fault.ensures.writes _)) c.end_report-in-Fault.ensures.tally
+    c.end_report-in-Fault.ensures.noted k

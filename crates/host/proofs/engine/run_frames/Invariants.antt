@@ -5,12 +5,12 @@ use Rattle.host.specs.Stops.{noted_after}
 use Rattle.host.proofs.WrittenSoFar.{WrittenSoFar}
 use Rattle.host.proofs.engine.run_frames.Given as goal
 
-abbrev pub invariant-turns : goal.invariant-turns
-invariant-turns g l = (frames : List PacketFrame) × WrittenSoFar (report_form_by l.form)
+abbrev pub invariant-frames : goal.invariant-frames
+invariant-frames g l = (taken : List PacketFrame) × WrittenSoFar (report_form_by l.form)
     (g.M.Runner.rule l.fn.machine) (g.M.Runner.contents l.fn.machine)
     (g.R.Read.remaining l.fn.source)
     (record { report = g.W1.Write.contents l.fn.report; frames = g.W2.Write.contents l.fn.out })
-    frames (g.R.Read.remaining l.reader.source) l.reader.position l.number
+    taken (g.R.Read.remaining l.reader.source) l.reader.position l.number
     (g.M.Runner.contents l.machine)
     (record { report = g.W1.Write.contents l.report; frames = g.W2.Write.contents l.out })
     × (g.M.Runner.rule l.machine ≡ g.M.Runner.rule l.fn.machine)
@@ -18,7 +18,7 @@ invariant-turns g l = (frames : List PacketFrame) × WrittenSoFar (report_form_b
     × (g.M.Runner.notes l.machine ≡ g.M.Runner.notes l.fn.machine)
     × (g.M.Runner.noted l.machine
     ≡ noted_after (g.M.Runner.notes l.fn.machine) (g.M.Runner.rule l.fn.machine)
-    (g.M.Runner.noted l.fn.machine) 0 (g.M.Runner.contents l.fn.machine) frames)
+    (g.M.Runner.noted l.fn.machine) 0 (g.M.Runner.contents l.fn.machine) taken)
 
-abbrev pub decreases-turns : goal.decreases-turns
-decreases-turns g l = 4294967295 - l.number
+abbrev pub decreases-frames : goal.decreases-frames
+decreases-frames g l = 4294967295 - l.number

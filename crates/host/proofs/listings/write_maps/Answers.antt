@@ -9,14 +9,14 @@ pub write_key_values-requires : goal.write_key_values-requires
 write_key_values-requires g c =
     let ms = c.args.maps.now in
     let inside : c.loop-i.i < length ms = omega arith in
-    rw (c.row-row.ensures, c.order.ensures.entries, c.loop-i.invariant.1)
+    rw (c.row-row.ensures, c.order.ensures.pairs, c.loop-i.invariant.1)
     (AreListed-map_at ms c.loop-i.i inside c.count-i-end.ensures.maps)
 
 pub loop-i-preserved : goal.loop-i-preserved
 loop-i-preserved g c =
     let ms = c.args.maps.now in
     let inside : c.loop-i.i < length ms = omega arith in (
-      map_written ms c.loop-i.maps c.loop-i.i inside _ c.order.ensures.entries
+      map_written ms c.loop-i.maps c.loop-i.i inside _ c.order.ensures.pairs
           c.loop-i.invariant.1 _ _ _ c.loop-i.invariant.0 c.in-Ok.ensures.writes,
       search rules,
     )
@@ -25,7 +25,7 @@ pub returns-in-Err-clause-writes : goal.returns-in-Err-clause-writes
 returns-in-Err-clause-writes g c =
     let ms = c.args.maps.now in
     let inside : c.loop-i.i < length ms = omega arith in
-    pairs_failed ms c.loop-i.maps c.loop-i.i inside _ c.order.ensures.entries c.loop-i.invariant.1
+    pairs_failed ms c.loop-i.maps c.loop-i.i inside _ c.order.ensures.pairs c.loop-i.invariant.1
     _ _ _ _ c.loop-i.invariant.0 c.in-Err.ensures.writes
 
 pub returns-clause-writes : goal.returns-clause-writes

@@ -12,9 +12,9 @@ returns-clause-found c = c.number_after.ensures.found
     (c.digits_len.ensures.value
     ∙ ap (prefix_len (λ b. is_digit b c.args.base)) (take_rest c.args.text.now c.args.skip))
 
-pub returns-clause-fault : goal.returns-clause-fault
-returns-clause-fault c = subst
+pub returns-clause-unknown : goal.returns-clause-unknown
+returns-clause-unknown c = subst
     (λ n. IfErr c.number_after.result (λ at. at ≡ number_end c.args.skip n))
     (c.digits_len.ensures.value
     ∙ ap (prefix_len (λ b. is_digit b c.args.base))
-    (take_rest c.args.text.now c.args.skip)) c.number_after.ensures.fault
+    (take_rest c.args.text.now c.args.skip)) c.number_after.ensures.unknown

@@ -17,10 +17,10 @@ loop-i-preserved g c =
       ap (map said) e.items
           ∙ replies_next (g.S.MapStore.row_of t) row inv.2 (g.S.MapStore.places t)
           (g.S.MapStore.block t) before c.args.commands.now c.loop-i.i (omega arith) inv.1 _
-          c.loop-i.replies.items c.in_ok-answer.answer inv.0 c.in_ok-answer.ensures.answer,
+          c.loop-i.replies.items c.in_ok-reply.reply inv.0 c.in_ok-reply.ensures.answer,
       left_next (g.S.MapStore.row_of t) row inv.2 (g.S.MapStore.places t)
           (g.S.MapStore.block t) before c.args.commands.now c.loop-i.i (omega arith) inv.1 _
-          (g.S.MapStore.places u) (g.S.MapStore.block u) c.in_ok-answer.ensures.content,
+          (g.S.MapStore.places u) (g.S.MapStore.block u) c.in_ok-reply.ensures.content,
       c.apply.ensures.row ∙ inv.2,
       (let n = c.loop-i.replies.ok.0 in let m = c.push_reserved.new.self.ok.0 in
           let l = e.len in let k = inv.3 in omega arith),

@@ -1,7 +1,7 @@
 use Rattle.std.proofs.Common.{Some, ap, sym, ◌∙◌}
 use Rattle.std.specs.Prelude.{option_copied}
 use Rattle.std.specs.Option.{option_map}
-use Rattle.map_indexes.specs.Rows.{row_at}
+use Rattle.map_indexes.specs.BlockRows.{block_row}
 use Rattle.maps.proofs.ContentLaws.{at_key-content}
 use Rattle.maps.proofs.helpers.lookup.Goals as goal
 
@@ -12,7 +12,7 @@ returns-in_err-place g c =
     let block = g.S.MapStore.block s in
     ap option_copied c.from_residual.ensures
     ∙ sym (at_key-content size (g.S.MapStore.places s) block c.args.key.now
-    ∙ ap (option_map (row_at size block)) (sym c.in_err-place.ensures))
+    ∙ ap (option_map (block_row size block)) (sym c.in_err-place.ensures))
 
 pub returns : goal.returns
 returns g c =
@@ -21,4 +21,4 @@ returns g c =
     let block = g.S.MapStore.block s in
     ap Some c.value.ensures
     ∙ sym (at_key-content size (g.S.MapStore.places s) block c.args.key.now
-    ∙ ap (option_map (row_at size block)) (sym c.in_ok-place.ensures))
+    ∙ ap (option_map (block_row size block)) (sym c.in_ok-place.ensures))

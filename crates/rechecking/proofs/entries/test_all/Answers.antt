@@ -12,7 +12,7 @@ loop-index-init c = record {
   grows = Grows-same c.args.image.now c.args.growing.now;
   placed = omega arith;
   before = λ j e less there. absurd (omega arith);
-  stands = tt;
+  has = tt;
 }
 
 pub reach-requires : goal.reach-requires
@@ -55,7 +55,7 @@ pub test_entry-requires-clause-known : goal.test_entry-requires-clause-known
 test_entry-requires-clause-known c =
     IsKnownEntry-grows c.args.image.now c.loop-index.growing c.reach.new.self c.loop-index.state
     c.loop-index.room c.loop-index.known c.reach.ensures.grows
-    c.loop-index.invariant.stands
+    c.loop-index.invariant.has
 
 pub loop-index-preserved : goal.loop-index-preserved
 loop-index-preserved c =
@@ -74,7 +74,7 @@ loop-index-preserved c =
           (fine_grows p old new c.loop-index.index grows c.loop-index.invariant.placed
           c.loop-index.invariant.before)
           c.in_ok-known.ensures.fine;
-      stands = c.in_ok-known.ensures.known;
+      has = c.in_ok-known.ensures.known;
     }
 
 pub returns-clause-grows : goal.returns-clause-grows

@@ -5,11 +5,11 @@ use Rattle.rechecking.specs.Checking.{AllFineBefore}
 use Rattle.rechecking.specs.KnownEntries.{IsKnownEntry}
 use Rattle.rechecking.proofs.entries.test_all.Given as goal
 
--- the entries before it are placed and closed, and the known entry's state is in its room
+-- the entries before it are placed and closed, and the known entry's state is in `state` or `room`
 abbrev pub invariant-loop-index : goal.invariant-loop-index
 invariant-loop-index l = record {
   grows : Grows l.image l.fn.growing l.growing;
   placed : l.index ≤ count_of l.growing.table;
   before : AllFineBefore l.image (entry_at l.image l.growing.table) l.index;
-  stands : IsKnownEntry l.image (entry_at l.image l.growing.table) l.state l.room l.known;
+  has : IsKnownEntry l.image (entry_at l.image l.growing.table) l.state l.room l.known;
 }

@@ -24,10 +24,10 @@ returns-in-Some-clause-fine c =
     let h = c.next_follows.new.growing in
     let e = entry_of c.args.head c.args.state.now in
     let allowed = c.requires.there.allowed in
-    let stands =
+    let has =
     HasEntry-grows p c.args.growing.now h c.args.index c.args.head c.args.state.now
     c.next_follows.ensures.grows c.requires.there in
-    fine_of p (entry_at p h.table) c.args.index e stands.there
+    fine_of p (entry_at p h.table) c.args.index e has.there
     (IsClosedEntry-follows p
     (entry_at p h.table) e c.in-Ok.ways c.step_in_place.new.state c.step_in_place.new.other
     allowed.some allowed.most c.in-Ok.ensures.leads
@@ -55,10 +55,10 @@ returns-in-Some-follows-clause-fine c =
     let grows =
     Grows-then p c.args.growing.now c.next_follows.new.growing h c.next_follows.ensures.grows
     c.place_named.ensures in
-    let stands =
+    let has =
     HasEntry-grows p c.args.growing.now h c.args.index c.args.head c.args.state.now grows
     c.requires.there in
-    fine_of p (entry_at p h.table) c.args.index e stands.there
+    fine_of p (entry_at p h.table) c.args.index e has.there
     (IsClosedEntry-follows p
     (entry_at p h.table) e c.in-Ok.ways c.step_in_place.new.state c.step_in_place.new.other
     allowed.some allowed.most c.in-Ok.ensures.leads
@@ -81,10 +81,10 @@ returns-in-None-clause-refused c =
     let grows =
     Grows-then p c.args.growing.now c.next_follows.new.growing h c.next_follows.ensures.grows
     c.place_named.ensures in
-    let stands =
+    let has =
     HasEntry-grows p c.args.growing.now h c.args.index c.args.head c.args.state.now grows
     c.requires.there in
     unnamed_step p (entry_at p h.table) c.args.index e c.in-Ok.ways c.step_in_place.new.state
-    c.step_in_place.new.other stands.there
+    c.step_in_place.new.other has.there
     c.requires.there.allowed.begins c.in-Ok.ensures.steps
     (rw c.placed.ensures at (c.in-None.ensures.none refl))

@@ -7,7 +7,7 @@ use Rattle.reg_state.proofs.comparisons.are_low_halves.Goals as goal
 pub returns-clause-sound : goal.returns-clause-sound
 returns-clause-sound g c = λ t x h.
     let small = ltb-true _ _ t in
-    let bound = c.greatest.ensures.members x h in
+    let most = c.greatest.ensures.members x h in
     let value = c.low_half_limit.ensures in
     low_half-small c.args.comparison x (omega arith)
 

@@ -2,8 +2,8 @@ use Rattle.std.proofs.Common.{Option, Some, None, refl}
 use Rattle.std.specs.Prelude.{IfSome}
 use Rattle.std.proofs.lemmas.Option.{IfSome_then}
 use Rattle.isa_model.specs.declared.sizes.Width.TheVariants.{Full64}
-use Rattle.reg_state.specs.Reach.{exchanged}
-use Rattle.reg_state.proofs.Going.{may_whole}
+use Rattle.reg_state.specs.Going.{exchanged}
+use Rattle.reg_state.proofs.GoingLaws.{may_whole}
 use Rattle.reg_state.proofs.comparisons.related_whole.Goals as goal
 
 together : {X : Type 0} (r : Option X) (P Q : X → Type 0) → IfSome r P → IfSome r Q

@@ -9,7 +9,7 @@ returns-clause-ran c = λ _.
     let report = c.as_slice.ensures.value in
     let sent = c.as_slice-2.ensures.value in
     let report_size = c.fill-reported.ensures.count ∙ ap (λ (l : List ℕ). length l) report in
-    let sent_size = c.fill-forwarded.ensures.count ∙ ap (λ (l : List ℕ). length l) sent in
+    let sent_size = c.fill-sent_out.ensures.count ∙ ap (λ (l : List ℕ). length l) sent in
     record {
       bound = c.in-Ok.verified.bound;
       accepts =
@@ -25,9 +25,9 @@ returns-clause-ran c = λ _.
       report_is =
           c.fill-reported.ensures.filled ∙ ap (λ (l : List ℕ). filled c.args.report.now l) report;
       sent_is =
-          c.fill-forwarded.ensures.filled ∙ ap (λ (l : List ℕ). filled c.args.sent.now l) sent;
+          c.fill-sent_out.ensures.filled ∙ ap (λ (l : List ℕ). filled c.args.sent.now l) sent;
       out_is =
           c.streamed_of.ensures
-          ∙ ap (λ (n : ℕ). streamed_of written.tally n c.fill-forwarded.result) report_size
+          ∙ ap (λ (n : ℕ). streamed_of written.tally n c.fill-sent_out.result) report_size
           ∙ ap (λ (n : ℕ). streamed_of written.tally (length written.report.items) n) sent_size;
     }

@@ -7,7 +7,7 @@ pub const E2BIG: u64 = 0xffff_ffff_ffff_fff9;
 /// This is no answer of a store: a key or a value does not have the map's size.
 pub const WRONG_SIZE: u64 = 1;
 
-/// The answer to an update with these flags, or without any to a delete.
+/// The answer to an update with these flags, or to a delete if there are none.
 pub fn answer<S: MapStore>(store: &mut S, key: &[u8], value: &[u8], flags: Option<u64>) -> u64 {
     let row = store.row();
     if key.len() != usize::from(row.key_size) || value.len() != row.value_size as usize {
@@ -19,7 +19,7 @@ pub fn answer<S: MapStore>(store: &mut S, key: &[u8], value: &[u8], flags: Optio
     }
 }
 
-/// The value of a key of the map's size, if it has one.
+/// The map value of a key, if there is one; a key of another size than the map's has none.
 pub fn value_of<'a, S: MapStore>(store: &'a S, key: &[u8]) -> Option<&'a [u8]> {
     if key.len() != usize::from(store.row().key_size) {
         return None;

@@ -6,37 +6,37 @@ use std::process::Abort;
 use std::test::Fail;
 
 /// The answer to an update with a number as the key and as the value.
-fn put(chain: &mut HashMapChain, number: u32) -> u64 {
+fn put(chained: &mut HashMapChain, number: u32) -> u64 {
     let value = u64::from(number).to_le_bytes();
-    answer(chain, &number.to_be_bytes(), &value, Some(0))
+    answer(chained, &number.to_be_bytes(), &value, Some(0))
 }
 
 /// Whether a number is a key with itself as the value, the answer to its delete, and whether it has
 /// no value then.
-fn deleted(chain: &mut HashMapChain, number: u32) -> (bool, u64, bool) {
+fn deleted(chained: &mut HashMapChain, number: u32) -> (bool, u64, bool) {
     let key = number.to_be_bytes();
     let value = u64::from(number).to_le_bytes();
-    let is_there = value_of(chain, &key) == Some(value.as_slice());
-    let found = answer(chain, &key, &value, None);
-    (is_there, found, value_of(chain, &key).is_none())
+    let is_there = value_of(chained, &key) == Some(value.as_slice());
+    let found = answer(chained, &key, &value, None);
+    (is_there, found, value_of(chained, &key).is_none())
 }
 
-fn fills_and_empties(rt: &impl Abort, chain: &mut HashMapChain) {
+fn fills_and_empties(rt: &impl Abort, chained: &mut HashMapChain) {
     for number in 0..65_536u32 {
-        assert_eq!(rt; put(chain, number), 0, "{number}");
+        assert_eq!(rt; put(chained, number), 0, "{number}");
     }
-    assert_eq!(rt; put(chain, 65_536), E2BIG);
+    assert_eq!(rt; put(chained, 65_536), E2BIG);
     for number in 0..65_536u32 {
-        assert_eq!(rt; deleted(chain, number), (true, 0, true), "{number}");
+        assert_eq!(rt; deleted(chained, number), (true, 0, true), "{number}");
     }
-    let late = (put(chain, 65_536), deleted(chain, 65_536));
+    let late = (put(chained, 65_536), deleted(chained, 65_536));
     assert_eq!(rt; late, (0, (true, 0, true)));
 }
 
 #[test]
 fn full_map_takes_a_key_once_all_are_gone(rt: HostRuntime) -> Result<(), Fail> {
-    let mut chain = HashMapChain::new(rt.alloc(), 4, 8, 65_536)?;
-    fills_and_empties(&rt, &mut chain);
+    let mut chained = HashMapChain::new(rt.alloc(), 4, 8, 65_536)?;
+    fills_and_empties(&rt, &mut chained);
     Ok(())
 }
 
@@ -68,44 +68,44 @@ fn flags_of(number: u64) -> Option<u64> {
 }
 
 /// Both stores answer the same over a long list of updates and deletes.
-fn agree(rt: &impl Abort, chain: &mut HashMapChain, scan: &mut HashMapScan) {
+fn agree(rt: &impl Abort, chained: &mut HashMapChain, scanned: &mut HashMapScan) {
     let mut number = 1;
     for round in 0..20_000u32 {
         number = next(number);
         let key = [(number >> 58) as u8, 5];
         let flags = flags_of(number);
-        let wanted = done(scan, &key, round, flags);
-        assert_eq!(rt; done(chain, &key, round, flags), wanted, "{round}");
+        let wanted = done(scanned, &key, round, flags);
+        assert_eq!(rt; done(chained, &key, round, flags), wanted, "{round}");
     }
 }
 
 #[test]
 fn stores_agree_over_a_long_list(rt: HostRuntime) -> Result<(), Fail> {
-    let mut chain = HashMapChain::new(rt.alloc(), 2, 4, 40)?;
-    let mut scan = HashMapScan::new(rt.alloc(), 2, 4, 40)?;
-    agree(&rt, &mut chain, &mut scan);
+    let mut chained = HashMapChain::new(rt.alloc(), 2, 4, 40)?;
+    let mut scanned = HashMapScan::new(rt.alloc(), 2, 4, 40)?;
+    agree(&rt, &mut chained, &mut scanned);
     Ok(())
 }
 
 /// Updates the keys 0 to 39, and returns whether each update was done.
-fn is_filled(chain: &mut HashMapChain) -> bool {
+fn is_filled(chained: &mut HashMapChain) -> bool {
     let mut is_taken = true;
     for index in 0..40u32 {
-        let found = answer(chain, &index.to_le_bytes(), &[0; 4], Some(1));
+        let found = answer(chained, &index.to_le_bytes(), &[0; 4], Some(1));
         is_taken = is_taken && found == 0;
     }
     is_taken
 }
 
 /// An array and a hash map that has all its keys answer the same over a list of updates.
-fn array_agrees(rt: &impl Abort, array: &mut ArrayMap, chain: &mut HashMapChain) {
-    assert!(rt; is_filled(chain));
+fn array_agrees(rt: &impl Abort, array: &mut ArrayMap, chained: &mut HashMapChain) {
+    assert!(rt; is_filled(chained));
     let mut number = 1;
     for round in 0..2_000u32 {
         number = next(number);
         let key = [(number >> 58) as u8, 0, 0, 0];
         let flags = Some(number >> 40 & 1);
-        let wanted = done(chain, &key, round, flags);
+        let wanted = done(chained, &key, round, flags);
         assert_eq!(rt; done(array, &key, round, flags), wanted, "{round}");
     }
 }
@@ -113,7 +113,7 @@ fn array_agrees(rt: &impl Abort, array: &mut ArrayMap, chain: &mut HashMapChain)
 #[test]
 fn array_agrees_with_a_full_hash_map(rt: HostRuntime) -> Result<(), Fail> {
     let mut array = ArrayMap::new(rt.alloc(), 4, 40)?;
-    let mut chain = HashMapChain::new(rt.alloc(), 4, 4, 40)?;
-    array_agrees(&rt, &mut array, &mut chain);
+    let mut chained = HashMapChain::new(rt.alloc(), 4, 4, 40)?;
+    array_agrees(&rt, &mut array, &mut chained);
     Ok(())
 }

@@ -1,18 +1,18 @@
 //! Programs on streams whose reads fail after some bytes, and frames out that fail within the
 //! magic.
 
-use super::cases::{Case, ENDLESS, MAGIC, ONE, PASSES, Room, TWO, TWO_WITH_REASONS, ends_so};
+use super::cases::{Case, ENDLESS, MAGIC, ONE, Output, PASSES, TWO, TWO_WITH_REASONS, ends_so};
 use failing_io::FAILURES;
 use host::{HostError, Tally};
 use isa_model::Fault;
 use std::process::Abort;
 use std::test::Fail;
 
-// A stream, whether a read fails after its last byte, and the room for the frames out; then the
+// A stream, whether a read fails after its last byte, and the output for the frames out; then the
 // result, and what both outputs got.
 fn ends_with(
     rt: &(impl AllocGlobal + Abort),
-    (given, is_broken, out): (&[u8], bool, Room),
+    (given, is_broken, out): (&[u8], bool, Output),
     ended: Result<Tally, HostError>,
     lines: &[u8],
     sent: &[u8],
@@ -31,8 +31,8 @@ fn ends_with(
     ends_so(rt, &case)
 }
 
-// For streams from this length on, up to two records: on how many the program is run, where the
-// read fails, the report and the frames out.
+// For streams from this length on, up to two records: on how many packet frames the program is run,
+// where the read fails, the report and the frames out.
 type Stop = (usize, u32, u64, &'static [u8], &'static [u8]);
 
 #[rattlefmt::skip]

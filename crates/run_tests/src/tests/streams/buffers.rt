@@ -43,8 +43,8 @@ fn written_to(alloc: Global, room: usize, failing: Failure) -> Result<(bool, Vec
     Ok((is_written, writer.taken))
 }
 
-/// The first write finds a writer that fails within three bytes, and the flush one that fails
-/// later; the writer keeps what it took.
+/// The first write finds a writer that fails within three bytes; one that fails later would be
+/// found by a flush, which is not called here. The writer keeps what it took.
 #[test]
 fn fails(rt: HostRuntime) -> Result<(), Fail> {
     for room in 0..7usize {

@@ -28,11 +28,11 @@ pub const TWO_WITH_REASONS: &[u8] = b"XPF2\
 
 pub const MAGIC: &[u8] = b"XPF1";
 
-/// How much an output takes, and how it fails then, if it does.
-pub type Room = (usize, Option<Failure>);
+/// An output: how many bytes it takes, and how it fails then, if it does.
+pub type Output = (usize, Option<Failure>);
 
 /// An output that takes all.
-pub const ENDLESS: Room = (0, None);
+pub const ENDLESS: Output = (0, None);
 
 /// A program that is run on a stream, with the result, the report and the frames out.
 #[derive(Drop)]
@@ -43,8 +43,8 @@ pub struct Case<'a> {
     pub given: &'a [u8],
     /// Whether a read fails after the last byte.
     pub is_broken: bool,
-    pub report: Room,
-    pub out: Room,
+    pub report: Output,
+    pub out: Output,
     pub ended: Result<Tally, HostError>,
     pub lines: &'a [u8],
     pub sent: &'a [u8],
@@ -54,8 +54,8 @@ pub struct Case<'a> {
 type Written = (Result<Tally, HostError>, Vec<u8>, Vec<u8>);
 
 // A writer that takes at most 5 bytes at a call.
-fn writer_of(alloc: Global, room: Room) -> Writer {
-    Writer::new(alloc, 5, room.0, room.1)
+fn writer_of(alloc: Global, output: Output) -> Writer {
+    Writer::new(alloc, 5, output.0, output.1)
 }
 
 // A reader of at most 3 bytes at a call, which fails after the last; or of all bytes at once.

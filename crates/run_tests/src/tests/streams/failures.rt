@@ -14,9 +14,10 @@ struct Whole {
     frames: u32,
     lines: &'static [u8],
     sent: &'static [u8],
-    // from a byte of the report on, how many bytes of the frames out are written before it
+    // rows of two numbers: if the report fails after the first number of bytes or more, and less
+    // than the next row has, the second number of bytes of the frames out is written
     sent_before: &'static [(usize, usize)],
-    // and the other way round
+    // the same with the two outputs exchanged
     lines_before: &'static [(usize, usize)],
 }
 
@@ -98,9 +99,9 @@ const WHOLES: &[Whole] = &[
 // The second number of the last row whose first number is not past what was reached.
 fn count_at(rows: &[(usize, usize)], reached: usize) -> usize {
     let mut count = 0;
-    for (from, there) in rows {
+    for (from, second) in rows {
         if *from <= reached {
-            count = *there;
+            count = *second;
         }
     }
     count

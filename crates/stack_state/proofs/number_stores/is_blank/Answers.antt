@@ -9,4 +9,4 @@ pub returns-in-Written : goal.returns-in-Written
 returns-in-Written c = λ yes.
     let same : c.args.slot ≡ Written c.in-Written.field-0 = grind (arith, common_steps) in
     subst (λ (s : StackSlot). IsBlank s c.args.size c.args.numbers) (sym same)
-    (c.are_all.ensures yes)
+    (c.have_all.ensures yes)

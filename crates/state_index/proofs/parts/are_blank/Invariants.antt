@@ -4,6 +4,6 @@ use Rattle.stack_state.specs.Slots.{slot_at}
 use Rattle.state_index.proofs.parts.are_blank.Given as goal
 
 -- nothing is known of the stack slots up to here
-abbrev pub invariant-loop-number : goal.invariant-loop-number
-invariant-loop-number l =
-    (j : ℕ) → 8 * l.byte ≤ j → j < 8 * l.byte + l.number → slot_at l.slots j ≡ Written 0
+abbrev pub invariant-loop-bit : goal.invariant-loop-bit
+invariant-loop-bit l =
+    (j : ℕ) → 8 * l.byte ≤ j → j < 8 * l.byte + l.bit → slot_at l.slots j ≡ Written 0

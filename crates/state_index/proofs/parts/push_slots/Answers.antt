@@ -2,20 +2,20 @@ use Rattle.std.proofs.Common.{◌≡◌, ℕ, ◌+◌, ◌*◌, ◌++◌, length
 use Rattle.std.proofs.lemmas.List.{append-nil}
 use Rattle.state_index.proofs.PartLaws.{slot_parts-more, slot_parts-all, slot_parts-from, slot_parts-skip_all, slot_parts-blank}
 use Rattle.state_index.proofs.parts.push_slots.Goals as goal
-use Rattle.state_index.proofs.parts.push_slots.Goals.{then-not-are_blank+else-loop-number-test, else-not-are_blank}
+use Rattle.state_index.proofs.parts.push_slots.Goals.{then-not-are_blank+else-loop-bit-test, else-not-are_blank}
 
-pub loop-number-preserved : goal.loop-number-preserved
-loop-number-preserved c =
+pub loop-bit-preserved : goal.loop-bit-preserved
+loop-bit-preserved c =
     let b : ℕ = c.loop-byte.byte in
-    let k : ℕ = c.loop-number.number in
+    let k : ℕ = c.loop-bit.bit in
     slot_parts-from c.push_slot.new.parts.items _ c.args.slots.now (8 * b + k + 1) (8 * b + (k + 1))
     (omega arith)
-    (slot_parts-more c.loop-number.parts.items c.push_slot.new.parts.items _ c.args.slots.now
+    (slot_parts-more c.loop-bit.parts.items c.push_slot.new.parts.items _ c.args.slots.now
     (8 * b + k) c.index-slots-index.result
-    (omega arith) c.in_ok-push_slot.ensures c.loop-number.invariant)
+    (omega arith) c.in_ok-push_slot.ensures c.loop-bit.invariant)
 
-pub loop-number-init : goal.loop-number-init
-loop-number-init c =
+pub loop-bit-init : goal.loop-bit-init
+loop-bit-init c =
     let b : ℕ = c.loop-byte.byte in
     slot_parts-from c.loop-byte.parts.items _ c.args.slots.now (8 * b) (8 * b + 0)
     (omega arith) c.loop-byte.invariant
@@ -30,11 +30,11 @@ loop-byte-preserved c =
     let ts = c.args.slots.now in
     let b : ℕ = c.loop-byte.byte in
     elim c.if-not-are_blank.branch [
-      | then-not-are_blank+else-loop-number-test w ↦
-          let k : ℕ = w.loop-number.number in
+      | then-not-are_blank+else-loop-bit-test w ↦
+          let k : ℕ = w.loop-bit.bit in
           rw w.parts-is
-          (slot_parts-from w.loop-number.parts.items _ ts (8 * b + k) (8 * (b + 1))
-          (omega arith) w.loop-number.invariant)
+          (slot_parts-from w.loop-bit.parts.items _ ts (8 * b + k) (8 * (b + 1))
+          (omega arith) w.loop-bit.invariant)
       | else-not-are_blank w ↦
           rw w.parts-is
           (slot_parts-from c.loop-byte.parts.items _ ts (8 * b + 8) (8 * (b + 1)) (omega arith)

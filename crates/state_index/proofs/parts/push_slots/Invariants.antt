@@ -11,5 +11,5 @@ ArePushed n slots before parts = parts ++ slot_parts n (drop n slots) ≡ before
 abbrev pub invariant-loop-byte : goal.invariant-loop-byte
 invariant-loop-byte l = ArePushed (8 * l.byte) l.slots l.fn.parts.items l.parts.items
 
-abbrev pub invariant-loop-number : goal.invariant-loop-number
-invariant-loop-number l = ArePushed (8 * l.byte + l.number) l.slots l.fn.parts.items l.parts.items
+abbrev pub invariant-loop-bit : goal.invariant-loop-bit
+invariant-loop-bit l = ArePushed (8 * l.byte + l.bit) l.slots l.fn.parts.items l.parts.items

@@ -1,5 +1,5 @@
 use Rattle.std.proofs.Common.{sym, ◌∙◌}
-use Rattle.table_entries.proofs.BlankSlots.{AreZeros-thirty_two}
+use Rattle.table_entries.proofs.BlankStackSlots.{AreZeros-thirty_two}
 use Rattle.table_entries.proofs.blanks.begins_blank.Goals as goal
 
 pub returns : goal.returns

@@ -1,5 +1,5 @@
 use Rattle.std.proofs.Common.{sym, ◌∙◌}
-use Rattle.table_entries.proofs.BlankSlots.{AreZeros-six}
+use Rattle.table_entries.proofs.BlankStackSlots.{AreZeros-six}
 use Rattle.table_entries.proofs.blanks.begins_unset.Goals as goal
 
 pub returns : goal.returns

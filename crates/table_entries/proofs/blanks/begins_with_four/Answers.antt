@@ -1,5 +1,5 @@
 use Rattle.std.proofs.Common.{sym, ◌∙◌}
-use Rattle.table_entries.proofs.BlankSlots.{AreZeros-eight}
+use Rattle.table_entries.proofs.BlankStackSlots.{AreZeros-eight}
 use Rattle.table_entries.proofs.blanks.begins_with_four.Goals as goal
 
 pub returns : goal.returns

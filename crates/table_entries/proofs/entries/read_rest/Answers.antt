@@ -38,7 +38,7 @@ returns c =
       innermost = c.read_frame.new.frame;
     } in
     rw (c.head_if-head.ensures, c.both-2.ensures, c.both.ensures, c.head_allowed-fits.ensures)
-    (rest_in-read c.args.image.now c.args.number c.args.outer c.args.bytes.now
+    (rest_in-read c.args.image.now c.args.number c.args.caller_count c.args.bytes.now
     c.in_ok-callers.callers a c.in_ok-callers.rest.now
     c.in_ok-innermost.innermost c.in_ok-innermost.rest.now c.in_ok-named.named
     c.in_ok-named.rest.now

@@ -21,11 +21,11 @@ returns-in_err-kinds c =
       c.in_err-kinds.ensures,
     )
 
-pub returns-in_err-slots : goal.returns-in_err-slots
-returns-in_err-slots c =
+pub returns-in_err-stack_slots : goal.returns-in_err-stack_slots
+returns-in_err-stack_slots c =
     let p =
-    err_from_is_err_and c.from_residual-in_err-slots.result
-    c.from_residual-in_err-slots.ensures.1 in
+    err_from_is_err_and c.from_residual-in_err-stack_slots.result
+    c.from_residual-in_err-stack_slots.ensures.1 in
     rw (
       p.1,
       p.2,
@@ -33,11 +33,11 @@ returns-in_err-slots c =
       ←
           c.skip.ensures,
       c.in_ok-kinds.ensures,
-      c.in_err-slots.ensures,
+      c.in_err-stack_slots.ensures,
     )
 
 pub returns : goal.returns
 returns c =
     rw (c.both-2.ensures, c.both.ensures, c.returns_right-fits.ensures, c.u16_at.ensures)
     (seen-frame c.args.rows c.args.holder c.args.bytes.now c.if-bytes-lt2.false
-    ∙ rw (← c.skip.ensures, c.in_ok-kinds.ensures, c.in_ok-slots.ensures))
+    ∙ rw (← c.skip.ensures, c.in_ok-kinds.ensures, c.in_ok-stack_slots.ensures))

@@ -17,15 +17,15 @@ returns-in_err-kinds c =
     (ap seen (stop-caller c.args.rows c.args.holder true c.args.bytes.now c.in_err-kinds.field-0.0
     c.if-bytes-lt2.false (rw (← c.skip.ensures) c.in_err-kinds.ensures)))
 
-pub returns-in_err-slots : goal.returns-in_err-slots
-returns-in_err-slots c =
+pub returns-in_err-stack_slots : goal.returns-in_err-stack_slots
+returns-in_err-stack_slots c =
     let p =
-    err_from_is_err_and c.from_residual-in_err-slots.result
-    c.from_residual-in_err-slots.ensures.1 in
+    err_from_is_err_and c.from_residual-in_err-stack_slots.result
+    c.from_residual-in_err-stack_slots.ensures.1 in
     rw (p.1, p.2)
     (seen-caller c.args.rows c.args.holder true c.args.bytes.now c.in_ok-kinds.kinds
     c.read_registers.new.registers c.in_ok-kinds.rest.now c.if-bytes-lt2.false
-    (rw (← c.skip.ensures) c.in_ok-kinds.ensures) ∙ rw c.in_err-slots.ensures)
+    (rw (← c.skip.ensures) c.in_ok-kinds.ensures) ∙ rw c.in_err-stack_slots.ensures)
 
 pub returns : goal.returns
 returns c =
@@ -38,4 +38,4 @@ returns c =
     )
     (seen-caller c.args.rows c.args.holder true c.args.bytes.now c.in_ok-kinds.kinds
     c.read_registers.new.registers c.in_ok-kinds.rest.now c.if-bytes-lt2.false
-    (rw (← c.skip.ensures) c.in_ok-kinds.ensures) ∙ rw c.in_ok-slots.ensures)
+    (rw (← c.skip.ensures) c.in_ok-kinds.ensures) ∙ rw c.in_ok-stack_slots.ensures)

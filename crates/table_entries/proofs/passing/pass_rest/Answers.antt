@@ -10,7 +10,7 @@ returns-in_err-callers c =
     rw (
       p.1,
       p.2,
-      seen-rest c.args.image.now c.args.number c.args.slot c.args.outer
+      seen-rest c.args.image.now c.args.number c.args.slot c.args.caller_count
           c.args.bytes.now,
       ← c.maps-rows.ensures,
       c.in_err-callers.ensures,
@@ -24,7 +24,7 @@ returns-in_err-innermost c =
     rw (
       p.1,
       p.2,
-      seen-rest c.args.image.now c.args.number c.args.slot c.args.outer c.args.bytes.now,
+      seen-rest c.args.image.now c.args.number c.args.slot c.args.caller_count c.args.bytes.now,
       ← c.maps-rows.ensures,
       c.in_ok-callers.ensures,
       c.in_err-innermost.ensures,
@@ -38,7 +38,7 @@ returns-in_err-rest c =
     rw (
       p.1,
       p.2,
-      seen-rest c.args.image.now c.args.number c.args.slot c.args.outer c.args.bytes.now,
+      seen-rest c.args.image.now c.args.number c.args.slot c.args.caller_count c.args.bytes.now,
       ← c.maps-rows.ensures,
       c.in_ok-callers.ensures,
       c.in_ok-innermost.ensures,
@@ -48,7 +48,7 @@ returns-in_err-rest c =
 pub returns : goal.returns
 returns c =
     let named = ap seen c.in_ok-rest.ensures in
-    seen-rest c.args.image.now c.args.number c.args.slot c.args.outer c.args.bytes.now
+    seen-rest c.args.image.now c.args.number c.args.slot c.args.caller_count c.args.bytes.now
     ∙ rw (
       ← c.maps-rows.ensures,
       c.in_ok-callers.ensures,

@@ -14,7 +14,7 @@ returns c =
     let ordered = c.signed_limits-least.ensures.ordered in
     let range = simp to_z-of_z at c.signed_between.ensures in
     let limits = range.limits in
-    let kind = extension_signed (size_extension c.args.size) in
+    let width = extension_signed (size_extension c.args.size) in
     record {
       members = λ x. (
         λ h. let m = (range.members x).0 h.1 in (m.0, (fits (cast_signed w64 x)).0 (m.1, m.2)),
@@ -23,9 +23,9 @@ returns c =
             ((c.any.ensures x).1 h.0, (range.members x).1 (h.0, m.0, m.1)),
       );
       signed_least =
-          subst (FitsSigned kind) (sym limits.0)
+          subst (FitsSigned width) (sym limits.0)
           ((fits c.signed_limits-least.result.0).0 (search rules, ordered));
       signed_greatest =
-          subst (FitsSigned kind) (sym limits.1)
+          subst (FitsSigned width) (sym limits.1)
           ((fits c.signed_limits-least.result.1).0 (ordered, search rules));
     }

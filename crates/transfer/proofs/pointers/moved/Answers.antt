@@ -16,7 +16,7 @@ leaves by None says = λ n is. none-some n ((says n).1 is)
 
 pub returns-in-Stack : goal.returns-in-Stack
 returns-in-Stack c =
-    let narrow : SFits w32 c.in-Stack.offset = search rules in
+    let fits : SFits w32 c.in-Stack.offset = search rules in
     let made = simp to_z-of_z at c.moved_frame.ensures in
     rw c.in-Stack.is
     (c.number.result, leaves c.args.by c.number.result c.number.ensures.value, made)

@@ -10,7 +10,7 @@ returns-then-are_in_value c =
     let greatest : FitsSigned w32 c.args.greatest = c.ranges.greatest in
     let by : FitsSigned w16 c.args.by = c.ranges.by in
     let inside = simp to_z-of_z at (c.are_in_value.ensures.0 c.if-are_in_value.true) in (
-      subst (AreInValue c.args.room c.args.least c.args.greatest c.args.by) c.bytes.ensures.value
-          inside,
+      subst (AreInValue c.args.value_bytes c.args.least c.args.greatest c.args.by)
+          c.bytes.ensures.value inside,
       c.of_size.ensures,
     )

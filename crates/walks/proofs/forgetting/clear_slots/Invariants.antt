@@ -11,5 +11,5 @@ AreCleared n slots = (length slots ≡ frame_slots) × (take n slots ≡ replica
 abbrev pub invariant-loop-byte : goal.invariant-loop-byte
 invariant-loop-byte l = AreCleared (8 * l.byte) l.slots
 
-abbrev pub invariant-loop-number : goal.invariant-loop-number
-invariant-loop-number l = AreCleared (8 * l.byte + l.number) l.slots
+abbrev pub invariant-loop-bit : goal.invariant-loop-bit
+invariant-loop-bit l = AreCleared (8 * l.byte + l.bit) l.slots

@@ -4,47 +4,47 @@ use Rattle.isa_model.specs.Code.Instructions.{Program}
 use Rattle.stack_state.specs.declared.slots.StackSlot.{StackSlot}
 use Rattle.walks.proofs.ForgettingLoops.{SlotsLeftBelow, slots_left_live, slots_left_dead, slots_left_full, slots_left_empty}
 use Rattle.walks.proofs.forgetting.forget_slots.Goals as goal
-use Rattle.walks.proofs.forgetting.forget_slots.Goals.{then-not-has, else-not-has, then-is_empty_in+else-loop-number-test, else-is_empty_in+else-loop-number-else-is_empty_in-test}
+use Rattle.walks.proofs.forgetting.forget_slots.Goals.{then-not-has, else-not-has, then-is_empty_in+else-loop-bit-test, else-is_empty_in+else-loop-bit-else-is_empty_in-test}
 
 left_to : (p : Program) (slot n m : ℕ) (old new : List StackSlot) → n ≡ m
     → SlotsLeftBelow p slot n old new → SlotsLeftBelow p slot m old new
 left_to p slot n m old new same left = subst (λ k. SlotsLeftBelow p slot k old new) same left
 
-pub loop-number-init : goal.loop-number-init
-loop-number-init c =
+pub loop-bit-init : goal.loop-bit-init
+loop-bit-init c =
     let b : ℕ = c.loop-byte.byte in
     left_to c.args.flow.now c.args.slot (8 * b) (8 * b + 0) c.args.slots.now c.loop-byte.slots
     (omega arith) c.loop-byte.invariant
 
-pub loop-number-else-is_empty_in-init : goal.loop-number-else-is_empty_in-init
-loop-number-else-is_empty_in-init c =
+pub loop-bit-else-is_empty_in-init : goal.loop-bit-else-is_empty_in-init
+loop-bit-else-is_empty_in-init c =
     let b : ℕ = c.loop-byte.byte in
     left_to c.args.flow.now c.args.slot (8 * b) (8 * b + 0) c.args.slots.now c.loop-byte.slots
     (omega arith) c.loop-byte.invariant
 
 -- all eight are dead
-pub loop-number-preserved : goal.loop-number-preserved
-loop-number-preserved c =
+pub loop-bit-preserved : goal.loop-bit-preserved
+loop-bit-preserved c =
     let p = c.args.flow.now in
     let slot = c.args.slot in
     let b : ℕ = c.loop-byte.byte in
-    let k : ℕ = c.loop-number.number in
+    let k : ℕ = c.loop-bit.bit in
     let n : ℕ = 8 * b + k in
     rw (c.from.ensures, c.clear.ensures)
     (left_to p slot (n + 1) (8 * b + (k + 1)) c.args.slots.now _ (omega arith)
-    (slots_left_dead p slot n c.args.slots.now c.loop-number.slots (omega arith)
+    (slots_left_dead p slot n c.args.slots.now c.loop-bit.slots (omega arith)
     (λ live. c.is_empty_in.ensures.none c.if-is_empty_in.true n (omega arith) (omega arith)
     ((c.live_slots-live.ensures n).1 live))
-    c.loop-number.invariant))
+    c.loop-bit.invariant))
 
 -- the next one is dead or live
-pub loop-number-else-is_empty_in-preserved : goal.loop-number-else-is_empty_in-preserved
-loop-number-else-is_empty_in-preserved c =
+pub loop-bit-else-is_empty_in-preserved : goal.loop-bit-else-is_empty_in-preserved
+loop-bit-else-is_empty_in-preserved c =
     let p = c.args.flow.now in
     let slot = c.args.slot in
     let b : ℕ = c.loop-byte.byte in
-    let at = c.loop-number-else-is_empty_in in
-    let k : ℕ = at.number in
+    let at = c.loop-bit-else-is_empty_in in
+    let k : ℕ = at.bit in
     let n : ℕ = 8 * b + k in
     elim c.if-not-has.branch [
       | then-not-has w ↦
@@ -64,16 +64,16 @@ pub loop-byte-preserved : goal.loop-byte-preserved
 loop-byte-preserved c =
     let b : ℕ = c.loop-byte.byte in
     elim c.if-is_empty_in.branch [
-      | then-is_empty_in+else-loop-number-test w ↦
-          let k : ℕ = w.loop-number.number in
+      | then-is_empty_in+else-loop-bit-test w ↦
+          let k : ℕ = w.loop-bit.bit in
           rw w.slots-is
           (left_to c.args.flow.now c.args.slot (8 * b + k) (8 * (b + 1)) c.args.slots.now _
-          (omega arith) w.loop-number.invariant)
-      | else-is_empty_in+else-loop-number-else-is_empty_in-test w ↦
-          let k : ℕ = w.loop-number-else-is_empty_in.number in
+          (omega arith) w.loop-bit.invariant)
+      | else-is_empty_in+else-loop-bit-else-is_empty_in-test w ↦
+          let k : ℕ = w.loop-bit-else-is_empty_in.bit in
           rw w.slots-is
           (left_to c.args.flow.now c.args.slot (8 * b + k) (8 * (b + 1)) c.args.slots.now _
-          (omega arith) w.loop-number-else-is_empty_in.invariant)
+          (omega arith) w.loop-bit-else-is_empty_in.invariant)
     ]
 
 pub returns-then-is_full : goal.returns-then-is_full

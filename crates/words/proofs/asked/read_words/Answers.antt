@@ -4,7 +4,7 @@ use Rattle.words.proofs.asked.read_words.Goals as goal
 pub returns-in-Err : goal.returns-in-Err
 returns-in-Err c =
     failed-reads _ _ c.in-Err.error _ c.in_ok-program.ensures c.in-Err.ensures.kinds
-    c.refusal_of.ensures
+    c.words_error_of.ensures
 
 pub returns-in-Some : goal.returns-in-Some
 returns-in-Some c =

@@ -29,9 +29,10 @@ returns-clause-done c = λ p rows.
     let size : length (take c.from.result c.key_room-key.result) ≡ row.key_size =
     length-take-le c.from.result c.key_room-key.result
     (omega (arith, short, c.from.ensures, c.key_room-key.ensures)) ∙ c.from.ensures in
-    let value_size : length (take row.value_size c.value_room-value.result) ≡ row.value_size =
-    length-take-le row.value_size c.value_room-value.result
-    (omega (arith, short_value, c.value_room-value.ensures)) in
+    let value_size : length (take row.value_size c.map_value_room-map_value.result)
+    ≡ row.value_size =
+    length-take-le row.value_size c.map_value_room-map_value.result
+    (omega (arith, short_value, c.map_value_room-map_value.ensures)) in
     let map_is = c.in_ok-index.ensures.argument p rows in
     let read = simp to_z-of_z at c.in_ok-read_argument.ensures.read in
     let read_value = simp to_z-of_z at c.in_ok-read_argument-2.ensures.read in

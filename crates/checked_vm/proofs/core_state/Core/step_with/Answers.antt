@@ -24,10 +24,10 @@ answer_time-requires-clause-slot g c =
 pub returns-in-AsksTime-clause-step : goal.returns-in-AsksTime-clause-step
 returns-in-AsksTime-clause-step g c = λ p clock code rows version answers.
     let asked = c.in-AsksTime.ensures.step p clock code rows version in
-    let calls : c.step.new.self.clock_calls ≡ c.args.self.now.clock_calls + 0 =
+    let clock_calls : c.step.new.self.clock_calls ≡ c.args.self.now.clock_calls + 0 =
     omega (arith, c.step.ensures.stays.clock_calls) in
     let time : clock c.step.new.self.clock_calls ≡ c.now.result =
-    ap clock calls ∙ sym (answers 0) ∙ sym c.now.ensures.first in
+    ap clock clock_calls ∙ sym (answers 0) ∙ sym c.now.ensures.first in
     asked.0 ∙ ap Next
     (ap (after_time clock) (sym asked.1)
     ∙ sym (c.answer_time.ensures.state c.step.new.packet clock time))

@@ -11,9 +11,9 @@ loop-done-init g c = record {
   running = c.requires.running;
   rows = refl;
   serial = omega arith;
-  calls = let none = c.requires.calls in omega arith;
+  clock_calls = let none = c.requires.clock_calls in omega arith;
   clock = λ k.
-      let none = c.requires.calls in
+      let none = c.requires.clock_calls in
       let same : k ≡ c.args.self.now.clock_calls + k = omega arith in
       ap (g.C.Clock.at c.args.clock.now) same;
 }
@@ -30,48 +30,48 @@ loop-done-preserved g c =
       running = e.running;
       rows = e.rows ∙ inv.rows;
       serial = omega (arith, e.serial, inv.serial);
-      calls = omega (arith, e.calls, inv.calls);
+      clock_calls = omega (arith, e.clock_calls, inv.clock_calls);
       clock = e.clock (g.C.Clock.at c.args.clock.now) inv.clock;
     }
 
-pub returns-in-Ended-clause-turn : goal.returns-in-Ended-clause-turn
-returns-in-Ended-clause-turn g c = λ p code rows version.
+pub returns-in-Finished-clause-turn : goal.returns-in-Finished-clause-turn
+returns-in-Finished-clause-turn g c = λ p code rows version.
     let inv = c.loop-done.invariant in
     let clock = g.C.Clock.at c.args.clock.now in
-    let went = c.in-Ended.ensures.step p clock code (rows ∙ sym inv.rows) version inv.clock in
-    turn_of-finished p clock c.loop-done.done c.args.limit c.in-Ended.number _ _
+    let went = c.in-Finished.ensures.step p clock code (rows ∙ sym inv.rows) version inv.clock in
+    turn_of-finished p clock c.loop-done.done c.args.limit c.in-Finished.number _ _
     (inv.so_far p code rows version) went.0 (omega arith)
-    ∙ ap (left (Exit c.in-Ended.number (c.loop-done.done + 1))) (sym went.1)
+    ∙ ap (left (Exit c.in-Finished.number (c.loop-done.done + 1))) (sym went.1)
 
-pub returns-in-Stopped-clause-turn : goal.returns-in-Stopped-clause-turn
-returns-in-Stopped-clause-turn g c = λ p code rows version.
+pub returns-in-Trapped-clause-turn : goal.returns-in-Trapped-clause-turn
+returns-in-Trapped-clause-turn g c = λ p code rows version.
     let inv = c.loop-done.invariant in
     let clock = g.C.Clock.at c.args.clock.now in
-    let went = c.in-Stopped.ensures.step p clock code (rows ∙ sym inv.rows) version inv.clock in
-    turn_of-trapped p clock c.loop-done.done c.args.limit c.in-Stopped.reason _ _
+    let went = c.in-Trapped.ensures.step p clock code (rows ∙ sym inv.rows) version inv.clock in
+    turn_of-trapped p clock c.loop-done.done c.args.limit c.in-Trapped.reason _ _
     (inv.so_far p code rows version) went.0 (omega arith)
-    ∙ ap (left (Trap c.in-Stopped.reason c.loop-done.done)) (sym went.1)
+    ∙ ap (left (Trap c.in-Trapped.reason c.loop-done.done)) (sym went.1)
 
-pub returns-in-Ended-clause-clock : goal.returns-in-Ended-clause-clock
-returns-in-Ended-clause-clock g c =
-    c.in-Ended.ensures.clock (g.C.Clock.at c.args.clock.now) c.loop-done.invariant.clock
+pub returns-in-Finished-clause-clock : goal.returns-in-Finished-clause-clock
+returns-in-Finished-clause-clock g c =
+    c.in-Finished.ensures.clock (g.C.Clock.at c.args.clock.now) c.loop-done.invariant.clock
 
-pub returns-in-Stopped-clause-clock : goal.returns-in-Stopped-clause-clock
-returns-in-Stopped-clause-clock g c =
-    c.in-Stopped.ensures.clock (g.C.Clock.at c.args.clock.now) c.loop-done.invariant.clock
+pub returns-in-Trapped-clause-clock : goal.returns-in-Trapped-clause-clock
+returns-in-Trapped-clause-clock g c =
+    c.in-Trapped.ensures.clock (g.C.Clock.at c.args.clock.now) c.loop-done.invariant.clock
 
-pub returns-in-Ended-clause-stop : goal.returns-in-Ended-clause-stop
-returns-in-Ended-clause-stop g c = λ p code rows version.
+pub returns-in-Finished-clause-stop : goal.returns-in-Finished-clause-stop
+returns-in-Finished-clause-stop g c = λ p code rows version.
     let inv = c.loop-done.invariant in
     let clock = g.C.Clock.at c.args.clock.now in
-    let went = c.in-Ended.ensures.step p clock code (rows ∙ sym inv.rows) version inv.clock in
-    state_at-finished p clock c.loop-done.done c.args.limit c.in-Ended.number _ _
+    let went = c.in-Finished.ensures.step p clock code (rows ∙ sym inv.rows) version inv.clock in
+    state_at-finished p clock c.loop-done.done c.args.limit c.in-Finished.number _ _
     (inv.so_far p code rows version) went.0 (omega arith) ∙ sym went.1
 
-pub returns-in-Stopped-clause-stop : goal.returns-in-Stopped-clause-stop
-returns-in-Stopped-clause-stop g c = λ p code rows version.
+pub returns-in-Trapped-clause-stop : goal.returns-in-Trapped-clause-stop
+returns-in-Trapped-clause-stop g c = λ p code rows version.
     let inv = c.loop-done.invariant in
     let clock = g.C.Clock.at c.args.clock.now in
-    let went = c.in-Stopped.ensures.step p clock code (rows ∙ sym inv.rows) version inv.clock in
-    state_at-trapped p clock c.loop-done.done c.args.limit c.in-Stopped.reason _ _
+    let went = c.in-Trapped.ensures.step p clock code (rows ∙ sym inv.rows) version inv.clock in
+    state_at-trapped p clock c.loop-done.done c.args.limit c.in-Trapped.reason _ _
     (inv.so_far p code rows version) went.0 (omega arith) ∙ sym went.1

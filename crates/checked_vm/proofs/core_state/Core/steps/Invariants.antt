@@ -14,6 +14,6 @@ invariant-loop-done g l = record {
   running : IsRunning l.self;
   rows : l.self.maps.rows ≡ l.initial.self.maps.rows;
   serial : l.self.maps.next_serial ≤ l.initial.self.maps.next_serial + l.done;
-  calls : l.self.clock_calls ≤ l.done;
+  clock_calls : l.self.clock_calls ≤ l.done;
   clock : ClockAnswers (g.C.Clock.at l.initial.clock) l.self.clock_calls (g.C.Clock.at l.clock);
 }

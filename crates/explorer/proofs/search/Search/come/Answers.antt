@@ -1,8 +1,8 @@
 use Rattle.std.proofs.lemmas.Result.{IfOk-weaker, IfErr-weaker}
 use Rattle.walks.specs.Refused.{StopsAt}
-use Rattle.explorer.specs.Search.{Arrives, TurnsBack, AfterMove}
+use Rattle.explorer.specs.Search.{Arrives, RefusesArrival, AfterMove}
 use Rattle.explorer.proofs.Steps.{comes_to}
-use Rattle.explorer.proofs.Walking.{turned_back}
+use Rattle.explorer.proofs.Walking.{arrival_refused}
 use Rattle.explorer.proofs.search.Search.come.Goals as goal
 
 pub returns-clause-moves : goal.returns-clause-moves
@@ -22,8 +22,8 @@ returns-clause-stops c =
     let p = c.args.flow.now in
     let old = c.args.self.now in
     let at = c.requires.comes.at in
-    IfErr-weaker c.arrive.result (λ r. TurnsBack p old.stored.states.items old.current r.0 r.1)
+    IfErr-weaker c.arrive.result (λ r. RefusesArrival p old.stored.states.items old.current r.0 r.1)
     (λ r. StopsAt p r.0 r.1)
-    (λ r back. turned_back p old.finished old.stored.states.items old.path.items at.first
-    old.current r.0 r.1 at.begins at.path c.requires.comes.on_path back)
+    (λ r refuses. arrival_refused p old.finished old.stored.states.items old.path.items at.first
+    old.current r.0 r.1 at.begins at.path c.requires.comes.on_path refuses)
     c.arrive.ensures.refused

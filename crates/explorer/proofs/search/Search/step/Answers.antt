@@ -136,7 +136,7 @@ of_forgotten-requires c = λ j below none.
     let forgotten =
     Forgets-forgotten c.args.flow.now c.step_in_place.new.other c.forget_dead.new.state
     c.forget_dead.ensures in
-    forgotten.1 j below (c.kept_slots-known.ensures j below none)
+    forgotten.1 j below (c.kept_slots-slots.ensures j below none)
 
 pub come-requires-clause-forgotten : goal.come-requires-clause-forgotten
 come-requires-clause-forgotten c = λ new.

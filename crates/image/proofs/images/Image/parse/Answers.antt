@@ -14,7 +14,7 @@ use Rattle.image.proofs.images.Image.parse.Goals as goal
 abbrev ok : Program → Result Program ImageError
 ok p = Ok p
 
--- a refusal of what was read is the image's, and no image has one
+-- the bytes of an image are refused only where memory runs out
 only_memory : Laws → (bytes : List ℕ) (e : ImageError) → (e ≡ Memory) ⊎ (program_read bytes ≡ Err e)
     → (p : Program) → IsImage p → bytes ≡ image_bytes p → e ≡ Memory
 only_memory laws bytes e (inl m) p h q = m

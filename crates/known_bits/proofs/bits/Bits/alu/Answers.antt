@@ -11,7 +11,7 @@ use Rattle.std.proofs.Math.Nat.{mod-eq_of_lt}
 use Rattle.known_bits.specs.declared.bits.Bits.{Bits}
 use Rattle.known_bits.specs.Member.{Occurs}
 use Rattle.known_bits.specs.Bits.{Has, IsSharp, greatest_of, KnowsProduct}
-use Rattle.known_bits.proofs.Members.{Apart, known}
+use Rattle.known_bits.proofs.Members.{Apart, is_apart}
 use Rattle.known_bits.proofs.Sharp.{low_set, occurs_low}
 use Rattle.known_bits.proofs.ProductZeros.{mod_le, mod-mod_pow, mod-pow-mul}
 use Rattle.known_bits.proofs.Precise.{occurs_lifted, second_sharp}
@@ -37,7 +37,7 @@ low_constant : (low m n : ℕ) → low ≡ m % 2 ^ n → m ≡ 0 → low ≡ 0
 low_constant low m n e zero =
     e ∙ ap (λ t. t % 2 ^ n) zero ∙ mod-eq_of_lt {n = 0} {m = 2 ^ n} (pow_pos n)
 
--- both values of a bit that occur on the low parts occur on the numbers
+-- where a bit may be 0 and may be 1 on the low parts, it may be on the numbers
 lifted_sharp : {av am bv bm : ℕ} → Apart av am → Apart bv bm → (w : Width) (f : ℕ → ℕ → ℕ) (i : ℕ)
     → Occurs (av % 2 ^ width_bits w) (am % 2 ^ width_bits w) (bv % 2 ^ width_bits w)
     (bm % 2 ^ width_bits w) f i 0
@@ -157,8 +157,8 @@ returns-in-Div-clause-contains c =
 pub returns-in-Add-clause-sharp : goal.returns-in-Add-clause-sharp
 unfolding alu
 returns-in-Add-clause-sharp c = λ precise i h.
-    let ka = known c.args.a (omega arith) (omega arith) in
-    let kb = known c.args.b (omega arith) (omega arith) in
+    let ka = is_apart c.args.a (omega arith) (omega arith) in
+    let kb = is_apart c.args.b (omega arith) (omega arith) in
     let o = rw (
       c.truncate-x.ensures.value,
       c.truncate-x.ensures.mask,
@@ -170,8 +170,8 @@ returns-in-Add-clause-sharp c = λ precise i h.
 pub returns-in-Sub-clause-sharp : goal.returns-in-Sub-clause-sharp
 unfolding alu
 returns-in-Sub-clause-sharp c = λ precise i h.
-    let ka = known c.args.a (omega arith) (omega arith) in
-    let kb = known c.args.b (omega arith) (omega arith) in
+    let ka = is_apart c.args.a (omega arith) (omega arith) in
+    let kb = is_apart c.args.b (omega arith) (omega arith) in
     let o = rw (
       c.truncate-x.ensures.value,
       c.truncate-x.ensures.mask,
@@ -185,8 +185,8 @@ returns-in-Sub-clause-sharp c = λ precise i h.
 pub returns-in-Lsh-clause-sharp : goal.returns-in-Lsh-clause-sharp
 unfolding alu
 returns-in-Lsh-clause-sharp c = λ precise i h.
-    let ka = known c.args.a (omega arith) (omega arith) in
-    let kb = known c.args.b (omega arith) (omega arith) in
+    let ka = is_apart c.args.a (omega arith) (omega arith) in
+    let kb = is_apart c.args.b (omega arith) (omega arith) in
     let zero : c.args.b.mask ≡ 0 = rw c.in-Lsh.is at precise in
     let one = low_constant c.truncate-y.result.mask c.args.b.mask
     (width_bits c.args.width) c.truncate-y.ensures.mask zero in
@@ -201,8 +201,8 @@ returns-in-Lsh-clause-sharp c = λ precise i h.
 pub returns-in-Rsh-clause-sharp : goal.returns-in-Rsh-clause-sharp
 unfolding alu
 returns-in-Rsh-clause-sharp c = λ precise i h.
-    let ka = known c.args.a (omega arith) (omega arith) in
-    let kb = known c.args.b (omega arith) (omega arith) in
+    let ka = is_apart c.args.a (omega arith) (omega arith) in
+    let kb = is_apart c.args.b (omega arith) (omega arith) in
     let zero : c.args.b.mask ≡ 0 = rw c.in-Rsh.is at precise in
     let one = low_constant c.truncate-y.result.mask c.args.b.mask
     (width_bits c.args.width) c.truncate-y.ensures.mask zero in
@@ -218,8 +218,8 @@ returns-in-Rsh-clause-sharp c = λ precise i h.
 pub returns-in-Mov-clause-sharp : goal.returns-in-Mov-clause-sharp
 unfolding alu
 returns-in-Mov-clause-sharp c = λ precise i h.
-    let ka = known c.args.a (omega arith) (omega arith) in
-    let kb = known c.args.b (omega arith) (omega arith) in
+    let ka = is_apart c.args.a (omega arith) (omega arith) in
+    let kb = is_apart c.args.b (omega arith) (omega arith) in
     let w = c.args.width in
     let n = width_bits w in
     let s = low_set c.args.b.mask n i (rw c.truncate-y.ensures.mask at h) in

@@ -1,26 +1,26 @@
 use Rattle.std.proofs.Common.{arith, ◌∙◌}
 use Rattle.std.proofs.lemmas.Nat.{and_comm}
-use Rattle.known_bits.proofs.Members.{known}
+use Rattle.known_bits.proofs.Members.{is_apart}
 use Rattle.known_bits.proofs.Overlaps.{and_value_zero}
 use Rattle.known_bits.proofs.Sharp.{least_member}
 use Rattle.known_bits.proofs.bits.Bits.disjoint.Goals as goal
 
 pub returns-in_err-left-clause-common : goal.returns-in_err-left-clause-common
 returns-in_err-left-clause-common c = λ x y hx hy none.
-    let kb = known c.args.other (omega arith) (omega arith) in
+    let kb = is_apart c.args.other (omega arith) (omega arith) in
     absurd (c.in_err-left.ensures.common x hx
     (c.outside.ensures.contains x hx.below (and_value_zero x kb hy none)))
 
 pub returns-in_err-right-clause-common : goal.returns-in_err-right-clause-common
 returns-in_err-right-clause-common c = λ x y hx hy none.
-    let ka = known c.args.self (omega arith) (omega arith) in
+    let ka = is_apart c.args.self (omega arith) (omega arith) in
     absurd (c.in_err-right.ensures.common y hy
     (c.outside-2.ensures.contains y hy.below (and_value_zero y ka hx (and_comm y x ∙ none))))
 
 pub returns-clause-common : goal.returns-clause-common
 returns-clause-common c = λ x y hx hy none.
-    let ka = known c.args.self (omega arith) (omega arith) in
-    let kb = known c.args.other (omega arith) (omega arith) in (
+    let ka = is_apart c.args.self (omega arith) (omega arith) in
+    let kb = is_apart c.args.other (omega arith) (omega arith) in (
       c.in_ok-left.ensures.common x hx
           (c.outside.ensures.contains x hx.below (and_value_zero x kb hy none)),
       c.in_ok-right.ensures.common y hy
@@ -29,9 +29,9 @@ returns-clause-common c = λ x y hx hy none.
 
 pub returns-clause-found : goal.returns-clause-found
 returns-clause-found c =
-    let kb = known c.args.other (omega arith) (omega arith) in
+    let kb = is_apart c.args.other (omega arith) (omega arith) in
     let left = c.in_ok-left.left in
-    let kl = known left (omega arith) (omega arith) in
+    let kl = is_apart left (omega arith) (omega arith) in
     record {
       x = left.value;
       y = c.args.other.value;

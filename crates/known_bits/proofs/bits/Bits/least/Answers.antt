@@ -1,12 +1,12 @@
 use Rattle.std.proofs.Common.{arith}
-use Rattle.known_bits.proofs.Members.{known}
+use Rattle.known_bits.proofs.Members.{is_apart}
 use Rattle.known_bits.proofs.Order.{member_least}
 use Rattle.known_bits.proofs.Sharp.{least_member}
 use Rattle.known_bits.proofs.bits.Bits.least.Goals as goal
 
 pub returns-clause-member : goal.returns-clause-member
 returns-clause-member c =
-    let k = known c.args.self (omega arith) (omega arith) in
+    let k = is_apart c.args.self (omega arith) (omega arith) in
     least_member k
 
 pub returns-clause-limit : goal.returns-clause-limit

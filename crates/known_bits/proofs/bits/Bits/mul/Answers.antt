@@ -1,12 +1,12 @@
 use Rattle.std.proofs.Common.{arith}
-use Rattle.known_bits.proofs.Members.{known}
+use Rattle.known_bits.proofs.Members.{is_apart}
 use Rattle.known_bits.proofs.Sharp.{least_member}
 use Rattle.known_bits.proofs.bits.Bits.mul.Goals as goal
 
 pub returns-clause-product : goal.returns-clause-product
 returns-clause-product c =
-    let ka = known c.args.self (omega arith) (omega arith) in
-    let kb = known c.args.other (omega arith) (omega arith) in
+    let ka = is_apart c.args.self (omega arith) (omega arith) in
+    let kb = is_apart c.args.other (omega arith) (omega arith) in
     let x = least_member ka in
     let y = least_member kb in
     let term = c.sum_of_terms.ensures _ _ x y in

@@ -1,7 +1,7 @@
 use Rattle.std.proofs.Common.{arith, ◌*◌, ◌+◌}
 use Rattle.isa_model.specs.Code.Sizes.{width_bits}
 use Rattle.isa_model.proofs.NumberLaws.{low_wrapped}
-use Rattle.known_bits.proofs.Members.{known}
+use Rattle.known_bits.proofs.Members.{is_apart}
 use Rattle.known_bits.proofs.Sharp.{most_member}
 use Rattle.known_bits.proofs.ProductZeros.{low-multiple, low-limit}
 use Rattle.known_bits.proofs.bits.Bits.mul_at.Goals as goal
@@ -14,7 +14,7 @@ returns-clause-contains c =
 
 pub returns-clause-product : goal.returns-clause-product
 returns-clause-product c =
-    let k = known c.mul.result (omega arith) (omega arith) in
+    let k = is_apart c.mul.result (omega arith) (omega arith) in
     let w = width_bits c.args.width in
     let product = c.mul.ensures.product in
     record {

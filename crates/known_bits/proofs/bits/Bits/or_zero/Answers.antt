@@ -1,6 +1,6 @@
 use Rattle.std.proofs.Common.{arith, bit_or}
 use Rattle.std.proofs.lemmas.Nat.{and_le_l, or_lt}
-use Rattle.known_bits.proofs.Members.{known}
+use Rattle.known_bits.proofs.Members.{is_apart}
 use Rattle.known_bits.proofs.Product.{or_zero_contains}
 use Rattle.known_bits.proofs.bits.Bits.or_zero.Goals as goal
 
@@ -12,5 +12,5 @@ invariant_of-result c = record {
 
 pub returns-clause-contains : goal.returns-clause-contains
 returns-clause-contains c =
-    let ka = known c.args.self (omega arith) (omega arith) in
+    let ka = is_apart c.args.self (omega arith) (omega arith) in
     or_zero_contains ka

@@ -4,7 +4,7 @@ use Rattle.std.proofs.lemmas.Nat.{and_le_l, and_le_r, or_lt, one_shl}
 use Rattle.std.proofs.lemmas.Nat.Bits.{bit_at-trailing_zeros}
 use Rattle.known_bits.specs.declared.bits.Bits.{Bits}
 use Rattle.known_bits.specs.Member.{IsMember}
-use Rattle.known_bits.proofs.Members.{Apart, known}
+use Rattle.known_bits.proofs.Members.{Apart, is_apart}
 use Rattle.known_bits.proofs.Overlaps.{and_shared, shared_bit, same_position, one_position}
 use Rattle.known_bits.proofs.Sharp.{most_member}
 use Rattle.known_bits.proofs.bits.Bits.overlapping.Goals as goal
@@ -44,37 +44,37 @@ both_have a b x y ka kb hx hy common some one =
 
 pub returns-then-shared-eq0-clause-common : goal.returns-then-shared-eq0-clause-common
 returns-then-shared-eq0-clause-common c = λ x y hx hy some.
-    let ka = known c.args.self (omega arith) (omega arith) in
-    let kb = known c.args.other (omega arith) (omega arith) in
+    let ka = is_apart c.args.self (omega arith) (omega arith) in
+    let kb = is_apart c.args.other (omega arith) (omega arith) in
     let e = and_shared ka kb hx hy in
     let le = and_le_r (bit_and x y) (shared c.args.self c.args.other) in
     some (omega arith)
 
 pub overflow_shl-lowest : goal.overflow_shl-lowest
 overflow_shl-lowest c =
-    let ka = known c.args.self (omega arith) (omega arith) in
+    let ka = is_apart c.args.self (omega arith) (omega arith) in
     lowest_inside c.args.self c.args.other ka c.if-shared-eq0.false
 
 pub returns-in_err-left-clause-common : goal.returns-in_err-left-clause-common
 returns-in_err-left-clause-common c = λ x y hx hy some.
-    let ka = known c.args.self (omega arith) (omega arith) in
-    let kb = known c.args.other (omega arith) (omega arith) in
+    let ka = is_apart c.args.self (omega arith) (omega arith) in
+    let kb = is_apart c.args.other (omega arith) (omega arith) in
     let both = both_have c.args.self c.args.other x y ka kb hx hy some
     c.if-shared-eq0.false c.if-shared-lowest.false in
     absurd (c.in_err-left.ensures.common x hx (c.having.ensures.contains x hx.below both.0))
 
 pub returns-in_err-right-clause-common : goal.returns-in_err-right-clause-common
 returns-in_err-right-clause-common c = λ x y hx hy some.
-    let ka = known c.args.self (omega arith) (omega arith) in
-    let kb = known c.args.other (omega arith) (omega arith) in
+    let ka = is_apart c.args.self (omega arith) (omega arith) in
+    let kb = is_apart c.args.other (omega arith) (omega arith) in
     let both = both_have c.args.self c.args.other x y ka kb hx hy some
     c.if-shared-eq0.false c.if-shared-lowest.false in
     absurd (c.in_err-right.ensures.common y hy (c.having-2.ensures.contains y hy.below both.1))
 
 pub returns-clause-common : goal.returns-clause-common
 returns-clause-common c = λ x y hx hy some.
-    let ka = known c.args.self (omega arith) (omega arith) in
-    let kb = known c.args.other (omega arith) (omega arith) in
+    let ka = is_apart c.args.self (omega arith) (omega arith) in
+    let kb = is_apart c.args.other (omega arith) (omega arith) in
     let both = both_have c.args.self c.args.other x y ka kb hx hy some
     c.if-shared-eq0.false c.if-shared-lowest.false in (
       c.in_ok-left.ensures.common x hx (c.having.ensures.contains x hx.below both.0),
@@ -83,8 +83,8 @@ returns-clause-common c = λ x y hx hy some.
 
 pub returns-clause-found : goal.returns-clause-found
 returns-clause-found c =
-    let ka = known c.args.self (omega arith) (omega arith) in
-    let kb = known c.args.other (omega arith) (omega arith) in
+    let ka = is_apart c.args.self (omega arith) (omega arith) in
+    let kb = is_apart c.args.other (omega arith) (omega arith) in
     record {
       x = bit_or c.args.self.value c.args.self.mask;
       y = bit_or c.args.other.value c.args.other.mask;
@@ -95,22 +95,22 @@ returns-clause-found c =
 
 pub returns-clause-left_only : goal.returns-clause-left_only
 returns-clause-left_only c = λ x i alone h.
-    let ka = known c.args.self (omega arith) (omega arith) in
+    let ka = is_apart c.args.self (omega arith) (omega arith) in
     let one = lone c.args.self c.args.other ka c.if-shared-eq0.false c.if-shared-lowest.false in
     rw (same_position i (lowest c.args.self c.args.other) (sym alone ∙ one))
     (c.having.ensures.only x (c.in_ok-left.ensures.right x h))
 
 pub returns-clause-right_only : goal.returns-clause-right_only
 returns-clause-right_only c = λ y i alone h.
-    let ka = known c.args.self (omega arith) (omega arith) in
+    let ka = is_apart c.args.self (omega arith) (omega arith) in
     let one = lone c.args.self c.args.other ka c.if-shared-eq0.false c.if-shared-lowest.false in
     rw (same_position i (lowest c.args.self c.args.other) (sym alone ∙ one))
     (c.having-2.ensures.only y (c.in_ok-right.ensures.right y h))
 
 pub returns-then-shared-lowest-clause-found : goal.returns-then-shared-lowest-clause-found
 returns-then-shared-lowest-clause-found c =
-    let ka = known c.args.self (omega arith) (omega arith) in
-    let kb = known c.args.other (omega arith) (omega arith) in
+    let ka = is_apart c.args.self (omega arith) (omega arith) in
+    let kb = is_apart c.args.other (omega arith) (omega arith) in
     record {
       x = bit_or c.args.self.value c.args.self.mask;
       y = bit_or c.args.other.value c.args.other.mask;
@@ -121,12 +121,12 @@ returns-then-shared-lowest-clause-found c =
 
 pub returns-then-shared-lowest-clause-left_only : goal.returns-then-shared-lowest-clause-left_only
 returns-then-shared-lowest-clause-left_only c = λ x i alone h.
-    let ka = known c.args.self (omega arith) (omega arith) in
+    let ka = is_apart c.args.self (omega arith) (omega arith) in
     let fits = shared_fits c.args.self c.args.other ka in
     absurd (c.if-shared-lowest.true (one_position (shared c.args.self c.args.other) i fits alone))
 
 pub returns-then-shared-lowest-clause-right_only : goal.returns-then-shared-lowest-clause-right_only
 returns-then-shared-lowest-clause-right_only c = λ y i alone h.
-    let ka = known c.args.self (omega arith) (omega arith) in
+    let ka = is_apart c.args.self (omega arith) (omega arith) in
     let fits = shared_fits c.args.self c.args.other ka in
     absurd (c.if-shared-lowest.true (one_position (shared c.args.self c.args.other) i fits alone))

@@ -1,7 +1,7 @@
 use Rattle.std.proofs.Common.{arith, ℕ, sym, ap, ◌∙◌, ◌≡◌, ◌+◌, ◌-◌, ◌*◌, ◌%◌, ◌^◌, w64, bit_and}
 use Rattle.std.specs.Int.{trailing_zeros}
 use Rattle.std.proofs.lemmas.Nat.{and_mask}
-use Rattle.known_bits.proofs.Members.{known}
+use Rattle.known_bits.proofs.Members.{is_apart}
 use Rattle.known_bits.proofs.ProductZeros.{mod-pow_smaller, mod-mod_pow, mod-pow-mul, mod-trailing_zeros, trailing_zeros-multiple, member-multiple}
 use Rattle.known_bits.proofs.bits.Bits.product_zeros.Goals as goal
 
@@ -17,8 +17,8 @@ and_ones_back n k ones e z =
 
 pub returns-clause-contains : goal.returns-clause-contains
 returns-clause-contains c = λ x y hx hy.
-    let ka = known c.args.self (omega arith) (omega arith) in
-    let kb = known c.args.other (omega arith) (omega arith) in
+    let ka = is_apart c.args.self (omega arith) (omega arith) in
+    let kb = is_apart c.args.other (omega arith) (omega arith) in
     let zx = member-multiple ka hx (trailing_zeros w64 c.greatest.result)
     (ap (λ n. n % 2 ^ trailing_zeros w64 c.greatest.result) (sym c.greatest.ensures.value)
     ∙ mod-trailing_zeros c.greatest.result c.greatest.type_inv) in

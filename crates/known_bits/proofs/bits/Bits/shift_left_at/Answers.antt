@@ -1,10 +1,10 @@
 use Rattle.std.proofs.Common.{arith, ◌≡◌, ◌*◌, ◌^◌, ap, sym, ◌∙◌, ℕ, ◌%◌}
 use Rattle.isa_model.specs.Code.Numbers.{shift, result_of}
 use Rattle.isa_model.proofs.NumberLaws.{low_wrapped, low_below}
-use Rattle.known_bits.proofs.Widths.{only_member}
+use Rattle.known_bits.proofs.Constants.{only_member}
 use Rattle.isa_model.specs.declared.instructions.AluOp.TheVariants.{Lsh}
 use Rattle.isa_model.specs.Code.Sizes.{width_bits}
-use Rattle.known_bits.proofs.Members.{known}
+use Rattle.known_bits.proofs.Members.{is_apart}
 use Rattle.known_bits.proofs.Sharp.{low_set, occurs_low}
 use Rattle.known_bits.proofs.Precise.{left_sharp}
 use Rattle.known_bits.specs.Member.{IsMember}
@@ -28,8 +28,8 @@ returns-then-other-ne0-clause-sharp c = λ one. absurd (c.if-other-ne0.true one)
 
 pub returns-clause-sharp : goal.returns-clause-sharp
 returns-clause-sharp c = λ one i h.
-    let ka = known c.args.self (omega arith) (omega arith) in
-    let kb = known c.args.other (omega arith) (omega arith) in
+    let ka = is_apart c.args.self (omega arith) (omega arith) in
+    let kb = is_apart c.args.other (omega arith) (omega arith) in
     let w = c.args.width in
     let k = c.distance.result in
     let s = low_set c.shift_left.result.mask (width_bits w) i (rw c.truncate.ensures.mask at h) in

@@ -3,8 +3,8 @@ use Rattle.isa_model.specs.declared.instructions.AluOp.TheVariants.{Arsh}
 use Rattle.isa_model.specs.Code.Numbers.{alu}
 use Rattle.isa_model.proofs.NumberLaws.{alu_below}
 use Rattle.known_bits.specs.Member.{IsMember}
-use Rattle.known_bits.proofs.Members.{known}
-use Rattle.known_bits.proofs.Widths.{only_member}
+use Rattle.known_bits.proofs.Members.{is_apart}
+use Rattle.known_bits.proofs.Constants.{only_member}
 use Rattle.known_bits.proofs.Copies.{shift_copies, copied_known, copied_contains, copied_fits, copied_sharp, occurs_same}
 use Rattle.known_bits.proofs.bits.Bits.shift_signed_at.Goals as goal
 
@@ -14,7 +14,7 @@ returns-then-other-ne0-clause-contains c =
 
 pub invariant_of-result : goal.invariant_of-result
 invariant_of-result c =
-    let k = known c.args.self (omega arith) (omega arith) in
+    let k = is_apart c.args.self (omega arith) (omega arith) in
     record {
       apart = rw (c.compute.ensures, c.compute-2.ensures)
           ((copied_known (shift_copies c.args.width c.args.other.value) k).apart);
@@ -23,14 +23,14 @@ invariant_of-result c =
 
 pub returns-clause-contains : goal.returns-clause-contains
 returns-clause-contains c = λ x y hx hy.
-    let k = known c.args.self (omega arith) (omega arith) in
+    let k = is_apart c.args.self (omega arith) (omega arith) in
     rw (only_member c.if-other-ne0.false hy, c.compute.ensures, c.compute-2.ensures)
     (copied_contains (shift_copies c.args.width c.args.other.value) k x hx)
 
 pub returns-clause-sharp : goal.returns-clause-sharp
 returns-clause-sharp c = λ one i h.
-    let k = known c.args.self (omega arith) (omega arith) in
-    let other = known c.args.other (omega arith) (omega arith) in
+    let k = is_apart c.args.self (omega arith) (omega arith) in
+    let other = is_apart c.args.other (omega arith) (omega arith) in
     let o = copied_sharp (shift_copies c.args.width c.args.other.value) k other i
     (rw c.compute-2.ensures at h) in
     let same = λ (x y : ℕ) (hy : IsMember c.args.other.value c.args.other.mask y).
@@ -40,6 +40,6 @@ returns-clause-sharp c = λ one i h.
 
 pub returns-clause-fits : goal.returns-clause-fits
 returns-clause-fits c = λ x h.
-    let k = known c.args.self (omega arith) (omega arith) in
+    let k = is_apart c.args.self (omega arith) (omega arith) in
     copied_fits (shift_copies c.args.width c.args.other.value) k
     (rw (c.compute.ensures, c.compute-2.ensures) at h)

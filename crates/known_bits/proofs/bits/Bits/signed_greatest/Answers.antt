@@ -1,7 +1,7 @@
 use Rattle.std.proofs.Common.{◌-◌, ◌^◌, arith, w64, bit_or}
 use Rattle.std.proofs.lemmas.Int.{of_z-to_z}
 use Rattle.std.proofs.lemmas.Nat.{le_or_r, or_lt}
-use Rattle.known_bits.proofs.Members.{known}
+use Rattle.known_bits.proofs.Members.{is_apart}
 use Rattle.known_bits.proofs.Sharp.{most_member}
 use Rattle.known_bits.proofs.Signs.{other_sign, signed_greatest_unknown, signed_greatest_known}
 use Rattle.known_bits.proofs.bits.Bits.signed_greatest.Goals as goal
@@ -15,7 +15,7 @@ overflow_sub-greatest c =
 
 pub returns-then-self-ge-SIGN-clause-member : goal.returns-then-self-ge-SIGN-clause-member
 returns-then-self-ge-SIGN-clause-member c =
-    let k = known c.args.self (omega arith) (omega arith) in
+    let k = is_apart c.args.self (omega arith) (omega arith) in
     let top = bit_or c.args.self.value c.args.self.mask in
     let l = le_or_r c.args.self.value c.args.self.mask in
     let o = or_lt 64 c.args.self.value c.args.self.mask k.value_in k.mask_in in
@@ -25,7 +25,7 @@ returns-then-self-ge-SIGN-clause-member c =
 
 pub returns-then-self-ge-SIGN-clause-limit : goal.returns-then-self-ge-SIGN-clause-limit
 returns-then-self-ge-SIGN-clause-limit c = λ x hx.
-    let k = known c.args.self (omega arith) (omega arith) in
+    let k = is_apart c.args.self (omega arith) (omega arith) in
     let top = bit_or c.args.self.value c.args.self.mask in
     let o = or_lt 64 c.args.self.value c.args.self.mask k.value_in k.mask_in in
     let same = of_z-to_z w64 (top - 2 ^ 63) (omega arith) in
@@ -34,7 +34,7 @@ returns-then-self-ge-SIGN-clause-limit c = λ x hx.
 
 pub returns-else-self-ge-SIGN-clause-member : goal.returns-else-self-ge-SIGN-clause-member
 returns-else-self-ge-SIGN-clause-member c =
-    let k = known c.args.self (omega arith) (omega arith) in
+    let k = is_apart c.args.self (omega arith) (omega arith) in
     let same = of_z-to_z w64 (bit_or c.args.self.value c.args.self.mask)
     (or_lt 64 c.args.self.value c.args.self.mask k.value_in k.mask_in) in
     simp (c.cast_signed-else-self-ge-SIGN.ensures, c.greatest-else-self-ge-SIGN.ensures.value, same)
@@ -42,7 +42,7 @@ returns-else-self-ge-SIGN-clause-member c =
 
 pub returns-else-self-ge-SIGN-clause-limit : goal.returns-else-self-ge-SIGN-clause-limit
 returns-else-self-ge-SIGN-clause-limit c = λ x hx.
-    let k = known c.args.self (omega arith) (omega arith) in
+    let k = is_apart c.args.self (omega arith) (omega arith) in
     let same = of_z-to_z w64 (bit_or c.args.self.value c.args.self.mask)
     (or_lt 64 c.args.self.value c.args.self.mask k.value_in k.mask_in) in
     simp (c.cast_signed-else-self-ge-SIGN.ensures, c.greatest-else-self-ge-SIGN.ensures.value, same)

@@ -1,13 +1,13 @@
 use Rattle.std.proofs.Common.{◌+◌, ◌^◌, arith, w64}
 use Rattle.std.proofs.lemmas.Int.{of_z-to_z}
-use Rattle.known_bits.proofs.Members.{known}
+use Rattle.known_bits.proofs.Members.{is_apart}
 use Rattle.known_bits.proofs.Sharp.{least_member}
 use Rattle.known_bits.proofs.Signs.{sign_unknown, other_sign, signed_least_unknown, signed_least_known}
 use Rattle.known_bits.proofs.bits.Bits.signed_least.Goals as goal
 
 pub returns-then-self-ge-SIGN-clause-member : goal.returns-then-self-ge-SIGN-clause-member
 returns-then-self-ge-SIGN-clause-member c =
-    let k = known c.args.self (omega arith) (omega arith) in
+    let k = is_apart c.args.self (omega arith) (omega arith) in
     let v_in = sign_unknown k c.if-self-ge-SIGN.true in
     let same = of_z-to_z w64 (c.args.self.value + 2 ^ 63) (omega arith) in
     simp (c.cast_signed.ensures, c.least.ensures.value, same)
@@ -16,7 +16,7 @@ returns-then-self-ge-SIGN-clause-member c =
 
 pub returns-then-self-ge-SIGN-clause-limit : goal.returns-then-self-ge-SIGN-clause-limit
 returns-then-self-ge-SIGN-clause-limit c = λ x hx.
-    let k = known c.args.self (omega arith) (omega arith) in
+    let k = is_apart c.args.self (omega arith) (omega arith) in
     let v_in = sign_unknown k c.if-self-ge-SIGN.true in
     let same = of_z-to_z w64 (c.args.self.value + 2 ^ 63) (omega arith) in
     simp (c.cast_signed.ensures, c.least.ensures.value, same)
@@ -24,14 +24,14 @@ returns-then-self-ge-SIGN-clause-limit c = λ x hx.
 
 pub returns-else-self-ge-SIGN-clause-member : goal.returns-else-self-ge-SIGN-clause-member
 returns-else-self-ge-SIGN-clause-member c =
-    let k = known c.args.self (omega arith) (omega arith) in
+    let k = is_apart c.args.self (omega arith) (omega arith) in
     let same = of_z-to_z w64 c.args.self.value (omega arith) in
     simp (c.cast_signed-else-self-ge-SIGN.ensures, c.least-else-self-ge-SIGN.ensures.value, same)
     (least_member k)
 
 pub returns-else-self-ge-SIGN-clause-limit : goal.returns-else-self-ge-SIGN-clause-limit
 returns-else-self-ge-SIGN-clause-limit c = λ x hx.
-    let k = known c.args.self (omega arith) (omega arith) in
+    let k = is_apart c.args.self (omega arith) (omega arith) in
     let same = of_z-to_z w64 c.args.self.value (omega arith) in
     simp (c.cast_signed-else-self-ge-SIGN.ensures, c.least-else-self-ge-SIGN.ensures.value, same)
     (signed_least_known k c.if-self-ge-SIGN.false hx)

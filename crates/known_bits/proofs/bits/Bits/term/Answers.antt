@@ -2,13 +2,13 @@ use Rattle.std.proofs.Common.{arith, ◌≡◌, ◌^◌, sym, ◌∙◌, inl, in
 use Rattle.std.specs.Int.{bit_at}
 use Rattle.std.proofs.lemmas.Nat.Bits.{shr_and_one, bit_at-lt}
 use Rattle.std.proofs.lemmas.Bool.{cases_lt}
-use Rattle.known_bits.proofs.Members.{known, bits_between}
+use Rattle.known_bits.proofs.Members.{is_apart, bits_between}
 use Rattle.known_bits.proofs.Product.{term_one, term_zero}
 use Rattle.known_bits.proofs.bits.Bits.term.Goals as goal
 
 pub returns-then-self-i-eq1 : goal.returns-then-self-i-eq1
 returns-then-self-i-eq1 c = λ x y hx hy.
-    let ka = known c.args.self (omega arith) (omega arith) in
+    let ka = is_apart c.args.self (omega arith) (omega arith) in
     let b = bits_between ka hx c.args.i c.requires in
     let v : bit_at c.args.self.value c.args.i ≡ 1 = sym (shr_and_one c.args.self.value c.args.i)
     ∙ c.if-self-i-eq1.true in
@@ -29,7 +29,7 @@ returns-then-self-i-eq1-2 c = λ x y hx hy.
 
 pub returns-else-self-i-eq1-2 : goal.returns-else-self-i-eq1-2
 returns-else-self-i-eq1-2 c = λ x y hx hy.
-    let ka = known c.args.self (omega arith) (omega arith) in
+    let ka = is_apart c.args.self (omega arith) (omega arith) in
     let b = bits_between ka hx c.args.i c.requires in
     let v = shr_and_one c.args.self.value c.args.i in
     let m = shr_and_one c.args.self.mask c.args.i in

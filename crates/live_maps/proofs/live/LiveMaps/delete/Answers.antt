@@ -150,24 +150,24 @@ invariant_of-self c =
     let others = c.delete-answer.ensures.others in
     let d = some_changed w.In-Some in
     let q : KeyOrder = c.remove.new.self in
-    let told = slice_set i.orders.items m q in
+    let new_orders = slice_set i.orders.items m q in
     let was = order_found i.maps i.serials.items i.orders.items m c.index_mut.result.now _
     c.self.invariant.3 d.inside c.index_mut.ensures.value in
     let now = ordered w.In-Some d c.index_mut.result.now q was c.remove.ensures.places
     c.remove.ensures.room c.remove.ensures.first in
     let kept =
     still_kept (vec_capacity i.serials) (vec_capacity i.orders) i.next i.next i.maps new
-    i.serials.items (left w.In-Some) i.orders.items told m c.self.invariant others
+    i.serials.items (left w.In-Some) i.orders.items new_orders m c.self.invariant others
     (lives w.In-Some d).0
     (AreOrders-changed i.maps new i.serials.items i.orders.items m
     (slice_set (serials_at i.serials.items m) c.in-Some.place None) q others
     c.self.invariant.2.long d.inside now c.self.invariant.3) in
     subst (λ (n : ℕ). AreLiveMaps n
-    (vec_capacity i.orders) i.next new c.take_away.new.all.items told)
+    (vec_capacity i.orders) i.next new c.take_away.new.all.items new_orders)
     (sym c.take_away.ensures.room)
     (subst (λ (a : List Serials). AreLiveMaps (vec_capacity i.serials)
     (vec_capacity i.orders) i.next new
-    a told) (sym c.take_away.ensures.taken) kept)
+    a new_orders) (sym c.take_away.ensures.taken) kept)
 
 pub invariant_of-self-in_default : goal.invariant_of-self-in_default
 invariant_of-self-in_default c = absurd (never (goal.at.invariant_of-self-in_default c).In_default)

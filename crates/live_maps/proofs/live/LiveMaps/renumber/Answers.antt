@@ -1,6 +1,6 @@
 use Rattle.std.proofs.Common.{◌≡◌, ◌∙◌, ℕ, List, map, sym, ap, subst}
 use Rattle.isa_model.specs.Machine.States.{KeyValues, key_values_of}
-use Rattle.isa_model.specs.Running.Runs.{numbered_maps, count_values}
+use Rattle.isa_model.specs.Running.Runs.{numbered_maps, count_map_values}
 use Rattle.maps.specs.Maps.{rows_of, contents_of, map_at}
 use Rattle.live_maps.specs.Live.{Live, AreLive, serials_at}
 use Rattle.live_maps.proofs.ContentLaws.{live_of, key_values_of-live_contents}
@@ -38,7 +38,7 @@ returns-clause-numbered c =
     record {
       rows = rows_of maps;
       contents = numbered_maps 0 es;
-      next_serial = count_values es;
+      next_serial = count_map_values es;
     } in
     let new : live_of maps all c.number_all-count.result ≡ numbered (contents_of maps) =
     λ j. record {
@@ -52,6 +52,6 @@ returns-clause-numbered c =
     new ∙ ap numbered plain
     ∙ ap (λ (l : Live). record l {
       contents = numbered_maps 0 (map key_values_of l.contents);
-      next_serial = count_values
+      next_serial = count_map_values
           (map key_values_of l.contents);
     }) c.self.view_is

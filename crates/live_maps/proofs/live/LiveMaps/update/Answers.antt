@@ -216,7 +216,7 @@ invariant_of-self c =
     let d = some_changed w.In-Some in
     let s : suc i.next ≡ i.next + 1 = omega arith in
     let q : KeyOrder = c.insert.new.self in
-    let told = slice_set i.orders.items m q in
+    let new_orders = slice_set i.orders.items m q in
     let here : Serials = slice_set (serials_at i.serials.items m) c.in-Some.place (Some i.next) in
     let was = order_found i.maps i.serials.items i.orders.items m c.index_mut.result.now _
     c.self.invariant.3 d.inside c.index_mut.ensures.value in
@@ -227,17 +227,17 @@ invariant_of-self c =
     c.insert.ensures.first in
     let kept =
     still_kept (vec_capacity i.serials) (vec_capacity i.orders) i.next (suc i.next) i.maps new
-    i.serials.items (given w.In-Some) i.orders.items told m c.self.invariant others
+    i.serials.items (given w.In-Some) i.orders.items new_orders m c.self.invariant others
     (added w.In-Some d).0
     (AreOrders-changed i.maps new i.serials.items i.orders.items m here q others
     c.self.invariant.2.long d.inside now c.self.invariant.3) in
     subst (λ (n : ℕ). AreLiveMaps n (vec_capacity i.orders)
     (i.next + 1) new c.give_serial.new.all.items
-    told) (sym c.give_serial.ensures.room)
+    new_orders) (sym c.give_serial.ensures.room)
     (subst (λ (a : List Serials). AreLiveMaps (vec_capacity i.serials) (vec_capacity i.orders)
-    (i.next + 1) new a told) (sym c.give_serial.ensures.given)
+    (i.next + 1) new a new_orders) (sym c.give_serial.ensures.given)
     (subst (λ (n : ℕ). AreLiveMaps (vec_capacity i.serials) (vec_capacity i.orders) n new
-    (given w.In-Some) told) s kept))
+    (given w.In-Some) new_orders) s kept))
 
 pub invariant_of-self-in_default : goal.invariant_of-self-in_default
 invariant_of-self-in_default c =

@@ -17,7 +17,7 @@ copy_from_slice-requires-2 c =
     let are = sized maps c.say_fits.ensures c.args.map
     (inside p bound maps rows c.args.self.now c.self.view_is c.args.map c.requires.map) row es
     (row_is p bound maps rows c.args.self.now c.self.view_is c.args.map c.requires.map)
-    c.order.ensures.entries in
+    c.order.ensures.pairs in
     c.requires.value_size
     ∙ sym (found_size row es c.args.k c.in-Some.found.now are c.in-Some.ensures.value)
 
@@ -32,11 +32,11 @@ returns-clause-copied c =
     let are = sized maps c.say_fits.ensures c.args.map
     (inside p bound maps rows c.args.self.now c.self.view_is c.args.map c.requires.map) row es
     (row_is p bound maps rows c.args.self.now c.self.view_is c.args.map c.requires.map)
-    c.order.ensures.entries in
+    c.order.ensures.pairs in
     subst (λ (xs : KeyValues). CopiesKeyValue
     (slice_get xs c.args.k) true c.args.key.now c.copy_from_slice.new.self c.args.value.now
     c.copy_from_slice-2.new.self)
-    (c.order.ensures.entries
+    (c.order.ensures.pairs
     ∙ ordered_is p bound maps rows c.args.self.now c.self.view_is c.args.map c.requires.map)
     (copies row es c.args.k c.in-Some.found.now are c.in-Some.ensures.value c.key_value.new.key _
     c.args.key.now c.copy_from_slice.new.self c.args.value.now c.copy_from_slice-2.new.self

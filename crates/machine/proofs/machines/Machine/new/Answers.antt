@@ -25,5 +25,5 @@ invariant_of-result c =
       rows = ap rows_of maps ∙ c.requires.rows ∙ ap (λ (p : Program). p.maps) (sym program);
       whole = c.in-Ok-new.ensures.frames;
       outer = c.in-Ok-new.ensures.saved;
-      room = c.in-Ok-new.ensures.room;
+      capacity = c.in-Ok-new.ensures.capacity;
     }

@@ -1,8 +1,8 @@
 use Rattle.std.proofs.Common.{◌≡◌, ℕ, ◌+◌, ◌*◌, ◌-◌, ◌≤◌, List, length, take, drop, ap, sym, ◌∙◌, arith, true, Bool, Some}
 use Rattle.std.proofs.lemmas.List.{length-take, length-drop}
 use Rattle.std.specs.Prelude.{is_some}
-use Rattle.map_indexes.specs.Rows.{row_at}
-use Rattle.map_indexes.specs.RowLaws.{row_end}
+use Rattle.map_indexes.specs.BlockRows.{block_row}
+use Rattle.map_indexes.specs.BlockRowLaws.{row_end}
 use Rattle.map_indexes.specs.PlaceKeys.{KeysByPlace, key_in, keys_by_place}
 use Rattle.map_indexes.proofs.KeyLaws.{key_in-used, used_inside}
 use Rattle.map_indexes.proofs.keys.Keys.key.Goals as goal
@@ -71,6 +71,6 @@ returns-clause-key c =
     sym (ap (λ (t : KeysByPlace). key_in t.by_place c.args.place) c.self.view_is)
     ∙ key_in-used k.size k.block.items 0 k.used.items c.args.place here
     ∙ ap Some (let z : 0 + c.args.place
-    ≡ c.args.place = omega arith in ap (row_at k.size k.block.items) z
+    ≡ c.args.place = omega arith in ap (block_row k.size k.block.items) z
     ∙ sym (part (c.args.place * k.size) k.size k.block.items c.deref.result.now
     c.deref.ensures.value))

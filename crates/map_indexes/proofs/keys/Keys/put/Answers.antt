@@ -1,7 +1,7 @@
 use Rattle.std.proofs.Common.{◌≡◌, ℕ, ◌<◌, List, length, ap, sym, ◌∙◌, arith, true}
 use Rattle.std.specs.Prelude.{slice_set, Some}
-use Rattle.map_indexes.specs.Rows.{with_row}
-use Rattle.map_indexes.specs.RowLaws.{row_end, length-with_row}
+use Rattle.map_indexes.specs.BlockRows.{with_block_row}
+use Rattle.map_indexes.specs.BlockRowLaws.{row_end, length-with_block_row}
 use Rattle.map_indexes.specs.PlaceKeys.{KeysByPlace, keys_by_place}
 use Rattle.map_indexes.proofs.KeyLaws.{keys_by_place-put}
 use Rattle.map_indexes.proofs.KeyLemmas.{block_places, lent_whole}
@@ -48,11 +48,12 @@ returns-clause-keys c =
     let inside : p < n = omega arith in
     let long : length key ≡ k.size =
     c.requires.size ∙ sym (ap (λ (t : KeysByPlace). t.size) c.self.view_is) in
-    let back : c.put_bytes.new.block ≡ with_row k.size k.block.items p key =
+    let back : c.put_bytes.new.block ≡ with_block_row k.size k.block.items p key =
     c.put_bytes.ensures
-    ∙ ap (λ (b : List ℕ). with_row k.size b p key) c.as_mut_slice.ensures.value in
+    ∙ ap (λ (b : List ℕ). with_block_row k.size b p key) c.as_mut_slice.ensures.value in
     let whole : length c.put_bytes.new.block ≡ k.block.len =
-    ap length back ∙ length-with_row k.size k.block.items p key n long c.self.invariant.0 inside
+    ap length back
+    ∙ length-with_block_row k.size k.block.items p key n long c.self.invariant.0 inside
     ∙ sym c.self.invariant.0 ∙ sym k.block.ok.0 in
     ap (λ (b : List ℕ). keys_by_place k.size b 0 (slice_set k.used.items p true))
     (lent_whole c.put_bytes.new.block k.block.items k.block.len whole ∙ back)

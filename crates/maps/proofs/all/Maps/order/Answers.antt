@@ -7,7 +7,7 @@ pub returns : goal.returns
 returns c = (
   (refl, λ _. tt, ap (λ v. map state v.items) c.order.follows.holds-at-none.0 ∙ c.self.view_is),
   record {
-    entries = c.order.ensures.entries
+    pairs = c.order.ensures.pairs
         ∙ (λ i. ordered_in (map_at (c.self.view_is i) c.args.map));
     stay = tt;
   },

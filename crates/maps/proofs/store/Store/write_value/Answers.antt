@@ -1,7 +1,7 @@
 use Rattle.std.proofs.Common.{◌≡◌, ◌+◌, ◌*◌, ℕ, List, length, drop, sym, ap, ◌∙◌}
 use Rattle.std.proofs.lemmas.List.{take_at}
 use Rattle.std.specs.List.{splice}
-use Rattle.map_indexes.specs.RowLaws.{splice_in_row, changed_row, length-changed_row, length-with_row}
+use Rattle.map_indexes.specs.BlockRowLaws.{splice_in_row, changed_row, length-changed_row, length-with_block_row}
 use Rattle.maps.proofs.store.Store.write_value.Goals as goal
 
 pub returns-clause-block : goal.returns-clause-block
@@ -20,7 +20,7 @@ returns-clause-block g c =
     c.as_mut_slice.ensures.value ∙ written in
     let row = changed_row size n items p s.whole c.requires.place i v c.requires.within in
     let long =
-    length-with_row size items p row n
+    length-with_block_row size items p row n
     (length-changed_row size n items p s.whole c.requires.place i v c.requires.within)
     s.whole c.requires.place in
     let same : length c.put_bytes.new.block ≡ s.values.len =

@@ -14,7 +14,7 @@ returns c =
     c.index-3.ensures in (
       (refl, λ _. tt, (refl, c.list.ensures.capacity)),
       record {
-        entries = c.new.ensures
+        pairs = c.new.ensures
             ∙ ap (λ (m : MapState). ordered_in m) (sym here);
         stay = tt;
       },

@@ -42,7 +42,7 @@ returns-clause-tight c =
     let e = signed_equation least (omega arith) in
     let f = signed_equation greatest (omega arith) in
     let s = c.between.ensures.signed
-    (elim c.requires.half
+    (elim c.requires.side
     [ inl plain ↦ omega (arith, ints) | inr signed ↦ omega (arith, ints) ]) in
     let has : (x : ℕ) → least ≤ x → x ≤ greatest → L.Has c.args.low (x % 2 ^ 32) → Has r x =
     λ x from to h.

@@ -62,14 +62,15 @@ returns-then-a-clause-tight c = λ x h.
 
 pub returns-in-Little-clause-tight : goal.returns-in-Little-clause-tight
 returns-in-Little-clause-tight c = λ x h.
-    c.settled.ensures.tight _ (c.low.ensures.contains x h.0, c.low_part.ensures.contains x h.1)
+    c.settled.ensures.tight _
+    (c.low_bytes.ensures.contains x h.0, c.low_part.ensures.contains x h.1)
 
 pub returns-in-Little-clause-contains : goal.returns-in-Little-clause-contains
 unfolding reordered
 returns-in-Little-clause-contains c = λ x h.
     rw c.in-Little.is
     (c.settled.ensures.contains _
-    (c.low.ensures.contains x h.0, c.low_part.ensures.contains x h.1))
+    (c.low_bytes.ensures.contains x h.0, c.low_part.ensures.contains x h.1))
 
 pub returns-in_default-clause-contains : goal.returns-in_default-clause-contains
 returns-in_default-clause-contains c = λ x h.

@@ -31,7 +31,7 @@ returns-else-by-eq0-clause-contains c = λ x hx.
     let some = some_by by (λ e. c.if-by-eq0.false e) in
     let f : FitsSigned w64 by = c.ranges.by in
     let value = simp to_z-of_z at c.unsigned_abs.ensures.value in
-    let bound = c.unsigned_abs.ensures.bound in
+    let most = c.unsigned_abs.ensures.bound in
     let is : c.cast_signed.result ≡ pos (unsigned_abs by - 1) =
     omega (arith, ints, c.cast_signed.ensures) in
     let fm : FitsSigned w64 c.cast_signed.result = search rules in
@@ -52,7 +52,7 @@ returns-else-by-eq0-clause-limits c =
     let some = some_by by (λ e. c.if-by-eq0.false e) in
     let f : FitsSigned w64 by = c.ranges.by in
     let value = simp to_z-of_z at c.unsigned_abs.ensures.value in
-    let bound = c.unsigned_abs.ensures.bound in
+    let most = c.unsigned_abs.ensures.bound in
     let is : c.cast_signed.result ≡ pos (unsigned_abs by - 1) =
     omega (arith, ints, c.cast_signed.ensures) in
     let fm : FitsSigned w64 c.cast_signed.result = search rules in

@@ -7,7 +7,7 @@ use Rattle.reg_state.specs.Scalars.{allows}
 use Rattle.reg_state.specs.declared.scalars.Scalar.{Scalar}
 use Rattle.reg_state.proofs.scalars.ScalarDomain.equal.Goals as goal
 
--- what both parts allow
+-- what both the bits and the range allow
 both_allow : (w : Width) (s : Scalar) (x : ℕ) → bits_allows w s.bits x → range_allows w s.range x
     → allows w s x
 both_allow Full64 s x b r = (b, r)

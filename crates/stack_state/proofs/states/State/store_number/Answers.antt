@@ -29,7 +29,7 @@ returns-in-Some c =
     let f : AbstractFrame = c.in-Some.caller.now in
     let inside : c.args.frame < length a.callers.items = grind (arith, common_steps) in
     let same : abstract_frame_at a c.args.frame ≡ f = grind (arith, common_steps) in
-    let place : c.from.result ≡ c.args.frame = omega arith in
+    let index : c.from.result ≡ c.args.frame = omega arith in
     let s = slot_at c.store_number.new.self.slots k in
     record {
       slot = s;
@@ -37,7 +37,7 @@ returns-in-Some c =
       left =
           ap (λ i.
           record a
-          { callers = with_item a.callers i (record f { stack = c.store_number.new.self }) }) place
+          { callers = with_item a.callers i (record f { stack = c.store_number.new.self }) }) index
           ∙ ap (λ l. record a { callers = with_item a.callers c.args.frame (with_slots f l) })
           c.store_number.ensures.others
           ∙ ap (λ g.

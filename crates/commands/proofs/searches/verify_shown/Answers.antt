@@ -1,5 +1,0 @@
-use Rattle.stack_state.specs.Starts.{start}
-use Rattle.commands.proofs.searches.verify_shown.Goals as goal
-
-pub verify_with-requires : goal.verify_with-requires
-verify_with-requires g c = record { untold = (start, tt) }

@@ -1,8 +1,0 @@
-use Rattle.std.proofs.Common.{◌≡◌, ◌++◌, take}
-use Rattle.std.specs.List.{flat_map}
-use Rattle.proof_table.specs.Spelling.{slot_bytes}
-use Rattle.proof_table.proofs.frames.spell_slots.Given as goal
-
-abbrev pub invariant-loop-slot : goal.invariant-loop-slot
-invariant-loop-slot l =
-    l.buffer.items ≡ l.initial.buffer.items ++ flat_map slot_bytes (take l.slot-index l.slots)

@@ -1,0 +1,41 @@
+use Rattle.std.proofs.Common.{arith}
+use Rattle.std.proofs.lemmas.Int.{ints, clamps}
+use Rattle.isa_model.specs.Code.NumberLaws.{signed_equation}
+use Rattle.ranges.proofs.wide.Wide.signed_part.Goals as goal
+
+pub returns-clause-common : goal.returns-clause-common
+returns-clause-common c = λ x hx x_in.
+    let e = signed_equation x hx.below in
+    (c.between.ensures.members x).1 (omega (arith, ints, clamps), omega (arith, ints, clamps))
+
+pub returns-clause-left : goal.returns-clause-left
+returns-clause-left c = λ x h.
+    let e = signed_equation x h.below in
+    let m = (c.between.ensures.members x).0 h in
+    record {
+      below = h.below;
+      from = omega (arith, m);
+      to = omega (arith, ints, clamps, m);
+      signed_from = omega (arith, ints, clamps, m);
+      signed_to = omega (arith, ints, clamps, m);
+    }
+
+pub returns-clause-alike : goal.returns-clause-alike
+returns-clause-alike c =
+    let l = c.between.ensures.limits in
+    let e = signed_equation c.max-least.result (omega arith) in
+    let f = signed_equation c.min-greatest.result (omega arith) in
+    let s = c.between.ensures.signed (omega (arith, ints, clamps)) in
+    rw (l.0, l.1) s
+
+pub returns-clause-enclosed : goal.returns-clause-enclosed
+returns-clause-enclosed c =
+    let l = c.between.ensures.limits in
+    let e = signed_equation c.max-least.result (omega arith) in
+    let f = signed_equation c.min-greatest.result (omega arith) in
+    let s = c.between.ensures.signed (omega (arith, ints, clamps)) in (
+      omega (arith, clamps),
+      omega (arith, clamps),
+      omega (arith, ints, clamps),
+      omega (arith, ints, clamps),
+    )

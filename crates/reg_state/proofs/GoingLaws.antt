@@ -1,0 +1,42 @@
+-- Laws of the definitions in specs/Going: what the outcome of a comparison says of a number, where
+-- one set of numbers is replaced by a larger one.
+use Rattle.std.proofs.Common.{ℕ, ◌^◌, ◌<◌, Bool, true, false, subst}
+use Rattle.isa_model.specs.declared.sizes.Width.TheVariants.{Full64}
+use Rattle.isa_model.specs.declared.instructions.Comparison.{Comparison}
+use Rattle.isa_model.specs.declared.instructions.Comparison.TheVariants.{Equal, NotEqual, Greater, GreaterEqual, Less, LessEqual, AnyBit, SignedGreater, SignedGreaterEqual, SignedLess, SignedLessEqual}
+use Rattle.isa_model.specs.Code.Numbers.{low}
+use Rattle.isa_model.specs.Code.NumberLaws.{low_same}
+use Rattle.reg_state.specs.Limits.{Limits}
+use Rattle.reg_state.specs.Going.{MayGo}
+
+may_map : (c : Comparison) (t : Bool) (P Q : ℕ → Type 0) (l own : Limits) (x : ℕ)
+    → ((n : ℕ) → P n → Q n) → MayGo Full64 c t P l own x → MayGo Full64 c t Q l own x
+may_map Equal true P Q l own x f h = f x h
+may_map Equal false P Q l own x f h = h
+may_map NotEqual true P Q l own x f h = h
+may_map NotEqual false P Q l own x f h = f x h
+may_map Greater true P Q l own x f h = h
+may_map Greater false P Q l own x f h = h
+may_map GreaterEqual true P Q l own x f h = h
+may_map GreaterEqual false P Q l own x f h = h
+may_map Less true P Q l own x f h = h
+may_map Less false P Q l own x f h = h
+may_map LessEqual true P Q l own x f h = h
+may_map LessEqual false P Q l own x f h = h
+may_map AnyBit true P Q l own x f h = tt
+may_map AnyBit false P Q l own x f h = tt
+may_map SignedGreater true P Q l own x f h = h
+may_map SignedGreater false P Q l own x f h = h
+may_map SignedGreaterEqual true P Q l own x f h = h
+may_map SignedGreaterEqual false P Q l own x f h = h
+may_map SignedLess true P Q l own x f h = h
+may_map SignedLess false P Q l own x f h = h
+may_map SignedLessEqual true P Q l own x f h = h
+may_map SignedLessEqual false P Q l own x f h = h
+
+-- of whole numbers, as 64 bits read them
+pub may_whole : (c : Comparison) (t : Bool) (P Q : ℕ → Type 0) (l own : Limits) (x : ℕ) → x < 2 ^ 64
+    → ((n : ℕ) → P n → Q n) → MayGo Full64 c t P l own (low Full64 x) → MayGo Full64 c t Q l own x
+may_whole c t P Q l own x small f h =
+    let at : ℕ → Type 0 = λ n. MayGo Full64 c t P l own n in
+    may_map c t P Q l own x f (subst at (low_same Full64 x small) h)

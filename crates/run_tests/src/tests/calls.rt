@@ -1,0 +1,9 @@
+//! Each call from C and Rust, on images of the documents and with each argument that can be
+//! invalid.
+
+mod buffers;
+mod images;
+mod runs;
+mod sessions;
+mod tables;
+mod verdicts;

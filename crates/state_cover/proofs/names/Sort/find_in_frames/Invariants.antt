@@ -1,9 +1,0 @@
-use Rattle.std.proofs.Common.{◌≡◌, drop}
-use Rattle.state_cover.specs.Names.{first_named, places}
-use Rattle.state_cover.proofs.names.Sort.find_in_frames.Given as goal
-
--- none of the places before it
-abbrev pub invariant-loop-index : goal.invariant-loop-index
-invariant-loop-index l =
-    first_named l.self l.identity (places (drop l.index l.left) (drop l.index l.right))
-    ≡ first_named l.self l.identity (places l.left l.right)

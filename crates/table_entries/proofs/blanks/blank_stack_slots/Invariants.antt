@@ -1,0 +1,12 @@
+use Rattle.std.proofs.Common.{◌≡◌, ◌+◌, ◌*◌, drop}
+use Rattle.table_entries.specs.Blanks.{AreZeros}
+use Rattle.table_entries.proofs.blanks.blank_stack_slots.Given as goal
+
+-- the groups of four stack slots before it are zeros
+abbrev pub invariant-loop-group : goal.invariant-loop-group
+invariant-loop-group l =
+    record {
+      zeros : AreZeros (2 * l.sixteens + 8 * l.group) l.bytes;
+      rest_is : l.rest
+          ≡ drop (2 * l.sixteens + 8 * l.group) l.bytes;
+    }

@@ -1,5 +1,0 @@
-use Rattle.std.proofs.Common.{rules}
-use Rattle.word_machine.proofs.addresses.frame_index.Goals as goal
-
-pub returns : goal.returns
-returns c = search rules
