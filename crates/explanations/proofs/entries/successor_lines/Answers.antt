@@ -1,7 +1,7 @@
 use Rattle.std.proofs.Common.{◌∙◌, [], ap, sym}
 use Rattle.table_entries.specs.Tables.{entry_at}
 use Rattle.table_entries.specs.Entries.{list_of}
-use Rattle.explanations.proofs.EntryLaws.{tells_counts, tells_first}
+use Rattle.explanations.proofs.EntryLaws.{tells_counts, tells_first, tells_second}
 use Rattle.explanations.proofs.entries.successor_lines.Goals as goal
 
 pub returns-then-successors-count : goal.returns-then-successors-count
@@ -20,3 +20,14 @@ returns-in-One c =
     (ap list_of c.in-One.is)
     (sym c.ways_in-successors.ensures
     ∙ (c.if-successors-count.false ∙ c.named_in-count.ensures)) c.named_lines.ensures
+
+pub returns-in-None-named_lines : goal.returns-in-None-named_lines
+returns-in-None-named_lines c =
+    tells_second (entry_at c.args.image.now c.args.table.now) c.args.head.number c.in-Two.first
+    c.in-Two.second
+    (list_of c.args.head.named) c.args.ways c.args.state.now c.args.other.now
+    c.named_lines-in-None-named_lines.result
+    (ap list_of c.in-Two.is)
+    (sym c.ways_in-successors.ensures
+    ∙ (c.if-successors-count.false ∙ c.named_in-count.ensures))
+    c.named_lines-in-None-named_lines.ensures

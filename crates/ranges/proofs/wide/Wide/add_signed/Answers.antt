@@ -49,3 +49,9 @@ returns-in_default-clause-limits c = λ fl fg.
     let f2 : FitsSigned w64 b.signed_least = search rules in
     let none = simp to_z-of_z at c.in_default.ensures in
     absurd (none fl)
+
+pub signed_between-requires : goal.signed_between-requires
+signed_between-requires c = search rules
+
+pub returns-clause-limits : goal.returns-clause-limits
+returns-clause-limits c = search rules

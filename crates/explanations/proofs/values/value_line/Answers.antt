@@ -1,0 +1,6 @@
+use Rattle.std.proofs.Common.{rules}
+use Rattle.explanations.proofs.Words.{flat_map_one}
+use Rattle.explanations.proofs.values.value_line.Goals as goal
+
+pub returns : goal.returns
+returns c = search (rules, flat_map_one)
