@@ -168,7 +168,7 @@ uint32_t xdpvm_recheck(const uint8_t *image, size_t image_len, const uint8_t *ta
    XDPVM_REFUSED: xdpvm_verify says why. At each status but XDPVM_OK the session stays as it was. */
 uint32_t xdpvm_open(const uint8_t *image, size_t image_len, struct xdpvm_session *session);
 
-/* The same, where a proof table shows that the program is accepted. XDPVM_REFUSED: xdpvm_recheck says why. */
+/* The same by a proof table in place of a search, with the bound of the table. XDPVM_REFUSED: xdpvm_recheck says why. */
 uint32_t xdpvm_open_with_table(const uint8_t *image, size_t image_len, const uint8_t *table, size_t table_len,
                                struct xdpvm_session *session);
 

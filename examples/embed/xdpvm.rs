@@ -434,7 +434,7 @@ impl Session {
         answer(status, session, Vec::new())
     }
 
-    /// The same, where a proof table shows that the program is accepted, whoever made the table.
+    /// The same by a proof table, whoever made it, in place of a search, with the bound of the table.
     pub fn open_with_table(image: &[u8], table: &[u8]) -> Result<Session, Error> {
         let mut session = Session::closed();
         // SAFETY: as above; the session is closed.

@@ -6,7 +6,7 @@ ghost use Rattle.isa_model.specs.Reporting.Reports.{starting_contents};
 ghost use Rattle.verdict_calls.specs.Crossing.{IsStatus, IsChange};
 ghost use Rattle.verdict_calls.specs.Verdicts.{IsRefusedImage};
 ghost use Rattle.table_calls.specs.Tables.{IsRefusedTable};
-ghost use Rattle.session_calls.specs.Sessions.{OpensSession, RunsSession};
+ghost use Rattle.session_calls.specs.Sessions.{OpensSession, OpensByTable, RunsSession};
 
 use bounds::Verified;
 use held_machines::Session;
@@ -73,9 +73,10 @@ pub fn open_image(alloc: Global, image: &[u8], session: &mut Session) -> u32
     }
 }
 
-/// The same, where a proof table shows that the program is accepted, whoever made the table.
+/// The same by a proof table, whoever made it, in place of a search: the session has the bound that
+/// the table shows.
 pub fn open_with_table(alloc: Global, image: &[u8], table: &[u8], session: &mut Session) -> u32
-    ensures opened { result ≡ 0 → OpensSession image.now session.new.held }
+    ensures opened { result ≡ 0 → OpensByTable image.now table.now session.new.held }
     ensures wrong { (result ≡ 1) ↔ (session.old.held ≢ None) }
     ensures refused { result ≡ 2 → IsRefusedTable image.now table.now }
     ensures kept { result ≢ 0 → session.new.held ≡ session.old.held }

@@ -64,10 +64,13 @@ fn broken(error: TableError, said: usize) -> Rechecked
     }
 }
 
-/// The program of an image, if a proof table shows that it is accepted.
+/// The program of an image, if a proof table shows that it is accepted, with the bound that the
+/// table shows.
 pub fn table_verified(alloc: Global, image: &[u8], table: &[u8]) -> Result<Verified, NotAccepted>
     ensures spelled { IfOk result (λ verified. image.now ≡ image_bytes verified.program) }
     ensures verified { IfOk result IsVerified }
+    ensures shows { IfOk result
+        (λ verified. ShowsBound verified.program table.now verified.bound) }
     ensures refused { result ≡ Err NotAccepted.Refused → IsRefusedTable image.now table.now }
 {
     let program = match Image::parse(alloc, image) {

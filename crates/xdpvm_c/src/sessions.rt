@@ -4,7 +4,7 @@ ghost use Rattle.std.specs.Prelude.{◌≡◌, ◌≢◌, ◌↔◌, None, ◌<�
 ghost use Rattle.isa_model.specs.{max_packet};
 ghost use Rattle.verdict_calls.specs.Crossing.{IsStatus, IsChange};
 ghost use Rattle.verdict_calls.specs.Verdicts.{IsRefusedImage};
-ghost use Rattle.session_calls.specs.Sessions.{OpensSession, RunsSession};
+ghost use Rattle.session_calls.specs.Sessions.{OpensSession, OpensByTable, RunsSession};
 ghost use Rattle.table_calls.specs.Tables.{IsRefusedTable};
 
 use held_machines::Session;
@@ -25,7 +25,8 @@ pub extern "C" fn xdpvm_open(alloc: Global, image: &[u8], session: &mut Session)
     open_image(alloc, image, session)
 }
 
-/// The same, where a proof table shows that the program is accepted, whoever made the table.
+/// The same by a proof table, whoever made it, in place of a search: the session has the bound that
+/// the table shows.
 #[unsafe(no_mangle)]
 pub extern "C" fn xdpvm_open_with_table(
     alloc: Global,
@@ -33,7 +34,7 @@ pub extern "C" fn xdpvm_open_with_table(
     table: &[u8],
     session: &mut Session,
 ) -> u32
-    ensures opened { result ≡ 0 → OpensSession image.now session.new.held }
+    ensures opened { result ≡ 0 → OpensByTable image.now table.now session.new.held }
     ensures wrong { (result ≡ 1) ↔ (session.old.held ≢ None) }
     ensures refused { result ≡ 2 → IsRefusedTable image.now table.now }
     ensures kept { result ≢ 0 → session.new.held ≡ session.old.held }

@@ -2,12 +2,16 @@ use Rattle.session_calls.proofs.opening.open_with_table.Goals as goal
 
 pub returns-in-Ok-clause-opened : goal.returns-in-Ok-clause-opened
 returns-in-Ok-clause-opened c = λ ok. record {
-  bound = c.in-Ok.verified.bound;
-  accepts =
+  opens =
       record {
-        program = c.in-Ok.verified.program;
-        spelled = c.in-Ok.ensures.spelled;
-        verified = c.in-Ok.ensures.verified;
+        bound = c.in-Ok.verified.bound;
+        accepts =
+            record {
+              program = c.in-Ok.verified.program;
+              spelled = c.in-Ok.ensures.spelled;
+              verified = c.in-Ok.ensures.verified;
+            };
+        is = c.open.ensures.opened ok;
       };
-  is = c.open.ensures.opened ok;
+  shows = c.in-Ok.ensures.shows;
 }
