@@ -1,12 +1,15 @@
-/* Stands between the program and the C library, for break.py. BREAK names what is to fail, WHEN which call of that kind,
-   counted from 1, and MARK a file that is made when it happens, and that gets a byte for each later write to what failed.
-   Without these the program runs as always. */
+/* Stands between a program and the C library, for break.py and break_survey.py. BREAK names what is to fail, WHEN which
+   call of that kind, counted from 1, and MARK a file that is made when it happens, and that gets a byte for each later
+   write to what failed. TICK is a number of nanoseconds: the clock then says n * n of them when it is read for the nth
+   time. Without these the program runs as always. */
 #define _GNU_SOURCE
 #include <errno.h>
 #include <fcntl.h>
+#include <stdarg.h>
 #include <stdlib.h>
 #include <string.h>
 #include <sys/syscall.h>
+#include <time.h>
 #include <unistd.h>
 
 extern void *__libc_malloc(size_t size);
@@ -43,6 +46,53 @@ void *malloc(size_t size) {
 
 void *realloc(void *old, size_t size) {
     return refused() ? NULL : __libc_realloc(old, size);
+}
+
+/* a file or folder; what follows flags that create one is its mode */
+static int opened(int from, const char *path, int flags, va_list rest) {
+    int mode = flags & O_CREAT ? va_arg(rest, int) : 0;
+    if (breaks("open")) {
+        errno = EACCES;
+        return -1;
+    }
+    return syscall(SYS_openat, from, path, flags, mode);
+}
+
+int open(const char *path, int flags, ...) {
+    va_list rest;
+    va_start(rest, flags);
+    int file = opened(AT_FDCWD, path, flags, rest);
+    va_end(rest);
+    return file;
+}
+
+int openat(int from, const char *path, int flags, ...) {
+    va_list rest;
+    va_start(rest, flags);
+    int file = opened(from, path, flags, rest);
+    va_end(rest);
+    return file;
+}
+
+ssize_t getdents64(int folder, void *bytes, size_t count) {
+    if (breaks("list")) {
+        errno = ETIMEDOUT;
+        return -1;
+    }
+    return syscall(SYS_getdents64, folder, bytes, count);
+}
+
+int clock_gettime(clockid_t clock, struct timespec *now) {
+    static long readings;
+    const char *tick = getenv("TICK");
+    if (!tick) {
+        return syscall(SYS_clock_gettime, clock, now);
+    }
+    ++readings;
+    long nanoseconds = readings * readings * atol(tick);
+    now->tv_sec = nanoseconds / 1000000000;
+    now->tv_nsec = nanoseconds % 1000000000;
+    return 0;
 }
 
 ssize_t read(int file, void *bytes, size_t count) {

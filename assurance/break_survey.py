@@ -1,16 +1,20 @@
 #!/usr/bin/env python3
-"""Breaks xdpvm_survey from outside: makes each allocation, each read and each write of some command lines fail in turn.
+"""Breaks xdpvm_survey from outside: makes each allocation, read and write of some command lines fail in turn, and each
+opening of a file or folder and listing of a folder.
 
 usage: python3 assurance/break_survey.py [PROGRAM [FOLDER]]
 
 PROGRAM is xdpvm_survey (the default: crates/xdpvm_survey/out/xdpvm_survey). If an allocation fails,
 the status is 5 and standard error says so, or a row says `memory`; or what is known of a refusal is
 left out. If a read fails, its file is named, with status 4 or more; if a write fails, the output
-is, or standard error got less; it is not written to again. It never crashes, and never accepts an
-image that `verify` refuses. With FOLDER it surveys each image there by itself, once with proof
-tables, and shows it. It needs a C compiler (CC). The last line is 'N tried, M wrong'. Without
-FOLDER in the gate.
+is, or standard error got less; it is not written to again. If a file or folder cannot be opened, or
+a folder not listed, standard error names it and says why, with status 4. It never crashes, and
+never accepts an image that `verify` refuses. The times in a row are those of a clock that this
+script sets. With FOLDER it surveys each image there by itself, once with proof tables, and shows
+it. It needs a C compiler (CC). The last line is 'N tried, M wrong'. Without FOLDER in the gate.
 """
+import csv
+import json
 import os
 import re
 import shutil
@@ -33,6 +37,14 @@ RUNS = (
     ["--what", "few"],
 )
 TIMES = re.compile(rb" *\d+\.\d+")
+# why break.c lets no file or folder be opened, and no folder be listed
+REASONS = {"open": b"permission denied", "list": b"timed out"}
+KINDS = ("alloc", "read", "write", *REASONS)
+
+# When the clock is read for the nth time, it says n * n ticks of so many nanoseconds: between its first and second reading
+# pass 3 ticks, between the third and the fourth 7, and between the fifth and the sixth 11.
+TICK = 1_234_567_000
+TOOK = {"milliseconds": "3703.701", "prove_milliseconds": "8641.969", "recheck_milliseconds": "13580.237"}
 
 
 class Answer:
@@ -58,6 +70,8 @@ def is_shorter(answer, whole):
 def is_right(kind, answer, whole):
     if answer.tried_again:
         return False
+    if kind in REASONS:
+        return answer.status == 4 and re.search(rb"^cannot (read|write) \S+: " + REASONS[kind] + b"$", answer.err, re.M)
     if (answer.status, answer.out, answer.err) == (whole.status, whole.out, whole.err):
         return True
     if kind == "alloc":
@@ -67,6 +81,21 @@ def is_right(kind, answer, whole):
         return answer.status in (4, 5) and b"cannot read" in answer.err or answer.status == whole.status and answer.out == whole.out
     less_said = answer.status == whole.status and answer.out == whole.out and answer.err != whole.err
     return answer.status == 4 and b"cannot write" in answer.err or less_said
+
+
+def has_right_times(program):
+    """Whether a row says of verify, prove and recheck how long they took by the clock."""
+    env = {"LD_PRELOAD": os.path.abspath("between.so"), "TICK": str(TICK)}
+    rows = []
+    for form in ("csv", "json"):
+        words = [program, "examples/pass.image", "--tables", "made", "--format", form]
+        ran = subprocess.run(words, env=env, stdin=subprocess.DEVNULL, capture_output=True, timeout=60, check=True)
+        lines = ran.stdout.decode().splitlines()
+        rows += csv.DictReader(lines) if form == "csv" else map(json.loads, lines)
+    took = [{name: str(row[name]) for name in TOOK} for row in rows]
+    if took != [TOOK, TOOK]:
+        print(f"times: {took}, not {TOOK}")
+    return took == [TOOK, TOOK]
 
 
 def runs_of(folder):
@@ -96,13 +125,13 @@ def prepare():
 def main():
     program = os.path.abspath(sys.argv[1] if len(sys.argv) > 1 else os.path.join(TOP, "crates/xdpvm_survey/out/xdpvm_survey"))
     runs = list(runs_of(os.path.abspath(sys.argv[2]))) if len(sys.argv) > 2 else RUNS
-    tried = wrong = 0
     with tempfile.TemporaryDirectory() as folder:
         os.chdir(folder)
         prepare()
+        tried, wrong = 1, int(not has_right_times(program))
         for words in runs:
             whole = Answer(program, words)
-            for kind in ("alloc", "read", "write"):
+            for kind in KINDS:
                 call = 1
                 while (answer := Answer(program, words, kind, call)).broken:
                     tried += 1

@@ -22,6 +22,8 @@ before, and # begins a comment.
 After one or more commands comes the result that each of them has to have:
 
   1> LINE                a line of standard output
+  1* FROM-TO LINE        such a line for each of these numbers, which is {n} in it, or {n:5} in five
+                         characters
   2> LINE                a line of standard error; `2> ...` is any lines, or none
   status N               the exit status, if it is not 0
   same NAME NAME..       files that have the same bytes after the last one
@@ -40,7 +42,7 @@ TOP = Path(__file__).resolve().parent.parent
 PROGRAMS = {name: os.path.abspath((sys.argv[at:] or [TOP / f"crates/{name}/out/{name}"])[0])
             for at, name in ((1, "xdpvm"), (2, "xdpvm_survey"))}
 PART = re.compile(r"(?:(\d+)\*)?(?:'([^']*)'|((?:[0-9a-f]{2})+))(?:\s+|$)")
-ANSWER = ("1>", "2>", "status", "same")
+ANSWER = ("1>", "1*", "2>", "status", "same")
 READER, UNREAD = os.pipe()
 os.close(READER)
 
@@ -108,6 +110,14 @@ def prepare(word, name, rest):
         assert word in ("each", "room"), f"no word of a case: {word}"
 
 
+def lines_of(word, rest):
+    """The lines of standard output that a line of a result stands for."""
+    if word != "1*":
+        return [rest] if word == "1>" else []
+    first, last, line = re.fullmatch(r"(\d+)-(\d+) (.*)", rest).groups()
+    return [line.format(n=n) for n in range(int(first), int(last) + 1)]
+
+
 def differences(case):
     """Where a case differs: the number of the line, what was wanted, and what was found."""
     room = None
@@ -115,12 +125,13 @@ def differences(case):
         commands = list(takewhile(lambda line: line[1] == "$", case))
         answer = list(takewhile(lambda line: line[1] in ANSWER, case[len(commands):]))
         has = {word: [rest for _, its, rest in answer if its == word] for word in ANSWER}
-        out, err = ("".join(f"{line}\n" for line in has[word]).encode() for word in ("1>", "2>"))
+        said = [line for _, word, rest in answer for line in lines_of(word, rest)]
+        out, err = ("".join(f"{line}\n" for line in lines).encode() for lines in (said, has["2>"]))
         wanted = out[:room], err, int(has["status"][0] if has["status"] else 0)
-        said = re.escape(err).replace(re.escape(b"...\n"), b"(?:.*\n)*")
+        errors = re.escape(err).replace(re.escape(b"...\n"), b"(?:.*\n)*")
         for number, _, command in commands:
             found = run(command, room)
-            if found[::2] != wanted[::2] or not re.fullmatch(said, found[1]):
+            if found[::2] != wanted[::2] or not re.fullmatch(errors, found[1]):
                 yield number, f"{command}\n  wanted {wanted}\n  found  {found}"
         for number, _, names in (line for line in answer if line[1] == "same"):
             files = [Path(name).read_bytes() for name in names.split() if os.path.exists(name)]

@@ -32,8 +32,7 @@ impl From<AllocError> for SurveyError {
     }
 }
 
-/// The line for a file or an output that failed. A name that is not UTF-8 is that of a file in a
-/// folder.
+/// The line for a file or an output that failed.
 pub fn file_line(
     alloc: Global,
     what: &str,
@@ -41,12 +40,13 @@ pub fn file_line(
     kind: ErrorKind,
 ) -> Result<String, AllocError> {
     let path = shown(alloc, path)?;
-    match kind {
-        ErrorKind::InvalidFilename => {
-            format!(in alloc; "cannot {what} all of {path}: a name in it is not UTF-8\n")
-        }
-        kind => format!(in alloc; "cannot {what} {path}: {kind}\n"),
-    }
+    format!(in alloc; "cannot {what} {path}: {kind}\n")
+}
+
+/// The line for a folder with names that are not UTF-8.
+pub fn unnamed_line(alloc: Global, path: &str) -> Result<String, AllocError> {
+    let path = shown(alloc, path)?;
+    format!(in alloc; "cannot read all of {path}: a name in it is not UTF-8\n")
 }
 
 impl SurveyError {

@@ -8,12 +8,21 @@ use std::{fs, io};
 // The end of an image's name.
 const ENDING: &str = ".image";
 
+/// Why a folder has a row of its own.
+#[derive(Clone, Copy, Drop)]
+pub enum FolderFailure {
+    /// It cannot be read.
+    Unread(ErrorKind),
+    /// It has names that are not UTF-8.
+    Unnamed,
+}
+
 /// A path in a survey: of an image, or of a folder that cannot be read, or only in part.
 #[derive(Drop)]
 pub struct NamedPath {
     pub path: String,
-    /// Why the folder cannot be read, if it cannot.
-    pub failure: Option<ErrorKind>,
+    /// Why the folder cannot be read, or only in part, if it is one.
+    pub failure: Option<FolderFailure>,
 }
 
 /// Adds images.
@@ -31,16 +40,16 @@ pub fn add_images(
     Ok(())
 }
 
-/// Adds a folder that cannot be read.
+/// Adds a folder that cannot be read, or only in part.
 pub fn add_folder(
     alloc: Global,
     path: &str,
-    kind: ErrorKind,
+    failure: FolderFailure,
     all: &mut Vec<NamedPath>,
 ) -> Result<(), AllocError> {
     all.push(NamedPath {
         path: String::from_str(alloc, path)?,
-        failure: Some(kind),
+        failure: Some(failure),
     })?;
     Ok(())
 }

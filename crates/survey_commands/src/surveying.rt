@@ -2,9 +2,9 @@
 
 ghost use Rattle.std.specs.Prelude.{◌≤◌, IfOk};
 
-use crate::failures::{SurveyError, file_line};
+use crate::failures::{SurveyError, file_line, unnamed_line};
 use crate::files::read_image;
-use crate::folders::{NamedPath, add_folder, add_images, images};
+use crate::folders::{FolderFailure, NamedPath, add_folder, add_images, images};
 use crate::progress::SurveyProgress;
 use crate::tables::store_table;
 use crate::writing::{Sheet, sheet_of, write_head, write_row, write_waiting};
@@ -31,6 +31,16 @@ fn unread<W: Write>(
     Ok(Judgement::Unreadable)
 }
 
+/// The row of what was not judged.
+fn row_unjudged(alloc: Global, path: &str, verdict: Judgement) -> Result<Row, AllocError> {
+    let file = String::from_str(alloc, path)?;
+    Ok(Row {
+        file,
+        verdict,
+        counts: Counts::default(),
+    })
+}
+
 /// The row of a file or a folder that cannot be read.
 fn row_unread<W: Write>(
     alloc: Global,
@@ -39,12 +49,24 @@ fn row_unread<W: Write>(
     err: &mut W,
 ) -> Result<Row, AllocError> {
     let verdict = unread(alloc, path, kind, err)?;
-    let file = String::from_str(alloc, path)?;
-    Ok(Row {
-        file,
-        verdict,
-        counts: Counts::default(),
-    })
+    row_unjudged(alloc, path, verdict)
+}
+
+/// The row of a folder that cannot be read, or only in part.
+fn row_of_folder<W: Write>(
+    alloc: Global,
+    path: &str,
+    failure: FolderFailure,
+    err: &mut W,
+) -> Result<Row, AllocError> {
+    match failure {
+        FolderFailure::Unread(kind) => row_unread(alloc, path, kind, err),
+        FolderFailure::Unnamed => {
+            let line = unnamed_line(alloc, path)?;
+            let _ = write_bytes(err, line.as_bytes());
+            row_unjudged(alloc, path, Judgement::Unreadable)
+        }
+    }
 }
 
 /// How an image is judged. If it is accepted and has not got the table that is wanted, memory ran
@@ -99,7 +121,7 @@ fn row_named<R: Files + Clock + AllocGlobal, W: Write>(
     err: &mut W,
 ) -> Result<Row, SurveyError> {
     match named.failure {
-        Some(kind) => Ok(row_unread(rt.alloc(), named.path.as_str(), kind, err)?),
+        Some(failure) => Ok(row_of_folder(rt.alloc(), named.path.as_str(), failure, err)?),
         None => row_of(rt, named.path.as_str(), tables, err),
     }
 }
@@ -118,11 +140,13 @@ fn add_named<R: Files + AllocGlobal + Clone + Drop>(
     let alloc = rt.alloc();
     let found = match images(rt, path) {
         Ok(found) => found,
-        Err(error) => return add_folder(alloc, path, error.kind(), all),
+        Err(error) => {
+            return add_folder(alloc, path, FolderFailure::Unread(error.kind()), all);
+        }
     };
     add_images(alloc, found.paths.as_slice(), all)?;
     if found.has_unnamed {
-        add_folder(alloc, path, ErrorKind::InvalidFilename, all)?;
+        add_folder(alloc, path, FolderFailure::Unnamed, all)?;
     }
     Ok(())
 }
