@@ -55,8 +55,8 @@ abbrev pub size_in : Option MapDef → ℕ
 size_in None = 0
 size_in (Some row) = row.value_size
 
-abbrev pub row_size : List MapDef → ℕ → ℕ
-row_size rows m = size_in (slice_get rows m)
+abbrev pub value_size : List MapDef → ℕ → ℕ
+value_size rows m = size_in (slice_get rows m)
 
 -- which bytes are needed, and which there are: of a call frame, of the packet, of a map value
 abbrev pub frame_line : (span : List ℕ) → (bytes : ℕ) → List ℕ
@@ -81,7 +81,7 @@ access_line rows (kind.Stack frame offset) place size =
 access_line rows (kind.Packet fixed identity least greatest proved) place size =
     packet_line (span_words fixed fixed place.offset size) (behind_words identity) proved
 access_line rows (kind.MapValue m least greatest) place size =
-    map_value_line (span_words least greatest place.offset size) (row_size rows m)
+    map_value_line (span_words least greatest place.offset size) (value_size rows m)
 access_line rows k place size = []
 
 abbrev pub line_at : List MapDef → State → Option (Size × Place) → List ℕ

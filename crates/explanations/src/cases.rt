@@ -7,7 +7,7 @@ ghost use Rattle.isa_model.specs.Code.Helpers.{helper_numbered};
 ghost use Rattle.isa_model.specs.Code.Sizes.{unsigned_size};
 ghost use Rattle.transfer.specs.HelperCalls.{points_to_bytes};
 ghost use Rattle.explanations.specs.Cases as spec;
-ghost use Rattle.explanations.specs.Cases.{access, needs_words, last_byte, span_words, behind_words, frame_line, packet_line, map_value_line, is_map, key_line, update_line, argument_line, row_size, exit_line, hint_line};
+ghost use Rattle.explanations.specs.Cases.{access, needs_words, last_byte, span_words, behind_words, frame_line, packet_line, map_value_line, is_map, key_line, update_line, argument_line, value_size, exit_line, hint_line};
 
 use explorer::Refusal;
 use isa_model::{Helper, Insn, MapDef, Place, Reg, SignedSize, Size};
@@ -94,8 +94,8 @@ fn row_at(maps: &[MapDef], index: u8) -> Option<MapDef>
 }
 
 // How large the values of a map are.
-fn row_size(maps: &[MapDef], index: u8) -> u32
-    ensures { result ≡ row_size maps.now index }
+fn value_size(maps: &[MapDef], index: u8) -> u32
+    ensures { result ≡ value_size maps.now index }
 {
     match row_at(maps, index) {
         Some(row) => row.value_size,
@@ -122,7 +122,7 @@ fn packet_line(alloc: Global, span: &str, behind: &str, proved: u32) -> Result<S
     )
 }
 
-// Which bytes of a value are needed, and how many there are.
+// Which bytes of a map value are needed, and how many there are.
 fn map_value_line(alloc: Global, span: &str, bytes: u32) -> Result<String, AllocError>
     ensures { IfOk result (λ text. string_bytes text ≡ map_value_line span.now bytes) }
 {
@@ -160,7 +160,7 @@ fn access_line(
             greatest,
         } => {
             let span = span_words(alloc, least, greatest, place, size)?;
-            map_value_line(alloc, span.as_str(), row_size(maps, index))
+            map_value_line(alloc, span.as_str(), value_size(maps, index))
         }
         _ => Ok(String::new(alloc)),
     }

@@ -42,7 +42,7 @@ abbrev pub out_on : Program → List ℕ → List ℕ
 out_on p bytes =
     frames_out (checked_report p 100 (stream_of (record { bytes = bytes; ending = ByEnd })))
 
--- the magic and a record of no bytes
+-- the magic and a record without a body
 abbrev pub one_empty_record : List ℕ
 one_empty_record = stream_magic One ++ zeros 20
 
@@ -253,7 +253,7 @@ abbrev pub answers : Version → ℕ → Program
 answers version n =
     record { insns = slots (insn.LoadNumber R0 n ∷ insn.Exit ∷ []); maps = []; version = version }
 
--- the head of a record of n bytes with a reason, all other fields 0
+-- the head of a record whose body has n bytes, with a reason, all other fields 0
 abbrev pub head_with_reason : ℕ → ℕ → List ℕ
 head_with_reason n reason = zeros 16 ++ n ∷ 0 ∷ 0 ∷ 0 ∷ reason ∷ 0 ∷ 0 ∷ 0 ∷ []
 

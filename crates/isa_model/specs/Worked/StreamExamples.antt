@@ -148,7 +148,7 @@ pub dropped_read : stream_of
 unfolding frames_from opened stop_at
 dropped_read = refl
 
--- a record of no bytes cut after 0, 1, .. 24 bytes, by an end and by an error
+-- a record without a body, cut after 0, 1, .. 24 bytes, by an end and by an error
 pub heads_cut : map (λ n. summary_of (stream_magic Two ++ zeros n) ByEnd) (range_with_len 0 25)
     ≡ (0, finish.End) ∷ replicate 23 (0, finish.Fault TruncatedHead 4) ++ (1, finish.End) ∷ []
 unfolding frames_from opened stop_at

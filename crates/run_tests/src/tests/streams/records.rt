@@ -18,7 +18,7 @@ const HEAD: FrameHead = FrameHead {
     queue: 0x100f_0e0d,
 };
 
-// The magic, and a record of five bytes.
+// The magic, and a record whose body has five bytes.
 const RECORD: [u8; 29] =
     *b"XPF1\x01\x02\x03\x04\x05\x06\x07\x08\x09\x0a\x0b\x0c\x0d\x0e\x0f\x10\x05\0\0\0hello";
 
