@@ -21,7 +21,7 @@ pub struct Changed {
 }
 
 // Whether there is a map with this index, and its keys have this size.
-fn has_map_with_key(machine: &Machine, map: usize, key_size: usize) -> bool
+fn has_map_with_key_size(machine: &Machine, map: usize, key_size: usize) -> bool
     ensures { (result ≡ true) ↔ FitsKey machine.now map key_size }
 {
     map < machine.map_count() && key_size == usize::from(machine.map_row(map).key_size)
@@ -31,7 +31,7 @@ fn has_map_with_key(machine: &Machine, map: usize, key_size: usize) -> bool
 fn has_map_with_sizes(machine: &Machine, map: usize, key_size: usize, value_size: usize) -> bool
     ensures { (result ≡ true) ↔ FitsMap machine.now map key_size value_size }
 {
-    has_map_with_key(machine, map, key_size)
+    has_map_with_key_size(machine, map, key_size)
         && value_size == machine.map_row(map).value_size as usize
 }
 
@@ -132,7 +132,7 @@ pub fn delete_key(
     let Some(mut machine) = session.take(alloc) else {
         return WRONG;
     };
-    if !has_map_with_key(&machine, map, key.len()) {
+    if !has_map_with_key_size(&machine, map, key.len()) {
         session.put(machine);
         return WRONG;
     }

@@ -17,7 +17,7 @@ fault_of (finish.Fault fault offset) = Some (fault, offset)
 abbrev pub tally_of : ℕ → Finish → Tally
 tally_of count ending = record { frames = count; fault = fault_of ending }
 
--- the tally of a run over a stream with checks, if it came to its last line
+-- the tally of a run over a stream, with checks or without, if it came to its last line
 abbrev pub tallied : Result Traced HostError → Result Tally HostError
 tallied (Ok traced) = Ok traced.tally
 tallied (Err error) = Err error

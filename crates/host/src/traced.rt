@@ -1,4 +1,4 @@
-//! The result of a run over a stream with checks.
+//! The result of a run over a stream, with checks or without.
 
 ghost use Rattle.std.specs.Prelude.{◌≡◌};
 ghost use Rattle.host.specs.Tallies.{tallied};
@@ -7,7 +7,8 @@ use super::errors::HostError;
 use super::stops::Stops;
 use super::tallies::Tally;
 
-/// What the report's last line shows, and the packet frames whose runs ended without an action.
+/// What the report's last line shows, and the packet frames whose runs ended without an action;
+/// without checks none are noted.
 #[derive(Drop)]
 pub struct Traced {
     pub tally: Tally,

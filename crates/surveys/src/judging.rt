@@ -31,9 +31,9 @@ pub struct Judged {
     pub table: Option<Vec<u8>>,
 }
 
-/// The microseconds since a start, if the clock could be read.
-fn microseconds_since<C: Clock>(clock: &C, start: Option<Instant>) -> Option<u64> {
-    let elapsed = start?.elapsed(clock).ok()?;
+/// The microseconds since an instant, if the clock could be read.
+fn microseconds_since<C: Clock>(clock: &C, since: Option<Instant>) -> Option<u64> {
+    let elapsed = since?.elapsed(clock).ok()?;
     u64::try_from(elapsed.as_micros()).ok()
 }
 
@@ -164,18 +164,18 @@ fn prove<C: Clock>(clock: &C, alloc: Global, verified: Verified, judged: &mut Ju
         (λ table. HasTable verified.program table.items judged.new.counts) }
     ensures rest { searched judged.new.counts ≡ searched judged.old.counts }
 {
-    let start = Instant::now(clock).ok();
+    let since = Instant::now(clock).ok();
     let mut table = Vec::new(alloc);
     if write_table(alloc, &verified, &mut table).is_err() {
         return;
     }
-    let prove_microseconds = microseconds_since(clock, start);
-    let start = Instant::now(clock).ok();
+    let prove_microseconds = microseconds_since(clock, since);
+    let since = Instant::now(clock).ok();
     if recheck(alloc, verified.into_image(), table.as_slice()).is_err() {
         return;
     }
     judged.counts.prove_microseconds = prove_microseconds;
-    judged.counts.recheck_microseconds = microseconds_since(clock, start);
+    judged.counts.recheck_microseconds = microseconds_since(clock, since);
     judged.counts.table_bytes = Some(table.len() as u64);
     judged.table = Some(table);
 }
@@ -214,12 +214,12 @@ fn judge_image<C: Clock>(clock: &C, alloc: Global, image: Image, has_table: bool
 {
     let sizes = sizes_of(&image);
     let mut tally = SearchTally::default();
-    let start = Instant::now(clock).ok();
+    let since = Instant::now(clock).ok();
     let found = verify_with(alloc, image, &mut tally);
     let counts = counted(
         tally,
         Counts {
-            microseconds: microseconds_since(clock, start),
+            microseconds: microseconds_since(clock, since),
             ..sizes
         },
     );

@@ -36,8 +36,8 @@ fn number(answer: Answer) -> u64
     }
 }
 
-// The address of the value of the key to which r2 points, or 0. A key that is itself in a map is
-// copied first.
+// The address of the value of the key to which r2 points, or 0. A key whose bytes are in a map
+// value is copied first.
 fn lookup<C: Clock>(regs: &[u64; 11], memory: &mut Memory, packet: &[u8], clock: &mut C) -> u64
     requires key { NamesKey (words_of 0 regs.now memory.old packet.now 0) }
     requires places { HasPlaces (words_of 0 regs.now memory.old packet.now 0) }

@@ -34,7 +34,8 @@ pub struct Memory {
     pub interface: u32,
     pub queue: u32,
     pub maps: Maps,
-    /// Where the call of a helper keeps a copy of a value, or of a key that is itself in a map.
+    /// Where the call of a helper keeps a copy of a value, or of a key whose bytes are in a map
+    /// value.
     pub room: Room,
 }
 

@@ -126,7 +126,7 @@ const RESULTS: &[(AluOp, Width, Set, Set, Set)] = &[
         Set::One(3),
         Set::Signed(-7, 8),
     ),
-    // A signed sum that wraps has no limits.
+    // A sum that wraps as a signed number has no signed limits.
     (
         AluOp::Add,
         FULL,

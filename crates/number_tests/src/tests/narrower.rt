@@ -78,15 +78,15 @@ fn with_bits(value: u64, mask: u64) -> Scalar {
 
 /// The bits that are 1 in the results for all members, and those that are 1 in some.
 fn bits_of_results(operation: Operation, value: u64, mask: u64) -> (u64, u64) {
-    let mut part = 0;
+    let mut choice = 0;
     let mut all = u64::MAX;
     let mut some = 0;
     for _ in 0..0x400 {
-        let number = of_number(operation, value | part);
+        let number = of_number(operation, value | choice);
         all &= number;
         some |= number;
         // The next smaller or equal choice of unknown bits; after 0 comes the mask again.
-        part = part.wrapping_sub(1) & mask;
+        choice = choice.wrapping_sub(1) & mask;
     }
     (all, some)
 }
