@@ -1,5 +1,6 @@
 -- What a call finds, by the bytes that it read from its source.
-use Rattle.std.proofs.Common.{◌≡◌, ◌≢◌, ℕ, ◌<◌, ◌≤◌, List, [], ◌∷◌, ◌++◌, length, take, nat_eq, false, Option, None, Some, Ok, Err, refl, arith, sym, ap, ◌∙◌, append-nil, append_assoc, length-append, subst, inl, inr}
+use Rattle.std.proofs.Common.{◌≡◌, ◌≢◌, ℕ, ◌<◌, ◌≤◌, ◌^◌, List, [], ◌∷◌, ◌++◌, length, take, nat_eq, false, Option, None, Some, Ok, Err, refl, arith, sym, ap, ◌∙◌, append-nil, append_assoc, length-append, subst, inl, inr}
+use Rattle.std.specs.Prelude.{All}
 use Rattle.std.proofs.lemmas.List.{length-take-le, take_at}
 use Rattle.std.proofs.lemmas.Cmp.{nat_list_eq_equiv}
 use Rattle.std.proofs.lemmas.Bool.{cases_eq}
@@ -14,7 +15,7 @@ use Rattle.isa_model.specs.declared.versions.Version.{Version}
 use Rattle.isa_model.specs.declared.versions.Version.TheVariants.{One, Two}
 use Rattle.isa_model.specs.Code.Versions.{stream_magic, head_size}
 use Rattle.isa_model.specs.Code.Limits.{max_body}
-use Rattle.isa_model.specs.Reporting.Streams.{max_frames, cut_by, length_field, InputEnding, ByEnd, ByError, head_bytes, stop_at}
+use Rattle.isa_model.specs.Reporting.Streams.{IsPacketFrame, ReasonFits, max_frames, cut_by, length_field, InputEnding, ByEnd, ByError, head_bytes, stop_at}
 use Rattle.isa_model.proofs.StreamLaws.{some_head}
 use Rattle.frames.specs.Readers.{Position, At, Done}
 use Rattle.frames.specs.Reading.{ReadsMagic, MayOpen, FindsNext, StopsReading, CanStop, Found, Stopped}
@@ -208,6 +209,26 @@ record_whole v number offset (Some all) (Some rest)
     (Some left) bytes body after head n reason spelled size p q =
     let first : take n (body ++ after) ≡ body = take_at body after n size in
     rw first (rw (size, spelled) (p ∙ ap (λ l. bytes ++ l) q ∙ sym (append_assoc bytes body left)))
+
+-- the position allows a record that was read whole
+pub can_be_whole : (v : Version) (number : ℕ) (body after : List ℕ) (head : FrameHead)
+    (n reason : ℕ) → number < max_frames → length body ≡ n → n ≤ max_body v
+    → All (λ b. b < 256) body → head.time < 2 ^ 64 → head.interface < 2 ^ 32
+    → head.queue < 2 ^ 32 → ReasonFits v reason
+    → (number < max_frames)
+    × IsPacketFrame v (record { head = head; body = take n (body ++ after); reason = reason })
+can_be_whole v number body after head n reason few size short all time interface queue fits =
+    let first : take n (body ++ after) ≡ body = take_at body after n size in (
+      few,
+      rw first record {
+        short = omega arith;
+        bytes = all;
+        time = time;
+        interface = interface;
+        queue = queue;
+        reason = fits;
+      },
+    )
 
 -- ---- where a stream may stop
 

@@ -7,7 +7,7 @@ use Rattle.exact_io.specs.Transfers.{AppendsBeginning}
 use Rattle.exact_io.proofs.TransferLaws.{AppendsBeginning-first, AppendsBeginning-second}
 use Rattle.isa_model.specs.declared.frames.FrameHead.{FrameHead}
 use Rattle.isa_model.specs.declared.versions.Version.{Version}
-use Rattle.isa_model.specs.declared.versions.Version.TheVariants.{One}
+use Rattle.isa_model.specs.declared.versions.Version.TheVariants.{One, Two}
 use Rattle.isa_model.specs.Reporting.Streams.{head_bytes}
 
 -- where both parts are written, they are written as one
@@ -78,3 +78,22 @@ module _ (v : Version) (h : FrameHead) (n reason : ℕ) (front body : List ℕ) 
       → OnErr r (AppendsBeginning old new (head_bytes v h (length body) reason ++ body))
   version_1_failed r old new p =
       subst (λ l. OnErr r (AppendsBeginning old new l)) version_1_record p
+
+module _ (v : Version) (h : FrameHead) (n reason : ℕ) (front body : List ℕ) (two : v ≡ Two)
+    (is : front ≡ head_bytes Two h n reason) (same : n ≡ length body) where
+  version_2_record : front ++ body ≡ head_bytes v h (length body) reason ++ body
+  version_2_record =
+      ap (λ l. l ++ body)
+      (is ∙ ap (λ m. head_bytes Two h m reason) same
+      ∙ ap (λ (w : Version). head_bytes w h (length body) reason) (sym two))
+
+  pub version_2_written : {X E : Type 0} (r : Result X E) (old new : Option (List ℕ))
+      → OnOk r (Appends old new (front ++ body))
+      → OnOk r (Appends old new (head_bytes v h (length body) reason ++ body))
+  version_2_written r old new p = subst (λ l. OnOk r (Appends old new l)) version_2_record p
+
+  pub version_2_failed : {X E : Type 0} (r : Result X E) (old new : Option (List ℕ))
+      → OnErr r (AppendsBeginning old new (front ++ body))
+      → OnErr r (AppendsBeginning old new (head_bytes v h (length body) reason ++ body))
+  version_2_failed r old new p =
+      subst (λ l. OnErr r (AppendsBeginning old new l)) version_2_record p

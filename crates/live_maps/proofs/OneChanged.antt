@@ -16,14 +16,20 @@ pub record OneChanged (P : MapDef → Type 0) (maps new : List MapState) (m : �
   pub count : length new ≡ length maps
   pub is : IsMap (map_at new m)
 
+-- there is the map that a call names, and its row is as the call needs it
+pub row_known : (P : MapDef → Type 0) (next : ℕ) (maps : List MapState) (all : List Serials)
+    (now : Live) → live_of maps all next ≡ now
+    → (m : ℕ) → IsSomeAnd (slice_get now.rows m) P → (m < length maps) × P (map_at maps m).row
+row_known P next maps all now view m sizes =
+    rows_of-known P maps m
+    (subst (λ (l : Live). IsSomeAnd (slice_get l.rows m) P) (sym view) sizes)
+
 pub one_changed : (P : MapDef → Type 0) (next : ℕ) (maps : List MapState) (all : List Serials)
     (now : Live) → live_of maps all next ≡ now
     → (m : ℕ) → IsSomeAnd (slice_get now.rows m) P → (new : List MapState)
     → new ≡ slice_set maps m (map_at new m) → All IsMap new → OneChanged P maps new m
 one_changed P next maps all now view m sizes new others are =
-    let known =
-    rows_of-known P maps m
-    (subst (λ (l : Live). IsSomeAnd (slice_get l.rows m) P) (sym view) sizes) in
+    let known = row_known P next maps all now view m sizes in
     let count = length-changed_maps maps new m (map_at new m) others in
     let inside = known.0 in
     record { inside = known.0; row = known.1; count = count; is = are m _ (omega arith) }

@@ -77,3 +77,9 @@ returns-clause-shown c = λ compared some. record {
   shows = c.in-Some-narrowed.ensures.shows;
   new = refl;
 }
+
+pub returns-clause-constants_go : goal.returns-clause-constants_go
+returns-clause-constants_go c = λ x y left right goes. refl
+
+pub returns-clause-never : goal.returns-clause-never
+returns-clause-never c = λ stays. absurd (cc stays)

@@ -33,31 +33,31 @@ type Row = (
     Width,
     Operand,
     bool,
-    [Limits; 2],
-    Option<[Limits; 2]>,
+    (Limits, Limits),
+    Option<(Limits, Limits)>,
 );
 
 #[rattlefmt::skip]
-const ROWS: [Row; 13] = [
-    (Comparison::Less, FULL, TEN, true, [ANY, ANY], Some([(0, 9), ANY])),
-    (Comparison::Less, FULL, TEN, false, [ANY, ANY], Some([(10, u64::MAX), ANY])),
-    (Comparison::Less, FULL, R3, true, [ANY, (5, 10)], Some([(0, 9), (5, 10)])),
-    (Comparison::Less, FULL, R3, false, [ANY, (5, 10)], Some([(5, u64::MAX), (5, 10)])),
+const ROWS: &[Row] = &[
+    (Comparison::Less, FULL, TEN, true, (ANY, ANY), Some(((0, 9), ANY))),
+    (Comparison::Less, FULL, TEN, false, (ANY, ANY), Some(((10, u64::MAX), ANY))),
+    (Comparison::Less, FULL, R3, true, (ANY, (5, 10)), Some(((0, 9), (5, 10)))),
+    (Comparison::Less, FULL, R3, false, (ANY, (5, 10)), Some(((5, u64::MAX), (5, 10)))),
     // 7 to 100 below 5 to 10 leaves of the one what is below 10, and of the other what is above 7.
-    (Comparison::Less, FULL, R3, true, [(7, 100), (5, 10)], Some([(7, 9), (8, 10)])),
+    (Comparison::Less, FULL, R3, true, ((7, 100), (5, 10)), Some(((7, 9), (8, 10)))),
     // For numbers of 32 bits the same holds at 32 bits.
-    (Comparison::Less, LOW, R3, true, [(7, 100), (5, 10)], Some([(7, 9), (8, 10)])),
+    (Comparison::Less, LOW, R3, true, ((7, 100), (5, 10)), Some(((7, 9), (8, 10)))),
     // For a number whose upper half is not known, the comparison narrows the low half.
-    (Comparison::Less, LOW, TEN, true, [ANY, ANY], Some([(0, 0xffff_ffff_0000_0009), ANY])),
-    (Comparison::Less, LOW, TEN, true, [UNSIGNED_32, ANY], Some([(0, 9), ANY])),
-    (Comparison::Equal, FULL, R3, true, [SEVEN, SEVEN], Some([SEVEN, SEVEN])),
-    (Comparison::Equal, FULL, R3, false, [SEVEN, SEVEN], None),
+    (Comparison::Less, LOW, TEN, true, (ANY, ANY), Some(((0, 0xffff_ffff_0000_0009), ANY))),
+    (Comparison::Less, LOW, TEN, true, (UNSIGNED_32, ANY), Some(((0, 9), ANY))),
+    (Comparison::Equal, FULL, R3, true, (SEVEN, SEVEN), Some((SEVEN, SEVEN))),
+    (Comparison::Equal, FULL, R3, false, (SEVEN, SEVEN), None),
     // Equal numbers are members of both sets.
-    (Comparison::Equal, FULL, R3, true, [(7, 100), (5, 10)], Some([(7, 10), (7, 10)])),
+    (Comparison::Equal, FULL, R3, true, ((7, 100), (5, 10)), Some(((7, 10), (7, 10)))),
     // A number that is not 7 is above 7 if 7 is the least member; at 32 bits too, for numbers of 32
     // bits.
-    (Comparison::Equal, FULL, R3, false, [SEVEN, (7, 100)], Some([SEVEN, (8, 100)])),
-    (Comparison::NotEqual, LOW, R3, true, [(5, 7), SEVEN], Some([(5, 6), SEVEN])),
+    (Comparison::Equal, FULL, R3, false, (SEVEN, (7, 100)), Some((SEVEN, (8, 100)))),
+    (Comparison::NotEqual, LOW, R3, true, ((5, 7), SEVEN), Some(((5, 6), SEVEN))),
 ];
 
 fn numbers(limits: Limits) -> Kind {
@@ -77,21 +77,21 @@ fn limits_of(kind: Kind) -> Limits {
 }
 
 /// What is left of a start state with these numbers in r2 and r3.
-fn left_of(cond: Cond, taken: bool, before: &[Limits; 2]) -> Branch {
+fn left_of(cond: Cond, taken: bool, before: &(Limits, Limits)) -> Branch {
     let mut state = State::start();
-    state.set_register(Reg::R2, numbers(before[0]));
-    state.set_register(Reg::R3, numbers(before[1]));
+    state.set_register(Reg::R2, numbers(before.0));
+    state.set_register(Reg::R3, numbers(before.1));
     refine(cond, taken, &state)
 }
 
 /// The limits of r2 and r3 in what is left.
-fn narrowed(cond: Cond, taken: bool, before: &[Limits; 2]) -> Option<[Limits; 2]> {
+fn narrowed(cond: Cond, taken: bool, before: &(Limits, Limits)) -> Option<(Limits, Limits)> {
     match left_of(cond, taken, before) {
         Branch::Never => None,
-        Branch::Goes(state) => Some([
+        Branch::Goes(state) => Some((
             limits_of(state.kind_of(Reg::R2)),
             limits_of(state.kind_of(Reg::R3)),
-        ]),
+        )),
     }
 }
 

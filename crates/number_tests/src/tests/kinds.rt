@@ -6,83 +6,64 @@ use std::test::Fail;
 
 const OWN: u32 = 7;
 
-/// A kind of a register.
+/// A kind of a register. A constant slice holds no `Kind`, which may hold a struct with ghost
+/// fields.
 enum Held {
+    Unset,
     AnyNumber,
-    Is(Kind),
+    /// A packet pointer with that many proved bytes.
+    Packet(u32),
+    Untested,
+    MapValue,
 }
 
 fn kind_of(held: &Held) -> Kind {
     match held {
+        Held::Unset => Kind::Unset,
         Held::AnyNumber => Kind::Number(Scalar::any(Width::Full64)),
-        Held::Is(kind) => *kind,
+        Held::Packet(proved) => Kind::Packet {
+            fixed: 2,
+            identity: OWN,
+            least: 0,
+            greatest: 255,
+            proved: *proved,
+        },
+        Held::Untested => Kind::MapValueOrNull {
+            index: 0,
+            identity: OWN,
+        },
+        Held::MapValue => Kind::MapValue {
+            index: 0,
+            least: 0,
+            greatest: 8,
+        },
     }
 }
 
-const UNSET: Held = Held::Is(Kind::Unset);
-
-const PROVED_0: Kind = Kind::Packet {
-    fixed: 2,
-    identity: OWN,
-    least: 0,
-    greatest: 255,
-    proved: 0,
-};
-
-const PACKET: Held = Held::Is(PROVED_0);
-
-const PROVED_10: Held = Held::Is(Kind::Packet {
-    fixed: 2,
-    identity: OWN,
-    least: 0,
-    greatest: 255,
-    proved: 10,
-});
-
-const PROVED_14: Held = Held::Is(Kind::Packet {
-    fixed: 2,
-    identity: OWN,
-    least: 0,
-    greatest: 255,
-    proved: 14,
-});
-
-const LOOKED_UP: Kind = Kind::MapValueOrNull {
-    index: 0,
-    identity: OWN,
-};
-
-const UNTESTED: Held = Held::Is(LOOKED_UP);
-
-const MAP_VALUE: Held = Held::Is(Kind::MapValue {
-    index: 0,
-    least: 0,
-    greatest: 8,
-});
-
 /// Two kinds, the identity that has to be the second's, and whether the first covers the second.
-const COVERED: [(Held, Held, u32, bool); 11] = [
+const COVERED: &[(Held, Held, u32, bool)] = &[
     // A number covers no pointer, and a pointer no number.
-    (Held::AnyNumber, PACKET, OWN, false),
-    (PACKET, Held::AnyNumber, OWN, false),
-    (UNSET, PACKET, OWN, true),
-    (UNSET, Held::AnyNumber, OWN, true),
+    (Held::AnyNumber, Held::Packet(0), OWN, false),
+    (Held::Packet(0), Held::AnyNumber, OWN, false),
+    (Held::Unset, Held::Packet(0), OWN, true),
+    (Held::Unset, Held::AnyNumber, OWN, true),
     // A pointer with fewer proved bytes covers one with more.
-    (PROVED_14, PROVED_10, OWN, false),
-    (PROVED_10, PROVED_14, OWN, true),
-    (PROVED_14, PROVED_14, OWN, true),
-    (PROVED_14, PROVED_14, OWN + 1, false),
+    (Held::Packet(14), Held::Packet(10), OWN, false),
+    (Held::Packet(10), Held::Packet(14), OWN, true),
+    (Held::Packet(14), Held::Packet(14), OWN, true),
+    (Held::Packet(14), Held::Packet(14), OWN + 1, false),
     // A pointer to a map value does not cover one that may be null.
-    (MAP_VALUE, UNTESTED, OWN, false),
-    (MAP_VALUE, MAP_VALUE, OWN, true),
-    (UNTESTED, UNTESTED, OWN, true),
+    (Held::MapValue, Held::Untested, OWN, false),
+    (Held::MapValue, Held::MapValue, OWN, true),
+    (Held::Untested, Held::Untested, OWN, true),
 ];
 
 fn is_covering(a: &Held, b: &Held, identity: u32) -> bool {
     kind_of(a).covers(kind_of(b), identity)
 }
 
-fn identities_of(kind: Kind) -> (Option<u32>, Option<u32>) {
+fn identities_of(held: &Held) -> (Option<u32>, Option<u32>) {
+    let kind = kind_of(held);
     (kind.null_identity(), kind.packet_identity())
 }
 
@@ -91,7 +72,7 @@ fn covered(rt: HostRuntime) -> Result<(), Fail> {
     for (index, (a, b, identity, wanted)) in COVERED.iter().enumerate() {
         assert_eq!(rt; is_covering(a, b, *identity), *wanted, "row {index}");
     }
-    assert_eq!(rt; identities_of(LOOKED_UP), (Some(OWN), None));
-    assert_eq!(rt; identities_of(PROVED_0), (None, Some(OWN)));
+    assert_eq!(rt; identities_of(&Held::Untested), (Some(OWN), None));
+    assert_eq!(rt; identities_of(&Held::Packet(0)), (None, Some(OWN)));
     Ok(())
 }

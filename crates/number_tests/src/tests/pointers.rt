@@ -52,19 +52,6 @@ const MAP_VALUE: Kind = Kind::MapValue {
     greatest: 0,
 };
 
-const POINTER: Kind = Kind::Packet {
-    fixed: 14,
-    identity: 3,
-    least: 0,
-    greatest: 60,
-    proved: 0,
-};
-
-const LOOKED_UP: Kind = Kind::MapValueOrNull {
-    index: 2,
-    identity: 5,
-};
-
 /// A state with these kinds in r2 and r3, and the copies in r4, a stack slot, and r6 and a stack
 /// slot of the caller.
 fn in_call(tested: Kind, other: Kind, copies: [Kind; 4]) -> State {
@@ -124,6 +111,8 @@ enum Held {
     LookedUp(u32),
     MapValue,
     Zero,
+    PacketEnd,
+    Unset,
 }
 
 fn kind_of(held: &Held) -> Kind {
@@ -135,19 +124,24 @@ fn kind_of(held: &Held) -> Kind {
         },
         Held::MapValue => MAP_VALUE,
         Held::Zero => Kind::Number(Scalar::constant(0)),
+        Held::PacketEnd => Kind::PacketEnd,
+        Held::Unset => Kind::Unset,
     }
 }
 
-fn kinds_of(held: &[Held; 4]) -> [Kind; 4] {
+/// What four copies hold.
+type Copies = (Held, Held, Held, Held);
+
+fn kinds_of(held: &Copies) -> [Kind; 4] {
     [
-        kind_of(&held[0]),
-        kind_of(&held[1]),
-        kind_of(&held[2]),
-        kind_of(&held[3]),
+        kind_of(&held.0),
+        kind_of(&held.1),
+        kind_of(&held.2),
+        kind_of(&held.3),
     ]
 }
 
-fn packet_test(test: Test, fixed: i32, copies: &[Held; 4]) -> Option<[Kind; 4]> {
+fn packet_test(test: Test, fixed: i32, copies: &Copies) -> Option<[Kind; 4]> {
     let (comparison, end_first, taken) = test;
     let register = if end_first { Reg::R3 } else { Reg::R2 };
     let operand = Operand::Register(if end_first { Reg::R2 } else { Reg::R3 });
@@ -159,12 +153,12 @@ fn packet_test(test: Test, fixed: i32, copies: &[Held; 4]) -> Option<[Kind; 4]> 
     )
 }
 
-const UNPROVED: [Held; 4] = [
+const UNPROVED: Copies = (
     Held::Packet(0, 3, 0),
     Held::Packet(20, 3, 0),
     Held::Packet(4, 3, 0),
     Held::Packet(14, 3, 0),
-];
+);
 
 fn proved(bytes: u32) -> [Kind; 4] {
     [
@@ -188,14 +182,13 @@ const IS_BEFORE: Test = (Comparison::Less, false, true);
 
 const AT_OR_BEFORE: Test = (Comparison::LessEqual, false, true);
 
-/// A pointer with more proved bytes; one of another identity; one without identity; and no packet
-/// pointer.
-const OTHERS: [Held; 4] = [
+/// A pointer with more proved bytes; one of another identity; one without identity; no packet pointer.
+const OTHERS: Copies = (
     Held::Packet(0, 3, 40),
     Held::Packet(14, 4, 2),
     Held::Packet(14, 0, 0),
     Held::MapValue,
-];
+);
 
 const NONE: Held = Held::Packet(0, 3, 0);
 
@@ -204,33 +197,33 @@ const ONE: Held = Held::Packet(0, 3, 1);
 const FAR: Held = Held::Packet(0, 3, 0x8000_0000);
 
 /// A test of a pointer with this fixed part, the copies before it, and those after it.
-const COPIES: [(Test, i32, [Held; 4], [Held; 4]); 6] = [
+const COPIES: &[(Test, i32, Copies, Copies)] = &[
     (IS_BEFORE, 14, OTHERS, OTHERS),
     // A test of a pointer that is not after its variable part proves nothing.
     (
         AT_OR_BEFORE,
         0,
-        [NONE, NONE, NONE, NONE],
-        [NONE, NONE, NONE, NONE],
+        (NONE, NONE, NONE, NONE),
+        (NONE, NONE, NONE, NONE),
     ),
-    (IS_BEFORE, 0, [NONE, NONE, NONE, NONE], [ONE, ONE, ONE, ONE]),
+    (IS_BEFORE, 0, (NONE, NONE, NONE, NONE), (ONE, ONE, ONE, ONE)),
     (
         IS_BEFORE,
         -1,
-        [NONE, NONE, NONE, NONE],
-        [NONE, NONE, NONE, NONE],
+        (NONE, NONE, NONE, NONE),
+        (NONE, NONE, NONE, NONE),
     ),
     (
         AT_OR_BEFORE,
         i32::MIN,
-        [NONE, NONE, NONE, NONE],
-        [NONE, NONE, NONE, NONE],
+        (NONE, NONE, NONE, NONE),
+        (NONE, NONE, NONE, NONE),
     ),
     (
         IS_BEFORE,
         i32::MAX,
-        [NONE, NONE, NONE, NONE],
-        [FAR, FAR, FAR, FAR],
+        (NONE, NONE, NONE, NONE),
+        (FAR, FAR, FAR, FAR),
     ),
 ];
 
@@ -243,32 +236,32 @@ fn copies_of_packet_pointers(rt: HostRuntime) -> Result<(), Fail> {
     Ok(())
 }
 
-const UNTESTED: [Held; 4] = [
+const UNTESTED: Copies = (
     Held::LookedUp(5),
     Held::LookedUp(5),
     Held::LookedUp(5),
     Held::LookedUp(6),
-];
+);
 
-const NULL: [Held; 4] = [Held::Zero, Held::Zero, Held::Zero, Held::LookedUp(6)];
+const NULL: Copies = (Held::Zero, Held::Zero, Held::Zero, Held::LookedUp(6));
 
-const NOT_NULL: [Held; 4] = [
+const NOT_NULL: Copies = (
     Held::MapValue,
     Held::MapValue,
     Held::MapValue,
     Held::LookedUp(6),
-];
+);
 
-const SOME_NOT_NULL: [Held; 4] = [
+const SOME_NOT_NULL: Copies = (
     Held::MapValue,
     Held::LookedUp(5),
     Held::LookedUp(5),
     Held::MapValue,
-];
+);
 
 /// What r2 holds, the copies, a comparison of r2 with 0 and whether it holds, and the copies after
 /// it. Null tests decide every copy; a pointer to a map value is not null.
-const NULL_TESTS: [(Held, [Held; 4], Comparison, bool, Option<[Held; 4]>); 8] = [
+const NULL_TESTS: &[(Held, Copies, Comparison, bool, Option<Copies>)] = &[
     (
         Held::LookedUp(5),
         UNTESTED,
@@ -323,7 +316,7 @@ const NULL_TESTS: [(Held, [Held; 4], Comparison, bool, Option<[Held; 4]>); 8] = 
 
 fn null_test(
     tested: &Held,
-    copies: &[Held; 4],
+    copies: &Copies,
     comparison: Comparison,
     taken: bool,
 ) -> Option<[Kind; 4]> {
@@ -331,7 +324,7 @@ fn null_test(
     copies_after(condition(comparison, FULL, Reg::R2, ZERO), taken, &state)
 }
 
-fn kinds_if(held: &Option<[Held; 4]>) -> Option<[Kind; 4]> {
+fn kinds_if(held: &Option<Copies>) -> Option<[Kind; 4]> {
     match held {
         Some(held) => Some(kinds_of(held)),
         None => None,
@@ -347,36 +340,41 @@ fn null_tests(rt: HostRuntime) -> Result<(), Fail> {
     Ok(())
 }
 
+const POINTER: Held = Held::Packet(14, 3, 0);
+
+const LOOKED_UP: Held = Held::LookedUp(5);
+
 /// Comparisons that are not defined for their pointers.
-const UNDEFINED: [(Comparison, Width, Operand, Kind, Kind); 12] = [
-    (Comparison::Equal, FULL, R3, POINTER, Kind::PacketEnd),
-    (Comparison::SignedLess, FULL, R3, POINTER, Kind::PacketEnd),
-    (Comparison::AnyBit, FULL, R3, Kind::PacketEnd, POINTER),
-    (Comparison::Less, Width::Low32, R3, POINTER, Kind::PacketEnd),
+const UNDEFINED: &[(Comparison, Width, Operand, Held, Held)] = &[
+    (Comparison::Equal, FULL, R3, POINTER, Held::PacketEnd),
+    (Comparison::SignedLess, FULL, R3, POINTER, Held::PacketEnd),
+    (Comparison::AnyBit, FULL, R3, Held::PacketEnd, POINTER),
+    (Comparison::Less, Width::Low32, R3, POINTER, Held::PacketEnd),
     (Comparison::Less, FULL, R3, POINTER, POINTER),
-    (Comparison::Less, FULL, R3, Kind::PacketEnd, Kind::PacketEnd),
-    (Comparison::Equal, FULL, ZERO, POINTER, Kind::Unset),
+    (Comparison::Less, FULL, R3, Held::PacketEnd, Held::PacketEnd),
+    (Comparison::Equal, FULL, ZERO, POINTER, Held::Unset),
     (
         Comparison::Equal,
         Width::Low32,
         ZERO,
-        MAP_VALUE,
-        Kind::Unset,
+        Held::MapValue,
+        Held::Unset,
     ),
-    (Comparison::Greater, FULL, ZERO, LOOKED_UP, Kind::Unset),
+    (Comparison::Greater, FULL, ZERO, LOOKED_UP, Held::Unset),
     (
         Comparison::Equal,
         FULL,
         Operand::Constant(1),
         LOOKED_UP,
-        Kind::Unset,
+        Held::Unset,
     ),
     (Comparison::Equal, FULL, R3, LOOKED_UP, LOOKED_UP),
-    (Comparison::Equal, FULL, ZERO, Kind::Unset, Kind::Unset),
+    (Comparison::Equal, FULL, ZERO, Held::Unset, Held::Unset),
 ];
 
-/// Whether a comparison is not defined, and whether all copies stay if it holds and if it does not.
-fn is_undefined(cond: Cond, left: Kind, right: Kind) -> [bool; 3] {
+/// Whether the comparison of r2 with r3 is not defined, and all copies stay whether it holds or not.
+fn is_undefined(cond: Cond, left: &Held, right: &Held) -> [bool; 3] {
+    let (left, right) = (kind_of(left), kind_of(right));
     let copies = [left, right, right, left];
     let state = in_call(left, right, copies);
     [
@@ -391,7 +389,7 @@ fn other_comparisons_are_undefined(rt: HostRuntime) -> Result<(), Fail> {
     for (comparison, width, operand, left, right) in UNDEFINED.iter() {
         let cond = condition(*comparison, *width, Reg::R2, *operand);
         assert_eq!(rt;
-            is_undefined(cond, *left, *right),
+            is_undefined(cond, left, right),
             [true; 3],
             "{comparison:?}"
         );

@@ -1,5 +1,5 @@
 use Rattle.std.proofs.Common.{arith, rules, refl}
-use Rattle.frames.proofs.Findings.{whole_head, record_many, record_end, record_failed, record_cut, record_long, body_cut, body_failed, record_whole, can_end, can_fail, can_be_many, can_be_cut, can_be_long, can_lack_body}
+use Rattle.frames.proofs.Findings.{whole_head, record_many, record_end, record_failed, record_cut, record_long, body_cut, body_failed, record_whole, can_be_whole, can_end, can_fail, can_be_many, can_be_cut, can_be_long, can_lack_body}
 use Rattle.frames.proofs.reader.read_record.Goals as goal
 
 pub returns-in-Whole-clause-bytes : goal.returns-in-Whole-clause-bytes
@@ -88,6 +88,12 @@ returns-then-length-max_body-clause-room g c =
     (whole_head _ _ _ _ c.fill_at_once.auto.buffer c.head_size.ensures.size
     c.head_size.ensures.bounded refl)
     (omega (arith, c.max_body.ensures.most, c.decode_head-length.ensures.field))
+
+pub returns-in-Whole-fill_at_once-2-clause-room : goal.returns-in-Whole-fill_at_once-2-clause-room
+returns-in-Whole-fill_at_once-2-clause-room g c =
+    can_be_whole _ _ _ _ _ _ _ (omega arith) (search rules)
+    (omega (arith, c.max_body.ensures.most)) c.in_range.ensures (search rules) (search rules)
+    (search rules) c.decode_head-length.ensures.reason
 
 pub returns-in-Ended-fill_at_once-2-clause-room : goal.returns-in-Ended-fill_at_once-2-clause-room
 returns-in-Ended-fill_at_once-2-clause-room g c =

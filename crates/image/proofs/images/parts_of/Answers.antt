@@ -11,6 +11,19 @@ use Rattle.image.proofs.RowSpelling.{rows_from-fit}
 use Rattle.image.proofs.Whole.{sizes, rows_from-slice, code_read-slice, program_read-code, code_fails}
 use Rattle.image.proofs.images.parts_of.Goals as goal
 
+pub map_count-count-requires : goal.map_count-count-requires
+map_count-count-requires c = (sizes c.args.bytes.now c.requires).long
+
+pub slice_bounds-rows_of-start : goal.slice_bounds-rows_of-start
+slice_bounds-rows_of-start c =
+    let long = (sizes c.args.bytes.now c.requires).long in
+    omega arith
+
+pub slice_bounds-code_of-start : goal.slice_bounds-code_of-start
+slice_bounds-code_of-start c =
+    let whole = (sizes c.args.bytes.now c.requires).whole in
+    omega (arith, c.map_count-count.ensures)
+
 pub room_refusal-requires-clause-fit : goal.room_refusal-requires-clause-fit
 room_refusal-requires-clause-fit c =
     subst (λ (l : List MapDef). All IsRow l) (sym c.deref.ensures.value)

@@ -7,7 +7,7 @@ use std::io::ErrorKind;
 use std::process::Abort;
 
 // The magic and two empty records.
-const TWO: [u8; 44] = [
+const TWO: &[u8] = &[
     88, 80, 70, 49, 0, 0, 0, 0, 0, 0, 0, 0, 0, 0, 0, 0, 0, 0, 0, 0, 0, 0, 0, 0, 0, 0, 0, 0, 0, 0,
     0, 0, 0, 0, 0, 0, 0, 0, 0, 0, 0, 0, 0, 0,
 ];
@@ -19,8 +19,8 @@ const HEAD: FrameHead = FrameHead {
 };
 
 // The magic, and a record whose body has five bytes.
-const RECORD: [u8; 29] =
-    *b"XPF1\x01\x02\x03\x04\x05\x06\x07\x08\x09\x0a\x0b\x0c\x0d\x0e\x0f\x10\x05\0\0\0hello";
+const RECORD: &[u8] =
+    b"XPF1\x01\x02\x03\x04\x05\x06\x07\x08\x09\x0a\x0b\x0c\x0d\x0e\x0f\x10\x05\0\0\0hello";
 
 // How many records come before the stop, the stop, and the result of the call after it.
 fn stop_of(source: Reader<'_>) -> (u32, Next, Next) {
@@ -83,8 +83,8 @@ const BROKEN_BODY: &[Stop] = &[(24, 0, Next::Fault(Fault::ReadFailed, 4))];
 
 // Streams, after which bytes a read fails, and how they stop.
 const FAILING: &[(&[u8], usize, usize, &[Stop])] = &[
-    (&TWO, 0, 45, BROKEN),
-    (&RECORD, 24, 29, BROKEN_BODY),
+    (TWO, 0, 45, BROKEN),
+    (RECORD, 24, 29, BROKEN_BODY),
 ];
 
 // The failures that are errors.

@@ -10,7 +10,7 @@ use Rattle.live_maps.proofs.ContentLaws.{live_of}
 use Rattle.live_maps.proofs.LiveLaws.{live-removed, live-same, deleted_there, delete_answer-live}
 use Rattle.live_maps.proofs.SearchLaws.{lookup-present}
 use Rattle.live_maps.proofs.OrderLaws.{AreOrders-changed, IsOrder-listed, order_found, values-removed}
-use Rattle.live_maps.proofs.OneChanged.{OneChanged, one_changed, row_seen, still_kept}
+use Rattle.live_maps.proofs.OneChanged.{OneChanged, row_known, one_changed, row_seen, still_kept}
 use Rattle.live_maps.proofs.live.LiveMaps.delete.Goals as goal
 use Rattle.live_maps.proofs.live.LiveMaps.delete.Goals.{In-Some, In_default, Else-answer-eq0}
 
@@ -102,6 +102,34 @@ never c =
     let del = deleted c.delete-answer.result c.if-answer-eq0.true c.args.key.now x _
     c.delete-answer.ensures.deleted in
     deleted_there x c.args.key.now del.answer (sym c.find-found.ensures ∙ c.in_default.is)
+
+pub find-found-requires-clause-map : goal.find-found-requires-clause-map
+find-found-requires-clause-map c =
+    let i = c.self.inside in
+    let known = row_known (Size c.args.key.now) i.next i.maps i.serials.items c.args.self.now
+    c.self.view_is c.args.map c.requires in
+    known.0
+
+pub find-found-requires-clause-key_size : goal.find-found-requires-clause-key_size
+find-found-requires-clause-key_size c =
+    let i = c.self.inside in
+    let known = row_known (Size c.args.key.now) i.next i.maps i.serials.items c.args.self.now
+    c.self.view_is c.args.map c.requires in
+    known.1
+
+pub delete-answer-requires-clause-map : goal.delete-answer-requires-clause-map
+delete-answer-requires-clause-map c =
+    let i = c.self.inside in
+    let known = row_known (Size c.args.key.now) i.next i.maps i.serials.items c.args.self.now
+    c.self.view_is c.args.map c.requires in
+    known.0
+
+pub delete-answer-requires-clause-key_size : goal.delete-answer-requires-clause-key_size
+delete-answer-requires-clause-key_size c =
+    let i = c.self.inside in
+    let known = row_known (Size c.args.key.now) i.next i.maps i.serials.items c.args.self.now
+    c.self.view_is c.args.map c.requires in
+    known.1
 
 pub take_away-requires-clause-index : goal.take_away-requires-clause-index
 take_away-requires-clause-index c =

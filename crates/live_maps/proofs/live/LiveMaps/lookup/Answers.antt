@@ -1,21 +1,34 @@
-use Rattle.std.proofs.Common.{◌≡◌, ◌∙◌, None, sym, ap, subst, length, arith, rules}
-use Rattle.std.specs.Prelude.{IsSomeAnd, slice_get}
+use Rattle.std.proofs.Common.{◌≡◌, ◌∙◌, None, sym, ap, length, arith, rules}
 use Rattle.std.specs.Option.{option_map}
 use Rattle.isa_model.specs.declared.map_defs.MapDef.{MapDef}
 use Rattle.isa_model.specs.Machine.MapContents.{at_key}
 use Rattle.live_maps.specs.Live.{Live, content_at}
-use Rattle.live_maps.proofs.ContentLaws.{rows_of-known}
 use Rattle.live_maps.proofs.SearchLaws.{lookup-absent, lookup-present}
+use Rattle.live_maps.proofs.OneChanged.{row_known}
 use Rattle.live_maps.proofs.live.LiveMaps.lookup.Goals as goal
+
+pub find-requires-clause-map : goal.find-requires-clause-map
+find-requires-clause-map c =
+    let i = c.self.inside in
+    let P : MapDef → Type 0 = λ row. length c.args.key.now ≡ row.key_size in
+    let known = row_known P i.next i.maps i.serials.items c.args.self.now c.self.view_is c.args.map
+    c.requires in
+    known.0
+
+pub find-requires-clause-key_size : goal.find-requires-clause-key_size
+find-requires-clause-key_size c =
+    let i = c.self.inside in
+    let P : MapDef → Type 0 = λ row. length c.args.key.now ≡ row.key_size in
+    let known = row_known P i.next i.maps i.serials.items c.args.self.now c.self.view_is c.args.map
+    c.requires in
+    known.1
 
 pub serial_at-requires-clause-index : goal.serial_at-requires-clause-index
 serial_at-requires-clause-index c =
     let i = c.self.inside in
     let P : MapDef → Type 0 = λ row. length c.args.key.now ≡ row.key_size in
-    let known =
-    rows_of-known P i.maps c.args.map
-    (subst (λ (l : Live). IsSomeAnd (slice_get l.rows c.args.map) P)
-    (sym c.self.view_is) c.requires) in
+    let known = row_known P i.next i.maps i.serials.items c.args.self.now c.self.view_is c.args.map
+    c.requires in
     let inside = known.0 in
     let long = c.self.invariant.2.long in
     let items = i.serials.ok.0 in
@@ -25,10 +38,8 @@ pub serial_at-requires-clause-place : goal.serial_at-requires-clause-place
 serial_at-requires-clause-place c =
     let i = c.self.inside in
     let P : MapDef → Type 0 = λ row. length c.args.key.now ≡ row.key_size in
-    let known =
-    rows_of-known P i.maps c.args.map
-    (subst (λ (l : Live). IsSomeAnd (slice_get l.rows c.args.map) P)
-    (sym c.self.view_is) c.requires) in
+    let known = row_known P i.next i.maps i.serials.items c.args.self.now c.self.view_is c.args.map
+    c.requires in
     (lookup-present i.next i.maps i.serials.items c.args.map c.self.invariant.2 known.0
     c.args.key.now c.in_ok-place.place (sym c.in_ok-place.ensures.place)).0
 
@@ -36,10 +47,8 @@ pub returns-clause-serial : goal.returns-clause-serial
 returns-clause-serial c =
     let i = c.self.inside in
     let P : MapDef → Type 0 = λ row. length c.args.key.now ≡ row.key_size in
-    let known =
-    rows_of-known P i.maps c.args.map
-    (subst (λ (l : Live). IsSomeAnd (slice_get l.rows c.args.map) P)
-    (sym c.self.view_is) c.requires) in
+    let known = row_known P i.next i.maps i.serials.items c.args.self.now c.self.view_is c.args.map
+    c.requires in
     let r =
     lookup-present i.next i.maps i.serials.items c.args.map c.self.invariant.2 known.0
     c.args.key.now c.in_ok-place.place (sym c.in_ok-place.ensures.place) in
@@ -51,10 +60,8 @@ pub returns-in_err-place-clause-serial : goal.returns-in_err-place-clause-serial
 returns-in_err-place-clause-serial c =
     let i = c.self.inside in
     let P : MapDef → Type 0 = λ row. length c.args.key.now ≡ row.key_size in
-    let known =
-    rows_of-known P i.maps c.args.map
-    (subst (λ (l : Live). IsSomeAnd (slice_get l.rows c.args.map) P)
-    (sym c.self.view_is) c.requires) in
+    let known = row_known P i.next i.maps i.serials.items c.args.self.now c.self.view_is c.args.map
+    c.requires in
     let none : c.from_residual.result ≡ None = search rules in
     none ∙ sym (lookup-absent i.next i.maps i.serials.items c.args.map c.self.invariant.2 known.0
     c.args.key.now (sym c.in_err-place.ensures.place))

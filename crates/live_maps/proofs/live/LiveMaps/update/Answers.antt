@@ -10,7 +10,7 @@ use Rattle.live_maps.specs.Orders.{AreLiveMaps, IsOrder, KeyOrder}
 use Rattle.live_maps.proofs.ContentLaws.{live_of}
 use Rattle.live_maps.proofs.LiveLaws.{live-updated, live-added, live-same, not_zero, updated_there, place_if_new-Some, place_if_new-None, update_answer-live}
 use Rattle.live_maps.proofs.OrderLaws.{AreOrders-changed, AreOrders-set, IsOrder-listed, order_found, remove-added}
-use Rattle.live_maps.proofs.OneChanged.{OneChanged, one_changed, row_seen, still_kept}
+use Rattle.live_maps.proofs.OneChanged.{OneChanged, row_known, one_changed, row_seen, still_kept}
 use Rattle.live_maps.proofs.live.LiveMaps.update.Goals as goal
 use Rattle.live_maps.proofs.live.LiveMaps.update.Goals.{In-Some, In_default, Else-answer-eq0}
 
@@ -139,6 +139,58 @@ same c d =
     let stays = u.updates.stays c.if-answer-eq0.false in
     live-same i.next i.maps i.serials.items c.args.map c.update-answer.new.maps d.inside
     c.self.invariant.2 c.update-answer.ensures.others u.row stays.0 stays.1
+
+pub find-found-requires-clause-map : goal.find-found-requires-clause-map
+find-found-requires-clause-map c =
+    let i = c.self.inside in
+    let known = row_known (Sizes c.args.key.now c.args.value.now) i.next i.maps i.serials.items
+    c.args.self.now c.self.view_is c.args.map c.requires.sizes in
+    known.0
+
+pub find-found-requires-clause-key_size : goal.find-found-requires-clause-key_size
+find-found-requires-clause-key_size c =
+    let i = c.self.inside in
+    let known = row_known (Sizes c.args.key.now c.args.value.now) i.next i.maps i.serials.items
+    c.args.self.now c.self.view_is c.args.map c.requires.sizes in
+    known.1.0
+
+pub update-answer-requires-clause-map : goal.update-answer-requires-clause-map
+update-answer-requires-clause-map c =
+    let i = c.self.inside in
+    let known = row_known (Sizes c.args.key.now c.args.value.now) i.next i.maps i.serials.items
+    c.args.self.now c.self.view_is c.args.map c.requires.sizes in
+    known.0
+
+pub update-answer-requires-clause-key_size : goal.update-answer-requires-clause-key_size
+update-answer-requires-clause-key_size c =
+    let i = c.self.inside in
+    let known = row_known (Sizes c.args.key.now c.args.value.now) i.next i.maps i.serials.items
+    c.args.self.now c.self.view_is c.args.map c.requires.sizes in
+    known.1.0
+
+pub update-answer-requires-clause-value_size : goal.update-answer-requires-clause-value_size
+update-answer-requires-clause-value_size c =
+    let i = c.self.inside in
+    let known = row_known (Sizes c.args.key.now c.args.value.now) i.next i.maps i.serials.items
+    c.args.self.now c.self.view_is c.args.map c.requires.sizes in
+    known.1.1
+
+pub new_place-requires-clause-map : goal.new_place-requires-clause-map
+new_place-requires-clause-map c =
+    let i = c.self.inside in
+    let d = one_changed (Sizes c.args.key.now c.args.value.now) i.next i.maps i.serials.items
+    c.args.self.now c.self.view_is c.args.map c.requires.sizes c.update-answer.new.maps
+    c.update-answer.ensures.others c.say_fits.ensures in
+    let inside = d.inside in
+    let count = d.count in
+    omega arith
+
+pub new_place-requires-clause-key_size : goal.new_place-requires-clause-key_size
+new_place-requires-clause-key_size c =
+    let i = c.self.inside in
+    let known = row_known (Sizes c.args.key.now c.args.value.now) i.next i.maps i.serials.items
+    c.args.self.now c.self.view_is c.args.map c.requires.sizes in
+    known.1.0 ∙ sym (ap (λ (r : MapDef). r.key_size) c.update-answer.ensures.updated.row)
 
 pub give_serial-requires-clause-index : goal.give_serial-requires-clause-index
 give_serial-requires-clause-index c =

@@ -1,0 +1,6 @@
+use Rattle.std.proofs.Common.{sym, ap}
+use Rattle.host.specs.Tallies.{tallied}
+use Rattle.host.proofs.traced.tally_in.Goals as goal
+
+pub returns-in-Ok : goal.returns-in-Ok
+returns-in-Ok c = sym (ap tallied c.in-Ok.is)
