@@ -1,12 +1,13 @@
 #!/usr/bin/env python3
-"""Measures proof tables: `recheck` beside `verify` in turn, and how long `prove` takes.
+"""Measures proof tables: `recheck` beside `verify` in turn, how long `prove` takes, and the reading of a table.
 
 usage: python3 bench/tables.py [PROGRAM]
 
 PROGRAM is the program that `rt run` leaves in crates/xdpvm (the default: crates/xdpvm/out/xdpvm). All seconds are
 processor seconds of one process, start included, and each figure is the least of TIMES runs (the default is 5), which
-take turns. An entry is an instruction that `verify` explores. Files are made in a folder of its
-own, which is removed at the end.
+take turns. An entry is an instruction that `verify` explores. The reading is that of a table which is refused for its
+first byte; the last column is `recheck` without it beside `verify`. Files are made in a folder of its own, which is
+removed at the end.
 """
 import os
 import subprocess
@@ -42,6 +43,22 @@ def stack_loop(turns):
     )
 
 
+def call_loop(turns):
+    return (
+        f"r6 = 0\nr7 = 5\nloop: r1 = r6\ncall f\nr6 += 1\nif r6 < {turns} goto loop\nr0 = 2\nexit\n"
+        "f: r0 = r1\nr0 += r1\nexit\n"
+    )
+
+
+def nested_calls(turns):
+    """Each of six functions calls the next; the seventh calls one in a loop."""
+    lines = []
+    for number in range(6):
+        lines.append(f"f{number}: r6 = {number + 1}\nr7 = {number + 2}\ncall f{number + 1}\nr0 = 2\nexit")
+    lines.append(f"f6: r6 = 0\nr7 = 9\nloop: call g\nr6 += 1\nif r6 < {turns} goto loop\nr0 = 2\nexit")
+    return "\n".join(lines + ["g: r0 = 0\nexit"]) + "\n"
+
+
 def branches(count):
     lines = ["r2 = *(u32 *)(r1 + 12)", "r0 = 0"]
     for bit in range(count):
@@ -57,21 +74,23 @@ ROWS = [
     ("loop of 50,000 turns, six values on the stack", text_of("spills")),
     ("15 branches on unknown bits in a row", branches(15)),
     ("18 branches on unknown bits in a row", branches(18)),
+    ("a call in each turn, 50,000 turns", call_loop(50_000)),
+    ("calls from the seventh frame, 15,500 turns", nested_calls(15_500)),
     ("bench/parser.text", text_of("parser")),
     ("bench/headers.text", text_of("headers")),
     ("bench/options.text", text_of("options")),
 ]
 
 
-def measured(words):
-    """Runs a command that is to succeed: its standard output, and its processor seconds."""
+def measured(words, succeeds=True):
+    """Runs a command that is to succeed, or not to: its standard output, and its processor seconds."""
     with tempfile.TemporaryFile() as out:
         child = subprocess.Popen(words, stdout=out)
         _, status, used = os.wait4(child.pid, 0)
         child.returncode = os.waitstatus_to_exitcode(status)
         out.seek(0)
         said = out.read().decode()
-    if child.returncode:
+    if succeeds != (child.returncode == 0):
         sys.exit(f"{' '.join(words)}: status {child.returncode}, {said!r}")
     return said, used.ru_utime + used.ru_stime
 
@@ -86,7 +105,8 @@ def main():
     with tempfile.TemporaryDirectory() as folder:
         os.chdir(folder)
         head = f"{'program':<46}{'entries':>9}{'MB':>7}{'an entry':>9}"
-        print(head + "".join(f"{name:>9}{'MB':>5}" for name in ("verify", "prove", "recheck")) + f"{'ratio':>7}")
+        head += "".join(f"{name:>9}{'MB':>5}" for name in ("verify", "prove", "recheck"))
+        print(head + f"{'reading':>9}{'ratio':>7}{'without':>8}")
         for name, text in ROWS:
             with open("p.text", "w") as file:
                 file.write(text)
@@ -94,15 +114,22 @@ def main():
             measured([PROGRAM, "prove", "p.image", "p.table"])
             size = os.path.getsize("p.table")
             with open("p.table", "rb") as file:
-                entries = int.from_bytes(file.read(8)[4:], "little")
+                table = file.read()
+            entries = int.from_bytes(table[4:8], "little")
+            with open("r.table", "wb") as file:
+                file.write(b"Y" + table[1:])
             commands = [[PROGRAM, *words.split()] for words in ("verify p.image", "prove p.image q.table", "recheck p.image p.table")]
-            taken = [[measured(words) for words in commands] for _ in range(TIMES)]
+            taken, reading = [], []
+            for _ in range(TIMES):
+                taken.append([measured(words) for words in commands])
+                reading.append(measured([PROGRAM, "recheck", "p.image", "r.table"], False)[1])
             if len({said for runs in taken for said, _ in runs}) > 1:
                 sys.exit(f"{name}: other bounds")
             least = [min(runs[place][1] for runs in taken) for place in range(3)]
             line = f"{name:<46}{entries:>9}{size / 1e6:>7.1f}{size / entries:>9.0f}"
             line += "".join(f"{seconds:>9.3f}{peak(words):>5.0f}" for seconds, words in zip(least, commands))
-            print(line + f"{least[2] / least[0]:>7.2f}", flush=True)
+            line += f"{min(reading):>9.3f}{least[2] / least[0]:>7.2f}"
+            print(line + f"{(least[2] - min(reading)) / least[0]:>8.2f}", flush=True)
         os.chdir("/")
 
 

@@ -78,7 +78,7 @@ MeansStarts-covers p a program covers head packet contents given =
 -- ---- options that have an element
 
 -- the element of an option that has one
-there_is : {X : Type 0} (o : Option X) → IsSome o → (x : X) × (o ≡ Some x)
+pub there_is : {X : Type 0} (o : Option X) → IsSome o → (x : X) × (o ≡ Some x)
 there_is (Some x) h = (x, refl)
 there_is None h = absurd (cc)
 

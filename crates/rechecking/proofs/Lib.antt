@@ -1,4 +1,6 @@
 pub mod TableLaws
 pub mod CheckingLaws
 pub mod GrowingLaws
+pub mod UntouchedLaws
+pub mod WeakerLaws
 pub mod RefusalLaws

@@ -4,6 +4,8 @@ use Rattle.isa_model.specs.Code.Instructions.{Program}
 use Rattle.stack_state.specs.declared.states.State.{State}
 use Rattle.table_entries.specs.declared.entries.EntryHead.{EntryHead}
 use Rattle.table_entries.specs.Entries.{IsAllowed, entry_of}
+use Rattle.table_entries.specs.declared.known_bytes.KnownBytes.{KnownBytes}
+use Rattle.table_entries.specs.KnownBytes.{AreSpelled}
 use Rattle.rechecking.specs.declared.entries.Known.{Known}
 use Rattle.rechecking.specs.declared.entries.Known.TheVariants as known
 use Rattle.rechecking.specs.Tables.{EntryAt}
@@ -19,3 +21,9 @@ abbrev pub IsKnownEntry : Program → EntryAt → State → State → Known → 
 IsKnownEntry p t a b known.None = Unit {0}
 IsKnownEntry p t a b (known.First index head) = HasEntry p t index head a
 IsKnownEntry p t a b (known.Second index head) = HasEntry p t index head b
+
+-- the bytes spell parts of the known entry's state
+abbrev pub IsKnownSpelled : ℕ → KnownBytes → State → State → Known → Type 0
+IsKnownSpelled rows bytes a b known.None = Unit {0}
+IsKnownSpelled rows bytes a b (known.First index head) = AreSpelled rows bytes a
+IsKnownSpelled rows bytes a b (known.Second index head) = AreSpelled rows bytes b

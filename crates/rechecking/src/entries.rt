@@ -1,20 +1,24 @@
 //! Entries tested, one by one.
 
-ghost use Rattle.std.specs.Prelude.{◌≡◌, ◌<◌, ℕ, Some, None, IsSome, IsTrue, IfOk, IfErr, IfSome, Ok, true, false};
+ghost use Rattle.std.specs.Prelude.{◌≡◌, ◌<◌, ℕ, length, Some, None, IsSome, IsTrue, IfOk, IfErr, IfSome, Ok, true, false};
 ghost use Rattle.isa_model.specs.Code.Instructions.{Program};
 ghost use Rattle.stack_state.specs.declared.states.State.{State};
+ghost use Rattle.stack_state.specs.Meaning.{Covers};
 ghost use Rattle.table_entries.specs.Entries.{Entry, list_of};
 ghost use Rattle.table_entries.specs.Tables.{entry_at, count_of};
 ghost use Rattle.table_entries.specs.Growing.{MayGrow, Grows, AllThere};
+ghost use Rattle.table_entries.specs.KnownBytes.{AreSpelled};
+ghost use Rattle.table_entries.specs.declared.known_bytes.KnownBytes.{KnownBytes as TheBytes};
 ghost use Rattle.rechecking.specs.Tables.{EntryAt, IsClosedEntry};
 ghost use Rattle.rechecking.specs.Checking.{Enters, EntersClearly, FollowsBy, Covering, CoversClearly, AllFineBefore, IsRefusedAt, IsFirstRefused};
-ghost use Rattle.rechecking.specs.KnownEntries.{HasEntry, IsKnownEntry};
+ghost use Rattle.rechecking.specs.KnownEntries.{HasEntry, IsKnownEntry, IsKnownSpelled};
 
 use crate::errors::TableError;
+use crate::untouched::{kept_after, parts_kept};
 use image::Image;
 use stack_state::State;
 use state_cover::covers;
-use table_entries::{EntryHead, Growing, NamedEntries, Table};
+use table_entries::{EntryHead, Growing, KnownBytes, NamedEntries, Table};
 use transfer::{Ways, step_in_place};
 
 /// An entry, by its index, whose state is in `state` or in `room` already: it is not read again.
@@ -27,8 +31,10 @@ pub enum Known {
 
 /// The same entry, after `state` and `room` were swapped.
 fn swapped(known: Known) -> Known
-    ensures { (p : Program) (t : EntryAt) (a b : State) → IsKnownEntry p t a b known
+    ensures known { (p : Program) (t : EntryAt) (a b : State) → IsKnownEntry p t a b known
         → IsKnownEntry p t b a result }
+    ensures spelled { (rows : ℕ) (bytes : TheBytes) (a b : State)
+        → IsKnownSpelled rows bytes a b known → IsKnownSpelled rows bytes b a result }
 {
     match known {
         Known::None => Known::None,
@@ -75,14 +81,18 @@ fn read_covering(
 
 /// Whether the entry of that index covers a state, and its number is smaller, tested first. Its own
 /// state is read into `room` only if its bytes do not spell this one.
-fn enters(
+fn enters<'a>(
     image: &Image,
-    table: &Table,
+    table: &Table<'a>,
     number: u32,
     index: usize,
     state: &State,
     room: &mut State,
+    bytes: &mut KnownBytes<'a>,
 ) -> Option<Known>
+    requires { AreSpelled (length image.now.maps) bytes.old state.now }
+    ensures spelled { IfSome result
+        (IsKnownSpelled (length image.now.maps) bytes.new state.now room.new) }
     ensures yes { IfSome result
         (λ _. Enters (entry_at image.now table.now) number index state.now) }
     ensures known { IfSome result
@@ -93,24 +103,29 @@ fn enters(
     if !is_smaller(table, index, number) {
         return None;
     }
-    if let Some(head) = table.head_of(image, index, state) {
+    if let Some(head) = table.head_of(image, index, state, bytes) {
         return Some(Known::First(index, head));
     }
     let head = read_covering(image, table, index, state, room)?;
+    bytes.forget();
     Some(Known::Second(index, head))
 }
 
 /// Whether an entry names as many entries as it has successors, and each covers its successor. The
 /// first successor's entry is then the known one.
-fn follows(
+fn follows<'a>(
     image: &Image,
-    table: &Table,
+    table: &Table<'a>,
     head: EntryHead,
     ways: Ways,
     state: &State,
     other: &State,
     room: &mut State,
+    bytes: &mut KnownBytes<'a>,
 ) -> Option<Known>
+    requires { AreSpelled (length image.now.maps) bytes.old state.now }
+    ensures spelled { IfSome result
+        (IsKnownSpelled (length image.now.maps) bytes.new state.now room.new) }
     ensures yes { IfSome result
         (λ _. FollowsBy (Enters (entry_at image.now table.now) head.number)
         (list_of head.named) ways state.now other.now) }
@@ -120,46 +135,83 @@ fn follows(
         → FollowsBy (EntersClearly (entry_at image.now table.now) head.number)
         (list_of head.named) ways state.now other.now → ⊥ }
 {
+    let number = head.number;
     match (head.named, ways) {
         (NamedEntries::None, Ways::None) => Some(Known::None),
         (NamedEntries::One(first), Ways::One) => {
-            enters(image, table, head.number, first as usize, state, room)
+            enters(image, table, number, first as usize, state, room, bytes)
         }
         (NamedEntries::Two(first, second), Ways::Two) => {
-            enters(image, table, head.number, second as usize, other, room)?;
-            enters(image, table, head.number, first as usize, state, room)
+            let none = &mut KnownBytes::none();
+            enters(image, table, number, second as usize, other, room, none)?;
+            enters(image, table, number, first as usize, state, room, bytes)
         }
         _ => None,
     }
 }
 
-/// The entry that an entry names, if it is the next one to be placed, its bytes spell the only
-/// successor, and its number is smaller. None: nothing is known of it.
-fn next_follows(
+/// The next entry to be placed, if it has this index, and its bytes spell the state, or else the
+/// state without what they say nothing of in the innermost frame, and its number is smaller.
+fn take_next<'a>(
     image: &Image,
-    growing: &mut Growing,
+    growing: &mut Growing<'a>,
+    number: u32,
+    index: usize,
+    state: &mut State,
+    bytes: &mut KnownBytes<'a>,
+) -> Option<EntryHead>
+    requires may { MayGrow image.now growing.old }
+    requires spelled { AreSpelled (length image.now.maps) bytes.old state.old }
+    ensures spelled { AreSpelled (length image.now.maps) bytes.new state.new }
+    ensures grows { Grows image.now growing.old growing.new }
+    ensures left { result ≡ None → state.new ≡ state.old }
+    ensures covers { IfSome result (λ _. (p : Program) → Covers p state.new state.old) }
+    ensures number { IfSome result (λ head. head.number < number) }
+    ensures entry { IfSome result (λ head. HasEntry image.now
+        (entry_at image.now growing.new.table) index head state.new) }
+{
+    match growing.take(image, index, state, bytes) {
+        Some(next) => {
+            if next.number < number {
+                Some(next)
+            } else {
+                None
+            }
+        }
+        None => growing.take_weaker(image, number, index, state, bytes),
+    }
+}
+
+/// The entry that an entry names, if it is the next one to be placed, the state that it spells is
+/// the only successor, or that without what the entry says nothing of, and its number is smaller.
+/// The state becomes the entry's. None: nothing is known of it, and the state is as before.
+fn next_follows<'a>(
+    image: &Image,
+    growing: &mut Growing<'a>,
     head: EntryHead,
     ways: Ways,
-    state: &State,
+    state: &mut State,
+    bytes: &mut KnownBytes<'a>,
 ) -> Option<Known>
-    requires { MayGrow image.now growing.old }
+    requires may { MayGrow image.now growing.old }
+    requires spelled { AreSpelled (length image.now.maps) bytes.old state.old }
+    ensures spelled { AreSpelled (length image.now.maps) bytes.new state.new }
+    ensures first { IfSome result (λ known. (room : State)
+        → IsKnownSpelled (length image.now.maps) bytes.new state.new room known) }
     ensures grows { Grows image.now growing.old growing.new }
+    ensures left { result ≡ None → state.new ≡ state.old }
     ensures yes { IfSome result
         (λ _. (other : State) → FollowsBy
         (Enters (entry_at image.now growing.new.table) head.number)
-        (list_of head.named) ways state.now other) }
+        (list_of head.named) ways state.old other) }
     ensures known { IfSome result (λ known. (room : State)
-        → IsKnownEntry image.now (entry_at image.now growing.new.table) state.now room known) }
+        → IsKnownEntry image.now (entry_at image.now growing.new.table) state.new room known) }
 {
     match (head.named, ways) {
         (NamedEntries::One(only), Ways::One) => {
             let index = only as usize;
-            let next = growing.take(image, index, state)?;
-            if next.number < head.number {
-                Some(Known::First(index, next))
-            } else {
-                None
-            }
+            let next = take_next(image, growing, head.number, index, state, bytes)?;
+            Some(Known::First(index, next))
         }
         _ => None,
     }
@@ -182,19 +234,24 @@ fn place_named(image: &Image, growing: &mut Growing, named: NamedEntries)
     }
 }
 
-/// Tests an entry whose state was read into `state`: P7 and P8.
-fn test_read_entry(
+/// Tests an entry whose state was read into `state`: P7 and P8. The bytes spell parts of the state,
+/// and then of the known entry's.
+fn test_read_entry<'a>(
     image: &Image,
-    growing: &mut Growing,
+    growing: &mut Growing<'a>,
     index: usize,
     head: EntryHead,
     state: &mut State,
     other: &mut State,
     room: &mut State,
+    bytes: &mut KnownBytes<'a>,
 ) -> Result<Known, TableError>
     requires may { MayGrow image.now growing.old }
+    requires spelled { AreSpelled (length image.now.maps) bytes.old state.old }
     requires there { HasEntry image.now (entry_at image.now growing.old.table)
         index head state.old }
+    ensures spelled { IfOk result
+        (IsKnownSpelled (length image.now.maps) bytes.new state.new room.new) }
     ensures grows { Grows image.now growing.old growing.new }
     ensures fine { IfOk result (λ _. (e : Entry)
         → entry_at image.now growing.new.table index ≡ Some e
@@ -204,35 +261,51 @@ fn test_read_entry(
     ensures refused { IfErr result
         (IsRefusedAt image.now (entry_at image.now growing.new.table) index) }
 {
+    let parts = parts_kept(image, state);
     let ways = match step_in_place(image, state, other) {
         Ok(ways) => ways,
         Err(refusal) => return Err(TableError::Step(index, refusal)),
     };
-    if let Some(known) = next_follows(image, growing, head, ways, state) {
+    let kept = kept_after(ways, parts);
+    bytes.keep(kept.frames, kept.slots);
+    if let Some(known) = next_follows(image, growing, head, ways, state, bytes) {
         return Ok(known);
     }
     place_named(image, growing, head.named);
-    match follows(image, growing.placed(), head, ways, state, other, room) {
+    match follows(
+        image,
+        growing.placed(),
+        head,
+        ways,
+        state,
+        other,
+        room,
+        bytes,
+    ) {
         Some(known) => Ok(known),
         None => Err(TableError::Successor(index)),
     }
 }
 
 /// Tests an entry, which is read unless it is known: P7 and P8. Returns which entry is known after
-/// it.
-fn test_entry(
+/// it. The bytes spell parts of the known entry's state.
+fn test_entry<'a>(
     image: &Image,
-    growing: &mut Growing,
+    growing: &mut Growing<'a>,
     index: usize,
     known: Known,
     state: &mut State,
     other: &mut State,
     room: &mut State,
+    bytes: &mut KnownBytes<'a>,
 ) -> Result<Known, TableError>
     requires may { MayGrow image.now growing.old }
+    requires spelled { IsKnownSpelled (length image.now.maps) bytes.old state.old room.old known }
     requires there { IsSome (entry_at image.now growing.old.table index) }
     requires known { IsKnownEntry image.now (entry_at image.now growing.old.table)
         state.old room.old known }
+    ensures spelled { IfOk result
+        (IsKnownSpelled (length image.now.maps) bytes.new state.new room.new) }
     ensures grows { Grows image.now growing.old growing.new }
     ensures fine { IfOk result (λ _. (e : Entry)
         → entry_at image.now growing.new.table index ≡ Some e
@@ -244,10 +317,10 @@ fn test_entry(
 {
     match known {
         Known::First(there, head) if there == index => {
-            test_read_entry(image, growing, index, head, state, other, room)
+            test_read_entry(image, growing, index, head, state, other, room, bytes)
         }
         Known::Second(there, head) if there == index => {
-            match test_read_entry(image, growing, index, head, room, other, state) {
+            match test_read_entry(image, growing, index, head, room, other, state, bytes) {
                 Ok(known) => Ok(swapped(known)),
                 Err(error) => Err(error),
             }
@@ -256,7 +329,8 @@ fn test_entry(
             let Some(head) = growing.placed().read(image, index, state) else {
                 unreachable!()
             };
-            test_read_entry(image, growing, index, head, state, other, room)
+            bytes.forget();
+            test_read_entry(image, growing, index, head, state, other, room, bytes)
         }
     }
 }
@@ -276,12 +350,13 @@ pub fn test_all(image: &Image, growing: &mut Growing) -> Result<bool, TableError
     let mut other = State::start();
     let mut room = State::start();
     let mut known = Known::None;
+    let mut bytes = KnownBytes::none();
     for index in 0..growing.count() {
         if !growing.reach(image, index) {
             return Ok(false);
         }
         known = test_entry(
-            image, growing, index, known, &mut state, &mut other, &mut room,
+            image, growing, index, known, &mut state, &mut other, &mut room, &mut bytes,
         )?;
     }
     Ok(true)

@@ -8,6 +8,7 @@
 pub mod entries;
 pub mod errors;
 pub mod rechecks;
+pub mod untouched;
 
 pub use errors::TableError;
 pub use rechecks::recheck;

@@ -11,3 +11,8 @@ pub mod UnsetCallers
 pub mod NumberStackSlots
 pub mod KindLaws
 pub mod GrowingLaws
+pub mod Fronts
+pub mod Below
+pub mod KnownBytesLaws
+pub mod ForgettingLaws
+pub mod SameBytes

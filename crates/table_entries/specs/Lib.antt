@@ -3,6 +3,8 @@ pub mod Reading
 pub mod Blanks
 pub mod Kinds
 pub mod Frames
+pub mod KnownBytes
+pub mod Forgetting
 pub mod Entries
 pub mod Tables
 pub mod Growing

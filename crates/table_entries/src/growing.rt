@@ -3,20 +3,25 @@
 //! An entry whose bytes spell a known state ends where its spelling does, so it is placed without a
 //! look at its fields. Others are passed over: their fields are tested, to find where they end.
 
-ghost use Rattle.std.specs.Prelude.{◌≡◌, ◌<◌, ◌≤◌, ◌+◌, ◌-◌, IsTrue, IfSome, Some, false, length, [], drop};
+ghost use Rattle.std.specs.Prelude.{◌≡◌, ◌<◌, ◌≤◌, ◌+◌, ◌-◌, IsTrue, IfSome, Some, None, false, length, [], drop};
 ghost use Rattle.isa_model.specs.Code.Instructions.{Program};
 ghost use Rattle.table_entries.specs.Entries.{IsAllowed, entry_of};
 ghost use Rattle.table_entries.specs.Tables.{entry_at, count_of};
 ghost use Rattle.table_entries.specs.Growing.{IsBegun, MayGrow, Grows, with_place};
+ghost use Rattle.table_entries.specs.KnownBytes.{AreSpelled};
+ghost use Rattle.table_entries.specs.Forgetting.{IsWeakerFrame};
+ghost use Rattle.stack_state.specs.declared.states.AbstractFrame.{AbstractFrame as TheFrame};
 
 use crate::entries::EntryHead;
+use crate::forgetting::{after, forget_unsaid};
+use crate::known_bytes::KnownBytes;
 use crate::passing::pass_entry;
 use crate::slices::skip;
-use crate::spelling::after_entry;
+use crate::spelled_entries::after_entry;
 use crate::tables::{Table, count_in};
 use image::Image;
 use reg_state::Kind;
-use stack_state::State;
+use stack_state::{MAX_CALLERS, State};
 use std::alloc::Global;
 use std::marker::Model;
 
@@ -163,8 +168,18 @@ impl<'a> Growing<'a> {
 
     /// What the entry of that index says besides its state, if it is the next one to be placed, and
     /// its bytes spell this state: then it is placed. Nothing follows from None.
-    pub fn take(&mut self, image: &Image, index: usize, state: &State) -> Option<EntryHead>
-        requires { MayGrow image.now self.old }
+    ///
+    /// More bytes may be known to spell the state afterwards.
+    pub fn take(
+        &mut self,
+        image: &Image,
+        index: usize,
+        state: &State,
+        known: &mut KnownBytes<'a>,
+    ) -> Option<EntryHead>
+        requires may { MayGrow image.now self.old }
+        requires spelled { AreSpelled (length image.now.maps) known.old state.now }
+        ensures spelled { AreSpelled (length image.now.maps) known.new state.now }
         ensures grows { Grows image.now self.old self.new }
         ensures allowed { IfSome result (λ head. IsAllowed image.now head.number state.now.slot) }
         ensures entry { IfSome result
@@ -173,7 +188,55 @@ impl<'a> Growing<'a> {
         if index != self.table.len() || index >= self.count {
             return None;
         }
-        let (head, after) = after_entry(image, self.rest, state)?;
+        let (head, after) = after_entry(image, self.rest, state, known)?;
         if self.place(after) { Some(head) } else { None }
+    }
+
+    // The bytes of the innermost frame in the next entry, if those of all outer ones are known.
+    fn inner_bytes(&self, known: &KnownBytes<'a>) -> &'a [u8] {
+        let mut rest = after(self.rest, 7);
+        let frames = known.frames.as_slice();
+        for holder in 0..frames.len() {
+            rest = after(rest, frames[holder].bytes.len());
+        }
+        rest
+    }
+
+    /// The same of the state without what the entry says nothing of in the innermost frame, if the
+    /// entry's number is below this one. The state is as before where None is returned.
+    pub fn take_weaker(
+        &mut self,
+        image: &Image,
+        number: u32,
+        index: usize,
+        state: &mut State,
+        known: &mut KnownBytes<'a>,
+    ) -> Option<EntryHead>
+        requires may { MayGrow image.now self.old }
+        requires spelled { AreSpelled (length image.now.maps) known.old state.old }
+        ensures spelled { AreSpelled (length image.now.maps) known.new state.new }
+        ensures grows { Grows image.now self.old self.new }
+        ensures left { result ≡ None → state.new ≡ state.old }
+        ensures weaker { IfSome result (λ _. (g : TheFrame) × IsWeakerFrame state.old.innermost g
+            × (state.new ≡ record state.old { innermost = g })) }
+        ensures number { IfSome result (λ head. head.number < number) }
+        ensures allowed { IfSome result (λ head. IsAllowed image.now head.number state.new.slot) }
+        ensures entry { IfSome result
+            (λ head. entry_at image.now self.new.table index ≡ Some (entry_of head state.new)) }
+    {
+        if index != self.table.len() {
+            return None;
+        }
+        let whole = state.innermost;
+        known.keep(MAX_CALLERS, false);
+        forget_unsaid(self.inner_bytes(known), &mut state.innermost);
+        if let Some(head) = self.take(image, index, state, known) {
+            if head.number < number {
+                return Some(head);
+            }
+        }
+        state.innermost = whole;
+        known.keep(MAX_CALLERS, false);
+        None
     }
 }

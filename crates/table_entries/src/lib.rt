@@ -7,18 +7,22 @@
 
 pub mod blanks;
 pub mod entries;
+pub mod forgetting;
 pub mod frames;
 pub mod growing;
 pub mod kinds;
+pub mod known_bytes;
 pub mod loops;
 pub mod passing;
 pub mod refusals;
 pub mod slices;
+pub mod spelled_entries;
 pub mod spelling;
 pub mod stops;
 pub mod tables;
 
 pub use entries::{EntryHead, NamedEntries};
 pub use growing::Growing;
+pub use known_bytes::KnownBytes;
 pub use refusals::TableRefusal;
 pub use tables::Table;

@@ -51,7 +51,7 @@ fn read_kind<'a>(
 
 // Marks the written bytes of a stack slot; a whole slot is written only where one was spilled.
 #[inline(always)]
-fn mark(slot: &mut StackSlot, marks: u8)
+pub fn mark(slot: &mut StackSlot, marks: u8)
     ensures { slot.new ≡ StackSlot.Written marks }
 {
     match slot {

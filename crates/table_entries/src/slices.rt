@@ -1,6 +1,6 @@
-//! The end of a slice, and numbers in it.
+//! The front and the end of a slice, and numbers in it.
 
-ghost use Rattle.std.specs.Prelude.{◌≡◌, ◌+◌, ◌≤◌, length, drop};
+ghost use Rattle.std.specs.Prelude.{◌≡◌, ◌+◌, ◌-◌, ◌≤◌, ◌++◌, IsTrue, length, take, drop};
 ghost use Rattle.byteorder.specs.Endian.{little_number};
 
 use flatmem::{get16, get32, get64};
@@ -12,6 +12,36 @@ pub fn skip(bytes: &[u8], count: usize) -> &[u8]
     ensures { result.now ≡ drop count bytes.now }
 {
     &bytes[count..]
+}
+
+/// What comes before the last bytes, as many as are given.
+#[inline(always)]
+pub fn before<'a>(bytes: &'a [u8], last: &[u8]) -> &'a [u8]
+    requires { length last.now ≤ length bytes.now }
+    ensures { result.now ≡ take (length bytes.now - length last.now) bytes.now }
+{
+    &bytes[..bytes.len() - last.len()]
+}
+
+/// Whether the bytes begin with others: eight are compared at once.
+pub fn begins_with(bytes: &[u8], front: &[u8]) -> bool
+    ensures { IsTrue result → bytes.now ≡ front.now ++ drop (length front.now) bytes.now }
+{
+    if bytes.len() < front.len() {
+        return false;
+    }
+    let words = front.len() / 8;
+    for word in 0..words {
+        if u64_at(bytes, 8 * word) != u64_at(front, 8 * word) {
+            return false;
+        }
+    }
+    for at in 8 * words..front.len() {
+        if bytes[at] != front[at] {
+            return false;
+        }
+    }
+    true
 }
 
 /// The number in the two bytes at an index, the lowest first.

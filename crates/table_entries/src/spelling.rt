@@ -1,4 +1,4 @@
-//! Entries compared with a state byte by byte: one that spells the state need not be read.
+//! Call frames compared with bytes: those that spell a frame are not read as well.
 //!
 //! Each function returns the bytes after the spelling of its argument, if the bytes begin with
 //! that spelling. Nothing follows from None.
@@ -6,20 +6,17 @@
 ghost use Rattle.std.specs.Prelude.{◌≡◌, ◌≤◌, Some, Ok, IfSome, IsTrue, length, drop};
 ghost use Rattle.stack_state.specs.Slots.{frame_slots};
 ghost use Rattle.table_entries.specs.Kinds.{bits_in, wide_in, low_in, scalar_in, kind_in, packet_in, stack_slot_in, stack_in};
-ghost use Rattle.table_entries.specs.Frames.{frame_in, callers_in};
-ghost use Rattle.table_entries.specs.Entries.{entry_in, entry_of, rest_in};
+ghost use Rattle.table_entries.specs.Frames.{frame_in};
 ghost use Rattle.table_entries.specs.Reading.{many};
 
 use crate::blanks::{are_blank, blank_stack_slots};
-use crate::entries::{EntryHead, head_allowed, named_in};
 use crate::frames::frame_allowed;
 use crate::kinds::{kind_in, packet_in, stack_in};
 use crate::slices::{skip, u16_at, u32_at, u64_at};
-use image::Image;
 use known_bits::Bits;
 use ranges::{Low, Wide};
 use reg_state::{Kind, Scalar};
-use stack_state::{AbstractFrame, FRAME_SLOTS, StackSlot, State};
+use stack_state::{AbstractFrame, FRAME_SLOTS, StackSlot};
 
 #[inline(always)]
 fn are_bits(bytes: &[u8], bits: &Bits) -> bool
@@ -265,7 +262,7 @@ fn after_stack_slot<'a>(
     }
 }
 
-fn after_registers<'a>(
+pub fn after_registers<'a>(
     rows: usize,
     holder: usize,
     bytes: &'a [u8],
@@ -281,7 +278,7 @@ fn after_registers<'a>(
     Some(rest)
 }
 
-fn after_stack_slots<'a>(
+pub fn after_stack_slots<'a>(
     rows: usize,
     holder: usize,
     bytes: &'a [u8],
@@ -301,7 +298,7 @@ fn after_stack_slots<'a>(
     Some(rest)
 }
 
-fn after_frame<'a>(
+pub fn after_frame<'a>(
     rows: usize,
     holder: usize,
     outer: bool,
@@ -321,64 +318,4 @@ fn after_frame<'a>(
     } else {
         None
     }
-}
-
-fn after_callers<'a>(rows: usize, bytes: &'a [u8], callers: &[AbstractFrame]) -> Option<&'a [u8]>
-    ensures { IfSome result (λ rest. callers_in rows (length callers.now) bytes.now
-        ≡ Ok (Some callers.now, rest.now)) }
-{
-    let mut rest = bytes;
-    for holder in 0..callers.len() {
-        rest = after_frame(rows, holder, true, rest, &callers[holder])?;
-    }
-    Some(rest)
-}
-
-// What the entry says besides its state, and the bytes after it, if the bytes spell the call frames
-// of the state. They come after the number, the slot and the count of call frames.
-fn after_rest<'a>(
-    image: &Image,
-    number: u32,
-    bytes: &'a [u8],
-    state: &State,
-) -> Option<(EntryHead, &'a [u8])>
-    ensures { IfSome result (λ x. rest_in image.now number state.now.slot
-        (length state.now.callers.items) bytes.now
-        ≡ Ok (Some (entry_of x.0 state.now), x.1.now)) }
-{
-    let rows = image.maps().len();
-    let callers = state.callers.as_slice();
-    let rest = after_callers(rows, bytes, callers)?;
-    let rest = after_frame(rows, callers.len(), false, rest, &state.innermost)?;
-    if !head_allowed(image, number, state.slot) {
-        return None;
-    }
-    match named_in(rest) {
-        Ok((named, after)) => Some((EntryHead { number, named }, after)),
-        Err(_) => None,
-    }
-}
-
-/// What the entry that the bytes begin with says besides its state, if they spell this state, and
-/// the bytes after it.
-#[tactic(auto, unfolding(crate::specs::Entries::entry_in))]
-pub(crate) fn after_entry<'a>(
-    image: &Image,
-    bytes: &'a [u8],
-    state: &State,
-) -> Option<(EntryHead, &'a [u8])>
-    ensures { IfSome result (λ x. entry_in image.now bytes.now
-        ≡ Ok (Some (entry_of x.0 state.now), x.1.now)) }
-{
-    if bytes.len() < 7 {
-        return None;
-    }
-    let frames = usize::from(bytes[6]);
-    if frames == 0 || frames - 1 != state.callers.len() {
-        return None;
-    }
-    if usize::from(u16_at(bytes, 4)) != state.slot {
-        return None;
-    }
-    after_rest(image, u32_at(bytes, 0), skip(bytes, 7), state)
 }

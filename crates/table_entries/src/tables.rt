@@ -7,13 +7,15 @@ ghost use Rattle.table_entries.specs.Entries.{Entry, IsAllowed, entry_in, entry_
 ghost use Rattle.table_entries.specs.declared.entries.EntryHead.{EntryHead};
 ghost use Rattle.table_entries.specs.declared.stops.StopReason.{StopReason};
 ghost use Rattle.table_entries.specs.Growing.{with_place};
+ghost use Rattle.table_entries.specs.KnownBytes.{AreSpelled};
 ghost use Rattle.table_entries.specs.Tables.{TableView, KeepsEntries, table_read, entry_at, count_of, ArePlaced, count_in, body_in, refusal_of, earlier};
 
 use crate::entries::{EntryHead, read_entry};
+use crate::known_bytes::KnownBytes;
 use crate::passing::pass_entry;
 use crate::refusals::TableRefusal;
 use crate::slices::{skip, u32_at};
-use crate::spelling::after_entry;
+use crate::spelled_entries::after_entry;
 use crate::stops::StopReason;
 use image::Image;
 use isa_model::MAX_EXPLORED;
@@ -229,15 +231,24 @@ impl<'a> Table<'a> {
     /// What the entry of that index says besides its state, if its bytes spell this state.
     /// Nothing follows from None.
     ///
-    /// The image is the one that the table was made with.
-    pub fn head_of(&self, image: &Image, index: usize, state: &State) -> Option<EntryHead>
+    /// The image is the one that the table was made with. More bytes may be known to
+    /// spell the state afterwards.
+    pub fn head_of(
+        &self,
+        image: &Image,
+        index: usize,
+        state: &State,
+        known: &mut KnownBytes<'a>,
+    ) -> Option<EntryHead>
+        requires { AreSpelled (length image.now.maps) known.old state.now }
+        ensures spelled { AreSpelled (length image.now.maps) known.new state.now }
         ensures allowed { IfSome result
             (λ head. IsAllowed image.now head.number state.now.slot) }
         ensures entry { IfSome result
             (λ head. entry_at image.now self.now index ≡ Some (entry_of head state.now)) }
     {
         let place = *self.places.get(index)?;
-        let (head, _) = after_entry(image, bytes_from(self.bytes, place), state)?;
+        let (head, _) = after_entry(image, bytes_from(self.bytes, place), state, known)?;
         Some(head)
     }
 }

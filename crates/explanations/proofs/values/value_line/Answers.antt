@@ -1,5 +1,5 @@
 use Rattle.std.proofs.Common.{rules}
-use Rattle.explanations.proofs.Words.{flat_map_one}
+use Rattle.explanations.proofs.Texts.{flat_map_one}
 use Rattle.explanations.proofs.values.value_line.Goals as goal
 
 pub returns : goal.returns

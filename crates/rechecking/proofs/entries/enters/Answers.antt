@@ -1,4 +1,4 @@
-use Rattle.std.proofs.Common.{refl}
+use Rattle.std.proofs.Common.{refl, length}
 use Rattle.table_entries.specs.Tables.{entry_at}
 use Rattle.rechecking.proofs.CheckingLaws.{Enters-same, Enters-covering, unclear_covers, unclear_number}
 use Rattle.rechecking.proofs.entries.enters.Goals as goal
@@ -21,6 +21,10 @@ pub returns-in_err-head-clause-none : goal.returns-in_err-head-clause-none
 returns-in_err-head-clause-none c = λ none.
     unclear_covers (entry_at c.args.image.now c.args.table.now) c.args.number c.args.index
     c.args.state.now (c.in_err-head.ensures.none refl)
+
+pub returns-clause-spelled : goal.returns-clause-spelled
+returns-clause-spelled c =
+    c.forget.ensures (length c.args.image.now.maps) c.read_covering.new.room
 
 pub returns-clause-yes : goal.returns-clause-yes
 returns-clause-yes c =

@@ -12,6 +12,7 @@ loop-index-init c = record {
   grows = Grows-same c.args.image.now c.args.growing.now;
   placed = omega arith;
   before = λ j e less there. absurd (omega arith);
+  spelled = tt;
   has = tt;
 }
 
@@ -74,6 +75,7 @@ loop-index-preserved c =
           (fine_grows p old new c.loop-index.index grows c.loop-index.invariant.placed
           c.loop-index.invariant.before)
           c.in_ok-known.ensures.fine;
+      spelled = c.in_ok-known.ensures.spelled;
       has = c.in_ok-known.ensures.known;
     }
 

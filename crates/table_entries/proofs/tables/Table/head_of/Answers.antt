@@ -8,7 +8,7 @@ use Rattle.table_entries.proofs.tables.Table.head_of.Goals as goal
 pub returns-clause-allowed : goal.returns-clause-allowed
 returns-clause-allowed c =
     allowed-in c.args.image.now c.bytes_from.result.now
-    (entry_of c.in_ok-head.head c.args.state.now) _ c.in_ok-head.ensures
+    (entry_of c.in_ok-head.head c.args.state.now) _ c.in_ok-head.ensures.after
 
 pub returns-clause-entry : goal.returns-clause-entry
 returns-clause-entry c =
@@ -24,4 +24,4 @@ returns-clause-entry c =
     subst (λ (v : TableView). entry_at p v c.args.index ≡ Some (entry_of c.in_ok-head.head a))
     c.self.view_is
     (read-at p t c.args.index place (Some c.in_ok-head.head) a _ there
-    (rw c.bytes_from.ensures at c.in_ok-head.ensures))
+    (rw c.bytes_from.ensures at c.in_ok-head.ensures.after))

@@ -1,0 +1,30 @@
+-- Lists of which some is forgotten.
+use Rattle.std.specs.Prelude.{◌≡◌, ℕ, ◌<◌, ◌⊎◌, List, length, get_or, slice_set, refl}
+use Rattle.std.proofs.Common.{inl, inr, sym, ◌∙◌, subst}
+use Rattle.std.proofs.lemmas.Bool.{cases_eq}
+use Rattle.std.proofs.lemmas.List.{get_or-set_same, get_or-set_other, get_or_default}
+use Rattle.table_entries.specs.Forgetting.{IsWeakerList}
+
+pub IsWeakerList-same : {X : Type 0} (d : X) (xs : List X) → IsWeakerList d xs xs
+IsWeakerList-same d xs = λ k. inl refl
+
+-- one more element is as it was, or is d
+pub IsWeakerList-set : {X : Type 0} (d : X) (xs ys : List X) (i : ℕ) (x y : X) → i < length ys
+    → (y ≡ get_or ys i x) ⊎ (y ≡ d) → IsWeakerList d xs ys → IsWeakerList d xs (slice_set ys i y)
+IsWeakerList-set d xs ys i x y inside one each = λ k. elim (cases_eq k i) [
+  | inl here ↦ subst (λ (n : ℕ). (get_or (slice_set ys i y) n d ≡ get_or xs n d)
+      ⊎ (get_or (slice_set ys i y) n d ≡ d)) (sym here) (at_index one (each i))
+  | inr other ↦ elim (each k) [
+    | inl same ↦ inl (get_or-set_other ys i k y d other ∙ same)
+    | inr gone ↦ inr (get_or-set_other ys i k y d other ∙ gone)
+  ]
+] where
+  set : get_or (slice_set ys i y) i d ≡ y
+  set = get_or-set_same ys i y d inside
+
+  at_index : (y ≡ get_or ys i x) ⊎ (y ≡ d)
+      → (get_or ys i d ≡ get_or xs i d) ⊎ (get_or ys i d ≡ d)
+      → (get_or (slice_set ys i y) i d ≡ get_or xs i d) ⊎ (get_or (slice_set ys i y) i d ≡ d)
+  at_index (inr gone) before = inr (set ∙ gone)
+  at_index (inl same) (inl before) = inl (set ∙ same ∙ get_or_default ys i x d inside ∙ before)
+  at_index (inl same) (inr before) = inr (set ∙ same ∙ get_or_default ys i x d inside ∙ before)
