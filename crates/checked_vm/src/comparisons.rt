@@ -32,12 +32,14 @@ pub fn compared(
 {
     match (a, b) {
         (Value::Num(m), Value::Num(n)) => Ok(compare(comparison, width, m, n)),
-        (Value::Ptr(region, offset), Value::Ptr(other, end)) => match (width, region, other) {
+        (Value::Ptr(region, offset), Value::Ptr(other, other_offset)) => match (
+            width, region, other,
+        ) {
             (Width::Full64, Region::Packet, Region::PacketEnd) => {
                 packet_order(comparison, offset, length as i64)
             }
             (Width::Full64, Region::PacketEnd, Region::Packet) => {
-                packet_order(comparison, length as i64, end)
+                packet_order(comparison, length as i64, other_offset)
             }
             _ => Err(TrapReason::BadCompare),
         },
@@ -46,8 +48,8 @@ pub fn compared(
     }
 }
 
-/// The test of a pointer to a map value against 0. The pointer is never 0, even where the value is
-/// gone.
+/// The test of a pointer to a map value against 0. The pointer is never 0, even where the map
+/// value is gone.
 fn null_test(comparison: Comparison, width: Width, region: Region) -> Result<bool, TrapReason>
     ensures { result ≡ null_test comparison width region }
 {

@@ -81,6 +81,7 @@ pub trace_unopened : (files : RunFiles) (limit : ℕ) (old new : Option (List �
 trace_unopened files limit old new p o r e h failed same none =
     inr (p, h, inl ((rw same (opens-none files old new o e failed)), none))
 
+-- in the outputs, `frames` is the frames out, whose file is `files.out`; `files.frames` is read
 pub image_traced : (files : RunFiles) (limit : ℕ)
     (old mid new before after source : Option (List ℕ)) (form : FileForm) (cause : Option ErrorKind)
     (p : Program) (r : Ending) → mid ≡ old → IsImage p

@@ -1,7 +1,26 @@
--- What calls on the maps of an open session say of its machine.
-use Rattle.std.specs.Prelude.{◌≡◌, ℕ, ◌<◌, length, Option, Some}
+-- What the calls that open a session return, and what calls on its maps say of its machine.
+use Rattle.std.specs.Prelude.{◌≡◌, ℕ, ◌<◌, List, length, Option, Some}
+use Rattle.isa_model.specs.Reporting.Reports.{starting_contents}
 use Rattle.machine.specs.Running.{Running}
 use Rattle.machine.specs.BetweenRuns.{row_at}
+use Rattle.rechecking.specs.Refusing.{ShowsBound}
+use Rattle.verdict_calls.specs.Verdicts.{IsAcceptedImage}
+
+-- the bytes are an accepted image, and the session holds its program, with starting maps
+pub record OpensSession (bytes : List ℕ) (held : Option Running) : Type 0 where
+  pub bound : ℕ
+  pub accepts : IsAcceptedImage bytes bound
+  pub is : held ≡ Some (record {
+    program = accepts.program;
+    bound = bound;
+    contents = starting_contents accepts.program.maps;
+  })
+
+-- the same, where the table is a closed one of this program, and the bound is the number of its
+-- first entry
+pub record OpensByTable (bytes table : List ℕ) (held : Option Running) : Type 0 where
+  pub opens : OpensSession bytes held
+  pub shows : ShowsBound opens.accepts.program table opens.bound
 
 -- a session is open, and this holds of its machine
 pub record HoldsOpen (held : Option Running) (fact : Running → Type 0) : Type 0 where

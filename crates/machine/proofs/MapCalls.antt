@@ -175,7 +175,7 @@ module _ (a : Layout) (m : ℕ) (content : Content) (state : MapState)
     given_end next (Some old) = refl
     given_end next None = refl
 
-    -- a present key keeps its serial and its place
+    -- a present key keeps its place, and its value the serial
     present : (old : Stored) → at_key key content ≡ Some old → (q : Option ℕ)
         → get state.places key ≡ q
         → option_map (by_serial a m) (Some old) ≡ option_map (by_place size state.block) q
@@ -195,7 +195,7 @@ module _ (a : Layout) (m : ℕ) (content : Content) (state : MapState)
         (λ q t h. let u : q ≡ key = shown.is.apart q key place h there in
         let v : is_key q key ≡ true = ap (λ k. is_key k key) u ∙ is_key-itself key in absurd (cc))
 
-    -- a new key gets the next serial, at the place that it takes
+    -- the value of a new key gets the next serial, at the place that the key takes
     absent : (next : ℕ) → get state.places key ≡ None
         → changed (by_serial (with_value_start a next (place * size)) m) content
         ≡ changed (by_serial a m) content
@@ -239,7 +239,8 @@ module _ (p : Program) (a : Layout) (s : State) (w : Words) (R : Related p a s w
   shown : RepresentsMap a m content state
   shown = R.maps.maps m row
 
-  -- the words represent the state after one map changed, and perhaps one more serial was given
+  -- the words represent the machine state after one map changed, and perhaps one more serial was
+  -- given
   map_related : (b : Layout) (next : ℕ) (content : Content) (new : MapState)
       → ExtendsLayout a b s.next_serial → IsLayout b (length p.maps)
       → new.row ≡ state.row → RepresentsMap b m content new
@@ -295,7 +296,7 @@ module _ (p : Program) (a : Layout) (s : State) (w : Words) (R : Related p a s w
   not_zero : (n : ℕ) → (n == 0) ≡ false → n ≢ 0
   not_zero n e = grind (arith, nat_tests)
 
-  -- an update: a present key keeps its serial, a new one gets the next
+  -- an update: the value of a present key keeps its serial, that of a new one gets the next
   pub update_related : (key value : List ℕ) (flags answer : ℕ) (new : MapState) → IsMap new
       → length value ≡ state.row.value_size
       → Updated key value flags answer state new

@@ -17,7 +17,7 @@ pub set_shown : (a : Layout) (regs : List Value) (words : List ℕ) (n : ℕ) (v
     → length regs ≡ 11 → RepresentsRegisters a regs words → Represents a v x
     → RepresentsRegisters a (slice_set regs n v) (slice_set words n x)
 set_shown a regs words n v x long R h =
-    record { count = length-set words n x ∙ R.count; shown = by_place }
+    record { count = length-set words n x ∙ R.count; shown = by_number }
   where
     other : (k : ℕ) → (k ≡ n → ⊥)
         → Represents a (value_at (slice_set regs n v) k) (slice_index (slice_set words n x) k)
@@ -40,9 +40,9 @@ set_shown a regs words n v x long R h =
           (sym (get_or_past (slice_set regs n v) n Unset (omega arith))) tt
     ]
 
-    by_place : (k : ℕ)
+    by_number : (k : ℕ)
         → Represents a (value_at (slice_set regs n v) k) (slice_index (slice_set words n x) k)
-    by_place k = elim (cases_lt k n) [
+    by_number k = elim (cases_lt k n) [
       | inl lt ↦ other k (λ e. omega arith)
       | inr ge ↦ elim (cases_lt n k) [
         | inl gt ↦ other k (λ e. omega arith)

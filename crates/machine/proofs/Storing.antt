@@ -116,7 +116,8 @@ module _ (p : Program) (a : Layout) (s : State) (w : Words) (R : Related p a s w
                         (n * stack_size) stack_size (omega arith))
                     | inr ge ↦
                         sym (bytes_after w.frames (j * stack_size + i) bs inside
-                        (n * stack_size) stack_size (let gt : j < n = omega (arith, d) in omega arith))
+                        (n * stack_size) stack_size
+                        (let gt : j < n = omega (arith, d) in omega arith))
                   ]) old.cells;
             });
         saved =

@@ -55,7 +55,8 @@ same_frames n a b same =
     λ j f less at. (f, ap (λ c. slice_get c.items j) (sym same) ∙ at, inl refl)
 
 nothing_kept : (a b : State) → KeepsParts none_kept a b
-nothing_kept a b = record { frames = λ j f less at. absurd (omega arith); slots = λ no. absurd (cc) }
+nothing_kept a b =
+    record { frames = λ j f less at. absurd (omega arith); slots = λ no. absurd (cc) }
 
 -- all outer frames, and the slots if they are the same
 outer_same : (a b : State) (slots : Bool) → b.callers ≡ a.callers
@@ -127,7 +128,8 @@ numbers_there a cond (Register r) h =
 narrows_kept : (a b : State) → Narrows a b → KeepsParts (outer_kept a true) a b
 narrows_kept a b h = outer_same a b true h.callers (λ yes. h.stack)
 
-side_kept : (parts : UntouchedParts) (stays goes : Bool) (a stay go : State) (w : Ways) (b c : State)
+side_kept : (parts : UntouchedParts) (stays goes : Bool) (a stay go : State) (w : Ways)
+    (b c : State)
     → IsGoing w → Sides stays goes stay go w b c → KeepsParts parts a stay
     → KeepsParts parts a go → KeepsParts parts a b
 side_kept parts true true a stay go w b c on h x y = subst (KeepsParts parts a) (sym h.1) x

@@ -1,5 +1,5 @@
-//! The calls from C and Rust on sessions, programs that stay open; `xdpvm_c` exports them. Their
-//! statuses are those of `verdict_calls`.
+//! The call from C and Rust that runs an open program; `xdpvm_c` exports it. Its statuses are those
+//! of `verdict_calls`.
 #![tactic(auto)]
 
-pub mod opening;
+pub mod running;

@@ -42,7 +42,8 @@ fn is_memory(error: TableError) -> bool
 
 // The rule that a table breaks, and the entry that breaks it; with the size of the text.
 fn broken(error: TableError, said: usize) -> Rechecked
-    ensures { result ≡ broken error said }
+    ensures is { result ≡ broken error said }
+    ensures said { result.said ≡ said }
 {
     let (rule, entry) = match error {
         TableError::Flow(_, _) => (0, 0),

@@ -14,7 +14,7 @@ use Rattle.stack_state.specs.declared.states.AbstractFrame.{AbstractFrame}
 use Rattle.stack_state.specs.Calls.{without_frame}
 use Rattle.stack_state.specs.Effects.{with_spilled, with_kinds}
 use Rattle.stack_state.specs.Slots.{frame_slots}
-use Rattle.table_entries.specs.declared.stops.StopReason.TheVariants.{Short, Form}
+use Rattle.table_entries.specs.declared.stops.StopReason.TheVariants.{Short, Meaningless}
 use Rattle.table_entries.specs.Reading.{Read, sized, then_read, joined, many}
 use Rattle.table_entries.specs.Kinds.{scalar_in, signed_32, lacks_identity, limits_in, packet_of, packet_in, stack_in, map_in, value_of, value_in, null_in, fields_in, kind_in, marks_in, spilled, stack_slot_in}
 use Rattle.table_entries.specs.Frames.{frame_allowed, allowed_frame, frame_in}
@@ -135,7 +135,7 @@ fields_stay rows holder n kind bytes less =
     (ReadsEach-sized P 1 (map_in rows) bytes (map_stays n rows bytes))
     (ReadsEach-if P (kind == 7) _ _
     (ReadsEach-sized P 9 (value_in rows) bytes (value_in_stays n rows bytes))
-    (ReadsEach-if P (kind == 8) _ (Err Form)
+    (ReadsEach-if P (kind == 8) _ (Err Meaningless)
     (ReadsEach-sized P 5 (null_in rows) bytes (null_stays n rows bytes)) tt))))))))
 
 kind_stays : (rows holder n : ℕ) (bytes : List ℕ) → holder < n
@@ -161,7 +161,7 @@ unfolding stack_slot_in
 slot_stays rows holder n [] less = tt
 slot_stays rows holder n (tag ∷ bytes) less =
     ReadsEach-if (SlotStays n) (tag == 0) _ _ (marks_stay n bytes)
-    (ReadsEach-if (SlotStays n) (tag == 1) _ (Err Form)
+    (ReadsEach-if (SlotStays n) (tag == 1) _ (Err Meaningless)
     (ReadsEach-then (KindStays n) (SlotStays n) (kind_in rows holder bytes)
     (λ k rest. Ok (spilled k, rest)) (kind_stays rows holder n bytes less)
     (λ k rest h. spilled_stays n k h)) tt)

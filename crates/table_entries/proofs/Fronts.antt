@@ -11,7 +11,7 @@ use Rattle.reg_state.specs.declared.kinds.Kind.TheVariants.{Unset, Number, Conte
 use Rattle.stack_state.specs.declared.slots.StackSlot.{StackSlot}
 use Rattle.stack_state.specs.declared.states.AbstractFrame.{AbstractFrame}
 use Rattle.stack_state.specs.Slots.{frame_slots}
-use Rattle.table_entries.specs.declared.stops.StopReason.TheVariants.{Short, Form}
+use Rattle.table_entries.specs.declared.stops.StopReason.TheVariants.{Short, Meaningless}
 use Rattle.table_entries.specs.Reading.{Read, sized, then_read, joined, many}
 use Rattle.table_entries.specs.Kinds.{bits_of, wide_of, low_of, range_of, scalar_of, bits_in, wide_in, low_in, scalar_in, limits_of, limits_in, has_no_part, lacks_identity, packet_of, packet_in, stack_in, map_in, value_of, value_in, null_in, fields_in, kind_in, marks_in, spilled, stack_slot_in}
 use Rattle.table_entries.specs.Frames.{allowed_frame, frame_in}
@@ -221,7 +221,7 @@ ReadsFront-fields : (rows holder kind : ℕ) (bytes : List ℕ)
     → ReadsFront (fields_in rows holder kind) bytes (fields_in rows holder kind bytes)
 unfolding fields_in
 ReadsFront-fields rows holder kind bytes =
-    let none : List ℕ → Read Kind = λ c. Err Form in
+    let none : List ℕ → Read Kind = λ c. Err Meaningless in
     let from_8 : List ℕ → Read Kind =
     λ c. if kind == 8 then sized 5 (null_in rows) c else none c in
     let from_7 : List ℕ → Read Kind =
@@ -287,10 +287,10 @@ ReadsFront-slot rows holder (tag ∷ bytes) =
     ReadsFront-byte _ (stack_slot_in rows holder) tag bytes _ (λ c. refl)
     (ReadsFront-if (tag == 0) marks_in
     (λ c. if tag == 1 then then_read (kind_in rows holder c) (λ k rest. Ok (spilled k, rest))
-    else Err Form) bytes (ReadsFront-marks bytes)
+    else Err Meaningless) bytes (ReadsFront-marks bytes)
     (ReadsFront-if (tag == 1)
     (λ c. then_read (kind_in rows holder c) (λ k rest. Ok (spilled k, rest)))
-    (λ c. Err Form) bytes
+    (λ c. Err Meaningless) bytes
     (ReadsFront-then (kind_in rows holder) (λ k rest. Ok (spilled k, rest)) bytes
     (kind_in rows holder bytes) (ReadsFront-kind rows holder bytes)
     (λ k rest. ReadsFront-nothing (spilled k) rest)) tt))
@@ -316,8 +316,8 @@ ReadsFront-parts rows holder outer slot bytes =
     (λ kinds rest. ReadsFront-then (many (λ k. stack_slot_in rows holder) frame_slots 0)
     (λ slots after. Ok (allowed_frame holder outer slot kinds slots, after)) rest
     (many (λ k. stack_slot_in rows holder) frame_slots 0 rest)
-    (ReadsFront-many (λ k. stack_slot_in rows holder) (λ k b. ReadsFront-slot rows holder b) frame_slots 0
-    rest)
+    (ReadsFront-many (λ k. stack_slot_in rows holder) (λ k b. ReadsFront-slot rows holder b)
+    frame_slots 0 rest)
     (λ slots after. ReadsFront-nothing (allowed_frame holder outer slot kinds slots) after))
 
 frame-parts : (rows holder : ℕ) (outer : Bool) (a b : ℕ) (bytes : List ℕ)
@@ -374,11 +374,12 @@ SpellsFrame-before rows holder bytes f rest h =
 
 -- those of the stack slots spell them
 pub SpellsSlots-before : (rows holder : ℕ) (bytes : List ℕ) (slots : List StackSlot)
-    (rest : List ℕ) → many (λ k. stack_slot_in rows holder) frame_slots 0 bytes ≡ Ok (Some slots, rest)
+    (rest : List ℕ)
+    → many (λ k. stack_slot_in rows holder) frame_slots 0 bytes ≡ Ok (Some slots, rest)
     → (length rest ≤ length bytes)
     × SpellsSlots rows holder (take (length bytes - length rest) bytes) slots
 SpellsSlots-before rows holder bytes slots rest h =
     front_read (many (λ k. stack_slot_in rows holder) frame_slots 0) bytes (Some slots) rest
     (subst (ReadsFront (many (λ k. stack_slot_in rows holder) frame_slots 0) bytes) h
-    (ReadsFront-many (λ k. stack_slot_in rows holder) (λ k b. ReadsFront-slot rows holder b) frame_slots 0
-    bytes))
+    (ReadsFront-many (λ k. stack_slot_in rows holder) (λ k b. ReadsFront-slot rows holder b)
+    frame_slots 0 bytes))

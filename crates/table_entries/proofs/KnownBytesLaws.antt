@@ -52,7 +52,8 @@ pub SpellFrames-notes : (rows holder : ℕ) (f : AbstractFrame) (frames : List A
 SpellFrames-notes rows holder f frames old new at spelled (inl same) =
     subst (λ (known : List FrameBytes). SpellFrames rows known frames) (sym same) spelled
 SpellFrames-notes rows holder f frames old new at spelled (inr (s, end, spells, more)) =
-    λ j g there t known. elim (pushed_get old s t j (ap (λ xs. slice_get xs j) (sym more) ∙ known)) [
+    λ j g there t known.
+    elim (pushed_get old s t j (ap (λ xs. slice_get xs j) (sym more) ∙ known)) [
       | inl before ↦ spelled j g there t before
       | inr last ↦
           let index : j ≡ holder = last.0 ∙ end in

@@ -1,7 +1,5 @@
--- What calls return and write: statuses, bytes in a buffer, the version, actions as numbers.
-use Rattle.std.specs.Prelude.{◌≡◌, ℕ, Bool, true, false, List, ◌++◌, length, take, drop, codes, ◌⊎◌}
-use Rattle.isa_model.specs.declared.frames.Action.{Action}
-use Rattle.isa_model.specs.declared.frames.Action.TheVariants as action
+-- What calls return and write: statuses, and bytes in a buffer.
+use Rattle.std.specs.Prelude.{◌≡◌, ℕ, Bool, true, false, List, ◌++◌, length, take, drop, ◌⊎◌}
 use Rattle.control_flow.specs.declared.errors.FlowError.TheVariants as flow
 use Rattle.walks.specs.declared.refusals.Refusal.{Refusal}
 use Rattle.walks.specs.declared.refusals.Refusal.TheVariants.{Flow, Step, Repeats, TooLong, Memory}
@@ -34,17 +32,6 @@ filled buffer bytes = take (length buffer) bytes ++ drop (length bytes) buffer
 pub record FillsBuffer (old new : List ℕ) (count : ℕ) (bytes : List ℕ) : Type 0 where
   pub whole : count ≡ length bytes
   pub written : new ≡ filled old bytes
-
-abbrev pub version : List ℕ
-version = codes "0.1.0"
-
-abbrev pub action_number : Action → ℕ
-action_number action.Aborted = 0
-action_number action.Drop = 1
-action_number action.Pass = 2
-action_number action.Tx = 3
-action_number action.Redirect = 4
-action_number action.Invalid = 5
 
 -- whether a refusal says only that memory ran out
 abbrev pub is_memory : Refusal → Bool

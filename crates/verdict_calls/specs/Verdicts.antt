@@ -1,5 +1,5 @@
--- What the calls return for images and texts.
-use Rattle.std.specs.Prelude.{◌≡◌, ◌≢◌, ◌<◌, ℕ, false, List, Some, Ok, Err, ◌⊎◌}
+-- What the calls return for images.
+use Rattle.std.specs.Prelude.{◌≡◌, ◌<◌, ℕ, false, List, Some, ◌⊎◌}
 use Rattle.isa_model.specs.Code.Instructions.{Program}
 use Rattle.isa_model.specs.Code.Limits.{max_explored}
 use Rattle.image.specs.declared.errors.ImageError.{ImageError}
@@ -11,15 +11,9 @@ use Rattle.walks.specs.declared.refusals.Refusal.{Refusal}
 use Rattle.walks.specs.Refused.{IsRefused}
 use Rattle.walks.specs.Accepting.{BoundsAll}
 use Rattle.walks.specs.Counts.{HasNumber}
-use Rattle.assembler.specs.declared.errors.AsmError.{AsmError}
-use Rattle.assembler.specs.declared.errors.AsmErrorKind.TheVariants as text
-use Rattle.assembler.specs.Assembling.{assembled}
 use Rattle.verdict_calls.specs.declared.judging.Verdict.{Verdict}
-use Rattle.verdict_calls.specs.declared.assembling.Assembled.{Assembled}
 use Rattle.verdict_calls.specs.Crossing.{FillsBuffer, is_memory}
-use Rattle.refusal_texts.specs.Texts.{image_text, source_text, IsProgramText}
-
--- ---- images
+use Rattle.refusal_texts.specs.Texts.{image_text, IsProgramText}
 
 -- the bytes are an image, and every run of its program exits within the bound, without a trap
 pub record IsAcceptedImage (bytes : List ℕ) (bound : ℕ) : Type 0 where
@@ -75,20 +69,3 @@ FillsImageRefusal bytes slot old new said =
 abbrev pub IsUndecided : List ℕ → ℕ → Type 0
 IsUndecided bytes limit =
     (program : Program) × (bytes ≡ image_bytes program) × (limit < max_explored)
-
--- ---- texts
-
--- the text spells a program, whose image is written to a buffer
-abbrev pub FillsAssembledImage : List ℕ → List ℕ → List ℕ → ℕ → Type 0
-FillsAssembledImage source old new size =
-    (p : Program) × (assembled source ≡ Ok p) × FillsBuffer old new size (image_bytes p)
-
--- what is returned for a text that is accepted: the size of its image, and no line or column
-abbrev pub only_size : ℕ → Assembled
-only_size size = record { size = size; line = 0; column = 0 }
-
--- it spells none, and a buffer has the text that says why, at this line and column
-abbrev pub FillsTextRefusal : List ℕ → List ℕ → List ℕ → ℕ → ℕ → ℕ → Type 0
-FillsTextRefusal source old new size line column =
-    (error : AsmError) × (assembled source ≡ Err error) × (error.kind ≢ text.Memory)
-    × (line ≡ error.line) × (column ≡ error.column) × FillsBuffer old new size (source_text error)

@@ -6,12 +6,12 @@ ghost use Rattle.isa_model.specs.{max_packet};
 ghost use Rattle.verdict_calls.specs.Crossing.{IsStatus, IsVerdict};
 ghost use Rattle.verdict_calls.specs.Verdicts.{IsRefusedImage, IsNoImage};
 ghost use Rattle.run_calls.specs.Runs.{RunsProgram};
-ghost use Rattle.run_calls.specs.Streams.{RunsStream};
-ghost use Rattle.run_calls.specs.Traces.{ReturnsTrace};
+ghost use Rattle.command_calls.specs.Streams.{RunsStream};
+ghost use Rattle.command_calls.specs.Traces.{ReturnsTrace};
 
+use command_calls::streaming::{Streamed, run_stream};
+use command_calls::tracing::{TracedEnd, trace_once};
 use run_calls::running::{Ended, Head, run_once};
-use run_calls::streaming::{Streamed, run_stream};
-use run_calls::tracing::{TracedEnd, trace_once};
 use std::alloc::Global;
 
 /// Verifies an image, and runs its program on a packet, on starting maps. `xdpvm_verify` says

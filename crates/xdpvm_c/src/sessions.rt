@@ -4,12 +4,14 @@ ghost use Rattle.std.specs.Prelude.{◌≡◌, ◌≢◌, ◌↔◌, None, ◌<�
 ghost use Rattle.isa_model.specs.{max_packet};
 ghost use Rattle.verdict_calls.specs.Crossing.{IsStatus, IsChange};
 ghost use Rattle.verdict_calls.specs.Verdicts.{IsRefusedImage};
-ghost use Rattle.session_calls.specs.Sessions.{OpensSession, OpensByTable, RunsSession};
+ghost use Rattle.held_machines.specs.OpenSessions.{OpensSession, OpensByTable};
+ghost use Rattle.session_calls.specs.Sessions.{RunsSession};
 ghost use Rattle.table_calls.specs.Tables.{IsRefusedTable};
 
 use held_machines::Session;
+use held_machines::opening::{close_session, open_image, open_with_table};
 use run_calls::running::{Ended, Head};
-use session_calls::opening::{close_session, open_image, open_with_table, run_session};
+use session_calls::running::run_session;
 use std::alloc::Global;
 
 /// Verifies an image, and opens a session on its program, with starting maps. Before the call the

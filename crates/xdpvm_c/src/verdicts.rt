@@ -3,12 +3,13 @@
 ghost use Rattle.std.specs.Prelude.{◌≡◌, ◌≢◌, ◌<◌, ◌↔◌, ◌⊎◌};
 ghost use Rattle.isa_model.specs.Code.Limits.{max_explored};
 ghost use Rattle.verdict_calls.specs.Crossing.{IsVerdict, IsDecision};
-ghost use Rattle.verdict_calls.specs.Verdicts.{FillsAssembledImage, only_size, FillsTextRefusal, ReturnsBound, FillsImageRefusal, IsUndecided};
+ghost use Rattle.verdict_calls.specs.Verdicts.{ReturnsBound, FillsImageRefusal, IsUndecided};
 ghost use Rattle.table_calls.specs.Tables.{ReturnsShownBound, FillsTableRefusal};
+ghost use Rattle.command_calls.specs.Texts.{FillsAssembledImage, only_size, FillsTextRefusal};
 
+use command_calls::assembling::{Assembled, assemble_text};
 use std::alloc::Global;
 use table_calls::rechecks::{Rechecked, recheck_table};
-use verdict_calls::assembling::{Assembled, assemble_text};
 use verdict_calls::judging::{Verdict, verify_image};
 
 /// Assembles a text. The image is written to `image`, and why the text is refused to `why`, as far

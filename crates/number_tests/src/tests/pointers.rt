@@ -182,7 +182,8 @@ const IS_BEFORE: Test = (Comparison::Less, false, true);
 
 const AT_OR_BEFORE: Test = (Comparison::LessEqual, false, true);
 
-/// A pointer with more proved bytes; one of another identity; one without identity; no packet pointer.
+/// A pointer with more proved bytes; one of another identity; one without identity; and no packet
+/// pointer.
 const OTHERS: Copies = (
     Held::Packet(0, 3, 40),
     Held::Packet(14, 4, 2),
@@ -372,7 +373,8 @@ const UNDEFINED: &[(Comparison, Width, Operand, Held, Held)] = &[
     (Comparison::Equal, FULL, ZERO, Held::Unset, Held::Unset),
 ];
 
-/// Whether the comparison of r2 with r3 is not defined, and all copies stay whether it holds or not.
+/// Whether the comparison of r2 with r3 is not defined, and all copies stay whether it holds or
+/// not.
 fn is_undefined(cond: Cond, left: &Held, right: &Held) -> [bool; 3] {
     let (left, right) = (kind_of(left), kind_of(right));
     let copies = [left, right, right, left];

@@ -3,6 +3,7 @@
 
 mod buffers;
 mod images;
+mod rows;
 mod runs;
 mod sessions;
 mod tables;

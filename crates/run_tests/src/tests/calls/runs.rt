@@ -2,9 +2,10 @@
 
 use super::buffers::holds;
 use super::images::{ENDLESS, HEAD, INTERFACE, OTHER, PASS, UNGUARDED};
+use super::rows::holds_at;
+use command_calls::streaming::{Streamed, run_stream};
+use command_calls::tracing::{TracedEnd, trace_once};
 use run_calls::running::{Ended, run_once};
-use run_calls::streaming::{Streamed, run_stream};
-use run_calls::tracing::{TracedEnd, trace_once};
 use std::alloc::Global;
 
 /// The status, and r0 and the steps of a run on a packet of that many bytes.
@@ -30,7 +31,7 @@ const RUNS: &[(&[u8], usize, (u32, u64, u32))] = &[
 fn runs_once(rt: HostRuntime) {
     for (image, length, wanted) in RUNS.iter() {
         let found = ran(rt.alloc(), image, *length);
-        assert!(rt; found == *wanted, "{length} bytes");
+        holds_at(&rt, found == *wanted, *length as u64, wanted.0);
     }
 }
 
@@ -66,7 +67,7 @@ const TRACES: &[(&[u8], usize, u32, Traced)] = &[
 fn traces_once(rt: HostRuntime) {
     for (image, length, limit, wanted) in TRACES.iter() {
         let found = traced(rt.alloc(), image, *length, *limit);
-        assert!(rt; found == *wanted, "{length} bytes, limit {limit}");
+        holds_at(&rt, found == *wanted, *length as u64, *limit);
     }
 }
 
@@ -141,9 +142,7 @@ const STREAMS: &[(&[u8], &[u8], usize, (Returned, &[u8], &[u8]))] = &[
 #[test]
 fn runs_streams(rt: HostRuntime) {
     for (image, frames, room, wanted) in STREAMS.iter() {
-        assert!(rt;
-            streams_so(rt.alloc(), image, frames, *room, wanted),
-            "room for {room}"
-        );
+        let is_so = streams_so(rt.alloc(), image, frames, *room, wanted);
+        holds_at(&rt, is_so, *room as u64, wanted.0.0);
     }
 }

@@ -2,6 +2,7 @@
 
 use super::buffers::holds;
 use super::images::{ENDLESS, OTHER, PASS};
+use super::rows::holds_at;
 use std::alloc::Global;
 use table_calls::rechecks::{Rechecked, recheck_table};
 
@@ -97,9 +98,7 @@ const CHANGES: &[(&[u8], usize, u8, (Tested, &str))] = &[
 #[test]
 fn rechecks(rt: HostRuntime) {
     for (image, index, byte, wanted) in CHANGES.iter() {
-        assert!(rt;
-            rechecks_so(rt.alloc(), image, *index, *byte, wanted),
-            "byte {index}"
-        );
+        let is_so = rechecks_so(rt.alloc(), image, *index, *byte, wanted);
+        holds_at(&rt, is_so, *index as u64, wanted.0.2);
     }
 }

@@ -2,10 +2,11 @@
 
 use super::buffers::holds;
 use super::images::{ENDLESS, OTHER, PASS, UNGUARDED};
+use super::rows::holds_at;
+use command_calls::assembling::{Assembled, assemble_text};
+use command_calls::naming::{number_of_action, write_version};
 use std::alloc::Global;
-use verdict_calls::assembling::{Assembled, assemble_text};
 use verdict_calls::judging::{Verdict, verify_image};
-use verdict_calls::naming::{number_of_action, write_version};
 
 /// The status, and the size of the image, the line and the column.
 type Made = (u32, usize, usize, usize);
@@ -51,10 +52,8 @@ const TEXTS: &[(&[u8], usize, (Made, &[u8], &[u8]))] = &[
 #[test]
 fn assembles(rt: HostRuntime) {
     for (text, room, wanted) in TEXTS.iter() {
-        assert!(rt;
-            assembles_so(rt.alloc(), text, *room, wanted),
-            "room for {room}"
-        );
+        let is_so = assembles_so(rt.alloc(), text, *room, wanted);
+        holds_at(&rt, is_so, *room as u64, wanted.0.0);
     }
 }
 
@@ -123,10 +122,8 @@ const IMAGES: &[(&[u8], u32, (Judged, &str))] = &[
 #[test]
 fn verifies(rt: HostRuntime) {
     for (image, limit, wanted) in IMAGES.iter() {
-        assert!(rt;
-            judges_so(rt.alloc(), image, *limit, wanted),
-            "limit {limit}"
-        );
+        let is_so = judges_so(rt.alloc(), image, *limit, wanted);
+        holds_at(&rt, is_so, image.len() as u64, *limit);
     }
 }
 
@@ -150,7 +147,7 @@ fn writes_version() -> bool {
 #[test]
 fn names(rt: HostRuntime) {
     for (answer, action) in ACTIONS.iter() {
-        assert!(rt; number_of_action(*answer) == *action, "action {action}");
+        holds_at(&rt, number_of_action(*answer) == *action, *answer, *action);
     }
     assert!(rt; writes_version());
 }

@@ -2,8 +2,10 @@ use Rattle.std.proofs.Common.{ℕ, arith, sym, subst}
 use Rattle.isa_model.specs.Code.Instructions.{Program}
 use Rattle.bounds.specs.Bounds.{IsVerified}
 use Rattle.stack_state.specs.Starts.{start}
+use Rattle.walks.specs.Refused.{IsRefused}
 use Rattle.walks.specs.Accepting.{BoundsAll}
 use Rattle.walks.specs.Counts.{HasNumber}
+use Rattle.verdict_calls.specs.Verdicts.{FillsProgramRefusal}
 use Rattle.verdict_calls.proofs.judging.judge.Goals as goal
 
 pub returns-in-Ok-verify_within-clause-accepted : goal.returns-in-Ok-verify_within-clause-accepted
@@ -37,3 +39,16 @@ returns-in-Err-Limit-clause-bounds c = λ zero. absurd (omega (arith, zero))
 
 pub returns-in-Err-Limit-clause-alone : goal.returns-in-Err-Limit-clause-alone
 returns-in-Err-Limit-clause-alone c = λ zero. absurd (omega (arith, zero))
+
+-- the copy that the text is made of is the program
+
+pub returns-clause-refused : goal.returns-clause-refused
+returns-clause-refused c = λ two.
+    let stop = c.in-Err-Refused in
+    let call = c.write_refusal in
+    let refused = rw stop.field-0-is at stop.ensures.refused in
+    subst (λ (p : Program). FillsProgramRefusal p call.new.out.slot c.args.why.now
+    call.new.why call.new.out.said)
+    c.in-Ok.ensures
+    (call.ensures.refused two
+    (subst (λ (p : Program). IsRefused p stop.refusal stop.slot) (sym c.in-Ok.ensures) refused))

@@ -5,13 +5,13 @@ ghost use Rattle.isa_model.specs.{max_packet};
 ghost use Rattle.isa_model.specs.Code.Limits.{max_steps};
 ghost use Rattle.verdict_calls.specs.Crossing.{IsStatus};
 ghost use Rattle.verdict_calls.specs.Verdicts.{IsNoImage};
-ghost use Rattle.run_calls.specs.Traces.{ReturnsTrace, trap_number, end_of};
+ghost use Rattle.command_calls.specs.Traces.{ReturnsTrace, trap_number, end_of};
 
-use crate::clocks::clock_at;
-use crate::running::Head;
 use checked_vm::Checked;
 use image::{Image, ImageError};
 use isa_model::{End, FrameHead, MAX_PACKET, MAX_STEPS, TrapReason};
+use run_calls::clocks::clock_at;
+use run_calls::running::Head;
 use std::alloc::Global;
 use verdict_calls::statuses::{MEMORY, OK, REFUSED, WRONG};
 

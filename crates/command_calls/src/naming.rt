@@ -2,10 +2,11 @@
 
 ghost use Rattle.std.specs.Prelude.{◌≡◌, codes, length};
 ghost use Rattle.isa_model.specs.Reporting.Frames.{action_of};
-ghost use Rattle.verdict_calls.specs.Crossing.{action_number, filled, version};
+ghost use Rattle.verdict_calls.specs.Crossing.{filled};
+ghost use Rattle.command_calls.specs.Naming.{action_number, version};
 
-use crate::filling::fill;
 use isa_model::Action;
+use verdict_calls::filling::fill;
 
 /// Writes the version, such as `0.1.0`, and returns how many bytes it has.
 pub fn write_version(buffer: &mut [u8]) -> usize

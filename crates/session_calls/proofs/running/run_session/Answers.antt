@@ -1,7 +1,7 @@
 use Rattle.std.proofs.Common.{◌∙◌, ℕ, Some, arith, sym, ap, subst}
 use Rattle.isa_model.specs.declared.frames.FrameHead.{FrameHead}
 use Rattle.machine.specs.Running.{Running, ReturnsOutcome}
-use Rattle.session_calls.proofs.opening.run_session.Goals as goal
+use Rattle.session_calls.proofs.running.run_session.Goals as goal
 
 pub run-exit-requires : goal.run-exit-requires
 run-exit-requires c = omega arith

@@ -1,7 +1,7 @@
 use Rattle.std.proofs.Common.{ℕ, List, length, ap, ◌∙◌}
 use Rattle.verdict_calls.specs.Crossing.{filled}
-use Rattle.run_calls.specs.Streams.{streamed_of}
-use Rattle.run_calls.proofs.streaming.run_stream.Goals as goal
+use Rattle.command_calls.specs.Streams.{streamed_of}
+use Rattle.command_calls.proofs.streaming.run_stream.Goals as goal
 
 pub returns-clause-ran : goal.returns-clause-ran
 returns-clause-ran c = λ _.

@@ -1,4 +1,4 @@
-use Rattle.session_calls.proofs.opening.open_with_table.Goals as goal
+use Rattle.held_machines.proofs.opening.open_with_table.Goals as goal
 
 pub returns-in-Ok-clause-opened : goal.returns-in-Ok-clause-opened
 returns-in-Ok-clause-opened c = λ ok. record {

@@ -3,8 +3,8 @@ use Rattle.isa_model.specs.declared.ends.End.{End}
 use Rattle.isa_model.specs.declared.frames.FrameHead.{FrameHead}
 use Rattle.isa_model.specs.Running.Runs.{turn}
 use Rattle.checked_vm.specs.Machines.{LoadedProgram}
-use Rattle.run_calls.specs.Traces.{end_of}
-use Rattle.run_calls.proofs.tracing.trace_once.Goals as goal
+use Rattle.command_calls.specs.Traces.{end_of}
+use Rattle.command_calls.proofs.tracing.trace_once.Goals as goal
 
 pub returns-clause-traced : goal.returns-clause-traced
 returns-clause-traced c = λ _.

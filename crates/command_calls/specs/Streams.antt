@@ -5,7 +5,7 @@ use Rattle.isa_model.specs.declared.streams.Fault.TheVariants.{BadMagic, Truncat
 use Rattle.bounds.specs.Bounds.{Bounded}
 use Rattle.host.specs.declared.tallies.Tally.{Tally}
 use Rattle.host.specs.Accepted.{RunsWhole}
-use Rattle.run_calls.specs.declared.streaming.Streamed.{Streamed}
+use Rattle.command_calls.specs.declared.streaming.Streamed.{Streamed}
 use Rattle.verdict_calls.specs.Crossing.{filled}
 use Rattle.verdict_calls.specs.Verdicts.{IsAcceptedImage}
 

@@ -3,7 +3,7 @@
 ghost use Rattle.std.specs.Prelude.{◌≡◌, ◌≢◌, IfSome};
 ghost use Rattle.verdict_calls.specs.Crossing.{IsVerdict};
 ghost use Rattle.verdict_calls.specs.Verdicts.{IsRefusedImage};
-ghost use Rattle.run_calls.specs.Streams.{WritesStream, RunsStream, fault_number, streamed_of};
+ghost use Rattle.command_calls.specs.Streams.{WritesStream, RunsStream, fault_number, streamed_of};
 
 use bounds::Verified;
 use host::{Tally, run};

@@ -5,14 +5,14 @@ ghost use Rattle.assembler.specs.declared.errors.AsmErrorKind.TheVariants as Kin
 ghost use Rattle.image.specs.Images.{image_bytes};
 ghost use Rattle.refusal_texts.specs.Texts.{source_text};
 ghost use Rattle.verdict_calls.specs.Crossing.{FillsBuffer, IsVerdict};
-ghost use Rattle.verdict_calls.specs.Verdicts.{FillsAssembledImage, FillsTextRefusal, only_size};
+ghost use Rattle.command_calls.specs.Texts.{FillsAssembledImage, FillsTextRefusal, only_size};
 
-use crate::filling::fill;
-use crate::statuses::{MEMORY, OK, REFUSED};
 use assembler::{AsmError, AsmErrorKind, assemble};
 use image::Image;
 use refusal_texts::source_text;
 use std::alloc::Global;
+use verdict_calls::filling::fill;
+use verdict_calls::statuses::{MEMORY, OK, REFUSED};
 
 /// How many bytes an image or the text of a refusal has, and for a refusal the line and the column,
 /// which count from 1; both are 0 for an image.

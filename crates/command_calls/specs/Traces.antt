@@ -9,7 +9,7 @@ use Rattle.isa_model.specs.declared.frames.FrameHead.{FrameHead}
 use Rattle.isa_model.specs.Running.Runs.{turn}
 use Rattle.isa_model.specs.Reporting.Reports.{starting_contents}
 use Rattle.image.specs.Images.{IsImage, image_bytes}
-use Rattle.run_calls.specs.declared.tracing.TracedEnd.{TracedEnd}
+use Rattle.command_calls.specs.declared.tracing.TracedEnd.{TracedEnd}
 
 abbrev pub trap_number : TrapReason → ℕ
 trap_number NoCode = 1

@@ -1,0 +1,4 @@
+pub mod Texts
+pub mod Naming
+pub mod Traces
+pub mod Streams
