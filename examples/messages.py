@@ -122,7 +122,7 @@ TRACES = (
      ("frame 0, slot 1: r0 = *(u8 *)(r2 + 14)", "r2: packet pointer at 0")),
     (b"r0 = 2\n", "0 TRAP code 14 1", ("frame 0, slot 1: no instruction begins there", "end each path by exit")),
     (b"r0 = 77\nexit\n", "0 INVALID 14 2", ("frame 0, slot 1: exit", "r0: number 77", "r0 names no action")),
-    (b"r0 = 0\ngoto -1\n", "0 LIMIT 14 1000000", ("frame 0, slot 1: goto -1", "the limit of instructions is reached")),
+    (b"r0 = 0\ngoto -1\n", "0 LIMIT 14 1000000", ("frame 0, slot 1: goto -1", "the limit of steps is reached")),
     (b"r2 = -1\nif r2 == r1 goto +0\nexit\n", "0 TRAP compare 14 1",
      ("frame 0, slot 1: if r2 == r1 goto +0", "r2: number -1", "r1: context pointer at 0")),
     (b"r0 = 2\nexit\n", "0 PASS 14 2", ()),

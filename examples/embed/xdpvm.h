@@ -155,7 +155,7 @@ uint32_t xdpvm_trace_once(const uint8_t *image, size_t image_len, const struct x
 /* Verifies an image, and runs its program on the frames of a stream (docs/FORMATS.md); the maps keep their contents from
    frame to frame. `report` gets what `xdpvm run` prints, and `sent` the frames out. A fault of the stream ends the run; the
    report and `out` have it, and the status is XDPVM_OK. */
-uint32_t xdpvm_run_stream(const uint8_t *image, size_t image_len, const uint8_t *frames, size_t frames_len, uint8_t *report,
+uint32_t xdpvm_run_stream(const uint8_t *image, size_t image_len, const uint8_t *stream, size_t stream_len, uint8_t *report,
                           size_t report_len, uint8_t *sent, size_t sent_len, struct xdpvm_streamed *out);
 
 /* Tests a proof table of an image's program, with no trust in its maker. XDPVM_OK: the promise of xdpvm_verify, with the

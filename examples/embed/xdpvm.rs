@@ -125,8 +125,8 @@ unsafe extern "C" {
     fn xdpvm_run_stream(
         image: *const u8,
         image_len: usize,
-        frames: *const u8,
-        frames_len: usize,
+        stream: *const u8,
+        stream_len: usize,
         report: *mut u8,
         report_len: usize,
         sent: *mut u8,
@@ -367,8 +367,8 @@ pub struct Ran {
 }
 
 /// Runs an accepted program on the frames of a stream.
-pub fn run_stream(image: &[u8], frames: &[u8]) -> Result<Ran, Error> {
-    let mut sent = vec![0; frames.len().max(4)];
+pub fn run_stream(image: &[u8], stream: &[u8]) -> Result<Ran, Error> {
+    let mut sent = vec![0; stream.len().max(4)];
     let mut out = Streamed::default();
     let (status, report) = with_room(4096, |report| {
         // SAFETY: as above.
@@ -376,8 +376,8 @@ pub fn run_stream(image: &[u8], frames: &[u8]) -> Result<Ran, Error> {
             xdpvm_run_stream(
                 image.as_ptr(),
                 image.len(),
-                frames.as_ptr(),
-                frames.len(),
+                stream.as_ptr(),
+                stream.len(),
                 report.as_mut_ptr(),
                 report.len(),
                 sent.as_mut_ptr(),

@@ -24,8 +24,8 @@ column_feed xs i h e =
 pub column_line : (xs : List ℕ) (i : ℕ) → i < length xs → get_or xs i 0 ≢ 10
     → column_behind (take (i + 1) xs) ≡ column_behind (take i xs) + 1
 column_line xs i h e =
-    let line : (get_or xs i 0 == 10) ≡ false = ne_eqb (get_or xs i 0) 10 e in
-    one_more xs i h ∙ rw line (omega arith)
+    let other : (get_or xs i 0 == 10) ≡ false = ne_eqb (get_or xs i 0) 10 e in
+    one_more xs i h ∙ rw other (omega arith)
 
 -- the column after one byte more
 pub ruleset columns = (column_feed, column_line)

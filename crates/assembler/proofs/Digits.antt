@@ -13,7 +13,7 @@ use Rattle.std.proofs.lemmas.Str.Parse.{digit_from_value}
 use Rattle.lexer.specs.declared.tokens.Token.TheVariants.{Number}
 use Rattle.lexer.specs.declared.tokens.Lexeme.TheVariants.{Solid}
 use Rattle.lexer.specs.Lexing.{is_word_byte, number_at, number_after, number_from, digits_number, lexeme_at}
-use Rattle.assembler.proofs.PlainTexts.{StatementSoFar, assembled}
+use Rattle.assembler.proofs.PlainTexts.{StatementSoFar, read_rest}
 use Rattle.assembler.proofs.FrontTokens.{token}
 
 -- digits up to the first byte that is not a digit
@@ -54,13 +54,13 @@ number-found base skipped c bs (d ∷ ds) rest e at h small w g p =
     rw e (prefix-digits base c (d ∷ ds) rest h.1 g) in
     let taken : take (suc (length ds)) (drop skipped bs) ≡ d ∷ ds =
     rw e (take-append_seam (d ∷ ds) (c ∷ rest)) in
-    let value : digits_number base 0 (d ∷ ds) ≡ digits_value base (d ∷ ds) =
+    let same : digits_number base 0 (d ∷ ds) ≡ digits_value base (d ∷ ds) =
     number-is base 0 (d ∷ ds) p small in
-    let word : is_word_byte (slice_index bs (skipped + suc (length ds))) ≡ false =
+    let no_word : is_word_byte (slice_index bs (skipped + suc (length ds))) ≡ false =
     ap is_word_byte at ∙ w in
     let some : (suc (length ds) == 0) ≡ false =
     ne_eqb (suc (length ds)) 0 (λ q. omega (arith, q)) in
-    ap (number_after base skipped bs) many ∙ rw some (rw word (rw taken (rw value refl)))
+    ap (number_after base skipped bs) many ∙ rw some (rw no_word (rw taken (rw same refl)))
 
 -- ---- a byte below the digits follows them
 
@@ -95,7 +95,7 @@ lexeme-decimal c [] rest h small low = absurd (omega (arith, h.0))
 lexeme-decimal c (d ∷ ds) rest h small low =
     let bs = d ∷ (ds ++ c ∷ rest) in
     let digit : nat_lt (digit_value d) 10 ≡ true = lt-ltb (digit_value d) 10 h.1.0 in
-    let plain : ((d == 48) && (slice_index (ds ++ c ∷ rest) 0 == 120)) ≡ false =
+    let no_prefix : ((d == 48) && (slice_index (ds ++ c ∷ rest) 0 == 120)) ≡ false =
     and-false (d == 48) (slice_index (ds ++ c ∷ rest) 0 == 120) (no-x c ds rest h.1.1 low) in
     let at : slice_index bs (0 + length (d ∷ ds)) ≡ c =
     get_or_at (d ∷ ds) c rest 0 (0 + length (d ∷ ds)) (omega arith) in
@@ -104,9 +104,9 @@ lexeme-decimal c (d ∷ ds) rest h small low =
     c bs (d ∷ ds) rest refl at h small (low-word c low) (low-digit c 10 low (omega arith))
     (omega arith) in
     let front : lexeme_at bs ≡ number_from bs = if-true (is_digit d 10) (number_from bs) _ digit in
-    let base : number_from bs ≡ number_at 10 0 bs =
-    if-false _ (number_at 16 2 bs) (number_at 10 0 bs) plain in
-    front ∙ base ∙ number
+    let in_ten : number_from bs ≡ number_at 10 0 bs =
+    if-false _ (number_at 16 2 bs) (number_at 10 0 bs) no_prefix in
+    front ∙ in_ten ∙ number
     ∙ ap (λ k. Some (Solid (Number (digits_value 10 (d ∷ ds))), k)) (zero-add (length (d ∷ ds)))
 
 -- what was read, with one more number
@@ -114,19 +114,19 @@ abbrev with_number : StatementSoFar → ℕ → StatementSoFar
 with_number s n = record { tokens = s.tokens ++ Number n ∷ []; parts = s.parts }
 
 pub decimal-read : (n c : ℕ) (rest : List ℕ) (s : StatementSoFar) → n < 2 ^ 64 → c < 48
-    → assembled (decimal n ++ c ∷ rest) 0 s
-    ≡ assembled (c ∷ rest) 0 (record { tokens = s.tokens ++ Number n ∷ []; parts = s.parts })
+    → read_rest (decimal n ++ c ∷ rest) 0 s
+    ≡ read_rest (c ∷ rest) 0 (record { tokens = s.tokens ++ Number n ∷ []; parts = s.parts })
 decimal-read n c rest s small low =
     let own = decimal_is_IsNumeral n small in
     let fits : digits_value 10 (decimal n) < 2 ^ 64 = rw own.1 small in
     token (decimal n) (c ∷ rest) (Number (digits_value 10 (decimal n))) s
     (lexeme-decimal c (decimal n) rest own.0 fits low) own.0.0
-    ∙ ap (λ v. assembled (c ∷ rest) 0 (with_number s v)) own.1
+    ∙ ap (λ v. read_rest (c ∷ rest) 0 (with_number s v)) own.1
 
 -- hexadecimal digits after 0x
 pub hexadecimal-read : (n c : ℕ) (rest : List ℕ) (s : StatementSoFar) → n < 2 ^ 64 → c < 48
-    → assembled (48 ∷ 120 ∷ (digits 16 false n ++ c ∷ rest)) 0 s
-    ≡ assembled (c ∷ rest) 0 (record { tokens = s.tokens ++ Number n ∷ []; parts = s.parts })
+    → read_rest (48 ∷ 120 ∷ (digits 16 false n ++ c ∷ rest)) 0 s
+    ≡ read_rest (c ∷ rest) 0 (record { tokens = s.tokens ++ Number n ∷ []; parts = s.parts })
 hexadecimal-read n c rest s small low =
     let own = digits_is_IsNumeral 16 false (lit≤ tt) (lit≤ tt) n (omega arith) in
     let ds = digits 16 false n in
@@ -140,7 +140,7 @@ hexadecimal-read n c rest s small low =
     let long : 2 + length ds ≡ length (48 ∷ 120 ∷ ds) = omega arith in
     token (48 ∷ 120 ∷ ds) (c ∷ rest) (Number (digits_value 16 ds)) s
     (number ∙ ap (λ k. Some (Solid (Number (digits_value 16 ds)), k)) long) (omega arith)
-    ∙ ap (λ v. assembled (c ∷ rest) 0 (with_number s v)) own.1
+    ∙ ap (λ v. read_rest (c ∷ rest) 0 (with_number s v)) own.1
 
 no-equals-digits : (c : ℕ) (ds rest : List ℕ) → AllDigits 10 ds → c < 48
     → (slice_index (ds ++ c ∷ rest) 0 == 61) ≡ false

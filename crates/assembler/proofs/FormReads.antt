@@ -36,7 +36,7 @@ use Rattle.lexer.specs.declared.tokens.Token.TheVariants.{Named, Number, Signed}
 use Rattle.assembler.specs.declared.readings.Reading.{Reading}
 use Rattle.assembler.specs.declared.wrong.Wrong.{Wrong}
 use Rattle.assembler.specs.Operands.{atomic_op_of, comparison_of, width_of}
-use Rattle.assembler.specs.Statements.{arithmetic, statement_of}
+use Rattle.assembler.specs.Statements.{arithmetic, reading_of}
 use Rattle.assembler.specs.Spells.{assigns, changes, compares, extends}
 use Rattle.assembler.proofs.PlainTexts.{unnamed_reading, plain_statement}
 use Rattle.assembler.proofs.TokenReads.{signed_tokens, constant_tokens, operand_tokens}
@@ -76,8 +76,8 @@ arithmetic-read o w d (Constant (pos n)) s h = rw (imm-pos n h) refl
 arithmetic-read o w d (Constant (negsuc n)) s h = rw (imm-neg n h) refl
 
 moved-read : (w : Width) (d : Reg) (x : Operand) → OperandFits x
-    → statement_of (reg w d ∷ Signed sign.Assign ∷ operand_tokens w x) ≡ read (Alu w op.Mov d x)
-unfolding statement_of
+    → reading_of (reg w d ∷ Signed sign.Assign ∷ operand_tokens w x) ≡ read (Alu w op.Mov d x)
+unfolding reading_of
 moved-read Low32 d (Register r) h = arithmetic-read op.Mov Low32 d (Register r) sign.Assign h
 moved-read Full64 d (Register r) h = arithmetic-read op.Mov Full64 d (Register r) sign.Assign h
 moved-read w d (Constant (pos n)) h = arithmetic-read op.Mov w d (Constant (pos n)) sign.Assign h
@@ -85,8 +85,8 @@ moved-read w d (Constant (negsuc n)) h =
     arithmetic-read op.Mov w d (Constant (negsuc n)) sign.Assign h
 
 alu-statement : (o : AluOp) (w : Width) (d : Reg) (x : Operand) → OperandFits x
-    → statement_of (reg w d ∷ Signed (assigns o) ∷ operand_tokens w x) ≡ read (Alu w o d x)
-unfolding statement_of
+    → reading_of (reg w d ∷ Signed (assigns o) ∷ operand_tokens w x) ≡ read (Alu w o d x)
+unfolding reading_of
 alu-statement op.Mov w d x h = moved-read w d x h
 alu-statement op.Add w d x h = arithmetic-read op.Add w d x sign.AddAssign h
 alu-statement op.Sub w d x h = arithmetic-read op.Sub w d x sign.SubAssign h
@@ -109,7 +109,7 @@ alu-form o w d x h = ap unnamed_reading (alu-statement o w d x h)
 pub neg-form : (w : Width) (d : Reg)
     → plain_statement (reg w d ∷ Signed sign.Assign ∷ Signed sign.Minus ∷ reg w d ∷ [])
     ≡ Some (Neg w d)
-unfolding statement_of
+unfolding reading_of
 neg-form w d = rw (same-width w, same-register d) refl
 
 pub extension-form : (e : Extension) (d s : Reg)
@@ -117,24 +117,24 @@ pub extension-form : (e : Extension) (d s : Reg)
     (reg (extension_width e) d ∷ Signed sign.Assign ∷ Signed sign.Open
     ∷ Named (word.SignExtended (extends e).1) ∷ Signed sign.Close ∷ reg (extension_width e) s ∷ [])
     ≡ Some (MovSx e d s)
-unfolding statement_of
+unfolding reading_of
 extension-form Low8 d s = refl
 extension-form Low16 d s = refl
 extension-form Full8 d s = refl
 extension-form Full16 d s = refl
 extension-form Full32 d s = refl
 
-pub swap-form : (order : ByteOrder) (span : SwapWidth) (d : Reg)
+pub swap-form : (order : ByteOrder) (bits : SwapWidth) (d : Reg)
     → plain_statement
-    (reg Full64 d ∷ Signed sign.Assign ∷ Named (word.Swapped order span) ∷ reg Full64 d ∷ [])
-    ≡ Some (ByteSwap order span d)
-unfolding statement_of
-swap-form order span d = rw (same-register d) refl
+    (reg Full64 d ∷ Signed sign.Assign ∷ Named (word.Swapped order bits) ∷ reg Full64 d ∷ [])
+    ≡ Some (ByteSwap order bits d)
+unfolding reading_of
+swap-form order bits d = rw (same-register d) refl
 
 pub wide-form : (d : Reg) (n : ℕ) → n < 2 ^ 64
     → plain_statement (reg Full64 d ∷ Signed sign.Assign ∷ Number n ∷ Named word.Wide ∷ [])
     ≡ Some (LoadNumber d n)
-unfolding statement_of
+unfolding reading_of
 wide-form d n h = let t : nat_lt n (2 ^ 64) ≡ true = lt-ltb n (2 ^ 64) h in rw t refl
 
 -- ---- memory
@@ -149,7 +149,7 @@ pub load-form : (size : Size) (d b : Reg) (by : ℤ) → FitsSigned w16 by
     → plain_statement
     (reg Full64 d ∷ Signed sign.Assign ∷ memory_tokens (word.Unsigned size) b by [])
     ≡ Some (Load size d (record { base = b; offset = by }))
-unfolding statement_of
+unfolding reading_of
 load-form size d b (pos n) h = rw (offset-pos n h) refl
 load-form size d b (negsuc n) h = rw (offset-neg n h) refl
 
@@ -157,7 +157,7 @@ pub extending-form : (size : SignedSize) (d b : Reg) (by : ℤ) → FitsSigned w
     → plain_statement
     (reg Full64 d ∷ Signed sign.Assign ∷ memory_tokens (word.SignExtended size) b by [])
     ≡ Some (LoadSx size d (record { base = b; offset = by }))
-unfolding statement_of
+unfolding reading_of
 extending-form size d b (pos n) h = rw (offset-pos n h) refl
 extending-form size d b (negsuc n) h = rw (offset-neg n h) refl
 
@@ -165,7 +165,7 @@ pub store-form : (size : Size) (b s : Reg) (by : ℤ) → FitsSigned w16 by
     → plain_statement
     (memory_tokens (word.Unsigned size) b by (Signed sign.Assign ∷ reg Full64 s ∷ []))
     ≡ Some (Store size (record { base = b; offset = by }) s)
-unfolding statement_of
+unfolding reading_of
 store-form size b s (pos n) h = rw (offset-pos n h) refl
 store-form size b s (negsuc n) h = rw (offset-neg n h) refl
 
@@ -173,7 +173,7 @@ pub constant-form : (size : Size) (b : Reg) (by k : ℤ) → FitsSigned w16 by �
     → plain_statement
     (memory_tokens (word.Unsigned size) b by (Signed sign.Assign ∷ constant_tokens k))
     ≡ Some (StoreConstant size (record { base = b; offset = by }) k)
-unfolding statement_of
+unfolding reading_of
 constant-form size b (pos n) (pos m) h g = rw (offset-pos n h, imm-pos m g) refl
 constant-form size b (pos n) (negsuc m) h g = rw (offset-pos n h, imm-neg m g) refl
 constant-form size b (negsuc n) (pos m) h g = rw (offset-neg n h, imm-pos m g) refl
@@ -196,7 +196,7 @@ pub lock-form : (w : Width) (o : AtomicOp) (b s : Reg) (by : ℤ) → FitsSigned
     (Named word.Lock
     ∷ memory_tokens (word.Unsigned (width_size w)) b by (Signed (changes o) ∷ reg Full64 s ∷ []))
     ≡ Some (Atomic w o false (record { base = b; offset = by }) s)
-unfolding statement_of
+unfolding reading_of
 lock-form w o b s (pos n) h = rw (offset-pos n h, width-back w, atomic-back o) refl
 lock-form w o b s (negsuc n) h = rw (offset-neg n h, width-back w, atomic-back o) refl
 
@@ -210,7 +210,7 @@ pub fetch-form : (w : Width) (o : AtomicOp) (b s : Reg) (by : ℤ) → FitsSigne
     → plain_statement
     (exchange_tokens (word.Fetch o w) s b by (reg Full64 s ∷ Signed sign.Close ∷ []))
     ≡ Some (Atomic w o true (record { base = b; offset = by }) s)
-unfolding statement_of
+unfolding reading_of
 fetch-form w o b s (pos n) h = rw (offset-pos n h, same-register s) refl
 fetch-form w o b s (negsuc n) h = rw (offset-neg n h, same-register s) refl
 
@@ -218,7 +218,7 @@ pub exchange-form : (w : Width) (b s : Reg) (by : ℤ) → FitsSigned w16 by
     → plain_statement
     (exchange_tokens (word.Exchange w) s b by (reg Full64 s ∷ Signed sign.Close ∷ []))
     ≡ Some (Exchange w (record { base = b; offset = by }) s)
-unfolding statement_of
+unfolding reading_of
 exchange-form w b s (pos n) h = rw (offset-pos n h, same-register s) refl
 exchange-form w b s (negsuc n) h = rw (offset-neg n h, same-register s) refl
 
@@ -227,7 +227,7 @@ pub compare-form : (w : Width) (b s : Reg) (by : ℤ) → FitsSigned w16 by
     (exchange_tokens (word.CompareExchange w) R0 b by
     (reg Full64 R0 ∷ Signed sign.Comma ∷ reg Full64 s ∷ Signed sign.Close ∷ []))
     ≡ Some (CompareExchange w (record { base = b; offset = by }) s)
-unfolding statement_of
+unfolding reading_of
 compare-form w b s (pos n) h = rw (offset-pos n h) refl
 compare-form w b s (negsuc n) h = rw (offset-neg n h) refl
 
@@ -235,30 +235,30 @@ compare-form w b s (negsuc n) h = rw (offset-neg n h) refl
 
 pub jump-form : (by : ℤ) → FitsSigned w16 by
     → plain_statement (Named word.Goto ∷ signed_tokens by) ≡ Some (Jump by)
-unfolding statement_of
+unfolding reading_of
 jump-form (pos n) h = rw (offset-pos n h) refl
 jump-form (negsuc n) h = rw (offset-neg n h) refl
 
 pub long-form : (by : ℤ) → FitsSigned w32 by
     → plain_statement (Named word.GotoLong ∷ signed_tokens by) ≡ Some (JumpLong by)
-unfolding statement_of
+unfolding reading_of
 long-form (pos n) h = rw (imm-pos n h) refl
 long-form (negsuc n) h = rw (imm-neg n h) refl
 
 pub call-form : (by : ℤ) → FitsSigned w32 by
     → plain_statement (Named word.Call ∷ Named word.Pc ∷ signed_tokens by) ≡ Some (CallLocal by)
-unfolding statement_of
+unfolding reading_of
 call-form (pos n) h = rw (imm-pos n h) refl
 call-form (negsuc n) h = rw (imm-neg n h) refl
 
 pub helper-form : (k : ℤ) → FitsSigned w32 k
     → plain_statement (Named word.Call ∷ constant_tokens k) ≡ Some (CallHelper k)
-unfolding statement_of
+unfolding reading_of
 helper-form (pos n) h = rw (imm-pos n h) refl
 helper-form (negsuc n) h = rw (imm-neg n h) refl
 
 pub exit-form : plain_statement (Named word.Exit ∷ []) ≡ Some Exit
-unfolding statement_of
+unfolding reading_of
 exit-form = refl
 
 pub comparison-back : (c : Comparison) → comparison_of (compares c) ≡ Ok c
@@ -280,7 +280,7 @@ pub condition-form : (w : Width) (c : Comparison) (d : Reg) (x : Operand) (by : 
     (Named word.If ∷ reg w d ∷ Signed (compares c)
     ∷ (operand_tokens w x ++ Named word.Goto ∷ signed_tokens by))
     ≡ Some (JumpIf (record { width = w; comparison = c; register = d; operand = x }) by)
-unfolding statement_of
+unfolding reading_of
 condition-form w c d (Register r) (pos m) h g =
     rw (comparison-back c, same-width w, offset-pos m g) refl
 condition-form w c d (Register r) (negsuc m) h g =

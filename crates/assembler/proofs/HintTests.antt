@@ -1,4 +1,4 @@
--- Laws of the test whether bytes occur in others, byte by byte.
+-- Laws of the test of the hints whether bytes occur in others, byte by byte.
 use Rattle.std.proofs.Common.{◌≡◌, ℕ, zero, suc, ◌+◌, ◌-◌, false, Bool, List, [], ◌∷◌, length, take, drop, refl, sym, subst, arith}
 use Rattle.std.specs.Prelude.{◌||◌}
 use Rattle.image.proofs.CodeSpelling.{take-rest}

@@ -1,4 +1,4 @@
--- Laws of look-ups of names: the map of labels and the list of them agree.
+-- Laws of look-ups of names: an `IndexMap` of labels and the list of them agree.
 use Rattle.std.proofs.Common.{◌≡◌, ℕ, Bool, true, false, cond, List, [], ◌∷◌, ◌++◌, map, refl, ap, Option, Some, None}
 use denote.Ref.{Bor}
 use Rattle.std.specs.Map.{lookup}

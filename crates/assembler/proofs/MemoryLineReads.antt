@@ -21,12 +21,12 @@ use Rattle.lexer.specs.declared.tokens.Sign.TheVariants as sign
 use Rattle.lexer.specs.declared.tokens.Token.{Token}
 use Rattle.lexer.specs.declared.tokens.Token.TheVariants.{Named, Signed}
 use Rattle.assembler.specs.Spells.{changes}
-use Rattle.assembler.proofs.PlainTexts.{Parts, assembled}
+use Rattle.assembler.proofs.PlainTexts.{Parts, read_rest}
 use Rattle.assembler.proofs.TokenReads.{draft, reg-read, size-read, signed_size-read, fetch-read, exchange-read, compare-read, atomic-read, constant_tokens, place_tokens, constant-read, place-read}
 use Rattle.assembler.proofs.FormReads.{memory_tokens, load-form, extending-form, store-form, constant-form, lock-form, exchange_tokens, fetch-form, exchange-form, compare-form}
 use Rattle.assembler.proofs.LineReads.{end-read, reg, ReadsLine, Bytes}
 
--- ---- lists in parts, with the brackets moved to the right; three parts are those of a place
+-- ---- lists put together, with the brackets moved to the right; three of them are a place's
 
 place5 : (a b c d p q r e rest : Bytes)
     → (a ++ b ++ c ++ d ++ (p ++ q ++ r) ++ e) ++ rest
@@ -68,7 +68,7 @@ pub load-line : (size : Size) (d : Reg) (p : Place) (ps : Parts) (rest : Bytes)
 unfolding line_of
 load-line size d p ps rest h room =
     let tail : Bytes = 42 ∷ 41 ∷ 40 ∷ place_bytes p (41 ∷ 10 ∷ rest) in
-    ap (λ bs. assembled bs 0 (draft [] ps))
+    ap (λ bs. read_rest bs 0 (draft [] ps))
     (place5 (reg_text Full64 d) (codes " = *(") (size_text size) (codes " *)(")
     (reg_text Full64 p.base) (codes " ") (offset_text p.offset) (codes ")\n") rest)
     ∙ reg-read Full64 d 32 (61 ∷ 32 ∷ 42 ∷ 40 ∷ (size_text size ++ 32 ∷ tail)) [] ps refl
@@ -85,7 +85,7 @@ pub extending-line : (size : SignedSize) (d : Reg) (p : Place) (ps : Parts) (res
 unfolding line_of
 extending-line size d p ps rest h room =
     let tail : Bytes = 42 ∷ 41 ∷ 40 ∷ place_bytes p (41 ∷ 10 ∷ rest) in
-    ap (λ bs. assembled bs 0 (draft [] ps))
+    ap (λ bs. read_rest bs 0 (draft [] ps))
     (place5 (reg_text Full64 d) (codes " = *(") (signed_text size) (codes " *)(")
     (reg_text Full64 p.base) (codes " ") (offset_text p.offset) (codes ")\n") rest)
     ∙ reg-read Full64 d 32 (61 ∷ 32 ∷ 42 ∷ 40 ∷ (signed_text size ++ 32 ∷ tail)) [] ps refl
@@ -114,14 +114,14 @@ pub store-line : (size : Size) (p : Place) (s : Reg) (ps : Parts) (rest : Bytes)
 unfolding line_of
 store-line size p s ps rest h room =
     let tail : Bytes = reg_text Full64 s ++ 10 ∷ rest in
-    ap (λ bs. assembled bs 0 (draft [] ps))
+    ap (λ bs. read_rest bs 0 (draft [] ps))
     (place-2-2 (codes "*(") (size_text size) (codes " *)(") (reg_text Full64 p.base) (codes " ")
     (offset_text p.offset) (codes ") = ") (reg_text Full64 s) (codes "\n") rest)
     ∙ size-read size (42 ∷ 41 ∷ 40 ∷ place_bytes p (41 ∷ 32 ∷ 61 ∷ 32 ∷ tail))
     (Signed sign.Star ∷ Signed sign.Open ∷ []) ps
     ∙ place-read p 41 (32 ∷ 61 ∷ 32 ∷ tail) (before_place (word.Unsigned size)) ps h (lit< tt)
     ∙ reg-read Full64 s 10 rest (stored_so_far size p) ps refl
-    ∙ ap (λ us. assembled (10 ∷ rest) 0 (draft us ps))
+    ∙ ap (λ us. read_rest (10 ∷ rest) 0 (draft us ps))
     (stored-tokens size p.base p.offset (reg Full64 s ∷ []))
     ∙ end-read (Signed sign.Star)
     (drop 1 (memory_tokens (word.Unsigned size) p.base p.offset
@@ -133,14 +133,14 @@ pub constant-line : (size : Size) (p : Place) (k : ℤ) (ps : Parts) (rest : Byt
 unfolding line_of
 constant-line size p k ps rest h g room =
     let tail : Bytes = signed_decimal k ++ 10 ∷ rest in
-    ap (λ bs. assembled bs 0 (draft [] ps))
+    ap (λ bs. read_rest bs 0 (draft [] ps))
     (place-2-2 (codes "*(") (size_text size) (codes " *)(") (reg_text Full64 p.base) (codes " ")
     (offset_text p.offset) (codes ") = ") (signed_decimal k) (codes "\n") rest)
     ∙ size-read size (42 ∷ 41 ∷ 40 ∷ place_bytes p (41 ∷ 32 ∷ 61 ∷ 32 ∷ tail))
     (Signed sign.Star ∷ Signed sign.Open ∷ []) ps
     ∙ place-read p 41 (32 ∷ 61 ∷ 32 ∷ tail) (before_place (word.Unsigned size)) ps h (lit< tt)
     ∙ constant-read k 10 rest (stored_so_far size p) ps g (lit< tt)
-    ∙ ap (λ us. assembled (10 ∷ rest) 0 (draft us ps))
+    ∙ ap (λ us. read_rest (10 ∷ rest) 0 (draft us ps))
     (stored-tokens size p.base p.offset (constant_tokens k))
     ∙ end-read (Signed sign.Star)
     (drop 1 (memory_tokens (word.Unsigned size) p.base p.offset
@@ -166,7 +166,7 @@ pub lock-line : (w : Width) (o : AtomicOp) (p : Place) (s : Reg) (ps : Parts) (r
 unfolding line_of
 lock-line w o p s ps rest h room =
     let tail : Bytes = atomic_text o ++ 32 ∷ (reg_text Full64 s ++ 10 ∷ rest) in
-    ap (λ bs. assembled bs 0 (draft [] ps))
+    ap (λ bs. read_rest bs 0 (draft [] ps))
     (place-lock (codes "lock *(") (size_text (width_size w)) (codes " *)(")
     (reg_text Full64 p.base) (codes " ") (offset_text p.offset) (codes ") ") (atomic_text o)
     (codes " ") (reg_text Full64 s) (codes "\n") rest)
@@ -176,7 +176,7 @@ lock-line w o p s ps rest h room =
     (Named word.Lock ∷ before_place (word.Unsigned (width_size w))) ps h (lit< tt)
     ∙ atomic-read o (reg_text Full64 s ++ 10 ∷ rest) (locked_so_far w p) ps
     ∙ reg-read Full64 s 10 rest (locked_so_far w p ++ Signed (changes o) ∷ []) ps refl
-    ∙ ap (λ us. assembled (10 ∷ rest) 0 (draft us ps)) (locked-tokens w o p.base s p.offset)
+    ∙ ap (λ us. read_rest (10 ∷ rest) 0 (draft us ps)) (locked-tokens w o p.base s p.offset)
     ∙ end-read (Named word.Lock)
     (memory_tokens (word.Unsigned (width_size w)) p.base p.offset
     (Signed (changes o) ∷ reg Full64 s ∷ [])) (Atomic w o false p s) ps rest
@@ -207,18 +207,19 @@ pub fetch-line : (w : Width) (o : AtomicOp) (p : Place) (s : Reg) (ps : Parts) (
 unfolding line_of
 fetch-line w o p s ps rest h room =
     let tail : Bytes = reg_text Full64 s ++ 41 ∷ 10 ∷ rest in
-    let place : Bytes = place_bytes p (44 ∷ 32 ∷ tail) in
-    ap (λ bs. assembled bs 0 (draft [] ps))
+    let from_place : Bytes = place_bytes p (44 ∷ 32 ∷ tail) in
+    ap (λ bs. read_rest bs 0 (draft [] ps))
     (place-fetch (reg_text Full64 s) (codes " = ") (fetch_text o) (width_text w) (codes "(")
     (reg_text Full64 p.base) (codes " ") (offset_text p.offset) (codes ", ") (reg_text Full64 s)
     (codes ")\n") rest)
-    ∙ reg-read Full64 s 32 (61 ∷ 32 ∷ (fetch_text o ++ (width_text w ++ 40 ∷ place))) [] ps refl
-    ∙ fetch-read o w place (reg Full64 s ∷ Signed sign.Assign ∷ []) ps
+    ∙ reg-read Full64 s 32 (61 ∷ 32 ∷ (fetch_text o ++ (width_text w ++ 40 ∷ from_place))) [] ps
+    refl
+    ∙ fetch-read o w from_place (reg Full64 s ∷ Signed sign.Assign ∷ []) ps
     ∙ place-read p 44 (32 ∷ tail)
     (reg Full64 s ∷ Signed sign.Assign ∷ Named (word.Fetch o w) ∷ Signed sign.Open ∷ []) ps h
     (lit< tt)
     ∙ reg-read Full64 s 41 (10 ∷ rest) (exchanged_so_far (word.Fetch o w) s p) ps refl
-    ∙ ap (λ us. assembled (10 ∷ rest) 0 (draft us ps))
+    ∙ ap (λ us. read_rest (10 ∷ rest) 0 (draft us ps))
     (exchanged-tokens (word.Fetch o w) s p.base s p.offset)
     ∙ end-read (reg Full64 s)
     (drop 1 (exchange_tokens (word.Fetch o w) s p.base p.offset
@@ -230,18 +231,19 @@ pub exchange-line : (w : Width) (p : Place) (s : Reg) (ps : Parts) (rest : Bytes
 unfolding line_of
 exchange-line w p s ps rest h room =
     let tail : Bytes = reg_text Full64 s ++ 41 ∷ 10 ∷ rest in
-    let place : Bytes = place_bytes p (44 ∷ 32 ∷ tail) in
-    ap (λ bs. assembled bs 0 (draft [] ps))
+    let from_place : Bytes = place_bytes p (44 ∷ 32 ∷ tail) in
+    ap (λ bs. read_rest bs 0 (draft [] ps))
     (place-exchange (reg_text Full64 s) (codes " = xchg_") (width_text w) (codes "(")
     (reg_text Full64 p.base) (codes " ") (offset_text p.offset) (codes ", ") (reg_text Full64 s)
     (codes ")\n") rest)
-    ∙ reg-read Full64 s 32 (61 ∷ 32 ∷ (codes "xchg_" ++ (width_text w ++ 40 ∷ place))) [] ps refl
-    ∙ exchange-read w place (reg Full64 s ∷ Signed sign.Assign ∷ []) ps
+    ∙ reg-read Full64 s 32 (61 ∷ 32 ∷ (codes "xchg_" ++ (width_text w ++ 40 ∷ from_place))) [] ps
+    refl
+    ∙ exchange-read w from_place (reg Full64 s ∷ Signed sign.Assign ∷ []) ps
     ∙ place-read p 44 (32 ∷ tail)
     (reg Full64 s ∷ Signed sign.Assign ∷ Named (word.Exchange w) ∷ Signed sign.Open ∷ []) ps h
     (lit< tt)
     ∙ reg-read Full64 s 41 (10 ∷ rest) (exchanged_so_far (word.Exchange w) s p) ps refl
-    ∙ ap (λ us. assembled (10 ∷ rest) 0 (draft us ps))
+    ∙ ap (λ us. read_rest (10 ∷ rest) 0 (draft us ps))
     (exchanged-tokens (word.Exchange w) s p.base s p.offset)
     ∙ end-read (reg Full64 s)
     (drop 1 (exchange_tokens (word.Exchange w) s p.base p.offset
@@ -254,16 +256,16 @@ unfolding line_of
 compare-line w p s ps rest h room =
     let x : Word = word.CompareExchange w in
     let tail : Bytes = reg_text Full64 s ++ 41 ∷ 10 ∷ rest in
-    let place : Bytes = place_bytes p (44 ∷ 32 ∷ 114 ∷ 48 ∷ 44 ∷ 32 ∷ tail) in
-    ap (λ bs. assembled bs 0 (draft [] ps))
+    let from_place : Bytes = place_bytes p (44 ∷ 32 ∷ 114 ∷ 48 ∷ 44 ∷ 32 ∷ tail) in
+    ap (λ bs. read_rest bs 0 (draft [] ps))
     (place-2-2 (codes "r0 = cmpxchg_") (width_text w) (codes "(") (reg_text Full64 p.base)
     (codes " ") (offset_text p.offset) (codes ", r0, ") (reg_text Full64 s) (codes ")\n") rest)
-    ∙ compare-read w place (reg Full64 R0 ∷ Signed sign.Assign ∷ []) ps
+    ∙ compare-read w from_place (reg Full64 R0 ∷ Signed sign.Assign ∷ []) ps
     ∙ place-read p 44 (32 ∷ 114 ∷ 48 ∷ 44 ∷ 32 ∷ tail)
     (reg Full64 R0 ∷ Signed sign.Assign ∷ Named x ∷ Signed sign.Open ∷ []) ps h (lit< tt)
     ∙ reg-read Full64 s 41 (10 ∷ rest)
     ((exchanged_so_far x R0 p ++ reg Full64 R0 ∷ []) ++ Signed sign.Comma ∷ []) ps refl
-    ∙ ap (λ us. assembled (10 ∷ rest) 0 (draft us ps)) (compared-tokens x R0 p.base s p.offset)
+    ∙ ap (λ us. read_rest (10 ∷ rest) 0 (draft us ps)) (compared-tokens x R0 p.base s p.offset)
     ∙ end-read (reg Full64 R0)
     (drop 1 (exchange_tokens x R0 p.base p.offset
     (reg Full64 R0 ∷ Signed sign.Comma ∷ reg Full64 s ∷ Signed sign.Close ∷ [])))

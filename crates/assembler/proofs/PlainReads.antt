@@ -18,12 +18,12 @@ use Rattle.assembler.specs.declared.wrong.Wrong.{Wrong}
 use Rattle.assembler.specs.declared.wrong.Wrong.TheVariants.{Form}
 use Rattle.assembler.specs.declared.wrong.Objection.{Objection}
 use Rattle.assembler.specs.Operands.{◌>>=◌, keep}
-use Rattle.assembler.specs.Statements.{statement_of, map_line}
+use Rattle.assembler.specs.Statements.{reading_of, map_line}
 use Rattle.assembler.specs.Labelled.{label_length, begins_map_line, begins_version_line, version_line, spelled}
 use Rattle.isa_model.specs.declared.versions.Version.TheVariants.{Two}
 use Rattle.assembler.specs.MapTests.{takes_row, objection_to_load, objection}
 use Rattle.assembler.specs.Assembling.{ReadSoFar, has_room, refused_at, begins_at, unless_wrong, unless_refused, is_first, ended, at_end_behind, at_end}
-use Rattle.assembler.proofs.PlainTexts.{unnamed, unnamed_reading, plain_statement, no-insn, not-map-line, not-version-line, added, added_row, added_version, is_start}
+use Rattle.assembler.proofs.PlainTexts.{unnamed, unnamed_reading, plain_statement, no_insn-some, not-map-line, not-version-line, added, added_row, added_version, is_start}
 use Rattle.assembler.proofs.PlainTexts as plain
 
 -- the part of it that the simpler reading has: all but the spans, the labels and the uses of names
@@ -60,13 +60,13 @@ never final h = cc
 
 labelled : (x : Word) (ts : List Token) (i : Insn)
     → plain_statement (Named x ∷ Signed sign.Colon ∷ ts) ≡ Some i → ⊥
-unfolding statement_of
+unfolding reading_of
 labelled word.Exit ts i h =
     let more : (length (Named word.Exit ∷ Signed sign.Colon ∷ ts) == 1) ≡ false =
     ne_eqb (length (Named word.Exit ∷ Signed sign.Colon ∷ ts)) 1 (λ e. omega (arith, e)) in
-    no-insn i (sym (ap
+    no_insn-some i (sym (ap
     (λ (b : Bool). unnamed_reading (keep b (record { insn = Exit; name = None }))) more) ∙ h)
-labelled x ts i h = no-insn i h
+labelled x ts i h = no_insn-some i h
 
 not-labelled : (ts : List Token) (i : Insn) → plain_statement ts ≡ Some i → label_length ts ≡ 0
 not-labelled [] i h = refl
@@ -89,11 +89,11 @@ plainly i = Ok (record { insn = i; name = None })
 named-not : (i : Insn) (name : Option ℕ) (j : Insn) → unnamed i name ≡ Some j
     → (let r : Result Reading Wrong = Ok (record { insn = i; name = name }) in r) ≡ plainly j
 named-not i None j h = ap plainly (same_insn i j h)
-named-not i (Some k) j h = absurd (no-insn j h)
+named-not i (Some k) j h = absurd (no_insn-some j h)
 
 read-plainly : (r : Result Reading Wrong) (i : Insn) → unnamed_reading r ≡ Some i → r ≡ plainly i
 read-plainly (Ok r) i h = named-not r.insn r.name i h
-read-plainly (Err wrong) i h = absurd (no-insn i h)
+read-plainly (Err wrong) i h = absurd (no_insn-some i h)
 
 -- the end of a statement without a label, whose tokens were read with this result
 abbrev said_in : ReadSoFar → Result Statement Wrong → Result ReadSoFar Refusal
@@ -116,18 +116,18 @@ at_end-behind : (s : ReadSoFar) (i : Insn) → begins_version_line (slice_get s.
     → (length s.tokens == 0) ≡ false → plain_statement s.tokens ≡ Some i
     → objection_to_load s.maps i ≡ None → has_room (s.insns ++ i ∷ []) ≡ true
     → at_end_behind s 0 ≡ Ok (with_one s i)
-at_end-behind s i other more e allowed room =
+at_end-behind s i other more e allowed fits =
     let r : Reading = record { insn = i; name = None } in
     ap (λ (b : Bool). said_in s (if b then version_line s.tokens else spelled s.tokens)) other
     ∙ ap (λ (b : Bool). said_in s
     (if b then Ok Empty
     else if begins_map_line (slice_get s.tokens 0) then (map_line s.tokens >>= λ row. Ok (Row row))
-    else (statement_of s.tokens >>= λ q. Ok (Instruction q)))) more
+    else (reading_of s.tokens >>= λ q. Ok (Instruction q)))) more
     ∙ ap (λ (b : Bool). said_in s
     (if b then (map_line s.tokens >>= λ row. Ok (Row row))
-    else (statement_of s.tokens >>= λ q. Ok (Instruction q)))) (not-map-line s.tokens i e)
+    else (reading_of s.tokens >>= λ q. Ok (Instruction q)))) (not-map-line s.tokens i e)
     ∙ ap (λ (o : Result Reading Wrong). said_in s (o >>= λ q. Ok (Instruction q)))
-    (read-plainly (statement_of s.tokens) i e)
+    (read-plainly (reading_of s.tokens) i e)
     ∙ ap (λ o. unless_refused s 0 o >>= λ u. ended s 0 (Instruction r)) allowed
     ∙ ap (λ (b : Bool). refused_at (begins_at s)
     (if b then Ok (s.insns ++ i ∷ []) else Err SlotCount)
@@ -139,7 +139,7 @@ at_end-behind s i other more e allowed room =
       insns = insns;
       labels = s.labels;
       uses = s.uses;
-    })) room
+    })) fits
 
 added-agrees : (s : ReadSoFar) (i : Insn) (o : Option Objection) (room : Bool)
     (final : plain.StatementSoFar) → objection_to_load s.maps i ≡ o
@@ -207,19 +207,19 @@ row-behind : (s : ReadSoFar) (row : MapDef) → begins_version_line (slice_get s
     → (length s.tokens == 0) ≡ false → begins_map_line (slice_get s.tokens 0) ≡ true
     → map_line s.tokens ≡ found row → takes_row s.insns s.maps row ≡ true
     → at_end_behind s 0 ≡ Ok (with_row s row)
-row-behind s row other more line e taken =
+row-behind s row other more line e fits =
     ap (λ (b : Bool). said_in s (if b then version_line s.tokens else spelled s.tokens)) other
     ∙ ap (λ (b : Bool). said_in s
     (if b then Ok Empty
     else if begins_map_line (slice_get s.tokens 0) then (map_line s.tokens >>= λ row. Ok (Row row))
-    else (statement_of s.tokens >>= λ q. Ok (Instruction q)))) more
+    else (reading_of s.tokens >>= λ q. Ok (Instruction q)))) more
     ∙ ap (λ (b : Bool). said_in s
     (if b then (map_line s.tokens >>= λ row. Ok (Row row))
-    else (statement_of s.tokens >>= λ q. Ok (Instruction q)))) line
+    else (reading_of s.tokens >>= λ q. Ok (Instruction q)))) line
     ∙ ap (λ (o : Result MapDef Wrong). said_in s (o >>= λ row. Ok (Row row))) e
     ∙ ap (λ (b : Bool). unless_refused s 0
     (if b then None else Some (record { kind = MapLine; token = 0 }))
-    >>= λ u. ended s 0 (Row row)) taken
+    >>= λ u. ended s 0 (Row row)) fits
 
 taken-agrees : (s : ReadSoFar) (row : MapDef) (taken : Bool) (final : plain.StatementSoFar)
     → takes_row s.insns s.maps row ≡ taken → (length s.tokens == 0) ≡ false
@@ -277,8 +277,8 @@ version-behind s line e first =
     >>= λ u. ended s 0 Version) first
 
 first-bare : (s : ReadSoFar) → s.labels ≡ [] → is_start (shadow s).parts ≡ true → is_first s ≡ true
-first-bare s none h =
-    ap (λ (ls : List (List ℕ × ℕ)). length ls == 0 && is_start (shadow s).parts) none ∙ h
+first-bare s unlabelled h =
+    ap (λ (ls : List (List ℕ × ℕ)). length ls == 0 && is_start (shadow s).parts) unlabelled ∙ h
 
 started-agrees : (s : ReadSoFar) (b : Bool) (final : plain.StatementSoFar)
     → is_start (shadow s).parts ≡ b → begins_version_line (slice_get s.tokens 0) ≡ true

@@ -21,9 +21,9 @@ use Rattle.assembler.proofs.PlainReads.{none, version-agrees, same_some, ReadsPl
 
 -- ---- the end of any statement
 
-more-agrees : (s : ReadSoFar) (line : Bool) (final : plain.StatementSoFar)
-    → begins_map_line (slice_get s.tokens 0) ≡ line → (length s.tokens == 0) ≡ false → Bare s
-    → (if line then added_row (shadow s).parts (map_line s.tokens)
+more-agrees : (s : ReadSoFar) (is_map_line : Bool) (final : plain.StatementSoFar)
+    → begins_map_line (slice_get s.tokens 0) ≡ is_map_line → (length s.tokens == 0) ≡ false → Bare s
+    → (if is_map_line then added_row (shadow s).parts (map_line s.tokens)
     else added (shadow s).parts (plain_statement s.tokens)) ≡ Some final
     → ReadsPlainly (at_end s) final
 more-agrees s true final line more unused h =
@@ -31,15 +31,16 @@ more-agrees s true final line more unused h =
 more-agrees s false final line more unused h =
     statement-agrees s (plain_statement s.tokens) final refl more unused h
 
-any-agrees : (s : ReadSoFar) (version : Bool) (final : plain.StatementSoFar)
-    → begins_version_line (slice_get s.tokens 0) ≡ version → (length s.tokens == 0) ≡ false → Bare s
-    → (if version then added_version (shadow s).parts (version_line s.tokens)
+any-agrees : (s : ReadSoFar) (is_version_line : Bool) (final : plain.StatementSoFar)
+    → begins_version_line (slice_get s.tokens 0) ≡ is_version_line
+    → (length s.tokens == 0) ≡ false → Bare s
+    → (if is_version_line then added_version (shadow s).parts (version_line s.tokens)
     else if begins_map_line (slice_get s.tokens 0)
     then added_row (shadow s).parts (map_line s.tokens)
     else added (shadow s).parts (plain_statement s.tokens)) ≡ Some final
     → ReadsPlainly (at_end s) final
-any-agrees s true final version more unused h =
-    version-agrees s (version_line s.tokens) final refl version unused h
+any-agrees s true final line more unused h =
+    version-agrees s (version_line s.tokens) final refl line unused h
 any-agrees s false final version more unused h =
     more-agrees s (begins_map_line (slice_get s.tokens 0)) final refl more unused h
 
@@ -86,13 +87,13 @@ at_end-at (t ∷ ts) v ms ps is ls us final unused h =
     } in
     let more : (length (t ∷ ts) == 0) ≡ false =
     ne_eqb (length (t ∷ ts)) 0 (λ e. omega (arith, e)) in
-    let version : Bool = begins_version_line (slice_get (t ∷ ts) 0) in
-    let line : Bool = begins_map_line (slice_get (t ∷ ts) 0) in
+    let is_version_line : Bool = begins_version_line (slice_get (t ∷ ts) 0) in
+    let is_map_line : Bool = begins_map_line (slice_get (t ∷ ts) 0) in
     let rest : Option plain.StatementSoFar =
-    if version then added_version (shadow s).parts (version_line (t ∷ ts))
-    else if line then added_row (shadow s).parts (map_line (t ∷ ts))
+    if is_version_line then added_version (shadow s).parts (version_line (t ∷ ts))
+    else if is_map_line then added_row (shadow s).parts (map_line (t ∷ ts))
     else added (shadow s).parts (plain_statement (t ∷ ts)) in
-    any-agrees s version final refl more unused
+    any-agrees s is_version_line final refl more unused
     (sym (ap (λ (b : Bool). if b then Some (shadow s) else rest) more) ∙ h)
 
 at_end-agrees : (s : ReadSoFar) (final : plain.StatementSoFar) → Bare s
@@ -103,7 +104,7 @@ at_end-agrees s final unused h =
 -- ---- the rest of a text
 
 abbrev GoesOn : List ℕ → plain.StatementSoFar → Type 0
-GoesOn bs final = (k at : ℕ) (s : ReadSoFar) → Bare s → plain.assembled bs k (shadow s) ≡ Some final
+GoesOn bs final = (k at : ℕ) (s : ReadSoFar) → Bare s → plain.read_rest bs k (shadow s) ≡ Some final
     → ReadsPlainly (read_on bs k at s) final
 
 -- the lexeme at the front is accepted, and then the rest is read
@@ -114,19 +115,19 @@ from_lexeme bs b at s found = found >>= λ (p : Lexeme × ℕ). accept s p.0 (at
 
 end-agrees : (bs : List ℕ) (n at : ℕ) (s : ReadSoFar) (mid : Option plain.StatementSoFar)
     (final : plain.StatementSoFar) → GoesOn bs final → Bare s → plain.at_end (shadow s) ≡ mid
-    → plain.◌>>=◌ mid (λ t. plain.assembled bs n t) ≡ Some final
+    → plain.◌>>=◌ mid (λ t. plain.read_rest bs n t) ≡ Some final
     → ReadsPlainly (at_end s >>= λ t. read_on bs n at t) final
 end-agrees bs n at s None final on unused e h = absurd (never final h)
 end-agrees bs n at s (Some t) final on unused e h =
     let went : ReadsPlainly (at_end s) t = at_end-agrees s t unused e in
     let next : ReadsPlainly (read_on bs n at went.0) final =
-    on n at went.0 went.3 (ap (λ u. plain.assembled bs n u) went.2 ∙ h) in
+    on n at went.0 went.3 (ap (λ u. plain.read_rest bs n u) went.2 ∙ h) in
     subst (λ (r : Result ReadSoFar Refusal). ReadsPlainly r final)
     (sym (ap (λ (r : Result ReadSoFar Refusal). r >>= λ t. read_on bs n at t) went.1)) next
 
 lexeme-agrees : (b : ℕ) (bs : List ℕ) (x : Lexeme) (n at : ℕ) (s : ReadSoFar)
     (final : plain.StatementSoFar) → GoesOn bs final → Bare s
-    → plain.◌>>=◌ (plain.accept (shadow s) x) (λ t. plain.assembled bs (n - 1) t) ≡ Some final
+    → plain.◌>>=◌ (plain.accept (shadow s) x) (λ t. plain.read_rest bs (n - 1) t) ≡ Some final
     → ReadsPlainly (accept s x (at, take n (b ∷ bs)) >>= λ t. read_on bs (n - 1) (at + 1) t) final
 lexeme-agrees b bs Blank n at s final on unused h = on (n - 1) (at + 1) s unused h
 lexeme-agrees b bs End n at s final on unused h =
@@ -149,7 +150,7 @@ found-agrees : (b : ℕ) (bs : List ℕ) (o : Option (Lexeme × ℕ)) (at : ℕ)
     (final : plain.StatementSoFar) → GoesOn bs final → Bare s
     → plain.◌>>=◌ o
     (λ (p : Lexeme × ℕ). plain.◌>>=◌ (plain.accept (shadow s) p.0)
-    (λ t. plain.assembled bs (p.1 - 1) t)) ≡ Some final
+    (λ t. plain.read_rest bs (p.1 - 1) t)) ≡ Some final
     → ReadsPlainly
     (from_lexeme bs b at s
     (ok_or o (record { kind = UnknownByte; offset = at + unknown_at (b ∷ bs) }))) final
@@ -159,9 +160,9 @@ found-agrees b bs (Some p) at s final on unused h =
 
 -- where the simpler reading reaches the end of the text, the other one does too
 pub read-agrees : (bs : List ℕ) (k at : ℕ) (s : ReadSoFar) (final : plain.StatementSoFar) → Bare s
-    → plain.assembled bs k (shadow s) ≡ Some final → ReadsPlainly (read_on bs k at s) final
+    → plain.read_rest bs k (shadow s) ≡ Some final → ReadsPlainly (read_on bs k at s) final
 read-agrees [] k at s final unused h = at_end-agrees s final unused h
 read-agrees (b ∷ bs) (suc k) at s final unused h = read-agrees bs k (at + 1) s final unused h
 read-agrees (b ∷ bs) zero at s final unused h =
     found-agrees b bs (lexeme_at (b ∷ bs)) at s final
-    (λ n offset t none more. read-agrees bs n offset t final none more) unused h
+    (λ n offset t bare more. read-agrees bs n offset t final bare more) unused h

@@ -11,7 +11,7 @@ use Rattle.lexer.specs.Lexing.{lexeme_at}
 use Rattle.assembler.specs.declared.readings.Reading.{Reading}
 use Rattle.assembler.specs.declared.wrong.Wrong.{Wrong}
 use Rattle.isa_model.specs.declared.map_defs.MapDef.{MapDef}
-use Rattle.assembler.specs.Statements.{statement_of, map_line}
+use Rattle.assembler.specs.Statements.{reading_of, map_line}
 use Rattle.assembler.specs.Labelled.{begins_map_line, begins_version_line, version_line}
 use Rattle.assembler.specs.MapTests.{takes_row, objection_to_load}
 use Rattle.assembler.specs.declared.readings.Statement.{Statement}
@@ -40,7 +40,7 @@ unnamed_reading (Err wrong) = None
 
 -- the instruction of a statement without a label and without a name
 abbrev pub plain_statement : List Token → Option Insn
-plain_statement ts = unnamed_reading (statement_of ts)
+plain_statement ts = unnamed_reading (reading_of ts)
 
 -- the version, the map rows and the instructions before a statement
 pub record Parts : Type 0 where
@@ -83,7 +83,7 @@ abbrev pub added_version : Parts → Result Statement Wrong → Option Statement
 added_version ps (Ok Version) = keep (is_start ps) (record { tokens = []; parts = with_version ps })
 added_version ps r = None
 
--- the version, the map rows and the instructions after a statement has ended
+-- what was read once a statement has ended
 abbrev pub at_end : StatementSoFar → Option StatementSoFar
 at_end s =
     if length s.tokens == 0 then Some s
@@ -98,11 +98,11 @@ accept s End = at_end s
 accept s (Solid t) = Some (record { tokens = s.tokens ++ t ∷ []; parts = s.parts })
 
 -- the result of reading the bytes of a text after the first k of them
-abbrev pub assembled : List ℕ → ℕ → StatementSoFar → Option StatementSoFar
-assembled [] k s = at_end s
-assembled (b ∷ bs) (suc k) s = assembled bs k s
-assembled (b ∷ bs) zero s =
-    lexeme_at (b ∷ bs) >>= λ (p : Lexeme × ℕ). accept s p.0 >>= λ t. assembled bs (p.1 - 1) t
+abbrev pub read_rest : List ℕ → ℕ → StatementSoFar → Option StatementSoFar
+read_rest [] k s = at_end s
+read_rest (b ∷ bs) (suc k) s = read_rest bs k s
+read_rest (b ∷ bs) zero s =
+    lexeme_at (b ∷ bs) >>= λ (p : Lexeme × ℕ). accept s p.0 >>= λ t. read_rest bs (p.1 - 1) t
 
 abbrev pub start : StatementSoFar
 start = record { tokens = []; parts = record { version = One; maps = []; insns = [] } }
@@ -112,20 +112,20 @@ start = record { tokens = []; parts = record { version = One; maps = []; insns =
 abbrev no_insn : Option Insn
 no_insn = None
 
-pub no-insn : (i : Insn) → no_insn ≡ Some i → ⊥
-no-insn i h = cc
+pub no_insn-some : (i : Insn) → no_insn ≡ Some i → ⊥
+no_insn-some i h = cc
 
 pub not-map-line : (ts : List Token) (i : Insn) → plain_statement ts ≡ Some i
     → begins_map_line (slice_get ts 0) ≡ false
-unfolding statement_of
+unfolding reading_of
 not-map-line [] i h = refl
-not-map-line (Named word.Map ∷ ts) i h = absurd (no-insn i h)
+not-map-line (Named word.Map ∷ ts) i h = absurd (no_insn-some i h)
 not-map-line (t ∷ ts) i h = refl
 
 -- nor is a version line
 pub not-version-line : (ts : List Token) (i : Insn) → plain_statement ts ≡ Some i
     → begins_version_line (slice_get ts 0) ≡ false
-unfolding statement_of
+unfolding reading_of
 not-version-line [] i h = refl
-not-version-line (Named word.Version ∷ ts) i h = absurd (no-insn i h)
+not-version-line (Named word.Version ∷ ts) i h = absurd (no_insn-some i h)
 not-version-line (t ∷ ts) i h = refl

@@ -19,11 +19,11 @@ use Rattle.lexer.specs.declared.tokens.Token.TheVariants.{Named, Number, Signed}
 use Rattle.assembler.specs.declared.readings.Reading.{Reading}
 use Rattle.assembler.specs.declared.wrong.Wrong.TheVariants.{Form}
 use Rattle.assembler.specs.Operands.{◌>>=◌, keep, token_at, sign_at, atomic_op_of, comparison_of, width_of, word_at, expect_at, memory_at, register_at, operand_at, signed_at, target_at, as_register, as_size, constant_at}
-use Rattle.assembler.specs.Statements.{plain, stored_token, stored, locked, jump, long_jump, is_goto, goto_at, condition, tested, called_word, called, by_word, by_token, statement_of}
+use Rattle.assembler.specs.Statements.{plain, stored_token, stored, locked, jump, long_jump, is_goto, goto_at, condition, tested, called_word, called, by_word, by_token, reading_of}
 use Rattle.assembler.specs.Spells.{changes, compares, reg, IsSigned, memory, IsTarget, Spells}
-use Rattle.assembler.proofs.SpellsTokens.{bind, kept, equal, At, HasTokensAt, whole, HasTokensAt-more, token, signed_at_token, word_at_token, expected, register_in, register, signed, constant, operand}
+use Rattle.assembler.proofs.SpellsTokens.{bind, kept, equal, At, HasTokensAt, whole, HasTokensAt-more, token, sign_at_token, word_at_token, expected, register_in, register, signed, constant, operand}
 use Rattle.assembler.proofs.SpellsParts.{memory_at_tokens, target, atomic_in, comparison_in, width_in, size_in, ends_at}
-use Rattle.assembler.proofs.SpellsReads.{Spells-statement_of}
+use Rattle.assembler.proofs.SpellsReads.{Spells-reading_of}
 use Rattle.assembler.proofs.SpellsRegisters.{SaysSpelled, says, assigned_says}
 
 -- ---- stores
@@ -92,7 +92,7 @@ locked_says ts r first h =
     let (len, same) = ends_at ts (Atomic w o false m.1 q) 13 r last in
     let (s, n, is, t0, t1, t2, t3, t4, t5, t6, t7, t8, t9) = memory_at_tokens ts 1 m front in
     let change : At ts 11 (Signed (changes o)) =
-    signed_at_token ts 11 c found
+    sign_at_token ts 11 c found
     ∙ ap (λ (x : Sign). let t : Option Token = Some (Signed x) in t) (atomic_in c o of_op) in
     let source_at = register ts Full64 12 q source in
     let all =
@@ -161,16 +161,16 @@ condition_says ts w d r first second h =
     let (ys, at_goto, target_is, behind, len) =
     goto_of ts x.1 y t (is_goto y) (word_at_token ts x.1 y there) refl aims in
     let third : At ts 2 (Signed (compares c)) =
-    signed_at_token ts 2 s found
+    sign_at_token ts 2 s found
     ∙ ap (λ (z : Sign). let o : Option Token = Some (Signed z) in o)
     (comparison_in s c of_comparison) in
     let next : x.1 + 1 ≡ suc x.1 = omega arith in
     let rest = HasTokensAt-more ts 3 x.1 xs (Named word.Goto ∷ ys) past tokens_at
     (at_goto, subst (λ i. HasTokensAt ts i ys) next behind) in
-    let size = length-append xs (Named word.Goto ∷ ys) in
+    let lengths = length-append xs (Named word.Goto ∷ ys) in
     let all = whole ts
     (Named word.If ∷ reg w d ∷ Signed (compares c) ∷ (xs ++ Named word.Goto ∷ ys))
-    (first, (second, (third, rest))) (omega (arith, len, past, size)) in
+    (first, (second, (third, rest))) (omega (arith, len, past, lengths)) in
     let same : (let q : Reading = record {
       insn = JumpIf
           (record { width = w; comparison = c; register = d; operand = x.0 }) t.0;
@@ -259,10 +259,10 @@ by_token_says ts (Signed s) r first h = absurd (cc)
 by_token_says ts (Number n) r first h = absurd (cc)
 
 -- the instruction that a statement is read as is the one that it spells
-pub statement_of-Spells : (ts : List Token) (r : Reading) → statement_of ts ≡ Ok r
+pub reading_of-Spells : (ts : List Token) (r : Reading) → reading_of ts ≡ Ok r
     → Spells ts r.insn r.name
-unfolding statement_of
-statement_of-Spells ts r h =
+unfolding reading_of
+reading_of-Spells ts r h =
     let (t, found, rest) = bind (token_at ts 0) (by_token ts) r h in
     by_token_says ts t r (token ts 0 t found) rest
 
@@ -270,8 +270,8 @@ statement_of-Spells ts r h =
 pub Spells-same : (ts : List Token) (i j : Insn) (m n : Option ℕ) → Spells ts i m → Spells ts j n
     → (i ≡ j) × (m ≡ n)
 Spells-same ts i j m n h k =
-    let one = Spells-statement_of ts i m h in
-    let two = Spells-statement_of ts j n k in
+    let one = Spells-reading_of ts i m h in
+    let two = Spells-reading_of ts j n k in
     let same : (let q : Reading = record { insn = i; name = m } in q)
     ≡ (let q : Reading = record { insn = j; name = n } in q) = cc (one, two) in
     (ap (λ (q : Reading). q.insn) same, ap (λ (q : Reading). q.name) same)

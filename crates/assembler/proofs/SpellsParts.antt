@@ -1,4 +1,5 @@
--- Which tokens were read where a place, a target or a name was found.
+-- Which tokens were read where a part of a statement was found that spells a place, a target, the
+-- index of a map, an operation, a size or a width.
 use Rattle.std.proofs.Common.{◌≡◌, ℕ, suc, ◌+◌, ◌-◌, ◌<◌, ◌≤◌, ◌^◌, length, List, [], ◌∷◌, refl, sym, ap, ◌∙◌, subst, inl, inr, arith}
 use Rattle.std.specs.Prelude.{◌≢◌, Bool, Option, Some, None, Ok, Err, true, false, ◌==◌, if◌then◌else◌, slice_get, nat_lt, nat_le, ℤ, pos}
 use Rattle.isa_model.specs.declared.sizes.Width.{Width}
@@ -26,7 +27,7 @@ use Rattle.lexer.specs.declared.tokens.Token.{Token}
 use Rattle.lexer.specs.declared.tokens.Token.TheVariants.{Named, Number, Signed}
 use Rattle.assembler.specs.declared.readings.Reading.{Reading}
 use Rattle.assembler.specs.declared.wrong.Wrong.TheVariants.{Form, Range}
-use Rattle.assembler.specs.Operands.{keep, token_at, number_at, word_at, expect_at, op_of, atomic_op_of, comparison_of, width_of, extension_of, wide_within, signed_at, place_at, memory_at, argument_at, as_size, as_signed, is_name, target_token, target_at, field_at, is_by_index, index_at, by_index_at}
+use Rattle.assembler.specs.Operands.{keep, token_at, number_at, word_at, expect_at, op_of, atomic_op_of, comparison_of, width_of, extension_of, wide_within, signed_at, place_at, memory_at, argument_at, as_size, as_signed_size, is_name, target_token, target_at, field_at, is_by_index, index_at, by_index_at}
 use Rattle.assembler.specs.Statements.{plain, is_wide, wide_at}
 use Rattle.assembler.specs.Spells.{assigns, changes, compares, extends, reg, IsSigned, field, IsTarget}
 use Rattle.assembler.proofs.SpellsTokens.{bind, kept, passed, At, token, number_at_token, word_at_token, expected, signed, based, HasTokensAt, equal, below, within}
@@ -70,7 +71,7 @@ memory_at_tokens ts i m h =
       expected ts (i + 9) sign.Close u7 recloses,
     )
 
--- (P,
+-- (P, for the first argument of a form that is written like a function
 pub argument_at_tokens : (ts : List Token) (i : ℕ) (p : Place) → argument_at ts i ≡ Ok p
     → (s : Sign) × (n : ℕ) × IsSigned (2 ^ 15) s n p.offset
     × At ts i (Signed sign.Open) × At ts (i + 1) (reg Full64 p.base) × At ts (i + 1 + 1) (Signed s)
@@ -154,8 +155,8 @@ target limit ts i x h =
 pub field_at_token : (ts : List Token) (i m : ℕ) → field_at 4294967295 ts i ≡ Ok m
     → (n : ℕ) × At ts i (Number n) × (m ≡ field n)
 field_at_token ts i m h =
-    let (n, number, value) = bind (number_at ts i) _ m h in
-    let same : field n ≡ m = cc (value) in
+    let (n, number, last) = bind (number_at ts i) _ m h in
+    let same : field n ≡ m = cc (last) in
     (n, number_at_token ts i n number, sym same)
 
 -- (n)
@@ -164,10 +165,10 @@ pub index_at_tokens : (ts : List Token) (i m : ℕ) → index_at ts i ≡ Ok m
     × At ts (i + 2) (Signed sign.Close)
 index_at_tokens ts i m h =
     let (u0, opens, h1) = bind (expect_at ts i sign.Open) _ m h in
-    let (k, value, h2) = bind (field_at 4294967295 ts (i + 1)) _ m h1 in
+    let (k, there, h2) = bind (field_at 4294967295 ts (i + 1)) _ m h1 in
     let (u2, closes, last) = bind (expect_at ts (i + 2) sign.Close) _ m h2 in
     let same : k ≡ m = cc (last) in
-    let (n, number, is) = field_at_token ts (i + 1) k value in (
+    let (n, number, is) = field_at_token ts (i + 1) k there in (
       n,
       sym same ∙ is,
       expected ts i sign.Open u0 opens,
@@ -185,8 +186,8 @@ by_index_of : (ts : List Token) (i : ℕ) (x : Word) (b : Bool) (m : ℕ) → At
     × At ts (i + 1 + 1) (Number n) × At ts (i + 1 + 2) (Signed sign.Close)
 by_index_of ts i x false m here is h = absurd (cc)
 by_index_of ts i x true m here is h =
-    let (n, value, opens, number, closes) = index_at_tokens ts (i + 1) m h in
-    (n, value, here ∙ ap (λ (y : Word). some (Named y)) (by_index_word x is), opens, number, closes)
+    let (n, index, opens, number, closes) = index_at_tokens ts (i + 1) m h in
+    (n, index, here ∙ ap (λ (y : Word). some (Named y)) (by_index_word x is), opens, number, closes)
 
 -- map_by_idx(n)
 pub by_index_at_tokens : (ts : List Token) (i m : ℕ) → by_index_at ts i ≡ Ok m
@@ -263,7 +264,7 @@ pub size_in : (x : Word) (size : Size) → as_size x ≡ Ok size → x ≡ word.
 size_in (word.Unsigned q) size h = let same : q ≡ size = cc in ap word.Unsigned same
 size_in x size h = absurd (cc)
 
-pub signed_size_in : (x : Word) (size : SignedSize) → as_signed x ≡ Ok size
+pub signed_size_in : (x : Word) (size : SignedSize) → as_signed_size x ≡ Ok size
     → x ≡ word.SignExtended size
 signed_size_in (word.SignExtended q) size h = let same : q ≡ size = cc in ap word.SignExtended same
 signed_size_in x size h = absurd (cc)

@@ -116,10 +116,10 @@ labelled s None e h = absurd (cc)
 labelled s (Some span) e h =
     elim (split (refused_at span.0 (with_label s.labels span.1 (length (slots s.insns)))) _ e h) [
       | inl twice ↦
-          let kind =
+          let kind_is =
           refused_at-Err span.0 (with_label s.labels span.1 (length (slots s.insns))) e twice in
           subst IsOtherError
-          (fails_first (is_some (slot_in s.labels span.1)) _ DefinedTwice e.kind kind) tt
+          (fails_first (is_some (slot_in s.labels span.1)) _ DefinedTwice e.kind kind_is) tt
       | inr (labels, made, never) ↦ absurd (cc (never))
     ]
 
@@ -136,8 +136,9 @@ ended_refused s k (said.Row row) e h = absurd (cc)
 ended_refused s k (said.Instruction r) e h =
     elim (split (refused_at (begins_at s) (with_insn s.insns r.insn)) _ e h) [
       | inl many ↦
-          let kind = refused_at-Err (begins_at s) (with_insn s.insns r.insn) e many in
-          subst IsOtherError (fails (has_room (s.insns ++ r.insn ∷ [])) _ SlotCount e.kind kind) tt
+          let kind_is = refused_at-Err (begins_at s) (with_insn s.insns r.insn) e many in
+          subst IsOtherError
+          (fails (has_room (s.insns ++ r.insn ∷ [])) _ SlotCount e.kind kind_is) tt
       | inr (insns, made, never) ↦ absurd (cc (never))
     ]
 
@@ -151,19 +152,19 @@ wrong_not s k r x e is h =
 at_end_refused : (s : ReadSoFar) (k : ℕ) (e : Refusal) → SpellsSome k (drop k s.tokens)
     → at_end_behind s k ≡ Err e → IsOtherError e.kind
 at_end_refused s k e spells h =
-    let (read, is) = SpellsSome-spelled_behind k (drop k s.tokens) spells in
+    let (statement, is) = SpellsSome-spelled_behind k (drop k s.tokens) spells in
     elim (split (unless_wrong s k (spelled_behind k (drop k s.tokens))) _ e h) [
-      | inl wrong ↦ absurd (wrong_not s k (spelled_behind k (drop k s.tokens)) read e is wrong)
+      | inl wrong ↦ absurd (wrong_not s k (spelled_behind k (drop k s.tokens)) statement e is wrong)
       | inr (x, found, h1) ↦
           elim (split (unless_refused s k (objection (is_first s) s.insns s.maps x)) _ e h1) [
             | inl failed ↦
-                let (o, here, kind) =
+                let (o, here, kind_is) =
                 refused s k (objection (is_first s) s.insns s.maps x) e failed in
-                subst IsOtherError kind (objected (is_first s) s.insns s.maps x o here)
+                subst IsOtherError kind_is (objected (is_first s) s.insns s.maps x o here)
             | inr (u, allowed, h2) ↦
                 elim (split (if k == 0 then Ok s else named s) _ e h2) [
                   | inl twice ↦ labelled_if s (k == 0) e twice
-                  | inr (v, labels, last) ↦ ended_refused v k x e last
+                  | inr (v, defined, last) ↦ ended_refused v k x e last
                 ]
           ]
     ]
@@ -219,8 +220,8 @@ read_refused (b ∷ bs) zero at s e each h =
     found_at (λ n us. EachStatement IsSpelled bs n us) s.tokens (lexeme_at (b ∷ bs)) each in
     elim (split (next_lexeme at (b ∷ bs)) _ e h) [
       | inl unknown ↦ absurd (lexed (lexeme_at (b ∷ bs)) _ e p found unknown)
-      | inr (q, lexeme, h1) ↦
-          let same : p ≡ q = lexed_as (lexeme_at (b ∷ bs)) _ p q found lexeme in
+      | inr (q, got, h1) ↦
+          let same : p ≡ q = lexed_as (lexeme_at (b ∷ bs)) _ p q found got in
           let there = subst
           (λ (r : Lexeme × ℕ). AtLexeme
           (λ n us. EachStatement IsSpelled bs n us) IsSpelled s.tokens r.0 r.1) same here in
@@ -228,10 +229,10 @@ read_refused (b ∷ bs) zero at s e each h =
             | inl failed ↦
                 accept_refused (λ n us. EachStatement IsSpelled bs n us) s q.0 q.1
                 (at, take q.1 (b ∷ bs)) e there failed
-            | inr (u, took, rest) ↦
+            | inr (u, took, last) ↦
                 read_refused bs (q.1 - 1) (at + 1) u e
                 (accept_left (λ n us. EachStatement IsSpelled bs n us) s q.0 q.1
-                (at, take q.1 (b ∷ bs)) u there took) rest
+                (at, take q.1 (b ∷ bs)) u there took) last
           ]
     ]
 
@@ -266,7 +267,7 @@ resolved_refused slot_of (u ∷ us) is e h =
       | inl failed ↦
           used_refused slot_of u (slice_get is u.index) e.kind
           (put_refused u is (aim_used slot_of u (slice_get is u.index)) e failed)
-      | inr (next, made, rest) ↦ resolved_refused slot_of us next e rest
+      | inr (next, made, last) ↦ resolved_refused slot_of us next e last
     ]
 
 counted : (b : Bool) (p : Program) (e : Refusal)
@@ -299,8 +300,8 @@ pub EachStatement-refused : (text : List ℕ) (e : AsmError) → EachStatement I
     → assembled text ≡ Err e → IsOtherError e.kind
 unfolding assembled
 EachStatement-refused text e each h =
-    let (d, is, kind) = error_of text (program_in text) e h in
-    subst IsOtherError kind (elim (split (read_on text 0 0 start) _ d is) [
+    let (d, is, kind_is) = error_of text (program_in text) e h in
+    subst IsOtherError kind_is (elim (split (read_on text 0 0 start) _ d is) [
       | inl failed ↦ read_refused text 0 0 start d each failed
       | inr (s, read, last) ↦ finished_refused s d last
     ])

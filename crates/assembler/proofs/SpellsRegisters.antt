@@ -24,10 +24,10 @@ use Rattle.lexer.specs.declared.tokens.Token.TheVariants.{Named, Number, Signed}
 use Rattle.assembler.specs.declared.readings.Reading.{Reading}
 use Rattle.assembler.specs.declared.wrong.Wrong.{Wrong}
 use Rattle.assembler.specs.declared.wrong.Wrong.TheVariants.{Form}
-use Rattle.assembler.specs.Operands.{◌>>=◌, token_at, sign_at, op_of, extension_of, number_at, word_at, expect_at, memory_at, argument_at, again_at, register_at, operand_at, index_at, by_index_at, field_at, as_signed, same_register, wide_within}
+use Rattle.assembler.specs.Operands.{◌>>=◌, token_at, sign_at, op_of, extension_of, number_at, word_at, expect_at, memory_at, argument_at, again_at, register_at, operand_at, index_at, by_index_at, field_at, as_signed_size, same_register, wide_within}
 use Rattle.assembler.specs.Statements.{arithmetic, wide_at, wide, negated, extended, load_of, loaded, swapped, exchanged_place, fetched, exchanged, compared, map_loaded, map_value_loaded, moved_word, moved, assigned_by, assigned}
 use Rattle.assembler.specs.Spells.{assigns, extends, reg, IsSigned, place, memory, Spells}
-use Rattle.assembler.proofs.SpellsTokens.{bind, At, HasTokensAt, whole, token, signed_at_token, number_at_token, word_at_token, expected, registers, register, again, operand}
+use Rattle.assembler.proofs.SpellsTokens.{bind, At, HasTokensAt, whole, token, sign_at_token, number_at_token, word_at_token, expected, registers, register, again, operand}
 use Rattle.assembler.proofs.SpellsParts.{memory_at_tokens, argument_at_tokens, field_at_token, index_at_tokens, by_index_at_tokens, op_in, extension_in, signed_size_in, wide_at_token, wide_number, wide_negative, ends_at}
 
 -- the tokens spell the instruction that was read
@@ -62,11 +62,11 @@ wide_says ts Low32 d r first second fourth h = absurd (cc)
 wide_says ts Full64 d r first second fourth h =
     let (k, front, last) = bind (number_at ts 2 >>= wide_within 2 false) _ r h in
     let (n, number, fits) = bind (number_at ts 2) (wide_within 2 false) k front in
-    let (range, value) = wide_number 2 n k fits in
+    let (range, same_number) = wide_number 2 n k fits in
     let (len, same) = ends_at ts (LoadNumber d k) 4 r last in
     let all = whole ts (reg Full64 d ∷ Signed sign.Assign ∷ Number n ∷ Named word.Wide ∷ [])
     (first, (second, (number_at_token ts 2 n number, (fourth, tt)))) len in
-    says ts (LoadNumber d k) r same (refl, (Number n ∷ [], inl (n, refl, range, value), all))
+    says ts (LoadNumber d k) r same (refl, (Number n ∷ [], inl (n, refl, range, same_number), all))
 
 negative_wide_says : (ts : List Token) (w : Width) (d : Reg) (r : Reading) → At ts 0 (reg w d)
     → At ts 1 (Signed sign.Assign) → At ts 2 (Signed sign.Minus) → At ts 4 (Named word.Wide)
@@ -76,13 +76,13 @@ negative_wide_says ts Low32 d r first second third fifth h = absurd (cc)
 negative_wide_says ts Full64 d r first second third fifth h =
     let (k, front, last) = bind (number_at ts 3 >>= wide_within 2 true) _ r h in
     let (n, number, fits) = bind (number_at ts 3) (wide_within 2 true) k front in
-    let (range, value) = wide_negative 2 n k fits in
+    let (range, same_number) = wide_negative 2 n k fits in
     let (len, same) = ends_at ts (LoadNumber d k) 5 r last in
     let all = whole ts
     (reg Full64 d ∷ Signed sign.Assign ∷ Signed sign.Minus ∷ Number n ∷ Named word.Wide ∷ [])
     (first, (second, (third, (number_at_token ts 3 n number, (fifth, tt))))) len in
     says ts (LoadNumber d k) r same
-    (refl, (Signed sign.Minus ∷ Number n ∷ [], inr (n, refl, range, value), all))
+    (refl, (Signed sign.Minus ∷ Number n ∷ [], inr (n, refl, range, same_number), all))
 
 number_says : (ts : List Token) (w : Width) (d : Reg) (r : Reading) → At ts 0 (reg w d)
     → At ts 1 (Signed sign.Assign) → (b : Bool) → wide_at ts 3 ≡ b
@@ -119,9 +119,10 @@ extended_says : (ts : List Token) (w : Width) (d : Reg) (r : Reading) → At ts 
     → SaysSpelled ts r
 unfolding Spells
 extended_says ts w d r first second third h =
-    let (e, front, h1) = bind (word_at ts 3 >>= as_signed >>= extension_of w) _ r h in
-    let (size, sized, extends_it) = bind (word_at ts 3 >>= as_signed) (extension_of w) e front in
-    let (x, found, is_signed) = bind (word_at ts 3) as_signed size sized in
+    let (e, front, h1) = bind (word_at ts 3 >>= as_signed_size >>= extension_of w) _ r h in
+    let (size, sized, extends_it) =
+    bind (word_at ts 3 >>= as_signed_size) (extension_of w) e front in
+    let (x, found, is_signed) = bind (word_at ts 3) as_signed_size size sized in
     let (u, closes, h2) = bind (expect_at ts 4 sign.Close) _ r h1 in
     let (s, source, last) = bind (register_at w ts 5) _ r h2 in
     let (len, same) = ends_at ts (MovSx e d s) 6 r last in
@@ -146,18 +147,18 @@ extended_says ts w d r first second third h =
           ∷ Signed sign.Close ∷ reg v s ∷ []) width all),
     )
 
-swapped_says : (ts : List Token) (order : ByteOrder) (span : SwapWidth) (d : Reg) (r : Reading)
+swapped_says : (ts : List Token) (order : ByteOrder) (bits : SwapWidth) (d : Reg) (r : Reading)
     → At ts 0 (reg Full64 d) → At ts 1 (Signed sign.Assign)
-    → At ts 2 (Named (word.Swapped order span))
-    → swapped order span d ts ≡ Ok r → SaysSpelled ts r
+    → At ts 2 (Named (word.Swapped order bits))
+    → swapped order bits d ts ≡ Ok r → SaysSpelled ts r
 unfolding Spells
-swapped_says ts order span d r first second third h =
+swapped_says ts order bits d r first second third h =
     let (u, front, last) = bind (again_at Full64 d ts 3) _ r h in
-    let (len, same) = ends_at ts (ByteSwap order span d) 4 r last in
+    let (len, same) = ends_at ts (ByteSwap order bits d) 4 r last in
     let all = whole ts
-    (reg Full64 d ∷ Signed sign.Assign ∷ Named (word.Swapped order span) ∷ reg Full64 d ∷ [])
+    (reg Full64 d ∷ Signed sign.Assign ∷ Named (word.Swapped order bits) ∷ reg Full64 d ∷ [])
     (first, (second, (third, (again ts Full64 d 3 u front, tt)))) len in
-    says ts (ByteSwap order span d) r same (refl, all)
+    says ts (ByteSwap order bits d) r same (refl, all)
 
 -- ---- loads
 
@@ -294,11 +295,11 @@ unfolding Spells
 map_loaded_says ts d r first second third h =
     let (m, front, last) = bind (index_at ts 3) _ r h in
     let (len, same) = ends_at ts (LoadMap d m) 6 r last in
-    let (n, value, t0, t1, t2) = index_at_tokens ts 3 m front in
+    let (n, index, t0, t1, t2) = index_at_tokens ts 3 m front in
     let all = whole ts
     (reg Full64 d ∷ Signed sign.Assign ∷ Named word.MapByIndex ∷ Signed sign.Open ∷ Number n
     ∷ Signed sign.Close ∷ []) (first, (second, (third, (t0, (t1, (t2, tt)))))) len in
-    says ts (LoadMap d m) r same (refl, (n, value, all))
+    says ts (LoadMap d m) r same (refl, (n, index, all))
 
 map_value_says : (ts : List Token) (d : Reg) (r : Reading) → At ts 0 (reg Full64 d)
     → At ts 1 (Signed sign.Assign) → At ts 2 (Named word.MapValue) → map_value_loaded d ts ≡ Ok r
@@ -311,8 +312,8 @@ map_value_says ts d r first second third h =
     let (u3, plus, h4) = bind (expect_at ts 9 sign.Plus) _ r h3 in
     let (offset, behind, last) = bind (field_at 4294967295 ts 10) _ r h4 in
     let (len, same) = ends_at ts (LoadMapValue d m offset) 11 r last in
-    let (n, value, t0, t1, t2, t3) = by_index_at_tokens ts 4 m front in
-    let (k, number, far) = field_at_token ts 10 offset behind in
+    let (n, index, t0, t1, t2, t3) = by_index_at_tokens ts 4 m front in
+    let (k, number, offset_is) = field_at_token ts 10 offset behind in
     let fourth = expected ts 3 sign.Open u0 opens in
     let t4 = expected ts 8 sign.Close u2 closes in
     let t5 = expected ts 9 sign.Plus u3 plus in
@@ -321,15 +322,15 @@ map_value_says ts d r first second third h =
     ∷ Named word.MapByIndex ∷ Signed sign.Open ∷ Number n ∷ Signed sign.Close
     ∷ Signed sign.Close ∷ Signed sign.Plus ∷ Number k ∷ [])
     (first, (second, (third, (fourth, (t0, (t1, (t2, (t3, (t4, (t5, (number, tt))))))))))) len in
-    says ts (LoadMapValue d m offset) r same (refl, (n, k, value, far, all))
+    says ts (LoadMapValue d m offset) r same (refl, (n, k, index, offset_is, all))
 
 -- ---- what begins with a register
 
 moved_word_says : (ts : List Token) (w : Width) (d : Reg) (x : Word) (r : Reading)
     → At ts 0 (reg w d) → At ts 1 (Signed sign.Assign) → At ts 2 (Named x)
     → moved_word w d ts x ≡ Ok r → SaysSpelled ts r
-moved_word_says ts Full64 d (word.Swapped order span) r first second third h =
-    swapped_says ts order span d r first second third h
+moved_word_says ts Full64 d (word.Swapped order bits) r first second third h =
+    swapped_says ts order bits d r first second third h
 moved_word_says ts Full64 d (word.Fetch o v) r first second third h =
     fetched_says ts o v d r first second third h
 moved_word_says ts Full64 d (word.Exchange v) r first second third h =
@@ -369,6 +370,6 @@ assigned_says ts w d r first h =
     let (o, front, rest) = bind (sign_at ts 1 >>= op_of) _ r h in
     let (s, found, is) = bind (sign_at ts 1) op_of o front in
     let second : At ts 1 (Signed (assigns o)) =
-    signed_at_token ts 1 s found
+    sign_at_token ts 1 s found
     ∙ ap (λ (x : Sign). let t : Option Token = Some (Signed x) in t) (op_in s o is) in
     assigned_by_says ts o w d r first second rest

@@ -19,14 +19,14 @@ use Rattle.assembler.specs.declared.readings.Statement.TheVariants as said
 use Rattle.assembler.specs.declared.wrong.Wrong.{Wrong}
 use Rattle.assembler.specs.declared.wrong.Wrong.TheVariants.{Form, Range}
 use Rattle.assembler.specs.Operands.{◌>>=◌, number_at, word_at, as_map_type, field_at}
-use Rattle.assembler.specs.Statements.{statement_of, map_line}
+use Rattle.assembler.specs.Statements.{reading_of, map_line}
 use Rattle.assembler.specs.Labelled.{begins_map_line, begins_version_line, version_number, version_line, spelled, spelled_behind, label_length}
 use Rattle.assembler.specs.MapTests.{objection}
 use Rattle.assembler.specs.Assembling.{ReadSoFar, TokenSpan, start, unless_wrong, unless_refused, is_first, named, begins_at, refused_at, with_insn, ended, at_end_behind, accept, next_lexeme, read_on, error_in, program_in, assembled}
 use Rattle.assembler.specs.Spells.{Spells}
 use Rattle.assembler.proofs.SpellsTokens.{bind, kept, passed, equal, At, whole, number_at_token, word_at_token}
-use Rattle.assembler.proofs.SpellsReads.{Spells-statement_of}
-use Rattle.assembler.proofs.SpellsLaws.{statement_of-Spells}
+use Rattle.assembler.proofs.SpellsReads.{Spells-reading_of}
+use Rattle.assembler.proofs.SpellsLaws.{reading_of-Spells}
 
 -- ---- statements
 
@@ -87,8 +87,8 @@ map_type_in x kind h = absurd (cc)
 field_token : (most : ℕ) (ts : List Token) (i m : ℕ) → field_at most ts i ≡ Ok m
     → (n : ℕ) × At ts i (Number n) × (m ≡ limited most n)
 field_token most ts i m h =
-    let (n, number, value) = bind (number_at ts i) _ m h in
-    let same : limited most n ≡ m = cc (value) in
+    let (n, number, last) = bind (number_at ts i) _ m h in
+    let same : limited most n ≡ m = cc (last) in
     (n, number_at_token ts i n number, sym same)
 
 row_spells : (ts : List Token) (row : MapDef) → At ts 0 (Named word.Map) → map_line ts ≡ Ok row
@@ -96,18 +96,18 @@ row_spells : (ts : List Token) (row : MapDef) → At ts 0 (Named word.Map) → m
 row_spells ts row first h =
     let (kind, front, h1) = bind (word_at ts 1 >>= as_map_type) _ row h in
     let (x, found, is) = bind (word_at ts 1) as_map_type kind front in
-    let (key, key_read, h2) = bind (field_at 65535 ts 2) _ row h1 in
-    let (value, value_read, h3) = bind (field_at 4294967295 ts 3) _ row h2 in
+    let (key_size, key_read, h2) = bind (field_at 65535 ts 2) _ row h1 in
+    let (value_size, value_read, h3) = bind (field_at 4294967295 ts 3) _ row h2 in
     let (entries, entries_read, last) = bind (field_at 4294967295 ts 4) _ row h3 in
     let (len, same) = kept (length ts == 5)
     (let r : MapDef = record {
       kind = kind;
-      key_size = key;
-      value_size = value;
+      key_size = key_size;
+      value_size = value_size;
       entries = entries;
     } in r) row last in
-    let (k, key_at, key_is) = field_token 65535 ts 2 key key_read in
-    let (v, value_at, value_is) = field_token 4294967295 ts 3 value value_read in
+    let (k, key_at, key_is) = field_token 65535 ts 2 key_size key_read in
+    let (v, value_at, value_is) = field_token 4294967295 ts 3 value_size value_read in
     let (e, entries_at, entries_is) = field_token 4294967295 ts 4 entries entries_read in
     let second : At ts 1 (Named (word.MapType kind)) =
     word_at_token ts 1 x found
@@ -123,16 +123,16 @@ none_left (t ∷ ts) h =
     let zero : length (t ∷ ts) ≡ 0 = equal (length (t ∷ ts)) 0 h in absurd (omega (arith, zero))
 
 instruction_spells : (skipped : ℕ) (ts : List Token) (s : Statement)
-    → (statement_of ts >>= λ r. let z : Result Statement Wrong = Ok (said.Instruction r) in z)
+    → (reading_of ts >>= λ r. let z : Result Statement Wrong = Ok (said.Instruction r) in z)
     ≡ Ok s → SpellsSome skipped ts
 instruction_spells skipped ts s h =
-    let (r, found, last) = bind (statement_of ts) _ s h in
-    inr (inr (inr (r.insn, r.name, statement_of-Spells ts r found)))
+    let (r, found, last) = bind (reading_of ts) _ s h in
+    inr (inr (inr (r.insn, r.name, reading_of-Spells ts r found)))
 
 line_spells : (skipped : ℕ) (ts : List Token) (s : Statement) (b : Bool)
     → begins_map_line (slice_get ts 0) ≡ b
     → (if b then (map_line ts >>= λ row. let z : Result Statement Wrong = Ok (said.Row row) in z)
-    else (statement_of ts >>= λ r. let z : Result Statement Wrong = Ok (said.Instruction r) in z))
+    else (reading_of ts >>= λ r. let z : Result Statement Wrong = Ok (said.Instruction r) in z))
     ≡ Ok s
     → SpellsSome skipped ts
 line_spells skipped ts s true is h =
@@ -144,7 +144,7 @@ spelled_spells : (skipped : ℕ) (ts : List Token) (s : Statement) (b : Bool) �
     → (if b then Ok said.Empty
     else if begins_map_line (slice_get ts 0)
     then (map_line ts >>= λ row. let z : Result Statement Wrong = Ok (said.Row row) in z)
-    else (statement_of ts >>= λ r. let z : Result Statement Wrong = Ok (said.Instruction r) in z))
+    else (reading_of ts >>= λ r. let z : Result Statement Wrong = Ok (said.Instruction r) in z))
     ≡ Ok s
     → SpellsSome skipped ts
 spelled_spells skipped ts s true is h = inl (none_left ts is)
@@ -210,7 +210,7 @@ at_end_spells s k t h =
 
 -- P holds of the tokens of each statement of a text that begins with this lexeme of n bytes; the
 -- tokens ts of the first statement were read before. `rest` says the same of the text from its
--- second byte on, after as many more bytes as its number says
+-- second byte on, after as many more bytes as its first argument says
 abbrev pub AtLexeme : (ℕ → List Token → Type 0) → (List Token → Type 0) → List Token → Lexeme → ℕ
     → Type 0
 AtLexeme rest P ts Blank n = rest (n - 1) ts
@@ -259,9 +259,9 @@ read_spells [] k at s t h = (at_end_spells s (label_length s.tokens) t h).0
 read_spells (b ∷ bs) (suc k) at s t h = read_spells bs k (at + 1) s t h
 read_spells (b ∷ bs) zero at s t h =
     let (p, front, h1) = bind (next_lexeme at (b ∷ bs)) _ t h in
-    let (u, took, rest) = bind (accept s p.0 (at, take p.1 (b ∷ bs))) _ t h1 in
+    let (u, took, last) = bind (accept s p.0 (at, take p.1 (b ∷ bs))) _ t h1 in
     let found = lexeme_found (lexeme_at (b ∷ bs)) _ p front in
-    let on = read_spells bs (p.1 - 1) (at + 1) u t rest in
+    let on = read_spells bs (p.1 - 1) (at + 1) u t last in
     subst (λ (o : Option (Lexeme × ℕ)). OnLexeme
     (λ n us. EachStatement IsSpelled bs n us) IsSpelled s.tokens o) (sym found)
     (accepted (λ n us. EachStatement IsSpelled bs n us) s p.0 p.1 (at, take p.1 (b ∷ bs)) u took on)
@@ -283,22 +283,22 @@ assembled-EachStatement text p h =
 
 -- ---- what spells something is read
 
-no_version : (ts : List Token) (r : Reading) → statement_of ts ≡ Ok r
+no_version : (ts : List Token) (r : Reading) → reading_of ts ≡ Ok r
     → begins_version_line (slice_get ts 0) ≡ false
-unfolding statement_of
+unfolding reading_of
 no_version [] r h = refl
 no_version (Named word.Version ∷ ts) r h = absurd (cc)
 no_version (t ∷ ts) r h = refl
 
-no_map : (ts : List Token) (r : Reading) → statement_of ts ≡ Ok r
+no_map : (ts : List Token) (r : Reading) → reading_of ts ≡ Ok r
     → begins_map_line (slice_get ts 0) ≡ false
-unfolding statement_of
+unfolding reading_of
 no_map [] r h = refl
 no_map (Named word.Map ∷ ts) r h = absurd (cc)
 no_map (t ∷ ts) r h = refl
 
-not_empty : (ts : List Token) (r : Reading) → statement_of ts ≡ Ok r → (length ts == 0) ≡ false
-unfolding statement_of
+not_empty : (ts : List Token) (r : Reading) → reading_of ts ≡ Ok r → (length ts == 0) ≡ false
+unfolding reading_of
 not_empty [] r h = absurd (cc)
 not_empty (t ∷ ts) r h = ne_eqb (length (t ∷ ts)) 0 (λ e. omega (arith, e))
 
@@ -308,7 +308,7 @@ row_statement r = r >>= λ row. Ok (said.Row row)
 abbrev instruction_statement : Result Reading Wrong → Result Statement Wrong
 instruction_statement r = r >>= λ q. Ok (said.Instruction q)
 
-insn_behind : (skipped : ℕ) (ts : List Token) (r : Reading) → statement_of ts ≡ Ok r
+insn_behind : (skipped : ℕ) (ts : List Token) (r : Reading) → reading_of ts ≡ Ok r
     → spelled_behind skipped ts ≡ Ok (said.Instruction r)
 insn_behind skipped ts r h =
     ap
@@ -316,9 +316,9 @@ insn_behind skipped ts r h =
     (no_version ts r h)
     ∙ ap (λ (b : Bool). if b then Ok said.Empty
     else if begins_map_line (slice_get ts 0) then row_statement (map_line ts)
-    else instruction_statement (statement_of ts)) (not_empty ts r h)
+    else instruction_statement (reading_of ts)) (not_empty ts r h)
     ∙ ap (λ (b : Bool). if b then row_statement (map_line ts)
-    else instruction_statement (statement_of ts))
+    else instruction_statement (reading_of ts))
     (no_map ts r h)
     ∙ ap instruction_statement h
 
@@ -326,7 +326,8 @@ insn_behind skipped ts r h =
 pub SpellsSome-spelled_behind : (skipped : ℕ) (ts : List Token) → SpellsSome skipped ts
     → (s : Statement) × (spelled_behind skipped ts ≡ Ok s)
 SpellsSome-spelled_behind skipped ts (inl none) = (said.Empty, ap (spelled_behind skipped) none)
-SpellsSome-spelled_behind skipped ts (inr (inl (first, is))) = (said.Version, rw (first, is) refl)
+SpellsSome-spelled_behind skipped ts (inr (inl (no_label, is))) =
+    (said.Version, rw (no_label, is) refl)
 SpellsSome-spelled_behind skipped ts (inr (inr (inl (row, (k, v, e, key, value, entries, is))))) = (
   said.Row (record {
     kind = row.kind;
@@ -338,4 +339,4 @@ SpellsSome-spelled_behind skipped ts (inr (inr (inl (row, (k, v, e, key, value, 
   rw is refl,
 )
 SpellsSome-spelled_behind skipped ts (inr (inr (inr (i, name, spells)))) =
-    (said.Instruction _, insn_behind skipped ts _ (Spells-statement_of ts i name spells))
+    (said.Instruction _, insn_behind skipped ts _ (Spells-reading_of ts i name spells))

@@ -77,7 +77,7 @@ whole (t ∷ ts) (x ∷ xs) h e =
 pub HasTokensAt-more : (ts : List Token) (i j : ℕ) (xs ys : List Token) → j ≡ i + length xs
     → HasTokensAt ts i xs → HasTokensAt ts j ys → HasTokensAt ts i (xs ++ ys)
 HasTokensAt-more ts i j [] ys e h k =
-    let at : j ≡ i = omega (arith, e) in subst (λ n. HasTokensAt ts n ys) at k
+    let here : j ≡ i = omega (arith, e) in subst (λ n. HasTokensAt ts n ys) here k
 HasTokensAt-more ts i j (x ∷ xs) ys e h k =
     (h.0, HasTokensAt-more ts (suc i) j xs ys (omega (arith, e)) h.1 k)
 
@@ -109,19 +109,21 @@ word_in (Signed s) x h = absurd (cc)
 abbrev some : Token → Option Token
 some t = Some t
 
-pub signed_at_token : (ts : List Token) (i : ℕ) (s : Sign) → sign_at ts i ≡ Ok s
+pub sign_at_token : (ts : List Token) (i : ℕ) (s : Sign) → sign_at ts i ≡ Ok s
     → At ts i (Signed s)
-signed_at_token ts i s h =
-    let (t, at, is) = bind (token_at ts i) as_sign s h in token ts i t at ∙ ap some (sign_in t s is)
+sign_at_token ts i s h =
+    let (t, found, is) = bind (token_at ts i) as_sign s h in
+    token ts i t found ∙ ap some (sign_in t s is)
 
 pub number_at_token : (ts : List Token) (i n : ℕ) → number_at ts i ≡ Ok n → At ts i (Number n)
 number_at_token ts i n h =
-    let (t, at, is) = bind (token_at ts i) as_number n h in
-    token ts i t at ∙ ap some (number_in t n is)
+    let (t, found, is) = bind (token_at ts i) as_number n h in
+    token ts i t found ∙ ap some (number_in t n is)
 
 pub word_at_token : (ts : List Token) (i : ℕ) (x : Word) → word_at ts i ≡ Ok x → At ts i (Named x)
 word_at_token ts i x h =
-    let (t, at, is) = bind (token_at ts i) as_word x h in token ts i t at ∙ ap some (word_in t x is)
+    let (t, found, is) = bind (token_at ts i) as_word x h in
+    token ts i t found ∙ ap some (word_in t x is)
 
 same_sign : (t s : Sign) → is_sign t s ≡ true → t ≡ s
 same_sign sign.Open sign.Open h = refl
@@ -135,8 +137,8 @@ same_sign t s h = absurd (cc)
 pub expected : (ts : List Token) (i : ℕ) (s : Sign) (u : Unit {0}) → expect_at ts i s ≡ Ok u
     → At ts i (Signed s)
 expected ts i s u h =
-    let (t, at, is) = bind (sign_at ts i) (λ t. keep (is_sign t s) tt) u h in
-    signed_at_token ts i t at
+    let (t, found, is) = bind (sign_at ts i) (λ t. keep (is_sign t s) tt) u h in
+    sign_at_token ts i t found
     ∙ ap (λ (x : Sign). some (Signed x)) (same_sign t s (kept (is_sign t s) tt u is).0)
 
 -- ---- registers
@@ -176,14 +178,14 @@ register_in w x r h = absurd (cc)
 pub register : (ts : List Token) (w : Width) (i : ℕ) (r : Reg) → register_at w ts i ≡ Ok r
     → At ts i (reg w r)
 register ts w i r h =
-    let (x, at, is) = bind (word_at ts i) (as_register w) r h in
-    word_at_token ts i x at ∙ ap (λ (y : Word). some (Named y)) (register_in w x r is)
+    let (x, found, is) = bind (word_at ts i) (as_register w) r h in
+    word_at_token ts i x found ∙ ap (λ (y : Word). some (Named y)) (register_in w x r is)
 
 pub again : (ts : List Token) (w : Width) (r : Reg) (i : ℕ) (u : Unit {0})
     → again_at w r ts i ≡ Ok u → At ts i (reg w r)
 again ts w r i u h =
-    let (s, at, is) = bind (register_at w ts i) (λ s. keep (same_register s r) tt) u h in
-    register ts w i s at
+    let (s, found, is) = bind (register_at w ts i) (λ s. keep (same_register s r) tt) u h in
+    register ts w i s found
     ∙ ap (λ (y : Reg). some (reg w y)) (registers s r (kept (same_register s r) tt u is).0)
 
 -- ---- numbers
@@ -223,11 +225,11 @@ pub signed : (limit : ℕ) (ts : List Token) (i : ℕ) (k : ℤ) → signed_at l
 signed limit ts i k h =
     let (minus, front, rest) = bind (sign_at ts i >>= is_minus)
     (λ minus. number_at ts (i + 1) >>= signed_within limit i minus) k h in
-    let (s, at, is) = bind (sign_at ts i) is_minus minus front in
+    let (s, found, is) = bind (sign_at ts i) is_minus minus front in
     let (n, there, fits) = bind (number_at ts (i + 1)) (signed_within limit i minus) k rest in (
       s,
       n,
-      signed_at_token ts i s at,
+      sign_at_token ts i s found,
       number_at_token ts (i + 1) n there,
       signed_number limit i s minus n k is fits,
     )
@@ -247,34 +249,34 @@ pub constant : (ts : List Token) (i : ℕ) (p : ℤ × ℕ) → constant_at ts i
     → (xs : List Token) × SpellsConstant xs p.0 × HasTokensAt ts i xs × (p.1 ≡ i + length xs)
 constant ts i p h =
     let behind : Bool × ℕ
-    → Result (ℤ × ℕ) Wrong = λ (at : Bool × ℕ). number_at ts at.1 >>= signed_within
-    (2 ^ 31) i at.0 >>= λ k. Ok (k, at.1 + 1) in
-    let (at, front, rest) = bind (token_at ts i >>= number_index i)
-    (λ (at : Bool × ℕ). number_at ts at.1 >>= signed_within (2 ^ 31) i at.0
-    >>= λ k. Ok (k, at.1 + 1)) p h in
-    let (t, here, is) = bind (token_at ts i) (number_index i) at front in
-    let (k, fits, pair) = bind (number_at ts at.1 >>= signed_within (2 ^ 31) i at.0)
-    (λ (k : ℤ). let r : Result (ℤ × ℕ) Wrong = Ok (k, at.1 + 1) in r) p rest in
-    let (n, there, range) = bind (number_at ts at.1) (signed_within (2 ^ 31) i at.0) k fits in
-    let same : (let q : ℤ × ℕ = (k, at.1 + 1) in q) ≡ p = cc (pair) in
-    let value : p.0 ≡ k = ap (λ (q : ℤ × ℕ). q.0) (sym same) in
-    let past : p.1 ≡ at.1 + 1 = ap (λ (q : ℤ × ℕ). q.1) (sym same) in
-    let number = number_at_token ts at.1 n there in
-    elim (index_in i t at is) [
+    → Result (ℤ × ℕ) Wrong = λ (seen : Bool × ℕ). number_at ts seen.1 >>= signed_within
+    (2 ^ 31) i seen.0 >>= λ k. Ok (k, seen.1 + 1) in
+    let (seen, front, rest) = bind (token_at ts i >>= number_index i)
+    (λ (seen : Bool × ℕ). number_at ts seen.1 >>= signed_within (2 ^ 31) i seen.0
+    >>= λ k. Ok (k, seen.1 + 1)) p h in
+    let (t, here, is) = bind (token_at ts i) (number_index i) seen front in
+    let (k, fits, pair) = bind (number_at ts seen.1 >>= signed_within (2 ^ 31) i seen.0)
+    (λ (k : ℤ). let r : Result (ℤ × ℕ) Wrong = Ok (k, seen.1 + 1) in r) p rest in
+    let (n, there, range) = bind (number_at ts seen.1) (signed_within (2 ^ 31) i seen.0) k fits in
+    let same : (let q : ℤ × ℕ = (k, seen.1 + 1) in q) ≡ p = cc (pair) in
+    let number_is : p.0 ≡ k = ap (λ (q : ℤ × ℕ). q.0) (sym same) in
+    let past : p.1 ≡ seen.1 + 1 = ap (λ (q : ℤ × ℕ). q.1) (sym same) in
+    let number = number_at_token ts seen.1 n there in
+    elim (index_in i t seen is) [
       | inl m ↦
           let g =
           positive (2 ^ 31) i n k (subst (λ b. signed_within (2 ^ 31) i b n ≡ Ok k) m.0 range) in (
             Number n ∷ [],
-            inl (n, refl, g.0, value ∙ g.1),
+            inl (n, refl, g.0, number_is ∙ g.1),
             (subst (λ j. At ts j (Number n)) m.1 number, tt),
             omega (arith, past, m.1),
           )
       | inr m ↦
           let g =
           negative (2 ^ 31) i n k (subst (λ b. signed_within (2 ^ 31) i b n ≡ Ok k) m.1 range) in
-          let next : at.1 ≡ suc i = omega (arith, m.2) in (
+          let next : seen.1 ≡ suc i = omega (arith, m.2) in (
             Signed sign.Minus ∷ Number n ∷ [],
-            inr (n, refl, g.0, value ∙ g.1),
+            inr (n, refl, g.0, number_is ∙ g.1),
             (token ts i t here ∙ ap some m.0, (subst (λ j. At ts j (Number n)) next number, tt)),
             omega (arith, past, m.2),
           )

@@ -23,7 +23,7 @@ use Rattle.assembler.specs.Labels.{slot_in}
 use Rattle.assembler.specs.Naming.{resolved}
 use Rattle.assembler.specs.Assembling.{ReadSoFar, finished, program_in}
 use Rattle.assembler.specs.Assembling as text
-use Rattle.assembler.proofs.PlainTexts.{Parts, takes, assembled, has_room, start}
+use Rattle.assembler.proofs.PlainTexts.{Parts, takes, read_rest, has_room, start}
 use Rattle.assembler.proofs.PlainTexts as plain
 use Rattle.assembler.proofs.PlainReads.{shadow}
 use Rattle.assembler.proofs.PlainTextReads.{read-agrees}
@@ -52,31 +52,31 @@ row-taken before rows row h few room =
 
 rows-read : (v : Version) (rows before : List MapDef) (rest : List ℕ) → All IsRow rows
     → length (before ++ rows) ≤ max_maps → sum_by room_of (before ++ rows) ≤ max_map_room
-    → assembled (rows_text rows ++ rest) 0
+    → read_rest (rows_text rows ++ rest) 0
     (draft [] (record { version = v; maps = before; insns = [] }))
-    ≡ assembled rest 0 (draft [] (record { version = v; maps = before ++ rows; insns = [] }))
+    ≡ read_rest rest 0 (draft [] (record { version = v; maps = before ++ rows; insns = [] }))
 rows-read v [] before rest h few room = ap
-    (λ (l : List MapDef). assembled rest 0
+    (λ (l : List MapDef). read_rest rest 0
     (draft [] (record { version = v; maps = l; insns = [] }))) (sym (append-nil before))
 rows-read v (row ∷ rows) before rest h few room =
     let same : (before ++ row ∷ []) ++ rows ≡ before ++ row ∷ rows =
     append_assoc before (row ∷ []) rows in
     let fits : IsRow row = All-head IsRow row rows h in
-    ap (λ bs. assembled bs 0 (draft [] (record { version = v; maps = before; insns = [] })))
+    ap (λ bs. read_rest bs 0 (draft [] (record { version = v; maps = before; insns = [] })))
     (append_assoc (row_line row) (rows_text rows) rest)
     ∙ row-read row (record { version = v; maps = before; insns = [] }) (rows_text rows ++ rest) fits
     (row-taken before rows row fits few room)
     ∙ rows-read v rows (before ++ row ∷ []) rest (All-tail IsRow row rows h) (rw same few)
     (rw same room)
-    ∙ ap (λ (l : List MapDef). assembled rest 0
+    ∙ ap (λ (l : List MapDef). read_rest rest 0
     (draft [] (record { version = v; maps = l; insns = [] }))) same
 
 -- ---- the version line
 
 -- a text that begins with its version's line is read on with that version
 version-read : (v : Version) (rest : List ℕ)
-    → assembled (version_line v ++ rest) 0 start
-    ≡ assembled rest 0 (draft [] (record { version = v; maps = []; insns = [] }))
+    → read_rest (version_line v ++ rest) 0 start
+    ≡ read_rest rest 0 (draft [] (record { version = v; maps = []; insns = [] }))
 version-read One rest = refl
 version-read Two rest = refl
 
@@ -99,18 +99,18 @@ taken : (v : Version) (maps : List MapDef) (before is : List Insn) (i : Insn) �
 taken v maps before is i named all =
     let there : is_none (objection_to_load maps i) ≡ true =
     objection_to_load-NamesRows maps i named in
-    let room : has_room (before ++ i ∷ []) ≡ true = room-before (before ++ i ∷ []) is all in
-    rw (there, room) refl
+    let fits : has_room (before ++ i ∷ []) ≡ true = room-before (before ++ i ∷ []) is all in
+    rw (there, fits) refl
 
 code-read : (v : Version) (maps : List MapDef) (is before : List Insn) → AllFit is
     → All (NamesRows maps) is → length (slots (before ++ is)) ≤ max_slots
-    → assembled (code_text is) 0 (draft [] (parts_of v maps before))
+    → read_rest (code_text is) 0 (draft [] (parts_of v maps before))
     ≡ Some (draft [] (parts_of v maps (before ++ is)))
-code-read v maps [] before h named room =
+code-read v maps [] before h named few =
     ap (λ (l : List Insn). Some (draft [] (parts_of v maps l))) (sym (append-nil before))
-code-read v maps (i ∷ is) before h named room =
+code-read v maps (i ∷ is) before h named few =
     let same : (before ++ i ∷ []) ++ is ≡ before ++ i ∷ is = append_assoc before (i ∷ []) is in
-    let all : length (slots ((before ++ i ∷ []) ++ is)) ≤ max_slots = rw same room in
+    let all : length (slots ((before ++ i ∷ []) ++ is)) ≤ max_slots = rw same few in
     line-read i (parts_of v maps before) (code_text is) h.0
     (taken v maps before is i (All-head (NamesRows maps) i is named) all)
     ∙ code-read v maps is (before ++ i ∷ []) h.1 (All-tail (NamesRows maps) i is named) all
@@ -129,7 +129,7 @@ image-again p h =
     ap (λ xs. let q : Program = record p { insns = xs } in q) (slots-instructions p.insns h.code)
 
 pub text-read : (p : Program) → IsImage p
-    → assembled (canonical_text p) 0 start
+    → read_rest (canonical_text p) 0 start
     ≡ Some (draft [] (parts_of p.version p.maps (instructions p.insns)))
 unfolding canonical_text
 text-read p h =

@@ -37,7 +37,7 @@ use Rattle.lexer.specs.declared.tokens.Token.TheVariants.{Named, Number, Signed}
 use Rattle.lexer.specs.declared.tokens.Lexeme.TheVariants.{Solid}
 use Rattle.lexer.specs.Lexing.{is_word_byte, lexeme_at}
 use Rattle.assembler.specs.Spells.{assigns, changes, compares, extends}
-use Rattle.assembler.proofs.PlainTexts.{Parts, StatementSoFar, assembled}
+use Rattle.assembler.proofs.PlainTexts.{Parts, StatementSoFar, read_rest}
 use Rattle.assembler.proofs.FrontTokens.{token}
 use Rattle.assembler.proofs.Digits.{decimal-read, no-equals}
 
@@ -79,41 +79,41 @@ some-letters Full64 r = omega arith
 
 pub reg-read : (w : Width) (r : Reg) (c : ℕ) (rest : List ℕ) (ts : List Token) (ps : Parts)
     → is_word_byte c ≡ false
-    → assembled (reg_text w r ++ c ∷ rest) 0 (draft ts ps)
-    ≡ assembled (c ∷ rest) 0 (draft (ts ++ Named (word.Register w r) ∷ []) ps)
+    → read_rest (reg_text w r ++ c ∷ rest) 0 (draft ts ps)
+    ≡ read_rest (c ∷ rest) 0 (draft (ts ++ Named (word.Register w r) ∷ []) ps)
 reg-read w r c rest ts ps h = token (reg_text w r) (c ∷ rest) (Named (word.Register w r))
     (draft ts ps) (reg-lexeme w r c rest h) (some-letters w r)
 
 -- ---- other words
 
 pub size-read : (size : Size) (rest : List ℕ) (ts : List Token) (ps : Parts)
-    → assembled (size_text size ++ 32 ∷ rest) 0 (draft ts ps)
-    ≡ assembled (32 ∷ rest) 0 (draft (ts ++ Named (word.Unsigned size) ∷ []) ps)
+    → read_rest (size_text size ++ 32 ∷ rest) 0 (draft ts ps)
+    ≡ read_rest (32 ∷ rest) 0 (draft (ts ++ Named (word.Unsigned size) ∷ []) ps)
 size-read U8 rest ts ps = refl
 size-read U16 rest ts ps = refl
 size-read U32 rest ts ps = refl
 size-read U64 rest ts ps = refl
 
 pub signed_size-read : (size : SignedSize) (rest : List ℕ) (ts : List Token) (ps : Parts)
-    → assembled (signed_text size ++ 32 ∷ rest) 0 (draft ts ps)
-    ≡ assembled (32 ∷ rest) 0 (draft (ts ++ Named (word.SignExtended size) ∷ []) ps)
+    → read_rest (signed_text size ++ 32 ∷ rest) 0 (draft ts ps)
+    ≡ read_rest (32 ∷ rest) 0 (draft (ts ++ Named (word.SignExtended size) ∷ []) ps)
 signed_size-read S8 rest ts ps = refl
 signed_size-read S16 rest ts ps = refl
 signed_size-read S32 rest ts ps = refl
 
 pub extension-read : (e : Extension) (rest : List ℕ) (ts : List Token) (ps : Parts)
-    → assembled (extension_text e ++ 41 ∷ rest) 0 (draft ts ps)
-    ≡ assembled (41 ∷ rest) 0 (draft (ts ++ Named (word.SignExtended (extends e).1) ∷ []) ps)
+    → read_rest (extension_text e ++ 41 ∷ rest) 0 (draft ts ps)
+    ≡ read_rest (41 ∷ rest) 0 (draft (ts ++ Named (word.SignExtended (extends e).1) ∷ []) ps)
 extension-read Low8 rest ts ps = refl
 extension-read Low16 rest ts ps = refl
 extension-read Full8 rest ts ps = refl
 extension-read Full16 rest ts ps = refl
 extension-read Full32 rest ts ps = refl
 
-pub swap-read : (order : ByteOrder) (span : SwapWidth) (rest : List ℕ) (ts : List Token)
+pub swap-read : (order : ByteOrder) (bits : SwapWidth) (rest : List ℕ) (ts : List Token)
     (ps : Parts)
-    → assembled (order_text order ++ (span_text span ++ 32 ∷ rest)) 0 (draft ts ps)
-    ≡ assembled (32 ∷ rest) 0 (draft (ts ++ Named (word.Swapped order span) ∷ []) ps)
+    → read_rest (order_text order ++ (span_text bits ++ 32 ∷ rest)) 0 (draft ts ps)
+    ≡ read_rest (32 ∷ rest) 0 (draft (ts ++ Named (word.Swapped order bits) ∷ []) ps)
 swap-read Little B16 rest ts ps = refl
 swap-read Little B32 rest ts ps = refl
 swap-read Little B64 rest ts ps = refl
@@ -125,8 +125,8 @@ swap-read Swap B32 rest ts ps = refl
 swap-read Swap B64 rest ts ps = refl
 
 pub fetch-read : (o : AtomicOp) (w : Width) (rest : List ℕ) (ts : List Token) (ps : Parts)
-    → assembled (fetch_text o ++ (width_text w ++ 40 ∷ rest)) 0 (draft ts ps)
-    ≡ assembled (40 ∷ rest) 0 (draft (ts ++ Named (word.Fetch o w) ∷ []) ps)
+    → read_rest (fetch_text o ++ (width_text w ++ 40 ∷ rest)) 0 (draft ts ps)
+    ≡ read_rest (40 ∷ rest) 0 (draft (ts ++ Named (word.Fetch o w) ∷ []) ps)
 fetch-read atomic.Add Low32 rest ts ps = refl
 fetch-read atomic.Add Full64 rest ts ps = refl
 fetch-read atomic.Or Low32 rest ts ps = refl
@@ -137,28 +137,28 @@ fetch-read atomic.Xor Low32 rest ts ps = refl
 fetch-read atomic.Xor Full64 rest ts ps = refl
 
 pub map_type-read : (kind : MapType) (rest : List ℕ) (ts : List Token) (ps : Parts)
-    → assembled (map_type_text kind ++ 32 ∷ rest) 0 (draft ts ps)
-    ≡ assembled (32 ∷ rest) 0 (draft (ts ++ Named (word.MapType kind) ∷ []) ps)
+    → read_rest (map_type_text kind ++ 32 ∷ rest) 0 (draft ts ps)
+    ≡ read_rest (32 ∷ rest) 0 (draft (ts ++ Named (word.MapType kind) ∷ []) ps)
 map_type-read Hash rest ts ps = refl
 map_type-read Array rest ts ps = refl
 
 pub exchange-read : (w : Width) (rest : List ℕ) (ts : List Token) (ps : Parts)
-    → assembled (codes "xchg_" ++ (width_text w ++ 40 ∷ rest)) 0 (draft ts ps)
-    ≡ assembled (40 ∷ rest) 0 (draft (ts ++ Named (word.Exchange w) ∷ []) ps)
+    → read_rest (codes "xchg_" ++ (width_text w ++ 40 ∷ rest)) 0 (draft ts ps)
+    ≡ read_rest (40 ∷ rest) 0 (draft (ts ++ Named (word.Exchange w) ∷ []) ps)
 exchange-read Low32 rest ts ps = refl
 exchange-read Full64 rest ts ps = refl
 
 pub compare-read : (w : Width) (rest : List ℕ) (ts : List Token) (ps : Parts)
-    → assembled (codes "cmpxchg_" ++ (width_text w ++ 40 ∷ rest)) 0 (draft ts ps)
-    ≡ assembled (40 ∷ rest) 0 (draft (ts ++ Named (word.CompareExchange w) ∷ []) ps)
+    → read_rest (codes "cmpxchg_" ++ (width_text w ++ 40 ∷ rest)) 0 (draft ts ps)
+    ≡ read_rest (40 ∷ rest) 0 (draft (ts ++ Named (word.CompareExchange w) ∷ []) ps)
 compare-read Low32 rest ts ps = refl
 compare-read Full64 rest ts ps = refl
 
 -- ---- signs
 
 pub op-read : (o : AluOp) (rest : List ℕ) (ts : List Token) (ps : Parts)
-    → assembled (op_text o ++ 32 ∷ rest) 0 (draft ts ps)
-    ≡ assembled (32 ∷ rest) 0 (draft (ts ++ Signed (assigns o) ∷ []) ps)
+    → read_rest (op_text o ++ 32 ∷ rest) 0 (draft ts ps)
+    ≡ read_rest (32 ∷ rest) 0 (draft (ts ++ Signed (assigns o) ∷ []) ps)
 op-read op.Mov rest ts ps = refl
 op-read op.Add rest ts ps = refl
 op-read op.Sub rest ts ps = refl
@@ -175,16 +175,16 @@ op-read op.Xor rest ts ps = refl
 op-read op.Arsh rest ts ps = refl
 
 pub atomic-read : (o : AtomicOp) (rest : List ℕ) (ts : List Token) (ps : Parts)
-    → assembled (atomic_text o ++ 32 ∷ rest) 0 (draft ts ps)
-    ≡ assembled (32 ∷ rest) 0 (draft (ts ++ Signed (changes o) ∷ []) ps)
+    → read_rest (atomic_text o ++ 32 ∷ rest) 0 (draft ts ps)
+    ≡ read_rest (32 ∷ rest) 0 (draft (ts ++ Signed (changes o) ∷ []) ps)
 atomic-read atomic.Add rest ts ps = refl
 atomic-read atomic.Or rest ts ps = refl
 atomic-read atomic.And rest ts ps = refl
 atomic-read atomic.Xor rest ts ps = refl
 
 pub comparison-read : (c : Comparison) (rest : List ℕ) (ts : List Token) (ps : Parts)
-    → assembled (comparison_text c ++ 32 ∷ rest) 0 (draft ts ps)
-    ≡ assembled (32 ∷ rest) 0 (draft (ts ++ Signed (compares c) ∷ []) ps)
+    → read_rest (comparison_text c ++ 32 ∷ rest) 0 (draft ts ps)
+    ≡ read_rest (32 ∷ rest) 0 (draft (ts ++ Signed (compares c) ∷ []) ps)
 comparison-read comparison.Equal rest ts ps = refl
 comparison-read comparison.NotEqual rest ts ps = refl
 comparison-read comparison.Greater rest ts ps = refl
@@ -199,8 +199,8 @@ comparison-read comparison.SignedLessEqual rest ts ps = refl
 
 -- a minus before a register
 pub negative-read : (w : Width) (r : Reg) (rest : List ℕ) (ts : List Token) (ps : Parts)
-    → assembled (45 ∷ (reg_text w r ++ rest)) 0 (draft ts ps)
-    ≡ assembled (reg_text w r ++ rest) 0 (draft (ts ++ Signed sign.Minus ∷ []) ps)
+    → read_rest (45 ∷ (reg_text w r ++ rest)) 0 (draft ts ps)
+    ≡ read_rest (reg_text w r ++ rest) 0 (draft (ts ++ Signed sign.Minus ∷ []) ps)
 negative-read Low32 r rest ts ps = refl
 negative-read Full64 r rest ts ps = refl
 
@@ -223,34 +223,34 @@ place_tokens p = Named (word.Register Full64 p.base) ∷ signed_tokens p.offset
 
 -- two tokens, one after the other
 two : (bs : List ℕ) (ts : List Token) (a b : Token) (ps : Parts)
-    → assembled bs 0 (draft ((ts ++ a ∷ []) ++ b ∷ []) ps)
-    ≡ assembled bs 0 (draft (ts ++ a ∷ b ∷ []) ps)
-two bs ts a b ps = ap (λ us. assembled bs 0 (draft us ps)) (append_assoc ts (a ∷ []) (b ∷ []))
+    → read_rest bs 0 (draft ((ts ++ a ∷ []) ++ b ∷ []) ps)
+    ≡ read_rest bs 0 (draft (ts ++ a ∷ b ∷ []) ps)
+two bs ts a b ps = ap (λ us. read_rest bs 0 (draft us ps)) (append_assoc ts (a ∷ []) (b ∷ []))
 
 minus-one : (n c : ℕ) (rest : List ℕ) (ts : List Token) (ps : Parts) → n < 2 ^ 64 → c < 48
-    → assembled (45 ∷ (decimal n ++ c ∷ rest)) 0 (draft ts ps)
-    ≡ assembled (decimal n ++ c ∷ rest) 0 (draft (ts ++ Signed sign.Minus ∷ []) ps)
+    → read_rest (45 ∷ (decimal n ++ c ∷ rest)) 0 (draft ts ps)
+    ≡ read_rest (decimal n ++ c ∷ rest) 0 (draft (ts ++ Signed sign.Minus ∷ []) ps)
 minus-one n c rest ts ps small low =
     let t : (slice_index (decimal n ++ c ∷ rest) 0 == 61) ≡ false = no-equals n c rest small low in
     rw t refl
 
 plus-one : (n c : ℕ) (rest : List ℕ) (ts : List Token) (ps : Parts) → n < 2 ^ 64 → c < 48
-    → assembled (43 ∷ (decimal n ++ c ∷ rest)) 0 (draft ts ps)
-    ≡ assembled (decimal n ++ c ∷ rest) 0 (draft (ts ++ Signed sign.Plus ∷ []) ps)
+    → read_rest (43 ∷ (decimal n ++ c ∷ rest)) 0 (draft ts ps)
+    ≡ read_rest (decimal n ++ c ∷ rest) 0 (draft (ts ++ Signed sign.Plus ∷ []) ps)
 plus-one n c rest ts ps small low =
     let t : (slice_index (decimal n ++ c ∷ rest) 0 == 61) ≡ false = no-equals n c rest small low in
     rw t refl
 
 signed-number : (n c : ℕ) (t : Token) (rest : List ℕ) (ts : List Token) (ps : Parts) → n < 2 ^ 64
-    → c < 48 → assembled (decimal n ++ c ∷ rest) 0 (draft (ts ++ t ∷ []) ps)
-    ≡ assembled (c ∷ rest) 0 (draft (ts ++ t ∷ Number n ∷ []) ps)
+    → c < 48 → read_rest (decimal n ++ c ∷ rest) 0 (draft (ts ++ t ∷ []) ps)
+    ≡ read_rest (c ∷ rest) 0 (draft (ts ++ t ∷ Number n ∷ []) ps)
 signed-number n c t rest ts ps small low =
     decimal-read n c rest (draft (ts ++ t ∷ []) ps) small low ∙ two (c ∷ rest) ts t (Number n) ps
 
 pub distance-read : (by : ℤ) (c : ℕ) (rest : List ℕ) (ts : List Token) (ps : Parts)
     → FitsSigned w32 by → c < 48
-    → assembled (distance_text by ++ c ∷ rest) 0 (draft ts ps)
-    ≡ assembled (c ∷ rest) 0 (draft (ts ++ signed_tokens by) ps)
+    → read_rest (distance_text by ++ c ∷ rest) 0 (draft ts ps)
+    ≡ read_rest (c ∷ rest) 0 (draft (ts ++ signed_tokens by) ps)
 distance-read (pos n) c rest ts ps h low = plus-one n c rest ts ps (omega (arith, h)) low
     ∙ signed-number n c (Signed sign.Plus) rest ts ps (omega (arith, h)) low
 distance-read (negsuc n) c rest ts ps h low =
@@ -258,16 +258,16 @@ distance-read (negsuc n) c rest ts ps h low =
     ∙ signed-number (suc n) c (Signed sign.Minus) rest ts ps (omega (arith, h)) low
 
 pub near-read : (by : ℤ) (c : ℕ) (rest : List ℕ) (ts : List Token) (ps : Parts) → FitsSigned w16 by
-    → c < 48 → assembled (distance_text by ++ c ∷ rest) 0 (draft ts ps)
-    ≡ assembled (c ∷ rest) 0 (draft (ts ++ signed_tokens by) ps)
+    → c < 48 → read_rest (distance_text by ++ c ∷ rest) 0 (draft ts ps)
+    ≡ read_rest (c ∷ rest) 0 (draft (ts ++ signed_tokens by) ps)
 near-read (pos n) c rest ts ps h low = plus-one n c rest ts ps (omega (arith, h)) low
     ∙ signed-number n c (Signed sign.Plus) rest ts ps (omega (arith, h)) low
 near-read (negsuc n) c rest ts ps h low = minus-one (suc n) c rest ts ps (omega (arith, h)) low
     ∙ signed-number (suc n) c (Signed sign.Minus) rest ts ps (omega (arith, h)) low
 
 offset-read : (by : ℤ) (c : ℕ) (rest : List ℕ) (ts : List Token) (ps : Parts) → FitsSigned w16 by
-    → c < 48 → assembled (offset_text by ++ c ∷ rest) 0 (draft ts ps)
-    ≡ assembled (c ∷ rest) 0 (draft (ts ++ signed_tokens by) ps)
+    → c < 48 → read_rest (offset_text by ++ c ∷ rest) 0 (draft ts ps)
+    ≡ read_rest (c ∷ rest) 0 (draft (ts ++ signed_tokens by) ps)
 offset-read (pos n) c rest ts ps h low =
     signed-number n c (Signed sign.Plus) rest ts ps (omega (arith, h)) low
 offset-read (negsuc n) c rest ts ps h low =
@@ -275,8 +275,8 @@ offset-read (negsuc n) c rest ts ps h low =
 
 pub constant-read : (k : ℤ) (c : ℕ) (rest : List ℕ) (ts : List Token) (ps : Parts)
     → FitsSigned w32 k → c < 48
-    → assembled (operand_text Full64 (Constant k) ++ c ∷ rest) 0 (draft ts ps)
-    ≡ assembled (c ∷ rest) 0 (draft (ts ++ constant_tokens k) ps)
+    → read_rest (operand_text Full64 (Constant k) ++ c ∷ rest) 0 (draft ts ps)
+    ≡ read_rest (c ∷ rest) 0 (draft (ts ++ constant_tokens k) ps)
 constant-read (pos n) c rest ts ps h low =
     decimal-read n c rest (draft ts ps) (omega (arith, h)) low
 constant-read (negsuc n) c rest ts ps h low =
@@ -285,19 +285,19 @@ constant-read (negsuc n) c rest ts ps h low =
 
 pub operand-read : (w : Width) (x : Operand) (c : ℕ) (rest : List ℕ) (ts : List Token) (ps : Parts)
     → OperandFits x → c < 48 → is_word_byte c ≡ false
-    → assembled (operand_text w x ++ c ∷ rest) 0 (draft ts ps)
-    ≡ assembled (c ∷ rest) 0 (draft (ts ++ operand_tokens w x) ps)
+    → read_rest (operand_text w x ++ c ∷ rest) 0 (draft ts ps)
+    ≡ read_rest (c ∷ rest) 0 (draft (ts ++ operand_tokens w x) ps)
 operand-read w (Register r) c rest ts ps h low e = reg-read w r c rest ts ps e
 operand-read w (Constant k) c rest ts ps h low e = constant-read k c rest ts ps h low
 
 -- a base and an offset
 pub place-read : (p : Place) (c : ℕ) (rest : List ℕ) (ts : List Token) (ps : Parts)
     → FitsSigned w16 p.offset → c < 48
-    → assembled (reg_text Full64 p.base ++ 32 ∷ (offset_text p.offset ++ c ∷ rest)) 0 (draft ts ps)
-    ≡ assembled (c ∷ rest) 0 (draft (ts ++ place_tokens p) ps)
+    → read_rest (reg_text Full64 p.base ++ 32 ∷ (offset_text p.offset ++ c ∷ rest)) 0 (draft ts ps)
+    ≡ read_rest (c ∷ rest) 0 (draft (ts ++ place_tokens p) ps)
 place-read p c rest ts ps h low =
     let base : Token = Named (word.Register Full64 p.base) in
     reg-read Full64 p.base 32 (offset_text p.offset ++ c ∷ rest) ts ps refl
     ∙ offset-read p.offset c rest (ts ++ base ∷ []) ps h low
-    ∙ ap (λ us. assembled (c ∷ rest) 0 (draft us ps))
+    ∙ ap (λ us. read_rest (c ∷ rest) 0 (draft us ps))
     (append_assoc ts (base ∷ []) (signed_tokens p.offset))

@@ -2,7 +2,7 @@
 use Rattle.std.proofs.Common.{◌≡◌, ◌≤◌, ℕ, false, List, ◌++◌, map, take, drop, length, ap, ◌∙◌, sym, append-nil, arith, slice_range, le_of_eq, ◌-◌}
 use Rattle.std.proofs.lemmas.List.{take_all, drop_all, length-drop}
 use Rattle.lexer.specs.declared.tokens.Token.{Token}
-use Rattle.assembler.specs.Statements.{statement_of}
+use Rattle.assembler.specs.Statements.{reading_of}
 use Rattle.assembler.specs.Labelled.{zeroed, has_form}
 
 -- the first n items are those that were written over a vector's items
@@ -22,7 +22,7 @@ all-zeroed ts n h = ap (λ l. map zeroed l ++ drop n ts) (take_all n ts h)
 
 -- where no tokens are left, no form fits
 pub has_form-none : (ts : List Token) (k : ℕ) → length ts ≤ k → false ≡ has_form (drop k ts)
-unfolding statement_of
+unfolding reading_of
 has_form-none ts k h = sym (ap (λ l. has_form l) (drop_all k ts h))
 
 -- the range up to the end is all tokens from the index on

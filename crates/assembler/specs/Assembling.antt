@@ -42,7 +42,7 @@ pub record ReadSoFar : Type 0 where
   pub version : Version
   pub maps : List MapDef
   pub insns : List Insn
-  -- the names and their slots, and where names are used
+  -- the names that labels define, with their slots, and where names are used
   pub labels : List (List ℕ × ℕ)
   pub uses : List NameUse
 
@@ -71,8 +71,8 @@ abbrev pub refused_at : {A : Type 0} → ℕ → Result A AsmErrorKind → Resul
 refused_at at (Ok x) = Ok x
 refused_at at (Err kind) = Err (record { kind = kind; offset = at })
 
--- why the tokens without the first k are no instruction: a number out of range is the reason if all
--- else fits
+-- why the tokens without the first k spell nothing: because of a number out of range, if all else
+-- fits
 abbrev pub refusal_of : ReadSoFar → ℕ → Wrong → Refusal
 refusal_of s k Form = record { kind = NoForm; offset = begins_at s }
 refusal_of s k (Range at) =
@@ -269,9 +269,10 @@ program_in text = read_on text 0 0 start >>= finished
 unfoldable pub assembled : List ℕ → Result Program AsmError
 assembled text = error_in text (program_in text)
 
--- ---- what calls return
+-- ---- what functions return
 
--- a call returns, by its view, the wanted result or its refusal, or it is out of memory
+-- a function returns what is wanted, as `view` shows it, or refuses as is wanted, or memory runs
+-- out
 abbrev pub IsAsWanted : {A B : Type 0} → (A → B) → Result A Refusal → Result B Refusal → Type 0
 IsAsWanted view (Ok x) wanted = wanted ≡ Ok (view x)
 IsAsWanted view (Err e) wanted = (e.kind ≡ Memory) ⊎ (wanted ≡ Err e)

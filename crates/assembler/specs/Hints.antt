@@ -6,7 +6,7 @@ use Rattle.assembler.specs.declared.errors.AsmErrorKind.TheVariants.{UnknownByte
 
 -- bytes begin with these
 abbrev pub begins : List ℕ → List ℕ → Bool
-begins bs front = nat_le (length front) (length bs) && bytes_eq (take (length front) bs) front
+begins bs part = nat_le (length part) (length bs) && bytes_eq (take (length part) bs) part
 
 -- these occur somewhere in the bytes
 abbrev pub has : List ℕ → List ℕ → Bool
@@ -43,7 +43,7 @@ unknown_byte front back =
     then codes "the sign stands only with = behind it: r1 |= r2, if r1 != 3 goto +1"
     else codes "outside comments stand words, signs, and numbers with no letter behind them"
 
--- for a statement that begins with a word of a jump or a call
+-- for a statement that begins with no register and no *, as a jump and a call
 unfoldable pub no_jump : List ℕ → List ℕ
 no_jump back =
     if begins back (codes "if")

@@ -9,7 +9,7 @@ use Rattle.assembler.specs.declared.readings.Statement.TheVariants.{Empty, Versi
 use Rattle.assembler.specs.declared.wrong.Wrong.{Wrong}
 use Rattle.assembler.specs.declared.wrong.Wrong.TheVariants.{Form, Range}
 use Rattle.assembler.specs.Operands.{◌>>=◌, keep, is_name, number_at}
-use Rattle.assembler.specs.Statements.{statement_of, map_line}
+use Rattle.assembler.specs.Statements.{reading_of, map_line}
 
 -- ---- what follows a label
 
@@ -36,7 +36,7 @@ abbrev pub spelled : List Token → Result Statement Wrong
 spelled ts =
     if length ts == 0 then Ok Empty
     else if begins_map_line (slice_get ts 0) then (map_line ts >>= λ row. Ok (Row row))
-    else (statement_of ts >>= λ r. Ok (Instruction r))
+    else (reading_of ts >>= λ r. Ok (Instruction r))
 
 -- what the tokens of a statement spell, which follow the k tokens of its label; a version line has
 -- no label
@@ -48,7 +48,7 @@ spelled_behind k ts =
 -- whether a form fits them: a version line whatever its number is, or an instruction
 abbrev pub fits_form : List Token → Bool
 fits_form ts =
-    (begins_version_line (slice_get ts 0) && is_ok (version_number ts)) || is_ok (statement_of ts)
+    (begins_version_line (slice_get ts 0) && is_ok (version_number ts)) || is_ok (reading_of ts)
 
 -- the token, with 0 in place of a number: 0 is in all ranges of instructions
 abbrev pub zeroed : Token → Token

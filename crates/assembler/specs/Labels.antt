@@ -1,4 +1,5 @@
--- The names of slots, in the order of their definitions, and what functions that make them return.
+-- The names that labels define, in the order of their definitions, and what functions return that
+-- add a name or an instruction.
 use Rattle.std.specs.Prelude.{◌≡◌, ◌⊎◌, ℕ, if◌then◌else◌, List, [], ◌∷◌, ◌++◌, is_some, Option, Result, Ok, Err}
 use denote.Ref.{Bor}
 use Rattle.std.specs.Map.{lookup}
@@ -6,7 +7,7 @@ use Rattle.std.specs.Str.{bytes_eq}
 use Rattle.assembler.specs.declared.errors.AsmErrorKind.{AsmErrorKind}
 use Rattle.assembler.specs.declared.errors.AsmErrorKind.TheVariants.{DefinedTwice, Memory}
 
--- a name's bytes and its slot
+-- the bytes of a label's name, and its slot
 abbrev pub label_of : Bor (List ℕ) × ℕ → List ℕ × ℕ
 label_of label = (label.0.now, label.1)
 

@@ -1,4 +1,4 @@
--- Map lines, loads of maps and version lines that are not allowed where they are.
+-- Tests of map lines, loads of maps and version lines: which are not allowed where they are.
 use Rattle.std.specs.Prelude.{ℕ, ◌+◌, ◌==◌, ◌&&◌, nat_lt, nat_le, Bool, if◌then◌else◌, List, length, slice_get, sum_by, Option, Some, None}
 use Rattle.isa_model.specs.declared.map_defs.MapDef.{MapDef}
 use Rattle.isa_model.specs.declared.instructions.Insn.{Insn}

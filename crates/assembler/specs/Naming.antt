@@ -1,4 +1,4 @@
--- Jumps to names.
+-- Jumps to names, and calls of them.
 use Rattle.std.specs.Prelude.{ℕ, ◌+◌, ◌^◌, ℤ, pos, negsuc, ◌-ℤ◌, nat_lt, Bool, if◌then◌else◌, List, [], ◌∷◌, slice_get, slice_set, Option, Some, None, Result, Ok, Err}
 use Rattle.isa_model.specs.declared.instructions.Insn.{Insn}
 use Rattle.isa_model.specs.declared.instructions.Insn.TheVariants.{Jump, JumpLong, JumpIf, CallLocal}
@@ -8,8 +8,8 @@ use Rattle.assembler.specs.declared.refusals.Refusal.{Refusal}
 use Rattle.assembler.specs.declared.names.Use.{Use}
 use Rattle.assembler.specs.Operands.{◌>>=◌}
 
--- an instruction that jumps to a name: its index among the instructions, its slot, the name, and
--- the name's offset in the text
+-- an instruction that jumps to a name or calls it: its index among the instructions, its slot, the
+-- name, and the name's offset in the text
 pub record NameUse : Type 0 where
   pub index : ℕ
   pub slot : ℕ
@@ -28,14 +28,14 @@ use_of used = record {
 abbrev pub distance : ℕ → ℕ → ℤ
 distance from to = pos to -ℤ pos (from + 1)
 
--- ---- which jumps to names are refused
+-- ---- which uses of names are refused
 
 -- from -2^15 up to below 2^15
 abbrev pub is_near : ℤ → Bool
 is_near (pos n) = nat_lt n (2 ^ 15)
 is_near (negsuc n) = nat_lt n (2 ^ 15)
 
--- the jump over that distance, unless it has 16 bits for it and that is too far
+-- the jump or call over that distance, unless it has 16 bits for it and that is too far
 abbrev pub aimed : Insn → ℤ → Option Insn
 aimed (Jump old) by = if is_near by then Some (Jump by) else None
 aimed (JumpIf c old) by = if is_near by then Some (JumpIf c by) else None
@@ -52,7 +52,7 @@ abbrev pub aim : Option ℕ → ℕ → Insn → Result Insn AsmErrorKind
 aim None from i = Err NotDefined
 aim (Some to) from i = or_too_far (aimed i (distance from to))
 
--- ---- all jumps to names
+-- ---- all uses of names
 
 abbrev pub aim_used : (List ℕ → Option ℕ) → NameUse → Option Insn → Result Insn AsmErrorKind
 aim_used slot_of u None = Err NotDefined

@@ -125,7 +125,7 @@ comparison_of sign.SignedLess = Ok comparison.SignedLess
 comparison_of sign.SignedLessEqual = Ok comparison.SignedLessEqual
 comparison_of s = Err Form
 
--- the size that an atomic instruction has
+-- the width of an atomic instruction on memory of the size
 abbrev pub width_of : Size → Result Width Wrong
 width_of U32 = Ok Low32
 width_of U64 = Ok Full64
@@ -166,8 +166,8 @@ number_index i t = Err Form
 -- a number for imm, and the index after it
 abbrev pub constant_at : List Token → ℕ → Result (ℤ × ℕ) Wrong
 constant_at ts i =
-    token_at ts i >>= number_index i >>= λ (at : Bool × ℕ). number_at ts at.1 >>= signed_within
-    (2 ^ 31) i at.0 >>= λ k. Ok (k, at.1 + 1)
+    token_at ts i >>= number_index i >>= λ (p : Bool × ℕ). number_at ts p.1 >>= signed_within
+    (2 ^ 31) i p.0 >>= λ k. Ok (k, p.1 + 1)
 
 -- ---- registers and places
 
@@ -211,7 +211,7 @@ memory_at ts i =
     >>= λ d. expect_at ts (i + 5) sign.Open >>= λ e.
     place_at ts (i + 6) >>= λ p. expect_at ts (i + 9) sign.Close >>= λ f. Ok (size, p)
 
--- ( place ,
+-- ( place , as the first argument of a function is written
 abbrev pub argument_at : List Token → ℕ → Result Place Wrong
 argument_at ts i =
     expect_at ts i sign.Open >>= λ a. place_at ts (i + 1) >>= λ p. expect_at ts (i + 4) sign.Comma
@@ -221,11 +221,11 @@ abbrev pub as_size : Word → Result Size Wrong
 as_size (word.Unsigned size) = Ok size
 as_size x = Err Form
 
-abbrev pub as_signed : Word → Result SignedSize Wrong
-as_signed (word.SignExtended size) = Ok size
-as_signed x = Err Form
+abbrev pub as_signed_size : Word → Result SignedSize Wrong
+as_signed_size (word.SignExtended size) = Ok size
+as_signed_size x = Err Form
 
--- ---- targets: a distance, or the index of a name in its place
+-- ---- targets: a distance, or the index of a name instead
 
 -- all words but pc are names
 abbrev pub is_name : Word → Bool

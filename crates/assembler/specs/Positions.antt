@@ -1,4 +1,4 @@
--- Lines and columns, counted from 1; columns in bytes.
+-- Positions in texts: lines and columns, counted from 1; columns in bytes.
 use Rattle.std.specs.Prelude.{ℕ, ◌+◌, ◌==◌, List, take, count_by, reverse}
 use Rattle.std.specs.List.{prefix_len}
 use Rattle.lexer.specs.Lexing.{is_line_byte}

@@ -140,8 +140,8 @@ Spells ts (MovSx e d s) name =
     (name ≡ None)
     × (ts ≡ reg (extends e).0 d ∷ Signed sign.Assign ∷ Signed sign.Open
     ∷ Named (word.SignExtended (extends e).1) ∷ Signed sign.Close ∷ reg (extends e).0 s ∷ [])
-Spells ts (ByteSwap order span d) name = (name ≡ None)
-    × (ts ≡ reg Full64 d ∷ Signed sign.Assign ∷ Named (word.Swapped order span) ∷ reg Full64 d ∷ [])
+Spells ts (ByteSwap order bits d) name = (name ≡ None)
+    × (ts ≡ reg Full64 d ∷ Signed sign.Assign ∷ Named (word.Swapped order bits) ∷ reg Full64 d ∷ [])
 Spells ts (LoadNumber d k) name =
     (name ≡ None) × ((xs : List Token) × IsWide xs k
     × (ts ≡ reg Full64 d ∷ Signed sign.Assign ∷ (xs ++ Named word.Wide ∷ [])))

@@ -24,7 +24,7 @@ use Rattle.lexer.specs.declared.tokens.Token.TheVariants.{Named, Number, Signed}
 use Rattle.assembler.specs.declared.readings.Reading.{Reading}
 use Rattle.assembler.specs.declared.wrong.Wrong.{Wrong}
 use Rattle.assembler.specs.declared.wrong.Wrong.TheVariants.{Form}
-use Rattle.assembler.specs.Operands.{◌>>=◌, keep, token_at, sign_at, number_at, word_at, expect_at, op_of, atomic_op_of, comparison_of, width_of, extension_of, wide_within, signed_at, constant_at, same_register, as_register, register_at, again_at, operand_at, memory_at, argument_at, as_size, as_signed, target_at, field_at, as_map_type, index_at, by_index_at}
+use Rattle.assembler.specs.Operands.{◌>>=◌, keep, token_at, sign_at, number_at, word_at, expect_at, op_of, atomic_op_of, comparison_of, width_of, extension_of, wide_within, signed_at, constant_at, same_register, as_register, register_at, again_at, operand_at, memory_at, argument_at, as_size, as_signed_size, target_at, field_at, as_map_type, index_at, by_index_at}
 
 -- the instruction of a statement without a name that ends before index n
 abbrev pub plain : Insn → List Token → ℕ → Result Reading Wrong
@@ -64,7 +64,7 @@ negated w d ts t = number_or_wide w d ts true 3
 -- ( size ) R
 abbrev pub extended : Width → Reg → List Token → Result Reading Wrong
 extended w d ts =
-    word_at ts 3 >>= as_signed >>= extension_of w >>= λ e. expect_at ts 4 sign.Close >>= λ u.
+    word_at ts 3 >>= as_signed_size >>= extension_of w >>= λ e. expect_at ts 4 sign.Close >>= λ u.
     register_at w ts 5 >>= λ s. plain (insn.MovSx e d s) ts 6
 
 abbrev pub load_of : Reg → Place → Word → Result Insn Wrong
@@ -78,7 +78,7 @@ loaded w d ts = if is_full w
     else Err Form
 
 abbrev pub swapped : ByteOrder → SwapWidth → Reg → List Token → Result Reading Wrong
-swapped order span d ts = again_at Full64 d ts 3 >>= λ u. plain (insn.ByteSwap order span d) ts 4
+swapped order bits d ts = again_at Full64 d ts 3 >>= λ u. plain (insn.ByteSwap order bits d) ts 4
 
 -- (P, R) after a word, where R is the destination again
 abbrev pub exchanged_place : Reg → List Token → Result Place Wrong
@@ -114,7 +114,7 @@ map_value_loaded d ts =
 
 -- what begins with a word after `R =`
 abbrev pub moved_word : Width → Reg → List Token → Word → Result Reading Wrong
-moved_word Full64 d ts (word.Swapped order span) = swapped order span d ts
+moved_word Full64 d ts (word.Swapped order bits) = swapped order bits d ts
 moved_word Full64 d ts (word.Fetch o v) = fetched o v d ts
 moved_word Full64 d ts (word.Exchange v) = exchanged v d ts
 moved_word Full64 d ts (word.CompareExchange v) = compared v d ts
@@ -214,15 +214,13 @@ by_token ts (Signed sign.Star) = stored ts
 by_token ts (Signed s) = Err Form
 by_token ts (Number n) = Err Form
 
-unfoldable pub statement_of : List Token → Result Reading Wrong
-statement_of ts = token_at ts 0 >>= by_token ts
+unfoldable pub reading_of : List Token → Result Reading Wrong
+reading_of ts = token_at ts 0 >>= by_token ts
 
 -- `map`, a map type, a key size, a value size and max_entries
 abbrev pub map_line : List Token → Result MapDef Wrong
 map_line ts =
-    word_at ts 1 >>= as_map_type >>= λ kind. field_at 65535 ts 2 >>= λ key. field_at 4294967295 ts 3
-    >>=
-    λ value.
-    field_at 4294967295 ts 4 >>= λ entries.
+    word_at ts 1 >>= as_map_type >>= λ kind. field_at 65535 ts 2 >>= λ key_size.
+    field_at 4294967295 ts 3 >>= λ value_size. field_at 4294967295 ts 4 >>= λ entries.
     keep (length ts == 5)
-    (record { kind = kind; key_size = key; value_size = value; entries = entries })
+    (record { kind = kind; key_size = key_size; value_size = value_size; entries = entries })

@@ -124,7 +124,7 @@ fn image_of(alloc: Global, text: &[u8]) -> Result<Image, Refusal>
 
 /// The program that the text spells. docs/TEXT.md describes the language.
 ///
-/// Jump targets are not tested, except those that are names.
+/// Targets of jumps and calls are not tested, except those that are names.
 pub fn assemble(alloc: Global, text: &[u8]) -> Result<Image, AsmError>
     // The image is the program that the text spells, and the error says why it spells none, or
     // memory runs out.

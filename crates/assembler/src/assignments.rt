@@ -1,4 +1,4 @@
-//! Statements that begin with a register.
+//! Assignments: statements that begin with a register.
 
 ghost use Rattle.std.specs.Prelude.{◌≡◌, ◌+◌, ◌<◌};
 ghost use Rattle.assembler.specs.Statements.{plain, arithmetic, wide, number_or_wide, negated, extended, load_of, loaded, swapped, exchanged_place, fetched, exchanged, compared, map_loaded, map_value_loaded, moved_word, moved, assigned_by, assigned, wide_at};
@@ -8,8 +8,8 @@ use super::operands::{
     again_at, argument_at, memory_at, operand_at, register_at, same_register, wide_within,
 };
 use super::parts::{
-    as_signed, expect_at, extension_of, is_full, number_at, op_of, sign_at, token_at, token_in,
-    word_at,
+    as_signed_size, expect_at, extension_of, is_full, number_at, op_of, sign_at, token_at,
+    token_in, word_at,
 };
 use super::readings::Reading;
 use super::wrong::Wrong;
@@ -97,7 +97,7 @@ fn negated(width: Width, register: Reg, tokens: &[Token], token: Token) -> Resul
 fn extended(width: Width, register: Reg, tokens: &[Token]) -> Result<Reading, Wrong>
     ensures { result ≡ extended width register tokens.now }
 {
-    let extension = extension_of(width, as_signed(word_at(tokens, 3)?)?)?;
+    let extension = extension_of(width, as_signed_size(word_at(tokens, 3)?)?)?;
     expect_at(tokens, 4, Sign::Close)?;
     let source = register_at(width, tokens, 5)?;
     plain(Insn::MovSx(extension, register, source), tokens, 6)
@@ -128,14 +128,14 @@ fn loaded(width: Width, register: Reg, tokens: &[Token]) -> Result<Reading, Wron
 
 fn swapped(
     order: ByteOrder,
-    span: SwapWidth,
+    bits: SwapWidth,
     register: Reg,
     tokens: &[Token],
 ) -> Result<Reading, Wrong>
-    ensures { result ≡ swapped order span register tokens.now }
+    ensures { result ≡ swapped order bits register tokens.now }
 {
     again_at(Width::Full64, register, tokens, 3)?;
-    plain(Insn::ByteSwap(order, span, register), tokens, 4)
+    plain(Insn::ByteSwap(order, bits, register), tokens, 4)
 }
 
 // `(place, R)` after a word, where R is the destination again.
@@ -203,10 +203,10 @@ fn moved_word(width: Width, register: Reg, tokens: &[Token], word: Word) -> Resu
     ensures { result ≡ moved_word width register tokens.now word }
 {
     match (width, word) {
-        (Width::Full64, Word::Swapped(order, span)) => swapped(order, span, register, tokens),
-        (Width::Full64, Word::Fetch(op, size)) => fetched(op, size, register, tokens),
-        (Width::Full64, Word::Exchange(size)) => exchanged(size, register, tokens),
-        (Width::Full64, Word::CompareExchange(size)) => compared(size, register, tokens),
+        (Width::Full64, Word::Swapped(order, bits)) => swapped(order, bits, register, tokens),
+        (Width::Full64, Word::Fetch(op, bits)) => fetched(op, bits, register, tokens),
+        (Width::Full64, Word::Exchange(bits)) => exchanged(bits, register, tokens),
+        (Width::Full64, Word::CompareExchange(bits)) => compared(bits, register, tokens),
         (Width::Full64, Word::MapByIndex) => map_loaded(register, tokens),
         (Width::Full64, Word::MapValue) => map_value_loaded(register, tokens),
         _ => arithmetic(AluOp::Mov, width, register, tokens),

@@ -265,16 +265,16 @@ impl<'a> Draft<'a> {
         }
     }
 
-    // Why the tokens without the first `skipped` ones are no instruction.
+    // Why the tokens without the first `skipped` ones spell nothing.
     fn refusal(&mut self, wrong: Wrong, skipped: usize) -> Refusal
         ensures { result ≡ refusal_of (progress_of self.old) skipped wrong }
     {
-        let first = Refusal {
+        let no_form = Refusal {
             kind: AsmErrorKind::NoForm,
             offset: self.offset_of(0, 0),
         };
         let Wrong::Range(at) = wrong else {
-            return first;
+            return no_form;
         };
         let offset = self.offset_of(at.saturating_add(skipped), 0);
         if self.fits_without_numbers(skipped) {
@@ -283,7 +283,7 @@ impl<'a> Draft<'a> {
                 offset,
             }
         } else {
-            first
+            no_form
         }
     }
 

@@ -6,10 +6,10 @@ ghost use Rattle.assembler.specs.Hints.{begins, has, begins_operator, names_byte
 use super::errors::AsmErrorKind;
 
 // Whether bytes begin with these.
-fn begins(bytes: &[u8], front: &[u8]) -> bool
-    ensures { result ≡ begins bytes.now front.now }
+fn begins(bytes: &[u8], part: &[u8]) -> bool
+    ensures { result ≡ begins bytes.now part.now }
 {
-    front.len() <= bytes.len() && &bytes[..front.len()] == front
+    part.len() <= bytes.len() && &bytes[..part.len()] == part
 }
 
 // Whether these occur somewhere in the bytes.
@@ -65,7 +65,7 @@ fn unknown_byte(front: &[u8], back: &[u8]) -> &'static str
     }
 }
 
-// The hint for a statement that begins with a word of a jump or a call.
+// The hint for a statement that begins with no register and no `*`, as a jump and a call.
 #[tactic(auto, unfolding(crate::specs::Hints::no_jump))]
 fn no_jump(back: &[u8]) -> &'static str
     ensures { result.now ≡ no_jump back.now }

@@ -1,4 +1,4 @@
-//! Map lines, loads of maps and version lines that are not allowed where they are.
+//! Tests of map lines, loads of maps and version lines: which are not allowed where they are.
 
 ghost use Rattle.std.specs.Prelude.{◌≡◌, ◌+◌, ◌*◌, sum_by, nat_le};
 ghost use Rattle.image.specs.Images.{room_of};

@@ -9,10 +9,10 @@ use super::refusals::Refusal;
 use indexmap::IndexMap;
 use isa_model::Insn;
 
-/// The names with their slots, in the order of their definitions.
+/// The names that labels define, with their slots, in the order of their definitions.
 pub type Labels<'a> = IndexMap<&'a [u8], u16>;
 
-/// An instruction that jumps to a name: where it is, and where the name is in the text.
+/// An instruction that jumps to a name or calls it: where it is, and where the name is in the text.
 #[derive(Clone, Copy)]
 pub struct Use<'a> {
     pub index: usize,
@@ -43,14 +43,14 @@ pub fn define<'a>(labels: &mut Labels<'a>, name: &'a [u8], slot: u16) -> Result<
     }
 }
 
-// The distance of a jump at slot `from` to slot `to`: it counts from the slot after the jump.
+// The distance from a jump or a call at slot `from` to slot `to`: it counts from the slot after it.
 fn distance(from: u16, to: u16) -> i32
     ensures { result ≡ distance from to }
 {
     i32::from(to) - (i32::from(from) + 1)
 }
 
-// The jump with this distance, if its field can hold that.
+// The jump or call with this distance, if its field can hold that.
 #[tactic(auto, using(crate::proofs::NearDistances::nearness))]
 fn aimed(insn: Insn, by: i32) -> Option<Insn>
     ensures { result ≡ aimed insn by }

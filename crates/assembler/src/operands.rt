@@ -94,9 +94,9 @@ pub fn constant_at(tokens: &[Token], i: usize) -> Result<(i32, usize), Wrong>
     ensures value { result ≡ constant_at tokens.now i }
     ensures near { IfOk result (λ k. k.1 ≤ i + 2) }
 {
-    let (minus, at) = number_index(i, token_at(tokens, i)?)?;
-    let number = signed_within(1 << 31, minus, number_at(tokens, at)?, i)?;
-    Ok((number as i32, at + 1))
+    let (minus, index) = number_index(i, token_at(tokens, i)?)?;
+    let number = signed_within(1 << 31, minus, number_at(tokens, index)?, i)?;
+    Ok((number as i32, index + 1))
 }
 
 fn same_width(a: Width, b: Width) -> bool
@@ -200,7 +200,8 @@ pub fn memory_at(tokens: &[Token], i: usize) -> Result<(Word, Place), Wrong>
     Ok((size, place))
 }
 
-/// `(place,`: the five tokens from the index on.
+/// `(place,`, the first argument of a form that is written as a function is: the five tokens from
+/// the index on.
 pub fn argument_at(tokens: &[Token], i: usize) -> Result<Place, Wrong>
     requires { i < 4 }
     ensures { result ≡ argument_at tokens.now i }

@@ -1,7 +1,7 @@
-//! Single tokens of a statement.
+//! The parts of a statement: its single tokens, and what each of them spells.
 
 ghost use Rattle.std.specs.Prelude.{◌≡◌, slice_get};
-ghost use Rattle.assembler.specs.Operands.{token_at, sign_at, number_at, word_at, is_sign, expect_at, is_minus, op_of, atomic_op_of, comparison_of, width_of, extension_of, as_size, as_signed, as_map_type, is_by_index};
+ghost use Rattle.assembler.specs.Operands.{token_at, sign_at, number_at, word_at, is_sign, expect_at, is_minus, op_of, atomic_op_of, comparison_of, width_of, extension_of, as_size, as_signed_size, as_map_type, is_by_index};
 ghost use Rattle.assembler.specs.Statements.{is_full};
 ghost use Rattle.assembler.specs.Labelled.{zeroed};
 
@@ -154,7 +154,7 @@ pub fn comparison_of(sign: Sign) -> Result<Comparison, Wrong>
     }
 }
 
-/// The width of an atomic instruction.
+/// The width of an atomic instruction on memory of the size.
 pub fn width_of(size: Size) -> Result<Width, Wrong>
     ensures { result ≡ width_of size }
 {
@@ -190,8 +190,8 @@ pub fn as_size(word: Word) -> Result<Size, Wrong>
 }
 
 /// The size that the word names, as `s32` does.
-pub fn as_signed(word: Word) -> Result<SignedSize, Wrong>
-    ensures { result ≡ as_signed word }
+pub fn as_signed_size(word: Word) -> Result<SignedSize, Wrong>
+    ensures { result ≡ as_signed_size word }
 {
     match word {
         Word::SignExtended(size) => Ok(size),
@@ -199,7 +199,7 @@ pub fn as_signed(word: Word) -> Result<SignedSize, Wrong>
     }
 }
 
-/// The type of a map line.
+/// The map type that the word names.
 pub fn as_map_type(word: Word) -> Result<MapType, Wrong>
     ensures { result ≡ as_map_type word }
 {

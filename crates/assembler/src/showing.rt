@@ -73,46 +73,46 @@ fn padding_byte(byte: u8) -> u8
 }
 
 // Adds a byte of ASCII.
-fn push_byte(text: &mut String, byte: u8) -> Result<(), AllocError>
+fn push_byte(written: &mut String, byte: u8) -> Result<(), AllocError>
     requires { byte < 128 }
-    ensures { OnOk result (string_bytes text.new ≡ string_bytes text.old ++ (byte ∷ [])) }
+    ensures { OnOk result (string_bytes written.new ≡ string_bytes written.old ++ (byte ∷ [])) }
 {
-    text.push(char::from(byte))
+    written.push(char::from(byte))
 }
 
 // The bytes of a line as they are shown.
 fn shown_bytes(alloc: Global, line: &[u8]) -> Result<String, AllocError>
-    ensures { IfOk result (λ text. string_bytes text ≡ map shown_byte line.now) }
+    ensures { IfOk result (λ written. string_bytes written ≡ map shown_byte line.now) }
 {
-    let mut text = String::new(alloc);
+    let mut written = String::new(alloc);
     for byte in line {
-        push_byte(&mut text, shown_byte(*byte))?;
+        push_byte(&mut written, shown_byte(*byte))?;
     }
-    Ok(text)
+    Ok(written)
 }
 
 // What is written below these bytes, before the caret.
 fn padding(alloc: Global, front: &[u8]) -> Result<String, AllocError>
-    ensures { IfOk result (λ text. string_bytes text ≡ map padding_byte front.now) }
+    ensures { IfOk result (λ written. string_bytes written ≡ map padding_byte front.now) }
 {
-    let mut text = String::new(alloc);
+    let mut written = String::new(alloc);
     for byte in front {
-        push_byte(&mut text, padding_byte(*byte))?;
+        push_byte(&mut written, padding_byte(*byte))?;
     }
-    Ok(text)
+    Ok(written)
 }
 
 // A line, and a line with a caret under the column.
 fn shown_line(alloc: Global, line: &[u8], column: usize) -> Result<String, AllocError>
-    ensures { IfOk result (λ text. string_bytes text ≡ shown_line column line.now) }
+    ensures { IfOk result (λ written. string_bytes written ≡ shown_line column line.now) }
 {
     if line.is_empty() || line.len() > MAX_SHOWN {
         return Ok(String::new(alloc));
     }
     let (front, _) = parted(line, column);
-    let shown = shown_bytes(alloc, line)?;
+    let printable = shown_bytes(alloc, line)?;
     let padding = padding(alloc, front)?;
-    format!(in alloc; "{shown}\n{padding}^\n")
+    format!(in alloc; "{printable}\n{padding}^\n")
 }
 
 /// The message about a text that is refused, after the sentence with line and column: the

@@ -1,7 +1,7 @@
-//! The instruction that a statement's tokens spell.
+//! What a statement's tokens spell: an instruction, a map row or the version.
 
 ghost use Rattle.std.specs.Prelude.{◌≡◌, ◌+◌, ◌<◌};
-ghost use Rattle.assembler.specs.Statements.{stored_token, stored, locked, jump, long_jump, is_goto, goto_at, condition, tested, called_word, called, by_word, by_token, statement_of};
+ghost use Rattle.assembler.specs.Statements.{stored_token, stored, locked, jump, long_jump, is_goto, goto_at, condition, tested, called_word, called, by_word, by_token, reading_of};
 ghost use Rattle.assembler.specs.Labelled.{begins_map_line, spelled, begins_version_line, version_number, version_line, fits_form, spelled_behind};
 
 use super::assignments::{assigned, plain};
@@ -187,9 +187,9 @@ fn by_token(tokens: &[Token], token: Token) -> Result<Reading, Wrong>
 ///
 /// Forms are tried from left to right. `Wrong::Range` is also possible for tokens that fit no form,
 /// whatever their numbers are.
-#[tactic(auto, unfolding(crate::specs::Statements::statement_of))]
-pub fn statement_of(tokens: &[Token]) -> Result<Reading, Wrong>
-    ensures { result ≡ statement_of tokens.now }
+#[tactic(auto, unfolding(crate::specs::Statements::reading_of))]
+pub fn reading_of(tokens: &[Token]) -> Result<Reading, Wrong>
+    ensures { result ≡ reading_of tokens.now }
 {
     by_token(tokens, token_at(tokens, 0)?)
 }
@@ -243,7 +243,7 @@ pub fn fits_form(tokens: &[Token]) -> bool
     ensures { result ≡ fits_form tokens.now }
 {
     (begins_version_line(token_in(tokens, 0)) && version_number(tokens).is_ok())
-        || statement_of(tokens).is_ok()
+        || reading_of(tokens).is_ok()
 }
 
 /// What the tokens of a statement spell that follow its label of `label_tokens` tokens.
@@ -271,6 +271,6 @@ pub fn spelled(tokens: &[Token]) -> Result<Statement, Wrong>
     if begins_map_line(token_in(tokens, 0)) {
         Ok(Statement::Row(map_line(tokens)?))
     } else {
-        Ok(Statement::Instruction(statement_of(tokens)?))
+        Ok(Statement::Instruction(reading_of(tokens)?))
     }
 }

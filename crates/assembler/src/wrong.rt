@@ -11,7 +11,8 @@ pub enum Wrong {
     Range(usize),
 }
 
-/// What is wrong with a map line or with the load of a map, and the token at which it is.
+/// What is wrong with a map line, a version line or the load of a map, and the index of the token
+/// at which it is.
 #[derive(Clone, Copy)]
 pub struct Objection {
     pub kind: AsmErrorKind,

@@ -46,15 +46,15 @@ no_operand a w (Register r) h is = no_number (kind_of a r) h is
 -- a register that is known to hold a number is not r10
 holder : (a : State) (r : Reg) (numbers : Scalar) → Some numbers ≡ numbers_in (kind_of a r)
     → r ≢ R10
-holder a r numbers h = λ end.
+holder a r numbers h = λ same.
     let none : Some numbers ≡ None =
-    subst (λ q. Some numbers ≡ numbers_in (kind_of a q)) end h in
+    subst (λ q. Some numbers ≡ numbers_in (kind_of a q)) same h in
     absurd (cc)
 
 holder_operand : (a : State) (w : Width) (operand : Operand) (numbers : Scalar)
     → AreNumbersOf a w operand (Some numbers) → operand ≢ Register R10
-holder_operand a w (Constant k) numbers h = λ end. absurd (cc)
-holder_operand a w (Register r) numbers h = λ end. holder a r numbers h (cc)
+holder_operand a w (Constant k) numbers h = λ same. absurd (cc)
+holder_operand a w (Register r) numbers h = λ same. holder a r numbers h (cc)
 
 -- a constant in a register, or as an operand
 pub just_number : (k : Kind) (numbers : Scalar) (x : ℕ) → Some numbers ≡ numbers_in k → IsJust k x
@@ -67,7 +67,7 @@ pub just_operand : (a : State) (w : Width) (operand : Operand) (numbers : Scalar
 just_operand a w (Constant k) numbers y h just = rw just h
 just_operand a w (Register r) numbers y h just = just_number (kind_of a r) numbers y h just
 
--- a number of 64 bits has its constant
+-- the numbers known as a constant of 64 bits have it
 pub constant_has : (numbers : Scalar) (x : ℕ) → x < 2 ^ 64 → IsConstant numbers x → Has numbers x
 constant_has numbers x h c =
     (bits_constant_has numbers.bits x h c.0, range_constant_has numbers.range x h c.1)
@@ -99,7 +99,7 @@ operand_narrowed : (p : Program) (e : Assigned) (a : State) (s : Machine.State) 
     → MeansBy p e (with_operand a operand new) s
 operand_narrowed p e a s w (Constant k) new own allowed m = m
 operand_narrowed p e a s w (Register r) new own allowed m =
-    MeansBy-narrow p e a s r (Number new) (λ end. own (ap Register end)) allowed m
+    MeansBy-narrow p e a s r (Number new) (λ same. own (ap Register same)) allowed m
 
 -- two numbers of a member that takes this edge: the outcome of their comparison
 record NumbersCompared (e : Assigned) (s : Machine.State) (cond : Cond) (left right : Scalar)

@@ -54,7 +54,7 @@ MeansBy-proves p e a s i (suc n) inside m =
     (subst (λ l. (e.offset i +ℤ pos (suc n)) ≤ℤ pos l) m.assigned.length_is (inside (omega arith)))
     m
 
-same_is : (taken outcome : Bool) → same taken outcome ≡ true → taken ≡ outcome
+same_is : (taken shows : Bool) → same taken shows ≡ true → taken ≡ shows
 same_is true true h = refl
 same_is true false h = absurd (cc)
 same_is false true h = absurd (cc)

@@ -87,7 +87,7 @@ pub record Refined (cond : Cond) (taken : Bool) (a b : State) : Type 0 where
   pub new_right : Scalar
   pub left_is : Some left ≡ numbers_in (kind_of a cond.register)
   pub right_is : AreNumbersOf a cond.width cond.operand (Some right)
-  pub shows : NarrowsBoth cond.comparison cond.width taken left right new_left new_right
+  pub narrows : NarrowsBoth cond.comparison cond.width taken left right new_left new_right
   pub new : b ≡ with_compared a cond new_left new_right
 
 -- ---- pointers

@@ -17,7 +17,7 @@ mod operands;
 mod outcomes;
 
 pub use crate::comparing::{Compared, compared_by};
-use crate::operands::{number_of, operand_numbers};
+use crate::operands::{operand_numbers, register_numbers};
 pub use crate::outcomes::BranchOutcome;
 use isa_model::Cond;
 use reg_state::{Domain, Scalar};
@@ -91,10 +91,10 @@ fn pointers_outcome(compared: Compared, taken: bool) -> BranchOutcome
     }
 }
 
-fn is_same(taken: bool, outcome: bool) -> bool
-    ensures { result ≡ same taken outcome }
+fn is_same(taken: bool, shows: bool) -> bool
+    ensures { result ≡ same taken shows }
 {
-    if taken { outcome } else { !outcome }
+    if taken { shows } else { !shows }
 }
 
 // What the test shows where two numbers are compared; of other operands it shows nothing.
@@ -113,7 +113,7 @@ fn numbers_outcome(cond: Cond, taken: bool, state: &State) -> BranchOutcome
     ensures never { goes result ≡ false → left_in cond state.now result ≡ state.now }
     ensures put { MayBePut cond result }
 {
-    let Some(left) = number_of(state, cond.register) else {
+    let Some(left) = register_numbers(state, cond.register) else {
         return BranchOutcome::Same;
     };
     let Some(right) = operand_numbers(state, cond.width, cond.operand) else {
@@ -127,13 +127,13 @@ fn numbers_outcome(cond: Cond, taken: bool, state: &State) -> BranchOutcome
 
 // What the comparison leaves of two numbers.
 fn narrowed(cond: Cond, taken: bool, left: Scalar, right: Scalar) -> Option<(Scalar, Scalar)>
-    ensures shows { IfSome result
+    ensures narrows { IfSome result
         (λ p. NarrowsBoth cond.comparison cond.width taken left right p.0 p.1) }
     ensures none { result ≡ None → (x y : ℕ) → Has left x → Has right y
         → holds cond.comparison cond.width x y ≢ taken }
     ensures stays { (x y : ℕ) → x < 2 ^ 64 → y < 2 ^ 64 → IsConstant left x → IsConstant right y
         → holds cond.comparison cond.width x y ≡ taken → IsSome result }
-    ensures never { (x y : ℕ) → IsConstant left x → IsConstant right y
+    ensures constants { (x y : ℕ) → IsConstant left x → IsConstant right y
         → holds cond.comparison cond.width x y ≢ taken → result ≡ None }
 {
     reg_state::refine(cond.comparison, cond.width, taken, left, right)

@@ -10,7 +10,7 @@ use reg_state::{Domain, Kind, Scalar};
 use stack_state::State;
 
 /// The numbers in a register, if it is known to hold one.
-pub fn number_of(state: &State, register: Reg) -> Option<Scalar>
+pub fn register_numbers(state: &State, register: Reg) -> Option<Scalar>
     ensures { result ≡ numbers_in (kind_of state.now register) }
 {
     match state.kind_of(register) {
@@ -25,7 +25,7 @@ pub fn operand_numbers(state: &State, width: Width, operand: Operand) -> Option<
 {
     match operand {
         Operand::Constant(k) => Some(Scalar::constant(unsigned(width, k))),
-        Operand::Register(register) => number_of(state, register),
+        Operand::Register(register) => register_numbers(state, register),
     }
 }
 

@@ -62,10 +62,10 @@ bytes_in_bytes found bytes e =
 pub bytes_at_part : (s : State) (r q : Region) (z : ℤ) (n : ℕ) (at : Option ℕ) (bytes new : List ℕ)
     → r ≡ q → at ≡ index_at r z → read s q at n ≡ Ok (map Byte bytes) → new ≡ bytes
     → bytes_at s (record { region = r; offset = z }) n ≡ Ok new
-bytes_at_part s r q z n at bytes new region place found same =
+bytes_at_part s r q z n at bytes new same_region at_is found same =
     let there : read s r (index_at r z) n ≡ Ok (map Byte bytes) =
-    ap (λ (x : Region). read s x (index_at r z) n) region
-    ∙ ap (λ (o : Option ℕ). read s q o n) (sym place) ∙ found in
+    ap (λ (x : Region). read s x (index_at r z) n) same_region
+    ∙ ap (λ (o : Option ℕ). read s q o n) (sym at_is) ∙ found in
     bytes_in_bytes (read s r (index_at r z) n) bytes there ∙ ap Ok (sym same)
 
 -- a write to a live map value puts the bytes there
@@ -77,8 +77,8 @@ pub write_map_value_part : (s : State) (m n : ℕ) (at : Option ℕ) (new map_va
       maps = slice_set s.maps m
           (put_value (content_of s m) (index_of_serial (content_of s m) n) i new);
     })
-write_map_value_part s m n at new map_value i found place =
+write_map_value_part s m n at new map_value i found fits =
     let cells : region_cells s (MapValue m n) ≡ Some (map Byte map_value) =
     value_cells (content_of s m) n ∙ ap (option_map (map Byte)) found in
     let count : length (map Byte new) ≡ length new = length-map new Byte in
-    rw (cells, count, place, map-byte_in-Byte new)
+    rw (cells, count, fits, map-byte_in-Byte new)

@@ -37,7 +37,7 @@ last_registers regs long =
       none,
     )
 
--- an answer and what comes after it
+-- a result that is no trap, and what comes after it
 after_ok : {A B : Type 0} (r : Result A TrapReason) (a : A) (go : A → Result B TrapReason)
     → r ≡ Ok a → and_then r go ≡ go a
 after_ok r a go e = rw e refl
@@ -79,13 +79,13 @@ pub updates : (p : Program) (s : State) (m : MapArgument) (at source : BytesArgu
     → n ≡ m.row.key_size → bytes_at s at n ≡ Ok key → k ≡ m.row.value_size
     → bytes_at s source k ≡ Ok bytes
     → update_call p s ≡ Ok (map_update_elem m.row s m.index key bytes flags)
-updates p s m at source flags n k key bytes map_is at_is source_is flags_are size key_is value_size
+updates p s m at source flags n k key bytes map_is at_is source_is flags_are size key_is same_size
     bytes_are =
     let there : bytes_at s at m.row.key_size ≡ Ok key = ap (bytes_at s at) (sym size) ∙ key_is in
-    let value : bytes_at s source m.row.value_size ≡ Ok bytes =
-    ap (bytes_at s source) (sym value_size) ∙ bytes_are in
+    let bytes_there : bytes_at s source m.row.value_size ≡ Ok bytes =
+    ap (bytes_at s source) (sym same_size) ∙ bytes_are in
     after_ok _ m _ map_is ∙ after_ok _ at _ at_is ∙ after_ok _ source _ source_is
-    ∙ after_ok _ flags _ flags_are ∙ after_ok _ key _ there ∙ after_ok _ bytes _ value
+    ∙ after_ok _ flags _ flags_are ∙ after_ok _ key _ there ∙ after_ok _ bytes _ bytes_there
 
 -- what a delete answers and leaves
 pub deleted : (core : Core) (packet : List ℕ) (row : MapDef) (m : ℕ) (key : List ℕ) (answer : ℕ)

@@ -49,7 +49,7 @@ fn has_only_bytes(cells: &[Cell]) -> bool
 }
 
 // Writes the bytes of byte cells; there is a cell for each byte of the buffer.
-fn put_bytes(cells: &[Cell], bytes: &mut [u8])
+fn put_number_bytes(cells: &[Cell], bytes: &mut [u8])
     requires { length bytes.old ≡ length cells.now }
     ensures { bytes.new ≡ map byte_in cells.now }
 {
@@ -68,7 +68,7 @@ pub fn copy_bytes(cells: &[Cell], bytes: &mut [u8]) -> Result<(), TrapReason>
     if has_unwritten(cells) {
         Err(TrapReason::UnsetRead)
     } else if has_only_bytes(cells) {
-        put_bytes(cells, bytes);
+        put_number_bytes(cells, bytes);
         Ok(())
     } else {
         Err(TrapReason::BadAccess)

@@ -213,8 +213,8 @@ impl Core {
             → write (state_of self.old packet) (Region.CallFrame serial) at new.now ≡ Err e)
             × (self.new ≡ self.old)) }
     {
-        let (frame, i) = self.place_in_frame(serial, at, new.len())?;
-        cells::put_cells(&mut self.frames[frame].cells, i, new);
+        let (frame_index, i) = self.place_in_frame(serial, at, new.len())?;
+        cells::put_cells(&mut self.frames[frame_index].cells, i, new);
         Ok(())
     }
 

@@ -38,7 +38,7 @@ pub fn number_from(bytes: &[u8]) -> u64
 }
 
 /// The bytes at a place.
-fn bytes_at(bytes: &[u8], at: Option<usize>, n: usize) -> Result<&[u8], TrapReason>
+fn read_bytes(bytes: &[u8], at: Option<usize>, n: usize) -> Result<&[u8], TrapReason>
     requires { n ≤ max_value_size }
     ensures read { MatchResult result
         (λ found. read_cells (Some (map Cell.Byte bytes.now)) at n ≡ Ok (map Cell.Byte found.now))
@@ -70,10 +70,10 @@ impl Core {
             → place_of (state_of self.now packet) (Region.CallFrame serial) at n ≡ Err e) }
     {
         match self.call_frame_index(serial) {
-            Some(frame) => {
-                let cells: &[Cell] = &self.frames[frame].cells;
+            Some(frame_index) => {
+                let cells: &[Cell] = &self.frames[frame_index].cells;
                 let i = place_in(cells, at, n)?;
-                Ok((frame, i))
+                Ok((frame_index, i))
             }
             None => Err(TrapReason::BadAccess),
         }
@@ -94,8 +94,8 @@ impl Core {
             → read (state_of self.now packet) (Region.CallFrame serial) at n ≡ Err e) }
         ensures len { IfOk result (λ cs. length cs.now ≡ n) }
     {
-        let (frame, i) = self.place_in_frame(serial, at, n)?;
-        let cells: &[Cell] = &self.frames[frame].cells;
+        let (frame_index, i) = self.place_in_frame(serial, at, n)?;
+        let cells: &[Cell] = &self.frames[frame_index].cells;
         Ok(&cells[i..i + n])
     }
 
@@ -113,7 +113,7 @@ impl Core {
             (λ e. read (state_of self.now packet.now) Region.Packet at n ≡ Err e) }
         ensures len { IfOk result (λ bs. length bs.now ≡ n) }
     {
-        bytes_at(packet, at, n)
+        read_bytes(packet, at, n)
     }
 
     /// The bytes of a map value at a place.
@@ -134,7 +134,7 @@ impl Core {
         ensures len { IfOk result (λ bs. length bs.now ≡ n) }
     {
         match self.maps.value(index as usize, serial) {
-            Some(map_value) => bytes_at(map_value, at, n),
+            Some(map_value) => read_bytes(map_value, at, n),
             None => Err(TrapReason::BadAccess),
         }
     }

@@ -26,8 +26,8 @@ pub enum Stepped {
     Trapped(TrapReason),
 }
 
-// Whether a number may be the answer of a program of this version: in version 2 its low half names
-// an action.
+// Whether a number may be the answer of a run of a program of this version: in version 2 its low
+// half names an action.
 fn is_answer(version: Version, number: u64) -> bool
     ensures { result ≡ is_answer version number }
 {

@@ -27,10 +27,10 @@ offset_field (Some (fault, offset)) = offset
 
 -- a tally in numbers, with the sizes of the report and of the frames out
 abbrev pub streamed_of : Tally → ℕ → ℕ → Streamed
-streamed_of tally report sent =
+streamed_of tally report_size sent_size =
     record {
-      report = report;
-      sent = sent;
+      report = report_size;
+      sent = sent_size;
       offset = offset_field tally.fault;
       frames = tally.frames;
       fault = fault_field tally.fault;
@@ -40,8 +40,8 @@ streamed_of tally report sent =
 -- out, and returns this tally
 abbrev pub WritesStream : Bounded → List ℕ → List ℕ → List ℕ → Tally → Type 0
 WritesStream a source report sent tally =
-    RunsWhole a (Some source) (record { report = Some []; frames = Some [] })
-    (record { report = Some report; frames = Some sent }) (Ok tally)
+    RunsWhole a (Some source) (record { report = Some []; sent = Some [] })
+    (record { report = Some report; sent = Some sent }) (Ok tally)
 
 -- the bytes are an accepted image, and the buffers hold what a run of its program over the stream
 -- writes

@@ -1,10 +1,10 @@
-//! The call that assembles a text.
+//! The call that assembles a program text.
 
 ghost use Rattle.std.specs.Prelude.{◌≡◌, ◌≢◌, ◌⊎◌};
 ghost use Rattle.assembler.specs.declared.errors.AsmErrorKind.TheVariants as Kind;
 ghost use Rattle.image.specs.Images.{image_bytes};
 ghost use Rattle.refusal_texts.specs.Texts.{source_text};
-ghost use Rattle.verdict_calls.specs.Crossing.{FillsBuffer, IsVerdict};
+ghost use Rattle.verdict_calls.specs.Crossing.{FillsBuffer, IsVerdictStatus};
 ghost use Rattle.command_calls.specs.Texts.{FillsAssembledImage, FillsTextRefusal, only_size};
 
 use assembler::{AsmError, AsmErrorKind, assemble};
@@ -14,8 +14,8 @@ use std::alloc::Global;
 use verdict_calls::filling::fill;
 use verdict_calls::statuses::{MEMORY, OK, REFUSED};
 
-/// How many bytes an image or the text of a refusal has, and for a refusal the line and the column,
-/// which count from 1; both are 0 for an image.
+/// How many bytes an image or the message about a refusal has, and for a refusal the line and the
+/// column, which count from 1; both are 0 for an image.
 #[repr(C)]
 #[derive(Clone, Copy, Drop)]
 pub struct Assembled {
@@ -45,7 +45,7 @@ fn write_image(alloc: Global, made: &Image, image: &mut [u8], out: &mut Assemble
     OK
 }
 
-// Writes why a text is refused.
+// Writes why a program text is refused.
 fn write_refusal(alloc: Global, error: AsmError, why: &mut [u8], out: &mut Assembled) -> u32
     ensures refused { result ≡ 2 → (error.kind ≢ Kind.Memory) × (out.new.line ≡ error.line)
         × (out.new.column ≡ error.column)
@@ -57,11 +57,11 @@ fn write_refusal(alloc: Global, error: AsmError, why: &mut [u8], out: &mut Assem
     if error.kind == AsmErrorKind::Memory {
         return MEMORY;
     }
-    let Ok(text) = source_text(alloc, error) else {
+    let Ok(message) = source_text(alloc, error) else {
         return MEMORY;
     };
     *out = Assembled {
-        size: fill(why, text.as_bytes()),
+        size: fill(why, message.as_bytes()),
         line: error.line,
         column: error.column,
     };
@@ -84,7 +84,7 @@ pub fn assemble_text(
     ensures image_kept { result ≢ 0 → image.new ≡ image.old }
     ensures why_kept { result ≢ 2 → why.new ≡ why.old }
     ensures memory { result ≡ 5 → out.new ≡ out.old }
-    ensures status { IsVerdict result }
+    ensures status { IsVerdictStatus result }
 {
     match assemble(alloc, text) {
         Ok(made) => write_image(alloc, &made, image, out),

@@ -1,7 +1,7 @@
 //! The call that runs an accepted program over a frame stream.
 
 ghost use Rattle.std.specs.Prelude.{◌≡◌, ◌≢◌, IfSome};
-ghost use Rattle.verdict_calls.specs.Crossing.{IsVerdict};
+ghost use Rattle.verdict_calls.specs.Crossing.{IsVerdictStatus};
 ghost use Rattle.verdict_calls.specs.Verdicts.{IsRefusedImage};
 ghost use Rattle.command_calls.specs.Streams.{WritesStream, RunsStream, fault_number, streamed_of};
 
@@ -14,8 +14,8 @@ use verdict_calls::judging::verified_of;
 use verdict_calls::statuses::{MEMORY, NotAccepted, OK, REFUSED};
 
 /// The result of a run over a stream: how many bytes the report and the frames out have, how many
-/// frames were found, and the number of the fault that ended the stream, with the offset of its
-/// record; both are 0 at the stream's end.
+/// packet frames were found, and the number of the fault that ended the stream, with the offset of
+/// its record; both are 0 at the stream's end.
 #[repr(C)]
 #[derive(Clone, Copy, Drop)]
 pub struct Streamed {
@@ -42,16 +42,16 @@ fn number_of(fault: Fault) -> u32
 
 // The result of a run over a stream with this tally, and with a report and frames out of these
 // sizes.
-fn streamed_of(tally: Tally, report: usize, sent: usize) -> Streamed
-    ensures { result ≡ streamed_of tally report sent }
+fn streamed_of(tally: Tally, report_size: usize, sent_size: usize) -> Streamed
+    ensures { result ≡ streamed_of tally report_size sent_size }
 {
     let (fault, offset) = match tally.fault {
         Some((fault, offset)) => (number_of(fault), offset),
         None => (0, 0),
     };
     Streamed {
-        report,
-        sent,
+        report: report_size,
+        sent: sent_size,
         offset,
         frames: tally.frames,
         fault,
@@ -66,14 +66,14 @@ struct Written {
     tally: Tally,
 }
 
-// The report and the frames out of a stream. None: memory ran out.
-fn stream_written(alloc: Global, verified: Verified, frames: &[u8]) -> Option<Written>
-    ensures { IfSome result (λ w. WritesStream verified frames.now
+// The report and the frames out of a run over a stream. None: memory ran out.
+fn stream_written(alloc: Global, verified: Verified, stream: &[u8]) -> Option<Written>
+    ensures { IfSome result (λ w. WritesStream verified stream.now
         w.report.items w.sent.items w.tally) }
 {
     let mut report = Vec::new(alloc);
     let mut sent = Vec::new(alloc);
-    match run(alloc, verified, frames, &mut report, &mut sent) {
+    match run(alloc, verified, stream, &mut report, &mut sent) {
         Ok(tally) => Some(Written {
             report,
             sent,
@@ -83,31 +83,31 @@ fn stream_written(alloc: Global, verified: Verified, frames: &[u8]) -> Option<Wr
     }
 }
 
-/// Verifies an image, and runs its program on the frames of a stream. The report is written to
-/// `report` and the frames out to `sent`, as far as there is room; the maps keep their contents
+/// Verifies an image, and runs its program on the packet frames of a stream. The report is written
+/// to `report` and the frames out to `sent`, as far as there is room; the maps keep their contents
 /// from frame to frame.
 pub fn run_stream(
     alloc: Global,
     image: &[u8],
-    frames: &[u8],
+    stream: &[u8],
     report: &mut [u8],
     sent: &mut [u8],
     out: &mut Streamed,
 ) -> u32
-    ensures ran { result ≡ 0 → RunsStream image.now frames.now
+    ensures ran { result ≡ 0 → RunsStream image.now stream.now
         report.old sent.old report.new sent.new out.new }
     ensures refused { result ≡ 2 → IsRefusedImage image.now }
     ensures report_kept { result ≢ 0 → report.new ≡ report.old }
     ensures sent_kept { result ≢ 0 → sent.new ≡ sent.old }
     ensures out_kept { result ≢ 0 → out.new ≡ out.old }
-    ensures status { IsVerdict result }
+    ensures status { IsVerdictStatus result }
 {
     let verified = match verified_of(alloc, image) {
         Ok(verified) => verified,
         Err(NotAccepted::Refused) => return REFUSED,
         Err(NotAccepted::Memory) => return MEMORY,
     };
-    let Some(written) = stream_written(alloc, verified, frames) else {
+    let Some(written) = stream_written(alloc, verified, stream) else {
         return MEMORY;
     };
     let reported = fill(report, written.report.as_slice());

@@ -1,4 +1,4 @@
--- Frames out that a file got only in part.
+-- Frames out that were delivered to their file only in part.
 use Rattle.std.proofs.Common.{◌≡◌, ℕ, List, Option, Result, Ok, inr}
 use Rattle.std.specs.Io.KnownBytes.{Keeps, append_known}
 use Rattle.std.specs.declared.io.ErrorKind.{ErrorKind}

@@ -1,4 +1,4 @@
--- What the text at the end of a message says.
+-- What the lines at the end of a message say.
 use Rattle.std.proofs.Common.{◌≡◌, ℕ, List, Option, Some, None, String, Result, Ok, Err, false, subst, sym, inl, inr, ◌⊎◌}
 use Rattle.std.specs.Prelude.{IfSome}
 use Rattle.std.specs.String.{string_bytes}
@@ -20,7 +20,7 @@ use Rattle.commands.specs.Flushing.{Flushes, IsFlushed, TellsFailure}
 use Rattle.commands.specs.Statuses.{is_silent}
 use Rattle.commands.specs.Stopped.{TellsStopsOf, at_end, stop_lines}
 
--- nothing, or what is known of some program, of some table of a program, or of some text
+-- nothing, or what is known of some program, of some table of a program, or of some program text
 abbrev pub Knows : TaskOutcome → Option (String Global) → Type 0
 Knows o why = (why ≡ None)
     ⊎ (((p : Program) × Tells p o why)
@@ -36,14 +36,14 @@ none_knows files old new r (inr (p, is, inr (bytes, refused, known))) =
     inr (inr (inl (p, bytes, known)))
 
 -- the report was completed
-abbrev pub IsAtEnd : TaskOutcome → Type 0
-IsAtEnd Done = Unit {0}
-IsAtEnd (Faulted fault form) = Unit {0}
-IsAtEnd o = ⊥
+abbrev pub IsCompleted : TaskOutcome → Type 0
+IsCompleted Done = Unit {0}
+IsCompleted (Faulted fault form) = Unit {0}
+IsCompleted o = ⊥
 
 -- where runs stopped, after a trace whose report was completed
 abbrev pub KnowsStops : TaskOutcome → Option (String Global) → Type 0
-KnowsStops o why = IsAtEnd o
+KnowsStops o why = IsCompleted o
     × ((stops : Stops) × IfSome why (λ text. string_bytes text ≡ stop_lines (noted_of stops)))
 
 -- what is known after this request
@@ -67,7 +67,7 @@ plain_knows (Assemble text image) o why h = inl h
 plain_knows (Disassemble path) o why h = inl h
 
 lines_known : (ended : Result Traced HostError) (o : TaskOutcome) (lines : Option (String Global))
-    → IsAtEnd o → TellsStopsOf ended lines → Knows o lines ⊎ KnowsStops o lines
+    → IsCompleted o → TellsStopsOf ended lines → Knows o lines ⊎ KnowsStops o lines
 lines_known (Ok traced) o lines end tells = inr (end, (traced.stops, tells.1))
 lines_known (Err error) o lines end tells = inl (inl tells)
 
@@ -81,7 +81,7 @@ stops_known ended (Faulted fault form) lines why tells is =
     subst (λ (w : Option (String Global)). Knows (Faulted fault form) w
     ⊎ KnowsStops (Faulted fault form) w) (sym is)
     (lines_known ended (Faulted fault form) lines tt tells)
-stops_known ended (WrongWords text) lines why tells is = inl (inl is)
+stops_known ended (WrongWords message) lines why tells is = inl (inl is)
 stops_known ended (Refused rejection) lines why tells is = inl (inl is)
 stops_known ended (CannotRead path kind) lines why tells is = inl (inl is)
 stops_known ended (CannotWrite path cause) lines why tells is = inl (inl is)
@@ -111,17 +111,18 @@ served_knows (Assemble text image) old new r (inr (source, ends, known)) =
 served_knows (Disassemble path) old new r h = inl h.1
 
 -- if standard output failed at the end, nothing else is known
-knows_then : {W : Type 0} (request : TaskRequest) (out : PromptWriter W) (ended r : Ending)
-    → KnowsBy request ended.outcome ended.why
-    → ((is_silent ended.outcome ≡ false → IsFlushed out) × (r ≡ ended)) ⊎ TellsFailure out r
+knows_then : {W : Type 0} (request : TaskRequest) (out : PromptWriter W) (ending r : Ending)
+    → KnowsBy request ending.outcome ending.why
+    → ((is_silent ending.outcome ≡ false → IsFlushed out) × (r ≡ ending)) ⊎ TellsFailure out r
     → KnowsBy request r.outcome r.why
-knows_then request out ended r k (inl kept) =
+knows_then request out ending r k (inl kept) =
     subst (λ (e : Ending). KnowsBy request e.outcome e.why) (sym kept.1) k
-knows_then request out ended r k (inr failed) = plain_knows request r.outcome r.why failed.plain
+knows_then request out ending r k (inr failed) = plain_knows request r.outcome r.why failed.plain
 
 pub whole_knows : {W : Type 0} (contents : W → Option (List ℕ)) (request : TaskRequest)
-    (old : Option (List ℕ)) (given new : PromptWriter W) (ended r : Ending)
-    → Serves (Some request) old (held contents given) ended → Flushes contents given new ended r
+    (old : Option (List ℕ)) (given new : PromptWriter W) (ending r : Ending)
+    → Serves (Some request) old (held contents given) ending → Flushes contents given new ending r
     → KnowsBy request r.outcome r.why
-whole_knows contents request old given new ended r h on =
-    knows_then request new ended r (served_knows request old (held contents given) ended h) on.ends
+whole_knows contents request old given new ending r h on =
+    knows_then request new ending r (served_knows request old (held contents given) ending h)
+    on.ends

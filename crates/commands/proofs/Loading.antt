@@ -31,11 +31,11 @@ opens-none : (files : RunFiles) (old new : Option (List ℕ)) (r : TaskOutcome) 
 opens-none files old new r e (inl h) = inl (h, e)
 opens-none files old new r e (inr h) = inr (h, e)
 
--- a message without a text at its end says nothing of a program
+-- a message without lines at its end says nothing of a program
 pub tells-none : (p : Program) (o : TaskOutcome) (why : Option (String Global)) → why ≡ None
     → Tells p o why
 tells-none p Done why e = e
-tells-none p (WrongWords text) why e = e
+tells-none p (WrongWords message) why e = e
 tells-none p (Refused (rejection.Image error form)) why e = e
 tells-none p (Refused (rejection.Program refusal slot insn)) why e = rw e tt
 tells-none p (Refused (rejection.Table error position)) why e = e
@@ -81,12 +81,12 @@ pub trace_unopened : (files : RunFiles) (limit : ℕ) (old new : Option (List �
 trace_unopened files limit old new p o r e h failed same none =
     inr (p, h, inl ((rw same (opens-none files old new o e failed)), none))
 
--- in the outputs, `frames` is the frames out, whose file is `files.out`; `files.frames` is read
+-- in the outputs, `sent` is the frames out, whose file is `files.out`; `files.frames` is read
 pub image_traced : (files : RunFiles) (limit : ℕ)
     (old mid new before after source : Option (List ℕ)) (form : FileForm) (cause : Option ErrorKind)
     (p : Program) (r : Ending) → mid ≡ old → IsImage p
-    → Traces p limit source form files.out cause (record { report = mid; frames = before })
-    (record { report = new; frames = after }) r → TracesFile files limit old new r
+    → Traces p limit source form files.out cause (record { report = mid; sent = before })
+    (record { report = new; sent = after }) r → TracesFile files limit old new r
 image_traced files limit old mid new before after source form cause p r e h traces =
     let some : TracesSome p limit files.out old new r = record {
       source = source;
@@ -96,7 +96,7 @@ image_traced files limit old mid new before after source form cause p r e h trac
       cause = cause;
       traces =
           subst (λ (x : Option (List ℕ)). Traces p limit source form files.out cause
-          (record { report = x; frames = before }) (record { report = new; frames = after }) r) e
+          (record { report = x; sent = before }) (record { report = new; sent = after }) r) e
           traces;
     } in
     inr (p, h, inr some)
@@ -118,8 +118,8 @@ image_refused files old mid new p r e h v known =
 -- standard output got the report of the runs
 pub runs_on : (files : RunFiles) (old new before after source : Option (List ℕ)) (form : FileForm)
     (cause : Option ErrorKind) (v : Bounded) (r : TaskOutcome)
-    → RunsAccepted v source form files.out cause (record { report = old; frames = before })
-    (record { report = new; frames = after }) r → RunsOn files v old new r
+    → RunsAccepted v source form files.out cause (record { report = old; sent = before })
+    (record { report = new; sent = after }) r → RunsOn files v old new r
 runs_on files old new before after source form cause v r runs =
     let some : RunsSome v files.out old new r = record {
       source = source;

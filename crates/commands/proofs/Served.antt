@@ -18,9 +18,9 @@ use Rattle.commands.specs.Flushing.{Flushes}
 use Rattle.commands.specs.Executing.{Executes}
 
 -- standard output to which nothing was written is left unchanged
-handed : {W : Type 0} (contents : W → Option (List ℕ)) (given : PromptWriter W) (r : Ending)
+untouched : {W : Type 0} (contents : W → Option (List ℕ)) (given : PromptWriter W) (r : Ending)
     → is_silent r.outcome ≡ true → Flushes contents given given r r
-handed contents given r silent =
+untouched contents given r silent =
     record {
       kept = Keeps-refl (held contents given);
       silent = λ _. (refl, refl);
@@ -80,6 +80,6 @@ unasked contents words (Wrong text) out o none is =
       serves =
           subst (λ (x : Option TaskRequest). Serves x (held contents out)
           (held contents out) ending) (sym none) serves;
-      hands_on = handed contents out ending (wrong_silent (string_bytes text) o is);
+      hands_on = untouched contents out ending (wrong_silent (string_bytes text) o is);
     })
 unasked contents words Memory out o none is = inl ((is, refl), refl)

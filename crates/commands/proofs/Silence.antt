@@ -17,10 +17,10 @@ use Rattle.words.specs.Requests.{TaskRequest, RunFiles, TableFiles, Trace, Run, 
 use Rattle.words.specs.declared.tasks.WordsError.{WordsError}
 use Rattle.words.specs.declared.tasks.WordsError.TheVariants.{Wrong, Memory}
 use Rattle.proof_table.specs.declared.errors.WriteTableError.{WriteTableError}
-use Rattle.proof_table.specs.declared.errors.WriteTableError.TheVariants as unwritten
+use Rattle.proof_table.specs.declared.errors.WriteTableError.TheVariants as write_error
 use Rattle.proof_table.specs.Writing.{GainsTable, BeginsTable}
 use Rattle.rechecking.specs.declared.errors.TableError.{TableError}
-use Rattle.rechecking.specs.declared.errors.TableError.TheVariants as table
+use Rattle.rechecking.specs.declared.errors.TableError.TheVariants as table_error
 use Rattle.commands.specs.declared.forms.FileForm.{FileForm}
 use Rattle.commands.specs.declared.outcomes.TaskOutcome.{TaskOutcome}
 use Rattle.commands.specs.declared.outcomes.TaskOutcome.TheVariants as outcome
@@ -33,11 +33,11 @@ use Rattle.commands.specs.Streams.{EndsTask, EndsBy, FailsBy, IsBeginningOf, out
 use Rattle.commands.specs.Proving.{EndsUnwritten, StoresTable}
 use Rattle.commands.specs.Commands.{LoadsNone, ShowsNone, OpensNone, RunsOn, TracesFile, RunsFile, RunsShown, VerifiesFile, ProvesFile, RechecksFile, DisassemblesFile, AssemblesFile, Serves}
 
--- ---- outcomes with some output
+-- ---- task outcomes with some output
 
 write_loud : (name : List ℕ) (r : TaskOutcome) → IsWriteFailure name r → is_silent r ≡ true → ⊥
 write_loud name outcome.Done h e = h
-write_loud name (outcome.WrongWords text) h e = h
+write_loud name (outcome.WrongWords message) h e = h
 write_loud name (outcome.Refused rejection) h e = h
 write_loud name (outcome.Faulted fault form) h e = h
 write_loud name (outcome.CannotRead path kind) h e = h
@@ -48,7 +48,7 @@ write_loud name outcome.NoMemory h e = h
 pub write_loud_by : (name : List ℕ) (cause : Option ErrorKind) (r : TaskOutcome)
     → IsWriteFailureBy name cause r → is_silent r ≡ true → ⊥
 write_loud_by name cause outcome.Done h e = h
-write_loud_by name cause (outcome.WrongWords text) h e = h
+write_loud_by name cause (outcome.WrongWords message) h e = h
 write_loud_by name cause (outcome.Refused rejection) h e = h
 write_loud_by name cause (outcome.Faulted fault form) h e = h
 write_loud_by name cause (outcome.CannotRead path kind) h e = h
@@ -56,11 +56,11 @@ write_loud_by name cause (outcome.CannotWrite path told) h e = false≢true e
 write_loud_by name cause (outcome.CannotReplace path) h e = h
 write_loud_by name cause outcome.NoMemory h e = h
 
-says_loud : (old new : Option (List ℕ)) (text : List ℕ) (ended r : TaskOutcome)
-    → is_silent ended ≡ false → Says old new text ended r → is_silent r ≡ true → ⊥
-says_loud old new text ended r loud (inl said) e =
+says_loud : (old new : Option (List ℕ)) (text : List ℕ) (o r : TaskOutcome)
+    → is_silent o ≡ false → Says old new text o r → is_silent r ≡ true → ⊥
+says_loud old new text o r loud (inl said) e =
     both_ways (is_silent r) (ap is_silent said.1 ∙ loud) e
-says_loud old new text ended r loud (inr failed) e = write_loud _ r failed.1 e
+says_loud old new text o r loud (inr failed) e = write_loud _ r failed.1 e
 
 at_loud : (form : FileForm) (fault : Option (Fault × ℕ)) → is_silent (outcome_at form fault) ≡ false
 at_loud form None = refl
@@ -107,20 +107,20 @@ program_silent p old new r (inr (refusal, slot, is, other, says)) e =
 
 of_table_silent : (p : Program) (error : TableError) (old new : Option (List ℕ)) (r : TaskOutcome)
     → SaysOfTable p error old new r → is_silent r ≡ true → new ≡ old
-of_table_silent p (table.Flow error slot) old new r (inl lacks) e = lacks.1
-of_table_silent p (table.Flow error slot) old new r (inr (other, says)) e =
+of_table_silent p (table_error.Flow error slot) old new r (inl lacks) e = lacks.1
+of_table_silent p (table_error.Flow error slot) old new r (inr (other, says)) e =
     absurd (says_loud old new _ _ r refl says e)
-of_table_silent p (table.Bytes fault) old new r (inl lacks) e = lacks.1
-of_table_silent p (table.Bytes fault) old new r (inr (position, other, says)) e =
+of_table_silent p (table_error.Bytes refusal) old new r (inl lacks) e = lacks.1
+of_table_silent p (table_error.Bytes refusal) old new r (inr (position, other, says)) e =
     absurd (says_loud old new _ _ r refl says e)
-of_table_silent p table.Start old new r (inl lacks) e = lacks.1
-of_table_silent p table.Start old new r (inr (position, other, says)) e =
+of_table_silent p table_error.Start old new r (inl lacks) e = lacks.1
+of_table_silent p table_error.Start old new r (inr (position, other, says)) e =
     absurd (says_loud old new _ _ r refl says e)
-of_table_silent p (table.Step k refusal) old new r (inl lacks) e = lacks.1
-of_table_silent p (table.Step k refusal) old new r (inr (position, other, says)) e =
+of_table_silent p (table_error.Step k refusal) old new r (inl lacks) e = lacks.1
+of_table_silent p (table_error.Step k refusal) old new r (inr (position, other, says)) e =
     absurd (says_loud old new _ _ r refl says e)
-of_table_silent p (table.Successor k) old new r (inl lacks) e = lacks.1
-of_table_silent p (table.Successor k) old new r (inr (position, other, says)) e =
+of_table_silent p (table_error.Successor k) old new r (inl lacks) e = lacks.1
+of_table_silent p (table_error.Successor k) old new r (inr (position, other, says)) e =
     absurd (says_loud old new _ _ r refl says e)
 
 table_silent : (p : Program) (bytes : List ℕ) (old new : Option (List ℕ)) (r : TaskOutcome)
@@ -229,11 +229,11 @@ recheck_silent files old new r (inr (v, is, (accepts, none))) e =
 
 unwritten_silent : (name : List ℕ) (error : WriteTableError) (old new : Option (List ℕ))
     (r : TaskOutcome) → EndsUnwritten name error old new r → is_silent r ≡ true → new ≡ old
-unwritten_silent name unwritten.Memory old new r lacks e = lacks.1
-unwritten_silent name unwritten.Explored old new r (inl lacks) e = lacks.1
-unwritten_silent name unwritten.Explored old new r (inr says) e =
+unwritten_silent name write_error.Memory old new r lacks e = lacks.1
+unwritten_silent name write_error.Explored old new r (inl lacks) e = lacks.1
+unwritten_silent name write_error.Explored old new r (inr says) e =
     absurd (says_loud old new _ _ r refl says e)
-unwritten_silent name (unwritten.Writer kind) old new r (fails, same) e = same
+unwritten_silent name (write_error.Writer kind) old new r (fails, same) e = same
 
 written_silent : (p : Program) (line name : List ℕ) (before after old new : Option (List ℕ))
     (r : TaskOutcome) → StoresTable p line name before after old new r → is_silent r ≡ true
@@ -287,44 +287,44 @@ served_silent (Disassemble path) old new r h e = disassemble_silent path old new
 
 -- ---- after standard output was flushed
 
-silent_then : {W : Type 0} (out : PromptWriter W) (ended r : Ending)
-    → ((is_silent ended.outcome ≡ false → IsFlushed out) × (r ≡ ended)) ⊎ TellsFailure out r
-    → is_silent r.outcome ≡ true → is_silent ended.outcome ≡ true
-silent_then out ended r (inl kept) e = ap (λ (x : Ending). is_silent x.outcome) (sym kept.1) ∙ e
-silent_then out ended r (inr failed) e = absurd (write_loud_by _ _ r.outcome failed.told e)
+silent_then : {W : Type 0} (out : PromptWriter W) (ending r : Ending)
+    → ((is_silent ending.outcome ≡ false → IsFlushed out) × (r ≡ ending)) ⊎ TellsFailure out r
+    → is_silent r.outcome ≡ true → is_silent ending.outcome ≡ true
+silent_then out ending r (inl kept) e = ap (λ (x : Ending). is_silent x.outcome) (sym kept.1) ∙ e
+silent_then out ending r (inr failed) e = absurd (write_loud_by _ _ r.outcome failed.told e)
 
 pub whole_silent : {W : Type 0} (contents : W → Option (List ℕ)) (request : TaskRequest)
-    (old : Option (List ℕ)) (given new : PromptWriter W) (ended r : Ending)
-    → Serves (Some request) old (held contents given) ended → Flushes contents given new ended r
+    (old : Option (List ℕ)) (given new : PromptWriter W) (ending r : Ending)
+    → Serves (Some request) old (held contents given) ending → Flushes contents given new ending r
     → is_silent r.outcome ≡ true → held contents new ≡ old
-whole_silent contents request old given new ended r h on e =
-    let silent = silent_then new ended r on.ends e in
+whole_silent contents request old given new ending r h on e =
+    let silent = silent_then new ending r on.ends e in
     ap (held contents) (on.silent silent).0
-    ∙ served_silent request old (held contents given) ended h silent
+    ∙ served_silent request old (held contents given) ending h silent
 
 -- ---- at status 0, 2 and 3
 
 -- at status 0, 2 and 3 something was written to standard output
-loud : (o : TaskOutcome) → status_of o ≤ 3 → (status_of o ≡ 1 → ⊥) → is_silent o ≡ false
-loud outcome.Done most apart = refl
-loud (outcome.WrongWords text) most apart = absurd (apart refl)
-loud (outcome.Refused rejection) most apart = refl
-loud (outcome.Faulted fault form) most apart = refl
-loud (outcome.CannotRead path kind) most apart = absurd (omega arith)
-loud (outcome.CannotWrite path cause) most apart = refl
-loud (outcome.CannotReplace path) most apart = absurd (omega arith)
-loud outcome.NoMemory most apart = absurd (omega arith)
+loud_by_status : (o : TaskOutcome) → status_of o ≤ 3 → (status_of o ≡ 1 → ⊥) → is_silent o ≡ false
+loud_by_status outcome.Done most apart = refl
+loud_by_status (outcome.WrongWords message) most apart = absurd (apart refl)
+loud_by_status (outcome.Refused rejection) most apart = refl
+loud_by_status (outcome.Faulted fault form) most apart = refl
+loud_by_status (outcome.CannotRead path kind) most apart = absurd (omega arith)
+loud_by_status (outcome.CannotWrite path cause) most apart = refl
+loud_by_status (outcome.CannotReplace path) most apart = absurd (omega arith)
+loud_by_status outcome.NoMemory most apart = absurd (omega arith)
 
-written : (name : List ℕ) (cause : Option ErrorKind) (o : TaskOutcome)
+write_failed : (name : List ℕ) (cause : Option ErrorKind) (o : TaskOutcome)
     → IsWriteFailureBy name cause o → status_of o ≤ 3 → ⊥
-written name cause outcome.Done h most = h
-written name cause (outcome.WrongWords text) h most = h
-written name cause (outcome.Refused rejection) h most = h
-written name cause (outcome.Faulted fault form) h most = h
-written name cause (outcome.CannotRead path kind) h most = h
-written name cause (outcome.CannotWrite path told) h most = omega arith
-written name cause (outcome.CannotReplace path) h most = h
-written name cause outcome.NoMemory h most = h
+write_failed name cause outcome.Done h most = h
+write_failed name cause (outcome.WrongWords message) h most = h
+write_failed name cause (outcome.Refused rejection) h most = h
+write_failed name cause (outcome.Faulted fault form) h most = h
+write_failed name cause (outcome.CannotRead path kind) h most = h
+write_failed name cause (outcome.CannotWrite path told) h most = omega arith
+write_failed name cause (outcome.CannotReplace path) h most = h
+write_failed name cause outcome.NoMemory h most = h
 
 -- arguments that ask for nothing end with another status
 pub unasked_status : (error : WordsError) (o : TaskOutcome) → IsWordsEnd error o → status_of o ≤ 3
@@ -340,14 +340,17 @@ unasked_status (Wrong text) (outcome.CannotReplace path) e most apart = e
 unasked_status (Wrong text) outcome.NoMemory e most apart = e
 
 -- if something was written to standard output, and it did not fail, then it was flushed
-loud_then : {W : Type 0} (out : PromptWriter W) (ended r : Ending)
-    → ((is_silent ended.outcome ≡ false → IsFlushed out) × (r ≡ ended)) ⊎ TellsFailure out r
+loud_then : {W : Type 0} (out : PromptWriter W) (ending r : Ending)
+    → ((is_silent ending.outcome ≡ false → IsFlushed out) × (r ≡ ending)) ⊎ TellsFailure out r
     → status_of r.outcome ≤ 3 → (status_of r.outcome ≡ 1 → ⊥) → IsFlushed out
-loud_then out ended r (inl kept) most apart =
-    kept.0 (ap (λ (x : Ending). is_silent x.outcome) (sym kept.1) ∙ loud r.outcome most apart)
-loud_then out ended r (inr failed) most apart = absurd (written _ _ r.outcome failed.told most)
+loud_then out ending r (inl kept) most apart =
+    kept.0
+    (ap (λ (x : Ending). is_silent x.outcome) (sym kept.1) ∙ loud_by_status r.outcome most apart)
+loud_then out ending r (inr failed) most apart =
+    absurd (write_failed _ _ r.outcome failed.told most)
 
 pub whole_handed_on : {W : Type 0} (contents : W → Option (List ℕ)) (given new : PromptWriter W)
-    (ended r : Ending) → Flushes contents given new ended r
+    (ending r : Ending) → Flushes contents given new ending r
     → status_of r.outcome ≤ 3 → (status_of r.outcome ≡ 1 → ⊥) → IsFlushed new
-whole_handed_on contents given new ended r on most apart = loud_then new ended r on.ends most apart
+whole_handed_on contents given new ending r on most apart =
+    loud_then new ending r on.ends most apart

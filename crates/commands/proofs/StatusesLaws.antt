@@ -19,7 +19,7 @@ use Rattle.commands.proofs.Knowing.{Knows, KnowsBy, KnowsStops}
 
 pub silent_words : (o : TaskOutcome) → status_of o ≡ 1 → is_silent o ≡ true
 silent_words Done e = absurd (omega arith)
-silent_words (WrongWords text) e = refl
+silent_words (WrongWords message) e = refl
 silent_words (Refused rejection) e = absurd (omega arith)
 silent_words (Faulted fault form) e = absurd (omega arith)
 silent_words (CannotRead path kind) e = refl
@@ -29,7 +29,7 @@ silent_words NoMemory e = refl
 
 pub silent_memory : (o : TaskOutcome) → status_of o ≡ 5 → is_silent o ≡ true
 silent_memory Done e = absurd (omega arith)
-silent_memory (WrongWords text) e = refl
+silent_memory (WrongWords message) e = refl
 silent_memory (Refused rejection) e = absurd (omega arith)
 silent_memory (Faulted fault form) e = absurd (omega arith)
 silent_memory (CannotRead path kind) e = refl
@@ -39,7 +39,7 @@ silent_memory NoMemory e = refl
 
 pub status_fits : (o : TaskOutcome) → status_of o ≤ 5
 status_fits Done = omega arith
-status_fits (WrongWords text) = omega arith
+status_fits (WrongWords message) = omega arith
 status_fits (Refused rejection) = omega arith
 status_fits (Faulted fault form) = omega arith
 status_fits (CannotRead path kind) = omega arith
@@ -49,7 +49,7 @@ status_fits NoMemory = omega arith
 
 pub unsaid_done : (o : TaskOutcome) → status_of o ≡ 0 → is_unsaid o ≡ true
 unsaid_done Done e = refl
-unsaid_done (WrongWords text) e = absurd (omega arith)
+unsaid_done (WrongWords message) e = absurd (omega arith)
 unsaid_done (Refused rejection) e = absurd (omega arith)
 unsaid_done (Faulted fault form) e = absurd (omega arith)
 unsaid_done (CannotRead path kind) e = absurd (omega arith)
@@ -60,9 +60,10 @@ unsaid_done NoMemory e = absurd (omega arith)
 pub told_refused : (o : TaskOutcome) (why : Option (String Global)) (old new : Option (List ℕ))
     → Knows o why → status_of o ≡ 2 → AppendsPart old new (outcome_text o why) → IsTold old new
 told_refused Done why old new k e h = absurd (omega arith)
-told_refused (WrongWords text) why old new k e h = absurd (omega arith)
-told_refused (Refused said) None old new k e h = inl (said, h)
-told_refused (Refused said) (Some text) old new (inl none) e h = absurd (none-some text (sym none))
+told_refused (WrongWords message) why old new k e h = absurd (omega arith)
+told_refused (Refused rejected) None old new k e h = inl (rejected, h)
+told_refused (Refused rejected) (Some text) old new (inl none) e h =
+    absurd (none-some text (sym none))
 told_refused (Refused (rejection.Image error form)) (Some text) old new (inr (inl (p, none))) e h =
     absurd (none-some text (sym none))
 told_refused (Refused (rejection.Image error form)) (Some text) old new
@@ -134,17 +135,17 @@ pub told_plain : (o : TaskOutcome) (old new : Option (List ℕ)) → status_of o
     → AppendsPart old new (message_of o) → IsTold old new
 told_plain o old new e h = told_refused o None old new (inl refl) e h
 
--- a task without a message on standard error has no text for its end
+-- a task without a message on standard error has no lines for its end
 pub unsaid_knows : (o : TaskOutcome) (why : Option (String Global)) → Knows o why
     → is_unsaid o ≡ true → why ≡ None
 unsaid_knows o why (inl none) e = none
 unsaid_knows Done why (inr (inl (p, none))) e = none
 unsaid_knows Done why (inr (inr (inl (p, bytes, none)))) e = none
 unsaid_knows Done why (inr (inr (inr (source, none)))) e = none
-unsaid_knows (WrongWords text) why (inr (inl (p, none))) e = none
-unsaid_knows (WrongWords text) why (inr (inr (inl (p, bytes, none)))) e = none
-unsaid_knows (WrongWords text) why (inr (inr (inr (source, none)))) e = none
-unsaid_knows (Refused said) why (inr k) e = absurd (false≢true e)
+unsaid_knows (WrongWords message) why (inr (inl (p, none))) e = none
+unsaid_knows (WrongWords message) why (inr (inr (inl (p, bytes, none)))) e = none
+unsaid_knows (WrongWords message) why (inr (inr (inr (source, none)))) e = none
+unsaid_knows (Refused rejected) why (inr k) e = absurd (false≢true e)
 unsaid_knows (Faulted fault form) why (inr (inl (p, none))) e = none
 unsaid_knows (Faulted fault form) why (inr (inr (inl (p, bytes, none)))) e = none
 unsaid_knows (Faulted fault form) why (inr (inr (inr (source, none)))) e = none
@@ -164,8 +165,8 @@ unsaid_knows NoMemory why (inr (inr (inr (source, none)))) e = none
 pub told_faulted : (o : TaskOutcome) (why : Option (String Global)) (old new : Option (List ℕ))
     → Knows o why → status_of o ≡ 3 → AppendsPart old new (outcome_text o why) → TellsFault old new
 told_faulted Done why old new k e h = absurd (omega arith)
-told_faulted (WrongWords text) why old new k e h = absurd (omega arith)
-told_faulted (Refused said) why old new k e h = absurd (omega arith)
+told_faulted (WrongWords message) why old new k e h = absurd (omega arith)
+told_faulted (Refused rejected) why old new k e h = absurd (omega arith)
 told_faulted (Faulted fault form) None old new k e h = (fault, form, inl h)
 told_faulted (Faulted fault form) (Some text) old new (inl none) e h =
     absurd (none-some text (sym none))
@@ -192,8 +193,8 @@ pub refused_by : (request : TaskRequest) (o : TaskOutcome) (why : Option (String
 refused_by (Trace files limit) o why old new (inl k) e h = told_refused o why old new k e h
 refused_by (Trace files limit) Done why old new (inr k) e h = absurd (omega arith)
 refused_by (Trace files limit) (Faulted fault form) why old new (inr k) e h = absurd (omega arith)
-refused_by (Trace files limit) (WrongWords text) why old new (inr k) e h = absurd k.0
-refused_by (Trace files limit) (Refused said) why old new (inr k) e h = absurd k.0
+refused_by (Trace files limit) (WrongWords message) why old new (inr k) e h = absurd k.0
+refused_by (Trace files limit) (Refused rejected) why old new (inr k) e h = absurd k.0
 refused_by (Trace files limit) (CannotRead path kind) why old new (inr k) e h = absurd k.0
 refused_by (Trace files limit) (CannotWrite path cause) why old new (inr k) e h = absurd k.0
 refused_by (Trace files limit) (CannotReplace path) why old new (inr k) e h = absurd k.0
@@ -219,8 +220,8 @@ stopped_faulted (Faulted fault form) (Some text) old new (end, (stops, is)) e h 
   ),
 )
 stopped_faulted Done why old new k e h = absurd (omega arith)
-stopped_faulted (WrongWords text) why old new k e h = absurd k.0
-stopped_faulted (Refused said) why old new k e h = absurd k.0
+stopped_faulted (WrongWords message) why old new k e h = absurd k.0
+stopped_faulted (Refused rejected) why old new k e h = absurd k.0
 stopped_faulted (CannotRead path kind) why old new k e h = absurd k.0
 stopped_faulted (CannotWrite path cause) why old new k e h = absurd k.0
 stopped_faulted (CannotReplace path) why old new k e h = absurd k.0
@@ -262,8 +263,8 @@ stopped_done words files limit Done (Some text) old new is (end, (stops, lines))
     })
 stopped_done words files limit (Faulted fault form) why old new is k e unsaid h =
     absurd (omega arith)
-stopped_done words files limit (WrongWords text) why old new is k e unsaid h = absurd k.0
-stopped_done words files limit (Refused said) why old new is k e unsaid h = absurd k.0
+stopped_done words files limit (WrongWords message) why old new is k e unsaid h = absurd k.0
+stopped_done words files limit (Refused rejected) why old new is k e unsaid h = absurd k.0
 stopped_done words files limit (CannotRead path kind) why old new is k e unsaid h = absurd k.0
 stopped_done words files limit (CannotWrite path cause) why old new is k e unsaid h = absurd k.0
 stopped_done words files limit (CannotReplace path) why old new is k e unsaid h = absurd k.0

@@ -69,8 +69,8 @@ pub record TracesSome (p : Program) (limit : ℕ) (out : List ℕ) (old new : Op
   pub before : Option (List ℕ)
   pub after : Option (List ℕ)
   pub cause : Option ErrorKind
-  pub traces : Traces p limit source form out cause (record { report = old; frames = before })
-      (record { report = new; frames = after }) result
+  pub traces : Traces p limit source form out cause (record { report = old; sent = before })
+      (record { report = new; sent = after }) result
 
 -- the same for a program with its bound that is run
 pub record RunsSome (v : Bounded) (out : List ℕ) (old new : Option (List ℕ))
@@ -80,8 +80,8 @@ pub record RunsSome (v : Bounded) (out : List ℕ) (old new : Option (List ℕ))
   pub before : Option (List ℕ)
   pub after : Option (List ℕ)
   pub cause : Option ErrorKind
-  pub runs : RunsAccepted v source form out cause (record { report = old; frames = before })
-      (record { report = new; frames = after }) result
+  pub runs : RunsAccepted v source form out cause (record { report = old; sent = before })
+      (record { report = new; sent = after }) result
 
 -- the image of a program was written to the file at the path, and then the line with its size
 pub record StoresSome (p : Program) (path : List ℕ) (old new : Option (List ℕ))

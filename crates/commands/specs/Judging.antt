@@ -18,7 +18,7 @@ use Rattle.rechecking.specs.declared.errors.TableError.{TableError}
 use Rattle.rechecking.specs.declared.errors.TableError.TheVariants as table
 use Rattle.rechecking.specs.Refusing.{ShowsBound}
 use Rattle.rechecking.specs.Refusing as rechecking
-use Rattle.assembler.specs.declared.errors.AsmErrorKind.TheVariants as text
+use Rattle.assembler.specs.declared.errors.AsmErrorKind.TheVariants as kind
 use Rattle.assembler.specs.declared.errors.AsmError.{AsmError}
 use Rattle.assembler.specs.Assembling.{assembled}
 use Rattle.commands.specs.declared.rejections.Rejection.TheVariants as rejection
@@ -115,7 +115,7 @@ RefusesTable p bytes old new result =
 abbrev pub RefusesText : List ℕ → Option (List ℕ) → Option (List ℕ) → TaskOutcome → Type 0
 RefusesText source old new result =
     LacksMemory old new result
-    ⊎ ((error : AsmError) × (assembled source ≡ Err error) × (error.kind ≢ text.Memory)
+    ⊎ ((error : AsmError) × (assembled source ≡ Err error) × (error.kind ≢ kind.Memory)
     × Says old new (text_line error) (Refused (rejection.Text error)) result)
 
 -- the file with this name cannot be written, or memory ran out

@@ -1,5 +1,5 @@
--- The lines on standard output that say a verdict. docs/FORMATS.md and docs/TEXT.md say what the
--- codes mean.
+-- The lines on standard output that say a verdict or a size. docs/FORMATS.md and docs/TEXT.md say
+-- what the codes mean.
 use Rattle.std.specs.Prelude.{ℕ, Bool, true, false, List, ◌++◌, length, codes, decimal}
 use Rattle.isa_model.specs.{Program}
 use Rattle.insn_codec.specs.Messages as codec

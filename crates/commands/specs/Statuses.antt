@@ -58,7 +58,7 @@ message_of (CannotReplace path) =
     codes "cannot write " ++ (path.now ++ codes "\nit is one of the files that are read\n")
 message_of NoMemory = codes "out of memory\n"
 
--- ---- what an outcome is
+-- ---- what a task's outcome is
 
 -- the arguments ask for nothing, and this text says why
 abbrev pub SaysWrongWords : List ℕ → TaskOutcome → Type 0

@@ -48,7 +48,7 @@ abbrev pub end_line : End → List ℕ
 end_line (Exit value steps) =
     codes "r0 names no action: 0 ABORTED, 1 DROP, 2 PASS, 3 TX, 4 REDIRECT\n"
 end_line (Trap reason steps) = trap_line reason
-end_line Limit = codes "the limit of instructions is reached: give more by --limit, or end a loop\n"
+end_line Limit = codes "the limit of steps is reached: give more by --limit, or end a loop\n"
 
 -- a packet frame, and where its run stopped
 abbrev pub stop_line : FrameStop → List ℕ

@@ -58,32 +58,33 @@ EndsTask name cause form ended handed got result =
     ⊎ (IsBeginningOf got handed × FailsBy name cause form ended result)
 
 -- A program is traced on a stream: what is written is exactly the checked report of the program and
--- of the frames that were found, which are those that the source's bytes spell, if those are known.
+-- of the packet frames that were found, which are those that the source's bytes spell, if those are
+-- known.
 -- If the file of the frames out failed, `cause` is why, and the message says it. The message also
 -- says where runs stopped that ended without an action.
 pub record Traces (p : Program) (limit : ℕ) (source : Option (List ℕ)) (form : FileForm)
     (name : List ℕ) (cause : Option ErrorKind) (old new : Outputs) (result : Ending) : Type 0 where
   pub ended : Result Traced HostError
   pub handed : Option (List ℕ)
-  pub ends : EndsTask name cause form (tallied ended) handed new.frames result.outcome
+  pub ends : EndsTask name cause form (tallied ended) handed new.sent result.outcome
   pub report_untouched : ended ≡ Err failure.Memory → new.report ≡ old.report
-  pub frames_untouched : ended ≡ Err failure.Memory → handed ≡ old.frames
+  pub sent_untouched : ended ≡ Err failure.Memory → handed ≡ old.sent
   pub lines : Option (String Global)
   pub tells : TellsStopsOf ended lines
   pub why : result.why ≡ at_end result.outcome lines
   pub reports : ended ≢ Err failure.Memory
       → Reports source (checked_report p limit) (ShowsTraced p limit) old
-      (record { report = new.report; frames = handed }) ended
+      (record { report = new.report; sent = handed }) ended
 
 -- An accepted program is run on a stream: what is written is exactly the report of the program and
--- of the frames that were found, which are those that the source's bytes spell, if those are known;
--- no run meets a trap, and each exits within the bound.
+-- of the packet frames that were found, which are those that the source's bytes spell, if those are
+-- known; no run meets a trap, and each exits within the bound.
 pub record RunsAccepted (v : Bounded) (source : Option (List ℕ)) (form : FileForm) (name : List ℕ)
     (cause : Option ErrorKind) (old new : Outputs) (result : TaskOutcome) : Type 0 where
   pub ended : Result Tally HostError
   pub handed : Option (List ℕ)
-  pub ends : EndsTask name cause form ended handed new.frames result
+  pub ends : EndsTask name cause form ended handed new.sent result
   pub report_untouched : ended ≡ Err failure.Memory → new.report ≡ old.report
-  pub frames_untouched : ended ≡ Err failure.Memory → handed ≡ old.frames
+  pub sent_untouched : ended ≡ Err failure.Memory → handed ≡ old.sent
   pub reports : ended ≢ Err failure.Memory
-      → ReportsRun v source old (record { report = new.report; frames = handed }) ended
+      → ReportsRun v source old (record { report = new.report; sent = handed }) ended

@@ -17,9 +17,9 @@ use words::{WordsError, read_words};
 /// 2 refused, 3 the frame stream has a fault, 4 a file or an output failed, 5 out of memory.
 ///
 /// `asked` says which command the arguments ask for, on which files and with which limit, and
-/// `Executes` what that command writes to standard output. With `run` and `trace` this is the
-/// report of the image's program on the packet frames of a stream, with other commands the verdict,
-/// the text, or the sizes of an image. No contract can say what a file holds.
+/// `Executes` what that command writes to standard output. With `run` this is the report of the
+/// image's program on the packet frames of a stream, with `trace` the checked report, with other
+/// commands the verdict, the text, or the sizes of an image. No contract can say what a file holds.
 ///
 /// The first word is the program's name. `out` is standard output with its buffer, and `err` is
 /// standard error. At status 0, 2 and 3 all output has been written through the buffer. At status 1

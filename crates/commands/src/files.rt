@@ -110,8 +110,8 @@ pub fn open_streams<'a, 'b, R: Files + Clock>(
     Ok((source, form, file))
 }
 
-/// Runs a program on a frame stream with checks: the image is read and judged, then the frames are
-/// opened, then the frames out. The report is written to standard output as it is made.
+/// Runs a program on a frame stream with checks: the image is read and judged, then the stream is
+/// opened, then the frames out. The checked report is written to standard output as it is made.
 pub fn trace<'a, R: Files + Clock, W: Write>(
     rt: &R,
     alloc: Global,
@@ -134,7 +134,7 @@ pub fn trace<'a, R: Files + Clock, W: Write>(
     }
 }
 
-/// Runs a program with its bound on a frame stream: the frames are opened, then the frames out,
+/// Runs a program with its bound on a frame stream: the stream is opened, then the frames out,
 /// which may not replace a file that is read. The report is written to standard output as it is
 /// made.
 pub fn run_on<'a, R: Files + Clock, W: Write>(
@@ -156,8 +156,8 @@ pub fn run_on<'a, R: Files + Clock, W: Write>(
     }
 }
 
-/// Verifies a program and runs it on a frame stream: the image is read and judged, then the frames
-/// are opened, then the frames out. The report is written to standard output as it is made.
+/// Verifies a program and runs it on a frame stream: the image is read and judged, then the stream
+/// is opened, then the frames out. The report is written to standard output as it is made.
 pub fn run_verified<'a, R: Files + Clock, W: Write>(
     rt: &R,
     alloc: Global,

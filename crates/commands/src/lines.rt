@@ -20,11 +20,11 @@ fn whole_line(alloc: Global, code: &str) -> Result<String, AllocError>
 }
 
 // The line for what is refused at a map, a slot or an entry; the unit says which, as ` slot `.
-fn counted_line(alloc: Global, code: &str, unit: &str, number: usize) -> Result<String, AllocError>
+fn counted_line(alloc: Global, code: &str, unit: &str, index: usize) -> Result<String, AllocError>
     ensures { IfOk result (λ line. string_bytes line
-        ≡ codes "refused " ++ (code.now ++ (unit.now ++ (decimal number ++ codes "\n")))) }
+        ≡ codes "refused " ++ (code.now ++ (unit.now ++ (decimal index ++ codes "\n")))) }
 {
-    format!(in alloc; "refused {code}{unit}{number}\n")
+    format!(in alloc; "refused {code}{unit}{index}\n")
 }
 
 // The same line with the code of the refusal of the instruction there.
@@ -32,14 +32,14 @@ fn inner_line(
     alloc: Global,
     code: &str,
     unit: &str,
-    number: usize,
+    index: usize,
     inner: &str,
 ) -> Result<String, AllocError>
     ensures { IfOk result (λ line. string_bytes line
-        ≡ codes "refused " ++ (code.now ++ (unit.now ++ (decimal number
+        ≡ codes "refused " ++ (code.now ++ (unit.now ++ (decimal index
         ++ (codes " " ++ (inner.now ++ codes "\n")))))) }
 {
-    format!(in alloc; "refused {code}{unit}{number} {inner}\n")
+    format!(in alloc; "refused {code}{unit}{index} {inner}\n")
 }
 
 /// The line for an image that is refused.

@@ -18,7 +18,7 @@ fn read_all<S: Read + Drop>(alloc: Global, mut source: S) -> io::Result<Vec<u8>>
 }
 
 /// The first bytes of a source, at most this many.
-fn read_front<S: Read + Drop>(alloc: Global, source: S, most: u64) -> io::Result<Vec<u8>>
+fn read_first<S: Read + Drop>(alloc: Global, source: S, most: u64) -> io::Result<Vec<u8>>
     ensures { IfOk result (λ bytes. IfSome (S.remaining source)
         (λ held. bytes.items ≡ take most held)) }
 {
@@ -32,5 +32,5 @@ pub fn read_file<R: Files>(rt: &R, alloc: Global, path: &str) -> io::Result<Vec<
 
 /// The first bytes of a file, at most this many.
 pub fn read_start<R: Files>(rt: &R, alloc: Global, path: &str, most: u64) -> io::Result<Vec<u8>> {
-    read_front(alloc, fs::open(rt, path)?, most)
+    read_first(alloc, fs::open(rt, path)?, most)
 }

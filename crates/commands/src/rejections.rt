@@ -81,7 +81,7 @@ impl Rejection {
 }
 
 // Writes what a file that is not an image looks like.
-fn say_form<W: Write>(err: &mut W, form: FileForm) -> io::Result<()>
+fn say_file_form<W: Write>(err: &mut W, form: FileForm) -> io::Result<()>
     ensures ok { OnOk result (Appends (W.contents err.old) (W.contents err.new)
         (file_line form)) }
     ensures err { OnErr result (AppendsBeginning (W.contents err.old) (W.contents err.new)
@@ -90,15 +90,15 @@ fn say_form<W: Write>(err: &mut W, form: FileForm) -> io::Result<()>
     write_bytes(err, form.line().as_bytes())
 }
 
-// Writes a unit, as `map` or `slot`, and a number.
-fn say_number<W: Write>(err: &mut W, unit: &str, number: usize) -> io::Result<()>
+// Writes a unit, as `map` or `slot`, and an index.
+fn say_index<W: Write>(err: &mut W, unit: &str, index: usize) -> io::Result<()>
     ensures ok { OnOk result (Appends (W.contents err.old) (W.contents err.new)
-        (unit.now ++ (decimal number ++ codes "\n"))) }
+        (unit.now ++ (decimal index ++ codes "\n"))) }
     ensures err { OnErr result (AppendsBeginning (W.contents err.old) (W.contents err.new)
-        (unit.now ++ (decimal number ++ codes "\n"))) }
+        (unit.now ++ (decimal index ++ codes "\n"))) }
 {
     let mut buffer = Buffer::new();
-    write_texts(err, unit, buffer.format(number as u64), "\n")
+    write_texts(err, unit, buffer.format(index as u64), "\n")
 }
 
 // Writes a hint where bytes are not an image.
@@ -111,19 +111,19 @@ fn say_hint<W: Write>(err: &mut W, error: ImageError) -> io::Result<()>
     write_texts(err, "", error.hint(), "\n")
 }
 
-// Writes a unit with a number, and a hint.
+// Writes a unit with an index, and a hint.
 fn say_with_hint<W: Write>(
     err: &mut W,
     unit: &str,
-    number: usize,
+    index: usize,
     error: ImageError,
 ) -> io::Result<()>
     ensures ok { OnOk result (Appends (W.contents err.old) (W.contents err.new)
-        ((unit.now ++ (decimal number ++ codes "\n")) ++ hint_line error)) }
+        ((unit.now ++ (decimal index ++ codes "\n")) ++ hint_line error)) }
     ensures err { OnErr result (AppendsBeginning (W.contents err.old) (W.contents err.new)
-        ((unit.now ++ (decimal number ++ codes "\n")) ++ hint_line error)) }
+        ((unit.now ++ (decimal index ++ codes "\n")) ++ hint_line error)) }
 {
-    say_number(err, unit, number)?;
+    say_index(err, unit, index)?;
     say_hint(err, error)
 }
 
@@ -135,7 +135,7 @@ fn say_image_position<W: Write>(err: &mut W, error: ImageError, form: FileForm) 
         (image_position error form)) }
 {
     match error {
-        ImageError::Magic => say_form(err, form),
+        ImageError::Magic => say_file_form(err, form),
         ImageError::Memory => Ok(()),
         ImageError::MapRow(index) => say_with_hint(err, "map ", index, error),
         ImageError::Code(slot, _) | ImageError::UnknownMap(slot) | ImageError::ValuePointer(slot) =>

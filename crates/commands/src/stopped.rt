@@ -79,7 +79,7 @@ fn end_line(end: End) -> &'static str
     match end {
         End::Exit(_, _) => "r0 names no action: 0 ABORTED, 1 DROP, 2 PASS, 3 TX, 4 REDIRECT\n",
         End::Trap(reason, _) => trap_line(reason),
-        End::Limit => "the limit of instructions is reached: give more by --limit, or end a loop\n",
+        End::Limit => "the limit of steps is reached: give more by --limit, or end a loop\n",
     }
 }
 
@@ -149,7 +149,8 @@ pub fn lines_of_stops(alloc: Global, ended: &Result<Traced, HostError>) -> Optio
     }
 }
 
-/// The message after a trace with this outcome: it is written if all of the output was flushed.
+/// The message after a task that traces, by how the task ended: it is written if all of the output
+/// was flushed.
 pub fn at_end(outcome: TaskOutcome<'_>, why: Option<String>) -> Option<String>
     ensures { result ≡ at_end outcome.entry why }
 {

@@ -46,9 +46,10 @@ fn outcome_of<'a, W: Write + Drop>(
     }
 }
 
-/// Runs a program on a frame stream of this file form, with checks. The report is written to `out`
-/// as it is made, and the frames out through a buffer to a file that was opened by this path. If
-/// the report was completed, `why` says where the first runs stopped that ended without an action.
+/// Runs a program on a frame stream of this file form, with checks. The checked report is written
+/// to `out` as it is made, and the frames out through a buffer to a file that was opened by this
+/// path. If the report was completed, `why` says where the first runs stopped that ended without
+/// an action.
 pub fn trace_stream<'a, R: Read + Drop, W1: Write, W2: Write + Drop>(
     alloc: Global,
     image: Image,
@@ -60,8 +61,8 @@ pub fn trace_stream<'a, R: Read + Drop, W1: Write, W2: Write + Drop>(
     file: &mut PromptWriter<W2>,
 ) -> Ending<'a>
     ensures { Traces image limit.steps (R.remaining source) form path.now (failure_of file.new)
-        record { report = W1.contents out.old; frames = held W2.contents file.old }
-        record { report = W1.contents out.new; frames = W2.contents (behind file.new) } result }
+        record { report = W1.contents out.old; sent = held W2.contents file.old }
+        record { report = W1.contents out.new; sent = W2.contents (behind file.new) } result }
 {
     let ended = run_checked(alloc, image, limit.steps, source, out, file);
     let lines = lines_of_stops(alloc, &ended);
@@ -84,8 +85,8 @@ pub fn run_stream<'a, R: Read + Drop, W1: Write, W2: Write + Drop>(
     file: &mut PromptWriter<W2>,
 ) -> TaskOutcome<'a>
     ensures { RunsAccepted verified (R.remaining source) form path.now (failure_of file.new)
-        record { report = W1.contents out.old; frames = held W2.contents file.old }
-        record { report = W1.contents out.new; frames = W2.contents (behind file.new) } result }
+        record { report = W1.contents out.old; sent = held W2.contents file.old }
+        record { report = W1.contents out.new; sent = W2.contents (behind file.new) } result }
 {
     let ended = run(alloc, verified, source, out, file);
     outcome_of(path, form, ended, file)

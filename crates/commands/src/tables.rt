@@ -61,7 +61,7 @@ pub fn recheck_file<'a, R: Files, W: Write>(
 }
 
 /// Runs a program on a frame stream after testing a proof table, in place of verifying the program:
-/// the image is read and judged, then the table, then the frames are opened, then the frames out.
+/// the image is read and judged, then the table, then the stream is opened, then the frames out.
 /// The report is written to standard output as it is made.
 pub fn run_shown<'a, R: Files + Clock, W: Write>(
     rt: &R,

@@ -159,7 +159,7 @@ AreSources-below nodes n latest earlier all m = record {
 abbrev pub FallsBack : List Node → ℕ → ℕ → ℕ → Type 0
 FallsBack nodes to back k = (k + back ≡ to) × (fall_from nodes k ≡ Some to)
 
--- control enters the slot by falling through, or by a jump from least or above it
+-- control enters the slot by falling through, or by a jump from `least` or above it
 abbrev pub ComesAbove : List Node → ℕ → ℕ → ℕ → Type 0
 ComesAbove nodes to least k = (fall_from nodes k ≡ Some to) ⊎ ((least ≤ k) × HasJump nodes to k)
 

@@ -13,7 +13,7 @@ use Rattle.control_flow.specs.declared.errors.FlowError.{FlowError}
 use Rattle.control_flow.specs.declared.errors.FlowError.TheVariants.{TargetOutside, SecondHalf, OtherFunction, FallsOff, Unreachable, Memory}
 use Rattle.control_flow.specs.Graph.{call_distance, BeginsInsn, jump_to, call_to, slot_behind, fall_to, HasEdge, Falls, Jumps, Calls}
 use Rattle.control_flow.specs.Functions.{SameFunction, EndsFunction}
-use Rattle.control_flow.specs.Flows.{IsFlow, IsJoin, HasTarget, Fails, test_number, IsFirst}
+use Rattle.control_flow.specs.Flows.{IsFlow, IsJoin, HasTarget, Fails, test_rank, IsFirst}
 
 -- ---- slots at which instructions begin
 
@@ -80,7 +80,7 @@ fall_to-behind p slot to h = of (fetch p slot) h where
   of (Some i) e = (i, refl, (cond_some (falls_through i) (slot + slots_filled i) to e).1)
   of None e = absurd cc
 
--- a successor within the function is an edge of the graph
+-- an edge of the graph leads to each successor within the function
 pub HasEdge-Follows : (p : Program) (slot next : ℕ) → Follows p slot next → HasEdge p slot next
 HasEdge-Follows p slot next (i, e, inl (falls, at)) =
     Falls (fall_to-insn p slot i e falls ∙ ap some_slot (sym at))
@@ -206,15 +206,15 @@ IsFlow-Fails p Memory slot flow h = h
 
 -- ---- the first test that fails
 
--- no two tests have the same number in their order
-test_number-same : (d e : FlowError) → test_number d ≡ test_number e → d ≡ e
-test_number-same TargetOutside TargetOutside h = refl
-test_number-same SecondHalf SecondHalf h = refl
-test_number-same OtherFunction OtherFunction h = refl
-test_number-same FallsOff FallsOff h = refl
-test_number-same Unreachable Unreachable h = refl
-test_number-same Memory Memory h = refl
-test_number-same d e h = absurd (omega (arith, h))
+-- no two tests have the same rank
+test_rank-same : (d e : FlowError) → test_rank d ≡ test_rank e → d ≡ e
+test_rank-same TargetOutside TargetOutside h = refl
+test_rank-same SecondHalf SecondHalf h = refl
+test_rank-same OtherFunction OtherFunction h = refl
+test_rank-same FallsOff FallsOff h = refl
+test_rank-same Unreachable Unreachable h = refl
+test_rank-same Memory Memory h = refl
+test_rank-same d e h = absurd (omega (arith, h))
 
 same_slot : (p : Program) (e : FlowError) (j k : ℕ) → IsFirst p e j → IsFirst p e k → j ≡ k
 same_slot p e j k x y =
@@ -228,9 +228,9 @@ same_slot p e j k x y =
 pub IsFirst-same : (p : Program) (d e : FlowError) (j k : ℕ) → IsFirst p d j → IsFirst p e k
     → (d ≡ e) × (j ≡ k)
 IsFirst-same p d e j k x y =
-    elim (cases_order (test_number d) (test_number e)) [
+    elim (cases_order (test_rank d) (test_rank e)) [
       | inl same ↦
-          let one : d ≡ e = test_number-same d e same in
+          let one : d ≡ e = test_rank-same d e same in
           (one, same_slot p e j k (subst (λ (t : FlowError). IsFirst p t j) one x) y)
       | inr (inl early) ↦ absurd (y.first d j early x.fails)
       | inr (inr late) ↦ absurd (x.first e k late y.fails)

@@ -72,7 +72,7 @@ without_has a b i =
     let only = min_one (bit_at a i) (bit_at b i) (bit_at-lt a i) (bit_at-lt b i) in
     (λ h. only.0 (sym is ∙ h), λ w. is ∙ only.1 w)
 
--- ---- no register
+-- ---- no home
 
 pub none_has : (r : Reg) → HasRegister no_registers r → ⊥
 none_has r h = let no_bit = bit_at-zero (reg_number r) in absurd cc

@@ -56,11 +56,11 @@ whole_byte place o j only (below, is) =
 
 pub whole_some : (place : Place) (o : Option ℕ) (byte : ℕ) → o ≡ Some byte → OnlyByte place o
     → byte % 8 ≡ 0 → (j : ℕ) → (some_number (byte / 8) ≡ Some j) ↔ IsWholeSlot place j
-whole_some place o byte is only even j = (
+whole_some place o byte is only aligned j = (
   λ e.
       let same : byte / 8 ≡ j = same_Some (byte / 8) j e in
       let (below, base, offset) = (only byte).0 is in
-      let at : byte ≡ 8 * j = omega (arith, same, even) in (
+      let at : byte ≡ 8 * j = omega (arith, same, aligned) in (
         omega (arith, at, below),
         place_is place R10 (stack_slot_offset j) base
             (offset ∙ ap (λ (n : ℕ). pos n -ℤ pos stack_size) at),
@@ -73,11 +73,11 @@ whole_some place o byte is only even j = (
 
 pub whole_other : (place : Place) (o : Option ℕ) (byte : ℕ) → o ≡ Some byte → OnlyByte place o
     → byte % 8 ≢ 0 → (j : ℕ) → (let none : Option ℕ = None in none ≡ Some j) ↔ IsWholeSlot place j
-whole_other place o byte is only odd j = (
+whole_other place o byte is only unaligned j = (
   λ e. absurd cc,
   λ whole.
       let same : byte ≡ 8 * j = same_Some byte (8 * j) (sym is ∙ whole_byte place o j only whole) in
-      absurd (odd (omega (arith, same))),
+      absurd (unaligned (omega (arith, same))),
 )
 
 pub whole_none : (place : Place) (o : Option ℕ) → o ≡ None → OnlyByte place o → (j : ℕ)

@@ -1,4 +1,4 @@
--- What the tests together say.
+-- The tests as a whole: what they say together.
 use Rattle.std.proofs.Common.{◌≡◌, ℕ, ◌+◌, ◌<◌, ◌≤◌, Bool, false, List, length, Some, None, refl, ap, ◌∙◌, subst, arith, inl, inr}
 use Rattle.std.specs.Prelude.{◌↔◌, ◌⊎◌, ◌≢◌, slice_index_or}
 use Rattle.std.proofs.lemmas.Bool.{cases_lt, cases_eq, cases_Bool}
@@ -11,7 +11,7 @@ use Rattle.control_flow.specs.declared.errors.FlowError.{FlowError}
 use Rattle.control_flow.specs.declared.errors.FlowError.TheVariants.{TargetOutside, SecondHalf, OtherFunction, FallsOff, Unreachable, Memory}
 use Rattle.control_flow.specs.Graph.{BeginsInsn, fall_to, HasEdge, Falls, Jumps, Calls, Reached}
 use Rattle.control_flow.specs.Functions.{BeginsFunction, SameFunction}
-use Rattle.control_flow.specs.Flows.{IsFlow, IsMarked, Fails, test_number, IsRefusal}
+use Rattle.control_flow.specs.Flows.{IsFlow, IsMarked, Fails, test_rank, IsRefusal}
 use Rattle.control_flow.proofs.FlowLaws.{BeginsInsn-insn, fetch-BeginsInsn, fall_to-behind, IsFlow-Fails}
 use Rattle.control_flow.proofs.TargetTests.{jump-inside, call-inside, target-BeginsInsn}
 
@@ -21,26 +21,26 @@ Passes p e = (k : ℕ) → Fails p e k → ⊥
 
 -- ---- the order of the tests
 
-pub passed_1 : (p : Program) → Passes p TargetOutside → (d : FlowError) (k : ℕ) → test_number d < 2
+pub passed_1 : (p : Program) → Passes p TargetOutside → (d : FlowError) (k : ℕ) → test_rank d < 2
     → Fails p d k → ⊥
 passed_1 p a TargetOutside k lt = a k
 passed_1 p a d k lt = absurd (omega (arith, lt))
 
 pub passed_2 : (p : Program) → Passes p TargetOutside → Passes p SecondHalf
-    → (d : FlowError) (k : ℕ) → test_number d < 3 → Fails p d k → ⊥
+    → (d : FlowError) (k : ℕ) → test_rank d < 3 → Fails p d k → ⊥
 passed_2 p a b SecondHalf k lt = b k
 passed_2 p a b TargetOutside k lt = a k
 passed_2 p a b d k lt = absurd (omega (arith, lt))
 
 pub passed_3 : (p : Program) → Passes p TargetOutside → Passes p SecondHalf → Passes p OtherFunction
-    → (d : FlowError) (k : ℕ) → test_number d < 4 → Fails p d k → ⊥
+    → (d : FlowError) (k : ℕ) → test_rank d < 4 → Fails p d k → ⊥
 passed_3 p a b x OtherFunction k lt = x k
 passed_3 p a b x SecondHalf k lt = b k
 passed_3 p a b x TargetOutside k lt = a k
 passed_3 p a b x d k lt = absurd (omega (arith, lt))
 
 pub passed_4 : (p : Program) → Passes p TargetOutside → Passes p SecondHalf → Passes p OtherFunction
-    → Passes p FallsOff → (d : FlowError) (k : ℕ) → test_number d < 5 → Fails p d k → ⊥
+    → Passes p FallsOff → (d : FlowError) (k : ℕ) → test_rank d < 5 → Fails p d k → ⊥
 passed_4 p a b x f FallsOff k lt = f k
 passed_4 p a b x f OtherFunction k lt = x k
 passed_4 p a b x f SecondHalf k lt = b k
@@ -67,7 +67,7 @@ leads-inside p a f slot to (Falls h) =
     elim (cases_lt to (length p.insns))
     [ inl inside ↦ inside | inr past ↦ absurd (f slot (to, h, inl past)) ]
 
--- equality of functions is decidable, by their numbers, so what is not refuted holds
+-- whether two slots have the same function is decidable, so what is not refuted holds
 stable : (p : Program) (slot to : ℕ) → ((SameFunction p slot to → ⊥) → ⊥) → SameFunction p slot to
 stable p slot to twice = record {
   none = λ f b. (

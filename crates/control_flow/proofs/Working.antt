@@ -147,9 +147,9 @@ still_marked : (found : List Bool) (slot k : ℕ) → k ≢ slot → IsMarked fo
     → IsMarked (set found slot false) k
 still_marked found slot k apart h = get_or-set_other found slot k false false apart ∙ h
 
-count-unset : (found : List Bool) (slot : ℕ) → slot < length found
+count-unmarked : (found : List Bool) (slot : ℕ) → slot < length found
     → count_by not (set found slot false) ≤ count_by not found + 1
-count-unset found slot inside =
+count-unmarked found slot inside =
     let moved : sum_by (λ x. cond (not x) 1 0) (set found slot false)
     + cond (not (get_or found slot false)) 1 0
     ≡ sum_by (λ x. cond (not x) 1 0) found
@@ -205,7 +205,7 @@ working_next p nodes W slot old new grown f s rest g t are popped x y wants m =
         ]
       ];
       few =
-          let more = count-unset f slot low in
+          let more = count-unmarked f slot low in
           omega (arith, more, y.even, m.few, ap length popped, length-append rest (slot ∷ []));
     } where
       before : (k : ℕ) (node : Node) → slice_get nodes k ≡ Some node

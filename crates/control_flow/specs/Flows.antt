@@ -38,20 +38,20 @@ Fails p FallsOff slot = (to : ℕ) × (fall_to p slot ≡ Some to) × EndsFuncti
 Fails p Unreachable slot = BeginsInsn p slot × (¬ Reached p slot)
 Fails p Memory slot = ⊥
 
--- the number of a test in the order of the tests
-abbrev pub test_number : FlowError → ℕ
-test_number TargetOutside = 1
-test_number SecondHalf = 2
-test_number OtherFunction = 3
-test_number FallsOff = 4
-test_number Unreachable = 5
-test_number Memory = 6
+-- the rank of a test, from 1, in the order of the tests
+abbrev pub test_rank : FlowError → ℕ
+test_rank TargetOutside = 1
+test_rank SecondHalf = 2
+test_rank OtherFunction = 3
+test_rank FallsOff = 4
+test_rank Unreachable = 5
+test_rank Memory = 6
 
 -- the first test that fails, at the lowest slot at which it does
 pub record IsFirst (p : Program) (e : FlowError) (slot : ℕ) : Type 0 where
   pub fails : Fails p e slot
   pub lowest : (k : ℕ) → k < slot → ¬ Fails p e k
-  pub first : (d : FlowError) (k : ℕ) → test_number d < test_number e → ¬ Fails p d k
+  pub first : (d : FlowError) (k : ℕ) → test_rank d < test_rank e → ¬ Fails p d k
 
 -- memory may run out at any test
 abbrev pub IsRefusal : Program → FlowError → ℕ → Type 0
@@ -62,8 +62,8 @@ IsRefusal p e slot = IsFirst p e slot
 
 -- the lowest slot at which it fails, if there is one
 abbrev pub IsLowest : (ℕ → Type 0) → Option ℕ → Type 0
-IsLowest Fails None = (k : ℕ) → ¬ Fails k
-IsLowest Fails (Some slot) = Fails slot × ((k : ℕ) → k < slot → ¬ Fails k)
+IsLowest FailsAt None = (k : ℕ) → ¬ FailsAt k
+IsLowest FailsAt (Some slot) = FailsAt slot × ((k : ℕ) → k < slot → ¬ FailsAt k)
 
 -- ---- marks
 

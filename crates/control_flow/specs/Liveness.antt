@@ -32,7 +32,7 @@ ReadsHome p h slot = (i : Insn) × (fetch p slot ≡ Some i) × IsReadBy (FrameA
 abbrev pub WritesHome : Program → Home → ℕ → Type 0
 WritesHome p h slot = (i : Insn) × (fetch p slot ≡ Some i) × IsWrittenBy i h
 
--- ---- paths
+-- ---- paths of jumps and fall-throughs
 
 -- control goes from a slot to the one after its instruction, or to the target of its jump
 abbrev pub GoesTo : Program → ℕ → ℕ → Type 0
@@ -53,6 +53,6 @@ IsHomeLive p h slot = (n : ℕ) × IsReadAfter p h n slot
 abbrev pub IsLive : Program → Reg → ℕ → Type 0
 IsLive p r slot = IsHomeLive p (InRegister r) slot
 
--- slot j of the frame's stack is live there
+-- stack slot j of the frame is live there
 abbrev pub IsSlotLive : Program → ℕ → ℕ → Type 0
 IsSlotLive p j slot = IsHomeLive p (InSlot j) slot

@@ -1,5 +1,5 @@
--- The state of a search: the slots that it found are marked, and those whose successors it has not
--- marked yet are its frontier.
+-- A search as far as it has come: the slots that it found are marked, and those from which it has
+-- not gone on yet are its frontier.
 use Rattle.std.specs.Prelude.{◌≡◌, ℕ, ◌+◌, ◌*◌, ◌<◌, ◌≤◌, ◌⊎◌, Bool, true, not, List, length, replicate, count_by, Contains}
 use Rattle.control_flow.specs.Flows.{IsMarked}
 

@@ -14,7 +14,7 @@ use Rattle.control_flow.specs.Accesses.{read_registers}
 
 -- ---- stack slots of 8 bytes, counted from the lowest address on
 
--- the place is byte n of the frame, from r10
+-- the place has the base r10, and is byte n of the frame
 abbrev pub IsByte : Place → ℕ → Type 0
 IsByte place n = (n < stack_size) × (place.base ≡ R10) × (place.offset ≡ pos n -ℤ pos stack_size)
 

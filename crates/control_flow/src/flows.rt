@@ -27,7 +27,7 @@ use std::marker::Model;
 pub struct Flow<'a> {
     image: &'a Image,
     joins: Vec<bool>,
-    live: Vec<HomeMask>,
+    masks: Vec<HomeMask>,
 }
 
 impl<'a> Model for Flow<'a> {
@@ -38,7 +38,7 @@ impl<'a> Model for Flow<'a> {
 
     ghost view = { λ flow. flow.image.now };
 
-    ghost invariant = { λ flow. DescribesFlow flow.image.now flow.joins.items flow.live.items };
+    ghost invariant = { λ flow. DescribesFlow flow.image.now flow.joins.items flow.masks.items };
 }
 
 /// Makes the tests in their order; each looks at the whole code.
@@ -86,10 +86,14 @@ impl<'a> Flow<'a> {
         let Ok(joins) = joins_of(alloc, image) else {
             return Err((FlowError::Memory, 0));
         };
-        let Ok(live) = live_homes(alloc, image) else {
+        let Ok(masks) = live_homes(alloc, image) else {
             return Err((FlowError::Memory, 0));
         };
-        Ok(Flow { image, joins, live })
+        Ok(Flow {
+            image,
+            joins,
+            masks,
+        })
     }
 
     /// Whether the slot is the target of a jump: there paths may meet.
@@ -105,7 +109,7 @@ impl<'a> Flow<'a> {
     pub fn live(&self, slot: usize) -> RegisterMask
         ensures { (r : TheReg) → HasRegister result r ↔ IsLive self.now r slot }
     {
-        mask_of(&self.live, slot).registers
+        mask_of(&self.masks, slot).registers
     }
 
     /// The stack slots of the call frame that may still be read from this slot of the code on: some
@@ -115,6 +119,6 @@ impl<'a> Flow<'a> {
     pub fn live_slots(&self, slot: usize) -> SlotMask
         ensures { (j : ℕ) → HasSlot result j ↔ IsSlotLive self.now j slot }
     {
-        mask_of(&self.live, slot).slots
+        mask_of(&self.masks, slot).slots
     }
 }

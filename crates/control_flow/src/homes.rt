@@ -1,4 +1,4 @@
-//! Sets of registers and stack slots, in which a call frame keeps values.
+//! Sets of homes: the registers and stack slots in which a call frame keeps values.
 
 ghost use Rattle.std.specs.Prelude.{◌≡◌, ◌≤◌, ◌↔◌, ◌⊎◌, IsTrue};
 ghost use Rattle.control_flow.specs.Liveness.{Home};

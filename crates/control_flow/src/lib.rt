@@ -1,7 +1,8 @@
-//! The control flow of programs: the successors of slots, and the functions that slots belong to.
+//! The control flow of programs: the successors of slots, the functions that slots belong to, and
+//! what is live at each slot.
 //!
-//! `specs/Graph.antt` has the graph, `specs/Functions.antt` the functions, and `specs/Flows.antt`
-//! which programs are good.
+//! `specs/Graph.antt` has the graph, `specs/Functions.antt` the functions, `specs/Liveness.antt`
+//! what is live, and `specs/Flows.antt` which programs are good.
 #![tactic(auto)]
 
 mod accesses;

@@ -4,8 +4,8 @@ ghost use Rattle.std.specs.Prelude.{◌≡◌, ◌<◌, ℕ, Some, length, OnOk,
 
 use std::alloc::{AllocError, Global};
 
-/// The state of a search: the slots that were found, and those of them whose successors it has not
-/// looked at yet.
+/// A search as far as it has come: the slots that were found, and those of them from which it has
+/// not gone on yet.
 #[derive(Drop)]
 pub struct SlotSearch {
     pub found: Vec<bool>,

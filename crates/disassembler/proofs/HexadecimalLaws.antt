@@ -7,7 +7,7 @@ use Rattle.std.proofs.lemmas.Nat.{div_below}
 use Rattle.std.proofs.Math.Nat.{pow-succ'}
 use Rattle.disassembler.specs.Hexadecimal.{hex_digits, hex_glyph}
 
--- the first digit
+-- a number below 16 has one digit
 pub hex_digits_last : (k n : ℕ) → 0 < k → n / 16 ≡ 0 → hex_digits k n ≡ hex_glyph (n % 16)
 unfolding hex_digits
 hex_digits_last zero n h e = absurd (omega (arith, h))
@@ -19,8 +19,8 @@ pub hex_digits_more : (k n : ℕ) → 0 < k → (n / 16 ≡ 0 → ⊥)
 unfolding hex_digits
 hex_digits_more zero n h ne = absurd (omega (arith, h))
 hex_digits_more (suc k) n h ne =
-    let less : suc k - 1 ≡ k = omega arith in
-    rw (less, ne_eqb (n / 16) 0 ne) refl
+    let same : suc k - 1 ≡ k = omega arith in
+    rw (same, ne_eqb (n / 16) 0 ne) refl
 
 -- the digits in front of others
 digits_onto-hex : (k n : ℕ) (acc : List ℕ) → digits_onto k 16 false n acc ≡ hex_digits k n ++ acc

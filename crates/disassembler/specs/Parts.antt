@@ -1,4 +1,4 @@
--- What lines of canonical text have in common.
+-- Parts that lines of canonical text have in common.
 use Rattle.std.specs.Prelude.{ℕ, List, ◌++◌, codes}
 use Rattle.isa_model.specs.declared.registers.Reg.{Reg}
 use Rattle.isa_model.specs.declared.sizes.Width.{Width}

@@ -10,5 +10,5 @@ slot_text None = []
 slot_text (Some i) = line_of i
 
 -- the lines of a program after its version line
-abbrev pub program_text : Program → List ℕ
-program_text p = rows_text p.maps ++ code_text (instructions p.insns)
+abbrev pub unversioned_text : Program → List ℕ
+unversioned_text p = rows_text p.maps ++ code_text (instructions p.insns)

@@ -10,10 +10,10 @@ use arrayvec::ArrayString;
 use itoa::Buffer;
 
 /// A line of text; none has more than 51 bytes.
-pub type CodeLine = ArrayString<96>;
+pub type TextLine = ArrayString<96>;
 
 /// Appends a number in decimal.
-pub fn push_number(line: &mut CodeLine, number: u64)
+pub fn push_number(line: &mut TextLine, number: u64)
     requires { array_string_len line.old + 20 ≤ 96 }
     ensures bytes { line.new.bytes ≡ line.old.bytes ++ decimal number }
     ensures len { array_string_len line.new ≤ array_string_len line.old + 20 }
@@ -23,7 +23,7 @@ pub fn push_number(line: &mut CodeLine, number: u64)
 }
 
 /// Appends a number in decimal, with a minus if it is negative.
-pub fn push_signed(line: &mut CodeLine, number: i32)
+pub fn push_signed(line: &mut TextLine, number: i32)
     requires { array_string_len line.old + 20 ≤ 96 }
     ensures bytes { line.new.bytes ≡ line.old.bytes ++ signed_decimal number }
     ensures len { array_string_len line.new ≤ array_string_len line.old + 20 }
@@ -33,7 +33,7 @@ pub fn push_signed(line: &mut CodeLine, number: i32)
 }
 
 /// Appends an offset in bytes: `+ 0`, `+ 8`, `- 8`.
-pub fn push_offset(line: &mut CodeLine, offset: i16)
+pub fn push_offset(line: &mut TextLine, offset: i16)
     requires { array_string_len line.old + 22 ≤ 96 }
     ensures bytes { line.new.bytes ≡ line.old.bytes ++ offset_text offset }
     ensures len { array_string_len line.new ≤ array_string_len line.old + 22 }
@@ -47,7 +47,7 @@ pub fn push_offset(line: &mut CodeLine, offset: i16)
 }
 
 /// Appends a distance in slots: `+0`, `+3`, `-2`.
-pub fn push_distance(line: &mut CodeLine, distance: i32)
+pub fn push_distance(line: &mut TextLine, distance: i32)
     requires { array_string_len line.old + 21 ≤ 96 }
     ensures bytes { line.new.bytes ≡ line.old.bytes ++ distance_text distance }
     ensures len { array_string_len line.new ≤ array_string_len line.old + 21 }
@@ -87,7 +87,7 @@ fn hex_digit(digit: u64) -> &'static str
 }
 
 // Appends at most `count` hexadecimal digits.
-fn push_digits(line: &mut CodeLine, number: u64, count: u32)
+fn push_digits(line: &mut TextLine, number: u64, count: u32)
     requires { array_string_len line.old + count ≤ 96 }
     ensures bytes { line.new.bytes ≡ line.old.bytes ++ hex_digits count number }
     ensures len { array_string_len line.new ≤ array_string_len line.old + count }
@@ -104,7 +104,7 @@ fn push_digits(line: &mut CodeLine, number: u64, count: u32)
 
 /// Appends a number in lower-case hexadecimal, without leading zeros.
 #[tactic(auto, using(crate::proofs::HexadecimalLaws::digits_in_hex))]
-pub fn push_hex(line: &mut CodeLine, number: u64)
+pub fn push_hex(line: &mut TextLine, number: u64)
     requires { array_string_len line.old + 16 ≤ 96 }
     ensures bytes { line.new.bytes ≡ line.old.bytes ++ digits 16 false number }
     ensures len { array_string_len line.new ≤ array_string_len line.old + 16 }

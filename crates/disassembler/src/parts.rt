@@ -5,12 +5,12 @@ ghost use Rattle.arrayvec.specs.ArrayString.{array_string_len};
 ghost use Rattle.isa_model.specs.Text.CanonicalText.{reg_text, operand_text, place_text};
 ghost use Rattle.disassembler.specs.Parts.{memory_text};
 
-use super::numbers::{CodeLine, push_offset, push_signed};
+use super::numbers::{TextLine, push_offset, push_signed};
 use super::words::reg_digits;
 use isa_model::{Operand, Place, Reg, Width};
 
 /// Appends a register: `w3` for its low half, `r3` for all of it.
-pub fn push_reg(line: &mut CodeLine, width: Width, register: Reg)
+pub fn push_reg(line: &mut TextLine, width: Width, register: Reg)
     requires { array_string_len line.old + 3 ≤ 96 }
     ensures bytes { line.new.bytes ≡ line.old.bytes ++ reg_text width register }
     ensures len { array_string_len line.new ≤ array_string_len line.old + 3 }
@@ -23,7 +23,7 @@ pub fn push_reg(line: &mut CodeLine, width: Width, register: Reg)
 }
 
 /// Appends a right operand.
-pub fn push_operand(line: &mut CodeLine, width: Width, operand: Operand)
+pub fn push_operand(line: &mut TextLine, width: Width, operand: Operand)
     requires { array_string_len line.old + 20 ≤ 96 }
     ensures bytes { line.new.bytes ≡ line.old.bytes ++ operand_text width operand }
     ensures len { array_string_len line.new ≤ array_string_len line.old + 20 }
@@ -35,7 +35,7 @@ pub fn push_operand(line: &mut CodeLine, width: Width, operand: Operand)
 }
 
 /// Appends a place in memory: `r10 - 8`.
-pub fn push_place(line: &mut CodeLine, place: Place)
+pub fn push_place(line: &mut TextLine, place: Place)
     requires { array_string_len line.old + 26 ≤ 96 }
     ensures bytes { line.new.bytes ≡ line.old.bytes ++ place_text place }
     ensures len { array_string_len line.new ≤ array_string_len line.old + 26 }
@@ -46,7 +46,7 @@ pub fn push_place(line: &mut CodeLine, place: Place)
 }
 
 /// Appends memory of a size, whose word is `size`: `*(u32 *)(r10 - 8)`.
-pub fn push_memory(line: &mut CodeLine, size: &str, place: Place)
+pub fn push_memory(line: &mut TextLine, size: &str, place: Place)
     requires short { length size.now ≤ 3 }
     requires room { array_string_len line.old + 36 ≤ 96 }
     ensures bytes { line.new.bytes ≡ line.old.bytes ++ memory_text size.now place }

@@ -5,7 +5,7 @@ ghost use Rattle.std.specs.List.{flat_map};
 ghost use Rattle.std.specs.Io.KnownBytes.{Appends};
 ghost use Rattle.isa_model.specs.Text.CanonicalText.{line_of, row_line, rows_text, version_line, canonical_text};
 ghost use Rattle.exact_io.specs.Transfers.{AppendsBeginning};
-ghost use Rattle.disassembler.specs.SlotText.{slot_text, program_text};
+ghost use Rattle.disassembler.specs.SlotText.{slot_text, unversioned_text};
 
 use super::lines::{line_of, line_of_row};
 use exact_io::write_bytes;
@@ -88,9 +88,9 @@ fn write_version<W: Write>(image: &Image, out: &mut W) -> io::Result<()>
 // Writes the lines after the one of the version.
 fn write_program<W: Write>(image: &Image, out: &mut W) -> io::Result<()>
     ensures ok { OnOk result
-        (Appends (W.contents out.old) (W.contents out.new) (program_text image.now)) }
+        (Appends (W.contents out.old) (W.contents out.new) (unversioned_text image.now)) }
     ensures err { OnErr result
-        (AppendsBeginning (W.contents out.old) (W.contents out.new) (program_text image.now)) }
+        (AppendsBeginning (W.contents out.old) (W.contents out.new) (unversioned_text image.now)) }
 {
     write_rows(out, image.maps())?;
     write_code(out, image.code())?;

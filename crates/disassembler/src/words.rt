@@ -133,7 +133,7 @@ pub fn op_sign(op: AluOp) -> &'static str
     }
 }
 
-/// The sign of a test.
+/// The sign of a comparison.
 pub fn comparison_sign(comparison: Comparison) -> &'static str
     ensures text { result.now ≡ comparison_text comparison }
     ensures short { length result.now ≤ 3 }

@@ -27,7 +27,7 @@ failure_of w = w.failure
 abbrev pub held : {W : Type 0} → (W → Option (List ℕ)) → PromptWriter W → Option (List ℕ)
 held contents w = append_known (contents (behind w)) (waiting w)
 
--- a call failed for this reason
+-- a call failed with an error of this kind
 abbrev pub FailsWith : {A : Type 0} → ErrorKind → Result A Error → Type 0
 FailsWith kind (Ok a) = ⊥
 FailsWith kind (Err error) = error_kind error ≡ kind

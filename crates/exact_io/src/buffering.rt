@@ -13,8 +13,8 @@ use std::io::{BufWriter, ErrorKind, Write};
 
 /// A buffered writer. Bytes that are in the buffer when it is dropped are not written.
 ///
-/// A write or a flush that fails is the last one: each later one fails for the same reason, and
-/// nothing is tried again. If the inner writer takes no byte, the write fails with
+/// A write or a flush that fails is the last one: each later one fails with an error of the
+/// same kind, and nothing is tried again. If the inner writer takes no byte, the write fails with
 /// `ErrorKind::WriteZero`.
 pub struct PromptWriter<W: Write + Drop> {
     buffered: BufWriter<W>,
@@ -98,7 +98,7 @@ impl<W: Write + Drop> Write for PromptWriter<W> {
         ensures at_once { 0 < prompt_left self.old → OnOk result (waiting self.new ≡ []) }
         ensures left { IfOk result (λ n. prompt_left self.new ≡ prompt_left self.old - n) }
         ensures some { IfOk result (λ n. 0 < length bytes.now → 0 < n) }
-        ensures recorded { MatchResult result (λ _. failure_of self.new ≡ None)
+        ensures remembered { MatchResult result (λ _. failure_of self.new ≡ None)
             (λ e. failure_of self.new ≡ Some (error_kind e)) }
         ensures last { (kind : ErrorKind) → failure_of self.old ≡ Some kind
             → FailsWith kind result × (self.new ≡ self.old) }
@@ -122,7 +122,7 @@ impl<W: Write + Drop> Write for PromptWriter<W> {
     fn flush(&mut self) -> io::Result<()>
         ensures bytes { Keeps (held W.contents self.old) (held W.contents self.new) }
         ensures ok { OnOk result (waiting self.new ≡ []) }
-        ensures recorded { MatchResult result (λ _. failure_of self.new ≡ None)
+        ensures remembered { MatchResult result (λ _. failure_of self.new ≡ None)
             (λ e. failure_of self.new ≡ Some (error_kind e)) }
         ensures last { (kind : ErrorKind) → failure_of self.old ≡ Some kind
             → FailsWith kind result × (self.new ≡ self.old) }

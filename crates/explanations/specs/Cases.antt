@@ -145,7 +145,7 @@ sizes_line rows a = sizes_by rows (kind_of a R1)
 
 -- ---- ends
 
--- what an exit may return, by how many callers there are
+-- what r0 has to be at an exit, by how many callers there are
 abbrev pub exit_line : ℕ → List ℕ
 exit_line callers =
     if callers == 0 then codes "r0 has to be a number: 0 ABORTED, 1 DROP, 2 PASS, 3 TX\n"

@@ -36,9 +36,9 @@ ways_in ways.Two = 2
 
 -- how many successors there are, and how many entries are named
 abbrev pub count_line : ℕ → ℕ → List ℕ
-count_line successors named =
+count_line successors named_count =
     codes "successors: "
-    ++ (decimal successors ++ (codes "; entries named: " ++ (decimal named ++ codes "\n")))
+    ++ (decimal successors ++ (codes "; entries named: " ++ (decimal named_count ++ codes "\n")))
 
 -- why the entry with this index cannot be named for the nth state
 pub record TellsNamed (t : EntryAt) (number nth index : ℕ) (state : State)
@@ -71,7 +71,7 @@ SaysOfEntry p t (Successor k) i e text = (w : Ways) × (a : State) × (b : State
     × StepsToWays p e.state i w a b × TellsSuccessors t e.number e.successors (states_of w a b) text
 SaysOfEntry p t error i e text = ⊥
 
--- the entry that is refused
+-- the index of the entry that is refused
 abbrev pub IsIndexOf : TableError → ℕ → Type 0
 IsIndexOf (Step k r) index = k ≡ index
 IsIndexOf (Successor k) index = k ≡ index
@@ -86,7 +86,7 @@ pub record IsReasonAt (p : Program) (t : EntryAt) (error : TableError) (slot : �
   pub there : t index ≡ Some entry
   pub slot_is : slot ≡ entry.state.slot
   pub here : fetch p slot ≡ Some i
-  pub tells : SaysOfEntry p t error i entry text
+  pub says : SaysOfEntry p t error i entry text
 
 -- the text is the reason of an entry of the table that these bytes spell
 abbrev pub IsEntryReason : Program → List ℕ → TableError → ℕ → Insn → List ℕ → Type 0

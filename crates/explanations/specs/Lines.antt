@@ -62,8 +62,8 @@ abbrev pub read_line : State → Kind → ℤ → List ℕ
 read_line a (Stack frame offset) by = byte_line a frame (byte_at (offset +ℤ by))
 read_line a k by = []
 
-abbrev pub place_line : State → Place → List ℕ
-place_line a place = read_line a (kind_of a place.base) place.offset
+abbrev pub read_slot_line : State → Place → List ℕ
+read_slot_line a place = read_line a (kind_of a place.base) place.offset
 
 -- of a helper's bytes, the first stack slot that is not all written
 abbrev pub open_line : State → ℕ → Option ℕ → List ℕ
@@ -85,28 +85,29 @@ abbrev pub called_row : List MapDef → Kind → Option MapDef
 called_row rows (Map m) = slice_get rows m
 called_row rows k = None
 
-abbrev pub key_line : State → Option MapDef → List ℕ
-key_line a None = []
-key_line a (Some row) = bytes_line a (kind_of a R2) row.key_size
+abbrev pub key_bytes_line : State → Option MapDef → List ℕ
+key_bytes_line a None = []
+key_bytes_line a (Some row) = bytes_line a (kind_of a R2) row.key_size
 
-abbrev pub value_line : State → Option MapDef → List ℕ
-value_line a None = []
-value_line a (Some row) = bytes_line a (kind_of a R3) row.value_size
+abbrev pub value_bytes_line : State → Option MapDef → List ℕ
+value_bytes_line a None = []
+value_bytes_line a (Some row) = bytes_line a (kind_of a R3) row.value_size
 
 -- the bytes of its key and of its value
 abbrev pub helper_lines : List MapDef → State → Option Helper → List ℕ
-helper_lines rows a (Some MapLookupElem) = key_line a (called_row rows (kind_of a R1))
+helper_lines rows a (Some MapLookupElem) = key_bytes_line a (called_row rows (kind_of a R1))
 helper_lines rows a (Some MapUpdateElem) =
-    key_line a (called_row rows (kind_of a R1)) ++ value_line a (called_row rows (kind_of a R1))
-helper_lines rows a (Some MapDeleteElem) = key_line a (called_row rows (kind_of a R1))
+    key_bytes_line a (called_row rows (kind_of a R1))
+    ++ value_bytes_line a (called_row rows (kind_of a R1))
+helper_lines rows a (Some MapDeleteElem) = key_bytes_line a (called_row rows (kind_of a R1))
 helper_lines rows a helper = []
 
 abbrev pub stack_lines : List MapDef → State → Insn → List ℕ
-stack_lines rows a (Load size d place) = place_line a place
-stack_lines rows a (LoadSx size d place) = place_line a place
-stack_lines rows a (Atomic w op fetched place r) = place_line a place
-stack_lines rows a (Exchange w place r) = place_line a place
-stack_lines rows a (CompareExchange w place r) = place_line a place
+stack_lines rows a (Load size d place) = read_slot_line a place
+stack_lines rows a (LoadSx size d place) = read_slot_line a place
+stack_lines rows a (Atomic w op fetched place r) = read_slot_line a place
+stack_lines rows a (Exchange w place r) = read_slot_line a place
+stack_lines rows a (CompareExchange w place r) = read_slot_line a place
 stack_lines rows a (CallHelper number) = helper_lines rows a (helper_numbered number)
 stack_lines rows a i = []
 

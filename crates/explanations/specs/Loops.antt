@@ -13,7 +13,7 @@ is_jump (Some (JumpLong by)) = true
 is_jump (Some (JumpIf cond by)) = true
 is_jump i = false
 
--- the jump of a step from a slot to another, if it goes back in the code
+-- the jump from a slot to another that a step makes, if it goes back in the code
 abbrev pub back_jump : Program → (from to : ℕ) → Option TheJump
 back_jump p from to =
     if is_jump (fetch p from) && nat_le to from

@@ -7,7 +7,7 @@ use Rattle.stack_state.specs.Slots.{slot_at, frame_slots}
 use Rattle.table_entries.specs.Entries.{Entry}
 use Rattle.rechecking.specs.Tables.{EntryAt}
 use Rattle.explanations.specs.Kinds.{calls_up, kind_words}
-use Rattle.explanations.specs.Slots.{place_of, slot_words}
+use Rattle.explanations.specs.Slots.{offset_of, slot_words}
 use Rattle.explanations.specs.declared.mismatches.Mismatch.{Mismatch}
 use Rattle.explanations.specs.declared.mismatches.Mismatch.TheVariants.{Missing, NotSmaller, Slot, Frames, Returns, Register, Stack}
 
@@ -56,10 +56,10 @@ IsMismatch t number index e a m = IsThere t number index e a m
 -- the successor, the entry that is named for it, in what that differs, and what each of them has
 -- there
 abbrev pub difference_lines : ℕ → ℕ → List ℕ → List ℕ → List ℕ → List ℕ
-difference_lines nth index what after entry =
+difference_lines nth index what here there =
     codes "successor " ++ (decimal nth ++ (codes ": entry " ++ (decimal index ++ (codes " " ++ (what
     ++ (codes "\nafter the step: "
-    ++ (after ++ (codes "\nin the entry: " ++ (entry ++ codes "\n")))))))))
+    ++ (here ++ (codes "\nin the entry: " ++ (there ++ codes "\n")))))))))
 
 -- how many calls up from the innermost frame this one is
 abbrev pub up_words : State → ℕ → List ℕ
@@ -75,7 +75,7 @@ stack_words a frame slot =
 
 abbrev pub stack_difference : State → ℕ → ℕ → List ℕ
 stack_difference a frame slot =
-    codes "does not cover stack " ++ (signed_decimal (place_of slot 0) ++ up_words a frame)
+    codes "does not cover stack " ++ (signed_decimal (offset_of slot 0) ++ up_words a frame)
 
 abbrev pub returns_words : State → ℕ → List ℕ
 returns_words a frame = codes "slot " ++ decimal (abstract_frame_at a frame).return_slot

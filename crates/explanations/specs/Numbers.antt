@@ -13,8 +13,8 @@ says_more r =
     && (int_lt (negsuc (2 ^ 63 - 1)) r.signed_least || int_lt r.signed_greatest (pos (2 ^ 63 - 1)))
 
 -- the limits at 64 bits
-abbrev pub limit_words : Scalar → List ℕ
-limit_words numbers =
+abbrev pub limits_words : Scalar → List ℕ
+limits_words numbers =
     if says_more numbers.range.wide then
     codes "number " ++ (signed_decimal numbers.range.wide.signed_least
     ++ (codes " to " ++ signed_decimal numbers.range.wide.signed_greatest))
@@ -56,4 +56,4 @@ abbrev pub number_words : Scalar → List ℕ
 number_words numbers =
     if numbers.range.wide.least == numbers.range.wide.greatest
     then codes "number " ++ signed_decimal (cast_signed w64 numbers.range.wide.least)
-    else limit_words numbers ++ low_part numbers
+    else limits_words numbers ++ low_part numbers

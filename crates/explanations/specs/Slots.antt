@@ -10,16 +10,16 @@ use Rattle.stack_state.specs.Meaning.{stack_slots_of}
 use Rattle.stack_state.specs.Slots.{slot_at, marks_of}
 use Rattle.explanations.specs.Kinds.{calls_up, kind_words}
 
--- where a byte of the stack slot is, counted from the end of the call frame
-abbrev pub place_of : ℕ → ℕ → ℤ
-place_of slot byte = pos (8 * slot + byte) -ℤ pos stack_size
+-- the offset of a byte of the stack slot, counted from the end of the call frame
+abbrev pub offset_of : ℕ → ℕ → ℤ
+offset_of slot byte = pos (8 * slot + byte) -ℤ pos stack_size
 
--- the byte's place, if it is a written number byte
+-- the byte's offset, if it is a written number byte
 abbrev pub byte_word : ℕ → ℕ → ℕ → List ℕ
 byte_word slot marks byte =
-    if bit_at marks byte == 1 then codes " " ++ signed_decimal (place_of slot byte) else []
+    if bit_at marks byte == 1 then codes " " ++ signed_decimal (offset_of slot byte) else []
 
--- the places of those among this count of its last bytes
+-- the offsets of those among this count of its last bytes
 abbrev pub written_words : ℕ → ℕ → ℕ → List ℕ
 written_words slot marks zero = []
 written_words slot marks (suc n) = byte_word slot marks (7 - n) ++ written_words slot marks n
@@ -35,7 +35,7 @@ slot_words innermost slot (Spilled k) = kind_words innermost k
 -- a stack slot: where it begins, counted from the end of its frame, and what is known of it
 abbrev pub slot_line : State → ℕ → ℕ → List ℕ
 slot_line a frame slot =
-    codes "stack " ++ (signed_decimal (place_of slot 0)
+    codes "stack " ++ (signed_decimal (offset_of slot 0)
     ++ (calls_up (length a.callers.items - frame)
     ++ (codes ": "
     ++ (slot_words (length a.callers.items) slot (slot_at (stack_slots_of a frame) slot)

@@ -4,7 +4,7 @@ use Rattle.std.specs.Fmt.{signed_decimal}
 use Rattle.stack_state.specs.declared.states.State.{State}
 use Rattle.walks.specs.declared.refusals.Refusal.{Refusal}
 use Rattle.walks.specs.declared.refusals.Refusal.TheVariants.{TooLong}
-use Rattle.explanations.specs.Slots.{place_of}
+use Rattle.explanations.specs.Slots.{offset_of}
 use Rattle.explanations.specs.Mismatches.{register_words, stack_words}
 
 -- what the message says of a register or a stack slot before and now, where that differs
@@ -29,7 +29,7 @@ register_turns e a (suc n) = register_turn e a (9 - n) ++ register_turns e a n
 
 abbrev pub stack_turn : State → State → ℕ → List ℕ
 stack_turn e a slot =
-    turn_line (codes "stack " ++ signed_decimal (place_of slot 0))
+    turn_line (codes "stack " ++ signed_decimal (offset_of slot 0))
     (stack_words e (length e.callers.items) slot) (stack_words a (length a.callers.items) slot)
 
 -- the last stack slots, this count of them

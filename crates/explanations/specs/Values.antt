@@ -16,8 +16,8 @@ use Rattle.explanations.specs.Lines.{concerned}
 
 -- a frame pointer, where r10 holds this: of the function that runs, or of another call
 abbrev pub owner_of : ℕ → Value → List ℕ
-owner_of serial (Ptr (CallFrame own) offset) =
-    if serial == own then codes "" else codes " of another call"
+owner_of serial (Ptr (CallFrame running) offset) =
+    if serial == running then codes "" else codes " of another call"
 owner_of serial value = codes " of another call"
 
 -- a pointer, where r10 holds this; offsets into a call frame count from its end

@@ -259,10 +259,10 @@ fn sizes_line(alloc: Global, maps: &[MapDef], state: &State) -> Result<String, A
     };
     match row_at(maps, index) {
         Some(row) => {
-            let key = row.key_size;
-            let value = row.value_size;
+            let key_bytes = row.key_size;
+            let value_bytes = row.value_size;
             format!(in alloc;
-                "a key of map {index} has {key} bytes, a value {value}: \
+                "a key of map {index} has {key_bytes} bytes, a value {value_bytes}: \
                  write all of them to the stack first\n"
             )
         }
@@ -270,7 +270,7 @@ fn sizes_line(alloc: Global, maps: &[MapDef], state: &State) -> Result<String, A
     }
 }
 
-// What an exit returns.
+// What r0 has to be at an exit, by how many callers there are.
 fn exit_line(callers: usize) -> &'static str
     ensures { result.now ≡ exit_line callers }
 {
@@ -328,7 +328,7 @@ pub fn case_line(
         Refusal::Step(StepRefusal::ExitValue) => {
             String::from_str(alloc, exit_line(state.callers.len()))
         }
-        Refusal::Step(step) => String::from_str(alloc, hint_line(step)),
+        Refusal::Step(refused) => String::from_str(alloc, hint_line(refused)),
         Refusal::Repeats => {
             String::from_str(alloc, "change a register in the loop that its test reads\n")
         }

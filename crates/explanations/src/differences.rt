@@ -8,7 +8,7 @@ ghost use Rattle.explanations.specs.Mismatches.{IsInBoth, difference_lines, mism
 
 use crate::kinds::{calls_up, kind_words};
 use crate::mismatches::{Mismatch, frame_of};
-use crate::slots::{place_of, slot_words};
+use crate::slots::{offset_of, slot_words};
 use reg_state::Kind;
 use stack_state::{StackSlot, State};
 use std::alloc::{AllocError, Global};
@@ -83,7 +83,7 @@ fn stack_difference(
     ensures { IfOk result (λ text. string_bytes text ≡ stack_difference state.now frame slot) }
 {
     let up = up_words(alloc, state, frame)?;
-    let start = place_of(slot, 0);
+    let start = offset_of(slot, 0);
     format!(in alloc; "does not cover stack {start}{up}")
 }
 
@@ -94,14 +94,14 @@ fn difference_lines(
     nth: usize,
     index: u32,
     what: &str,
-    after: &str,
-    entry: &str,
+    here: &str,
+    there: &str,
 ) -> Result<String, AllocError>
     ensures { IfOk result (λ text. string_bytes text
-        ≡ difference_lines nth index what.now after.now entry.now) }
+        ≡ difference_lines nth index what.now here.now there.now) }
 {
     format!(in alloc;
-        "successor {nth}: entry {index} {what}\nafter the step: {after}\nin the entry: {entry}\n"
+        "successor {nth}: entry {index} {what}\nafter the step: {here}\nin the entry: {there}\n"
     )
 }
 

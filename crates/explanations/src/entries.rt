@@ -88,10 +88,10 @@ fn named_lines(
     mismatch_lines(alloc, number, nth, index, &room, state, found).ok()
 }
 
-fn count_line(alloc: Global, successors: usize, named: usize) -> Option<String>
-    ensures { IfSome result (λ text. string_bytes text ≡ count_line successors named) }
+fn count_line(alloc: Global, successors: usize, named_count: usize) -> Option<String>
+    ensures { IfSome result (λ text. string_bytes text ≡ count_line successors named_count) }
 {
-    format!(in alloc; "successors: {successors}; entries named: {named}\n").ok()
+    format!(in alloc; "successors: {successors}; entries named: {named_count}\n").ok()
 }
 
 /// Why the entries that an entry names do not cover its successors.

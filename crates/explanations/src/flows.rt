@@ -186,8 +186,8 @@ fn called_words(alloc: Global, from: Option<usize>) -> Result<String, AllocError
 fn function_words(alloc: Global, image: &Image, begin: usize) -> Result<String, AllocError>
     ensures { IfOk result (λ text. string_bytes text ≡ function_words image.now begin) }
 {
-    let called = called_words(alloc, first_calling(image, begin))?;
-    format!(in alloc; "from slot {begin} on{called}")
+    let words = called_words(alloc, first_calling(image, begin))?;
+    format!(in alloc; "from slot {begin} on{words}")
 }
 
 // Where a jump leads, which function that is in, and which one the jump is in.

@@ -81,8 +81,8 @@ pub fn answer_line(alloc: Global, state: &State, refusal: Refusal) -> Result<Str
 // ---- stack slots
 
 /// The line of the stack slot that is read through a place.
-fn place_line(alloc: Global, state: &State, place: Place) -> Result<String, AllocError>
-    ensures { IfOk result (λ text. string_bytes text ≡ spec.place_line state.now place) }
+fn read_slot_line(alloc: Global, state: &State, place: Place) -> Result<String, AllocError>
+    ensures { IfOk result (λ text. string_bytes text ≡ spec.read_slot_line state.now place) }
 {
     match state.kind_of(place.base) {
         Kind::Stack { frame, offset } => {
@@ -143,9 +143,9 @@ fn helper_lines(
             bytes_line(alloc, state, key, u32::from(row.key_size))
         }
         Some(Helper::MapUpdateElem) => {
-            let key = bytes_line(alloc, state, key, u32::from(row.key_size))?;
-            let value = bytes_line(alloc, state, value, row.value_size)?;
-            format!(in alloc; "{key}{value}")
+            let key_line = bytes_line(alloc, state, key, u32::from(row.key_size))?;
+            let value_line = bytes_line(alloc, state, value, row.value_size)?;
+            format!(in alloc; "{key_line}{value_line}")
         }
         Some(Helper::KtimeGetNs) | None => Ok(String::new(alloc)),
     }
@@ -162,11 +162,11 @@ pub fn stack_lines(
         ≡ stack_lines maps.now state.now insn.now) }
 {
     match *insn {
-        Insn::Load(_, _, place) => place_line(alloc, state, place),
-        Insn::LoadSx(_, _, place) => place_line(alloc, state, place),
-        Insn::Atomic(_, _, _, place, _) => place_line(alloc, state, place),
-        Insn::Exchange(_, place, _) => place_line(alloc, state, place),
-        Insn::CompareExchange(_, place, _) => place_line(alloc, state, place),
+        Insn::Load(_, _, place) => read_slot_line(alloc, state, place),
+        Insn::LoadSx(_, _, place) => read_slot_line(alloc, state, place),
+        Insn::Atomic(_, _, _, place, _) => read_slot_line(alloc, state, place),
+        Insn::Exchange(_, place, _) => read_slot_line(alloc, state, place),
+        Insn::CompareExchange(_, place, _) => read_slot_line(alloc, state, place),
         Insn::CallHelper(number) => helper_lines(alloc, maps, state, Helper::numbered(number)),
         _ => Ok(String::new(alloc)),
     }

@@ -43,17 +43,17 @@ pub fn frame_of(state: &State, frame: usize) -> &AbstractFrame
 }
 
 /// The front of a frame: as many registers and stack slots as these. Nothing is known of others.
-fn front_of(frame: &AbstractFrame, registers: usize, slots: usize) -> AbstractFrame {
+fn front_of(whole: &AbstractFrame, register_count: usize, slot_count: usize) -> AbstractFrame {
     let mut kinds = [Kind::Unset; 10];
-    for index in 0..registers.min(10) {
-        kinds[index] = frame.registers[index];
+    for index in 0..register_count.min(10) {
+        kinds[index] = whole.registers[index];
     }
     let mut stack = [StackSlot::Written(0); FRAME_SLOTS];
-    for index in 0..slots.min(FRAME_SLOTS) {
-        stack[index] = frame.stack.slots[index];
+    for index in 0..slot_count.min(FRAME_SLOTS) {
+        stack[index] = whole.stack.slots[index];
     }
     AbstractFrame {
-        return_slot: frame.return_slot,
+        return_slot: whole.return_slot,
         registers: kinds,
         stack: StackState { slots: stack },
     }
@@ -61,7 +61,7 @@ fn front_of(frame: &AbstractFrame, registers: usize, slots: usize) -> AbstractFr
 
 /// All frames before one, and the front of that: as many registers and stack slots as these.
 /// Nothing is known of all others.
-fn part_of(state: &State, frame: usize, registers: usize, slots: usize) -> State {
+fn part_of(state: &State, frame: usize, register_count: usize, slot_count: usize) -> State {
     let mut part = State::start();
     part.slot = state.slot;
     let callers = state.callers.as_slice();
@@ -70,14 +70,14 @@ fn part_of(state: &State, frame: usize, registers: usize, slots: usize) -> State
         let front = if index < frame {
             *caller
         } else if index == frame {
-            front_of(caller, registers, slots)
+            front_of(caller, register_count, slot_count)
         } else {
             front_of(caller, 0, 0)
         };
         let _ = part.callers.try_push(front);
     }
     part.innermost = if callers.len() == frame {
-        front_of(&state.innermost, registers, slots)
+        front_of(&state.innermost, register_count, slot_count)
     } else {
         front_of(&state.innermost, 0, 0)
     };

@@ -2,7 +2,7 @@
 
 ghost use Rattle.std.specs.Prelude.{◌≡◌, IfOk};
 ghost use Rattle.std.specs.String.{string_bytes};
-ghost use Rattle.explanations.specs.Numbers.{says_more, limit_words, number_words, low_least, low_greatest, half_words, is_half_known, low_part};
+ghost use Rattle.explanations.specs.Numbers.{says_more, limits_words, number_words, low_least, low_greatest, half_words, is_half_known, low_part};
 
 use isa_model::numbers::low_32_bits;
 use ranges::Wide;
@@ -18,8 +18,8 @@ fn says_more(limits: Wide) -> bool
 }
 
 /// The limits at 64 bits.
-fn limit_words(alloc: Global, numbers: Scalar) -> Result<String, AllocError>
-    ensures { IfOk result (λ text. string_bytes text ≡ limit_words numbers) }
+fn limits_words(alloc: Global, numbers: Scalar) -> Result<String, AllocError>
+    ensures { IfOk result (λ text. string_bytes text ≡ limits_words numbers) }
 {
     let limits = numbers.range.wide;
     let least = limits.least;
@@ -95,7 +95,7 @@ pub fn number_words(alloc: Global, numbers: Scalar) -> Result<String, AllocError
         let number = least.cast_signed();
         return format!(in alloc; "number {number}");
     }
-    let limits = limit_words(alloc, numbers)?;
+    let limits = limits_words(alloc, numbers)?;
     let low = low_part(alloc, numbers)?;
     format!(in alloc; "{limits}{low}")
 }

@@ -5,23 +5,23 @@ ghost use Rattle.std.specs.String.{string_bytes};
 ghost use Rattle.stack_state.specs.Meaning.{stack_slots_of};
 ghost use Rattle.isa_model.specs.Code.Limits.{stack_size};
 ghost use Rattle.stack_state.specs.Slots.{slot_at, frame_slots};
-ghost use Rattle.explanations.specs.Slots.{place_of, byte_word, written_words, slot_words, slot_line, byte_at, first_open};
+ghost use Rattle.explanations.specs.Slots.{offset_of, byte_word, written_words, slot_words, slot_line, byte_at, first_open};
 
 use crate::kinds::{calls_up, kind_words};
 use isa_model::STACK_SIZE;
 use stack_state::{StackSlot, State};
 use std::alloc::{AllocError, Global};
 
-/// Where a byte of a stack slot is, counted from the end of the call frame.
-pub fn place_of(slot: usize, byte: u8) -> i64
+/// The offset of a byte of a stack slot, counted from the end of the call frame.
+pub fn offset_of(slot: usize, byte: u8) -> i64
     requires slot { slot < frame_slots }
     requires byte { byte < 8 }
-    ensures { result ≡ place_of slot byte }
+    ensures { result ≡ offset_of slot byte }
 {
     (8 * slot + usize::from(byte)) as i64 - STACK_SIZE as i64
 }
 
-/// The byte's place, if it is a written number byte.
+/// The byte's offset, if it is a written number byte.
 fn byte_word(alloc: Global, slot: usize, marks: u8, byte: u8) -> Result<String, AllocError>
     requires slot { slot < frame_slots }
     requires byte { byte < 8 }
@@ -30,11 +30,11 @@ fn byte_word(alloc: Global, slot: usize, marks: u8, byte: u8) -> Result<String, 
     if (marks >> byte) & 1 != 1 {
         return Ok(String::new(alloc));
     }
-    let place = place_of(slot, byte);
-    format!(in alloc; " {place}")
+    let offset = offset_of(slot, byte);
+    format!(in alloc; " {offset}")
 }
 
-/// The places of the written number bytes of a stack slot.
+/// The offsets of the written number bytes of a stack slot.
 fn written_words(alloc: Global, slot: usize, marks: u8) -> Result<String, AllocError>
     requires { slot < frame_slots }
     ensures { IfOk result (λ text. string_bytes text ≡ written_words slot marks 8) }
@@ -61,8 +61,8 @@ pub fn slot_words(
         StackSlot::Written(0) => String::from_str(alloc, "unset"),
         StackSlot::Written(255) => String::from_str(alloc, "written"),
         StackSlot::Written(marks) => {
-            let places = written_words(alloc, slot, marks)?;
-            format!(in alloc; "written bytes{places}")
+            let offsets = written_words(alloc, slot, marks)?;
+            format!(in alloc; "written bytes{offsets}")
         }
         StackSlot::Spilled(kind) => kind_words(alloc, innermost, kind),
     }
@@ -88,7 +88,7 @@ pub fn slot_line(alloc: Global, state: &State, frame: u8, slot: usize) -> Result
     ensures { IfOk result (λ text. string_bytes text ≡ slot_line state.now frame slot) }
 {
     let innermost = state.callers.len();
-    let start = place_of(slot, 0);
+    let start = offset_of(slot, 0);
     let up = calls_up(alloc, innermost.saturating_sub(usize::from(frame)))?;
     let words = slot_words(alloc, innermost, slot, slot_of(state, frame, slot))?;
     format!(in alloc; "stack {start}{up}: {words}\n")

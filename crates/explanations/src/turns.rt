@@ -7,7 +7,7 @@ ghost use Rattle.explanations.specs.Turns as spec;
 ghost use Rattle.explanations.specs.Turns.{turn_line, register_turn, register_turns, stack_turn, stack_turns};
 
 use crate::differences::{register_words, stack_words};
-use crate::slots::place_of;
+use crate::slots::offset_of;
 use explorer::Refusal;
 use stack_state::State;
 use std::alloc::{AllocError, Global};
@@ -67,7 +67,7 @@ fn stack_turn(
     requires { slot < frame_slots }
     ensures { IfOk result (λ text. string_bytes text ≡ stack_turn earlier.now state.now slot) }
 {
-    let start = place_of(slot, 0);
+    let start = offset_of(slot, 0);
     let place = format!(in alloc; "stack {start}")?;
     let before = stack_words(alloc, earlier, earlier.callers.len(), slot)?;
     let now = stack_words(alloc, state, state.callers.len(), slot)?;

@@ -49,10 +49,10 @@ slot_in (c ∷ rest) before s =
     slice_get-push (slots_along (rest ++ s ∷ before)) c.slot (length before) s.slot
     (slot_in rest before s)
 
--- the jumps lead to the `count`th state of the path
-pub record LedAt (p : Program) (path : List State) (count : ℕ) (way : List Jump) : Type 0 where
+-- the jumps lead to the `k`th state of the path
+pub record LedAt (p : Program) (path : List State) (k : ℕ) (way : List Jump) : Type 0 where
   pub led : (rest before : List State) (s : State) → path ≡ rest ++ s ∷ before
-      → length before + 1 ≡ count → IsLed p s way
+      → length before + 1 ≡ k → IsLed p s way
 
 led_first : (p : Program) (path : List State) (way : List Jump) → IsWalk p path → way ≡ []
     → (rest before : List State) (s : State) → path ≡ rest ++ s ∷ before → length before + 1 ≡ 1
@@ -182,26 +182,26 @@ explains : (p : Program) (tale : List State → State → Type 0) (e : Refusal) 
     × ComesThrough p s x.slots.items)
     → Explains p e slot x
 explains p tale e slot x refused h shown =
-    let known = shown h.before h.state h.told h.slot_is in
-    let same = sym known.0 in
+    let there = shown h.before h.state h.told h.slot_is in
+    let same = sym there.0 in
     record {
       refused = refused;
-      led = subst (λ (s : State). IsLed p s x.way.items) same known.1;
-      turn = subst (λ (s : State). IsTurnBefore p s x.earlier) same known.2;
-      through = subst (λ (s : State). ComesThrough p s x.slots.items) same known.3;
-      at = ap (λ (s : State). s.slot) known.0 ∙ h.slot_is;
+      led = subst (λ (s : State). IsLed p s x.way.items) same there.1;
+      turn = subst (λ (s : State). IsTurnBefore p s x.earlier) same there.2;
+      through = subst (λ (s : State). ComesThrough p s x.slots.items) same there.3;
+      at = ap (λ (s : State). s.slot) there.0 ∙ h.slot_is;
       stops = subst (λ (s : State). StopsIn p s e) same h.stops;
     }
 
 -- the search found the refusal, at the slot
-pub explains_by : (p q : Program) (tale : Program → List State → State → Type 0) (found e : Refusal)
-    (at slot : ℕ) (x : Explanation) → p ≡ q → found ≡ e → at ≡ slot → (e ≡ Memory → ⊥)
-    → StopsAt p found at → EndsIn p (tale p) found at
+pub explains_by : (p q : Program) (tale : Program → List State → State → Type 0)
+    (refusal e : Refusal) (at slot : ℕ) (x : Explanation) → p ≡ q → refusal ≡ e → at ≡ slot
+    → (e ≡ Memory → ⊥) → StopsAt p refusal at → EndsIn p (tale p) refusal at
     → ((r : Program) (before : List State) (s : State) → tale r (s ∷ before) s → s.slot ≡ slot
     → (x.state ≡ s) × IsLed r s x.way.items × IsTurnBefore r s x.earlier
     × ComesThrough r s x.slots.items)
     → Explains q e slot x
-explains_by p q tale found e at slot x same is here known stops ends shown =
+explains_by p q tale refusal e at slot x same is here known stops ends shown =
     let refused = subst (λ k. StopsAt p e k) here (subst (λ r. StopsAt p r at) is stops) in
     let stopped =
     subst (λ k. EndsIn p (tale p) e k) here (subst (λ r. EndsIn p (tale p) r at) is ends) in

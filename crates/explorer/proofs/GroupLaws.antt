@@ -28,10 +28,10 @@ whole_cut old new first rest more parts pushed cut before =
     ap (λ l. l ++ more) pushed ∙ append_assoc old first more ∙ ap (λ l. old ++ l) (sym cut) ∙ before
 
 -- the groups from one on, written after the ones before it
-pub with_part-next : (f : AbstractFrame) (ps : List (List Part)) (i : ℕ) (p : List Part)
+pub all_written-next : (f : AbstractFrame) (ps : List (List Part)) (i : ℕ) (p : List Part)
     → i < length ps → p ≡ get_or ps i p
     → all_written f (whole (drop i ps)) ≡ all_written (all_written f p) (whole (drop (i + 1) ps))
-with_part-next f ps i p inside at =
+all_written-next f ps i p inside at =
     let there : drop i ps ≡ p ∷ drop (suc i) ps =
     drop-cons ps i p inside ∙ ap (λ q. q ∷ drop (suc i) ps) (sym at) in
     ap (λ l. all_written f (whole l)) there

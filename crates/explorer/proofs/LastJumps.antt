@@ -100,7 +100,7 @@ by_next p a s i way here step next h =
       last_are = h.last_are;
     }
 
--- the same, where the slots have other names
+-- the same, where the slots are `from` and `to`
 
 pub led_by_jump : (p : Program) (a s : State) (i : Insn) (from to : ℕ) (way new : List Jump)
     → fetch p from ≡ Some i → to ≢ from + slots_filled i

@@ -157,7 +157,7 @@ pub NumberFollows-two : (p : Program) (s a b : State) (stored : Option ℕ)
     → NumberFollows p (record { pending = Some b; best = 0; stored = stored }) s a
 unfolding NumberFollows
 NumberFollows-two p s a b stored step =
-    λ n number k other. LeadsToTwo s a b n k (max (max 0 n) k + 1) step number other (omega arith)
+    λ n number k aside. LeadsToTwo s a b n k (max (max 0 n) k + 1) step number aside (omega arith)
 
 -- ---- where a step leads
 

@@ -31,21 +31,21 @@ start_ready p image =
     let first = fetch-zero p image in
     let begins : BeginsInsn p 0 = subst (λ (o : Option Insn). IsSome o) (sym first.1) refl in
     record {
-      begins = begins;
+      insn_begins = begins;
       returns = All-cons (BeginsInsn p) 0 [] begins
           (All-nil (BeginsInsn p));
     }
 
 IsAtInsns-forgets : (p : Program) (a b : State) → Forgets p a b → IsAtInsns p a → IsAtInsns p b
 IsAtInsns-forgets p a b f ready = record {
-  begins = subst (BeginsInsn p) (sym (Forgets-slot p a b f)) ready.begins;
+  insn_begins = subst (BeginsInsn p) (sym (Forgets-slot p a b f)) ready.insn_begins;
   returns = subst (All (BeginsInsn p)) (sym (Forgets-returns p a b f)) ready.returns;
 }
 
 pub starts_ready : (p q : Program) (s : State) → p ≡ q → IsImage q → Forgets p start s
     → IsAtInsns p s
-starts_ready p q s same image begins =
-    IsAtInsns-forgets p start s begins (start_ready p (subst IsImage (sym same) image))
+starts_ready p q s same image forgets =
+    IsAtInsns-forgets p start s forgets (start_ready p (subst IsImage (sym same) image))
 
 pub starts_end : (p q : Program) (n : ℕ) → p ≡ q → IsImage q → Within p start n → StartsEnd q n
 unfolding Within StartsEnd

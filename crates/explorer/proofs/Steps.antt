@@ -37,10 +37,10 @@ use Rattle.explorer.proofs.Paths.{LastVisit, Path-more, Path-push, Path-pop, Ste
 -- ---- an arrival
 
 pub comes_to : (p : Program) (old : Search) (states : StoredStates) (scratch : State) (made : Move)
-    → Comes p old → Arrives p old.stored.states.items old.current made states.states.items
-    → AfterMove p (record old { stored = states; scratch = scratch }) made
+    → Comes p old → Arrives p old.states.states.items old.current made states.states.items
+    → AfterMove p (record old { states = states; scratch = scratch }) made
 comes_to p old states scratch (New stored) h arrives =
-    let before = old.stored.states.items in
+    let before = old.states.states.items in
     let after = states.states.items in
     let path = old.path.items in
     let kept = Arrives-keeps p before old.current (New stored) after arrives in
@@ -55,11 +55,11 @@ comes_to p old states scratch (New stored) h arrives =
       };
       on_path = OnPath-arrives p before after path old.current stored arrives h.on_path;
       stored_at = Arrives-stored p before old.current stored after arrives;
-      spent = h.spent;
+      counts = h.counts;
       ready = h.ready;
     }
 comes_to p old states scratch (Covered k n) h arrives =
-    let before = old.stored.states.items in
+    let before = old.states.states.items in
     let after = states.states.items in
     let path = old.path.items in
     let total = old.finished + length path in
@@ -76,9 +76,9 @@ comes_to p old states scratch (Covered k n) h arrives =
             (omega arith) kept path h.at.first old.current h.at.path;
       };
       on_path = OnPath-same before after path None arrives.2 h.on_path;
-      within = known.0;
+      settled = known.0;
       spent =
-          spent_here p h.at.first path old.current total 0 total h.spent
+          spent_here p h.at.first path old.current total 0 total h.counts
           (Nothing old.current 0 refl) (omega arith);
       some = arrives.1.finished;
       most = known.1;
@@ -94,21 +94,21 @@ pub record IsBack (p : Program) (m : ℕ) (states : List StoredState) (a : State
   pub fine : AllSettled p m states
   pub before : Path p m states a path state
   pub on_path : OnPath states path None
-  pub within : Settles p state number
+  pub settled : Settles p state number
   pub most : number ≤ m
 
-pub step_back : (p : Program) (m : ℕ) (old new : List StoredState) (a : State) (path : List Visit)
+pub goes_back : (p : Program) (m : ℕ) (old new : List StoredState) (a : State) (path : List Visit)
     (visit : Visit) (child : State) (n best : ℕ)
     → Forgets p start a → AllSettled p m old → LastVisit p m old a path visit child
     → OnPath old path visit.stored → Settles p child n → n ≤ m → visit.pending ≡ None
     → best ≡ max visit.best n
     → GetsNumber old visit.stored (best + 1) new → IsBack p (m + 1) new a path (best + 1)
-step_back p m old new a path visit child n best root fine last on within le nothing is gets =
+goes_back p m old new a path visit child n best begins fine last on settled le nothing is gets =
     let s = last.state in
     let waiting = last.waiting in
     let own : Settles p s (best + 1) = record {
-      within = StepsAwaited-ends p visit s child n best waiting.waits nothing within.within is;
-      number = NumberFollows-ends p visit s child n best waiting.awaits nothing within.number is;
+      within = StepsAwaited-ends p visit s child n best waiting.waits nothing settled.within is;
+      number = NumberFollows-ends p visit s child n best waiting.awaits nothing settled.number is;
     } in
     let most : best ≤ m = omega (arith, waiting.best, le, is) in
     let kept = GetsNumber-keeps old visit.stored s (best + 1) new gets waiting.stored in
@@ -117,39 +117,39 @@ step_back p m old new a path visit child n best root fine last on within le noth
       fine =
           GetsNumber-fine p (m + 1) old visit.stored s (best + 1) new gets waiting.stored own
           (omega (arith, most))
-          (length path, Path-walks p m old path a s root last.before)
+          (length path, Path-walks p m old path a s begins last.before)
           (AllSettled-more p m (m + 1) old (omega arith) fine);
       before = Path-more p m (m + 1) old new (omega arith) kept path a s last.before;
       on_path =
           OnPath-finish old new path visit.stored s (best + 1) gets waiting.stored
           (omega arith) on;
-      within = own;
+      settled = own;
       most = omega (arith, most);
     }
 
 -- ---- a visit that continues
 
 -- the path to the pending state, once the child has its number
-step_aside : (p : Program) (m : ℕ) (states : List StoredState) (a : State) (path : List Visit)
+path_aside : (p : Program) (m : ℕ) (states : List StoredState) (a : State) (path : List Visit)
     (visit : Visit) (child : State) (n : ℕ) (current : State)
     → LastVisit p m states a path visit child → Settles p child n → n ≤ m
     → visit.pending ≡ Some current
     → Path p m states a
     (path ++ record { pending = None; best = max visit.best n; stored = visit.stored } ∷ []) current
-step_aside p m states a path visit child n current last within le is =
+path_aside p m states a path visit child n current last settled le is =
     let s = last.state in
-    let next : Visit = record { pending = None; best = max visit.best n; stored = visit.stored } in
-    let waiting : Waiting p m states next s current =
+    let rest : Visit = record { pending = None; best = max visit.best n; stored = visit.stored } in
+    let waiting : Waiting p m states rest s current =
     record {
-      waits = StepsAwaited-next p visit s child current n last.waiting.waits is within.within;
-      awaits = NumberFollows-next p visit s child current n last.waiting.awaits is within.number;
+      waits = StepsAwaited-next p visit s child current n last.waiting.waits is settled.within;
+      awaits = NumberFollows-next p visit s child current n last.waiting.awaits is settled.number;
       steps = subst (IfStepsTo p s) is last.waiting.steps_aside;
       steps_aside = tt;
       best = omega (arith, last.waiting.best, le);
       stored = last.waiting.stored;
       ready = tt;
     } in
-    Path-push p m states path next a s current last.before waiting
+    Path-push p m states path rest a s current last.before waiting
 
 -- the last visit of the path continues with what was pending
 pub comes_aside : (p : Program) (old : Search) (path : List Visit) (visit rest : Visit)
@@ -159,21 +159,22 @@ pub comes_aside : (p : Program) (old : Search) (path : List Visit) (visit rest :
     → whole.items ≡ path ++ rest ∷ []
     → Comes p (record old { path = whole; current = current })
 comes_aside p old path visit rest whole n current h was is rest_is pushed =
-    let states = old.stored.states.items in
+    let states = old.states.states.items in
     let a = h.at.first in
-    let next : Visit = record { pending = None; best = max visit.best n; stored = visit.stored } in
+    let visit' : Visit =
+    record { pending = None; best = max visit.best n; stored = visit.stored } in
     let last =
     Path-pop p old.finished states path visit a h.state
     (subst (λ (x : List Visit). Path p old.finished states a x h.state) was h.at.path) in
-    let again : whole.items ≡ path ++ next ∷ [] =
+    let again : whole.items ≡ path ++ visit' ∷ [] =
     pushed ∙ ap (λ (v : Visit). path ++ v ∷ []) rest_is in
     let same : length old.path.items ≡ length whole.items =
     ap (λ (xs : List Visit). length xs) was
     ∙ (length-append path (visit ∷ [])
-    ∙ (sym (length-append path (next ∷ []))
+    ∙ (sym (length-append path (visit' ∷ []))
     ∙ ap (λ (xs : List Visit). length xs) (sym again))) in
     let aside =
-    step_aside p old.finished states a path visit h.state n current last h.within h.most is in
+    path_aside p old.finished states a path visit h.state n current last h.settled h.most is in
     record {
       at =
           record {
@@ -184,10 +185,10 @@ comes_aside p old path visit rest whole n current h was is rest_is pushed =
                 (λ (x : List Visit). Path p old.finished states a x current) (sym again) aside;
           };
       on_path =
-          OnPath-push states path whole.items next again
+          OnPath-push states path whole.items visit' again
           (OnPath-pop states path old.path.items visit was h.on_path);
-      spent = subst (λ k. CountsTo p a whole.items current (old.finished + k)) same
-          (spent_on p a path old.path.items whole.items visit next current
+      counts = subst (λ k. CountsTo p a whole.items current (old.finished + k)) same
+          (spent_on p a path old.path.items whole.items visit visit' current
           (old.finished + length old.path.items) was again is refl h.spent);
       ready = subst (IfReady p) is last.waiting.ready;
     }
@@ -199,11 +200,11 @@ comes_aside p old path visit rest whole n current h was is rest_is pushed =
 IsAtInsns-next : (p : Program) (s next : State) → IsFlow p → IsAtInsns p s → GoesOnTo p s next
     → IsAtInsns p next
 IsAtInsns-next p s next flow ready (inl h) = record {
-  begins = IsFlow-Follows p s.slot next.slot flow h.follows;
+  insn_begins = IsFlow-Follows p s.slot next.slot flow h.follows;
   returns = subst (All (BeginsInsn p)) (sym h.returns) ready.returns;
 }
 IsAtInsns-next p s next flow ready (inr (inl h)) = record {
-  begins =
+  insn_begins =
       subst (BeginsInsn p) (sym h.target)
       (IsFlow-call p s.slot (CallLocal h.by) h.by flow h.here refl);
   returns = subst (All (BeginsInsn p)) (sym h.returns)
@@ -216,14 +217,14 @@ IsAtInsns-next p s next flow ready (inr (inr h)) =
     let (returns, begins) =
     All-pop (BeginsInsn p) (returns_of next ++ next.slot ∷ []) (returns_of next)
     (Some next.slot) refl all in
-    record { begins = begins; returns = returns }
+    record { insn_begins = begins; returns = returns }
 
 some_there : (o : Option Insn) → IsSome o → (i : Insn) × (o ≡ Some i)
 some_there (Some i) h = (i, refl)
 some_there None h = absurd (cc)
 
 pub fetched : (p : Program) (s : State) → IsAtInsns p s → (i : Insn) × (fetch p s.slot ≡ Some i)
-fetched p s ready = some_there (fetch p s.slot) ready.begins
+fetched p s ready = some_there (fetch p s.slot) ready.insn_begins
 
 -- the instruction's state waits for the state after it
 pub record Entered (p : Program) (m : ℕ) (states : List StoredState) (visit : Visit)
@@ -298,35 +299,35 @@ two_ways p q m all stored s a b first other w left eq good on at leads by goes l
 
 -- the path goes on from the state to the first of those that are left to explore
 pub comes_into : (p : Program) (old x : Search) (stored : Option ℕ) (pending : Option State)
-    (whole : Visits) (a o first : State) → x ≡ record old { current = a; scratch = o }
+    (whole : Visits) (a o next : State) → x ≡ record old { current = a; scratch = o }
     → Explores p old stored
-    → Entered p old.finished old.stored.states.items
-    (record { pending = pending; best = 0; stored = stored }) old.current first
+    → Entered p old.finished old.states.states.items
+    (record { pending = pending; best = 0; stored = stored }) old.current next
     → whole.items ≡ x.path.items ++ record { pending = pending; best = 0; stored = stored } ∷ []
-    → Comes p (record x { current = first; path = whole })
-comes_into p old x stored pending whole a o first is at entered pushed =
+    → Comes p (record x { current = next; path = whole })
+comes_into p old x stored pending whole a o next is at entered pushed =
     let visit : Visit = record { pending = pending; best = 0; stored = stored } in
-    let states = old.stored.states.items in
+    let states = old.states.states.items in
     let path = old.path.items in
     let root = at.at.first in
     let again : whole.items ≡ path ++ visit ∷ [] =
     pushed ∙ ap (λ (y : Search). y.path.items ++ visit ∷ []) is in
     let more : length whole.items ≡ length path + 1 =
     ap (λ (xs : List Visit). length xs) again ∙ length-append path (visit ∷ []) in
-    subst (λ (y : Search). Comes p (record y { current = first; path = whole })) (sym is) (record {
+    subst (λ (y : Search). Comes p (record y { current = next; path = whole })) (sym is) (record {
       at = record {
         fine = at.at.fine;
         first = root;
         begins = at.at.begins;
         path =
-            subst (λ (y : List Visit). Path p old.finished states root y first) (sym again)
-            (Path-push p old.finished states path visit root old.current first at.at.path
+            subst (λ (y : List Visit). Path p old.finished states root y next) (sym again)
+            (Path-push p old.finished states path visit root old.current next at.at.path
             entered.waiting);
       };
       on_path = OnPath-push states path whole.items visit again at.on_path;
-      spent =
-          spent_into p root path whole.items visit old.current first (old.finished + length path)
-          (old.finished + length whole.items) again at.spent entered.spends
+      counts =
+          spent_into p root path whole.items visit old.current next (old.finished + length path)
+          (old.finished + length whole.items) again at.counts entered.spends
           (omega (arith, more));
       ready = entered.ready;
     })
@@ -337,8 +338,8 @@ pub step_ends : (p q : Program) (m : ℕ) (old new : List StoredState) (a : Stat
     → Path p m old a path s → StoredAt old stored s
     → OnPath old path stored → LeadsTo q s w x y → StepsInto p s ways.None x y → w ≡ ways.None
     → GetsNumber old stored 1 new → IsBack p (m + 1) new a path 1
-step_ends p q m old new a path stored s x y w root same fine before at on leads into is numbered =
-    let within : Settles p s 1 = record {
+step_ends p q m old new a path stored s x y w begins same fine before at on leads into is numbered =
+    let settled : Settles p s 1 = record {
       within =
           LeadsTo-ends p s x y
           (subst (λ z. LeadsTo z s ways.None x y) (sym same)
@@ -347,13 +348,13 @@ step_ends p q m old new a path stored s x y w root same fine before at on leads 
     } in
     record {
       state = s;
-      fine = GetsNumber-fine p (m + 1) old stored s 1 new numbered at within (omega arith)
-          (length path, Path-walks p m old path a s root before)
+      fine = GetsNumber-fine p (m + 1) old stored s 1 new numbered at settled (omega arith)
+          (length path, Path-walks p m old path a s begins before)
           (AllSettled-more p m (m + 1) old (omega arith) fine);
       before =
           Path-more p m (m + 1) old new (omega arith)
           (GetsNumber-keeps old stored s 1 new numbered at) path a s before;
       on_path = OnPath-finish old new path stored s 1 numbered at (omega arith) on;
-      within = within;
+      settled = settled;
       most = omega arith;
     }

@@ -44,8 +44,8 @@ AllSettled-set : (p : Program) (m : ℕ) (states : List StoredState) (k : ℕ) (
     → (steps : ℕ) × WalksTo p steps s
     → AllSettled p m (set states k (record { state = s; number = n }))
 unfolding AllSettled
-AllSettled-set p m states k s n h within le walk =
-    All-set (IsSettled p m) states k _ (λ above. (within, le, walk)) h
+AllSettled-set p m states k s n h settled le walk =
+    All-set (IsSettled p m) states k _ (λ above. (settled, le, walk)) h
 
 -- runs from a state that a finished one covers end within the number of that one
 pub IsCovered-known : (p : Program) (m : ℕ) (states : List StoredState) (k : ℕ) (s : State) (n : ℕ)
@@ -167,10 +167,10 @@ pub GetsNumber-fine : (p : Program) (m : ℕ) (old : List StoredState) (stored :
     (n : ℕ) (new : List StoredState) → GetsNumber old stored n new
     → StoredAt old stored s → Settles p s n → n ≤ m → (steps : ℕ) × WalksTo p steps s
     → AllSettled p m old → AllSettled p m new
-GetsNumber-fine p m old None s n new h at within le walk fine =
+GetsNumber-fine p m old None s n new h at settled le walk fine =
     subst (λ x. AllSettled p m x) (sym h) fine
-GetsNumber-fine p m old (Some k) s n new h at within le walk fine =
-    subst (λ x. AllSettled p m x) (sym (h s at)) (AllSettled-set p m old k s n fine within le walk)
+GetsNumber-fine p m old (Some k) s n new h at settled le walk fine =
+    subst (λ x. AllSettled p m x) (sym (h s at)) (AllSettled-set p m old k s n fine settled le walk)
 
 pub GetsNumber-keeps : (old : List StoredState) (stored : Option ℕ) (s : State) (n : ℕ)
     (new : List StoredState) → GetsNumber old stored n new → StoredAt old stored s

@@ -1,4 +1,4 @@
--- The calls of a listener during a search.
+-- The calls that a search makes to a listener, move by move.
 use Rattle.std.proofs.Common.{◌≡◌, ◌∙◌, ℕ, suc, ◌+◌, ◌<◌, List, [], ◌∷◌, ◌++◌, Option, Some, None, ◌⊎◌, inl, inr, arith, refl, sym, ap, subst}
 use Rattle.std.specs.Prelude.{reverse}
 use Rattle.std.proofs.lemmas.List.{reverse-append}
@@ -24,9 +24,9 @@ AreVisited-push : (p : Program) (path whole : List Visit) (visit : Visit) (s : S
     → AreVisited p (reverse path) states
     → AreVisited p (reverse whole) (s ∷ states)
 AreVisited-push p path whole visit s states is aside h =
-    let last : reverse whole ≡ visit ∷ reverse path =
+    let reversed : reverse whole ≡ visit ∷ reverse path =
     ap reverse is ∙ reverse-append path (visit ∷ []) in
-    subst (λ x. AreVisited p x (s ∷ states)) (sym last) (aside, h)
+    subst (λ x. AreVisited p x (s ∷ states)) (sym reversed) (aside, h)
 
 -- the state of the last visit
 record LastVisited (p : Program) (path : List Visit) (visit : Visit)
@@ -47,9 +47,9 @@ AreVisited-pop : (p : Program) (path whole : List Visit) (visit : Visit) (states
     → whole ≡ path ++ visit ∷ [] → AreVisited p (reverse whole) states
     → LastVisited p path visit states
 AreVisited-pop p path whole visit states is h =
-    let last : reverse whole ≡ visit ∷ reverse path =
+    let reversed : reverse whole ≡ visit ∷ reverse path =
     ap reverse is ∙ reverse-append path (visit ∷ []) in
-    last_visited p path visit states (subst (λ x. AreVisited p x states) last h)
+    last_visited p path visit states (subst (λ x. AreVisited p x states) reversed h)
 
 -- ---- what the search has done
 
@@ -125,17 +125,17 @@ goes_aside : (p : Program) (tale : List State → State → Type 0) (old new : L
     (current : State) → HeardPath p tale old → GoesAside old new current
     → IsToArrive p tale new current
 goes_aside p tale old new current h aside =
-    let last = AreVisited-pop p aside.path old aside.visit h.states aside.was h.visited in
-    let none : IfStepsTo p last.state aside.rest.pending =
-    subst (IfStepsTo p last.state) (sym aside.nothing) tt in
+    let popped = AreVisited-pop p aside.path old aside.visit h.states aside.was h.visited in
+    let none : IfStepsTo p popped.state aside.rest.pending =
+    subst (IfStepsTo p popped.state) (sym aside.nothing) tt in
     record {
-      states = last.state ∷ last.before;
+      states = popped.state ∷ popped.before;
       last = h.last;
       visited =
-          AreVisited-push p aside.path new aside.rest last.state last.before aside.pushed none
-          last.visited;
-      comes = subst (IfStepsTo p last.state) aside.is_pending last.aside;
-      told = subst (λ x. tale x h.last) last.is h.told;
+          AreVisited-push p aside.path new aside.rest popped.state popped.before aside.pushed none
+          popped.visited;
+      comes = subst (IfStepsTo p popped.state) aside.is_pending popped.aside;
+      told = subst (λ x. tale x h.last) popped.is h.told;
     }
 
 pub told_back : (p : Program) (tale : List State → State → Type 0) (old new : List Visit)
@@ -144,13 +144,13 @@ pub told_back : (p : Program) (tale : List State → State → Type 0) (old new 
 told_back p tale old new current (New stored) h back = goes_aside p tale old new current h back
 told_back p tale old new current (Covered k n) h back = goes_aside p tale old new current h back
 told_back p tale old new current (Finished n) h back =
-    let last = AreVisited-pop p new old back.0 h.states back.1 h.visited in
+    let popped = AreVisited-pop p new old back.0 h.states back.1 h.visited in
     record {
-      state = last.state;
-      states = last.before;
+      state = popped.state;
+      states = popped.before;
       last = h.last;
-      visited = last.visited;
-      told = subst (λ x. tale x h.last) last.is h.told;
+      visited = popped.visited;
+      told = subst (λ x. tale x h.last) popped.is h.told;
     }
 
 -- ---- after the call for a move that ends a path
@@ -200,16 +200,16 @@ pub refused_back : (p : Program) (tale : List State → State → Type 0) (old :
 refused_back p tale old current (Flow e) slot h fails = absurd fails
 refused_back p tale old current (Step e) slot h fails = absurd fails
 refused_back p tale old current Repeats slot h fails =
-    let last = AreVisited-pop p fails.path old fails.visit h.states fails.was h.visited in
+    let popped = AreVisited-pop p fails.path old fails.visit h.states fails.was h.visited in
     record {
-      states = last.state
-          ∷ last.before;
+      states = popped.state
+          ∷ popped.before;
       last = h.last;
       slot_is = fails.slot_is;
       comes = subst
-          (IfStepsTo p last.state) fails.is_pending last.aside;
+          (IfStepsTo p popped.state) fails.is_pending popped.aside;
       told = subst
-          (λ x. tale x h.last) last.is h.told;
+          (λ x. tale x h.last) popped.is h.told;
     }
 refused_back p tale old current TooLong slot h fails = absurd fails
 refused_back p tale old current Memory slot h fails = tt

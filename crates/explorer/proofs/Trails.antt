@@ -1,4 +1,4 @@
--- One visit more, or one less.
+-- A trail with one visit more, or one less.
 use Rattle.std.proofs.Common.{◌≡◌, ◌∙◌, ℕ, ◌+◌, ◌≤◌, List, [], ◌∷◌, ◌++◌, length, length-append, Bool, true, false, Option, Some, None, refl, sym, ap, arith}
 use Rattle.std.specs.Prelude.{is_some, option_to_list}
 use Rattle.stack_state.specs.declared.states.State.{State}
@@ -72,8 +72,8 @@ pub visits_of-one : (visits : List KeptVisit) (kept : KeptVisit) (states : List 
     (o : Option State) → waiting_count visits ≡ length states → kept.waits ≡ is_some o
     → visits_of (visits ++ kept ∷ []) (states ++ option_to_list o)
     ≡ visits_of visits states ++ record { pending = o; best = kept.best; stored = kept.stored } ∷ []
-visits_of-one visits kept states o all is =
-    visits_of-append visits (kept ∷ []) states (option_to_list o) all
+visits_of-one visits kept states o fits is =
+    visits_of-append visits (kept ∷ []) states (option_to_list o) fits
     ∙ ap (λ l. visits_of visits states ++ l) (visit_alone kept o is)
 
 pub visits_of-more : (visits whole : List KeptVisit) (kept : KeptVisit) (states all : List State)
@@ -81,8 +81,8 @@ pub visits_of-more : (visits whole : List KeptVisit) (kept : KeptVisit) (states 
     → whole ≡ visits ++ kept ∷ [] → all ≡ states ++ option_to_list o → kept.waits ≡ is_some o
     → visits_of whole all
     ≡ visits_of visits states ++ record { pending = o; best = kept.best; stored = kept.stored } ∷ []
-visits_of-more visits whole kept states all o fits longer more is =
-    ap (λ l. visits_of l all) longer ∙ ap (visits_of (visits ++ kept ∷ [])) more
+visits_of-more visits whole kept states all o fits longer grown is =
+    ap (λ l. visits_of l all) longer ∙ ap (visits_of (visits ++ kept ∷ [])) grown
     ∙ visits_of-one visits kept states o fits is
 
 length-option : (o : Option State) → length (option_to_list o) ≡ one_if (is_some o)
@@ -93,11 +93,11 @@ waiting_count-one : (visits whole : List KeptVisit) (kept : KeptVisit) (states a
     (o : Option State)
     → whole ≡ visits ++ kept ∷ [] → all ≡ states ++ option_to_list o → kept.waits ≡ is_some o
     → waiting_count visits + length all ≡ waiting_count whole + length states
-waiting_count-one visits whole kept states all o longer more is =
+waiting_count-one visits whole kept states all o longer grown is =
     let wait : waiting_count whole ≡ waiting_count visits + waiting_count (kept ∷ []) =
     ap waiting_count longer ∙ waiting_count-append visits (kept ∷ []) in
     let hold : length all ≡ length states + length (option_to_list o) =
-    ap length more ∙ length-append states (option_to_list o) in
+    ap length grown ∙ length-append states (option_to_list o) in
     let one : one_if kept.waits ≡ length (option_to_list o) =
     ap one_if is ∙ sym (length-option o) in
     omega (arith, wait, hold, one)
@@ -107,8 +107,8 @@ pub waiting_count-more : (visits whole : List KeptVisit) (kept : KeptVisit)
     (states all : List State) (o : Option State) → waiting_count visits ≡ length states
     → whole ≡ visits ++ kept ∷ [] → all ≡ states ++ option_to_list o → kept.waits ≡ is_some o
     → waiting_count whole ≡ length all
-waiting_count-more visits whole kept states all o fits longer more is =
-    let same = waiting_count-one visits whole kept states all o longer more is in
+waiting_count-more visits whole kept states all o fits longer grown is =
+    let same = waiting_count-one visits whole kept states all o longer grown is in
     omega (arith, same, fits)
 
 -- and with one visit less
@@ -116,8 +116,8 @@ pub waiting_count-less : (visits whole : List KeptVisit) (kept : KeptVisit)
     (states all : List State) (o : Option State) → waiting_count whole ≡ length all
     → whole ≡ visits ++ kept ∷ [] → all ≡ states ++ option_to_list o → kept.waits ≡ is_some o
     → waiting_count visits ≡ length states
-waiting_count-less visits whole kept states all o fits longer more is =
-    let same = waiting_count-one visits whole kept states all o longer more is in
+waiting_count-less visits whole kept states all o fits longer grown is =
+    let same = waiting_count-one visits whole kept states all o longer grown is in
     omega (arith, same, fits)
 
 -- the last visit, if it waits, has a state

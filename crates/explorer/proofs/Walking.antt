@@ -62,7 +62,7 @@ into_by p q s a b first other w v same makes i here is forgets =
 -- a walk of no steps is at the state in which paths begin
 pub WalksTo-start : (p : Program) (first : State) → Forgets p start first → WalksTo p 0 first
 unfolding HasSteps
-WalksTo-start p first begins = record { first = first; begins = begins; leads = refl }
+WalksTo-start p first begins = record { first = first; starts = begins; leads = refl }
 
 pub Path-leads : (p : Program) (m : ℕ) (states : List StoredState) (path : List Visit) (a b : State)
     → Path p m states a path b → HasSteps p (length path) a b
@@ -74,7 +74,7 @@ Path-leads p m states (visit ∷ path) a b h = (h.0, h.1.steps, Path-leads p m s
 pub Path-walks : (p : Program) (m : ℕ) (states : List StoredState) (path : List Visit) (a b : State)
     → Forgets p start a → Path p m states a path b → WalksTo p (length path) b
 Path-walks p m states path a b begins h =
-    record { first = a; begins = begins; leads = Path-leads p m states path a b h }
+    record { first = a; starts = begins; leads = Path-leads p m states path a b h }
 
 -- ---- indexes
 
@@ -139,11 +139,11 @@ through : (p : Program) (m : ℕ) (states : List StoredState) (path : List Visit
     (k : ℕ) (t : State) → Path p m states a path b → IsIn k (indexes_of path)
     → slice_get states k ≡ Some (record { state = t; number = 0 }) → Through p a t b
 unfolding Path HasSteps
-through p m states [] a b k t h member e = absurd member
-through p m states (visit ∷ path) a b k t h member e =
+through p m states [] a b k t h inside e = absurd inside
+through p m states (visit ∷ path) a b k t h inside e =
     let child = h.0 in
     let waiting = h.1 in
-    elim (in_first visit.stored k (indexes_of path) member) [
+    elim (in_first visit.stored k (indexes_of path) inside) [
       | inl is ↦
           starts_here p (length path) a t b
           (same_stored states k 0 a t (subst (λ x. StoredAt states x a) is waiting.stored) e)
@@ -182,7 +182,7 @@ arrival_refused p m states path a b Repeats slot begins h on refuses =
       again = b;
       before = walk.before;
       between = walk.between;
-      walk = record { first = a; begins = begins; leads = walk.leads };
+      walk = record { first = a; starts = begins; leads = walk.leads };
       leads_back = walk.leads_on;
       first_slot = repeated.same_slot ∙ sym refuses.2;
       again_slot = sym refuses.2;

@@ -48,9 +48,8 @@ pub data ComesThrough (p : Program) : State → List ℕ → Type 0 where
   AfterOne : (a s : State) (before slots : List ℕ) → ComesThrough p a before → StepsTo p a s
       → slots ≡ before ++ s.slot ∷ [] → ComesThrough p s slots
 
--- the program is refused for this reason at the slot; x has the abstract state there, that of the
--- previous turn of the loop, the last jumps of a walk to it, and the slots of all states of a walk
--- to it
+-- the program gets this refusal at the slot; x has the abstract state there, that of the previous
+-- turn of the loop, the last jumps of a walk to it, and the slots of all states of a walk to it
 pub record Explains (p : Program) (e : Refusal) (slot : ℕ) (x : Explanation) : Type 0 where
   pub refused : StopsAt p e slot
   pub led : IsLed p x.state x.way.items

@@ -64,14 +64,14 @@ pub record Settles (p : Program) (s : State) (n : ℕ) : Type 0 where
 abbrev pub IsSettled : Program → ℕ → StoredState → Type 0
 IsSettled p finished e =
     0 < e.number → Settles p e.state e.number × (e.number ≤ finished)
-    × ((steps : ℕ) × WalksTo p steps e.state)
+    × ((k : ℕ) × WalksTo p k e.state)
 
 unfoldable pub AllSettled : Program → ℕ → List StoredState → Type 0
 AllSettled p finished states = All (IsSettled p finished) states
 
 -- an instruction begins at the state's slot, and at each slot to which a live call frame returns
 pub record IsAtInsns (p : Program) (s : State) : Type 0 where
-  pub begins : BeginsInsn p s.slot
+  pub insn_begins : BeginsInsn p s.slot
   pub returns : All (BeginsInsn p) (returns_of s)
 
 abbrev pub IfReady : Program → Option State → Type 0
@@ -184,23 +184,23 @@ OnPath states path stored = unfinished states ≡ with_last (indexes_of path) st
 -- the search is at the start, and nothing was explored
 pub record IsNew (search : Search) : Type 0 where
   pub current : search.current ≡ start
-  pub stored : search.stored.states.items ≡ []
+  pub states : search.states.states.items ≡ []
   pub path : search.path.items ≡ []
   pub finished : search.finished ≡ 0
 
 -- the search is at this state, and its path goes there from the start
 pub record IsAt (p : Program) (search : Search) (s : State) : Type 0 where
-  pub fine : AllSettled p search.finished search.stored.states.items
+  pub fine : AllSettled p search.finished search.states.states.items
   pub first : State
   pub begins : Forgets p start first
-  pub path : Path p search.finished search.stored.states.items first search.path.items s
+  pub path : Path p search.finished search.states.states.items first search.path.items s
 
 -- the search is at a state that ends within this number
 pub record HasEnded (p : Program) (search : Search) (n : ℕ) : Type 0 where
   pub state : State
   pub at : IsAt p search state
-  pub on_path : OnPath search.stored.states.items search.path.items None
-  pub within : Settles p state n
+  pub on_path : OnPath search.states.states.items search.path.items None
+  pub settled : Settles p state n
   pub spent : HasSpent p at.first search.path.items (search.finished + length search.path.items)
   pub some : 0 < n
   pub most : n ≤ search.finished
@@ -208,17 +208,17 @@ pub record HasEnded (p : Program) (search : Search) (n : ℕ) : Type 0 where
 -- the search is at its current state, which is stored with this index
 pub record Explores (p : Program) (search : Search) (stored : Option ℕ) : Type 0 where
   pub at : IsAt p search search.current
-  pub on_path : OnPath search.stored.states.items search.path.items stored
-  pub stored_at : StoredAt search.stored.states.items stored search.current
-  pub spent : CountsTo p at.first search.path.items search.current
+  pub on_path : OnPath search.states.states.items search.path.items stored
+  pub stored_at : StoredAt search.states.states.items stored search.current
+  pub counts : CountsTo p at.first search.path.items search.current
       (search.finished + length search.path.items)
   pub ready : IsAtInsns p search.current
 
 -- the path comes to the current state, which is not explored yet
 pub record Comes (p : Program) (search : Search) : Type 0 where
   pub at : IsAt p search search.current
-  pub on_path : OnPath search.stored.states.items search.path.items None
-  pub spent : CountsTo p at.first search.path.items search.current
+  pub on_path : OnPath search.states.states.items search.path.items None
+  pub counts : CountsTo p at.first search.path.items search.current
       (search.finished + length search.path.items)
   pub ready : IsAtInsns p search.current
 
@@ -229,7 +229,7 @@ AfterMove p search (Covered k n) = HasEnded p search n
 AfterMove p search (Finished n) = HasEnded p search n
 
 -- the limit of explored instructions is reached, and the next one is at this slot
-pub record IsFull (search : Search) (slot : ℕ) : Type 0 where
+pub record IsTooLong (search : Search) (slot : ℕ) : Type 0 where
   pub explored : search.finished + length search.path.items ≡ MAX_EXPLORED
   pub next : slot ≡ search.current.slot
 

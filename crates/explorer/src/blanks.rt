@@ -1,4 +1,4 @@
-//! Call frames about which nothing is known.
+//! Blank call frames: nothing is known of them.
 
 ghost use Rattle.std.specs.Prelude.{◌≡◌};
 ghost use Rattle.state_index.specs.Parts.{unset_frame};

@@ -61,8 +61,8 @@ fn note(way: &mut ArrayVec<Jump, 8>, jump: Jump)
     way.push(jump);
 }
 
-/// Extends the last jumps of a path by the step from one slot to another, if that is a jump. None:
-/// no instruction begins at `from`.
+/// Extends the last jumps of a path by a step between states at these slots, if that is a jump.
+/// None: no instruction begins at `from`.
 fn go_on(image: &Image, way: &mut ArrayVec<Jump, 8>, from: usize, to: usize) -> Option<()>
     ensures { IfSome result (λ _. (a s : TheState) → a.slot ≡ from → s.slot ≡ to
         → StepsTo image.now a s → IsLed image.now a way.old.items
@@ -206,14 +206,13 @@ fn explained(
     let mut follower = Follower::new(alloc, image, slot);
     match search.explore(alloc, image, flow, &mut follower) {
         Err(Halt::Refused(found, at)) if are_one(found, refusal) && at == slot => {
-            follower.into_explanation(slot, search.stored.is_cut_off())
+            follower.into_explanation(slot, search.states.is_cut_off())
         }
         _ => None,
     }
 }
 
-/// What is known where a program is refused for this reason, at this slot: a second search looks
-/// for it.
+/// What is known where a program gets this refusal, at this slot: a second search looks for it.
 ///
 /// None: the refusal is one of control flow, memory ran out, or this is not what the program is
 /// refused for.
@@ -223,10 +222,10 @@ pub fn explain(alloc: Global, image: &Image, refusal: Refusal, slot: usize) -> O
     if let Refusal::Flow(_) | Refusal::Memory = refusal {
         return None;
     }
-    let slots = image.slots();
+    let slot_count = image.slots();
     let Ok(flow) = Flow::of(alloc, image) else {
         return None;
     };
-    let mut search = Search::new(alloc, slots).ok()?;
+    let mut search = Search::new(alloc, slot_count).ok()?;
     explained(alloc, image, &flow, &mut search, refusal, slot)
 }

@@ -16,9 +16,9 @@ use std::rc::Rc;
 pub const FEW: usize = 4;
 
 /// How many registers or stack slots a group has at most.
-const REGISTERS: u8 = 3;
+const GROUP_REGISTERS: u8 = 3;
 
-const SLOTS: u8 = 8;
+const GROUP_SLOTS: u8 = 8;
 
 /// How many words of 8 bytes a part takes, and a group besides its parts.
 const PART_WORDS: usize = 10;
@@ -86,8 +86,8 @@ impl SharedParts {
 /// Which group a part belongs to: a number that it shares with the parts of its group only.
 fn group_of(part: &Part) -> u8 {
     match part {
-        Part::InRegister(number, _) => *number / REGISTERS,
-        Part::InSlot(index, _) => 16 + *index / SLOTS % 8,
+        Part::InRegister(number, _) => *number / GROUP_REGISTERS,
+        Part::InSlot(index, _) => 16 + *index / GROUP_SLOTS % 8,
     }
 }
 
@@ -157,17 +157,17 @@ pub enum KeptParts {
 }
 
 impl KeptParts {
-    /// The parts, in groups if they are more than `few`. The groups of another state that have the
+    /// The parts, in groups if they are more than `most`. The groups of another state that have the
     /// same parts are shared.
     pub fn of(
         alloc: Global,
         parts: &[Part],
         others: &[SharedParts],
-        few: usize,
+        most: usize,
     ) -> Result<Self, AllocError>
         ensures { IfOk result (λ kept. few_of kept ++ whole (groups_of kept) ≡ parts.now) }
     {
-        if parts.len() <= few {
+        if parts.len() <= most {
             return Ok(KeptParts::Few(Vec::from_slice(alloc, parts)?));
         }
         Ok(KeptParts::Many(cut(alloc, parts, others)?))

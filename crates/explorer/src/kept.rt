@@ -1,4 +1,4 @@
-//! Abstract states, stored compactly.
+//! Abstract states, kept compactly.
 
 ghost use Rattle.std.specs.Prelude.{◌≡◌, IfOk, IsTrue};
 ghost use Rattle.state_index.specs.Parts.{AreBlankBeside, AreParts};
@@ -95,18 +95,19 @@ impl Kept {
         Kept::of_parts(alloc, state, parts, other)
     }
 
-    /// The same for a state of whose innermost stack something may be known only of these slots.
+    /// The same for a state whose innermost call frame has only these stack slots about which
+    /// something may be known.
     pub(crate) fn of_forgotten(
         alloc: Global,
         state: &State,
-        slots: SlotMask,
+        stack_slots: SlotMask,
         parts: &mut Vec<Part>,
         other: Option<&Kept>,
     ) -> Result<Self, AllocError>
-        requires { AreBlankBeside slots state.now.innermost.stack.slots }
+        requires { AreBlankBeside stack_slots state.now.innermost.stack.slots }
         ensures { IfOk result (λ kept. kept ≡ state.now) }
     {
-        take_parts_in(parts, &state.innermost, slots)?;
+        take_parts_in(parts, &state.innermost, stack_slots)?;
         Kept::of_parts(alloc, state, parts, other)
     }
 
@@ -162,7 +163,7 @@ impl Kept {
         }
     }
 
-    /// Becomes the limits of all frames.
+    /// Makes the list the limits of all frames.
     pub(crate) fn take_limits(&self, limits: &mut Vec<PartLimits>) -> Result<(), AllocError> {
         limits.clear();
         let mut frame_index = 0;
@@ -180,8 +181,8 @@ impl Kept {
         for frame in self.callers.as_ref().as_slice() {
             named = named.saturating_add(frame.named());
         }
-        let frames = self.callers.as_ref().as_slice().len().saturating_add(1);
-        frames
+        let frame_count = self.callers.as_ref().as_slice().len().saturating_add(1);
+        frame_count
             .saturating_mul(PLACES)
             .saturating_mul(named.saturating_add(1))
     }

@@ -1,4 +1,4 @@
-//! Call frames, stored compactly.
+//! Call frames, kept compactly.
 
 ghost use Rattle.std.specs.Prelude.{◌≡◌, ◌≤◌, ◌++◌, IfOk, IsTrue, length};
 ghost use Rattle.stack_state.specs.Slots.{frame_slots};
@@ -233,12 +233,12 @@ fn resize(frames: &mut ArrayVec<AbstractFrame, MAX_CALLERS>, count: usize, frame
 pub fn restore_all(
     kept: &[KeptFrame],
     frames: &mut ArrayVec<AbstractFrame, MAX_CALLERS>,
-    other: &AbstractFrame,
+    filler: &AbstractFrame,
 )
     requires { length kept.now ≤ 7 }
     ensures { frames.new.items ≡ kept.now }
 {
-    resize(frames, kept.len(), other);
+    resize(frames, kept.len(), filler);
     for index in 0..kept.len() {
         kept[index].restore(&mut frames[index]);
     }

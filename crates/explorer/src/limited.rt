@@ -25,7 +25,7 @@ use walks::Refusal;
 /// Why a search up to a limit has no bound.
 #[derive(Clone, Copy)]
 pub enum NoBound {
-    /// The program is refused for this reason, at this slot.
+    /// The program gets this refusal, at this slot.
     Refused(Refusal, usize),
     /// More instructions than the limit would have to be explored.
     Limit,

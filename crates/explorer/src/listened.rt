@@ -21,7 +21,7 @@ use isa_model::MAX_EXPLORED;
 use std::alloc::Global;
 use walks::Refusal;
 
-// The bound of a program's runs, and the listener after the search for it.
+// The bound of a program's runs; a listener is called during the search for it.
 fn bound_with<L: Listener>(
     alloc: Global,
     image: &Image,

@@ -51,7 +51,7 @@ pub trait Listener {
         Ok(())
     }
 
-    /// The step of the path's last state has this number of successors.
+    /// The step of the path's last state has this many successors.
     #[inline(always)]
     fn stepped(&mut self, _ways: Ways) -> Result<(), Self::Stop>
         ensures { (p : Program) (path : List TheState) (last : TheState)
@@ -65,7 +65,7 @@ pub trait Listener {
         ensures { (p : Program) (s : TheState) (path : List TheState) (last : TheState)
             → follows self.old p (s ∷ path) last → OnOk result (follows self.new p path last) };
 
-    /// The program is refused for this reason, at the last state of the path; or memory ran out.
+    /// The program gets this refusal, in the last state of the path; or memory ran out.
     #[inline(always)]
     fn refused(&mut self, _refusal: Refusal, _slot: usize)
         ensures { (p : Program) (path : List TheState) (last : TheState)

@@ -30,8 +30,8 @@ pub struct ExploredInsn {
     pub number: u32,
     /// The state in which it is explored.
     pub state: Kept,
-    /// The indexes of its successors in the list, the fall-through's first. If a stored state
-    /// covers a successor, the index is that of the stored state.
+    /// The indexes in the list of the successors of that state, the fall-through's first. If a
+    /// stored state covers a successor, the index is that of the stored state.
     pub successors: ArrayVec<u32, 2>,
 }
 
@@ -74,14 +74,14 @@ impl Explored {
 struct Lister {
     alloc: Global,
     insns: Vec<ExploredInsn>,
-    /// Where the instructions of the stored states are in the list.
-    stored: Vec<u32>,
-    /// Where those of the path's states are.
+    /// The indexes in the list of the stored states' instructions.
+    stored_insns: Vec<u32>,
+    /// Those of the instructions of the path's states.
     path: Vec<u32>,
     /// For the parts of a call frame.
     parts: Vec<Part>,
     /// A state about which nothing is known: a placeholder in the list for stored states until
-    /// these are restored.
+    /// these are moved there.
     blank: State,
     kept_blank: Option<Kept>,
 }
@@ -93,7 +93,7 @@ impl Lister {
         Lister {
             alloc,
             insns: Vec::new(alloc),
-            stored: Vec::new(alloc),
+            stored_insns: Vec::new(alloc),
             path: Vec::new(alloc),
             parts: Vec::new(alloc),
             blank,
@@ -101,7 +101,7 @@ impl Lister {
         }
     }
 
-    /// The instruction at this index is a successor of the path's last state.
+    /// The state of the instruction at this index is a successor of the path's last state.
     fn lead_to(&mut self, index: u32) {
         let Some(last) = self.path.last() else {
             return;
@@ -136,7 +136,7 @@ impl Lister {
     /// longer.
     fn take_stored(&mut self, states: &mut [StoredState]) {
         for index in 0..states.len() {
-            let Some(at) = self.stored.get(index).copied() else {
+            let Some(at) = self.stored_insns.get(index).copied() else {
                 return;
             };
             if let Some(insn) = self.insns.get_mut(at as usize) {
@@ -167,7 +167,7 @@ impl Lister {
             successors: ArrayVec::new(),
         })?;
         if stored.is_some() {
-            self.stored.push(index)?;
+            self.stored_insns.push(index)?;
         }
         self.path.push(index)?;
         Ok(())
@@ -184,7 +184,7 @@ impl Listener for Lister {
     }
 
     fn covered(&mut self, index: usize, _number: u32) -> Result<(), AllocError> {
-        if let Some(at) = self.stored.get(index).copied() {
+        if let Some(at) = self.stored_insns.get(index).copied() {
             self.lead_to(at);
         }
         Ok(())
@@ -226,7 +226,7 @@ fn listed(
     let mut lister = Lister::new(alloc);
     match search.explore(alloc, image, flow, &mut lister) {
         Ok(_) => {
-            lister.take_stored(search.stored.states.as_mut_slice());
+            lister.take_stored(search.states.states.as_mut_slice());
             Ok(Explored {
                 insns: lister.insns,
             })

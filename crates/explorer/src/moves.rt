@@ -31,7 +31,7 @@ pub enum NextMove {
 /// Why a search finds no number.
 #[derive(Clone, Copy, Drop)]
 pub enum Halt<S> {
-    /// The program is refused for this reason, at this slot.
+    /// The program gets this refusal, at this slot.
     Refused(Refusal, usize),
     /// The listener stopped it.
     Stopped(S),

@@ -10,7 +10,7 @@ ghost use Rattle.image.specs.Images.{IsImage};
 ghost use Rattle.control_flow.specs.Flows.{IsFlow, IsJoin};
 ghost use Rattle.walks.specs.Forgetting.{IsForgotten};
 ghost use Rattle.walks.specs.Refused.{StopsAt};
-ghost use Rattle.explorer.specs.Search.{Arrives, IsArrival, RefusesArrival, IsNew, Comes, HasEnded, AfterMove, AfterMoveOrEnd, IsNext, IsFull};
+ghost use Rattle.explorer.specs.Search.{Arrives, IsArrival, RefusesArrival, IsNew, Comes, HasEnded, AfterMove, AfterMoveOrEnd, IsNext, IsTooLong};
 ghost use Rattle.explorer.specs.Listening.{BeginsPath, BeginFails, ShowsStep, StepFails, ComesBackAt, IfReturns, ReturnFails, IfRefused, IsToTell, FollowsTo, FollowsNext, EndsIn};
 
 use crate::kept::Kept;
@@ -30,9 +30,9 @@ use walks::{Refusal, forget_dead, kept_slots};
 /// A search: the path from the start to the current state, and the states that were stored.
 #[derive(Drop)]
 pub struct Search {
-    pub stored: StoredStates,
+    pub states: StoredStates,
     pub path: Trail,
-    /// How many instructions have their number.
+    /// How many instructions are finished: their states have their numbers.
     pub finished: u32,
     pub current: State,
     /// Scratch space for a state.
@@ -44,37 +44,37 @@ pub struct Search {
 fn arrive(
     alloc: Global,
     flow: &Flow<'_>,
-    stored: &mut StoredStates,
+    states: &mut StoredStates,
     state: &State,
     kept: &mut Option<Kept>,
     scratch: &mut State,
 ) -> Result<Move, Refused>
     requires kept { IfSome kept.old (λ s. s ≡ state.now) }
     requires forgotten { kept.old ≡ None → IsForgotten flow.now state.now }
-    ensures arrives { IfOk result (λ made. Arrives flow.now stored.old.states.items
-        state.now made stored.new.states.items) }
+    ensures arrives { IfOk result (λ made. Arrives flow.now states.old.states.items
+        state.now made states.new.states.items) }
     ensures limits { IfOk result (λ made. made ≡ Move.New None → IsJoin flow.now state.now.slot
-        → IsTrue stored.new.is_over ⊎ IsTrue stored.new.is_full) }
-    ensures refused { IfErr result (λ r. RefusesArrival flow.now stored.old.states.items
+        → IsTrue states.new.is_over ⊎ IsTrue states.new.is_full) }
+    ensures refused { IfErr result (λ r. RefusesArrival flow.now states.old.states.items
         state.now r.0 r.1) }
 {
-    if !flow.is_join(state.slot) || stored.is_over {
+    if !flow.is_join(state.slot) || states.is_over {
         return Ok(Move::New(None));
     }
-    let slots = kept_slots(flow, state.slot);
-    let Ok(()) = stored.take_up(alloc, state, kept, slots) else {
+    let mask = kept_slots(flow, state.slot);
+    let Ok(()) = states.take_up(alloc, state, kept, mask) else {
         return Err(NO_MEMORY);
     };
-    if let Some((index, number)) = stored.cover_of(state, scratch) {
+    if let Some((index, number)) = states.cover_of(state, scratch) {
         return Ok(Move::Covered(index, number));
     }
-    if stored.repeats(state, scratch) {
+    if states.repeats(state, scratch) {
         return Err((Refusal::Repeats, state.slot));
     }
-    if stored.is_full {
+    if states.is_full {
         return Ok(Move::New(None));
     }
-    match stored.store(alloc, state, kept) {
+    match states.store(alloc, state, kept) {
         Ok(index) => Ok(Move::New(Some(index))),
         Err(_) => Err(NO_MEMORY),
     }
@@ -84,11 +84,11 @@ impl Search {
     /// A search at the start of code of this number of slots.
     pub fn new(alloc: Global, slots: usize) -> Result<Self, AllocError>
         ensures new { IfOk result (λ search. IsNew search) }
-        ensures room { IfOk result (λ search. HasShapeRoom search.stored.index slots) }
+        ensures room { IfOk result (λ search. HasShapeRoom search.states.index slots) }
     {
-        let stored = StoredStates::new(alloc, slots)?;
+        let states = StoredStates::new(alloc, slots)?;
         Ok(Search {
-            stored,
+            states,
             path: Trail::new(alloc),
             finished: 0,
             current: State::start(),
@@ -118,7 +118,7 @@ impl Search {
         arrive(
             alloc,
             flow,
-            &mut self.stored,
+            &mut self.states,
             &self.current,
             &mut kept,
             &mut self.scratch,
@@ -141,7 +141,7 @@ impl Search {
     }
 
     /// Explores the instruction at the current state, which is stored with that index, if there is
-    /// one. What is dead at its successors is forgotten, and the pending state is stored compactly;
+    /// one. What is dead at its successors is forgotten, and the pending state is kept compactly;
     /// `parts` is scratch space.
     #[inline(always)]
     fn step(
@@ -166,7 +166,7 @@ impl Search {
             ≡ self.old.finished + length self.old.path.items + 1) }
     {
         let slot = self.current.slot;
-        let callers = self.current.callers.len();
+        let caller_count = self.current.callers.len();
         let ways = match step_in_place(image, &mut self.current, &mut self.scratch) {
             Ok(ways) => ways,
             Err(refusal) => return Err((Refusal::Step(refusal), slot)),
@@ -174,20 +174,20 @@ impl Search {
         let pending = match ways {
             Ways::None => {
                 self.finished += 1;
-                self.stored.finish(stored, 1);
+                self.states.finish(stored, 1);
                 return Ok((ways, Move::Finished(1)));
             }
             Ways::One => None,
             Ways::Two => {
                 forget_dead(flow, false, &mut self.scratch);
-                let slots = kept_slots(flow, self.scratch.slot);
-                match Kept::of_forgotten(alloc, &self.scratch, slots, parts, self.stored.last()) {
+                let mask = kept_slots(flow, self.scratch.slot);
+                match Kept::of_forgotten(alloc, &self.scratch, mask, parts, self.states.last()) {
                     Ok(other) => Some(other),
                     Err(_) => return Err(NO_MEMORY),
                 }
             }
         };
-        let has_called = self.current.callers.len() > callers;
+        let has_called = self.current.callers.len() > caller_count;
         forget_dead(flow, has_called, &mut self.current);
         let visit = Visit {
             pending,
@@ -228,7 +228,7 @@ impl Search {
         let Some(other) = pending else {
             let number = best + 1;
             self.finished += 1;
-            self.stored.finish(stored, number);
+            self.states.finish(stored, number);
             return Ok(Some(Move::Finished(number)));
         };
         other.restore(&mut self.current);
@@ -269,7 +269,7 @@ impl Search {
     {
         let mut made = first;
         'moves: loop {
-            if let Err(stop) = tell(listener, &self.current, made, self.stored.last()) {
+            if let Err(stop) = tell(listener, &self.current, made, self.states.last()) {
                 return Err(Halt::Stopped(stop));
             }
             let ended = match made {
@@ -322,7 +322,7 @@ impl Search {
     }
 
     /// Explores all that can be reached from the start.
-    fn run<L: Listener>(
+    fn explore_all<L: Listener>(
         &mut self,
         alloc: Global,
         image: &Image,
@@ -339,7 +339,7 @@ impl Search {
         ensures most { IfOk result (λ n. n ≤ MAX_EXPLORED) }
         ensures stops { IfErr result (λ h. IfRefused h (StopsAt flow.now)) }
         ensures too_long { IfErr result (λ h. IfRefused h
-            (λ e slot. e ≡ Refusal.TooLong → IsFull self.new slot)) }
+            (λ e slot. e ≡ Refusal.TooLong → IsTooLong self.new slot)) }
         ensures ends { IfErr result (λ h. IfRefused h
             (EndsIn flow.now (L.follows listener.new flow.now))) }
     {
@@ -381,14 +381,14 @@ impl Search {
         ensures most { IfOk result (λ n. n ≤ MAX_EXPLORED) }
         ensures stops { IfErr result (λ h. IfRefused h (StopsAt flow.now)) }
         ensures too_long { IfErr result (λ h. IfRefused h
-            (λ e slot. e ≡ Refusal.TooLong → IsFull self.new slot)) }
+            (λ e slot. e ≡ Refusal.TooLong → IsTooLong self.new slot)) }
 
         // A listener has followed the path to the state in which the program is refused.
         ensures ends { IfErr result (λ h. IfRefused h
             (EndsIn flow.now (L.follows listener.new flow.now))) }
     {
         let mut parts = Vec::new(alloc);
-        match self.run(alloc, image, flow, &mut parts, listener) {
+        match self.explore_all(alloc, image, flow, &mut parts, listener) {
             Ok(number) => Ok(number),
             Err(Halt::Refused(refusal, slot)) => {
                 listener.refused(refusal, slot);

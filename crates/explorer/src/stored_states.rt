@@ -20,7 +20,7 @@ pub struct StoredState {
     pub number: u32,
 }
 
-/// How many finished states with these known bits were scanned.
+/// How many finished states in which this is known were scanned.
 #[derive(Clone, Copy, Drop)]
 struct Scan {
     known: u64,
@@ -91,7 +91,7 @@ impl StoredStates {
         last_of(self.states.as_slice())
     }
 
-    /// Makes a tree of the finished states with these known bits.
+    /// Makes a tree of the finished states in which this is known.
     fn add_tree(&mut self, alloc: Global, known: u64) -> Result<(), AllocError>
         ensures { self.new.states.items ≡ self.old.states.items }
     {
@@ -147,15 +147,16 @@ impl StoredStates {
     }
 
     /// Takes a state to be looked up and stored next. It may have been kept already; if not,
-    /// something may be known only of these slots of its innermost stack.
+    /// something may be known only of these stack slots of its innermost call frame.
     pub fn take_up(
         &mut self,
         alloc: Global,
         state: &State,
         kept: &Option<Kept>,
-        slots: SlotMask,
+        stack_slots: SlotMask,
     ) -> Result<(), AllocError>
-        requires { kept.now ≡ None → AreBlankBeside slots state.now.innermost.stack.slots }
+        requires { kept.now ≡ None
+            → AreBlankBeside stack_slots state.now.innermost.stack.slots }
         ensures same { self.new.states.items ≡ self.old.states.items }
         ensures drawn { OnOk result (kept.now ≡ None
             → AreParts self.new.key.parts.items state.now.innermost) }
@@ -168,11 +169,12 @@ impl StoredStates {
         }
         self.is_over = self.effort.is_over();
         self.key.is_sought = !self.is_over;
-        let callers = state.callers.as_slice().len().saturating_mul(PLACES);
-        self.effort.spend(callers.saturating_mul(CALLER_READINGS));
+        let caller_parts = state.callers.as_slice().len().saturating_mul(PLACES);
+        self.effort
+            .spend(caller_parts.saturating_mul(CALLER_READINGS));
         self.key.has_limits = self.index.has_trees();
         match kept {
-            None => self.key.take(state, slots),
+            None => self.key.take(state, stack_slots),
             Some(kept) => kept.put_key(&mut self.key),
         }
     }
@@ -201,7 +203,7 @@ impl StoredStates {
         Some(stored.number)
     }
 
-    /// The first finished state that covers this one, of those with these known bits, if it was
+    /// The first finished state that covers this one, of those in which this is known, if it was
     /// stored before another one: its index and its number. And how many were scanned.
     fn first_known(
         &self,

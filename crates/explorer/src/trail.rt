@@ -19,7 +19,7 @@ pub struct Visit {
     pub pending: Option<Kept>,
     /// The greatest number so far of the states after it, 0 if there is none yet.
     pub best: u32,
-    /// Where its own state is stored.
+    /// The index of its own state among the stored ones, if it is stored.
     pub stored: Option<usize>,
 }
 

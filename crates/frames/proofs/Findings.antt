@@ -149,66 +149,67 @@ record_failed v number offset old new n buffer none size less p =
     stopped_more (At v number offset) old new (take n buffer) (finish.Fault ReadFailed offset) p
     (λ bytes rest e. (take n buffer, e, read))
 
-pub record_long : (v : Version) (number offset : ℕ) (old new : Option (List ℕ)) (head : List ℕ)
-    → number ≢ max_frames → length head ≡ head_size v → max_body v < length_field head
-    → Consumes old new head
+pub record_long : (v : Version) (number offset : ℕ) (old new : Option (List ℕ)) (front : List ℕ)
+    → number ≢ max_frames → length front ≡ head_size v → max_body v < length_field front
+    → Consumes old new front
     → FindsNext (At v number offset) old new (Stopped (finish.Fault TooLong offset))
-record_long v number offset old new head early size long p =
-    stopped_more (At v number offset) old new head (finish.Fault TooLong offset) p
+record_long v number offset old new front early size long p =
+    stopped_more (At v number offset) old new front (finish.Fault TooLong offset) p
     (λ bytes rest e. rw e
-    (stop_at-long v number offset (head ++ rest) ByEnd early
-    (omega (arith, length-append head rest))
-    (let some = some_head v in omega (arith, length_field-append head rest (omega arith)))))
+    (stop_at-long v number offset (front ++ rest) ByEnd early
+    (omega (arith, length-append front rest))
+    (let some = some_head v in omega (arith, length_field-append front rest (omega arith)))))
 
 -- the bytes of a head and of a part of its body
-part_of_record : (v : Version) (number offset : ℕ) (head body : List ℕ) (e : InputEnding)
-    → number ≢ max_frames → length head ≡ head_size v → length_field head ≤ max_body v
-    → length body < length_field head
-    → stop_at v number offset (head ++ body) e ≡ Some (finish.Fault (cut_by e TruncatedBody) offset)
-part_of_record v number offset head body e early size short less =
+part_of_record : (v : Version) (number offset : ℕ) (front body : List ℕ) (e : InputEnding)
+    → number ≢ max_frames → length front ≡ head_size v → length_field front ≤ max_body v
+    → length body < length_field front
+    → stop_at v number offset (front ++ body) e
+    ≡ Some (finish.Fault (cut_by e TruncatedBody) offset)
+part_of_record v number offset front body e early size short less =
     let some = some_head v in
-    let field = length_field-append head body (omega arith) in
-    let long = length-append head body in
-    stop_at-body v number offset (head ++ body) e early (omega arith) (omega arith) (omega arith)
+    let field = length_field-append front body (omega arith) in
+    let long = length-append front body in
+    stop_at-body v number offset (front ++ body) e early (omega arith) (omega arith) (omega arith)
 
-pub body_cut : (v : Version) (number offset : ℕ) (old mid new : Option (List ℕ)) (head : List ℕ)
-    (n : ℕ) (buffer : List ℕ) → number ≢ max_frames → length head ≡ head_size v
-    → length_field head ≤ max_body v → length buffer ≡ length_field head → n < length buffer
-    → Consumes old mid head → Consumes mid new (take n buffer) → IsAtEnd new
+pub body_cut : (v : Version) (number offset : ℕ) (old mid new : Option (List ℕ)) (front : List ℕ)
+    (n : ℕ) (buffer : List ℕ) → number ≢ max_frames → length front ≡ head_size v
+    → length_field front ≤ max_body v → length buffer ≡ length_field front → n < length buffer
+    → Consumes old mid front → Consumes mid new (take n buffer) → IsAtEnd new
     → FindsNext (At v number offset) old new (Stopped (finish.Fault TruncatedBody offset))
-body_cut v number offset old mid new head n buffer early size short room less p q e =
-    let cut = part_of_record v number offset head (take n buffer) ByEnd early size short
+body_cut v number offset old mid new front n buffer early size short room less p q e =
+    let cut = part_of_record v number offset front (take n buffer) ByEnd early size short
     (omega (arith, length-take-le n buffer (omega arith))) in
-    stopped_all (At v number offset) old new (head ++ take n buffer)
+    stopped_all (At v number offset) old new (front ++ take n buffer)
     (finish.Fault TruncatedBody offset) (Consumes-trans _ _ _ _ _ p q) e (λ rest. cut)
 
-pub body_failed : (v : Version) (number offset : ℕ) (old mid new : Option (List ℕ)) (head : List ℕ)
-    (n : ℕ) (buffer : List ℕ) → number ≢ max_frames → length head ≡ head_size v
-    → length_field head ≤ max_body v → length buffer ≡ length_field head → n < length buffer
-    → Consumes old mid head → Consumes mid new (take n buffer)
+pub body_failed : (v : Version) (number offset : ℕ) (old mid new : Option (List ℕ)) (front : List ℕ)
+    (n : ℕ) (buffer : List ℕ) → number ≢ max_frames → length front ≡ head_size v
+    → length_field front ≤ max_body v → length buffer ≡ length_field front → n < length buffer
+    → Consumes old mid front → Consumes mid new (take n buffer)
     → FindsNext (At v number offset) old new (Stopped (finish.Fault ReadFailed offset))
-body_failed v number offset old mid new head n buffer early size short room less p q =
-    let read = part_of_record v number offset head (take n buffer) ByError early size short
+body_failed v number offset old mid new front n buffer early size short room less p q =
+    let read = part_of_record v number offset front (take n buffer) ByError early size short
     (omega (arith, length-take-le n buffer (omega arith))) in
-    stopped_more (At v number offset) old new (head ++ take n buffer)
+    stopped_more (At v number offset) old new (front ++ take n buffer)
     (finish.Fault ReadFailed offset) (Consumes-trans _ _ _ _ _ p q)
-    (λ bytes rest e. (head ++ take n buffer, e, read))
+    (λ bytes rest e. (front ++ take n buffer, e, read))
 
 pub record_whole : (v : Version) (number offset : ℕ) (old mid new : Option (List ℕ))
-    (bytes body after : List ℕ) (head : FrameHead) (n reason : ℕ)
-    → head_bytes v head n reason ≡ bytes
-    → length body ≡ n → Consumes old mid bytes → Consumes mid new body
+    (front body after : List ℕ) (head : FrameHead) (n reason : ℕ)
+    → head_bytes v head n reason ≡ front
+    → length body ≡ n → Consumes old mid front → Consumes mid new body
     → FindsNext (At v number offset) old new
     (Found (record { head = head; body = take n (body ++ after); reason = reason }))
-record_whole v number offset None mid new bytes body after head n reason spelled size p q = tt
-record_whole v number offset (Some all) None new bytes body after head n reason spelled size p q =
+record_whole v number offset None mid new front body after head n reason spelled size p q = tt
+record_whole v number offset (Some all) None new front body after head n reason spelled size p q =
     absurd p
-record_whole v number offset (Some all) (Some rest) None bytes body after head n reason spelled size
+record_whole v number offset (Some all) (Some rest) None front body after head n reason spelled size
     p q = absurd q
 record_whole v number offset (Some all) (Some rest)
-    (Some left) bytes body after head n reason spelled size p q =
+    (Some left) front body after head n reason spelled size p q =
     let first : take n (body ++ after) ≡ body = take_at body after n size in
-    rw first (rw (size, spelled) (p ∙ ap (λ l. bytes ++ l) q ∙ sym (append_assoc bytes body left)))
+    rw first (rw (size, spelled) (p ∙ ap (λ l. front ++ l) q ∙ sym (append_assoc front body left)))
 
 -- the position allows a record that was read whole
 pub can_be_whole : (v : Version) (number : ℕ) (body after : List ℕ) (head : FrameHead)
@@ -262,30 +263,30 @@ can_be_cut v number offset early =
           (let some = some_head v in omega arith);
     }
 
-pub can_be_long : (v : Version) (number offset : ℕ) (head : List ℕ) → number ≢ max_frames
-    → length head ≡ head_size v → max_body v < length_field head
+pub can_be_long : (v : Version) (number offset : ℕ) (front : List ℕ) → number ≢ max_frames
+    → length front ≡ head_size v → max_body v < length_field front
     → CanStop (At v number offset) (finish.Fault TooLong offset)
-can_be_long v number offset head early size long =
+can_be_long v number offset front early size long =
     record {
-      bytes = head;
+      bytes = front;
       ending = ByEnd;
-      stops = stop_at-long v number offset head ByEnd early
+      stops = stop_at-long v number offset front ByEnd early
           (omega arith) long;
     }
 
-pub can_lack_body : (v : Version) (number offset : ℕ) (head : List ℕ) (n : ℕ) (buffer : List ℕ)
-    → number ≢ max_frames → length head ≡ head_size v → length_field head ≤ max_body v
-    → length buffer ≡ length_field head → n < length buffer
+pub can_lack_body : (v : Version) (number offset : ℕ) (front : List ℕ) (n : ℕ) (buffer : List ℕ)
+    → number ≢ max_frames → length front ≡ head_size v → length_field front ≤ max_body v
+    → length buffer ≡ length_field front → n < length buffer
     → CanStop (At v number offset) (finish.Fault TruncatedBody offset)
-can_lack_body v number offset head n buffer early size short room less = record {
-  bytes = head ++ [];
+can_lack_body v number offset front n buffer early size short room less = record {
+  bytes = front ++ [];
   ending = ByEnd;
-  stops = part_of_record v number offset head [] ByEnd early size short (omega arith);
+  stops = part_of_record v number offset front [] ByEnd early size short (omega arith);
 }
 
 -- a reader that is done stops as it did
-pub done_room : (version : Version) (stop : Finish) → CanStop (Done version stop) stop
-done_room version stop = record { bytes = []; ending = ByEnd; stops = refl }
+pub can_stay_done : (version : Version) (stop : Finish) → CanStop (Done version stop) stop
+can_stay_done version stop = record { bytes = []; ending = ByEnd; stops = refl }
 
 -- ---- a call
 

@@ -10,8 +10,8 @@ use Rattle.isa_model.specs.declared.streams.Finish.TheVariants as finish
 use Rattle.isa_model.specs.declared.versions.Version.{Version}
 use Rattle.isa_model.specs.declared.versions.Version.TheVariants.{One}
 use Rattle.isa_model.specs.Code.Versions.{stream_magic}
-use Rattle.isa_model.specs.Reporting.Streams.{PacketFrame, IsPacketFrame, Input, InputEnding, ByEnd, ByError, max_frames, frame_bytes, records_bytes, record_size, opened, stop_at, Stream, stream_with, stream_of, AreOpen, stream_bytes}
-use Rattle.isa_model.proofs.StreamLaws.{AreOpen-nil, AreOpen-push, size-frame_bytes, offset_after, stream_of-stops, stream_of-unopened}
+use Rattle.isa_model.specs.Reporting.Streams.{PacketFrame, IsPacketFrame, Input, InputEnding, ByEnd, ByError, max_frames, record_bytes, records_bytes, record_size, opened, stop_at, Stream, stream_with, stream_of, AreOpen, stream_bytes}
+use Rattle.isa_model.proofs.StreamLaws.{AreOpen-nil, AreOpen-push, size-record_bytes, offset_after, stream_of-stops, stream_of-unopened}
 use Rattle.frames.specs.Readers.{Position, Fresh, At, Done}
 use Rattle.frames.specs.Reading.{ReadsMagic, MayOpen, OpensStream, position_opened, begun_at, Found, Stopped, StopsReading, FindsNext, IsOpen, CanStop, next_position, Finds}
 use Rattle.frames.specs.Inputs.{AreReadFrom, IsBegunBy, IsBegunVersion}
@@ -85,16 +85,16 @@ unopened_from (Some bytes) new TooManyRecords r may = unopened_all bytes TooMany
 
 -- a source has lost the bytes of a record that was found
 Consumes-found : (v : Version) (number offset : ℕ) (old new : Option (List ℕ)) (f : PacketFrame)
-    → FindsNext (At v number offset) old new (Found f) → Consumes old new (frame_bytes v f)
+    → FindsNext (At v number offset) old new (Found f) → Consumes old new (record_bytes v f)
 Consumes-found v number offset None new f r = tt
 Consumes-found v number offset (Some bytes) None f r = absurd r
 Consumes-found v number offset (Some bytes) (Some rest) f r = r
 
 -- the bytes of one more record
 more_bytes : (v : Version) (frames : List PacketFrame) (f : PacketFrame)
-    → records_bytes v (frames ++ f ∷ []) ≡ records_bytes v frames ++ frame_bytes v f
-more_bytes v frames f = flat_map-append (frame_bytes v) frames (f ∷ [])
-    ∙ ap (λ l. records_bytes v frames ++ l) (append-nil (frame_bytes v f))
+    → records_bytes v (frames ++ f ∷ []) ≡ records_bytes v frames ++ record_bytes v f
+more_bytes v frames f = flat_map-append (record_bytes v) frames (f ∷ [])
+    ∙ ap (λ l. records_bytes v frames ++ l) (append-nil (record_bytes v f))
 
 -- one more frame was found
 pub HasFound-next : (v : Version) (frames : List PacketFrame) (old known new : Option (List ℕ))
@@ -116,8 +116,8 @@ HasFound-next v frames old known new p f s r ok =
       arith,
       ap (λ (l : List ℕ). length l) bytes,
       length-append (records_bytes v frames)
-          (frame_bytes v f),
-      size-frame_bytes v f,
+          (record_bytes v f),
+      size-record_bytes v f,
     ) in
     record {
       position_is = ap (λ (x : Position). next_position x (Found f)) s.position_is
@@ -126,7 +126,7 @@ HasFound-next v frames old known new p f s r ok =
       are_open = AreOpen-push v frames f s.are_open may.0 may.1;
       lost =
           subst (Consumes old new)
-          (append_assoc (stream_magic v) (records_bytes v frames) (frame_bytes v f)
+          (append_assoc (stream_magic v) (records_bytes v frames) (record_bytes v f)
           ∙ ap (λ l. stream_magic v ++ l) (sym bytes))
           (Consumes-trans old known new _ _ s.lost lost);
     }

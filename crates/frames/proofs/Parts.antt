@@ -1,4 +1,4 @@
--- Bytes that were written in two parts, and the head of a record of version 1.
+-- Bytes that were written in two parts, and the heads of records of each version.
 use Rattle.std.proofs.Common.{◌≡◌, ℕ, List, ◌++◌, length, take, drop, Option, Result, Ok, Err, OnOk, OnErr, refl, sym, ap, ◌∙◌, subst}
 use Rattle.std.proofs.lemmas.List.{take-append-drop}
 use Rattle.std.specs.Io.KnownBytes.{Appends}

@@ -9,7 +9,7 @@ use Rattle.isa_model.specs.declared.versions.Version.{Version}
 use Rattle.isa_model.specs.declared.versions.Version.TheVariants.{One}
 use Rattle.isa_model.specs.Code.Versions.{version_number, stream_magic}
 use Rattle.isa_model.specs.Code.Limits.{max_packet}
-use Rattle.isa_model.specs.Reporting.Streams.{PacketFrame, IsPacketFrame, max_frames, frame_bytes, record_size, InputEnding, ByEnd, ByError, opened, stop_at}
+use Rattle.isa_model.specs.Reporting.Streams.{PacketFrame, IsPacketFrame, max_frames, record_bytes, record_size, InputEnding, ByEnd, ByError, opened, stop_at}
 use Rattle.frames.specs.Readers.{Position, Fresh, At, Done, ReaderState}
 use Rattle.frames.specs.declared.reader.Next.{Next}
 use Rattle.frames.specs.declared.reader.Next.TheVariants as next
@@ -95,7 +95,7 @@ StopsReading position bytes new stop = stop_from position bytes ByEnd ≡ Some s
 
 -- the bytes begin with this record, and then there are others
 abbrev pub Begins : Position → List ℕ → PacketFrame → List ℕ → Type 0
-Begins (At version number offset) bytes f rest = bytes ≡ frame_bytes version f ++ rest
+Begins (At version number offset) bytes f rest = bytes ≡ record_bytes version f ++ rest
 Begins position bytes f rest = ⊥
 
 -- What a call does where the source's bytes are known: the bytes of the record that it finds are

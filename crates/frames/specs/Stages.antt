@@ -22,10 +22,10 @@ abbrev pub max_record : ℕ
 max_record = head_size Two + max_packet
 
 -- the offset is at most where the stream ends that has the magic and `number` longest records
-abbrev pub FitsRecord : Stage → Type 0
-FitsRecord stage.Fresh = Unit {0}
-FitsRecord (stage.At version number offset) = offset ≤ 4 + max_record * number
-FitsRecord (stage.Done version stop) = Unit {0}
+abbrev pub OffsetFits : Stage → Type 0
+OffsetFits stage.Fresh = Unit {0}
+OffsetFits (stage.At version number offset) = offset ≤ 4 + max_record * number
+OffsetFits (stage.Done version stop) = Unit {0}
 
 -- a record is found only where the stream may have one more, and its body fits
 abbrev pub HasRoomForRecord : ℕ → Next → Type 0

@@ -8,8 +8,8 @@ ghost use Rattle.isa_model.specs.Reporting.Streams.{head_bytes, length_field, Re
 use byteorder::{ByteOrder, LittleEndian};
 use isa_model::{FrameHead, Version};
 
-/// The head that these bytes spell, the length of the body after it, and its reason, which is 0
-/// where it has none.
+/// The head that these bytes spell, the length of the body after it, and the packet frame's reason,
+/// which is 0 in `XPF1`.
 pub fn decode_head(version: Version, bytes: &[u8]) -> (FrameHead, u32, u32)
     requires { length bytes.now ≡ head_size version }
     ensures spelled { head_bytes version result.0 result.1 result.2 ≡ bytes.now }

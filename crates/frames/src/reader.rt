@@ -3,7 +3,7 @@ ghost use Rattle.std.specs.Prelude.{◌≡◌, ◌≢◌, ◌+◌, ◌*◌, ◌�
 ghost use Rattle.isa_model.specs.Machine.MachineStates.{AreBytes};
 ghost use Rattle.frames.specs.Readers.{Position, Fresh, At};
 ghost use Rattle.frames.specs.Reading.{ReadsMagic, MayOpen, OpensStream, begun_at, Finds, finding_of, FindsNext, HasRoom, FitsBuffer, StaysDone};
-ghost use Rattle.frames.specs.Stages.{position_of, FitsRecord, max_record, HasRoomForRecord, IsStageAfter};
+ghost use Rattle.frames.specs.Stages.{position_of, OffsetFits, max_record, HasRoomForRecord, IsStageAfter};
 
 use super::filling::fill_at_once;
 use super::heads::decode_head;
@@ -45,13 +45,13 @@ pub struct FrameReader<R> {
 
 impl<R> Model for FrameReader<R> {
     ghost use Rattle.frames.specs.Readers.{ReaderState};
-    ghost use Rattle.frames.specs.Stages.{position_of, FitsRecord};
+    ghost use Rattle.frames.specs.Stages.{position_of, OffsetFits};
 
     ghost Value = { ReaderState R };
 
     ghost view = { λ r. record { source = r.source; position = position_of r.stage } };
 
-    ghost invariant = { λ r. FitsRecord r.stage };
+    ghost invariant = { λ r. OffsetFits r.stage };
 }
 
 impl<R: Read> FrameReader<R> {
@@ -109,14 +109,14 @@ impl<R: Read> FrameReader<R> {
     }
 }
 
-// The position after the magic is read, if it was not read before.
+// The stage after the magic is read, if it was not read before.
 #[inline(always)]
 fn stage_begun<R: Read>(source: &mut R, stage: Stage) -> Stage
-    requires within { FitsRecord stage }
+    requires within { OffsetFits stage }
     ensures opens { OpensStream (position_of stage)
         (R.remaining source.old) (R.remaining source.new)
         (position_of result) }
-    ensures within { FitsRecord result }
+    ensures within { OffsetFits result }
     ensures begun { position_of result ≢ Fresh }
     ensures again { position_of stage ≢ Fresh → source.new ≡ source.old }
 {
@@ -133,7 +133,7 @@ fn stage_begun<R: Read>(source: &mut R, stage: Stage) -> Stage
 #[inline(always)]
 fn stage_after(version: Version, number: u32, offset: u64, next: &Next) -> Stage
     requires room { HasRoomForRecord number next.now }
-    requires bound { offset ≤ 4 + max_record * number }
+    requires offset { offset ≤ 4 + max_record * number }
     ensures { IsStageAfter version number offset next.now result }
 {
     match next {

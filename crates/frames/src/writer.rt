@@ -3,7 +3,7 @@ ghost use Rattle.std.specs.Prelude.{◌<◌, ◌≤◌, ◌++◌, length, drop, 
 ghost use Rattle.std.specs.Io.KnownBytes.{Appends};
 ghost use Rattle.isa_model.specs.declared.versions.Version.TheVariants.{One, Two};
 ghost use Rattle.isa_model.specs.Code.Limits.{max_body};
-ghost use Rattle.isa_model.specs.Reporting.Streams.{frame_bytes};
+ghost use Rattle.isa_model.specs.Reporting.Streams.{record_bytes};
 ghost use Rattle.exact_io.specs.Transfers.{AppendsBeginning};
 
 use super::heads::{encode_head, encode_head2};
@@ -88,9 +88,9 @@ pub fn write_record<W: Write>(
 ) -> Result<(), Unwritten>
     requires { length body.now ≤ max_body version }
     ensures ok { OnOk result (Appends (W.contents writer.old) (W.contents writer.new)
-        (frame_bytes version record { head = head.now; body = body.now; reason = reason })) }
+        (record_bytes version record { head = head.now; body = body.now; reason = reason })) }
     ensures err { OnErr result (AppendsBeginning (W.contents writer.old) (W.contents writer.new)
-        (frame_bytes version record { head = head.now; body = body.now; reason = reason })) }
+        (record_bytes version record { head = head.now; body = body.now; reason = reason })) }
 {
     let length = body.len() as u32;
     match version {
@@ -109,9 +109,9 @@ pub fn write_record<W: Write>(
 pub fn write_frame<W: Write>(writer: &mut W, head: &FrameHead, body: &[u8]) -> io::Result<()>
     requires { length body.now ≤ max_body One }
     ensures ok { OnOk result (Appends (W.contents writer.old) (W.contents writer.new)
-        (frame_bytes One record { head = head.now; body = body.now; reason = 0 })) }
+        (record_bytes One record { head = head.now; body = body.now; reason = 0 })) }
     ensures err { OnErr result (AppendsBeginning (W.contents writer.old) (W.contents writer.new)
-        (frame_bytes One record { head = head.now; body = body.now; reason = 0 })) }
+        (record_bytes One record { head = head.now; body = body.now; reason = 0 })) }
 {
     write_bytes(writer, &encode_head(head, body.len() as u32))?;
     write_bytes(writer, body)
@@ -129,9 +129,9 @@ pub fn write_frame2<W: Write>(
 ) -> io::Result<()>
     requires { length body.now ≤ max_body Two }
     ensures ok { OnOk result (Appends (W.contents writer.old) (W.contents writer.new)
-        (frame_bytes Two record { head = head.now; body = body.now; reason = reason })) }
+        (record_bytes Two record { head = head.now; body = body.now; reason = reason })) }
     ensures err { OnErr result (AppendsBeginning (W.contents writer.old) (W.contents writer.new)
-        (frame_bytes Two record { head = head.now; body = body.now; reason = reason })) }
+        (record_bytes Two record { head = head.now; body = body.now; reason = reason })) }
 {
     write_bytes(writer, &encode_head2(head, body.len() as u32, reason))?;
     write_bytes(writer, body)

@@ -1,4 +1,4 @@
--- The values that the compiled program has for a `Loose`. Assumes `Logic`.
+-- What a `Loose` and a `Session` are in compiled code, and what they own there. Assumes `Logic`.
 use Rattle.std.proofs.Common.{◌≡◌, ℕ, List, [], ◌∷◌, ◌++◌, refl, subst}
 use mathlib.Core.Bool.{true, ◌&&◌}
 use lib.Dec.{T}
@@ -84,9 +84,9 @@ module _ (R Z : RattleType) (L : Laws Z) (g : Ghosts Z.Denot) where
         (within (shape (loose.the_type R Z g)) (block_ptr b o, (a, tt)) (v ∷ []))
         (vptr b o ∷ [], (h ∷ [], tt)) $ fjoin t $ s)
 
--- a struct of one field, by value
-abbrev pub one_word : Val → Val
-one_word v = vstruct (vcons v vnil)
+-- a struct of one field, by what the field holds
+abbrev pub one_field : Val → Val
+one_field v = vstruct (vcons v vnil)
 
 abbrev pub Session : RattleType
 Session = session.the_row
@@ -97,16 +97,16 @@ Owns x a p = box_owns (ghosts.dealloc_token a) machine.the_row p x
 module _ {M : Type 1} {𝓤 : Ura M} {𝓛 : Logic 𝓤} {K : Type 0} {Γ : List (Item 𝓤)}
     {G : Goal 𝓤 𝓛.H} where
   pub session_out : K → (d : Session.Denot) (vs : List Val)
-      → (vs ≡ one_word (ptr_val d.at) ∷ [] → Seq K 𝓛 (‵ (session_owns d.held d.at) ∷ Γ) G)
+      → (vs ≡ one_field (ptr_val d.at) ∷ [] → Seq K 𝓛 (‵ (session_owns d.held d.at) ∷ Γ) G)
       → Seq K 𝓛 (‵ (Session.own_val d vs) ∷ Γ) G
   session_out t d vs k =
       fsplit t $ fpick t (λ vss. fsplit t $ feq_l t (λ ev. fsplit t $ feq_l t (λ ep. drop t $ k
       (subst (λ (ps : List Val). vs ≡ vstruct (of_list (ps ++ [])) ∷ []) ep ev))))
 
   pub session_in : K → (d : Session.Denot)
-      → Step K 𝓛 (‵ (Session.own_val d (one_word (ptr_val d.at) ∷ [])) ∷ Γ) G
+      → Step K 𝓛 (‵ (Session.own_val d (one_field (ptr_val d.at) ∷ [])) ∷ Γ) G
       (‵ (session_owns d.held d.at) ∷ Γ) G
-  session_in t d = step (λ s. let v : Val = one_word (ptr_val d.at) in
+  session_in t d = step (λ s. let v : Val = one_field (ptr_val d.at) in
       nothing t $ feq_i t (List Val) (ptr_val d.at ∷ [])
       (ptr_val d.at ∷ []) refl $ fjoin t $ feq_i t (List Val) (v ∷ []) (v ∷ []) refl $ fjoin t $
       fpack t (Valss (RawPtr ∷ [])) (within (shape session.the_type) (d.at, tt) (v ∷ []))

@@ -16,7 +16,7 @@ pub record OpensSession (bytes : List ℕ) (held : Option Running) : Type 0 wher
     contents = starting_contents accepts.program.maps;
   })
 
--- the same, where the table is a closed one of this program, and the bound is the number of its
+-- the same, where the bytes are a closed table of this program, and the bound is the number of its
 -- first entry
 pub record OpensByTable (bytes table : List ℕ) (held : Option Running) : Type 0 where
   pub opens : OpensSession bytes held

@@ -10,6 +10,7 @@ use std::marker::Model;
 pub struct Loose<T, A: Allocator> {
     pub at: *mut T,
     pub alloc: A,
+    // What the box holds.
     pub ghost value: { T },
 }
 

@@ -10,7 +10,7 @@ use Rattle.helpers.specs.declared.calls.Answer.TheVariants.{Number, Value}
 
 -- ---- what may be asked
 
--- there is a map m, and its keys have this number of bytes
+-- there is a map m, and its keys are as long as this one
 pub record TakesKey (maps : List MapState) (m : ℕ) (key : List ℕ) : Type 0 where
   pub map : m < length maps
   pub key_size : length key ≡ (map_at maps m).row.key_size

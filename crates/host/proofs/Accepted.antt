@@ -105,10 +105,10 @@ pub Reports-machine : (p : Program) (limit : ℕ) (source : Option (List ℕ)) (
     → ReportsBy source limit program m.program.maps (checked_rule m.program limit) m.contents
     (AgreesOf m limit noted) old new result
     → Reports source (checked_report p limit) (ShowsTraced p limit) old new result
-Reports-machine p limit source old new result program m noted version made none r =
+Reports-machine p limit source old new result program m noted version_is made none r =
     let versioned = subst
     (λ (v : Version). ReportsBy source limit v m.program.maps
-    (checked_rule m.program limit) m.contents (AgreesOf m limit noted) old new result) version
+    (checked_rule m.program limit) m.contents (AgreesOf m limit noted) old new result) version_is
     r in
     let nothing = subst
     (λ (x : Noted). ReportsBy source limit p.version m.program.maps
@@ -212,17 +212,17 @@ pub ReportsRun-machine : (a : Bounded) (source : Option (List ℕ)) (old new : O
     → ReportsBy source limit program m.program.maps (checked_rule m.program m.bound) m.contents
     (ShowsNoted notes (checked_rule m.program m.bound) noted m.contents) old new result
     → ReportsRun a source old new (tallied result)
-ReportsRun-machine a source old new result limit program contents m notes noted h bound version
-    start made r =
+ReportsRun-machine a source old new result limit program contents m notes noted h bound_is
+    version_is start_is made r =
     let tallied_only = ReportsBy-tallied source limit program m.program.maps
     (checked_rule m.program m.bound) m.contents notes noted old new result r in
     let bounded = subst
     (λ n. ReportsBy source n program m.program.maps
-    (checked_rule m.program m.bound) m.contents ShowsTally old new (tallied result)) bound
+    (checked_rule m.program m.bound) m.contents ShowsTally old new (tallied result)) bound_is
     tallied_only in
     let versioned = subst
     (λ (v : Version). ReportsBy source a.bound v m.program.maps
-    (checked_rule m.program m.bound) m.contents ShowsTally old new (tallied result)) version
+    (checked_rule m.program m.bound) m.contents ShowsTally old new (tallied result)) version_is
     bounded in
     let by_program = subst
     (λ (q : Running). ReportsBy source a.bound a.program.version q.program.maps
@@ -230,4 +230,4 @@ ReportsRun-machine a source old new result limit program contents m notes noted 
     versioned in
     ReportsRun-By a source old new (tallied result) h
     (subst (λ (c : List KeyValues). ReportsBy source a.bound a.program.version a.program.maps
-    (checked_rule a.program a.bound) c ShowsTally old new (tallied result)) start by_program)
+    (checked_rule a.program a.bound) c ShowsTally old new (tallied result)) start_is by_program)

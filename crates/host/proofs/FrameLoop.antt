@@ -90,15 +90,15 @@ module _ (form : ReportForm) (rule : Rule) (start : List KeyValues) (source : Op
 
   -- before the first turn of the loop, once the magic is written
   pub none_taken : (known : Option (List ℕ)) (p : Position) (r f g : Option (List ℕ))
-      → HasBegun form.stream [] source known p → before ≡ record { report = r; frames = f }
+      → HasBegun form.stream [] source known p → before ≡ record { report = r; sent = f }
       → Appends f g (stream_magic form.stream)
       → WrittenSoFar form rule start source before [] known p 0 start
-      (record { report = r; frames = g })
+      (record { report = r; sent = g })
   none_taken known p r f g begun is w = record {
     begun = begun;
     numbered = refl;
     wrote =
-        subst (λ (o : Outputs). Wrote o (record { report = r; frames = g })
+        subst (λ (o : Outputs). Wrote o (record { report = r; sent = g })
         (front_in form rule start [])) (sym is) (wrote_frames r f g (stream_magic form.stream) w);
     carried = refl;
   }
@@ -145,27 +145,27 @@ WritesEach-append : (a b c : Outputs) (front more : List OutputPiece)
 WritesEach-append a b c front more (Ok traced) v w = Wrote-append a b c front more v w
 WritesEach-append a b c front more (Err e) v w = WroteBefore-append a b c front more e v w
 
--- two facts about the result of a run
-both : (result : Result Traced HostError) (n : ℕ) (stop : Finish) (noted : Noted)
-    → IfOk result (λ t. t.tally ≡ tally_of n stop) → IfOk result (λ t. noted_of t.stops ≡ noted)
-    → IfOk result (λ t. (t.tally ≡ tally_of n stop) × (noted_of t.stops ≡ noted))
-both (Ok traced) n stop noted tally told = (tally, told)
-both (Err e) n stop noted tally told = tt
+-- two facts about the result of a run over a stream
+both : (result : Result Traced HostError) (n : ℕ) (finish : Finish) (noted : Noted)
+    → IfOk result (λ t. t.tally ≡ tally_of n finish) → IfOk result (λ t. noted_of t.stops ≡ noted)
+    → IfOk result (λ t. (t.tally ≡ tally_of n finish) × (noted_of t.stops ≡ noted))
+both (Ok traced) n finish noted tally told = (tally, told)
+both (Err e) n finish noted tally told = tt
 
 module _ (limit : ℕ) (program : Version) (rows : List MapDef) (rule : Rule) (start : List KeyValues)
     (source : Option (List ℕ)) (notes : Noting) (none : Noted) where
   abbrev Agrees : Stream → Traced → Type 0
   Agrees = ShowsNoted notes rule none start
 
-  abbrev form_on : Version → ReportForm
-  form_on v = record { limit = limit; program = program; stream = v }
+  abbrev report_form_on : Version → ReportForm
+  report_form_on v = record { limit = limit; program = program; stream = v }
 
   -- the magic failed
   pub magic_failed : (v : Version) (known : Option (List ℕ)) (p : Position)
       (r f g : Option (List ℕ)) → HasBegun v [] source known p
       → AppendsBeginning f g (stream_magic v)
-      → ReportsBy source limit program rows rule start Agrees (record { report = r; frames = f })
-      (record { report = r; frames = g }) (Err failure.Frames)
+      → ReportsBy source limit program rows rule start Agrees (record { report = r; sent = f })
+      (record { report = r; sent = g }) (Err failure.Frames)
   magic_failed v known p r f g (inl s) b = inr (
     failure.Frames,
     refl,
@@ -192,9 +192,10 @@ module _ (limit : ℕ) (program : Version) (rows : List MapDef) (rule : Rule) (s
       (known new : Option (List ℕ)) (p q : Position) (number : ℕ) (contents : List KeyValues) where
     -- one of the pieces of the next frame failed
     pub one_failed : (now after : Outputs) (f : PacketFrame) (error : HostError)
-        → WrittenSoFar (form_on v) rule start source before frames known p number contents now
-        → Finds p known new q (Found f)
-        → WroteBefore now after (turn_pieces (form_on v) number f (turn_on rule contents f)) error
+        → WrittenSoFar (report_form_on v) rule start source before frames known p number contents
+        now → Finds p known new q (Found f)
+        → WroteBefore now after
+        (turn_pieces (report_form_on v) number f (turn_on rule contents f)) error
         → ReportsBy source limit program rows rule start Agrees before after (Err error)
     one_failed now after f error so h w =
         let (found, early, fits) = HasBegun-found v frames source known new p q f so.begun h in
@@ -208,7 +209,7 @@ module _ (limit : ℕ) (program : Version) (rows : List MapDef) (rule : Rule) (s
             begun = HasFound-begins v (frames ++ f ∷ []) source new q found;
             writes =
                 subst (λ (l : List OutputPiece). WroteBefore before after l error)
-                (front_more (form_on v) rule start source before frames f number contents
+                (front_more (report_form_on v) rule start source before frames f number contents
                 so.numbered so.carried)
                 (WroteBefore-append before now after _ _ error so.wrote w);
           },
@@ -216,37 +217,37 @@ module _ (limit : ℕ) (program : Version) (rows : List MapDef) (rule : Rule) (s
 
     -- the stream stopped, and the lines of maps and the last line were written, or one of them
     -- failed
-    pub stream_ended : (r s g : Option (List ℕ)) (stop : Finish) (result : Result Traced HostError)
-        (noted : Noted)
-        → WrittenSoFar (form_on v) rule start source before frames known p number contents
-        (record { report = r; frames = g }) → Finds p known new q (Stopped stop)
-        → WritesEach (record { report = r; frames = g }) (record { report = s; frames = g }) result
-        (maps_pieces 0 rows contents ++ ToReport (last_line number stop) ∷ [])
-        → IfOk result (λ traced. traced.tally ≡ tally_of number stop)
+    pub stream_ended : (r s g : Option (List ℕ)) (finish : Finish)
+        (result : Result Traced HostError) (noted : Noted)
+        → WrittenSoFar (report_form_on v) rule start source before frames known p number contents
+        (record { report = r; sent = g }) → Finds p known new q (Stopped finish)
+        → WritesEach (record { report = r; sent = g }) (record { report = s; sent = g }) result
+        (maps_pieces 0 rows contents ++ ToReport (last_line number finish) ∷ [])
+        → IfOk result (λ traced. traced.tally ≡ tally_of number finish)
         → IfOk result (λ traced. noted_of traced.stops ≡ noted)
         → noted ≡ noted_after notes rule none 0 start frames
         → ReportsBy source limit program rows rule start Agrees before
-        (record { report = s; frames = g }) result
-    stream_ended r s g stop result noted so h written tally told told_is =
-        let now : Outputs = record { report = r; frames = g } in
-        let after : Outputs = record { report = s; frames = g } in
-        let front = front_in (form_on v) rule start frames in
+        (record { report = s; sent = g }) result
+    stream_ended r s g finish result noted so h written tally told told_is =
+        let now : Outputs = record { report = r; sent = g } in
+        let after : Outputs = record { report = s; sent = g } in
+        let front = front_in (report_form_on v) rule start frames in
         let whole = WritesEach-append before now after front
-        (maps_pieces 0 rows contents ++ ToReport (last_line number stop) ∷ []) result so.wrote
+        (maps_pieces 0 rows contents ++ ToReport (last_line number finish) ∷ []) result so.wrote
         written in
         let counted = subst
         (λ (n : ℕ). WritesEach before after result
-        (front ++ (maps_pieces 0 rows contents ++ ToReport (last_line n stop) ∷ [])))
+        (front ++ (maps_pieces 0 rows contents ++ ToReport (last_line n finish) ∷ [])))
         so.numbered whole in
         inl (record {
-          found = stream_with v (frames, stop);
+          found = stream_with v (frames, finish);
           are_open = HasBegun-open v frames source known p so.begun;
-          read = HasBegun-stopped v frames source known new p q stop so.begun h;
+          read = HasBegun-stopped v frames source known new p q finish so.begun h;
           writes =
               subst (λ (c : List KeyValues). WritesEach before after result
-              (front ++ (maps_pieces 0 rows c ++ ToReport (last_line (length frames) stop) ∷ [])))
+              (front ++ (maps_pieces 0 rows c ++ ToReport (last_line (length frames) finish) ∷ [])))
               so.carried counted;
-          tells = both result (length frames) stop (noted_after notes rule none 0 start frames)
-              (subst (λ (n : ℕ). IfOk result (λ t. t.tally ≡ tally_of n stop)) so.numbered tally)
+          tells = both result (length frames) finish (noted_after notes rule none 0 start frames)
+              (subst (λ (n : ℕ). IfOk result (λ t. t.tally ≡ tally_of n finish)) so.numbered tally)
               (subst (λ (x : Noted). IfOk result (λ t. noted_of t.stops ≡ x)) told_is told);
         })

@@ -27,9 +27,9 @@ module _ (p : Program) (n : ℕ) where
     unfolding frame_pieces frame_line
     exit_pieces o = refl
 
-    kept_pieces : skip_pieces form number f ≡ skip_pieces (limited form) number f
+    skipped_pieces : skip_pieces form number f ≡ skip_pieces (limited form) number f
     unfolding skip_pieces
-    kept_pieces = refl
+    skipped_pieces = refl
 
     -- one frame's pieces, and what it leaves
     one_frame : (runs : Bool) (pieces : List OutputPiece) (next after : List KeyValues)
@@ -37,7 +37,7 @@ module _ (p : Program) (n : ℕ) where
         → (pieces ≡ turn_pieces (limited form) number f (turn_if contents f runs))
         × (after ≡ contents_left contents (turn_if contents f runs))
         × (next ≡ contents_left contents (turn_if contents f runs))
-    one_frame false pieces next after on h = (h.0 ∙ kept_pieces, h.1, on)
+    one_frame false pieces next after on h = (h.0 ∙ skipped_pieces, h.1, on)
     one_frame true pieces next after on h =
         let (o, found, few, leaves) = on in
         let (q, also, was, left) = h in
@@ -53,13 +53,13 @@ module _ (p : Program) (n : ℕ) where
 
   -- the pieces of frames whose runs exit, from any number on
   first_frames : (form : ReportForm) (number : ℕ) (contents : List KeyValues)
-      (fs gs : List PacketFrame) (turns : List OutputPiece) (last : List KeyValues)
+      (fs gs : List PacketFrame) (pieces : List OutputPiece) (last : List KeyValues)
       → AllExit p n contents fs
-      → ReportsFrames form p number contents (fs ++ gs) turns last
+      → ReportsFrames form p number contents (fs ++ gs) pieces last
       → (rest : List OutputPiece)
-      × (turns ≡ turns_pieces (limited form) (checked_rule p n) number contents fs ++ rest)
-  first_frames form number contents [] gs turns last exits h = (turns, refl)
-  first_frames form number contents (f ∷ fs) gs turns last exits h =
+      × (pieces ≡ turns_pieces (limited form) (checked_rule p n) number contents fs ++ rest)
+  first_frames form number contents [] gs pieces last exits h = (pieces, refl)
+  first_frames form number contents (f ∷ fs) gs pieces last exits h =
       let (next, on, all) = exits in
       let (front, behind, after, one, split, more) = h in
       let rule = checked_rule p n in

@@ -23,7 +23,7 @@ use Rattle.isa_model.specs.Machine.MachineStates.{IsKeyValue, FitsRow}
 use Rattle.isa_model.specs.Machine.States.{KeyValues}
 use Rattle.isa_model.specs.Reporting.Reports.{OutputPiece, ToReport, map_line, map_pieces, maps_pieces, key_value_by_index, in_report_order}
 use Rattle.maps.specs.Maps.{MapState, IsMap, map_at, content_in, ordered_in, rows_of, contents_of}
-use Rattle.maps.proofs.MapsLaws.{KeyFits-most}
+use Rattle.maps.proofs.KeySizes.{KeyFits-most}
 use Rattle.maps.proofs.MapLaws.{FitsRow-IsMap}
 use Rattle.maps.specs.ReportOrder.{with_key_of}
 use Rattle.host.specs.declared.errors.HostError.{HostError}
@@ -34,28 +34,28 @@ use Rattle.host.proofs.Pieces.{Wrote-append, WroteBefore-append, WroteBefore-mor
 
 -- pieces that were written to the report
 abbrev pub WroteReport : Option (List ℕ) → Option (List ℕ) → List OutputPiece → Type 0
-WroteReport old new pieces = (frames : Option (List ℕ))
-    → Wrote (record { report = old; frames = frames })
-    (record { report = new; frames = frames }) pieces
+WroteReport old new pieces = (sent : Option (List ℕ))
+    → Wrote (record { report = old; sent = sent })
+    (record { report = new; sent = sent }) pieces
 
 abbrev pub FailedReport : Option (List ℕ) → Option (List ℕ) → List OutputPiece → HostError → Type 0
 FailedReport old new pieces error =
-    (frames : Option (List ℕ))
-    → WroteBefore (record { report = old; frames = frames })
-    (record { report = new; frames = frames }) pieces error
+    (sent : Option (List ℕ))
+    → WroteBefore (record { report = old; sent = sent })
+    (record { report = new; sent = sent }) pieces error
 
 pub no_piece : (r : Option (List ℕ)) → WroteReport r r []
-no_piece r frames = record { report = Appends-nil r; frames = Appends-nil frames }
+no_piece r sent = record { report = Appends-nil r; sent = Appends-nil sent }
 
 pub more_pieces : (r s t : Option (List ℕ)) (ps qs : List OutputPiece) → WroteReport r s ps
     → WroteReport s t qs → WroteReport r t (ps ++ qs)
-more_pieces r s t ps qs v w frames = Wrote-append _ _ _ ps qs (v frames) (w frames)
+more_pieces r s t ps qs v w sent = Wrote-append _ _ _ ps qs (v sent) (w sent)
 
 pub failed_later : (r s t : Option (List ℕ)) (ps qs rest : List OutputPiece) (e : HostError)
     → WroteReport r s ps → FailedReport s t qs e → FailedReport r t (ps ++ (qs ++ rest)) e
-failed_later r s t ps qs rest e v w frames =
-    WroteBefore-append _ _ _ ps (qs ++ rest) e (v frames)
-    (WroteBefore-more _ _ qs rest e (w frames))
+failed_later r s t ps qs rest e v w sent =
+    WroteBefore-append _ _ _ ps (qs ++ rest) e (v sent)
+    (WroteBefore-more _ _ qs rest e (w sent))
 
 -- ---- keys
 
@@ -137,8 +137,8 @@ module _ (index : ℕ) (row : MapDef) (es : KeyValues) (k : ℕ) (old new value 
   abbrev line_at : List ℕ × List ℕ → OutputPiece
   line_at e = ToReport (map_line index e)
 
-  front : (e : List ℕ × List ℕ) → slice_get es k ≡ Some e → take row.key_size new ≡ e.0
-  front e there =
+  key_front : (e : List ℕ × List ℕ) → slice_get es k ≡ Some e → take row.key_size new ≡ e.0
+  key_front e there =
       ap (λ (n : ℕ). take n new) (sym (sizes_of row es k e listed there).0)
       ∙ ap (take (length e.0))
       (put ∙ ap (λ (o : Option (List ℕ × List ℕ)). with_key_of o old) there)
@@ -146,7 +146,7 @@ module _ (index : ℕ) (row : MapDef) (es : KeyValues) (k : ℕ) (old new value 
 
   same_pair : (e : List ℕ × List ℕ) → slice_get es k ≡ Some e → e.1 ≡ value
       → (take row.key_size new, value) ≡ e
-  same_pair e there is = λ i. (front e there i, sym is i)
+  same_pair e there is = λ i. (key_front e there i, sym is i)
 
   pub pair_written : (r s t : Option (List ℕ))
       → WroteReport r s (map (λ e. ToReport (map_line index e)) (take k es))
@@ -183,13 +183,13 @@ module _ {X Y : Type 0} (P : Y → Type 0) (h : X → Option Y)
         | Some y ↦ λ e. (All-cons P y (filter_map h xs) (each x y e) all, omega arith)
       ] refl
 
-found : (P : List ℕ → Type 0) (q : List ℕ) (es : KeyValues) (v : List ℕ) → All (λ e. P e.1) es
+found_value : (P : List ℕ → Type 0) (q : List ℕ) (es : KeyValues) (v : List ℕ) → All (λ e. P e.1) es
     → find key_order q es ≡ Some v → P v
-found P q [] v all f = absurd (cc)
-found P q (x ∷ es) v all f =
+found_value P q [] v all f = absurd (cc)
+found_value P q (x ∷ es) v all f =
     elim (is_key q x.0) as (λ b. cond b (Some x.1) (find key_order q es) ≡ Some v → P v) [
       | true ↦ λ g. let same : x.1 ≡ v = cc in subst P same (All-head (λ e. P e.1) x es all)
-      | false ↦ λ g. found P q es v (All-tail (λ e. P e.1) x es all) g
+      | false ↦ λ g. found_value P q es v (All-tail (λ e. P e.1) x es all) g
     ] f
 
 by_index : (es : KeyValues) (i : ℕ) (e : List ℕ × List ℕ)
@@ -204,7 +204,7 @@ by_index es i e all f =
           let same : (little_bytes 4 i, v) ≡ e = cc in
           subst (λ (x : List ℕ × List ℕ). (length x.0 ≡ 4) × (length x.1 ≤ max_value_size)) same (
             length-bytes_low_first 0 4 i,
-            found (λ x. length x ≤ max_value_size)
+            found_value (λ x. length x ≤ max_value_size)
                 (little_bytes 4 i) es v all g,
           )
     ] refl f
@@ -340,7 +340,7 @@ module _ (r s : Option (List ℕ)) (ms : List MapState) (rows : List MapDef)
       → FailedReport r s (maps_pieces 0 rows contents ++ last ∷ []) e
   maps_failed last e w =
       subst (λ (l : List OutputPiece). FailedReport r s (l ++ last ∷ []) e) lines_are
-      (λ frames. WroteBefore-more _ _ (lines_of 0 ms) (last ∷ []) e (w frames))
+      (λ sent. WroteBefore-more _ _ (lines_of 0 ms) (last ∷ []) e (w sent))
 
   module _ (t : Option (List ℕ)) (line bytes : List ℕ) (is : line ≡ bytes)
       (w : WroteReport r s (lines_of 0 ms)) where
@@ -349,12 +349,12 @@ module _ (r s : Option (List ℕ)) (ms : List MapState) (rows : List MapDef)
     last_failed p =
         subst (λ (l : List OutputPiece). FailedReport r t (l ++ ToReport bytes ∷ []) failure.Report)
         lines_are
-        (λ frames. WroteBefore-append _ _ _ (lines_of 0 ms) (ToReport bytes ∷ []) failure.Report
-        (w frames) (report_failed s t frames bytes [] (subst (AppendsBeginning s t) is p)))
+        (λ sent. WroteBefore-append _ _ _ (lines_of 0 ms) (ToReport bytes ∷ []) failure.Report
+        (w sent) (report_failed s t sent bytes [] (subst (AppendsBeginning s t) is p)))
 
     pub last_written : Appends s t line
         → WroteReport r t (maps_pieces 0 rows contents ++ ToReport bytes ∷ [])
     last_written p =
         subst (λ (l : List OutputPiece). WroteReport r t (l ++ ToReport bytes ∷ [])) lines_are
         (more_pieces r s t (lines_of 0 ms) (ToReport bytes ∷ []) w
-        (λ frames. wrote_report s t frames bytes (subst (Appends s t) is p)))
+        (λ sent. wrote_report s t sent bytes (subst (Appends s t) is p)))

@@ -5,7 +5,7 @@ use Rattle.std.specs.Io.KnownBytes.{Appends}
 use Rattle.std.proofs.KnownBytes.{Appends-nil, Appends-trans}
 use Rattle.exact_io.specs.Transfers.{AppendsBeginning}
 use Rattle.isa_model.specs.declared.ends.End.{End}
-use Rattle.isa_model.specs.Reporting.Streams.{PacketFrame, frame_bytes}
+use Rattle.isa_model.specs.Reporting.Streams.{PacketFrame, record_bytes}
 use Rattle.isa_model.specs.Running.Runs.{Turn}
 use Rattle.isa_model.specs.Reporting.Reports.{OutputPiece, ToReport, ToFrames, ReportForm, frame_line, frame_pieces, record_pieces, is_sent, end_reason, skip_line, skip_pieces}
 use Rattle.host.specs.declared.errors.HostError.{HostError}
@@ -30,9 +30,9 @@ Wrote-append a b c p q first second = record {
   report =
       rw (flat_map-append _ p q)
       (Appends-trans a.report b.report c.report _ _ first.report second.report);
-  frames =
+  sent =
       rw (flat_map-append _ p q)
-      (Appends-trans a.frames b.frames c.frames _ _ first.frames second.frames);
+      (Appends-trans a.sent b.sent c.sent _ _ first.sent second.sent);
 }
 
 -- pieces after others, where a later one failed
@@ -50,9 +50,9 @@ WroteBefore-append a b c p q e first second = record {
   report =
       rw (flat_map-append _ p second.before, append_assoc)
       (Appends-trans a.report b.report c.report _ _ first.report second.report);
-  frames =
+  sent =
       rw (flat_map-append _ p second.before, append_assoc)
-      (Appends-trans a.frames b.frames c.frames _ _ first.frames second.frames);
+      (Appends-trans a.sent b.sent c.sent _ _ first.sent second.sent);
 }
 
 -- after a failure no later piece is written
@@ -68,26 +68,26 @@ WroteBefore-more a b p q e w = record {
   error_is = w.error_is;
   short = w.short;
   report = w.report;
-  frames = w.frames;
+  sent = w.sent;
 }
 
 -- ---- one piece
 
 pub wrote_report : (r s f : Option (List ℕ)) (bytes : List ℕ) → Appends r s bytes
-    → Wrote (record { report = r; frames = f }) (record { report = s; frames = f })
+    → Wrote (record { report = r; sent = f }) (record { report = s; sent = f })
     (ToReport bytes ∷ [])
 wrote_report r s f bytes p =
-    record { report = subst (Appends r s) (sym (append-nil bytes)) p; frames = Appends-nil f }
+    record { report = subst (Appends r s) (sym (append-nil bytes)) p; sent = Appends-nil f }
 
 pub wrote_frames : (r f g : Option (List ℕ)) (bytes : List ℕ) → Appends f g bytes
-    → Wrote (record { report = r; frames = f }) (record { report = r; frames = g })
+    → Wrote (record { report = r; sent = f }) (record { report = r; sent = g })
     (ToFrames bytes ∷ [])
 wrote_frames r f g bytes p =
-    record { report = Appends-nil r; frames = subst (Appends f g) (sym (append-nil bytes)) p }
+    record { report = Appends-nil r; sent = subst (Appends f g) (sym (append-nil bytes)) p }
 
 pub report_failed : (r s f : Option (List ℕ)) (bytes : List ℕ) (rest : List OutputPiece)
     → AppendsBeginning r s bytes
-    → WroteBefore (record { report = r; frames = f }) (record { report = s; frames = f })
+    → WroteBefore (record { report = r; sent = f }) (record { report = s; sent = f })
     (ToReport bytes ∷ rest) failure.Report
 report_failed r s f bytes rest p = record {
   before = [];
@@ -98,12 +98,12 @@ report_failed r s f bytes rest p = record {
   error_is = refl;
   short = p.1;
   report = p.2;
-  frames = subst (Appends f f) (sym (take-nil p.0)) (Appends-nil f);
+  sent = subst (Appends f f) (sym (take-nil p.0)) (Appends-nil f);
 }
 
 pub frames_failed : (r f g : Option (List ℕ)) (bytes : List ℕ) (rest : List OutputPiece)
     → AppendsBeginning f g bytes
-    → WroteBefore (record { report = r; frames = f }) (record { report = r; frames = g })
+    → WroteBefore (record { report = r; sent = f }) (record { report = r; sent = g })
     (ToFrames bytes ∷ rest) failure.Frames
 frames_failed r f g bytes rest p = record {
   before = [];
@@ -114,7 +114,7 @@ frames_failed r f g bytes rest p = record {
   error_is = refl;
   short = p.1;
   report = subst (Appends r r) (sym (take-nil p.0)) (Appends-nil r);
-  frames = p.2;
+  sent = p.2;
 }
 
 -- ---- a packet frame's pieces, where its run ended by e and left these bytes
@@ -128,7 +128,7 @@ module _ (form : ReportForm) (number : ℕ) (frame : PacketFrame) (t : Turn) (e 
 
     -- the line failed
     pub line_failed : (r s f : Option (List ℕ)) → AppendsBeginning r s line
-        → WroteBefore (record { report = r; frames = f }) (record { report = s; frames = f })
+        → WroteBefore (record { report = r; sent = f }) (record { report = s; sent = f })
         (frame_pieces form number frame t) failure.Report
     unfolding frame_pieces
     line_failed r s f p =
@@ -137,36 +137,36 @@ module _ (form : ReportForm) (number : ℕ) (frame : PacketFrame) (t : Turn) (e 
 
     -- the frame is not written out
     pub frame_kept : (r s f : Option (List ℕ)) → is_sent form.stream e ≡ false → Appends r s line
-        → Wrote (record { report = r; frames = f }) (record { report = s; frames = f })
+        → Wrote (record { report = r; sent = f }) (record { report = s; sent = f })
         (frame_pieces form number frame t)
     unfolding frame_pieces
-    frame_kept r s f sent p =
+    frame_kept r s f stays p =
         let kept : is_sent form.stream t.ends ≡ false =
-        ap (is_sent form.stream) (sym ended) ∙ sent in
+        ap (is_sent form.stream) (sym ended) ∙ stays in
         rw kept (wrote_report r s f _ (subst (Appends r s) line_is p))
 
     module _ (bytes : List ℕ) (left : bytes ≡ t.packet) (reason : ℕ)
-        (told : reason ≡ end_reason form.program e) (sent : is_sent form.stream e ≡ true) where
+        (told : reason ≡ end_reason form.program e) (goes : is_sent form.stream e ≡ true) where
       -- the record as it was made is the turn's
-      record_is : frame_bytes form.stream
+      record_is : record_bytes form.stream
           (record { head = frame.head; body = bytes; reason = reason })
-          ≡ frame_bytes form.stream
+          ≡ record_bytes form.stream
           (record { head = frame.head; body = t.packet; reason = end_reason form.program t.ends })
       record_is =
-          ap (λ l. frame_bytes form.stream
+          ap (λ l. record_bytes form.stream
           (record { head = frame.head; body = l; reason = reason })) left
-          ∙ ap (λ n. frame_bytes form.stream
+          ∙ ap (λ n. record_bytes form.stream
           (record { head = frame.head; body = t.packet; reason = n }))
           (told ∙ ap (λ (x : End). end_reason form.program x) ended)
 
       goes_out : is_sent form.stream t.ends ≡ true
-      goes_out = ap (is_sent form.stream) (sym ended) ∙ sent
+      goes_out = ap (is_sent form.stream) (sym ended) ∙ goes
 
       -- the frame is written out after its line
       pub frame_sent : (r s f g : Option (List ℕ)) → Appends r s line
           → Appends f g
-          (frame_bytes form.stream (record { head = frame.head; body = bytes; reason = reason }))
-          → Wrote (record { report = r; frames = f }) (record { report = s; frames = g })
+          (record_bytes form.stream (record { head = frame.head; body = bytes; reason = reason }))
+          → Wrote (record { report = r; sent = f }) (record { report = s; sent = g })
           (frame_pieces form number frame t)
       unfolding frame_pieces
       frame_sent r s f g p q =
@@ -178,8 +178,8 @@ module _ (form : ReportForm) (number : ℕ) (frame : PacketFrame) (t : Turn) (e 
       -- the record failed after the line
       pub record_failed : (r s f g : Option (List ℕ)) → Appends r s line
           → AppendsBeginning f g
-          (frame_bytes form.stream (record { head = frame.head; body = bytes; reason = reason }))
-          → WroteBefore (record { report = r; frames = f }) (record { report = s; frames = g })
+          (record_bytes form.stream (record { head = frame.head; body = bytes; reason = reason }))
+          → WroteBefore (record { report = r; sent = f }) (record { report = s; sent = g })
           (frame_pieces form number frame t) failure.Frames
       unfolding frame_pieces
       record_failed r s f g p q =
@@ -194,17 +194,17 @@ module _ (form : ReportForm) (number : ℕ) (frame : PacketFrame) (line : List �
     (is : line ≡ skip_line number (length frame.body) frame.reason) (r s f : Option (List ℕ)) where
   -- the line failed
   pub skip_line_failed : AppendsBeginning r s line
-      → WroteBefore (record { report = r; frames = f }) (record { report = s; frames = f })
+      → WroteBefore (record { report = r; sent = f }) (record { report = s; sent = f })
       (skip_pieces form number frame) failure.Report
   unfolding skip_pieces
   skip_line_failed p =
-      report_failed r s f _ (ToFrames (frame_bytes form.stream frame) ∷ [])
+      report_failed r s f _ (ToFrames (record_bytes form.stream frame) ∷ [])
       (subst (AppendsBeginning r s) is p)
 
   -- the record failed after the line
   pub skip_record_failed : (g : Option (List ℕ)) → Appends r s line
-      → AppendsBeginning f g (frame_bytes form.stream frame)
-      → WroteBefore (record { report = r; frames = f }) (record { report = s; frames = g })
+      → AppendsBeginning f g (record_bytes form.stream frame)
+      → WroteBefore (record { report = r; sent = f }) (record { report = s; sent = g })
       (skip_pieces form number frame) failure.Frames
   unfolding skip_pieces
   skip_record_failed g p q =
@@ -212,8 +212,8 @@ module _ (form : ReportForm) (number : ℕ) (frame : PacketFrame) (line : List �
       (wrote_report r s f _ (subst (Appends r s) is p)) (frames_failed s f g _ [] q)
 
   pub skip_written : (g : Option (List ℕ)) → Appends r s line
-      → Appends f g (frame_bytes form.stream frame)
-      → Wrote (record { report = r; frames = f }) (record { report = s; frames = g })
+      → Appends f g (record_bytes form.stream frame)
+      → Wrote (record { report = r; sent = f }) (record { report = s; sent = g })
       (skip_pieces form number frame)
   unfolding skip_pieces
   skip_written g p q =

@@ -36,12 +36,13 @@ is_invalid other = false
 -- whether a run ended without an action: it trapped, was stopped at the limit, or answered another
 -- number
 abbrev pub is_noted : End → Bool
-is_noted (Exit value steps) = is_invalid (action_of value)
+is_noted (Exit answer steps) = is_invalid (action_of answer)
 is_noted (Trap reason steps) = true
 is_noted Limit = true
 
 abbrev pub with_first : List FrameStop → FrameStop → List FrameStop
-with_first first frame = if nat_lt (length first) MOST_STOPS then first ++ frame ∷ [] else first
+with_first first stopped =
+    if nat_lt (length first) MOST_STOPS then first ++ stopped ∷ [] else first
 
 -- the run of the frame with this number stopped there; the count has room for every frame of a
 -- stream

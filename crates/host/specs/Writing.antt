@@ -6,15 +6,15 @@ use Rattle.isa_model.specs.Reporting.Reports.{OutputPiece, ToReport, ToFrames, r
 use Rattle.host.specs.declared.errors.HostError.{HostError}
 use Rattle.host.specs.declared.errors.HostError.TheVariants as failure
 
--- what the report and the frames out hold; None where contracts do not know it
+-- what the report and the frames out (`sent`) hold; None where contracts do not know it
 pub record Outputs : Type 0 where
   pub report : Option (List ℕ)
-  pub frames : Option (List ℕ)
+  pub sent : Option (List ℕ)
 
 -- the outputs grew by all of the pieces
 pub record Wrote (old new : Outputs) (pieces : List OutputPiece) : Type 0 where
   pub report : Appends old.report new.report (report_bytes pieces)
-  pub frames : Appends old.frames new.frames (frames_out pieces)
+  pub sent : Appends old.sent new.sent (frames_out pieces)
 
 abbrev pub piece_bytes : OutputPiece → List ℕ
 piece_bytes (ToReport bytes) = bytes
@@ -38,7 +38,7 @@ pub record WroteBefore (old new : Outputs) (pieces : List OutputPiece)
   pub short : count < length (piece_bytes failed)
   pub report : Appends old.report new.report
       (report_bytes before ++ take count (report_part failed))
-  pub frames : Appends old.frames new.frames (frames_out before ++ take count (frames_part failed))
+  pub sent : Appends old.sent new.sent (frames_out before ++ take count (frames_part failed))
 
 -- all of the pieces were written, or those before one that failed
 abbrev pub WritesEach : {X : Type 0} → Outputs → Outputs → Result X HostError → List OutputPiece
@@ -50,6 +50,6 @@ WritesEach old new result pieces =
 abbrev pub WritesReport : {X : Type 0} → Option (List ℕ) → Option (List ℕ) → Result X HostError
     → List OutputPiece → Type 0
 WritesReport old new result pieces =
-    (frames : Option (List ℕ))
-    → WritesEach (record { report = old; frames = frames })
-    (record { report = new; frames = frames }) result pieces
+    (sent : Option (List ℕ))
+    → WritesEach (record { report = old; sent = sent })
+    (record { report = new; sent = sent }) result pieces

@@ -88,10 +88,10 @@ pub fn run_checked<R: Read + Drop, W1: Write, W2: Write>(
     ensures reports { result ≢ Err HostError.Memory
         → Reports (R.remaining source) (checked_report image limit)
         (ShowsTraced image limit)
-        record { report = W1.contents report.old; frames = W2.contents out.old }
-        record { report = W1.contents report.new; frames = W2.contents out.new } result }
+        record { report = W1.contents report.old; sent = W2.contents out.old }
+        record { report = W1.contents report.new; sent = W2.contents out.new } result }
 {
-    let program = version_of(image.version());
+    let program_version = version_of(image.version());
     let Ok(machine) = Checked::new(alloc, image) else {
         return Err(HostError::Memory);
     };
@@ -100,5 +100,5 @@ pub fn run_checked<R: Read + Drop, W1: Write, W2: Write>(
         limit,
         stops: Stops::new(),
     };
-    run_frames(runner, limit, program, source, report, out)
+    run_frames(runner, limit, program_version, source, report, out)
 }

@@ -22,7 +22,7 @@ use frames::{FrameReader, Next, write_record, write_whole};
 use isa_model::{Finish, FrameHead, MAX_PACKET, Version};
 use std::io::{Read, Write};
 
-// A frame of the stream without its bytes: its number, its head, and its reason.
+// A frame of the stream without its body: its number, its head, and its reason.
 #[derive(Clone, Copy)]
 struct Arrival {
     number: u32,
@@ -41,8 +41,8 @@ fn run_frame<M: Runner, W1: Write, W2: Write>(
 ) -> Result<(), HostError>
     requires { length body.old ≤ max_body form.stream }
     ensures writes { WritesEach
-        record { report = W1.contents report.old; frames = W2.contents out.old }
-        record { report = W1.contents report.new; frames = W2.contents out.new } result
+        record { report = W1.contents report.old; sent = W2.contents out.old }
+        record { report = W1.contents report.new; sent = W2.contents out.new } result
         (frame_pieces (report_form_by form) frame.number
         record { head = frame.head; body = body.old; reason = frame.reason }
         (M.rule machine.old frame.head body.old (M.contents machine.old))) }
@@ -56,9 +56,9 @@ fn run_frame<M: Runner, W1: Write, W2: Write>(
     ensures rows { M.rows machine.new ≡ M.rows machine.old }
     ensures made { result ≢ Err HostError.Memory }
 {
-    let size = body.len();
+    let length = body.len();
     let end = machine.run(frame.number, frame.head, body);
-    let line = line_of_frame(form, frame.number, end, size);
+    let line = line_of_frame(form, frame.number, end, length);
     match write_whole(report, line.as_str().as_bytes()) {
         Ok(()) => {}
         Err(_) => return Err(HostError::Report),
@@ -83,8 +83,8 @@ fn skip_frame<W1: Write, W2: Write>(
 ) -> Result<(), HostError>
     requires { length body.now ≤ max_body form.stream }
     ensures writes { WritesEach
-        record { report = W1.contents report.old; frames = W2.contents out.old }
-        record { report = W1.contents report.new; frames = W2.contents out.new } result
+        record { report = W1.contents report.old; sent = W2.contents out.old }
+        record { report = W1.contents report.new; sent = W2.contents out.new } result
         (skip_pieces (report_form_by form) frame.number
         record { head = frame.head; body = body.now; reason = frame.reason }) }
     ensures made { result ≢ Err HostError.Memory }
@@ -111,8 +111,8 @@ fn take_frame<M: Runner, W1: Write, W2: Write>(
 ) -> Result<(), HostError>
     requires { length body.old ≤ max_body form.stream }
     ensures writes { WritesEach
-        record { report = W1.contents report.old; frames = W2.contents out.old }
-        record { report = W1.contents report.new; frames = W2.contents out.new } result
+        record { report = W1.contents report.old; sent = W2.contents out.old }
+        record { report = W1.contents report.new; sent = W2.contents out.new } result
         (turn_pieces (report_form_by form) frame.number
         record { head = frame.head; body = body.old; reason = frame.reason }
         (turn_on (M.rule machine.old) (M.contents machine.old)
@@ -185,8 +185,8 @@ pub fn run_frames<M: Runner + Drop, R: Read + Drop, W1: Write, W2: Write>(
     ensures reports { ReportsBy (R.remaining source) limit program
         (M.rows machine) (M.rule machine) (M.contents machine)
         (ShowsNoted (M.notes machine) (M.rule machine) (M.noted machine) (M.contents machine))
-        record { report = W1.contents report.old; frames = W2.contents out.old }
-        record { report = W1.contents report.new; frames = W2.contents out.new } result }
+        record { report = W1.contents report.old; sent = W2.contents out.old }
+        record { report = W1.contents report.new; sent = W2.contents out.new } result }
     ensures made { result ≢ Err HostError.Memory }
 {
     let mut reader = FrameReader::new(source);

@@ -75,11 +75,11 @@ fn push_reason(line: &mut ReportLine, stream: Version, reason: u32)
     }
 }
 
-/// The line of the frame with this number, by how its run ended and how many bytes the frame has.
+/// The line of the frame with this number and length, by how its run ended.
 #[tactic(auto, unfolding(isa_model::specs::Reporting::Reports::frame_line))]
 #[inline(always)]
-pub fn line_of_frame(form: ReportForm, number: u32, end: End, size: usize) -> ReportLine
-    ensures { result.bytes ≡ frame_line (report_form_by form) number end size }
+pub fn line_of_frame(form: ReportForm, number: u32, end: End, length: usize) -> ReportLine
+    ensures { result.bytes ≡ frame_line (report_form_by form) number end length }
 {
     let mut line = ReportLine::new();
     push_number(&mut line, u64::from(number));
@@ -88,7 +88,7 @@ pub fn line_of_frame(form: ReportForm, number: u32, end: End, size: usize) -> Re
             line.push_str(" ");
             line.push_str(Action::of(answer).name());
             line.push_str(" ");
-            push_number(&mut line, size as u64);
+            push_number(&mut line, length as u64);
             line.push_str(" ");
             push_number(&mut line, u64::from(steps));
             push_reason(&mut line, form.stream, reason_of(form.program, answer));
@@ -97,13 +97,13 @@ pub fn line_of_frame(form: ReportForm, number: u32, end: End, size: usize) -> Re
             line.push_str(" TRAP ");
             line.push_str(trap_reason.name());
             line.push_str(" ");
-            push_number(&mut line, size as u64);
+            push_number(&mut line, length as u64);
             line.push_str(" ");
             push_number(&mut line, u64::from(steps));
         }
         End::Limit => {
             line.push_str(" LIMIT ");
-            push_number(&mut line, size as u64);
+            push_number(&mut line, length as u64);
             line.push_str(" ");
             push_number(&mut line, u64::from(form.limit));
         }
@@ -114,13 +114,13 @@ pub fn line_of_frame(form: ReportForm, number: u32, end: End, size: usize) -> Re
 
 /// The line of a frame that has a reason already, and is not run.
 #[tactic(auto, unfolding(isa_model::specs::Reporting::Reports::skip_line))]
-pub fn line_of_skip(number: u32, size: usize, reason: u32) -> ReportLine
-    ensures { result.bytes ≡ skip_line number size reason }
+pub fn line_of_skip(number: u32, length: usize, reason: u32) -> ReportLine
+    ensures { result.bytes ≡ skip_line number length reason }
 {
     let mut line = ReportLine::new();
     push_number(&mut line, u64::from(number));
     line.push_str(" SKIP ");
-    push_number(&mut line, size as u64);
+    push_number(&mut line, length as u64);
     line.push_str(" 0 ");
     push_number(&mut line, u64::from(reason));
     line.push_str("\n");

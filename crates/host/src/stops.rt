@@ -52,11 +52,11 @@ fn is_noted(end: End) -> bool
 }
 
 // Keeps a frame after the others, while there is room.
-fn put_first(first: &mut ArrayVec<FrameStop, 20>, frame: FrameStop)
-    ensures { first.new.items ≡ with_first first.old.items frame }
+fn put_first(first: &mut ArrayVec<FrameStop, 20>, stopped: FrameStop)
+    ensures { first.new.items ≡ with_first first.old.items stopped }
 {
     if first.len() < MOST_STOPS {
-        first.push(frame);
+        first.push(stopped);
     }
 }
 
@@ -76,11 +76,11 @@ impl Stops {
         ensures { noted_of self.new ≡ note (noted_of self.old) number stop }
     {
         if is_noted(stop.end) {
-            let frame = FrameStop {
+            let stopped = FrameStop {
                 frame: number,
                 stop,
             };
-            put_first(&mut self.first, frame);
+            put_first(&mut self.first, stopped);
             self.count = self.count.saturating_add(1);
         }
     }

@@ -1,4 +1,4 @@
-//! The result of a run over a stream, with checks or without.
+//! The result of a trace, which the loop over a stream returns for every machine.
 
 ghost use Rattle.std.specs.Prelude.{◌≡◌};
 ghost use Rattle.host.specs.Tallies.{tallied};
@@ -7,8 +7,8 @@ use super::errors::HostError;
 use super::stops::Stops;
 use super::tallies::Tally;
 
-/// What the report's last line shows, and the packet frames whose runs ended without an action;
-/// without checks none are noted.
+/// What the report's last line shows, and the packet frames whose runs ended without an action. Of
+/// a run over a stream without checks only the tally is returned, and no frames are noted.
 #[derive(Drop)]
 pub struct Traced {
     pub tally: Tally,

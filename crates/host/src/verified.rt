@@ -74,11 +74,11 @@ pub fn run<R: Read + Drop, W1: Write, W2: Write>(
     ensures out_untouched { result ≡ Err HostError.Memory
         → W2.contents out.new ≡ W2.contents out.old }
     ensures reports { result ≢ Err HostError.Memory → ReportsRun verified (R.remaining source)
-        record { report = W1.contents report.old; frames = W2.contents out.old }
-        record { report = W1.contents report.new; frames = W2.contents out.new } result }
+        record { report = W1.contents report.old; sent = W2.contents out.old }
+        record { report = W1.contents report.new; sent = W2.contents out.new } result }
 {
     let bound = verified.bound();
-    let program = version_of(verified.image().version());
+    let program_version = version_of(verified.image().version());
     let Ok(maps) = Maps::new(alloc, verified.image()) else {
         return Err(HostError::Memory);
     };
@@ -86,5 +86,5 @@ pub fn run<R: Read + Drop, W1: Write, W2: Write>(
         return Err(HostError::Memory);
     };
     let runner = MachineRunner { machine };
-    tally_in(run_frames(runner, bound, program, source, report, out))
+    tally_in(run_frames(runner, bound, program_version, source, report, out))
 }

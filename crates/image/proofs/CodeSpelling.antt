@@ -119,14 +119,14 @@ pub code_from-found : Laws
     (xs : List (Option Insn)) → EachByte bytes → length bytes ≡ 8 * n → HasSecondHalf half n
     → code_from rows n half slot bytes ≡ Ok xs → IsParsedCode rows n half bytes xs
 unfolding code_from
-code_from-found laws rows zero half slot bytes xs small len room e =
+code_from-found laws rows zero half slot bytes xs small len second e =
     subst (λ (ys : CodeSlots). IsParsedCode rows 0 half bytes ys) (ok_is [] xs e) (record {
       spelled = nothing half bytes (omega arith);
       count = refl;
-      code = no_half half room;
+      code = no_half half second;
       named = tt;
     })
-code_from-found laws rows (suc n) true slot bytes xs small len room e =
+code_from-found laws rows (suc n) true slot bytes xs small len second e =
     let b =
     bind_ok (code_from rows n false (slot + 1) (drop 8 bytes)) (λ ys. slots_ok (None ∷ ys)) xs e in
     let more = code_from-found laws rows n false (slot + 1) (drop 8 bytes) b.0
@@ -138,10 +138,10 @@ code_from-found laws rows (suc n) true slot bytes xs small len room e =
       code = more.code;
       named = more.named;
     })
-code_from-found laws rows (suc n) false slot bytes xs small len room e =
-    let rest = λ (i : Insn). code_from rows n (is_wide i) (slot + 1) (drop 8 bytes) in
-    let a = bind_ok (insn_at rows slot bytes) (λ i. rest i >>= λ ys. slots_ok (Some i ∷ ys)) xs e in
-    let b = bind_ok (rest a.0) (λ ys. slots_ok (Some a.0 ∷ ys)) xs a.2 in
+code_from-found laws rows (suc n) false slot bytes xs small len second e =
+    let tail = λ (i : Insn). code_from rows n (is_wide i) (slot + 1) (drop 8 bytes) in
+    let a = bind_ok (insn_at rows slot bytes) (λ i. tail i >>= λ ys. slots_ok (Some i ∷ ys)) xs e in
+    let b = bind_ok (tail a.0) (λ ys. slots_ok (Some a.0 ∷ ys)) xs a.2 in
     let at = insn_at_ok rows slot bytes a.0 a.1 in
     let spelled = laws.found bytes a.0 small at.decoded in
     let long : slots_filled a.0 ≤ suc n =

@@ -122,7 +122,7 @@ pub NamesRows-fetch : (p : Program) (s : ℕ) (i : Insn) → IsImage p → fetch
     → NamesRows p.maps i
 NamesRows-fetch p s i h e = NamesRows-insn_in p.maps p.insns s i h.named e
 
--- slot 0 begins an instruction
+-- an instruction begins at slot 0
 pub fetch-zero : (p : Program) → IsImage p → (i : Insn) × (fetch p 0 ≡ Some i)
 fetch-zero p h = elim (at_front p.insns h.code)
     [ inl e ↦ absurd (omega (arith, h.some_slots, e)) | inr f ↦ f ]

@@ -55,18 +55,18 @@ size_refusal-whole_bytes v m n rest maps some few len =
     let bytes = whole_bytes v m n rest in
     let long : length bytes ≡ 8 + length rest = length-whole_bytes v m n rest in
     let size = size_of (map_count bytes) (slot_count bytes) in
-    let rows : map_count bytes ≡ m = map_count-whole_bytes v m n rest maps in
-    let count : slot_count bytes ≡ n = slot_count-whole_bytes v m n rest few in
+    let m_is : map_count bytes ≡ m = map_count-whole_bytes v m n rest maps in
+    let n_is : slot_count bytes ≡ n = slot_count-whole_bytes v m n rest few in
     tests-pass (nat_lt (length bytes) 8) (is_none (version_at bytes))
     (nat_lt MAX_MAPS (map_count bytes)) (slot_count bytes == 0)
     (nat_lt MAX_SLOTS (slot_count bytes)) (nat_lt (length bytes) size)
     (nat_lt size (length bytes))
     (le-ltb _ _ (omega (arith, long))) (ap is_none (version_at-whole_bytes v m n rest))
-    (le-ltb _ _ (omega (arith, rows)))
-    (ap (λ (k : ℕ). k == 0) count ∙ some_not_zero n some)
-    (le-ltb _ _ (omega (arith, count)))
-    (le-ltb _ _ (omega (arith, count, rows, len, long)))
-    (le-ltb _ _ (omega (arith, count, rows, len, long)))
+    (le-ltb _ _ (omega (arith, m_is)))
+    (ap (λ (k : ℕ). k == 0) n_is ∙ some_not_zero n some)
+    (le-ltb _ _ (omega (arith, n_is)))
+    (le-ltb _ _ (omega (arith, n_is, m_is, len, long)))
+    (le-ltb _ _ (omega (arith, n_is, m_is, len, long)))
 
 drop-whole_bytes : (v : Version) (m n : ℕ) (rest : List ℕ) → drop 8 (whole_bytes v m n rest) ≡ rest
 drop-whole_bytes One m n rest = refl

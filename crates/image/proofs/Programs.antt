@@ -13,7 +13,7 @@ use Rattle.isa_model.proofs.StartingContents as starting
 use Rattle.image.specs.Images.{IsImage}
 use Rattle.image.proofs.ImageLaws.{InsnFits-fetch, NamesRows-fetch, fetch-second}
 
--- an instruction has one slot or two
+-- an instruction fills one slot or two
 slots_filled-cases : (i : Insn) → (slots_filled i ≡ 1) ⊎ (slots_filled i ≡ 2)
 slots_filled-cases (LoadNumber d n) = inr refl
 slots_filled-cases (LoadMap d m) = inr refl

@@ -136,15 +136,15 @@ row_at-fits index bytes row e =
     IsRow-row_fits row
     (tested_ok index bytes (map_type_numbered (little_number 2 bytes)) row e).fits
 
-row_is : (row : MapDef) (key value entries : ℕ) → key ≡ row.key_size → value ≡ row.value_size
-    → entries ≡ row.entries
+row_is : (row : MapDef) (key_size value_size entries : ℕ) → key_size ≡ row.key_size
+    → value_size ≡ row.value_size → entries ≡ row.entries
     → (let r : MapDef = record {
       kind = row.kind;
-      key_size = key;
-      value_size = value;
+      key_size = key_size;
+      value_size = value_size;
       entries = entries;
     } in r) ≡ row
-row_is row key value entries h0 h1 h2 = rw (h0, h1, h2) refl
+row_is row key_size value_size entries h0 h1 h2 = rw (h0, h1, h2) refl
 
 row_at-row_bytes : (index : ℕ) (row : MapDef) (rest : List ℕ) → IsRow row
     → row_at index (row_bytes row ++ rest) ≡ Ok row

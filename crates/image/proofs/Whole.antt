@@ -1,4 +1,4 @@
--- Laws of images: the tests of their sizes, what is read from bytes, and refusals.
+-- Laws of whole images: the tests of their sizes, what is read from bytes, and refusals.
 use Rattle.std.proofs.Common.{◌≡◌, ℕ, zero, suc, ◌-◌, ◌+◌, ◌*◌, ◌/◌, ◌≤◌, Bool, true, false, cond, List, ◌++◌, take, drop, length, Option, Some, None, Result, Ok, Err, refl, sym, ap, ◌∙◌, subst, arith, inl, inr, drop-drop}
 use Rattle.std.specs.Prelude.{◌==◌, ◌⊎◌, nat_lt, nat_eq, sum_by, is_none, unwrap_or, if◌then◌else◌}
 use Rattle.std.specs.List.{starts_with, flat_map}
@@ -44,7 +44,7 @@ tests-pass a m b c d e f h0 h1 h2 h3 h4 h5 h6 = rw (h0, h1, h2, h3, h4, h5, h6) 
 
 record Passed (a m b c d e f : Bool) : Type 0 where
   long : a ≡ false
-  text : m ≡ false
+  front : m ≡ false
   maps : b ≡ false
   some : c ≡ false
   few : d ≡ false
@@ -62,7 +62,7 @@ passed false false false false false false true h = absurd cc
 passed false false false false false false false h =
     record {
       long = refl;
-      text = refl;
+      front = refl;
       maps = refl;
       some = refl;
       few = refl;
@@ -73,7 +73,7 @@ passed false false false false false false false h =
 -- what is known of bytes that pass the tests
 pub record Sizes (bytes : List ℕ) : Type 0 where
   pub long : 8 ≤ length bytes
-  pub text : take 4 bytes ≡ magic (version_read bytes)
+  pub front : take 4 bytes ≡ magic (version_read bytes)
   pub maps : map_count bytes ≤ MAX_MAPS
   pub some : 1 ≤ slot_count bytes
   pub few : slot_count bytes ≤ MAX_SLOTS
@@ -113,7 +113,7 @@ sizes bytes h =
     ltb-false _ _ p.most in
     record {
       long = ltb-false _ _ p.long;
-      text = magic_read bytes p.text;
+      front = magic_read bytes p.front;
       maps = ltb-false _ _ p.maps;
       some = not_zero (slot_count bytes) p.some;
       few = ltb-false _ _ p.few;
@@ -138,19 +138,19 @@ same_program p q e = cc
 head_spelled : (bytes : List ℕ) (m n : ℕ) → EachByte bytes → Sizes bytes → m ≡ map_count bytes
     → n ≡ slot_count bytes
     → magic (version_read bytes) ++ (little_bytes 2 m ++ little_bytes 2 n) ≡ take 8 bytes
-head_spelled bytes m n small s rows count =
+head_spelled bytes m n small s m_is n_is =
     let maps : little_bytes 2 m ≡ take 2 (drop 4 bytes) =
-    ap (little_bytes 2) rows
+    ap (little_bytes 2) m_is
     ∙ little_bytes-little_from 2 0 (drop 4 bytes) (EachByte-drop 4 bytes small)
     (omega (arith, s.long, length-drop 4 bytes)) in
     let slots : little_bytes 2 n ≡ take 2 (drop 6 bytes) =
-    ap (little_bytes 2) count
+    ap (little_bytes 2) n_is
     ∙ little_bytes-little_from 2 0 (drop 6 bytes) (EachByte-drop 6 bytes small)
     (omega (arith, s.long, length-drop 6 bytes)) in
     let counts : take 4 (drop 4 bytes) ≡ take 2 (drop 4 bytes) ++ take 2 (drop 6 bytes) =
     take-add 2 2 (drop 4 bytes)
     ∙ ap (λ (l : List ℕ). take 2 (drop 4 bytes) ++ take 2 l) (drop-drop 2 4 bytes) in
-    ap (λ (l : List ℕ). l ++ (little_bytes 2 m ++ little_bytes 2 n)) (sym s.text)
+    ap (λ (l : List ℕ). l ++ (little_bytes 2 m ++ little_bytes 2 n)) (sym s.front)
     ∙ ap (λ (l : List ℕ). take 4 bytes ++ (l ++ little_bytes 2 n)) maps
     ∙ ap (λ (l : List ℕ). take 4 bytes ++ (take 2 (drop 4 bytes) ++ l)) slots
     ∙ ap (λ (l : List ℕ). take 4 bytes ++ l) (sym counts)
@@ -220,7 +220,7 @@ program_read-found laws bytes p small s e =
     let m = map_count bytes in
     let n = slot_count bytes in
     let k = read bytes p e in
-    let rows = rows_from-fit m 0 (drop 8 bytes) p.maps k.rows in
+    let rows_fit = rows_from-fit m 0 (drop 8 bytes) p.maps k.rows in
     let rows_are : flat_map row_bytes p.maps ≡ take (12 * m) (drop 8 bytes) =
     rows_from-found m 0 (drop 8 bytes) p.maps (EachByte-drop 8 bytes small)
     (omega (arith, s.whole, length-drop 8 bytes)) k.rows in
@@ -231,7 +231,7 @@ program_read-found laws bytes p small s e =
       spelled =
           sym (take-append-drop 8 bytes)
           ∙ ap (λ (l : List ℕ). l ++ drop 8 bytes)
-          (sym (head_spelled bytes (length p.maps) (length p.insns) small s rows.0 found.count)
+          (sym (head_spelled bytes (length p.maps) (length p.insns) small s rows_fit.0 found.count)
           ∙ ap (λ v. magic v ++ (little_bytes 2 (length p.maps) ++ little_bytes 2 (length p.insns)))
           k.version)
           ∙ ap (λ (l : List ℕ). head_bytes p ++ l) (sym (take-append-drop (12 * m) (drop 8 bytes))
@@ -239,8 +239,8 @@ program_read-found laws bytes p small s e =
           ∙ ap (λ (l : List ℕ). flat_map row_bytes p.maps ++ l)
           (drop-drop (12 * m) 8 bytes ∙ sym found.spelled));
       image = record {
-        few_maps = omega (arith, rows.0, s.maps);
-        rows = rows.1;
+        few_maps = omega (arith, rows_fit.0, s.maps);
+        rows = rows_fit.1;
         room = room_within p.maps k.room;
         some_slots = omega (arith, found.count, s.some);
         few_slots = omega (arith, found.count, s.few);

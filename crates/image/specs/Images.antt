@@ -50,7 +50,7 @@ image_bytes p = head_bytes p ++ (flat_map row_bytes p.maps ++ code_bytes p.insns
 
 -- ---- the programs that images store
 
--- the bytes of a map's keys and values
+-- how many bytes a map's keys and values have together
 abbrev pub room_of : MapDef → ℕ
 room_of row = row.entries * (row.key_size + row.value_size)
 

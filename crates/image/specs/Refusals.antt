@@ -111,7 +111,7 @@ rows_from (suc n) index bytes =
     row_at index bytes >>= λ row. rows_from n (index + 1) (drop 12 bytes)
     >>= λ rows. Ok (row ∷ rows)
 
--- the first row, from this index on, that is out of its limits
+-- the refusal of the first row, from this index on, that is out of its limits
 abbrev pub rows_refusal : ℕ → List MapDef → Option ImageError
 rows_refusal index [] = None
 rows_refusal index (row ∷ rows) =

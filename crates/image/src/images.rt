@@ -169,8 +169,8 @@ impl Image {
             (AppendsBeginning (W.contents writer.old) (W.contents writer.new)
             (image_bytes self.now)) }
     {
-        let (maps, slots) = (self.maps.len() as u16, self.slots.len() as u16);
-        let head = head_of(self.version, maps, slots);
+        let (row_count, slot_count) = (self.maps.len() as u16, self.slots.len() as u16);
+        let head = head_of(self.version, row_count, slot_count);
         write_bytes(writer, &head)?;
         write_rows(writer, &self.maps)?;
         write_code(writer, &self.slots)

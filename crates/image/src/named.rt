@@ -34,8 +34,8 @@ pub fn map_refusal(maps: &[MapDef], slot: usize, insn: &Insn) -> Option<ImageErr
 pub fn maps_refusal(maps: &[MapDef], code: &[Option<Insn>]) -> Option<ImageError>
     ensures { result ≡ maps_refusal maps.now 0 code.now }
 {
-    for (slot, at_slot) in code.iter().enumerate() {
-        if let Some(insn) = at_slot {
+    for (slot, found) in code.iter().enumerate() {
+        if let Some(insn) = found {
             if let Some(error) = map_refusal(maps, slot, insn) {
                 return Some(error);
             }

@@ -37,7 +37,7 @@ pub fn row_fits(row: &MapDef) -> bool
         && (1 <= row.entries && row.entries <= MAX_MAP_ENTRIES)
 }
 
-/// The bytes of the keys and values that a map has room for.
+/// How many bytes of keys and values a map has room for.
 pub fn room_of(row: &MapDef) -> u64
     requires { row_fits row.now ≡ true }
     ensures { result ≡ room_of row.now }
@@ -45,7 +45,7 @@ pub fn room_of(row: &MapDef) -> u64
     u64::from(row.entries) * (u64::from(row.key_size) + u64::from(row.value_size))
 }
 
-/// The first row that is out of its limits.
+/// The refusal of the first row that is out of its limits.
 pub fn rows_refusal(rows: &[MapDef]) -> Option<ImageError>
     ensures { result ≡ rows_refusal 0 rows.now }
 {

@@ -1,4 +1,4 @@
--- Laws of decoding: an instruction's spelling is decoded to that instruction.
+-- Laws of decoding again what was spelled: an instruction's spelling is decoded to it.
 use Rattle.std.proofs.Common.{◌≡◌, ℕ, ◌+◌, ◌*◌, ◌/◌, ◌%◌, ◌^◌, ◌<◌, Bool, true, false, cond, ℤ, List, ◌++◌, length, Option, Some, Result, Ok, Err, refl, ap, ◌∙◌, arith}
 use Rattle.std.specs.Prelude.{nat_lt}
 use Rattle.std.specs.Int.{w16, w32, cast_signed, cast_unsigned}
@@ -46,7 +46,7 @@ use Rattle.insn_codec.specs.declared.forms.Form.{Form}
 use Rattle.insn_codec.specs.declared.forms.Form.TheVariants as form
 use Rattle.insn_codec.specs.declared.fields.Fields.{Fields}
 use Rattle.insn_codec.specs.Forms.{form_of, uses, zero_unused}
-use Rattle.insn_codec.specs.Decoding.{second_slot, wide_by, meaning, slot_meaning, with_form, with_dst, with_src}
+use Rattle.insn_codec.specs.Decoding.{next_imm_read, wide_by, meaning, slot_meaning, with_form, with_dst, with_src}
 
 abbrev fields : Reg → Reg → ℕ → ℕ → Fields
 fields d r o k = record { dst = d; src = r; offset = o; imm = k }
@@ -126,9 +126,10 @@ form_load_signed : (size : SignedSize) → form_of (0x81 + signed_code size) ≡
 form_load_signed S8 = refl
 form_load_signed size = refl
 
-form_store_number : (size : Size) → form_of (0x62 + size_code size) ≡ Some (form.StoreConstant size)
-form_store_number U8 = refl
-form_store_number size = refl
+form_store_constant : (size : Size)
+    → form_of (0x62 + size_code size) ≡ Some (form.StoreConstant size)
+form_store_constant U8 = refl
+form_store_constant size = refl
 
 form_store_register : (size : Size) → form_of (0x63 + size_code size) ≡ Some (form.Store size)
 form_store_register U8 = refl
@@ -210,9 +211,9 @@ long_enough : (n : ℕ) (rest : List ℕ) → nat_lt (length (zeros_then n rest)
 long_enough n rest = le-ltb _ _ (omega arith)
 
 -- the second slot is read
-second_slot-second_bytes : (n : ℕ) (rest : List ℕ) → n < 2 ^ 32
-    → second_slot (zeros_then n rest) ≡ Ok n
-second_slot-second_bytes n rest h =
+next_imm_read-second_bytes : (n : ℕ) (rest : List ℕ) → n < 2 ^ 32
+    → next_imm_read (zeros_then n rest) ≡ Ok n
+next_imm_read-second_bytes n rest h =
     ap (λ (b : Bool). cond b second_missing (next_is (little_number 4 (little_bytes 4 n ++ rest))))
     (long_enough n rest)
     ∙ ap next_is (little_number-reads_back 4 n rest h)
@@ -223,18 +224,18 @@ meaning-number : (d : Reg) (n : ℕ) (rest : List ℕ) → n < 2 ^ 64
 meaning-number d n rest h =
     let whole : n % 2 ^ 32 + n / 2 ^ 32 * 2 ^ 32 ≡ n = omega arith in
     ap (wide_by R0 (fields d R0 0 (n % 2 ^ 32)))
-    (second_slot-second_bytes (n / 2 ^ 32) rest (omega arith))
+    (next_imm_read-second_bytes (n / 2 ^ 32) rest (omega arith))
     ∙ ap (λ (m : ℕ). ok_insn (LoadNumber d m)) whole
 
 meaning-map : (d : Reg) (m : ℕ) (rest : List ℕ)
     → meaning form.WideLoad (fields d R5 0 m) (zeros_then 0 rest) ≡ Ok (LoadMap d m)
 meaning-map d m rest =
-    ap (wide_by R5 (fields d R5 0 m)) (second_slot-second_bytes 0 rest (omega arith))
+    ap (wide_by R5 (fields d R5 0 m)) (next_imm_read-second_bytes 0 rest (omega arith))
 
 meaning-map_value : (d : Reg) (m o : ℕ) (rest : List ℕ) → o < 2 ^ 32
     → meaning form.WideLoad (fields d R6 0 m) (zeros_then o rest) ≡ Ok (LoadMapValue d m o)
 meaning-map_value d m o rest h =
-    ap (wide_by R6 (fields d R6 0 m)) (second_slot-second_bytes o rest h)
+    ap (wide_by R6 (fields d R6 0 m)) (next_imm_read-second_bytes o rest h)
 
 -- ---- all forms
 
@@ -297,7 +298,7 @@ slot_meaning-first_slot (LoadSx size d p) rest h =
     (reg_numbered-reg_number p.base) refl
     (ap (λ (z : ℤ). ok_insn (LoadSx size d (at_place p.base z))) (back16 p.offset h))
 slot_meaning-first_slot (StoreConstant size p k) rest h =
-    through _ (form.StoreConstant size) p.base R0 rest _ (form_store_number size)
+    through _ (form.StoreConstant size) p.base R0 rest _ (form_store_constant size)
     (reg_numbered-reg_number p.base) refl refl
     (ap (λ (z : ℤ). ok_insn
     (StoreConstant size (at_place p.base z) (cast_signed w32 (cast_unsigned w32 k))))

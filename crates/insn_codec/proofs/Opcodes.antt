@@ -13,23 +13,23 @@ use Rattle.insn_codec.specs.declared.forms.Form.{Form}
 use Rattle.insn_codec.specs.declared.forms.Form.TheVariants as form
 use Rattle.insn_codec.specs.Forms.{form_of}
 
-abbrev pub code_of : AluCode → ℕ
-code_of codes.Add = 0x00
-code_of codes.Sub = 0x10
-code_of codes.Mul = 0x20
-code_of codes.Div = 0x30
-code_of codes.Or = 0x40
-code_of codes.And = 0x50
-code_of codes.Lsh = 0x60
-code_of codes.Rsh = 0x70
-code_of codes.Mod = 0x90
-code_of codes.Xor = 0xa0
-code_of codes.Mov = 0xb0
-code_of codes.Arsh = 0xc0
+abbrev pub code_bits : AluCode → ℕ
+code_bits codes.Add = 0x00
+code_bits codes.Sub = 0x10
+code_bits codes.Mul = 0x20
+code_bits codes.Div = 0x30
+code_bits codes.Or = 0x40
+code_bits codes.And = 0x50
+code_bits codes.Lsh = 0x60
+code_bits codes.Rsh = 0x70
+code_bits codes.Mod = 0x90
+code_bits codes.Xor = 0xa0
+code_bits codes.Mov = 0xb0
+code_bits codes.Arsh = 0xc0
 
 abbrev pub opcode_of : Form → ℕ
-opcode_of (form.AluConstant w c) = code_of c + 0x00 + alu_class w
-opcode_of (form.AluRegister w c) = code_of c + 0x08 + alu_class w
+opcode_of (form.AluConstant w c) = code_bits c + 0x00 + alu_class w
+opcode_of (form.AluRegister w c) = code_bits c + 0x08 + alu_class w
 opcode_of (form.MovRegister w) = 0xb8 + alu_class w
 opcode_of (form.Negate w) = 0x80 + alu_class w
 opcode_of (form.ByteSwap order) = order_opcode order

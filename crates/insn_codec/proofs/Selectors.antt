@@ -24,7 +24,7 @@ use Rattle.insn_codec.specs.declared.forms.Uses.{Uses}
 use Rattle.insn_codec.specs.declared.fields.Fields.{Fields}
 use Rattle.insn_codec.specs.Forms.{has_selector, zero_unused, is_r0}
 use Rattle.insn_codec.specs.Decoding.{op_selected, extension_selected, span_selected, selected}
-use Rattle.insn_codec.proofs.Opcodes.{code_of}
+use Rattle.insn_codec.proofs.Opcodes.{code_bits}
 
 -- ---- tools
 
@@ -73,7 +73,7 @@ zeroes u d r o k e =
 -- ---- selectors
 
 abbrev OpIs : AluCode → ℕ → AluOp → Type 0
-OpIs c o op = (alu_code op ≡ code_of c) × (alu_offset op ≡ o)
+OpIs c o op = (alu_code op ≡ code_bits c) × (alu_offset op ≡ o)
 
 pub op_is : (c : AluCode) (o : ℕ) (op : AluOp) → op_selected c o ≡ Some op
     → (has_selector c || o == 0) ≡ true → OpIs c o op

@@ -28,7 +28,7 @@ use Rattle.insn_codec.specs.declared.forms.AluCode.{AluCode}
 use Rattle.insn_codec.specs.declared.forms.Form.{Form}
 use Rattle.insn_codec.specs.declared.forms.Form.TheVariants as form
 use Rattle.insn_codec.specs.Forms.{uses, zero_unused, form_of}
-use Rattle.insn_codec.specs.Decoding.{with_next, op_selected, extension_selected, span_selected, meaning, slot_meaning, with_form, with_dst, with_src, with_fields, atomic, called_by, moved, swapped, wide_by, second_slot, constant_in, place_in}
+use Rattle.insn_codec.specs.Decoding.{with_next, op_selected, extension_selected, span_selected, meaning, slot_meaning, with_form, with_dst, with_src, with_fields, atomic, called_by, moved, swapped, wide_by, next_imm_read, constant_in, place_in}
 use Rattle.insn_codec.proofs.Selectors.{chosen, ok_is, selected_ok, r0_is, zeroes, op_is, extension_is, span_is, done, fields, Zeroes}
 use Rattle.insn_codec.proofs.Opcodes.{opcode_of, opcode-form_of, number-reg_numbered}
 
@@ -70,7 +70,7 @@ pub slot_is : (c c' a a' b b' o o' k k' : ℕ) → c ≡ c' → a ≡ a' → b �
     → slot c a b o k ≡ slot c' a' b' o' k'
 slot_is c c' a a' b b' o o' k k' h0 h1 h2 h3 h4 = rw (h0, h1, h2, h3, h4) refl
 
--- an instruction of one slot is spelled by the fields that it was read from
+-- an instruction whose first slot has these fields is spelled by them and what follows
 one : (c : ℕ) (d r : Reg) (o k : ℕ) (rest : List ℕ) (x i : Insn)
     → first_slot x ≡ slot c (reg_number d) (reg_number r) o k
     → Continues (next_imm x) rest → InsnFits x → x ≡ i → By c d r o k rest i
@@ -200,7 +200,7 @@ second rest small long zeros =
     take-add 4 4 rest ∙ ap (λ l. l ++ take 4 (drop 4 rest)) zero
     ∙ ap (λ l. 0 ∷ 0 ∷ 0 ∷ 0 ∷ l) (sym back)
 
--- a second slot that was read: next_imm, its bytes and its range
+-- a second slot that was read: its bytes, and that next_imm has 32 bits
 record Second (rest : List ℕ) (next : ℕ) : Type 0 where
   bytes : take 8 rest ≡ second_bytes (Some next)
   small : next < 2 ^ 32
@@ -211,7 +211,7 @@ next_is n = Ok n
 same_next : (m n : ℕ) → next_is m ≡ next_is n → m ≡ n
 same_next m n e = cc
 
-second_read : (rest : List ℕ) (next : ℕ) → EachByte rest → second_slot rest ≡ Ok next
+second_read : (rest : List ℕ) (next : ℕ) → EachByte rest → next_imm_read rest ≡ Ok next
     → Second rest next
 second_read rest next small e =
     elim (chosen (nat_lt (length rest) 8) _ _ _ e) [
@@ -231,18 +231,18 @@ next_ok (Ok n) f i e = (n, refl, e)
 next_ok (Err d) f i e = absurd cc
 
 wide_is : (d r : Reg) (o k : ℕ) (rest : List ℕ) (i : Insn) → Within o k rest → o ≡ 0
-    → wide_by r (fields d r o k) (second_slot rest) ≡ Ok i → By 0x18 d r o k rest i
+    → wide_by r (fields d r o k) (next_imm_read rest) ≡ Ok i → By 0x18 d r o k rest i
 wide_is d R0 o k rest i h ho e =
-    let a = next_ok (second_slot rest) _ i e in
+    let a = next_ok (next_imm_read rest) _ i e in
     let s = second_read rest a.0 h.bytes a.1 in
     let low : (k + a.0 * 2 ^ 32) % 2 ^ 32 ≡ k = omega (arith, h.small) in
     let top : (k + a.0 * 2 ^ 32) / 2 ^ 32 ≡ a.0 = omega (arith, h.small) in
-    let whole : k + a.0 * 2 ^ 32 < 2 ^ 64 = omega (arith, h.small, s.small) in
+    let fits : k + a.0 * 2 ^ 32 < 2 ^ 64 = omega (arith, h.small, s.small) in
     one _ d R0 o k rest (LoadNumber d (k + a.0 * 2 ^ 32)) i
     (slot_is _ _ _ _ _ _ _ _ _ _ refl refl refl (sym ho) low)
-    (rw top s.bytes) whole (ok_is _ _ a.2)
+    (rw top s.bytes) fits (ok_is _ _ a.2)
 wide_is d R5 o k rest i h ho e =
-    let a = next_ok (second_slot rest) _ i e in
+    let a = next_ok (next_imm_read rest) _ i e in
     let s = second_read rest a.0 h.bytes a.1 in
     elim (chosen (a.0 == 0) (done (LoadMap d k)) _ _ a.2) [
       | inl p ↦
@@ -253,7 +253,7 @@ wide_is d R5 o k rest i h ho e =
       | inr p ↦ absurd cc
     ]
 wide_is d R6 o k rest i h ho e =
-    let a = next_ok (second_slot rest) _ i e in
+    let a = next_ok (next_imm_read rest) _ i e in
     let s = second_read rest a.0 h.bytes a.1 in
     one _ d R6 o k rest (LoadMapValue d k a.0) i
     (slot_is _ _ _ _ _ _ _ _ _ _ refl refl refl (sym ho) refl)

@@ -1,4 +1,5 @@
--- What is decoded is spelled by the front of the bytes; a spelling is decoded to its instruction.
+-- Decoding as a whole: what is decoded is spelled by the front of the bytes; a spelling is decoded
+-- to its instruction.
 use Rattle.std.proofs.Common.{◌≡◌, ℕ, ◌+◌, ◌*◌, ◌/◌, ◌%◌, ◌^◌, ◌<◌, ◌≤◌, Bool, true, false, cond, ℤ, pos, negsuc, List, [], ◌∷◌, ◌++◌, length, take, drop, Result, Ok, Err, refl, sym, ap, ◌∙◌, arith, inl, inr, take-add, append-nil, drop-drop, take_all}
 use Rattle.std.specs.Prelude.{nat_lt, slice_index, IfOk}
 use Rattle.std.specs.Int.{w16, w32, cast_unsigned}
@@ -198,12 +199,12 @@ pub decoded-spelling_of : (i : Insn) (rest : List ℕ) → InsnFits i
 unfolding decoded
 decoded-spelling_of i rest h =
     let long : nat_lt (length (spelling_of i ++ rest)) 8 ≡ false = le-ltb _ _ (omega arith) in
-    let front : slot_at (slot_bytes (first_slot i)) ≡ first_slot i =
+    let same : slot_at (slot_bytes (first_slot i)) ≡ first_slot i =
     slot_at-slot_bytes (first_slot i) (first_slot-fits i h) in
     ap (λ (b : Bool). cond b bad
     (slot_meaning (slot_at (slot_bytes (first_slot i))) (second_bytes (next_imm i) ++ rest)))
     long
-    ∙ ap (λ (s : Slot). slot_meaning s (second_bytes (next_imm i) ++ rest)) front
+    ∙ ap (λ (s : Slot). slot_meaning s (second_bytes (next_imm i) ++ rest)) same
     ∙ slot_meaning-first_slot i rest h
 
 pub sized-found : (bytes : List ℕ) (r : Result Insn CodecError) → EachByte bytes → decoded bytes ≡ r

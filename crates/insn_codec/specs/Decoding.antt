@@ -107,8 +107,8 @@ atomic w t =
     else Err UnknownSelector
 
 -- next_imm, if the second slot is there and its reserved bits are zero
-abbrev pub second_slot : List ℕ → Result ℕ CodecError
-second_slot rest =
+abbrev pub next_imm_read : List ℕ → Result ℕ CodecError
+next_imm_read rest =
     if nat_lt (length rest) 8 then Err SecondSlot
     else if not (little_number 4 rest == 0) then Err SecondSlot
     else Ok (little_number 4 (drop 4 rest))
@@ -127,7 +127,7 @@ wide_by R6 t second = with_next second (λ next. Ok (LoadMapValue t.dst t.imm ne
 wide_by r t second = Err UnknownSelector
 
 abbrev pub wide : Fields → List ℕ → Result Insn CodecError
-wide t rest = wide_by t.src t (second_slot rest)
+wide t rest = wide_by t.src t (next_imm_read rest)
 
 abbrev pub called_by : Reg → Fields → Result Insn CodecError
 called_by R0 t = Ok (CallHelper (constant_in t))

@@ -1,7 +1,7 @@
 //! Decodes a form and its fields to an instruction.
 
 ghost use Rattle.std.specs.Prelude.{◌≡◌};
-ghost use Rattle.insn_codec.specs.Decoding.{op_selected, extension_selected, span_selected, arithmetic, moved, swapped, atomic, wide, called, second_slot, meaning, slot_meaning, jump_if};
+ghost use Rattle.insn_codec.specs.Decoding.{op_selected, extension_selected, span_selected, arithmetic, moved, swapped, atomic, wide, called, next_imm_read, meaning, slot_meaning, jump_if};
 
 use crate::errors::CodecError;
 use crate::fields::Fields;
@@ -40,7 +40,7 @@ fn op_selected(code: AluCode, offset: u16) -> Option<AluOp>
     }
 }
 
-/// The extension from the number of bits in `offset`.
+/// The extension whose number of bits is in `offset`.
 fn extension_selected(width: Width, offset: u16) -> Option<Extension>
     ensures { result ≡ extension_selected width offset }
 {
@@ -73,7 +73,7 @@ fn span_selected(imm: u32) -> Option<SwapWidth>
 
 /// `next_imm` of the second slot, which the bytes begin with.
 fn next_imm(rest: &[u8]) -> Result<u32, CodecError>
-    ensures { result ≡ second_slot rest.now }
+    ensures { result ≡ next_imm_read rest.now }
 {
     if rest.len() < 8 || LittleEndian::read_u32(rest) != 0 {
         return Err(CodecError::SecondSlot);

@@ -25,7 +25,7 @@ use Rattle.isa_model.specs.declared.ends.TrapReason.TheVariants.{BadAccess}
 use Rattle.isa_model.specs.Code.Sizes.{size_bytes, width_size, unsigned_size, size_extension}
 use Rattle.isa_model.specs.Code.Numbers.{sign_extended, bytes_of}
 use Rattle.isa_model.proofs.ExtensionLaws.{sign_extended_fits}
-use Rattle.isa_model.specs.Code.Instructions.{Program, fetch}
+use Rattle.isa_model.specs.Code.Instructions.{Program}
 use Rattle.isa_model.specs.Machine.States.{Stored, Content, KeyValues, key_values_of, State, content_of, new_call_frame, call_frame_at}
 use Rattle.isa_model.specs.Machine.Memory.{and_then, call_frame_index, index_of_serial, key_value_at, number_in, value_in, pieces, index_at, region_cells, place_of, cells_at, read, put, write, context_field, number_at, memory_load, load_from, load, load_number, load_signed, store_number, store_pointer, store}
 use Rattle.isa_model.specs.Machine.Steps.{base_of, swaps_in, fetched_into}
@@ -233,22 +233,22 @@ store_keeps p s size base by Unset h k = tt
 
 -- ---- atomic instructions
 
-fetched_into_keeps : (p : Program) (s : State) (fetch : Bool) (r : Reg) (old : ℕ) → old < 2 ^ 64
-    → IsState p s → IsState p (fetched_into fetch r old s)
+fetched_into_keeps : (p : Program) (s : State) (fetched : Bool) (r : Reg) (old : ℕ) → old < 2 ^ 64
+    → IsState p s → IsState p (fetched_into fetched r old s)
 fetched_into_keeps p s true r old h k = IsState-set_reg p s r (Num old) h k
 fetched_into_keeps p s false r old h k = k
 
 pub swaps_in_keeps : (p : Program) (s : State) (w : Width) (place : Place) (new : ℕ → ℕ)
-    (fetch : Bool) (r : Reg) → IsState p s
-    → IfOk (swaps_in s w place new (fetched_into fetch r)) (IsState p)
-swaps_in_keeps p s w place new fetch r k =
+    (fetched : Bool) (r : Reg) → IsState p s
+    → IfOk (swaps_in s w place new (fetched_into fetched r)) (IsState p)
+swaps_in_keeps p s w place new fetched r k =
     let size = width_size w in
     let base = base_of s place in
     IfOk-and_then (λ n. n < 2 ^ 64) (IsState p) (load_number s size base place.offset)
     (λ old. and_then (store_number s size base place.offset (new old))
-    (λ t. Ok (fetched_into fetch r old t)))
+    (λ t. Ok (fetched_into fetched r old t)))
     (load_number_fits p s size base place.offset k)
     (λ old h. IfOk-and_then (IsState p) (IsState p)
-    (store_number s size base place.offset (new old)) (λ t. Ok (fetched_into fetch r old t))
+    (store_number s size base place.offset (new old)) (λ t. Ok (fetched_into fetched r old t))
     (store_number_keeps p s size base place.offset (new old) k)
-    (λ t j. fetched_into_keeps p t fetch r old h j))
+    (λ t j. fetched_into_keeps p t fetched r old h j))

@@ -51,10 +51,10 @@ new_call_frame_fits p next serial slot saved returns four fit = record {
 call_frame_serials_given : (p : Program) (s : State) → IsState p s
     → All (λ n. n < s.next_serial) (map serial_of s.frames)
 call_frame_serials_given p s k =
-    let values = flat_map value_serials s.maps in
+    let in_maps = flat_map value_serials s.maps in
     let all = k.given in
-    subst (All (λ n. n < s.next_serial)) (drop-append_seam values (map serial_of s.frames))
-    (All-drop (λ n. n < s.next_serial) (length values) (live_serials s) all)
+    subst (All (λ n. n < s.next_serial)) (drop-append_seam in_maps (map serial_of s.frames))
+    (All-drop (λ n. n < s.next_serial) (length in_maps) (live_serials s) all)
 
 -- a live call frame's serial was given
 pub call_frame_serial_given : (p : Program) (s : State) (j : ℕ) → IsState p s → j < length s.frames
@@ -101,13 +101,13 @@ IsState-enter p s target go back room k =
     All-weaker (IsCallFrame p next) (IsCallFrame p more)
     (λ f h. IsCallFrame-more p next more f (omega arith) h) s.frames k.frames in
     let long = length-append s.frames (f ∷ []) in
-    let values = flat_map value_serials s.maps in
-    let serials : values ++ map serial_of (s.frames ++ f ∷ []) ≡ live_serials s ++ next ∷ [] =
-    ap (λ l. values ++ l)
+    let in_maps = flat_map value_serials s.maps in
+    let serials : in_maps ++ map serial_of (s.frames ++ f ∷ []) ≡ live_serials s ++ next ∷ [] =
+    ap (λ l. in_maps ++ l)
     (map-append serial_of s.frames (f ∷ [])
     ∙ ap (λ n. map serial_of s.frames ++ n ∷ [])
     (new_call_frame-serial next (s.slot + 1) (saved_registers s.regs)))
-    ∙ sym (append_assoc values (map serial_of s.frames) (next ∷ [])) in
+    ∙ sym (append_assoc in_maps (map serial_of s.frames) (next ∷ [])) in
     let pushed = serials_push (live_serials s) next k.given k.once in
     let r10 : V (frame_pointer next) = (omega arith, omega arith) in
     record {
@@ -141,7 +141,7 @@ AllPairs-take R n xs le h i j d before within =
 
 pub IsState-leave : (p : Program) (s : State) → length s.frames ≢ 1 → IsState p s
     → IsState p (leave s)
-IsState-leave p s more k =
+IsState-leave p s inner k =
     let count : ℕ = length p.maps in
     let next : ℕ = s.next_serial in
     let V : Value → Type 0 = IsValue count next in
@@ -151,28 +151,28 @@ IsState-leave p s more k =
     let long : length (callers s.frames) ≡ n = length-take-le n s.frames (omega arith) in
     let last : IsCallFrame p next (innermost s.frames) =
     All-get_or (IsCallFrame p next) s.frames n (new_call_frame 0 0 []) (omega arith) k.frames in
-    let saved : (j : ℕ) → IsValue count next (value_at (innermost s.frames).saved j) =
+    let kept : (j : ℕ) → IsValue count next (value_at (innermost s.frames).saved j) =
     (λ j. value_at_fits count next (innermost s.frames).saved j last.saved) in
     let caller : innermost (callers s.frames) ≡ call_frame_at s.frames (n - 1) =
     ap (λ m. call_frame_at (callers s.frames) (m - 1)) long
     ∙ get_or-take n s.frames (n - 1) (new_call_frame 0 0 []) (omega arith) in
-    let serial : (innermost (callers s.frames)).serial < next =
+    let below : (innermost (callers s.frames)).serial < next =
     rw caller (call_frame_serial_given p s (n - 1) k (omega arith)) in
-    let values = flat_map value_serials s.maps in
-    let all = length-append values (map serial_of s.frames) in
+    let in_maps = flat_map value_serials s.maps in
+    let together = length-append in_maps (map serial_of s.frames) in
     let framed = length-map s.frames serial_of in
-    let serials : values ++ map serial_of (callers s.frames)
-    ≡ take (length values + n) (live_serials s) =
-    ap (λ l. values ++ l) (sym (take-map serial_of n s.frames))
-    ∙ sym (take-append-add values (map serial_of s.frames) n) in
+    let serials : in_maps ++ map serial_of (callers s.frames)
+    ≡ take (length in_maps + n) (live_serials s) =
+    ap (λ l. in_maps ++ l) (sym (take-map serial_of n s.frames))
+    ∙ sym (take-append-add in_maps (map serial_of s.frames) n) in
     let r0 = value_at_fits count next s.regs 0 k.values in
-    let r10 : V (frame_pointer (innermost (callers s.frames)).serial) = (serial, omega arith) in
+    let r10 : V (frame_pointer (innermost (callers s.frames)).serial) = (below, omega arith) in
     record {
       slot = let back = last.returns in omega arith;
       registers = refl;
       values = All-from_recursion V
           (regs_after (reg s R0) (innermost s.frames).saved (innermost (callers s.frames)).serial)
-          (r0, (tt, (tt, (tt, (tt, (tt, (saved 0, (saved 1, (saved 2, (saved 3, (r10, tt)))))))))));
+          (r0, (tt, (tt, (tt, (tt, (tt, (kept 0, (kept 1, (kept 2, (kept 3, (r10, tt)))))))))));
       called = omega arith;
       depth = omega arith;
       frames = All-take (IsCallFrame p next) n s.frames k.frames;
@@ -181,7 +181,7 @@ IsState-leave p s more k =
       interface = k.interface;
       queue = k.queue;
       maps = k.maps;
-      given = rw serials (All-take (λ n. n < next) (length values + n) (live_serials s) k.given);
+      given = rw serials (All-take (λ n. n < next) (length in_maps + n) (live_serials s) k.given);
       once = rw serials
-          (AllPairs-take (λ m n. m ≢ n) (length values + n) (live_serials s) (omega arith) k.once);
+          (AllPairs-take (λ m n. m ≢ n) (length in_maps + n) (live_serials s) (omega arith) k.once);
     }

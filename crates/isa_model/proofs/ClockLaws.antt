@@ -44,227 +44,227 @@ use Rattle.isa_model.proofs.StepLaws.{IfNext, with_number}
 -- ---- how often a step asks
 
 -- in both states the clock has been asked equally often
-abbrev pub SameCalls : State → State → Type 0
-SameCalls s t = t.clock_calls ≡ s.clock_calls
+abbrev pub AskedAlike : State → State → Type 0
+AskedAlike s t = t.clock_calls ≡ s.clock_calls
 
-put_calls : (s : State) (r : Region) (i : ℕ) (new : List Cell) → SameCalls s (put s r i new)
-put_calls s (region.CallFrame n) i new = refl
-put_calls s region.Packet i new = refl
-put_calls s (region.MapValue m n) i new = refl
-put_calls s region.Context i new = refl
-put_calls s region.PacketEnd i new = refl
-put_calls s (region.Map m) i new = refl
+put_asks : (s : State) (r : Region) (i : ℕ) (new : List Cell) → AskedAlike s (put s r i new)
+put_asks s (region.CallFrame n) i new = refl
+put_asks s region.Packet i new = refl
+put_asks s (region.MapValue m n) i new = refl
+put_asks s region.Context i new = refl
+put_asks s region.PacketEnd i new = refl
+put_asks s (region.Map m) i new = refl
 
-write_calls : (s : State) (r : Region) (o : Option ℕ) (new : List Cell)
-    → IfOk (write s r o new) (SameCalls s)
-write_calls s r o new = found (place_of s r o (length new))
+write_asks : (s : State) (r : Region) (o : Option ℕ) (new : List Cell)
+    → IfOk (write s r o new) (AskedAlike s)
+write_asks s r o new = found (place_of s r o (length new))
   where
-    found : (place : Result ℕ TrapReason)
-        → IfOk (and_then place (λ i. Ok (put s r i new))) (SameCalls s)
-    found (Ok i) = put_calls s r i new
+    found : (index : Result ℕ TrapReason)
+        → IfOk (and_then index (λ i. Ok (put s r i new))) (AskedAlike s)
+    found (Ok i) = put_asks s r i new
     found (Err e) = tt
 
-store_number_calls : (s : State) (size : Size) (v : Value) (by : ℤ) (n : ℕ)
-    → IfOk (store_number s size v by n) (SameCalls s)
-store_number_calls s size (Ptr r z) by n =
-    write_calls s r (index_at r (z +ℤ by)) (map Byte (bytes_of size n))
-store_number_calls s size (Num m) by n = tt
-store_number_calls s size Unset by n = tt
+store_number_asks : (s : State) (size : Size) (v : Value) (by : ℤ) (n : ℕ)
+    → IfOk (store_number s size v by n) (AskedAlike s)
+store_number_asks s size (Ptr r z) by n =
+    write_asks s r (index_at r (z +ℤ by)) (map Byte (bytes_of size n))
+store_number_asks s size (Num m) by n = tt
+store_number_asks s size Unset by n = tt
 
-store_pointer_calls : (s : State) (size : Size) (v : Value) (by : ℤ) (q : Region) (y : ℤ)
-    → IfOk (store_pointer s size v by q y) (SameCalls s)
-store_pointer_calls s U64 (Ptr (region.CallFrame n) z) by q y =
-    write_calls s (region.CallFrame n) (index_at (region.CallFrame n) (z +ℤ by)) (pieces q y)
-store_pointer_calls s U64 (Ptr region.Context z) by q y = tt
-store_pointer_calls s U64 (Ptr region.Packet z) by q y = tt
-store_pointer_calls s U64 (Ptr region.PacketEnd z) by q y = tt
-store_pointer_calls s U64 (Ptr (region.Map m) z) by q y = tt
-store_pointer_calls s U64 (Ptr (region.MapValue m n) z) by q y = tt
-store_pointer_calls s U64 (Num n) by q y = tt
-store_pointer_calls s U64 Unset by q y = tt
-store_pointer_calls s U8 v by q y = tt
-store_pointer_calls s U16 v by q y = tt
-store_pointer_calls s U32 v by q y = tt
+store_pointer_asks : (s : State) (size : Size) (v : Value) (by : ℤ) (q : Region) (y : ℤ)
+    → IfOk (store_pointer s size v by q y) (AskedAlike s)
+store_pointer_asks s U64 (Ptr (region.CallFrame n) z) by q y =
+    write_asks s (region.CallFrame n) (index_at (region.CallFrame n) (z +ℤ by)) (pieces q y)
+store_pointer_asks s U64 (Ptr region.Context z) by q y = tt
+store_pointer_asks s U64 (Ptr region.Packet z) by q y = tt
+store_pointer_asks s U64 (Ptr region.PacketEnd z) by q y = tt
+store_pointer_asks s U64 (Ptr (region.Map m) z) by q y = tt
+store_pointer_asks s U64 (Ptr (region.MapValue m n) z) by q y = tt
+store_pointer_asks s U64 (Num n) by q y = tt
+store_pointer_asks s U64 Unset by q y = tt
+store_pointer_asks s U8 v by q y = tt
+store_pointer_asks s U16 v by q y = tt
+store_pointer_asks s U32 v by q y = tt
 
-store_calls : (s : State) (size : Size) (base : Value) (by : ℤ) (v : Value)
-    → IfOk (store s size base by v) (SameCalls s)
-store_calls s size base by (Num n) = store_number_calls s size base by n
-store_calls s size base by (Ptr q y) = store_pointer_calls s size base by q y
-store_calls s size base by Unset = tt
+store_asks : (s : State) (size : Size) (base : Value) (by : ℤ) (v : Value)
+    → IfOk (store s size base by v) (AskedAlike s)
+store_asks s size base by (Num n) = store_number_asks s size base by n
+store_asks s size base by (Ptr q y) = store_pointer_asks s size base by q y
+store_asks s size base by Unset = tt
 
-fetched_into_calls : (fetch : Bool) (r : Reg) (old : ℕ) (s : State)
-    → SameCalls s (fetched_into fetch r old s)
-fetched_into_calls true r old s = refl
-fetched_into_calls false r old s = refl
+fetched_into_asks : (fetched : Bool) (r : Reg) (old : ℕ) (s : State)
+    → AskedAlike s (fetched_into fetched r old s)
+fetched_into_asks true r old s = refl
+fetched_into_asks false r old s = refl
 
-swaps_in_calls : (s : State) (w : Width) (place : Place) (new : ℕ → ℕ) (fetch : Bool) (r : Reg)
-    → IfOk (swaps_in s w place new (fetched_into fetch r)) (SameCalls s)
-swaps_in_calls s w place new fetch r =
+swaps_in_asks : (s : State) (w : Width) (place : Place) (new : ℕ → ℕ) (fetched : Bool) (r : Reg)
+    → IfOk (swaps_in s w place new (fetched_into fetched r)) (AskedAlike s)
+swaps_in_asks s w place new fetched r =
     found (load_number s (width_size w) (base_of s place) place.offset)
   where
-    found : (old : Result ℕ TrapReason)
-        → IfOk (and_then old
+    found : (loaded : Result ℕ TrapReason)
+        → IfOk (and_then loaded
         (λ n. and_then (store_number s (width_size w) (base_of s place) place.offset (new n))
-        (λ t. Ok (fetched_into fetch r n t)))) (SameCalls s)
+        (λ t. Ok (fetched_into fetched r n t)))) (AskedAlike s)
     found (Ok n) =
-        IfOk-and_then (SameCalls s) (SameCalls s)
+        IfOk-and_then (AskedAlike s) (AskedAlike s)
         (store_number s (width_size w) (base_of s place) place.offset (new n))
-        (λ t. Ok (fetched_into fetch r n t))
-        (store_number_calls s (width_size w) (base_of s place) place.offset (new n))
-        (λ t h. fetched_into_calls fetch r n t ∙ h)
+        (λ t. Ok (fetched_into fetched r n t))
+        (store_number_asks s (width_size w) (base_of s place) place.offset (new n))
+        (λ t h. fetched_into_asks fetched r n t ∙ h)
     found (Err e) = tt
 
 -- in the second state the clock has been asked at most once more
-abbrev pub OneCall : State → State → Type 0
-OneCall s t = t.clock_calls ≤ s.clock_calls + 1
+abbrev pub AsksOnce : State → State → Type 0
+AsksOnce s t = t.clock_calls ≤ s.clock_calls + 1
 
-goes_on_calls : (s : State) (i : Insn) (r : Result State TrapReason) → IfOk r (SameCalls s)
-    → IfNext (goes_on s i r) (OneCall s)
-goes_on_calls s i (Ok t) h = omega arith
-goes_on_calls s i (Err e) h = tt
+goes_on_asks : (s : State) (i : Insn) (r : Result State TrapReason) → IfOk r (AskedAlike s)
+    → IfNext (goes_on s i r) (AsksOnce s)
+goes_on_asks s i (Ok t) h = omega arith
+goes_on_asks s i (Err e) h = tt
 
-goes_on_one_call : (s : State) (i : Insn) (r : Result State TrapReason) → IfOk r (OneCall s)
-    → IfNext (goes_on s i r) (OneCall s)
-goes_on_one_call s i (Ok t) h = h
-goes_on_one_call s i (Err e) h = tt
+goes_on_asks_once : (s : State) (i : Insn) (r : Result State TrapReason) → IfOk r (AsksOnce s)
+    → IfNext (goes_on s i r) (AsksOnce s)
+goes_on_asks_once s i (Ok t) h = h
+goes_on_asks_once s i (Err e) h = tt
 
-branches_calls : (p : Program) (s : State) (by : ℤ) (r : Result Bool TrapReason)
-    → IfNext (branches s p by r) (OneCall s)
-branches_calls p s by (Ok true) = omega arith
-branches_calls p s by (Ok false) = omega arith
-branches_calls p s by (Err e) = tt
+branches_asks : (p : Program) (s : State) (by : ℤ) (r : Result Bool TrapReason)
+    → IfNext (branches s p by r) (AsksOnce s)
+branches_asks p s by (Ok true) = omega arith
+branches_asks p s by (Ok false) = omega arith
+branches_asks p s by (Err e) = tt
 
-sets_calls : (s : State) (i : Insn) (d : Reg) (r : Result Value TrapReason)
-    → IfNext (sets s i d r) (OneCall s)
-sets_calls s i d (Ok v) = omega arith
-sets_calls s i d (Err e) = tt
+sets_asks : (s : State) (i : Insn) (d : Reg) (r : Result Value TrapReason)
+    → IfNext (sets s i d r) (AsksOnce s)
+sets_asks s i d (Ok v) = omega arith
+sets_asks s i d (Err e) = tt
 
 -- an update does not ask the clock, nor does a delete
-updated_calls : (row : MapDef) (s : State) (m : ℕ) (key bytes : List ℕ) (flags : ℕ)
-    → SameCalls s (map_update_elem row s m key bytes flags).state
-updated_calls row s m key bytes flags = by (update_answer row (content_of s m) key flags == 0)
+updated_asks : (row : MapDef) (s : State) (m : ℕ) (key bytes : List ℕ) (flags : ℕ)
+    → AskedAlike s (map_update_elem row s m key bytes flags).state
+updated_asks row s m key bytes flags = either (update_answer row (content_of s m) key flags == 0)
   where
-    by : (b : Bool) → SameCalls s (if b then put_bytes s m key bytes else s)
-    by true = refl
-    by false = refl
+    either : (b : Bool) → AskedAlike s (if b then put_bytes s m key bytes else s)
+    either true = refl
+    either false = refl
 
-deleted_calls : (row : MapDef) (s : State) (m : ℕ) (key : List ℕ)
-    → SameCalls s (map_delete_elem row s m key).state
-deleted_calls row s m key = by (delete_answer row (content_of s m) key == 0)
+deleted_asks : (row : MapDef) (s : State) (m : ℕ) (key : List ℕ)
+    → AskedAlike s (map_delete_elem row s m key).state
+deleted_asks row s m key = either (delete_answer row (content_of s m) key == 0)
   where
-    by : (b : Bool) → SameCalls s (if b then remove_key s m key else s)
-    by true = refl
-    by false = refl
+    either : (b : Bool) → AskedAlike s (if b then remove_key s m key else s)
+    either true = refl
+    either false = refl
 
 -- in the state that the helper leaves the clock has been asked as often as before
 abbrev LeavesSame : State → Helped → Type 0
-LeavesSame s helped = SameCalls s helped.state
+LeavesSame s helped = AskedAlike s helped.state
 
-lookup_call_calls : (p : Program) (s : State) → IfOk (lookup_call p s) (LeavesSame s)
-lookup_call_calls p s =
+lookup_call_asks : (p : Program) (s : State) → IfOk (lookup_call p s) (LeavesSame s)
+lookup_call_asks p s =
     IfOk-then (LeavesSame s) (map_argument p (reg s R1)) _ (λ m.
-    IfOk-then (LeavesSame s) (bytes_argument (reg s R2)) _ (λ key_at.
-    IfOk-then (LeavesSame s) (bytes_at s key_at m.row.key_size) _ (λ key. refl)))
+    IfOk-then (LeavesSame s) (bytes_argument (reg s R2)) _ (λ key_argument.
+    IfOk-then (LeavesSame s) (bytes_at s key_argument m.row.key_size) _ (λ key. refl)))
 
-update_call_calls : (p : Program) (s : State) → IfOk (update_call p s) (LeavesSame s)
-update_call_calls p s =
+update_call_asks : (p : Program) (s : State) → IfOk (update_call p s) (LeavesSame s)
+update_call_asks p s =
     IfOk-then (LeavesSame s) (map_argument p (reg s R1)) _ (λ m.
-    IfOk-then (LeavesSame s) (bytes_argument (reg s R2)) _ (λ key_at.
-    IfOk-then (LeavesSame s) (bytes_argument (reg s R3)) _ (λ value_at.
+    IfOk-then (LeavesSame s) (bytes_argument (reg s R2)) _ (λ key_argument.
+    IfOk-then (LeavesSame s) (bytes_argument (reg s R3)) _ (λ value_argument.
     IfOk-then (LeavesSame s) (number_argument (reg s R4)) _ (λ flags.
-    IfOk-then (LeavesSame s) (bytes_at s key_at m.row.key_size) _ (λ key.
-    IfOk-then (LeavesSame s) (bytes_at s value_at m.row.value_size) _ (λ bytes.
-    updated_calls m.row s m.index key bytes flags))))))
+    IfOk-then (LeavesSame s) (bytes_at s key_argument m.row.key_size) _ (λ key.
+    IfOk-then (LeavesSame s) (bytes_at s value_argument m.row.value_size) _ (λ bytes.
+    updated_asks m.row s m.index key bytes flags))))))
 
-delete_call_calls : (p : Program) (s : State) → IfOk (delete_call p s) (LeavesSame s)
-delete_call_calls p s =
+delete_call_asks : (p : Program) (s : State) → IfOk (delete_call p s) (LeavesSame s)
+delete_call_asks p s =
     IfOk-then (LeavesSame s) (map_argument p (reg s R1)) _ (λ m.
-    IfOk-then (LeavesSame s) (bytes_argument (reg s R2)) _ (λ key_at.
-    IfOk-then (LeavesSame s) (bytes_at s key_at m.row.key_size) _ (λ key.
-    deleted_calls m.row s m.index key)))
+    IfOk-then (LeavesSame s) (bytes_argument (reg s R2)) _ (λ key_argument.
+    IfOk-then (LeavesSame s) (bytes_at s key_argument m.row.key_size) _ (λ key.
+    deleted_asks m.row s m.index key)))
 
-after_call_calls : (s : State) (called : Result Helped TrapReason) → IfOk called (LeavesSame s)
-    → IfOk (after_call called) (OneCall s)
-after_call_calls s (Ok helped) h = omega arith
-after_call_calls s (Err e) h = tt
+after_call_asks : (s : State) (called : Result Helped TrapReason) → IfOk called (LeavesSame s)
+    → IfOk (after_call called) (AsksOnce s)
+after_call_asks s (Ok helped) h = omega arith
+after_call_asks s (Err e) h = tt
 
-helper_call_calls : (p : Program) (clock : ℕ → ℕ) (s : State) (o : Option Helper)
-    → IfOk (after_call (helper_call p clock s o)) (OneCall s)
-helper_call_calls p clock s (Some MapLookupElem) =
-    after_call_calls s (lookup_call p s) (lookup_call_calls p s)
-helper_call_calls p clock s (Some MapUpdateElem) =
-    after_call_calls s (update_call p s) (update_call_calls p s)
-helper_call_calls p clock s (Some MapDeleteElem) =
-    after_call_calls s (delete_call p s) (delete_call_calls p s)
-helper_call_calls p clock s (Some KtimeGetNs) = omega arith
-helper_call_calls p clock s None = tt
+helper_call_asks : (p : Program) (clock : ℕ → ℕ) (s : State) (o : Option Helper)
+    → IfOk (after_call (helper_call p clock s o)) (AsksOnce s)
+helper_call_asks p clock s (Some MapLookupElem) =
+    after_call_asks s (lookup_call p s) (lookup_call_asks p s)
+helper_call_asks p clock s (Some MapUpdateElem) =
+    after_call_asks s (update_call p s) (update_call_asks p s)
+helper_call_asks p clock s (Some MapDeleteElem) =
+    after_call_asks s (delete_call p s) (delete_call_asks p s)
+helper_call_asks p clock s (Some KtimeGetNs) = omega arith
+helper_call_asks p clock s None = tt
 
 if_next : (P : State → Type 0) (b : Bool) (q r : StepResult) → IfNext q P → IfNext r P
     → IfNext (if b then q else r) P
 if_next P true q r h k = h
 if_next P false q r h k = k
 
-finishes_calls : (s : State) (version : Version) (v : Value)
-    → IfNext (finishes version v) (OneCall s)
-finishes_calls s version (Num n) =
-    if_next (OneCall s) (is_answer version n) (Finished n) (Trapped BadAction) tt tt
-finishes_calls s version (Ptr r z) = tt
-finishes_calls s version Unset = tt
+finishes_asks : (s : State) (version : Version) (v : Value)
+    → IfNext (finishes version v) (AsksOnce s)
+finishes_asks s version (Num n) =
+    if_next (AsksOnce s) (is_answer version n) (Finished n) (Trapped BadAction) tt tt
+finishes_asks s version (Ptr r z) = tt
+finishes_asks s version Unset = tt
 
-act_calls : (p : Program) (clock : ℕ → ℕ) (s : State) (i : Insn)
-    → IfNext (act p clock s i) (OneCall s)
+act_asks : (p : Program) (clock : ℕ → ℕ) (s : State) (i : Insn)
+    → IfNext (act p clock s i) (AsksOnce s)
 unfolding act
-act_calls p clock s (Alu w op d x) = sets_calls s (Alu w op d x) d _
-act_calls p clock s (Neg w d) = sets_calls s (Neg w d) d _
-act_calls p clock s (MovSx e d r) = sets_calls s (MovSx e d r) d _
-act_calls p clock s (ByteSwap order span d) = sets_calls s (ByteSwap order span d) d _
-act_calls p clock s (LoadNumber d n) = sets_calls s (LoadNumber d n) d (Ok (Num n))
-act_calls p clock s (LoadMap d m) = sets_calls s (LoadMap d m) d (Ok (map_pointer m))
-act_calls p clock s (LoadMapValue d m offset) = sets_calls s (LoadMapValue d m offset) d
+act_asks p clock s (Alu w op d x) = sets_asks s (Alu w op d x) d _
+act_asks p clock s (Neg w d) = sets_asks s (Neg w d) d _
+act_asks p clock s (MovSx e d r) = sets_asks s (MovSx e d r) d _
+act_asks p clock s (ByteSwap order span d) = sets_asks s (ByteSwap order span d) d _
+act_asks p clock s (LoadNumber d n) = sets_asks s (LoadNumber d n) d (Ok (Num n))
+act_asks p clock s (LoadMap d m) = sets_asks s (LoadMap d m) d (Ok (map_pointer m))
+act_asks p clock s (LoadMapValue d m offset) = sets_asks s (LoadMapValue d m offset) d
     (Ok (value_pointer s m offset))
-act_calls p clock s (Load size d place) = sets_calls s (Load size d place) d _
-act_calls p clock s (LoadSx size d place) = sets_calls s (LoadSx size d place) d _
-act_calls p clock s (StoreConstant size place n) =
-    goes_on_calls s (StoreConstant size place n) _
-    (store_calls s size (base_of s place) place.offset (Num (unsigned Full64 n)))
-act_calls p clock s (Store size place r) = goes_on_calls s (Store size place r) _
-    (store_calls s size (base_of s place) place.offset (reg s r))
-act_calls p clock s (Atomic w op fetch place r) =
-    goes_on_calls s (Atomic w op fetch place r) _
-    (with_number (SameCalls s) (reg s r) _
-    (λ b. swaps_in_calls s w place (λ a. alu (atomic_alu op) w a b) fetch r))
-act_calls p clock s (Exchange w place r) =
-    goes_on_calls s (Exchange w place r) _
-    (with_number (SameCalls s) (reg s r) _ (λ b. swaps_in_calls s w place (λ a. b) true r))
-act_calls p clock s (CompareExchange w place r) =
-    goes_on_calls s (CompareExchange w place r) _
-    (with_number (SameCalls s) (reg s r) _ (λ b. with_number (SameCalls s) (reg s R0) _
-    (λ expected. swaps_in_calls s w place (λ a. if a == low w expected then b else a) true R0)))
-act_calls p clock s (Jump by) = omega arith
-act_calls p clock s (JumpLong by) = omega arith
-act_calls p clock s (JumpIf cond by) = branches_calls p s by (test_of s cond)
-act_calls p clock s (CallHelper number) =
-    goes_on_one_call s (CallHelper number) _ (helper_call_calls p clock s (helper_numbered number))
-act_calls p clock s (CallLocal by) =
-    if_next (OneCall s) (length s.frames == max_call_frames) (Trapped TooManyCallFrames)
+act_asks p clock s (Load size d place) = sets_asks s (Load size d place) d _
+act_asks p clock s (LoadSx size d place) = sets_asks s (LoadSx size d place) d _
+act_asks p clock s (StoreConstant size place n) =
+    goes_on_asks s (StoreConstant size place n) _
+    (store_asks s size (base_of s place) place.offset (Num (unsigned Full64 n)))
+act_asks p clock s (Store size place r) = goes_on_asks s (Store size place r) _
+    (store_asks s size (base_of s place) place.offset (reg s r))
+act_asks p clock s (Atomic w op fetched place r) =
+    goes_on_asks s (Atomic w op fetched place r) _
+    (with_number (AskedAlike s) (reg s r) _
+    (λ b. swaps_in_asks s w place (λ a. alu (atomic_alu op) w a b) fetched r))
+act_asks p clock s (Exchange w place r) =
+    goes_on_asks s (Exchange w place r) _
+    (with_number (AskedAlike s) (reg s r) _ (λ b. swaps_in_asks s w place (λ a. b) true r))
+act_asks p clock s (CompareExchange w place r) =
+    goes_on_asks s (CompareExchange w place r) _
+    (with_number (AskedAlike s) (reg s r) _ (λ b. with_number (AskedAlike s) (reg s R0) _
+    (λ expected. swaps_in_asks s w place (λ a. if a == low w expected then b else a) true R0)))
+act_asks p clock s (Jump by) = omega arith
+act_asks p clock s (JumpLong by) = omega arith
+act_asks p clock s (JumpIf cond by) = branches_asks p s by (test_of s cond)
+act_asks p clock s (CallHelper number) =
+    goes_on_asks_once s (CallHelper number) _ (helper_call_asks p clock s (helper_numbered number))
+act_asks p clock s (CallLocal by) =
+    if_next (AsksOnce s) (length s.frames == max_call_frames) (Trapped TooManyCallFrames)
     (Next (enter s (destination p s.slot by))) tt (omega arith)
-act_calls p clock s Exit =
-    if_next (OneCall s) (length s.frames == 1) (finishes p.version (reg s R0)) (Next (leave s))
-    (finishes_calls s p.version (reg s R0)) (omega arith)
+act_asks p clock s Exit =
+    if_next (AsksOnce s) (length s.frames == 1) (finishes p.version (reg s R0)) (Next (leave s))
+    (finishes_asks s p.version (reg s R0)) (omega arith)
 
-performed_at_calls : (p : Program) (clock : ℕ → ℕ) (s : State) (o : Option Insn)
-    → IfNext (performed_at p clock s o) (OneCall s)
-performed_at_calls p clock s None = tt
-performed_at_calls p clock s (Some i) =
-    if_next (OneCall s) (list_any (λ r. is_unset (reg s r)) (reads i)) (Trapped UnsetRead) _ tt
-    (if_next (OneCall s) (is_frame_pointer (writes i)) (Trapped ReadOnly) (act p clock s i) tt
-    (act_calls p clock s i))
+performed_at_asks : (p : Program) (clock : ℕ → ℕ) (s : State) (o : Option Insn)
+    → IfNext (performed_at p clock s o) (AsksOnce s)
+performed_at_asks p clock s None = tt
+performed_at_asks p clock s (Some i) =
+    if_next (AsksOnce s) (list_any (λ r. is_unset (reg s r)) (reads i)) (Trapped UnsetRead) _ tt
+    (if_next (AsksOnce s) (is_frame_pointer (writes i)) (Trapped ReadOnly) (act p clock s i) tt
+    (act_asks p clock s i))
 
 -- a step asks the clock at most once
 pub step-clock_calls : (p : Program) (clock : ℕ → ℕ) (s : State)
-    → IfNext (step p clock s) (OneCall s)
+    → IfNext (step p clock s) (AsksOnce s)
 unfolding step
-step-clock_calls p clock s = performed_at_calls p clock s (fetch p s.slot)
+step-clock_calls p clock s = performed_at_asks p clock s (fetch p s.slot)
 
 -- ---- which answer counts
 
@@ -298,7 +298,7 @@ act-clock p clock other s (Load size d place) h = refl
 act-clock p clock other s (LoadSx size d place) h = refl
 act-clock p clock other s (StoreConstant size place n) h = refl
 act-clock p clock other s (Store size place r) h = refl
-act-clock p clock other s (Atomic w op fetch place r) h = refl
+act-clock p clock other s (Atomic w op fetched place r) h = refl
 act-clock p clock other s (Exchange w place r) h = refl
 act-clock p clock other s (CompareExchange w place r) h = refl
 act-clock p clock other s (Jump by) h = refl
@@ -328,29 +328,29 @@ step-clock p clock other s h = performed_at-clock p clock other s (fetch p s.slo
 -- ---- runs
 
 -- a run of n steps asked the clock at most n times
-abbrev pub CallsBelow : ℕ → ℕ → Progress → Type 0
-CallsBelow c n (GoesOn t) = t.clock_calls ≤ c + n
-CallsBelow c n (Ended e t) = Unit {0}
+abbrev pub AskedBelow : ℕ → ℕ → Progress → Type 0
+AskedBelow c n (GoesOn t) = t.clock_calls ≤ c + n
+AskedBelow c n (Ended e t) = Unit {0}
 
-advanced_calls : (p : Program) (clock : ℕ → ℕ) (c n : ℕ) (q : Progress) → CallsBelow c n q
-    → CallsBelow c (suc n) (advanced p clock n q)
-advanced_calls p clock c n (Ended e t) h = tt
-advanced_calls p clock c n (GoesOn t) h = stepped (step p clock t) (step-clock_calls p clock t)
+advanced_asks : (p : Program) (clock : ℕ → ℕ) (c n : ℕ) (q : Progress) → AskedBelow c n q
+    → AskedBelow c (suc n) (advanced p clock n q)
+advanced_asks p clock c n (Ended e t) h = tt
+advanced_asks p clock c n (GoesOn t) h = stepped (step p clock t) (step-clock_calls p clock t)
   where
-    stepped : (r : StepResult) → IfNext r (OneCall t) → CallsBelow c (suc n) (after_step n t r)
+    stepped : (r : StepResult) → IfNext r (AsksOnce t) → AskedBelow c (suc n) (after_step n t r)
     stepped (Next u) k = omega arith
     stepped (Finished a) k = tt
     stepped (Trapped e) k = tt
 
 pub progress-clock_calls : (p : Program) (clock : ℕ → ℕ) (n : ℕ) (s : State)
-    → CallsBelow s.clock_calls n (progress p clock n s)
+    → AskedBelow s.clock_calls n (progress p clock n s)
 unfolding progress
 progress-clock_calls p clock zero s = omega arith
 progress-clock_calls p clock (suc n) s =
-    advanced_calls p clock s.clock_calls n (progress p clock n s) (progress-clock_calls p clock n s)
+    advanced_asks p clock s.clock_calls n (progress p clock n s) (progress-clock_calls p clock n s)
 
 advanced-clock : (p : Program) (clock other : ℕ → ℕ) (c n m : ℕ) (q : Progress)
-    → ((k : ℕ) → k < m → clock k ≡ other k) → c + n < m → CallsBelow c n q
+    → ((k : ℕ) → k < m → clock k ≡ other k) → c + n < m → AskedBelow c n q
     → advanced p clock n q ≡ advanced p other n q
 advanced-clock p clock other c n m (Ended e t) same within h = refl
 advanced-clock p clock other c n m (GoesOn t) same within h =

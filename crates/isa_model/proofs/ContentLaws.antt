@@ -17,7 +17,7 @@ use Rattle.isa_model.specs.declared.map_defs.MapDef.{MapDef}
 use Rattle.isa_model.specs.Machine.States.{Stored, Content, KeyValues, key_values_of}
 use Rattle.isa_model.specs.Machine.MapContents.{key_order, is_key, at_key, has_key, with_key, without_key, enoent, e2big, eexist, einval, noexist, exist, hash_update, array_update, update_answer_by, delete_answer_by, update_answer, delete_answer}
 use Rattle.isa_model.specs.Machine.MachineStates.{IsKeyValue, keys_of, KeysFit, FitsRow, value_serials}
-use Rattle.isa_model.proofs.PutLaws.{All-with_key, IsStrictlySortedBy-is_sorted}
+use Rattle.isa_model.proofs.PutKeys.{All-with_key, IsStrictlySortedBy-is_sorted}
 use Rattle.isa_model.proofs.SerialLaws.{HasOneMore, HasOneMore-before}
 
 -- ---- keys in order
@@ -48,7 +48,7 @@ is_sorted-IsStrictlySortedBy (e ∷ es) h =
     both (below_all key_order e.0 es) (is_sorted key_order es) (below_all-keys e.0 es h.0)
     (is_sorted-IsStrictlySortedBy es h.1)
 
--- ---- values without their serials
+-- ---- map values without their serials
 
 abbrev key_value_of : List ℕ × Stored → List ℕ × List ℕ
 key_value_of e = (e.0, e.1.bytes)
@@ -92,7 +92,7 @@ has_key-key_values_of key (e ∷ es) =
 
 -- ---- a key put
 
--- a content that is no longer than before a value was put has the same keys
+-- a content that does not grow when a value is put has the same keys
 keys-with_key : {X : Type 0} (key : List ℕ) (x : X) (es : List (List ℕ × X))
     → length (with_key key x es) ≡ length es → keys_in (with_key key x es) ≡ keys_in es
 keys-with_key key x [] h = absurd (omega arith)
@@ -185,25 +185,25 @@ FitsRow-without_key row key es hash h =
 -- ---- answers that change a content
 
 -- an update changes a content that has room
-hash_open : (has full : Bool) (flags : ℕ) → (hash_update has full flags == 0) ≡ true
+hash_update_has_room : (has full : Bool) (flags : ℕ) → (hash_update has full flags == 0) ≡ true
     → (has ≡ true) ⊎ (full ≡ false)
-hash_open true full flags h = inl refl
-hash_open false false flags h = inr refl
-hash_open false true flags h = absurd (refused (nat_lt exist flags) (flags == exist) h)
+hash_update_has_room true full flags h = inl refl
+hash_update_has_room false false flags h = inr refl
+hash_update_has_room false true flags h = absurd (fails (nat_lt exist flags) (flags == exist) h)
   where
-    refused : (over exists : Bool)
+    fails : (over exists : Bool)
         → ((if over then einval else if exists then enoent else e2big) == 0) ≡ true → ⊥
-    refused true exists h = absurd cc
-    refused false true h = absurd cc
-    refused false false h = absurd cc
+    fails true exists h = absurd cc
+    fails false true h = absurd cc
+    fails false false h = absurd cc
 
-array_open : (has : Bool) (flags : ℕ) → (array_update has flags == 0) ≡ true → has ≡ true
-array_open true flags h = refl
-array_open false flags h = absurd (refused (nat_lt exist flags) h)
+array_update_has_key : (has : Bool) (flags : ℕ) → (array_update has flags == 0) ≡ true → has ≡ true
+array_update_has_key true flags h = refl
+array_update_has_key false flags h = absurd (fails (nat_lt exist flags) h)
   where
-    refused : (over : Bool) → ((if over then einval else e2big) == 0) ≡ true → ⊥
-    refused true h = absurd cc
-    refused false h = absurd cc
+    fails : (over : Bool) → ((if over then einval else e2big) == 0) ≡ true → ⊥
+    fails true h = absurd cc
+    fails false h = absurd cc
 
 pub update_has_room : (row : MapDef) (key : List ℕ) (flags : ℕ) (content : Content)
     → (update_answer row content key flags == 0) ≡ true
@@ -215,9 +215,9 @@ update_has_room row key flags content h = by row.kind refl h
         (nat_le row.entries (length content)) flags == 0) ≡ true
         → HasRoomForKey row key (key_values_of content)
     by Array e h =
-        inl (has_key-key_values_of key content ∙ array_open (has_key key content) flags h)
+        inl (has_key-key_values_of key content ∙ array_update_has_key (has_key key content) flags h)
     by Hash e h = elim
-        (hash_open (has_key key content) (nat_le row.entries (length content)) flags h) [
+        (hash_update_has_room (has_key key content) (nat_le row.entries (length content)) flags h) [
           | inl there ↦ inl (has_key-key_values_of key content ∙ there)
           | inr less ↦
               let long = length-map content key_value_of in inr (e, grind (arith, nat_tests))
@@ -329,7 +329,7 @@ value_serials-with_key key new old content same e h =
           | Greater ↦ λ e h. ap (λ l. x.1.serial ∷ l) (stay content e (omega arith))
         ] e h
 
--- a new key's value has one serial more
+-- a content with a new key has one serial more
 pub HasOneMore-with_key : (key : List ℕ) (new : Stored) (content : Content)
     → at_key key content ≡ None
     → HasOneMore new.serial (value_serials content) (value_serials (with_key key new content))

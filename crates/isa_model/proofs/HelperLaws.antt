@@ -1,4 +1,4 @@
--- Laws of one map of a state, and of the results of wide loads of maps.
+-- Laws for helpers: of one map of a state. And of the results of wide loads of maps.
 use Rattle.std.specs.Prelude.{◌≡◌, ℕ, zero, suc, ◌<◌, List, [], ◌∷◌, ◌++◌, map, length, slice_get, slice_index_or, All, Option, Some, None, IsSomeAnd, refl}
 use Rattle.std.specs.List.{flat_map}
 use Rattle.std.proofs.Common.{sym, subst, arith}
@@ -37,11 +37,11 @@ All-flat_map P f (x ∷ xs) (suc i) d e h =
 pub value_serials_given : (p : Program) (s : State) (m : ℕ) → IsState p s
     → All (λ n. n < s.next_serial) (value_serials (content_of s m))
 value_serials_given p s m k =
-    let values = flat_map value_serials s.maps in
+    let in_maps = flat_map value_serials s.maps in
     let P : ℕ → Type 0 = λ n. n < s.next_serial in
     All-flat_map P value_serials s.maps m [] refl
-    (subst (All P) (take-append_seam values (map serial_of s.frames))
-    (All-take P (length values) (live_serials s) k.given))
+    (subst (All P) (take-append_seam in_maps (map serial_of s.frames))
+    (All-take P (length in_maps) (live_serials s) k.given))
 
 -- a map's content fits its row
 pub content_fits : (p : Program) (s : State) (m : ℕ) (row : MapDef) → slice_get p.maps m ≡ Some row

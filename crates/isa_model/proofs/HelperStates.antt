@@ -75,8 +75,8 @@ AreBytesOf n bytes = (length bytes ≡ n) × AreBytes bytes
 bytes_in_fits : (count next : ℕ) (cs : List Cell) → All (IsCell count next) cs
     → IfOk (bytes_in cs) (AreBytesOf (length cs))
 bytes_in_fits count next cs h =
-    IfOk-if (AreBytesOf (length cs)) (list_any is_unwritten cs) (Err UnsetRead) _ (λ unset. tt)
-    (λ set. IfOk-if (AreBytesOf (length cs)) (list_all is_byte cs) (Ok (map byte_in cs))
+    IfOk-if (AreBytesOf (length cs)) (list_any is_unwritten cs) (Err UnsetRead) _ (λ unwritten. tt)
+    (λ written. IfOk-if (AreBytesOf (length cs)) (list_all is_byte cs) (Ok (map byte_in cs))
     (Err BadAccess)
     (λ all. (length-map cs byte_in, bytes_in_fit count next cs h)) (λ some. tt))
 
@@ -120,7 +120,7 @@ FitRows-put (r ∷ rows) (c ∷ contents) zero row es e fits h =
 FitRows-put (r ∷ rows) (c ∷ contents) (suc m) row es e fits h =
     (h.0, FitRows-put rows contents m row es e fits h.1)
 
--- the serials of the live values and call frames, with another content of a map
+-- the serials of the live map values and call frames, with another content of a map
 abbrev serials_with : State → ℕ → Content → List ℕ
 serials_with s m content =
     flat_map value_serials (slice_set s.maps m content) ++ map serial_of s.frames
@@ -173,10 +173,10 @@ live_related R before after p s m row content e one k =
     (after old new part.after one) in
     let were : List ℕ = flat_map value_serials s.maps in
     let are : List ℕ = flat_map value_serials (slice_set s.maps m content) in
-    let values : R were are =
+    let in_maps : R were are =
     subst (λ l. R were l) (sym part.is)
     (subst (λ l. R l (part.before ++ (new ++ part.after))) (sym part.was) within) in
-    after were are (map serial_of s.frames) values
+    after were are (map serial_of s.frames) in_maps
 
 one_more_live : (p : Program) (s : State) (m : ℕ) (row : MapDef) (content : Content) (n : ℕ)
     → slice_get p.maps m ≡ Some row
@@ -213,29 +213,29 @@ put_bytes_keeps p s m row key bytes e pair room k = by (at_key key (content_of s
         ∙ ap (λ b. with_key key b (key_values_of (content_of s m))) same))
         (FitsRow-with_key row key bytes (key_values_of (content_of s m)) pair room fits)
 
-    stored : Option Stored → Stored
-    stored old = record { serial = serial_given s.next_serial old; bytes = bytes }
+    new_value : Option Stored → Stored
+    new_value old = record { serial = serial_given s.next_serial old; bytes = bytes }
 
     by : (old : Option Stored) → at_key key (content_of s m) ≡ old
         → IsState p (record s {
-          maps = slice_set s.maps m (with_key key (stored old) (content_of s m));
+          maps = slice_set s.maps m (with_key key (new_value old) (content_of s m));
           next_serial = serial_after s.next_serial old;
         })
     by (Some old) found =
-        let content : Content = with_key key (stored (Some old)) (content_of s m) in
-        let serials = value_serials-with_key key (stored (Some old)) old (content_of s m) refl found
-        (is_sorted-key_values_of row (content_of s m) fits) in
+        let content : Content = with_key key (new_value (Some old)) (content_of s m) in
+        let serials = value_serials-with_key key (new_value (Some old)) old (content_of s m) refl
+        found (is_sorted-key_values_of row (content_of s m) fits) in
         let live : serials_with s m content ≡ live_serials s = ap (λ l. l ++ map serial_of s.frames)
         (flat_map-set_same value_serials s.maps m content [] serials) in
         IsState-with_content p s m row content s.next_serial e (omega arith)
-        (changed (stored (Some old)) refl)
+        (changed (new_value (Some old)) refl)
         (subst (AreSerials s.next_serial) (sym live) (k.given, k.once)) k
     by None found =
-        let content : Content = with_key key (stored None) (content_of s m) in
+        let content : Content = with_key key (new_value None) (content_of s m) in
         let one = one_more_live p s m row content s.next_serial e
-        (HasOneMore-with_key key (stored None) (content_of s m) found) k in
+        (HasOneMore-with_key key (new_value None) (content_of s m) found) k in
         IsState-with_content p s m row content (suc s.next_serial) e (omega arith)
-        (changed (stored None) refl)
+        (changed (new_value None) refl)
         (AreSerials-more s.next_serial (live_serials s) (serials_with s m content) one
         (k.given, k.once)) k
 
@@ -290,7 +290,7 @@ update_keeps p s m key bytes flags e pair k =
     by true passed =
         put_bytes_keeps p s m.index m.row key bytes e pair
         (update_has_room m.row key flags (content_of s m.index) passed) k
-    by false refused = k
+    by false failed = k
 
 delete_keeps : (p : Program) (s : State) (m : MapArgument) (key : List ℕ) → IsArgument p m
     → IsState p s
@@ -305,12 +305,12 @@ delete_keeps p s m key e k =
         let content = content_of s m.index in
         remove_key_keeps p s m.index m.row key e (deletes_from_hash m.row key content passed)
         (deletes_present m.row key content passed) k
-    by false refused = k
+    by false failed = k
 
--- the clock was asked once more
-clock_asked : (p : Program) (s : State) (calls : ℕ) → IsState p s
-    → IsState p (record s { clock_calls = calls })
-clock_asked p s calls k = IsState-moved p s s.slot s.regs calls k.slot k.registers k.values k
+-- with any count of the times that the clock was asked
+clock_asked : (p : Program) (s : State) (asked : ℕ) → IsState p s
+    → IsState p (record s { clock_calls = asked })
+clock_asked p s asked k = IsState-moved p s s.slot s.regs asked k.slot k.registers k.values k
 
 -- ---- the calls
 
@@ -319,8 +319,8 @@ lookup_call_keeps p s k =
     let H : Helped → Type 0 = IsHelped p in
     IfOk-and_then (IsArgument p) H (map_argument p (reg s R1)) _ (map_argument_fits p (reg s R1))
     (λ m e.
-    IfOk-then H (bytes_argument (reg s R2)) _ (λ key_at.
-    IfOk-then H (bytes_at s key_at m.row.key_size) _ (λ key.
+    IfOk-then H (bytes_argument (reg s R2)) _ (λ key_argument.
+    IfOk-then H (bytes_at s key_argument m.row.key_size) _ (λ key.
     lookup_keeps p s m.index m.row key e k)))
 
 update_call_keeps : (p : Program) (s : State) → IsState p s → IfOk (update_call p s) (IsHelped p)
@@ -328,13 +328,13 @@ update_call_keeps p s k =
     let H : Helped → Type 0 = IsHelped p in
     IfOk-and_then (IsArgument p) H (map_argument p (reg s R1)) _ (map_argument_fits p (reg s R1))
     (λ m e.
-    IfOk-then H (bytes_argument (reg s R2)) _ (λ key_at.
-    IfOk-then H (bytes_argument (reg s R3)) _ (λ value_at.
+    IfOk-then H (bytes_argument (reg s R2)) _ (λ key_argument.
+    IfOk-then H (bytes_argument (reg s R3)) _ (λ value_argument.
     IfOk-then H (number_argument (reg s R4)) _ (λ flags.
-    IfOk-and_then (AreBytesOf m.row.key_size) H (bytes_at s key_at m.row.key_size) _
-    (bytes_at_fits p s key_at m.row.key_size k) (λ key key_is.
-    IfOk-and_then (AreBytesOf m.row.value_size) H (bytes_at s value_at m.row.value_size) _
-    (bytes_at_fits p s value_at m.row.value_size k) (λ bytes value_is.
+    IfOk-and_then (AreBytesOf m.row.key_size) H (bytes_at s key_argument m.row.key_size) _
+    (bytes_at_fits p s key_argument m.row.key_size k) (λ key key_is.
+    IfOk-and_then (AreBytesOf m.row.value_size) H (bytes_at s value_argument m.row.value_size) _
+    (bytes_at_fits p s value_argument m.row.value_size k) (λ bytes value_is.
     update_keeps p s m key bytes flags e
     (record { key_size = key_is.0; key = key_is.1; value_size = value_is.0; value = value_is.1 })
     k))))))
@@ -344,8 +344,8 @@ delete_call_keeps p s k =
     let H : Helped → Type 0 = IsHelped p in
     IfOk-and_then (IsArgument p) H (map_argument p (reg s R1)) _ (map_argument_fits p (reg s R1))
     (λ m e.
-    IfOk-then H (bytes_argument (reg s R2)) _ (λ key_at.
-    IfOk-then H (bytes_at s key_at m.row.key_size) _ (λ key.
+    IfOk-then H (bytes_argument (reg s R2)) _ (λ key_argument.
+    IfOk-then H (bytes_at s key_argument m.row.key_size) _ (λ key.
     delete_keeps p s m key e k)))
 
 -- a helper's answer is a value, and what it leaves is a state

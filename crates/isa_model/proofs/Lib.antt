@@ -7,7 +7,7 @@ pub mod CallLaws
 pub mod ContentLaws
 pub mod HelperLaws
 pub mod HelperStates
-pub mod PutLaws
+pub mod PutKeys
 pub mod RegisterLaws
 pub mod SerialLaws
 pub mod StateLaws

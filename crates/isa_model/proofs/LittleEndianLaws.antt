@@ -1,4 +1,4 @@
--- Laws of numbers in lists of bytes, the lowest byte first: read and written again, the same bytes.
+-- Laws of little-endian numbers in lists of bytes: read and written again, the same bytes.
 use Rattle.std.proofs.Common.{◌≡◌, ℕ, zero, suc, ◌+◌, ◌*◌, ◌/◌, ◌%◌, ◌^◌, ◌≤◌, List, length, take, drop, slice_index, refl, ap, sym, ◌∙◌, arith, drop-cons, inl, inr}
 use Rattle.std.proofs.lemmas.Bool.{cases_lt}
 use Rattle.std.proofs.lemmas.List.{get_or-drop, get_or-take, get_or_past, length-take}

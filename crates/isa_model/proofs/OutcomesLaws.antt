@@ -58,8 +58,8 @@ pub ExitsWithin-StartsEnd : (p : Program) (n : ℕ) (head : FrameHead) (packet :
     → StartsEnd p n → IsClock clock → IsGiven p head packet contents
     → ExitsWithin p n head packet contents clock
 unfolding StartsEnd
-ExitsWithin-StartsEnd p n head packet contents clock h fits given =
-    ExitsWithin-Ends p n head packet contents clock (h clock head packet contents fits given)
+ExitsWithin-StartsEnd p n head packet contents clock h answers given =
+    ExitsWithin-Ends p n head packet contents clock (h clock head packet contents answers given)
 
 -- the contents that an outcome leaves fit the rows
 pub FitRows-HasOutcome : (p : Program) (head : FrameHead) (packet : List ℕ)

@@ -1,5 +1,5 @@
--- Laws of reports: where all runs exit in time the checked one is the report, and the only one. The
--- packet frames that are read from a stream can be spelled.
+-- Laws of reports: where all runs exit within the limit, the checked report is the report, and the
+-- only one. The packet frames that are read from a stream can be spelled.
 use Rattle.std.specs.Prelude.{◌≡◌, ℕ, zero, suc, ◌+◌, ◌<◌, ◌≤◌, ◌==◌, List, [], ◌∷◌, ◌++◌, drop, length, if◌then◌else◌, Bool, true, false, All, Option, Some, None, Result, Ok, Err, refl}
 use Rattle.std.proofs.Common.{sym, ap, ◌∙◌, subst, arith}
 use Rattle.std.proofs.lemmas.List.{length-take}
@@ -28,7 +28,7 @@ reason_fits : (v : Version) (bytes : List ℕ) → AreBytes bytes → ReasonFits
 reason_fits One bytes h = refl
 reason_fits Two bytes h = little_from-lt 20 4 bytes (slice_index_fits bytes h)
 
--- the record at the front of bytes is a packet frame, if its body is no longer than it may be
+-- the packet frame that is read from bytes can be spelled, if its body is no longer than it may be
 IsPacketFrame-packet_frame_of : (v : Version) (bytes : List ℕ) → AreBytes bytes
     → length_field bytes ≤ max_body v → IsPacketFrame v (packet_frame_of v bytes)
 IsPacketFrame-packet_frame_of v bytes h short = record {
@@ -54,11 +54,11 @@ frames_fit : (fuel : ℕ) (v : Version) (number offset : ℕ) (bytes : List ℕ)
 unfolding frames_from
 frames_fit zero v number offset bytes e h = All-nil (IsPacketFrame v)
 frames_fit (suc fuel) v number offset bytes e h =
-    go (stop_at v number offset bytes e) refl (λ n o rest k. frames_fit fuel v n o rest e k)
+    go (stop_at v number offset bytes e) refl (λ n at rest k. frames_fit fuel v n at rest e k)
   where
     go : (o : Option Finish) → stop_at v number offset bytes e ≡ o
-        → ((n o : ℕ) (rest : List ℕ) → AreBytes rest
-        → All (IsPacketFrame v) (frames_from fuel v n o rest e).0)
+        → ((n at : ℕ) (rest : List ℕ) → AreBytes rest
+        → All (IsPacketFrame v) (frames_from fuel v n at rest e).0)
         → All (IsPacketFrame v) (frames_from (suc fuel) v number offset bytes e).0
     go (Some stop) s again =
         subst (λ (t : List PacketFrame × Finish). All (IsPacketFrame v) t.0)
@@ -219,11 +219,11 @@ ReportsFrame-same form p number contents f false pieces others next after h k =
     (h.0 ∙ sym k.0, h.1 ∙ sym k.1)
 ReportsFrame-same form p number contents f true pieces others next after h k =
     let (o, found, is, leaves) = h in
-    let (q, also, was, left) = k in
+    let (q, also, was, was_left) = k in
     let one : o ≡ q =
     HasOutcome-same p f.head f.body contents (λ k. f.head.time) o q found also in (
       is ∙ ap (λ (x : Outcome). frame_pieces form number f (turn_by x)) one ∙ sym was,
-      leaves ∙ ap (λ (x : Outcome). x.contents) one ∙ sym left,
+      leaves ∙ ap (λ (x : Outcome). x.contents) one ∙ sym was_left,
     )
 
 ReportsFrames-same : (form : ReportForm) (p : Program) (number : ℕ) (contents : List KeyValues)
@@ -234,14 +234,14 @@ ReportsFrames-same form p number contents [] pieces others last end h k =
     (h.0 ∙ sym k.0, h.1 ∙ sym k.1)
 ReportsFrames-same form p number contents (f ∷ frames) pieces others last end h k =
     let (front, rest, next, one, split, more) = h in
-    let (begin, left, after, also, cut, others_more) = k in
+    let (begin, back, after, also, cut, others_more) = k in
     let same =
     ReportsFrame-same form p number contents f (f.reason == 0) front begin next after one also in
     let behind = subst
     (λ (c : List KeyValues). ReportsFrames form p (number + 1) c frames rest last) same.1
     more in
     let (equal, ends) =
-    ReportsFrames-same form p (number + 1) after frames rest left last end behind others_more in (
+    ReportsFrames-same form p (number + 1) after frames rest back last end behind others_more in (
       split ∙ ap (λ (l : List OutputPiece). l ++ rest) same.0 ∙ ap
           (λ (l : List OutputPiece). begin ++ l) equal ∙ sym cut,
       ends,
@@ -253,10 +253,10 @@ pub IsReport-same : (p : Program) (found : Stream) (pieces others : List OutputP
 IsReport-same p found pieces others h k =
     let (turns, last) = ReportsFrames-same (report_form_of p found) p 0
     (starting_contents p.maps) found.frames h.turns k.turns h.last k.last h.frames k.frames in
-    let ends = ToReport (last_line (length found.frames) found.finish) ∷ [] in
+    let last_pieces = ToReport (last_line (length found.frames) found.finish) ∷ [] in
     h.whole
     ∙ ap (λ (l : List OutputPiece). (ToFrames (stream_magic found.version) ∷ l)
-    ++ (maps_pieces 0 p.maps h.last ++ ends)) turns
+    ++ (maps_pieces 0 p.maps h.last ++ last_pieces)) turns
     ∙ ap (λ (c : List KeyValues). (ToFrames (stream_magic found.version) ∷ k.turns)
-    ++ (maps_pieces 0 p.maps c ++ ends)) last
+    ++ (maps_pieces 0 p.maps c ++ last_pieces)) last
     ∙ sym k.whole

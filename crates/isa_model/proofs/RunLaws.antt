@@ -62,12 +62,12 @@ turn-outcome p head packet contents clock o limit h within =
     rw (ended, steps, h.packet_is, h.contents_are, h.clock_calls_are) refl
 
 abbrev outcome_of : ℕ → List ℕ → List KeyValues → ℕ → ℕ → Outcome
-outcome_of n packet contents steps calls = record {
+outcome_of n packet contents steps asked = record {
   number = n;
   packet = packet;
   contents = contents;
   steps = steps;
-  clock_calls = calls;
+  clock_calls = asked;
 }
 
 -- a run from the start state has one outcome at most

@@ -1,5 +1,5 @@
 -- Laws of the steps of a run that is known to exit.
-use Rattle.std.proofs.Common.{◌≡◌, ◌+◌, ◌<◌, ◌∷◌, [], ℕ, zero, suc, Some, Ok, Err, Bool, true, false, List, set, arith, refl, sym, ap, ◌∙◌, inl, inr, ◌⊎◌}
+use Rattle.std.proofs.Common.{◌≡◌, ◌+◌, ◌<◌, ◌∷◌, [], ℕ, zero, suc, Some, Ok, Err, Bool, true, false, List, arith, refl, sym, ap, ◌∙◌, inl, inr, ◌⊎◌}
 use Rattle.std.specs.Prelude.{ℤ, if◌then◌else◌, Result}
 use Rattle.std.specs.List.{list_any}
 use Rattle.std.proofs.lemmas.Bool.{cases_lt, or_parts}
@@ -65,7 +65,7 @@ below_steps p clock s steps a k t runs reached =
       | inr next ↦ let more = next.more in omega (arith, more)
     ]
 
--- a run that exits does not trap on its way
+-- a run that exits does not trap before
 pub no_trap : (p : Program) (clock : ℕ → ℕ) (s : State) (steps a k : ℕ) (t : State) (e : TrapReason)
     → Runs p clock s steps a → Reaches p clock s k t → step p clock t ≡ Trapped e → ⊥
 no_trap p clock s steps a k t e runs reached trapped =
@@ -89,8 +89,8 @@ pub step_acts : (p : Program) (clock : ℕ → ℕ) (t : State) (i : Insn) → f
     → list_any (λ r. is_unset (reg t r)) (reads i) ≡ false → is_frame_pointer (writes i) ≡ false
     → step p clock t ≡ act p clock t i
 unfolding step
-step_acts p clock t i here set own =
-    let acts : performed p clock t i ≡ act p clock t i = rw (set, own) refl in
+step_acts p clock t i here are_set own =
+    let acts : performed p clock t i ≡ act p clock t i = rw (are_set, own) refl in
     ap (performed_at p clock t) here ∙ acts
 
 -- an instruction that reads an unset register traps
@@ -151,9 +151,9 @@ tests_finish false false e f r b h = h
 pub step_finishes : (p : Program) (clock : ℕ → ℕ) (s : State) (i : Insn) (b : ℕ)
     → fetch p s.slot ≡ Some i → IsDeterminedForm i → step p clock s ≡ Finished b → i ≡ Exit
 unfolding step
-step_finishes p clock s i b here plain h =
+step_finishes p clock s i b here determined h =
     let done : performed p clock s i ≡ Finished b = sym (ap (performed_at p clock s) here) ∙ h in
-    act_finishes p clock s i b plain
+    act_finishes p clock s i b determined
     (tests_finish (list_any (λ r. is_unset (reg s r)) (reads i))
     (is_frame_pointer (writes i)) UnsetRead ReadOnly (act p clock s i) b done)
 

@@ -122,19 +122,21 @@ load_value knows t h j below =
     (place_there knows t h j below)
     ∙ ap (λ c. value_in (cells_at c (8 * j) 8)) (cells_there knows t h)
 
-load_unset : (knows : ℕ → ℕ → Type 0) (t : State) (h : HasKnownStackSlots knows t) (j : ℕ) → j < 64
+load_unwritten : (knows : ℕ → ℕ → Type 0) (t : State) (h : HasKnownStackSlots knows t) (j : ℕ)
+    → j < 64
     → list_any is_unwritten (stack_slot_cells h.call_frame.cells j) ≡ true
     → load t U64 (reg t R10) (stack_slot_offset j) ≡ Err UnsetRead
-load_unset knows t h j below unset = load_value knows t h j below ∙ rw unset refl
+load_unwritten knows t h j below unwritten = load_value knows t h j below ∙ rw unwritten refl
 
-load_number : (knows : ℕ → ℕ → Type 0) (t : State) (h : HasKnownStackSlots knows t) (j y : ℕ)
+load_known : (knows : ℕ → ℕ → Type 0) (t : State) (h : HasKnownStackSlots knows t) (j y : ℕ)
     → j < 64
     → y < 2 ^ 64 → stack_slot_cells h.call_frame.cells j ≡ map Byte (bytes_of U64 y)
     → load t U64 (reg t R10) (stack_slot_offset j) ≡ Ok (Num y)
-load_number knows t h j y below fits is =
+load_known knows t h j y below fits is =
     load_value knows t h j below ∙ ap value_in is ∙ value_in-Byte (bytes_of U64 y)
     ∙ ap (λ n. Ok (Num n)) (from_le_bytes-to_le_bytes_8 y fits)
 
+-- the machine state t once the number y is written into stack slot j of its only call frame f
 unfoldable pub stored : State → CallFrame → ℕ → ℕ → State
 stored t f j y = record t {
   frames = record f { cells = splice f.cells (8 * j) (8 * j + 8) (map Byte (bytes_of U64 y)) }
@@ -171,10 +173,11 @@ HasKnownStackSlots-start knows head packet contents = record {
       ∙ take-replicate 8 (stack_size - 8 * j) Unwritten (omega (arith, below))));
 }
 
-pub HasKnownStackSlots-store : (old new : ℕ → ℕ
+pub HasKnownStackSlots-store : (old known : ℕ → ℕ
     → Type 0) (t : State) (h : HasKnownStackSlots old t) (j y : ℕ)
-    → j < 64 → y < 2 ^ 64 → new j y
-    → ((k z : ℕ) → k ≢ j → old k z → new k z) → HasKnownStackSlots new (stored t h.call_frame j y)
+    → j < 64 → y < 2 ^ 64 → known j y
+    → ((k z : ℕ) → k ≢ j → old k z → known k z)
+    → HasKnownStackSlots known (stored t h.call_frame j y)
 unfolding stored
 HasKnownStackSlots-store old known t h j y below fits there others =
     let new = map Byte (bytes_of U64 y) in
@@ -222,31 +225,32 @@ HasKnownStackSlots-store old known t h j y below fits there others =
         ⊎ ((y : ℕ) × (y < 2 ^ 64)
         × (stack_slot_cells (splice h.call_frame.cells (8 * j) (8 * j + length new) new) k
         ≡ map Byte (bytes_of U64 y)) × known k y)
-    other h j y k new inside here apart (inl unset) keeps =
+    other h j y k new inside here apart (inl unwritten) keeps =
         inl (ap (list_any is_unwritten)
-        (splice_other h.call_frame.cells new (8 * j) (8 * k) 8 inside here apart) ∙ unset)
-    other h j y k new inside here apart (inr known) keeps =
+        (splice_other h.call_frame.cells new (8 * j) (8 * k) 8 inside here apart) ∙ unwritten)
+    other h j y k new inside here apart (inr number) keeps =
         inr (
-          known.0,
-          known.1,
+          number.0,
+          number.1,
           splice_other h.call_frame.cells new (8 * j) (8 * k) 8 inside here apart
-              ∙ known.2,
-          keeps known.0 known.3,
+              ∙ number.2,
+          keeps number.0 number.3,
         )
 
 -- a step that does not change the call frame
-pub HasKnownStackSlots-keep : (old new : ℕ → ℕ → Type 0) (t v : State) → HasKnownStackSlots old t
-    → v.frames ≡ t.frames → reg v R10 ≡ reg t R10 → ((k z : ℕ) → old k z → new k z)
-    → HasKnownStackSlots new v
-HasKnownStackSlots-keep old new t v h frames pointer keeps = record {
+pub HasKnownStackSlots-keep : (old known : ℕ → ℕ → Type 0) (t v : State)
+    → HasKnownStackSlots old t
+    → v.frames ≡ t.frames → reg v R10 ≡ reg t R10 → ((k z : ℕ) → old k z → known k z)
+    → HasKnownStackSlots known v
+HasKnownStackSlots-keep old known t v h frames pointer keeps = record {
   call_frame = h.call_frame;
   only = frames ∙ h.only;
   pointer = pointer ∙ h.pointer;
   wide = h.wide;
   each = λ j below. elim (h.each j below) [
-    | inl unset ↦ inl unset
-    | inr known ↦ inr
-        (known.0, known.1, known.2, keeps j known.0 known.3)
+    | inl unwritten ↦ inl unwritten
+    | inr number ↦ inr
+        (number.0, number.1, number.2, keeps j number.0 number.3)
   ];
 }
 
@@ -262,14 +266,15 @@ pub load_acts : (knows : ℕ → ℕ → Type 0) (p : Program) (clock : ℕ → 
 unfolding act
 load_acts knows p clock t d j h below goes =
     elim (h.each j below) [
-      | inl unset ↦
+      | inl unwritten ↦
           absurd (goes UnsetRead
-          (ap (sets t (Load U64 d (stack_slot_place j)) d) (load_unset knows t h j below unset)))
-      | inr known ↦ (
-        known.0,
-        known.3,
+          (ap (sets t (Load U64 d (stack_slot_place j)) d)
+          (load_unwritten knows t h j below unwritten)))
+      | inr number ↦ (
+        number.0,
+        number.3,
         ap (sets t (Load U64 d (stack_slot_place j)) d)
-            (load_number knows t h j known.0 below known.1 known.2),
+            (load_known knows t h j number.0 below number.1 number.2),
       )
     ]
 

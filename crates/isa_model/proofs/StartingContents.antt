@@ -17,7 +17,7 @@ use Rattle.isa_model.specs.declared.map_defs.MapDef.{MapDef}
 use Rattle.isa_model.specs.Code.MapRows.{KeyFits, IsRow}
 use Rattle.isa_model.specs.Machine.States.{KeyValues}
 use Rattle.isa_model.specs.Machine.MapContents.{key_order, has_key, with_key}
-use Rattle.isa_model.proofs.PutLaws.{All-with_key, IsStrictlySortedBy-is_sorted, Contains-has_key, has_key-with_key, has_key-after_with_key, length-with_key}
+use Rattle.isa_model.proofs.PutKeys.{All-with_key, IsStrictlySortedBy-is_sorted, Contains-has_key, has_key-with_key, has_key-after_with_key, length-with_key}
 use Rattle.isa_model.specs.Machine.MachineStates.{AreBytes, IsKeyValue, KeysFit, keys_of, FitsRow, FitRows}
 use Rattle.isa_model.specs.Reporting.Reports.{starting_key_values, starting_contents}
 use Rattle.isa_model.specs.Code.Limits.{max_map_entries}
@@ -27,12 +27,12 @@ use Rattle.isa_model.specs.Code.Limits.{max_map_entries}
 AreBytes-bytes_low_first : (i k n : ℕ) → AreBytes (bytes_low_first i k n)
 AreBytes-bytes_low_first i zero n = All-nil (λ b. b < 256)
 AreBytes-bytes_low_first i (suc k) n =
-    All-cons (λ b. b < 256) (byte_at i n) (bytes_low_first (suc i) k n) (below i)
+    All-cons (λ b. b < 256) (byte_at i n) (bytes_low_first (suc i) k n) (small i)
     (AreBytes-bytes_low_first (suc i) k n)
   where
-    below : (j : ℕ) → byte_at j n < 256
-    below zero = omega arith
-    below (suc j) = omega arith
+    small : (j : ℕ) → byte_at j n < 256
+    small zero = omega arith
+    small (suc j) = omega arith
 
 little_number-little_bytes : (i : ℕ) → i < max_map_entries → little_number 4 (little_bytes 4 i) ≡ i
 little_number-little_bytes i h = little_number-reads_back 4 i [] (omega arith)
@@ -88,7 +88,7 @@ module _ (row : MapDef) (four : row.key_size ≡ 4) (few : row.entries ≤ max_m
     sorted = is_sorted-put key_order nat_list_cmp_total (little_bytes 4 n) zeros es h.sorted;
     room = let more = length-with_key
         (little_bytes 4 n) zeros es h.sorted in let room = h.room in omega arith;
-    has = λ i below. elim (cases_lt i n) [
+    has = λ i inside. elim (cases_lt i n) [
       | inl lt ↦ has_key-after_with_key (little_bytes 4 i) (little_bytes 4 n) zeros es (h.has i lt)
       | inr ge ↦
           let same : n ≡ i = omega arith in

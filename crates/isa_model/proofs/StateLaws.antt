@@ -26,12 +26,12 @@ use Rattle.isa_model.specs.Machine.Memory.{byte_in, call_frame_index, index_of_s
 use Rattle.isa_model.specs.Machine.MachineStates.{AreBytes, IsKeyValue, keys_of, FitsRow, FitRows, IsValue, IsCell, IsCallFrame, IsSlot, value_serials, live_serials, IsState}
 use Rattle.isa_model.proofs.ValueLaws.{IfOk-if, bytes_in_fit, length-splice, All-splice}
 
--- ---- another slot, other registers, and the clock asked once more
+-- ---- another slot, other registers, and another count of the times that the clock was asked
 
-pub IsState-moved : (p : Program) (s : State) (slot : ℕ) (regs : List Value) (calls : ℕ)
+pub IsState-moved : (p : Program) (s : State) (slot : ℕ) (regs : List Value) (asked : ℕ)
     → IsSlot p slot → length regs ≡ 11 → All (IsValue (length p.maps) s.next_serial) regs
-    → IsState p s → IsState p (record s { slot = slot; regs = regs; clock_calls = calls })
-IsState-moved p s slot regs calls there long fit k = record {
+    → IsState p s → IsState p (record s { slot = slot; regs = regs; clock_calls = asked })
+IsState-moved p s slot regs asked there long fit k = record {
   slot = there;
   registers = long;
   values = fit;
@@ -145,7 +145,7 @@ FitRows-set (row ∷ rows) (c ∷ contents) zero es d more h = (more row h.0, h.
 FitRows-set (row ∷ rows) (c ∷ contents) (suc m) es d more h =
     (h.0, FitRows-set rows contents m es d more h.1)
 
--- a content with bytes put into one of its values: the same serials, and it fits the same row
+-- a content with bytes put into one of its map values: the same serials, and it fits the same row
 pub put_value_serials : (content : Content) (o : Option ℕ) (i : ℕ) (new : List ℕ)
     → value_serials (put_value content o i new) ≡ value_serials content
 put_value_serials content None i new = refl
@@ -236,7 +236,7 @@ IsState-put p s (region.CallFrame n) i new room fit k =
     }
 IsState-put p s region.Packet i new room fit k =
     let long = length-map new byte_in in
-    let cells = length-map s.packet Byte in
+    let lengths = length-map s.packet Byte in
     let same : length (splice s.packet i (i + length new) (map byte_in new)) ≡ length s.packet =
     subst (λ n. length (splice s.packet i (i + n) (map byte_in new)) ≡ length s.packet) long
     (length-splice s.packet (map byte_in new) i (omega arith)) in

@@ -1,4 +1,4 @@
--- A step of a state of a program leads to a state of it, and the start state is one.
+-- A step from a state of a program leads to a state of it, and the start state is one.
 use Rattle.std.specs.Prelude.{◌≡◌, ◌≢◌, ℕ, zero, suc, ◌+◌, ◌^◌, ◌<◌, ◌≤◌, ◌==◌, Bool, true, false, if◌then◌else◌, ℤ, pos, negsuc, ◌+ℤ◌, ◌≤ℤ◌, unwrap_or, List, [], ◌∷◌, ◌++◌, map, length, All, AllPairs, Option, Some, None, Result, Ok, Err, IfOk, refl}
 use Rattle.std.specs.Int.{w16, w32}
 use Rattle.std.specs.Int.RustNames.{FitsSigned}
@@ -68,15 +68,15 @@ sets_keeps : (p : Program) (s : State) (i : Insn) (d : Reg) (r : Result Value Tr
     → IsSlot p (s.slot + slots_filled i)
     → IfOk r (IsValue (length p.maps) s.next_serial) → IsState p s
     → IfNext (sets s i d r) (IsState p)
-sets_keeps p s i d (Ok v) slot h k =
-    IsState-go_to p (set_reg s d v) (s.slot + slots_filled i) slot (IsState-set_reg p s d v h k)
-sets_keeps p s i d (Err e) slot h k = tt
+sets_keeps p s i d (Ok v) at_slot h k =
+    IsState-go_to p (set_reg s d v) (s.slot + slots_filled i) at_slot (IsState-set_reg p s d v h k)
+sets_keeps p s i d (Err e) at_slot h k = tt
 
 goes_on_keeps : (p : Program) (s : State) (i : Insn) (r : Result State TrapReason)
     → IsSlot p (s.slot + slots_filled i) → IfOk r (IsState p)
     → IfNext (goes_on s i r) (IsState p)
-goes_on_keeps p s i (Ok t) slot h = IsState-go_to p t (s.slot + slots_filled i) slot h
-goes_on_keeps p s i (Err e) slot h = tt
+goes_on_keeps p s i (Ok t) at_slot h = IsState-go_to p t (s.slot + slots_filled i) at_slot h
+goes_on_keeps p s i (Err e) at_slot h = tt
 
 -- ---- jumps, calls and exits
 
@@ -115,21 +115,21 @@ calls_keep p s by inside fits k = room (length s.frames == max_call_frames) refl
         (destination_fits p s.slot by inside fits) inside (λ h. grind (arith, nat_tests)) k
 
 finishes_keeps : (p : Program) (v : Value) → IfNext (finishes p.version v) (IsState p)
-finishes_keeps p (Num n) = answers (is_answer p.version n)
+finishes_keeps p (Num n) = done (is_answer p.version n)
   where
-    answers : (b : Bool) → IfNext (if b then Finished n else Trapped BadAction) (IsState p)
-    answers true = tt
-    answers false = tt
+    done : (b : Bool) → IfNext (if b then Finished n else Trapped BadAction) (IsState p)
+    done true = tt
+    done false = tt
 finishes_keeps p (Ptr r z) = tt
 finishes_keeps p Unset = tt
 
 exits_keep : (p : Program) (s : State) → IsState p s → IfNext (exits p.version s) (IsState p)
-exits_keep p s k = last (length s.frames == 1) refl
+exits_keep p s k = by_depth (length s.frames == 1) refl
   where
-    last : (one : Bool) → (length s.frames == 1) ≡ one
+    by_depth : (one : Bool) → (length s.frames == 1) ≡ one
         → IfNext (if one then finishes p.version (reg s R0) else Next (leave s)) (IsState p)
-    last true e = finishes_keeps p (reg s R0)
-    last false e = IsState-leave p s (λ h. grind (arith, nat_tests)) k
+    by_depth true e = finishes_keeps p (reg s R0)
+    by_depth false e = IsState-leave p s (λ h. grind (arith, nat_tests)) k
 
 -- ---- the forms
 
@@ -186,10 +186,10 @@ act_keeps p clock s (StoreConstant size place n) fits inside rows named answers 
 act_keeps p clock s (Store size place r) fits inside rows named answers k =
     goes_on_keeps p s (Store size place r) _ (omega arith)
     (store_keeps p s size (base_of s place) place.offset (reg s r) (reg_fits p s r k) k)
-act_keeps p clock s (Atomic w op fetch place r) fits inside rows named answers k =
-    goes_on_keeps p s (Atomic w op fetch place r) _ (omega arith)
+act_keeps p clock s (Atomic w op fetched place r) fits inside rows named answers k =
+    goes_on_keeps p s (Atomic w op fetched place r) _ (omega arith)
     (with_number (IsState p) (reg s r) _
-    (λ b. swaps_in_keeps p s w place (λ a. alu (atomic_alu op) w a b) fetch r k))
+    (λ b. swaps_in_keeps p s w place (λ a. alu (atomic_alu op) w a b) fetched r k))
 act_keeps p clock s (Exchange w place r) fits inside rows named answers k =
     goes_on_keeps p s (Exchange w place r) _ (omega arith)
     (with_number (IsState p) (reg s r) _ (λ b. swaps_in_keeps p s w place (λ a. b) true r k))
@@ -225,7 +225,7 @@ performed_at_keeps p clock s (Some i) e h answers k =
     (act_keeps p clock s i (h.fits s.slot i e) (h.inside s.slot i e) h.rows
     (h.named s.slot i e) answers k))
 
--- a step of a state leads to a state
+-- a step from a state leads to a state
 pub step_keeps : (p : Program) (clock : ℕ → ℕ) (s : State) → IsProgram p → IsClock clock
     → IsState p s → IfNext (step p clock s) (IsState p)
 unfolding step
@@ -306,7 +306,7 @@ start_is_state p head body contents h =
     let V : Value → Type 0 = IsValue (length p.maps) (suc n) in
     let nothing : List Value = Unset ∷ Unset ∷ Unset ∷ Unset ∷ [] in
     let f : CallFrame = new_call_frame n 0 nothing in
-    let frame : IsCallFrame p (suc n) f = record {
+    let first : IsCallFrame p (suc n) f = record {
       whole = refl;
       cells = All-replicate (IsCell (length p.maps) (suc n)) stack_size Unwritten tt;
       returns = omega arith;
@@ -328,7 +328,7 @@ start_is_state p head body contents h =
           (tt, (r1, (tt, (tt, (tt, (tt, (tt, (tt, (tt, (tt, (r10, tt)))))))))));
       called = omega arith;
       depth = omega arith;
-      frames = All-cons (IsCallFrame p (suc n)) f [] frame (All-nil (IsCallFrame p (suc n)));
+      frames = All-cons (IsCallFrame p (suc n)) f [] first (All-nil (IsCallFrame p (suc n)));
       short = h.short;
       packet = h.bytes;
       interface = h.interface;

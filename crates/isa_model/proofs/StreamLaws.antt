@@ -12,64 +12,64 @@ use Rattle.isa_model.specs.declared.versions.Version.{Version}
 use Rattle.isa_model.specs.declared.versions.Version.TheVariants.{One, Two}
 use Rattle.isa_model.specs.Code.Versions.{stream_magic, head_size}
 use Rattle.isa_model.specs.Code.Limits.{max_body}
-use Rattle.isa_model.specs.Reporting.Streams.{PacketFrame, IsPacketFrame, max_frames, head_bytes, frame_bytes, records_bytes, length_field, reason_field, InputEnding, ByEnd, ByError, Input, opened, stop_at, packet_frame_of, record_size, frames_from, stream_with, stream_opened, stream_of, AreOpen}
+use Rattle.isa_model.specs.Reporting.Streams.{PacketFrame, IsPacketFrame, max_frames, head_bytes, record_bytes, records_bytes, length_field, reason_field, InputEnding, ByEnd, ByError, Input, opened, stop_at, packet_frame_of, record_size, frames_from, stream_with, stream_opened, stream_of, AreOpen}
 
 -- the length in a record's head is that of its body
-pub length_field-frame_bytes : (v : Version) (f : PacketFrame) (rest : List ℕ)
+pub length_field-record_bytes : (v : Version) (f : PacketFrame) (rest : List ℕ)
     → length f.body ≤ max_body v
-    → length_field (frame_bytes v f ++ rest) ≡ length f.body
+    → length_field (record_bytes v f ++ rest) ≡ length f.body
 unfolding head_bytes
-length_field-frame_bytes One f rest short =
+length_field-record_bytes One f rest short =
     little_number-reads_back 4 (length f.body) (f.body ++ rest) (omega arith)
-length_field-frame_bytes Two f rest short =
+length_field-record_bytes Two f rest short =
     little_number-reads_back 4 (length f.body) [] (omega arith)
 
--- so is its reason
-pub reason_field-frame_bytes : (v : Version) (f : PacketFrame) (rest : List ℕ) → IsPacketFrame v f
-    → reason_field v (frame_bytes v f ++ rest) ≡ f.reason
+-- and the reason is the frame's
+pub reason_field-record_bytes : (v : Version) (f : PacketFrame) (rest : List ℕ) → IsPacketFrame v f
+    → reason_field v (record_bytes v f ++ rest) ≡ f.reason
 unfolding head_bytes
-reason_field-frame_bytes One f rest ok = sym ok.reason
-reason_field-frame_bytes Two f rest ok = little_number-reads_back 4 f.reason [] ok.reason
+reason_field-record_bytes One f rest ok = sym ok.reason
+reason_field-record_bytes Two f rest ok = little_number-reads_back 4 f.reason [] ok.reason
 
 -- what follows a record's head
 pub drop-head_bytes : (v : Version) (f : PacketFrame) (rest : List ℕ)
-    → drop (head_size v) (frame_bytes v f ++ rest) ≡ f.body ++ rest
+    → drop (head_size v) (record_bytes v f ++ rest) ≡ f.body ++ rest
 unfolding head_bytes
 drop-head_bytes One f rest = refl
 drop-head_bytes Two f rest = refl
 
--- the record at the front of its own bytes
-pub packet_frame_of-frame_bytes : (v : Version) (f : PacketFrame) (rest : List ℕ)
-    → IsPacketFrame v f → packet_frame_of v (frame_bytes v f ++ rest) ≡ f
+-- a packet frame is read from its record
+pub packet_frame_of-record_bytes : (v : Version) (f : PacketFrame) (rest : List ℕ)
+    → IsPacketFrame v f → packet_frame_of v (record_bytes v f ++ rest) ≡ f
 unfolding head_bytes
-packet_frame_of-frame_bytes v f rest ok =
+packet_frame_of-record_bytes v f rest ok =
     let time = little_number-reads_back 8 f.head.time [] ok.time in
     let interface = little_number-reads_back 4 f.head.interface [] ok.interface in
     let queue = little_number-reads_back 4 f.head.queue [] ok.queue in
-    let reason = reason_field-frame_bytes v f rest ok in
-    let body : take (length_field (frame_bytes v f ++ rest))
-    (drop (head_size v) (frame_bytes v f ++ rest)) ≡ f.body =
-    rw (length_field-frame_bytes v f rest ok.short, drop-head_bytes v f rest)
+    let reason = reason_field-record_bytes v f rest ok in
+    let body : take (length_field (record_bytes v f ++ rest))
+    (drop (head_size v) (record_bytes v f ++ rest)) ≡ f.body =
+    rw (length_field-record_bytes v f rest ok.short, drop-head_bytes v f rest)
     (take_at f.body rest (length f.body) refl) in
     rw (time, interface, queue, body, reason) refl
 
 -- what follows a record
-pub drop-frame_bytes : (v : Version) (f : PacketFrame) (rest : List ℕ)
-    → drop (record_size v f) (frame_bytes v f ++ rest) ≡ rest
-drop-frame_bytes v f rest =
-    sym (drop-drop (length f.body) (head_size v) (frame_bytes v f ++ rest))
+pub drop-record_bytes : (v : Version) (f : PacketFrame) (rest : List ℕ)
+    → drop (record_size v f) (record_bytes v f ++ rest) ≡ rest
+drop-record_bytes v f rest =
+    sym (drop-drop (length f.body) (head_size v) (record_bytes v f ++ rest))
     ∙ ap (λ (l : List ℕ). drop (length f.body) l) (drop-head_bytes v f rest)
     ∙ drop_at f.body rest (length f.body) refl
 
 -- a record has a head and its body
-pub length-frame_bytes : (v : Version) (f : PacketFrame) (rest : List ℕ)
-    → length (frame_bytes v f ++ rest) ≡ record_size v f + length rest
+pub length-record_bytes : (v : Version) (f : PacketFrame) (rest : List ℕ)
+    → length (record_bytes v f ++ rest) ≡ record_size v f + length rest
 unfolding head_bytes
-length-frame_bytes One f rest =
+length-record_bytes One f rest =
     let e = length-append f.body rest in let h : 20 + length (f.body ++ rest)
     ≡ 20 + (length f.body + length rest) = ap (λ n. 20 + n) e in
     omega (arith, h)
-length-frame_bytes Two f rest =
+length-record_bytes Two f rest =
     let e = length-append f.body rest in let h : 24 + length (f.body ++ rest)
     ≡ 24 + (length f.body + length rest) = ap (λ n. 24 + n) e in
     omega (arith, h)
@@ -80,10 +80,11 @@ some_head One = omega arith
 some_head Two = omega arith
 
 -- a record has as many bytes as its size says
-pub size-frame_bytes : (v : Version) (f : PacketFrame) → length (frame_bytes v f) ≡ record_size v f
+pub size-record_bytes : (v : Version) (f : PacketFrame)
+    → length (record_bytes v f) ≡ record_size v f
 unfolding head_bytes
-size-frame_bytes One f = omega arith
-size-frame_bytes Two f = omega arith
+size-record_bytes One f = omega arith
+size-record_bytes Two f = omega arith
 
 -- the stream does not stop where a head and all of its body are there
 stop_at-none : (v : Version) (number offset : ℕ) (bytes : List ℕ) (e : InputEnding)
@@ -94,14 +95,14 @@ stop_at-none v number offset [] e n p q r = let some = some_head v in absurd (om
 stop_at-none v number offset (b ∷ bytes) e n p q r = grind (arith, nat_tests)
 
 -- the stream does not stop where a record is there
-pub stop_at-frame_bytes : (v : Version) (number offset : ℕ) (f : PacketFrame) (rest : List ℕ)
+pub stop_at-record_bytes : (v : Version) (number offset : ℕ) (f : PacketFrame) (rest : List ℕ)
     (e : InputEnding) → number < max_frames → IsPacketFrame v f
-    → stop_at v number offset (frame_bytes v f ++ rest) e ≡ None
-stop_at-frame_bytes v number offset f rest e early ok =
-    let field = length_field-frame_bytes v f rest ok.short in
-    let size = length-frame_bytes v f rest in
+    → stop_at v number offset (record_bytes v f ++ rest) e ≡ None
+stop_at-record_bytes v number offset f rest e early ok =
+    let field = length_field-record_bytes v f rest ok.short in
+    let total = length-record_bytes v f rest in
     let short = ok.short in
-    stop_at-none v number offset (frame_bytes v f ++ rest) e (omega arith) (omega arith)
+    stop_at-none v number offset (record_bytes v f ++ rest) e (omega arith) (omega arith)
     (omega arith) (omega arith)
 
 -- a stream that stops has no more records
@@ -111,7 +112,7 @@ pub frames_from-stops : (fuel : ℕ) (v : Version) (number offset : ℕ) (bytes 
 unfolding frames_from
 frames_from-stops fuel v number offset bytes e stop h = rw (h, frames_from) refl
 
--- the records after the one at the front
+-- the packet frames after the one at the front
 abbrev pub frames_behind : ℕ → Version → ℕ → ℕ → List ℕ → InputEnding → List PacketFrame × Finish
 frames_behind fuel v number offset bytes e =
     let size = record_size v (packet_frame_of v bytes) in
@@ -170,20 +171,20 @@ frames_from-fuel (suc fuel) (suc more) v number offset (x ∷ xs) e a b =
         ∙ sym (frames_from-stops more v number offset (x ∷ xs) e stop h)
 
 -- a stream that begins with a record has that record, and then the records after it
-pub frames_from-frame_bytes : (fuel more : ℕ) (v : Version) (number offset : ℕ) (f : PacketFrame)
+pub frames_from-record_bytes : (fuel more : ℕ) (v : Version) (number offset : ℕ) (f : PacketFrame)
     (rest : List ℕ) (e : InputEnding) → number < max_frames → IsPacketFrame v f
-    → length (frame_bytes v f ++ rest) < fuel → length rest < more
-    → frames_from fuel v number offset (frame_bytes v f ++ rest) e
+    → length (record_bytes v f ++ rest) < fuel → length rest < more
+    → frames_from fuel v number offset (record_bytes v f ++ rest) e
     ≡ with_frame f (frames_from more v (number + 1) (offset + record_size v f) rest e)
-frames_from-frame_bytes zero more v number offset f rest e early ok a b = absurd (omega arith)
-frames_from-frame_bytes (suc fuel) more v number offset f rest e early ok a b =
-    let bytes = frame_bytes v f ++ rest in
-    let size = length-frame_bytes v f rest in
+frames_from-record_bytes zero more v number offset f rest e early ok a b = absurd (omega arith)
+frames_from-record_bytes (suc fuel) more v number offset f rest e early ok a b =
+    let bytes = record_bytes v f ++ rest in
+    let total = length-record_bytes v f rest in
     let some = some_head v in
-    let here : packet_frame_of v bytes ≡ f = packet_frame_of-frame_bytes v f rest ok in
-    let left : drop (record_size v f) bytes ≡ rest = drop-frame_bytes v f rest in
+    let here : packet_frame_of v bytes ≡ f = packet_frame_of-record_bytes v f rest ok in
+    let left : drop (record_size v f) bytes ≡ rest = drop-record_bytes v f rest in
     frames_from-goes_on fuel v number offset bytes e
-    (stop_at-frame_bytes v number offset f rest e early ok)
+    (stop_at-record_bytes v number offset f rest e early ok)
     ∙ ap (λ (g : PacketFrame). with_frame g
     (frames_from fuel v (number + 1) (offset + record_size v g) (drop (record_size v g) bytes) e))
     here
@@ -199,7 +200,7 @@ AreOpen-nil v = record { few = omega arith; fit = All-nil (IsPacketFrame v) }
 -- one more packet frame is allowed there, while there are not too many
 pub AreOpen-push : (v : Version) (frames : List PacketFrame) (f : PacketFrame) → AreOpen v frames
     → length frames < max_frames → IsPacketFrame v f → AreOpen v (frames ++ f ∷ [])
-AreOpen-push v frames f h more ok = record {
+AreOpen-push v frames f h below ok = record {
   few = omega (arith, length-append frames (f ∷ []));
   fit = All-push (IsPacketFrame v) frames f h.fit ok;
 }
@@ -219,17 +220,17 @@ frames_from-records [] fuel more v number offset rest e few ok a b =
     rw (add-zero number, add-zero offset) (frames_from-fuel fuel more v number offset rest e a b)
 frames_from-records (f ∷ fs) fuel more v number offset rest e few ok a b =
     let behind = records_bytes v fs ++ rest in
-    let apart : records_bytes v (f ∷ fs) ++ rest ≡ frame_bytes v f ++ behind =
-    append_assoc (frame_bytes v f) (records_bytes v fs) rest in
-    let long : length (frame_bytes v f ++ behind) < fuel =
+    let apart : records_bytes v (f ∷ fs) ++ rest ≡ record_bytes v f ++ behind =
+    append_assoc (record_bytes v f) (records_bytes v fs) rest in
+    let long : length (record_bytes v f ++ behind) < fuel =
     subst (λ (l : List ℕ). length l < fuel) apart a in
-    let size = size-frame_bytes v f in
-    let both = length-append (frame_bytes v f) (records_bytes v fs) in
+    let total = size-record_bytes v f in
+    let both = length-append (record_bytes v f) (records_bytes v fs) in
     let numbers : (number + 1) + length fs ≡ number + length (f ∷ fs) = omega arith in
     let offsets : (offset + record_size v f) + length (records_bytes v fs)
     ≡ offset + length (records_bytes v (f ∷ fs)) = omega arith in
     ap (λ l. frames_from fuel v number offset l e) apart
-    ∙ frames_from-frame_bytes fuel (suc (length behind)) v number offset f behind e (omega arith)
+    ∙ frames_from-record_bytes fuel (suc (length behind)) v number offset f behind e (omega arith)
     (All-head (IsPacketFrame v) f fs ok) long (omega arith)
     ∙ ap (with_frame f)
     (frames_from-records fs (suc (length behind)) more v (number + 1)
@@ -281,22 +282,22 @@ pub stream_of-records : (v : Version) (fs : List PacketFrame) (rest : List ℕ) 
     (with_frames fs (frames_from (suc (length rest)) v (length fs) (offset_after v fs) rest e))
 stream_of-records v fs rest e ok =
     let bytes = records_bytes v fs ++ rest in
-    let size = length-append (stream_magic v) bytes in
+    let total = length-append (stream_magic v) bytes in
     let few : 0 + length fs ≤ max_frames = let h = ok.few in omega (arith, h) in
-    let number : 0 + length fs ≡ length fs = omega arith in
+    let same : 0 + length fs ≡ length fs = omega arith in
     let all = frames_from-records fs (suc (length (stream_magic v ++ bytes)))
     (suc (length rest)) v 0 4 rest e few ok.fit (omega arith) (omega arith) in
     stream_of-magic v bytes e
     ∙ ap (stream_with v) all
     ∙ ap (λ n. stream_with v
-    (with_frames fs (frames_from (suc (length rest)) v n (offset_after v fs) rest e))) number
+    (with_frames fs (frames_from (suc (length rest)) v n (offset_after v fs) rest e))) same
 
--- the stream of an input that begins with these records has them, and then more
+-- the stream of an input that begins with these records has them, and then others
 pub stream_of-begins : (v : Version) (fs : List PacketFrame) (rest : List ℕ) (e : InputEnding)
     → AreOpen v fs
-    → (more : List PacketFrame) × (stop : Finish)
+    → (others : List PacketFrame) × (stop : Finish)
     × (stream_of (record { bytes = stream_magic v ++ (records_bytes v fs ++ rest); ending = e })
-    ≡ stream_with v (fs ++ more, stop))
+    ≡ stream_with v (fs ++ others, stop))
 stream_of-begins v fs rest e ok =
     let t = frames_from (suc (length rest)) v (length fs) (offset_after v fs) rest e in
     (t.0, t.1, stream_of-records v fs rest e ok)

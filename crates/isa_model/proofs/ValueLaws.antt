@@ -83,7 +83,7 @@ pub unsigned_fits : (w : Width) (k : ℤ) → FitsSigned w32 k → unsigned w k 
 unsigned_fits Low32 k h = omega (arith, ints)
 unsigned_fits Full64 k h = omega (arith, ints)
 
--- eight bytes spell a number of a register
+-- eight bytes spell a number that fits a register
 pub number_from_fits : (bytes : List ℕ) → EachByte bytes → number_from bytes < 2 ^ 64
 number_from_fits bytes h =
     let h0 = h 0 in
@@ -165,7 +165,7 @@ on_number_fits count next f Unset h = tt
 
 -- ---- cells
 
--- a byte cell's byte, and 0 elsewhere
+-- the byte of a number byte, and 0 for any other cell
 pub byte_in_fits : (count next : ℕ) (c : Cell) → IsCell count next c → byte_in c < 256
 byte_in_fits count next Unwritten h = omega arith
 byte_in_fits count next (Byte b) h = h
@@ -197,8 +197,8 @@ number_of_fits count next cs h = number_from_fits (map byte_in cs)
 pub number_in_fits : (count next : ℕ) (cs : List Cell) → All (IsCell count next) cs
     → IfOk (number_in cs) (λ n. n < 2 ^ 64)
 number_in_fits count next cs h =
-    IfOk-if (λ n. n < 2 ^ 64) (list_any is_unwritten cs) (Err UnsetRead) _ (λ unset. tt)
-    (λ set. IfOk-if (λ n. n < 2 ^ 64) (list_all is_byte cs) (Ok (number_of cs)) (Err BadAccess)
+    IfOk-if (λ n. n < 2 ^ 64) (list_any is_unwritten cs) (Err UnsetRead) _ (λ unwritten. tt)
+    (λ written. IfOk-if (λ n. n < 2 ^ 64) (list_all is_byte cs) (Ok (number_of cs)) (Err BadAccess)
     (λ all. number_of_fits count next cs h) (λ some. tt))
 
 pub pointer_in_fits : (count next : ℕ) (cs : List Cell) → All (IsCell count next) cs
@@ -214,8 +214,8 @@ pointer_in_fits count next (Piece r z k ∷ cs) h =
 pub value_in_fits : (count next : ℕ) (cs : List Cell) → All (IsCell count next) cs
     → IfOk (value_in cs) (IsValue count next)
 value_in_fits count next cs h =
-    IfOk-if (IsValue count next) (list_any is_unwritten cs) (Err UnsetRead) _ (λ unset. tt)
-    (λ set. IfOk-if (IsValue count next) (list_all is_byte cs) (Ok (Num (number_of cs)))
+    IfOk-if (IsValue count next) (list_any is_unwritten cs) (Err UnsetRead) _ (λ unwritten. tt)
+    (λ written. IfOk-if (IsValue count next) (list_all is_byte cs) (Ok (Num (number_of cs)))
     (pointer_in cs)
     (λ all. number_of_fits count next cs h) (λ some. pointer_in_fits count next cs h))
 

@@ -1,4 +1,5 @@
--- What an instruction is: registers, sizes, numbers, forms and their bytes.
+-- What an instruction is: registers, sizes, numbers, forms and their bytes; helpers, map rows,
+-- versions and limits.
 pub mod Registers
 pub mod Sizes
 pub mod Versions

@@ -1,4 +1,4 @@
--- Runs: many steps, how they end, and the clock.
+-- Runs: many steps, how they end, and their outcomes.
 pub mod Runs
 pub mod Ends
 pub mod Outcomes

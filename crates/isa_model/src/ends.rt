@@ -8,7 +8,7 @@ ghost use Rattle.isa_model.specs.Reporting.Reports.{trap_reason_name};
 pub enum TrapReason {
     /// No instruction begins at the slot.
     NoCode,
-    /// An unset register or byte is read.
+    /// An unset register or an unwritten byte is read.
     UnsetRead,
     /// r10 is written.
     ReadOnly,

@@ -4,7 +4,7 @@ ghost use Rattle.std.specs.Prelude.{◌≡◌, ◌≤◌, length};
 ghost use Rattle.isa_model.specs.Reporting.Frames.{action_of};
 ghost use Rattle.isa_model.specs.Reporting.Reports.{action_name, is_forwarded};
 
-/// What a frame's record says beside its bytes: a time in nanoseconds, and the interface and queue
+/// What a frame's record says beside the body: a time in nanoseconds, and the interface and queue
 /// that it came in by.
 #[derive(Clone, Copy, PartialEq, Eq, Debug)]
 pub struct FrameHead {

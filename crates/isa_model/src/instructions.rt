@@ -1,6 +1,6 @@
 //! The instructions, one variant for each form of the encoding. RFC 9669, sections 3 to 5.
 //!
-//! The parts' types admit only what can be spelled, so each value is an instruction.
+//! The parts' types admit only what can be spelled, so nothing else is an `Insn`.
 
 ghost use Rattle.std.specs.Prelude.{◌≡◌, ◌++◌};
 ghost use Rattle.std.specs.Option.{option_to_list};

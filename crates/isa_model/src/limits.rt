@@ -19,7 +19,7 @@ pub const MAX_MAP_ENTRIES: u32 = 65_536;
 /// The most bytes of all keys and values together, each map with as many keys as it can have.
 pub const MAX_MAP_ROOM: u64 = 16_777_216;
 
-/// The bytes of stack of a call frame. Linux, `MAX_BPF_STACK`.
+/// How many bytes of stack a call frame has. Linux, `MAX_BPF_STACK`.
 pub const STACK_SIZE: usize = 512;
 
 /// The most live call frames. Linux, `MAX_CALL_FRAMES`.
@@ -35,7 +35,7 @@ pub const MAX_PACKET: usize = 9216;
 /// The most bytes of a packet of a stream of the first version.
 pub const MAX_SHORT_PACKET: usize = 4096;
 
-/// The most instructions that a run may execute.
+/// The most steps that a run may take.
 pub const MAX_STEPS: u32 = 1_000_000;
 
 /// The most instructions that the verifier explores. Linux, `BPF_COMPLEXITY_LIMIT_INSNS`.

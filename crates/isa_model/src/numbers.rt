@@ -25,7 +25,7 @@ pub fn unsigned(width: Width, k: i32) -> u64
     }
 }
 
-/// The result of the operation on two registers' numbers. At 32 bits its upper half is zero.
+/// The result of the operation on the numbers in two registers. At 32 bits its upper half is zero.
 #[tactic(auto, unfolding(crate::specs::Code::Numbers::alu))]
 pub fn compute(op: AluOp, width: Width, a: u64, b: u64) -> u64
     ensures { result ≡ alu op width a b }
@@ -155,7 +155,7 @@ pub fn as_signed(width: Width, a: u64) -> i64
     }
 }
 
-/// Whether the comparison holds of two registers' numbers, at the width.
+/// Whether the comparison holds of the numbers in two registers, at the width.
 #[tactic(auto, unfolding(crate::specs::Code::Numbers::holds))]
 pub fn compare(comparison: Comparison, width: Width, a: u64, b: u64) -> bool
     ensures { result ≡ holds comparison width a b }

@@ -1,4 +1,5 @@
-//! How many bits an instruction works on. RFC 9669, sections 3.3, 4.1, 4.2, 5.1 and 5.2.
+//! How many bits an instruction works on, and byte orders. RFC 9669, sections 3.3, 4.1, 4.2, 5.1
+//! and 5.2.
 
 ghost use Rattle.std.specs.Prelude.{◌≡◌, ◌≤◌};
 ghost use Rattle.isa_model.specs.Code.Sizes.{size_bytes, width_size, width_bits};
@@ -32,7 +33,7 @@ impl Width {
     }
 }
 
-/// How many bytes a load or store moves: 1, 2, 4 or 8.
+/// How many bytes a load reads or a store writes: 1, 2, 4 or 8.
 #[derive(Clone, Copy)]
 pub enum Size {
     U8,

@@ -1,4 +1,4 @@
-//! What registers hold in the meaning, tagged values, and what the bytes of call frames are, cells.
+//! What registers hold in the meaning, tagged values; call frames, and what their bytes are, cells.
 
 use crate::limits::STACK_SIZE;
 

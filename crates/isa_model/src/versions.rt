@@ -28,7 +28,7 @@ impl Version {
     /// How many bytes come before a record's body in a stream of this version.
     pub fn head_size(self) -> usize
         ensures size { result ≡ head_size self }
-        ensures bounded { result ≤ 24 }
+        ensures short { result ≤ 24 }
     {
         match self {
             Version::One => 20,
@@ -39,7 +39,7 @@ impl Version {
     /// The most bytes that a packet frame's body has in a stream of this version.
     pub fn max_body(self) -> usize
         ensures most { result ≡ max_body self }
-        ensures bounded { result ≤ MAX_PACKET }
+        ensures short { result ≤ MAX_PACKET }
     {
         match self {
             Version::One => MAX_SHORT_PACKET,

@@ -63,11 +63,12 @@ low_most {v} {m} {x} k h i =
 same_carry : (n p q : ℕ) → p < 2 → q < 2 → ((n + q) % 2 + (n + p) % 2) % 2 ≡ 0 → p ≡ q
 same_carry n p q p_in q_in h = omega arith
 
-sum_step : {a am b bm x y : ℕ} (p c q : ℕ) → Between a am x → Between b bm y → p ≤ c → c ≤ q → q < 2
+sum_at_bit : {a am b bm x y : ℕ} (p c q : ℕ) → Between a am x → Between b bm y → p ≤ c → c ≤ q
+    → q < 2
     → (s ga gb g t m3 m2 mu v : ℕ) → s ≡ (a + b + p) % 2
     → ga ≡ max a am → gb ≡ max b bm → g ≡ (ga + gb + q) % 2 → t ≡ (x + y + c) % 2
     → m3 ≡ (g + s) % 2 → m2 ≡ max m3 am → mu ≡ max m2 bm → v ≡ min s (1 - mu) → Between v mu t
-sum_step {a} {am} {b} {bm} {x} {y} p c q ha hb pc cq q_in s ga gb g t m3 m2 mu v es ea eb eg et e3
+sum_at_bit {a} {am} {b} {bm} {x} {y} p c q ha hb pc cq q_in s ga gb g t m3 m2 mu v es ea eb eg et e3
     e2 em ev =
     let two : mu < 2 = omega arith in
     elim (cases_lt 0 mu) [
@@ -123,6 +124,6 @@ module _ {av am bv bm : ℕ} (ka : Apart av am) (kb : Apart bv bm) where
       let c2 = carry_mono x y (bit_or av am) (bit_or bv bm) i (low_most ka hx i)
       (low_most kb hy i) in
       let c3 = carry_small (bit_or av am) (bit_or bv bm) i in
-      sum_step _ _ _ (bits_between ka hx i i_in)
+      sum_at_bit _ _ _ (bits_between ka hx i i_in)
       (bits_between kb hy i i_in) c1 c2 c3 _ _ _ _ _ _ _ _ _ (l2 ∙ s2) oa ob (l1 ∙ s1)
       (l3 ∙ s3) m3 m2 m1 e)

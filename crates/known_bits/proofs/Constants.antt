@@ -1,4 +1,4 @@
--- Sets of one number.
+-- Constants: sets of one number.
 use Rattle.std.proofs.Common.{◌≡◌, ℕ}
 use Rattle.known_bits.specs.Member.{IsMember}
 use Rattle.known_bits.proofs.Shift.{constant_only}

@@ -34,7 +34,7 @@ bit_at-allowed v m x i fits h inside =
     let small = bit_at-lt m i in
     omega arith
 
--- the bits of a low part are those of the whole
+-- the bits of a low part are those of the number
 bit_at-low : (n w i : ℕ) → i < w → bit_at (n % 2 ^ w) i ≡ bit_at n i
 bit_at-low n w i below =
     let one = bit_at_ones w i below in

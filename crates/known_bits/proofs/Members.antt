@@ -26,8 +26,8 @@ pub bits_apart : {v m : ℕ} → Apart v m → (i : ℕ) → bit_at v i + bit_at
 bits_apart {v} {m} h i =
     let e : min (bit_at v i) (bit_at m i) ≡ 0 = sym (bit_at_and v m i)
     ∙ ap (λ n. bit_at n i) h.apart ∙ bit_at-zero i in
-    let low : bit_at v i < 2 = bit_at-lt v i in
-    let mask : bit_at m i < 2 = bit_at-lt m i in
+    let v_small : bit_at v i < 2 = bit_at-lt v i in
+    let m_small : bit_at m i < 2 = bit_at-lt m i in
     omega arith
 
 pub bits_between : {v m x : ℕ} → Apart v m → IsMember v m x → (i : ℕ) → i < 64
@@ -36,8 +36,8 @@ bits_between {v} {m} {x} k h i i_in =
     let e : bit_at v i ≡ min (bit_at x i) (1 - bit_at m i) = ap (λ n. bit_at n i) (sym h.known)
     ∙ bit_at_and x (bit_not w64 m) i
     ∙ ap (min (bit_at x i)) (bit_at_not w64 m i k.mask_in i_in) in
-    let low : bit_at x i < 2 = bit_at-lt x i in
-    let mask : bit_at m i < 2 = bit_at-lt m i in
+    let x_small : bit_at x i < 2 = bit_at-lt x i in
+    let m_small : bit_at m i < 2 = bit_at-lt m i in
     record { apart = bits_apart k i; least = omega arith; most = omega arith }
 
 pub apart_from_bits : {v m : ℕ} → v < 2 ^ 64 → m < 2 ^ 64

@@ -1,4 +1,4 @@
--- Common members, and inclusion.
+-- Common members, inclusion, and the order of members: the least and the greatest.
 use Rattle.std.proofs.Common.{◌≡◌, ℕ, ◌+◌, ◌-◌, ◌%◌, ◌^◌, ◌<◌, ◌≤◌, min, max, w64, sym, ap, ◌∙◌, arith, bit_and, bit_or, bit_xor}
 use Rattle.std.specs.Int.{bit_at, bit_not}
 use Rattle.std.proofs.lemmas.Nat.{and_le_l, and_le_r, or_lt, xor_lt, mod_below, pow_pos}
@@ -113,7 +113,7 @@ pub member_most : {v m x : ℕ} → Apart v m → IsMember v m x → x ≤ bit_o
 member_most {v} {m} {x} k h =
     let e = member_and_most k h in let le = and_le_r x (bit_or v m) in omega arith
 
--- a member of the low parts is below
+-- a member of the low parts is below 2 ^ n
 pub low_fits : {v m x : ℕ} → Apart v m → (n : ℕ) → IsMember (v % 2 ^ n) (m % 2 ^ n) x → x < 2 ^ n
 low_fits {v} {m} {x} k n h =
     let most = member_most (low_apart k n) h in

@@ -1,4 +1,4 @@
--- Members with bits in common, and sets of all numbers below a power of two.
+-- Members that overlap, with bits in common, and sets of all numbers below a power of two.
 use Rattle.std.proofs.Common.{◌≡◌, ◌≢◌, ℕ, ◌+◌, ◌-◌, ◌*◌, ◌/◌, ◌%◌, ◌^◌, ◌<◌, ◌≤◌, min, w64, sym, ap, ◌∙◌, inl, inr, arith, bit_and, bit_or}
 use Rattle.std.specs.Int.{bit_at, bit_not, trailing_zeros}
 use Rattle.std.proofs.lemmas.Nat.{and_le_l, and_le_r, one_shl, pow_pos}
@@ -59,7 +59,7 @@ not_not n h = omega arith
 pub having_apart : (n : ℕ) → n < 2 ^ 64 → bit_and n (bit_not w64 n) ≡ 0
 having_apart n h = without_self n h
 
--- a set of all numbers with one bit
+-- the set of all numbers that have bit j
 pub having_member : (x j : ℕ) → j < 64 → x < 2 ^ 64 → bit_at x j ≡ 1
     → IsMember (1 * 2 ^ j % 2 ^ 64) (bit_not w64 (1 * 2 ^ j % 2 ^ 64)) x
 having_member x j j_in x_in one =

@@ -1,4 +1,5 @@
--- Each unknown bit of sums, differences and shifts is 0 in some result and 1 in another.
+-- Precise operations: each unknown bit of sums, differences and shifts is 0 in some result and 1 in
+-- another.
 use Rattle.std.proofs.Common.{inl, inr, ◌≡◌, ℕ, ◌+◌, ◌-◌, ◌*◌, ◌/◌, ◌%◌, ◌^◌, ◌<◌, ◌≤◌, w64, sym, ap, ◌∙◌, arith, bit_or, bit_xor}
 use Rattle.std.specs.Int.{bit_at, bit_not}
 use Rattle.std.proofs.Math.Nat.{add-mul-div_right}

@@ -1,4 +1,4 @@
--- Numbers between two share the bits above the highest in which those differ.
+-- Numbers between two share a prefix of bits, those above the highest in which the two differ.
 use Rattle.std.proofs.Common.{◌≡◌, ℕ, ◌+◌, ◌-◌, ◌*◌, ◌/◌, ◌^◌, ◌<◌, ◌≤◌, w64, inl, inr, sym, ap, ◌∙◌, arith, bit_and, bit_xor}
 use Rattle.std.specs.Int.{bit_at, bit_not, leading_zeros}
 use Rattle.std.proofs.Math.Nat.{div-eq_of_lt, div-mul-le_self, div-lt_iff_lt-mul}
@@ -48,8 +48,8 @@ pub between_sharp : (l g mask i : ℕ) → l < 2 ^ 64 → g < 2 ^ 64
 between_sharp l g mask i l_in g_in e unknown same =
     let k = 64 - leading_zeros w64 (bit_xor l g) in
     let n = leading_length 64 (bit_xor l g) (xor_lt 64 l g l_in g_in) in
-    let length : n.0 ≡ k = omega (arith, n.1) in
-    let large : 2 ^ k ≤ 2 * bit_xor l g + 1 = rw length at n.3 in
+    let same_count : n.0 ≡ k = omega (arith, n.1) in
+    let large : 2 ^ k ≤ 2 * bit_xor l g + 1 = rw same_count at n.3 in
     elim (cases_lt i k) [
       | inl lt ↦
           let shifted : bit_xor l g / 2 ^ i ≡ 0 = xor_shr l g i

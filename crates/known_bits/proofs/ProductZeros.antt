@@ -1,4 +1,4 @@
--- What two factors show of their product: trailing zeros, and its length.
+-- What two factors show of their product: its trailing zeros, and how many bits it has at most.
 use Rattle.std.proofs.Common.{◌≡◌, ℕ, ◌+◌, ◌-◌, ◌*◌, ◌/◌, ◌%◌, ◌^◌, ◌<◌, ◌≤◌, w64, sym, ap, ◌∙◌, inl, inr, arith, bit_and, bit_or}
 use Rattle.std.specs.Int.{bit_at, trailing_zeros}
 use Rattle.std.specs.Int.Count.{trailing_of_zero}
@@ -119,10 +119,10 @@ lt-pow_from_bits x l h =
 
 -- if 0 is a member, and the bits from position l on are known to be the same in all members,
 -- members are below 2 ^ l
-pub member-length : (v m g x l : ℕ) → m < 2 ^ 64 → IsMember v m 0
+pub member-below : (v m g x l : ℕ) → m < 2 ^ 64 → IsMember v m 0
     → ((i : ℕ) → bit_at m i ≡ 1 → 0 / 2 ^ i ≡ g / 2 ^ i → ⊥)
     → g < 2 ^ l → IsMember v m x → x < 2 ^ l
-member-length v m g x l m_in zero sharp small h =
+member-below v m g x l m_in zero sharp small h =
     lt-pow_from_bits x l
     (λ i from. elim (cases_lt i 64) [
       | inl inside ↦ elim (cases_lt 0 (bit_at x i)) [

@@ -42,7 +42,7 @@ reversed_bit (suc k) n i i_in =
           ∙ ap (bit_at n) (let e : turned k (i - 8) ≡ turned (suc k) i = omega arith in e)
     ]
 
--- what reverses bytes in the library is that number
+-- what reverses bytes in std is that number
 two_bytes : (a z b : ℕ) → a ≡ z → a * 256 + b ≡ (0 * 256 + z) * 256 + b
 two_bytes a z b e = omega arith
 

@@ -1,4 +1,4 @@
--- Each unknown bit is 0 in some result and 1 in another.
+-- Sharp results: each unknown bit is 0 in some result and 1 in another.
 use Rattle.std.proofs.Common.{inl, inr, ◌≡◌, ◌≢◌, ℕ, ◌%◌, ◌^◌, ◌<◌, sym, ap, ◌∙◌, arith, bit_and, bit_or, bit_xor}
 use Rattle.std.specs.Int.{bit_at}
 use Rattle.std.proofs.lemmas.Nat.{or_lt}
@@ -111,7 +111,7 @@ module _ {av am bv bm : ℕ} (ka : Apart av am) (kb : Apart bv bm) where
             (least_member ka) (most_member kb) (λ same. omega arith)
       ]
 
--- a truncated mask's bits are those of the whole
+-- a truncated mask's bits are those of the mask
 pub low_set : (m n i : ℕ) → bit_at (m % 2 ^ n) i ≡ 1 → (i < n) × (bit_at m i ≡ 1)
 low_set m n i h =
     elim (cases_lt i n) [

@@ -69,34 +69,34 @@ spliced-lt from count x y inside fits =
     ap (λ n. 2 ^ n) (let s : 64 - top + count + from ≡ 64 = omega arith in s) in
     omega arith
 
--- a mask of those bits
-pub mask_there : (from count ones : ℕ) → ones + 1 ≡ 2 ^ count → from + count ≤ 64
+-- the number that has those bits and no others: the bits that are written
+pub written_there : (from count ones : ℕ) → ones + 1 ≡ 2 ^ count → from + count ≤ 64
     → (ones * 2 ^ from) % 2 ^ 64 ≡ 2 ^ (from + count) - 2 ^ from
-mask_there from count ones h inside =
+written_there from count ones h inside =
     let p : 2 ^ (from + count) ≡ 2 ^ from * 2 ^ count = pow-add 2 from count in
     let e : (ones + 1) * 2 ^ from ≡ 2 ^ count * 2 ^ from = ap (λ n. n * 2 ^ from) h in
     let most : 2 ^ (from + count) ≤ 2 ^ 64 = pow_mono inside in
     let some = pow_pos from in
     mod-eq_of_lt {n = ones * 2 ^ from} {m = 2 ^ 64} (omega arith) ∙ omega arith
 
--- what is written by it
-pub spliced-masked : (from count x y m : ℕ) → from < 64 → from + count ≤ 64 → x < 2 ^ 64
-    → m ≡ 2 ^ (from + count) - 2 ^ from → m < 2 ^ 64
-    → bit_or (bit_and x (bit_not w64 m)) (bit_and ((y * 2 ^ from) % 2 ^ 64) m)
+-- with these bits, what `spliced` computes
+pub spliced-bits : (from count x y b : ℕ) → from < 64 → from + count ≤ 64 → x < 2 ^ 64
+    → b ≡ 2 ^ (from + count) - 2 ^ from → b < 2 ^ 64
+    → bit_or (bit_and x (bit_not w64 b)) (bit_and ((y * 2 ^ from) % 2 ^ 64) b)
     ≡ spliced from count x y
-spliced-masked from count x y m start inside fits is small =
-    let kept = bit_and x (bit_not w64 m) in
-    let there = bit_and ((y * 2 ^ from) % 2 ^ 64) m in
+spliced-bits from count x y b start inside fits is small =
+    let kept = bit_and x (bit_not w64 b) in
+    let there = bit_and ((y * 2 ^ from) % 2 ^ 64) b in
     same_from_bits_below 64 _ _
-    (or_lt 64 kept there (let le = and_le_l x (bit_not w64 m) in omega arith)
-    (let le = and_le_l ((y * 2 ^ from) % 2 ^ 64) m in omega arith))
+    (or_lt 64 kept there (let le = and_le_l x (bit_not w64 b) in omega arith)
+    (let le = and_le_l ((y * 2 ^ from) % 2 ^ 64) b in omega arith))
     (spliced-lt from count x y inside fits)
     (λ i within.
     let both = bit_at_or kept there i in
-    let left = bit_at_and x (bit_not w64 m) i in
-    let right = bit_at_and ((y * 2 ^ from) % 2 ^ 64) m i in
-    let not = bit_at_not w64 m i small within in
-    let mask = ap (λ n. bit_at n i) is in
+    let left = bit_at_and x (bit_not w64 b) i in
+    let right = bit_at_and ((y * 2 ^ from) % 2 ^ 64) b i in
+    let not = bit_at_not w64 b i small within in
+    let written = ap (λ n. bit_at n i) is in
     let one = bit_at-lt x i in
     let other = bit_at-lt ((y * 2 ^ from) % 2 ^ 64) i in
     elim (cases_lt i from) [
@@ -108,7 +108,7 @@ spliced-masked from count x y m start inside fits is small =
         | inl before ↦
             let some = bit_at_mask_inside from (from + count) i (omega arith) before in
             let new = spliced_there from count x y i (omega arith) before in
-            let moved = shifted_high y from i within (omega arith) in
+            let shifted = shifted_high y from i within (omega arith) in
             omega arith
         | inr above ↦
             let none = bit_at_mask_above from (from + count) i (omega arith) in
@@ -194,9 +194,9 @@ spliced_high from count x y fits =
     (mod_below x (2 ^ from) (pow_pos from))
     ∙ ap (λ n. x / 2 ^ (from + count) * 2 ^ count + n) (mod-eq_of_lt {n = y} {m = 2 ^ count} fits)
 
--- other low bits
-spliced_low_bits : (k s y : ℕ) → y < 2 ^ k → spliced 0 k s y ≡ s / 2 ^ k * 2 ^ k + y
-spliced_low_bits k s y fits =
+-- other bits, from bit 0 on
+spliced_from_zero : (k s y : ℕ) → y < 2 ^ k → spliced 0 k s y ≡ s / 2 ^ k * 2 ^ k + y
+spliced_from_zero k s y fits =
     let same : 0 + k ≡ k = omega arith in
     ap (λ j. (s / 2 ^ j * 2 ^ k + y % 2 ^ k) * 1 + s % 1) same
     ∙ ap (λ n. (s / 2 ^ k * 2 ^ k + n) * 1 + s % 1) (mod-eq_of_lt {n = y} {m = 2 ^ k} fits)
@@ -221,19 +221,19 @@ spliced-low_bits from count x y =
     (mod_below y (2 ^ count) (pow_pos count)) in
     ap (λ n. (x / 2 ^ (from + count) * 2 ^ count + n) * 2 ^ from + x % 2 ^ from) (sym small)
 
-at_least : (a b c d e : ℕ) → a ≡ b + 0 → b ≤ c → c ≤ d → e ≡ d → a ≤ e
-at_least a b c d e h k l m = omega arith
+le_least : (a b c d e : ℕ) → a ≡ b + 0 → b ≤ c → c ≤ d → e ≡ d → a ≤ e
+le_least a b c d e h k l m = omega arith
 
-at_most : (a b r d e f p : ℕ) → e ≡ d → b + r ≡ d → r < p → b ≤ a → f ≡ a + (p - 1) → e ≤ f
-at_most a b r d e f p h k l m n = omega arith
+le_greatest : (a b r d e f p : ℕ) → e ≡ d → b + r ≡ d → r < p → b ≤ a → f ≡ a + (p - 1) → e ≤ f
+le_greatest a b r d e f p h k l m n = omega arith
 
-between : (a b c d l m : ℕ) → a ≡ b + l → b ≤ c → d ≡ c + m → l ≤ m → a ≤ d
-between a b c d l m h k n o = omega arith
+le_wider : (a b c d l m : ℕ) → a ≡ b + l → b ≤ c → d ≡ c + m → l ≤ m → a ≤ d
+le_wider a b c d l m h k n o = omega arith
 
 pub spliced_least : (from count x y v w : ℕ) → x ≤ v → y ≤ w % 2 ^ count
     → spliced 0 from (spliced from count x y) 0 ≤ spliced from count v w
 spliced_least from count x y v w h k =
-    at_least _ _ _ _ _ (spliced_low_bits from (spliced from count x y) 0 (pow_pos from))
+    le_least _ _ _ _ _ (spliced_from_zero from (spliced from count x y) 0 (pow_pos from))
     (spliced_mono from count x y v (w % 2 ^ count) h k (mod_below w (2 ^ count) (pow_pos count)))
     (div-mul-le_self (spliced from count v (w % 2 ^ count)) (2 ^ from))
     (spliced-low_bits from count v w)
@@ -242,24 +242,24 @@ pub spliced_greatest : (from count x y v w : ℕ) → x ≤ v → y % 2 ^ count 
     → spliced from count x y ≤ spliced 0 from (spliced from count v w) (2 ^ from - 1)
 spliced_greatest from count x y v w h k fits =
     let some = pow_pos from in
-    at_most _ _ _ _ _ _ (2 ^ from) (spliced-low_bits from count x y)
+    le_greatest _ _ _ _ _ _ (2 ^ from) (spliced-low_bits from count x y)
     (shr_split (spliced from count x (y % 2 ^ count)) from)
     (mod_below (spliced from count x (y % 2 ^ count)) (2 ^ from) some)
     (spliced_mono from count x (y % 2 ^ count) v w h k fits)
-    (spliced_low_bits from (spliced from count v w) (2 ^ from - 1) (omega arith))
+    (spliced_from_zero from (spliced from count v w) (2 ^ from - 1) (omega arith))
 
 -- wider limits stay wider with their bits replaced
 pub spliced_wider : (from count x y v w l m : ℕ) → x ≤ v → y ≤ w → w < 2 ^ count → l < 2 ^ from
     → m < 2 ^ from → l ≤ m
     → spliced 0 from (spliced from count x y) l ≤ spliced 0 from (spliced from count v w) m
 spliced_wider from count x y v w l m h k fits ll mm lm =
-    between _ _ _ _ l m (spliced_low_bits from (spliced from count x y) l ll)
+    le_wider _ _ _ _ l m (spliced_from_zero from (spliced from count x y) l ll)
     (spliced_mono from count x y v w h k fits)
-    (spliced_low_bits from (spliced from count v w) m mm) lm
+    (spliced_from_zero from (spliced from count v w) m mm) lm
 
 -- ---- low halves
 
--- one that is written whole
+-- one of which all bits are written
 pub spliced_new_low : (x y : ℕ) → spliced 0 32 x y % 2 ^ 32 ≡ y % 2 ^ 32
 spliced_new_low x y =
     same_from_bits_below 32 _ _ (mod_below (spliced 0 32 x y) (2 ^ 32) (pow_pos 32))
@@ -270,7 +270,7 @@ spliced_new_low x y =
     ∙ ap (λ j. bit_at y j) same
     ∙ sym (low_bit y 32 i below))
 
--- and one that is not written
+-- and one of which none is
 pub spliced_old_low : (from count x y : ℕ) → 32 ≤ from
     → spliced from count x y % 2 ^ 32 ≡ x % 2 ^ 32
 spliced_old_low from count x y above =

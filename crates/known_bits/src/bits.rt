@@ -12,7 +12,7 @@ pub struct Bits {
     pub value: u64,
     pub mask: u64,
     pub ghost apart: { bit_and value mask ≡ 0 },
-    // A law reads the mask as a natural number, and so needs its size.
+    // A law reads the mask as a natural number, and so needs to know that it has 64 bits.
     pub ghost fits: { mask < 2 ^ 64 },
 }
 

@@ -1,4 +1,4 @@
-//! The operations that work on each bit by itself.
+//! The logical operations, which work on each bit by itself.
 
 ghost use Rattle.std.specs.Prelude.{◌≡◌, ℕ, ◌-◌, ◌^◌, bit_and, bit_or, bit_xor};
 

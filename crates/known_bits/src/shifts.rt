@@ -143,9 +143,9 @@ pub fn spliced(from: u64, count: u32, number: u64, other: u64) -> u64
 }
 
 // By how many bits a shift by a number moves.
-fn distance(width: Width, by: u64) -> u64
-    ensures value { result ≡ shift width by }
+fn distance(width: Width, number: u64) -> u64
+    ensures is_shift { result ≡ shift width number }
     ensures below { result < width_bits width }
 {
-    by % u64::from(width.bits())
+    number % u64::from(width.bits())
 }

@@ -1,4 +1,4 @@
--- Laws of the token at an offset of the text.
+-- Laws of the definitions in specs/Lexing: where a text begins with no lexeme.
 use Rattle.std.proofs.Common.{◌≡◌, ℕ, zero, suc, ◌-◌, ◌≤◌, ◌==◌, ◌&&◌, Bool, true, false, if◌then◌else◌, List, length, drop, arith, ne_eqb}
 use Rattle.std.specs.Prelude.{slice_index}
 use Rattle.std.specs.List.{prefix_len}

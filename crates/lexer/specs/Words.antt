@@ -1,4 +1,4 @@
--- What each word means.
+-- The words of program text, by their bytes.
 use Rattle.std.specs.Prelude.{ℕ, ◌==◌, if◌then◌else◌, List, [], ◌∷◌, codes, Option, Some, None}
 use Rattle.std.specs.Str.{bytes_eq}
 use Rattle.isa_model.specs.declared.registers.Reg.{Reg}

@@ -1,4 +1,4 @@
-//! The token, blank or comment at the front of a text.
+//! The lexeme at the front of a text: a token, a blank, a comment or the end of a statement.
 
 ghost use Rattle.std.specs.Prelude.{◌≡◌, IfErr};
 ghost use Rattle.std.specs.Result.{result_ok};

@@ -1,4 +1,4 @@
-//! What each word means.
+//! The words of program text, by their bytes.
 
 ghost use Rattle.std.specs.Prelude.{◌≡◌, bytes_eq};
 ghost use Rattle.lexer.specs.Words.{reg_of, register_word, word_of, keyword, size_word, swap_word, atomic_word, map_word};
@@ -34,26 +34,26 @@ fn register_word(width: Width, reg: Option<Reg>) -> Word
     }
 }
 
-fn is_text(word: &[u8], text: &str) -> bool
-    ensures { result ≡ bytes_eq word.now text.now }
+fn is_spelled(word: &[u8], spelling: &str) -> bool
+    ensures { result ≡ bytes_eq word.now spelling.now }
 {
-    word == text.as_bytes()
+    word == spelling.as_bytes()
 }
 
 fn map_word(word: &[u8]) -> Word
     ensures { result ≡ map_word word.now }
 {
-    if is_text(word, "map") {
+    if is_spelled(word, "map") {
         Word::Map
-    } else if is_text(word, "hash") {
+    } else if is_spelled(word, "hash") {
         Word::MapType(MapType::Hash)
-    } else if is_text(word, "array") {
+    } else if is_spelled(word, "array") {
         Word::MapType(MapType::Array)
-    } else if is_text(word, "map_by_idx") {
+    } else if is_spelled(word, "map_by_idx") {
         Word::MapByIndex
-    } else if is_text(word, "map_val") {
+    } else if is_spelled(word, "map_val") {
         Word::MapValue
-    } else if is_text(word, "version") {
+    } else if is_spelled(word, "version") {
         Word::Version
     } else {
         Word::Other
@@ -63,29 +63,29 @@ fn map_word(word: &[u8]) -> Word
 fn atomic_word(word: &[u8]) -> Word
     ensures { result ≡ atomic_word word.now }
 {
-    if is_text(word, "atomic_fetch_add_32") {
+    if is_spelled(word, "atomic_fetch_add_32") {
         Word::Fetch(AtomicOp::Add, Width::Low32)
-    } else if is_text(word, "atomic_fetch_add_64") {
+    } else if is_spelled(word, "atomic_fetch_add_64") {
         Word::Fetch(AtomicOp::Add, Width::Full64)
-    } else if is_text(word, "atomic_fetch_or_32") {
+    } else if is_spelled(word, "atomic_fetch_or_32") {
         Word::Fetch(AtomicOp::Or, Width::Low32)
-    } else if is_text(word, "atomic_fetch_or_64") {
+    } else if is_spelled(word, "atomic_fetch_or_64") {
         Word::Fetch(AtomicOp::Or, Width::Full64)
-    } else if is_text(word, "atomic_fetch_and_32") {
+    } else if is_spelled(word, "atomic_fetch_and_32") {
         Word::Fetch(AtomicOp::And, Width::Low32)
-    } else if is_text(word, "atomic_fetch_and_64") {
+    } else if is_spelled(word, "atomic_fetch_and_64") {
         Word::Fetch(AtomicOp::And, Width::Full64)
-    } else if is_text(word, "atomic_fetch_xor_32") {
+    } else if is_spelled(word, "atomic_fetch_xor_32") {
         Word::Fetch(AtomicOp::Xor, Width::Low32)
-    } else if is_text(word, "atomic_fetch_xor_64") {
+    } else if is_spelled(word, "atomic_fetch_xor_64") {
         Word::Fetch(AtomicOp::Xor, Width::Full64)
-    } else if is_text(word, "xchg_32") {
+    } else if is_spelled(word, "xchg_32") {
         Word::Exchange(Width::Low32)
-    } else if is_text(word, "xchg_64") {
+    } else if is_spelled(word, "xchg_64") {
         Word::Exchange(Width::Full64)
-    } else if is_text(word, "cmpxchg_32") {
+    } else if is_spelled(word, "cmpxchg_32") {
         Word::CompareExchange(Width::Low32)
-    } else if is_text(word, "cmpxchg_64") {
+    } else if is_spelled(word, "cmpxchg_64") {
         Word::CompareExchange(Width::Full64)
     } else {
         map_word(word)
@@ -95,23 +95,23 @@ fn atomic_word(word: &[u8]) -> Word
 fn swap_word(word: &[u8]) -> Word
     ensures { result ≡ swap_word word.now }
 {
-    if is_text(word, "le16") {
+    if is_spelled(word, "le16") {
         Word::Swapped(ByteOrder::Little, SwapWidth::B16)
-    } else if is_text(word, "le32") {
+    } else if is_spelled(word, "le32") {
         Word::Swapped(ByteOrder::Little, SwapWidth::B32)
-    } else if is_text(word, "le64") {
+    } else if is_spelled(word, "le64") {
         Word::Swapped(ByteOrder::Little, SwapWidth::B64)
-    } else if is_text(word, "be16") {
+    } else if is_spelled(word, "be16") {
         Word::Swapped(ByteOrder::Big, SwapWidth::B16)
-    } else if is_text(word, "be32") {
+    } else if is_spelled(word, "be32") {
         Word::Swapped(ByteOrder::Big, SwapWidth::B32)
-    } else if is_text(word, "be64") {
+    } else if is_spelled(word, "be64") {
         Word::Swapped(ByteOrder::Big, SwapWidth::B64)
-    } else if is_text(word, "bswap16") {
+    } else if is_spelled(word, "bswap16") {
         Word::Swapped(ByteOrder::Swap, SwapWidth::B16)
-    } else if is_text(word, "bswap32") {
+    } else if is_spelled(word, "bswap32") {
         Word::Swapped(ByteOrder::Swap, SwapWidth::B32)
-    } else if is_text(word, "bswap64") {
+    } else if is_spelled(word, "bswap64") {
         Word::Swapped(ByteOrder::Swap, SwapWidth::B64)
     } else {
         atomic_word(word)
@@ -121,19 +121,19 @@ fn swap_word(word: &[u8]) -> Word
 fn size_word(word: &[u8]) -> Word
     ensures { result ≡ size_word word.now }
 {
-    if is_text(word, "u8") {
+    if is_spelled(word, "u8") {
         Word::Unsigned(Size::U8)
-    } else if is_text(word, "u16") {
+    } else if is_spelled(word, "u16") {
         Word::Unsigned(Size::U16)
-    } else if is_text(word, "u32") {
+    } else if is_spelled(word, "u32") {
         Word::Unsigned(Size::U32)
-    } else if is_text(word, "u64") {
+    } else if is_spelled(word, "u64") {
         Word::Unsigned(Size::U64)
-    } else if is_text(word, "s8") {
+    } else if is_spelled(word, "s8") {
         Word::SignExtended(SignedSize::S8)
-    } else if is_text(word, "s16") {
+    } else if is_spelled(word, "s16") {
         Word::SignExtended(SignedSize::S16)
-    } else if is_text(word, "s32") {
+    } else if is_spelled(word, "s32") {
         Word::SignExtended(SignedSize::S32)
     } else {
         swap_word(word)
@@ -143,28 +143,28 @@ fn size_word(word: &[u8]) -> Word
 fn keyword(word: &[u8]) -> Word
     ensures { result ≡ keyword word.now }
 {
-    if is_text(word, "if") {
+    if is_spelled(word, "if") {
         Word::If
-    } else if is_text(word, "goto") {
+    } else if is_spelled(word, "goto") {
         Word::Goto
-    } else if is_text(word, "gotol") {
+    } else if is_spelled(word, "gotol") {
         Word::GotoLong
-    } else if is_text(word, "call") {
+    } else if is_spelled(word, "call") {
         Word::Call
-    } else if is_text(word, "pc") {
+    } else if is_spelled(word, "pc") {
         Word::Pc
-    } else if is_text(word, "exit") {
+    } else if is_spelled(word, "exit") {
         Word::Exit
-    } else if is_text(word, "lock") {
+    } else if is_spelled(word, "lock") {
         Word::Lock
-    } else if is_text(word, "ll") {
+    } else if is_spelled(word, "ll") {
         Word::Wide
     } else {
         size_word(word)
     }
 }
 
-/// What the word means.
+/// The word that has these bytes.
 pub fn word_of(word: &[u8]) -> Word
     ensures { result ≡ word_of word.now }
 {

@@ -18,7 +18,7 @@ length-live_contents (m ∷ maps) [] long = absurd (omega arith)
 length-live_contents (m ∷ maps) (s ∷ all) long =
     let e = length-live_contents maps all (omega arith) in omega arith
 
--- a map's content is that of its state and its serials
+-- a map's content is that of its `MapState` and its serials
 pub live_contents-at : (maps : List MapState) (all : List Serials) (m : ℕ)
     → length all ≡ length maps → m < length maps
     → slice_index_or (live_contents maps all) m [] ≡ live_content (map_at maps m) (serials_at all m)

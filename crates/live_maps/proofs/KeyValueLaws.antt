@@ -1,4 +1,4 @@
--- Keys and values by their places, and the contents that they mean: values found by serial,
+-- Keys and values by their places, and the contents that they make: values found by serial,
 -- written, put and removed.
 use Rattle.std.proofs.Common.{◌≡◌, ℕ, suc, ◌+◌, List, [], ◌∷◌, length, Option, Some, None, Bool, true, false, cond, refl, sym, ap, subst, ◌∙◌, arith}
 use Rattle.std.specs.Prelude.{◌≢◌, ◌==◌, T, ◌&&◌, nat_lt, not, All, slice_get, slice_index_or}
@@ -80,10 +80,10 @@ module _ (P : Places)
             let x = slice_index_or es k d in
             let there : slice_get es k ≡ Some x = slice_get-get_or es k d l in
             let less = above e.0 es k x both.0 there in
-            let key : x.0 ≡ e.0 =
+            let equal : x.0 ≡ e.0 =
             apart x.0 e.0 e.1 (has (suc k) x there ∙ ap Some same) (has 0 e refl) in
             let not_less : T (is_lt (key_order e.0 e.0)) =
-            subst (λ (q : List ℕ). T (is_lt (key_order e.0 q))) key less in
+            subst (λ (q : List ℕ). T (is_lt (key_order e.0 q))) equal less in
             let itself = is_key-itself e.0 in
             equal_not_less (key_order e.0 e.0) itself not_less,
         apart_in es both.1 (λ k x g. has (suc k) x g),
@@ -184,13 +184,13 @@ module _ (f : ℕ → Stored) (n : ℕ) where
               (cond b (Some 0) (option_map suc (index_of_serial (changed f es) n))) i bytes
               ≡ changed f' (e ∷ es)
           by true h tail =
-              let at : e.1 ≡ p = one_of e es only h in
-              let value : record (f e.1) { bytes = splice (f e.1).bytes i (i + length bytes) bytes }
+              let equal : e.1 ≡ p = one_of e es only h in
+              let first : record (f e.1) { bytes = splice (f e.1).bytes i (i + length bytes) bytes }
               ≡ f' e.1 =
               ap (λ (q : ℕ). record (f q) { bytes = splice (f q).bytes i (i + length bytes) bytes })
-              at ∙ sym here ∙ ap f' (sym at) in
-              let rest = same_at es (subst (λ (q : ℕ). All (λ x. x.1 ≢ q) es) at apart.0) in
-              λ i. (e.0, value i) ∷ rest i
+              equal ∙ sym here ∙ ap f' (sym equal) in
+              let rest = same_at es (subst (λ (q : ℕ). All (λ x. x.1 ≢ q) es) equal apart.0) in
+              λ i. (e.0, first i) ∷ rest i
           by false h tail =
               let first = others e.1 (elsewhere e h) in
               put_after (e.0, f e.1) (changed f es) (index_of_serial (changed f es) n)

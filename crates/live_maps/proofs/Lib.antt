@@ -2,9 +2,9 @@ pub mod OneChanged
 pub mod AboveLaws
 pub mod ContentLaws
 pub mod KeyValueLaws
-pub mod LivingLaws
 pub mod LiveLaws
+pub mod LookUpLaws
 pub mod NumberingLaws
 pub mod OrderLaws
-pub mod SearchLaws
 pub mod SerialLaws
+pub mod SerialLists

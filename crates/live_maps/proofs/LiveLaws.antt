@@ -84,7 +84,7 @@ module _ (next more : ℕ) (maps : List MapState) (all : List Serials) (m : ℕ)
         ] refl;
   }
 
--- one map changed: what the states and contents are then
+-- one map changed: what the maps and their contents are then
 module _ (next : ℕ) (maps : List MapState) (all : List Serials) (m : ℕ) (new : List MapState)
     (inside : m < length maps) (h : AreLive next maps all)
     (others : new ≡ slice_set maps m (map_at new m)) where
@@ -101,16 +101,16 @@ module _ (next : ℕ) (maps : List MapState) (all : List Serials) (m : ℕ) (new
   live_at = live_contents-at maps all m h.long inside
 
   -- its serials are as they were
-  same_serials : HasSerials next x s → (row : x.row ≡ (map_at maps m).row) → (content : Content)
+  same_serials : HasSerials next x s → x.row ≡ (map_at maps m).row → (content : Content)
       → live_content x s ≡ content
       → AreLive next new all
       × (live_of new all next ≡ with_content (live_of maps all next) m content)
-  same_serials here row content is = (
+  same_serials here same_row content is = (
     subst (λ (l : List MapState). AreLive next l all) (sym others)
         (AreLive-set_map next next maps all m x (omega arith) inside h here),
     ap (λ (l : List MapState). live_of l all next) others
         ∙ (λ i. record {
-          rows = rows_of-set maps m x row i;
+          rows = rows_of-set maps m x same_row i;
           contents =
               (live_contents-set_map maps all m x h.long inside
               ∙ ap (slice_set (live_contents maps all) m) is) i;
@@ -120,18 +120,18 @@ module _ (next : ℕ) (maps : List MapState) (all : List Serials) (m : ℕ) (new
 
   -- a place has another serial, or none
   other_serials : (more : ℕ) (t : Serials) → next ≤ more → HasSerials more x t
-      → (row : x.row ≡ (map_at maps m).row) → (content : Content)
+      → x.row ≡ (map_at maps m).row → (content : Content)
       → live_content x t ≡ content
       → AreLive more new (slice_set all m t)
       × (live_of new (slice_set all m t) more
       ≡ record (live_of maps all next)
       { contents = slice_set (live_contents maps all) m content; next_serial = more })
-  other_serials more t le here row content is = (
+  other_serials more t le here same_row content is = (
     subst (λ (l : List MapState). AreLive more l (slice_set all m t)) (sym others)
         (AreLive-set next more maps all m x le inside h t here),
     ap (λ (l : List MapState). live_of l (slice_set all m t) more) others
         ∙ (λ i. record {
-          rows = rows_of-set maps m x row i;
+          rows = rows_of-set maps m x same_row i;
           contents =
               (live_contents-set maps all m x t h.long inside
               ∙ ap (slice_set (live_contents maps all) m) is) i;
@@ -164,19 +164,19 @@ module _ (next : ℕ) (maps : List MapState) (all : List Serials) (m : ℕ) (new
   live-updated key value flags p is long u there =
       let old = map_at maps m in
       let w = u.updates.writes refl in
-      let places = w.kept p there in
+      let same_places = w.kept p there in
       let same : Some w.place ≡ Some p =
-      sym w.there ∙ ap (λ (P : Places). get P key) places ∙ there in
-      let place : w.place ≡ p = cc in
+      sym w.there ∙ ap (λ (P : Places). get P key) same_places ∙ there in
+      let equal : w.place ≡ p = cc in
       let written =
-      w.written ∙ ap (λ (q : ℕ). with_block_row old.row.value_size old.block q value) place in
+      w.written ∙ ap (λ (q : ℕ). with_block_row old.row.value_size old.block q value) equal in
       let found : at_key key (content_at (live_of maps all next) m) ≡ Some (stored old s p) =
       ap (at_key key) live_at ∙ at_key-live next old s mine key
       ∙ ap (option_map (stored old s)) there in
-      let r = same_serials (HasSerials-same next old s mine x is u.row places) u.row
+      let r = same_serials (HasSerials-same next old s mine x is u.row same_places) u.row
       (with_key key (record { serial = (stored old s p).serial; bytes = value })
       (live_content old s))
-      (with_key-present next old s mine x key value p there u.row places long written) in (
+      (with_key-present next old s mine x key value p there u.row same_places long written) in (
         r.0,
         r.1 ∙ (λ i. record (live_of maps all next) {
           contents =
@@ -199,10 +199,10 @@ module _ (next : ℕ) (maps : List MapState) (all : List Serials) (m : ℕ) (new
       let old = map_at maps m in
       let w = u.updates.writes refl in
       let same : Some w.place ≡ Some p = sym w.there ∙ there in
-      let place : w.place ≡ p = cc in
+      let equal : w.place ≡ p = cc in
       let written =
-      w.written ∙ ap (λ (q : ℕ). with_block_row old.row.value_size old.block q value) place in
-      let taken = subst (λ (q : ℕ). TakesPlace old.places key q x.places) place (w.taken absent) in
+      w.written ∙ ap (λ (q : ℕ). with_block_row old.row.value_size old.block q value) equal in
+      let taken = subst (λ (q : ℕ). TakesPlace old.places key q x.places) equal (w.taken absent) in
       let found : at_key key (content_at (live_of maps all next) m) ≡ None =
       ap (at_key key) live_at ∙ at_key-live next old s mine key
       ∙ ap (option_map (stored old s)) absent in
@@ -241,9 +241,9 @@ module _ (next : ℕ) (maps : List MapState) (all : List Serials) (m : ℕ) (new
   -- a map that has not changed
   pub live-same : x.row ≡ (map_at maps m).row → x.places ≡ (map_at maps m).places
       → x.block ≡ (map_at maps m).block → new ≡ maps
-  live-same row places block =
+  live-same same_row same_places same_block =
       let same : x ≡ map_at maps m = λ i.
-      record { row = row i; places = places i; block = block i } in
+      record { row = same_row i; places = same_places i; block = same_block i } in
       others ∙ ap (slice_set maps m) same ∙ set-get_or maps m _
 
   -- the answers of one map, by its content and by that with serials
@@ -251,7 +251,7 @@ module _ (next : ℕ) (maps : List MapState) (all : List Serials) (m : ℕ) (new
       → update_answer (map_at maps m).row (content_in (map_at maps m)) key flags
       ≡ update_answer (map_at maps m).row (content_at (live_of maps all next) m) key flags
   update_answer-live key flags =
-      sym (answer-entries key flags
+      sym (answer-key_values key flags
       ∙ ap (λ (c : KeyValues). update_answer (map_at maps m).row c key flags) plain)
     where
       plain : key_values_of (content_at (live_of maps all next) m) ≡ content_in (map_at maps m)
@@ -259,11 +259,11 @@ module _ (next : ℕ) (maps : List MapState) (all : List Serials) (m : ℕ) (new
           ap key_values_of live_at
           ∙ key_values-stored (map_at maps m) s (entries (map_at maps m).places)
 
-      answer-entries : (key : List ℕ) (flags : ℕ)
+      answer-key_values : (key : List ℕ) (flags : ℕ)
           → update_answer (map_at maps m).row (content_at (live_of maps all next) m) key flags
           ≡ update_answer (map_at maps m).row
           (key_values_of (content_at (live_of maps all next) m)) key flags
-      answer-entries key flags =
+      answer-key_values key flags =
           let c = content_at (live_of maps all next) m in
           let row = (map_at maps m).row in
           let has = has_key-key_values_of key c in

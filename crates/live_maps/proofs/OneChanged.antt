@@ -7,7 +7,7 @@ use Rattle.maps.specs.Maps.{MapState, IsMap, map_at}
 use Rattle.live_maps.specs.Live.{Live, Serials, AreLive, content_at, serials_at, has_serial, value_bytes}
 use Rattle.live_maps.specs.Orders.{AreOrders, AreLiveMaps, KeyOrder}
 use Rattle.live_maps.proofs.ContentLaws.{live_of, rows_of-known, rows_of-some, length-changed_maps}
-use Rattle.live_maps.proofs.SearchLaws.{searched-inside, searched-some}
+use Rattle.live_maps.proofs.LookUpLaws.{serial_place-inside, serial_place-some}
 
 -- one map, whose row has the property P, before and after a change
 pub record OneChanged (P : MapDef → Type 0) (maps new : List MapState) (m : ℕ) : Type 0 where
@@ -20,16 +20,16 @@ pub record OneChanged (P : MapDef → Type 0) (maps new : List MapState) (m : �
 pub row_known : (P : MapDef → Type 0) (next : ℕ) (maps : List MapState) (all : List Serials)
     (now : Live) → live_of maps all next ≡ now
     → (m : ℕ) → IsSomeAnd (slice_get now.rows m) P → (m < length maps) × P (map_at maps m).row
-row_known P next maps all now view m sizes =
+row_known P next maps all now view m holds =
     rows_of-known P maps m
-    (subst (λ (l : Live). IsSomeAnd (slice_get l.rows m) P) (sym view) sizes)
+    (subst (λ (l : Live). IsSomeAnd (slice_get l.rows m) P) (sym view) holds)
 
 pub one_changed : (P : MapDef → Type 0) (next : ℕ) (maps : List MapState) (all : List Serials)
     (now : Live) → live_of maps all next ≡ now
     → (m : ℕ) → IsSomeAnd (slice_get now.rows m) P → (new : List MapState)
     → new ≡ slice_set maps m (map_at new m) → All IsMap new → OneChanged P maps new m
-one_changed P next maps all now view m sizes new others are =
-    let known = row_known P next maps all now view m sizes in
+one_changed P next maps all now view m holds new others are =
+    let known = row_known P next maps all now view m holds in
     let count = length-changed_maps maps new m (map_at new m) others in
     let inside = known.0 in
     record { inside = known.0; row = known.1; count = count; is = are m _ (omega arith) }
@@ -56,12 +56,13 @@ pub found_at : (next : ℕ) (maps : List MapState) (all : List Serials) (now : L
     → Found maps m p size
 found_at next maps all now view m n p size h found fits =
     let Q : List ℕ → Type 0 = λ value. size ≤ length value in
-    let r = searched-some next maps all m n h p found in
+    let r = serial_place-some next maps all m n h p found in
     let long = r.2 in
     let room =
     subst (λ (o : Option (List ℕ)). IsSomeAnd o Q)
     (sym (ap (λ (l : Live). value_bytes (content_at l m) n) view) ∙ r.1) fits in
-    record { inside = searched-inside next maps all m n h p found; place = r.0; fits = omega arith }
+    let inside = serial_place-inside next maps all m n h p found in
+    record { inside = inside; place = r.0; fits = omega arith }
 
 -- where one map has changed, the maps are kept as before, with their serials and their orders
 pub still_kept : (serials_room orders_room next after : ℕ) (maps new : List MapState)

@@ -100,18 +100,18 @@ module _ (next : ℕ) (m : MapState) (s : Serials) (h : HasSerials next m s) whe
         let long =
         length-changed_row size m.row.entries m.block p whole place_inside i bytes fits in
         let same_size : new.row.value_size ≡ size = ap (λ r. r.value_size) w.row in
-        let value : (q : ℕ)
+        let rows : (q : ℕ)
         → block_row new.row.value_size new.block q
         ≡ block_row size (with_block_row size m.block p row) q =
         λ q. (λ j. block_row (same_size j) (w.block j) q) in
         let at_p =
-        value p ∙ block_row-written size m.block p row m.row.entries long whole place_inside in
+        rows p ∙ block_row-written size m.block p row m.row.entries long whole place_inside in
         sym (put_value-changed (stored m s) n p hit (stored new s) i bytes
         (λ j. record { serial = unwrap_or (serial_in s p) 0; bytes = at_p j })
         (λ q other. λ j. record {
           serial = unwrap_or (serial_in s q) 0;
           bytes =
-              (value q ∙ block_row-other size m.block p row m.row.entries long whole place_inside q
+              (rows q ∙ block_row-other size m.block p row m.row.entries long whole place_inside q
               other) j;
         })
         (entries m.places) only (keys-apart m.places h.is_map.apart)
@@ -136,13 +136,13 @@ module _ (next : ℕ) (m : MapState) (s : Serials) (h : HasSerials next m s) whe
   -- a map with the same row and places
   pub HasSerials-same : (new : MapState) → IsMap new → new.row ≡ m.row → new.places ≡ m.places
       → HasSerials next new s
-  HasSerials-same new is row places = record {
+  HasSerials-same new is same_row same_places = record {
     is_map = is;
-    long = h.long ∙ ap (λ r. r.entries) (sym row);
-    given = λ key p e. h.given key p (ap (λ (P : Places). get P key) (sym places) ∙ e);
+    long = h.long ∙ ap (λ r. r.entries) (sym same_row);
+    given = λ key p e. h.given key p (ap (λ (P : Places). get P key) (sym same_places) ∙ e);
     owned =
         λ p n e. let own =
-        h.owned p n e in (own.0, own.1, ap (λ (P : Places). get P own.1) places ∙ own.2);
+        h.owned p n e in (own.0, own.1, ap (λ (P : Places). get P own.1) same_places ∙ own.2);
     once = h.once;
   }
 
@@ -160,7 +160,7 @@ module _ (next : ℕ) (m : MapState) (s : Serials) (h : HasSerials next m s) whe
       by false e = other (eqb-false q p e)
 
   -- a new key's value is given the next serial
-  module _ (new : MapState) (key : List ℕ) (p : ℕ) (is : IsMap new) (row : new.row ≡ m.row)
+  module _ (new : MapState) (key : List ℕ) (p : ℕ) (is : IsMap new) (same_row : new.row ≡ m.row)
       (absent : get m.places key ≡ None)
       (taken : TakesPlace m.places key p new.places) where
     there : get new.places key ≡ Some p
@@ -169,7 +169,7 @@ module _ (next : ℕ) (m : MapState) (s : Serials) (h : HasSerials next m s) whe
     inside : p < length s
     inside =
         let within = is.in_range key p there in
-        let same : new.row.entries ≡ m.row.entries = ap (λ r. r.entries) row in
+        let same : new.row.entries ≡ m.row.entries = ap (λ r. r.entries) same_row in
         let long = h.long in
         omega arith
 
@@ -194,7 +194,7 @@ module _ (next : ℕ) (m : MapState) (s : Serials) (h : HasSerials next m s) whe
     pub HasSerials-added : HasSerials (suc next) new after
     HasSerials-added = record {
       is_map = is;
-      long = length-set s p (Some next) ∙ h.long ∙ ap (λ r. r.entries) (sym row);
+      long = length-set s p (Some next) ∙ h.long ∙ ap (λ r. r.entries) (sym same_row);
       given = λ k q e. either p q ((n : ℕ) × (serial_in after q ≡ Some n))
           (λ same. (next, ap (serial_in after) same ∙ set_here p (Some next) inside))
           (λ other.
@@ -248,7 +248,7 @@ module _ (next : ℕ) (m : MapState) (s : Serials) (h : HasSerials next m s) whe
         let whole = h.is_map.whole in
         let h_long = h.long in
         let within : p < m.row.entries = let i = inside in omega arith in
-        let same_size : new.row.value_size ≡ size = ap (λ r. r.value_size) row in
+        let same_size : new.row.value_size ≡ size = ap (λ r. r.value_size) same_row in
         let rows : (q : ℕ)
         → block_row new.row.value_size new.block q
         ≡ block_row size (with_block_row size m.block p value) q =
@@ -277,11 +277,11 @@ module _ (next : ℕ) (m : MapState) (s : Serials) (h : HasSerials next m s) whe
       → new.block ≡ with_block_row m.row.value_size m.block p value
       → live_content new s
       ≡ with_key key (record { serial = (stored m s p).serial; bytes = value }) (live_content m s)
-  with_key-present new key value p there row places long written =
+  with_key-present new key value p there same_row same_places long written =
       let size : ℕ = m.row.value_size in
       let whole = h.is_map.whole in
       let within = h.is_map.in_range key p there in
-      let same_size : new.row.value_size ≡ size = ap (λ r. r.value_size) row in
+      let same_size : new.row.value_size ≡ size = ap (λ r. r.value_size) same_row in
       let rows : (q : ℕ)
       → block_row new.row.value_size new.block q
       ≡ block_row size (with_block_row size m.block p value) q =
@@ -299,12 +299,12 @@ module _ (next : ℕ) (m : MapState) (s : Serials) (h : HasSerials next m s) whe
       let old =
       rows q ∙ block_row-other size m.block p value m.row.entries long whole within q not_p in
       λ j. record { serial = (stored m s q).serial; bytes = old j })
-      new.places p (ap (λ (P : Places). get P key) places ∙ there)
-      (λ k other. ap (λ (P : Places). get P k) places)
+      new.places p (ap (λ (P : Places). get P key) same_places ∙ there)
+      (λ k other. ap (λ (P : Places). get P k) same_places)
       ∙ ap (λ (v : Stored). with_key key v (live_content m s)) here
 
   -- a key's value loses its serial with the key
-  module _ (new : MapState) (key : List ℕ) (p : ℕ) (is : IsMap new) (row : new.row ≡ m.row)
+  module _ (new : MapState) (key : List ℕ) (p : ℕ) (is : IsMap new) (same_row : new.row ≡ m.row)
       (present : get m.places key ≡ Some p)
       (gone : new.places ≡ remove m.places key) where
     abbrev left : Serials
@@ -343,7 +343,7 @@ module _ (next : ℕ) (m : MapState) (s : Serials) (h : HasSerials next m s) whe
     pub HasSerials-removed : HasSerials next new left
     HasSerials-removed = record {
       is_map = is;
-      long = length-set s p None ∙ h.long ∙ ap (λ r. r.entries) (sym row);
+      long = length-set s p None ∙ h.long ∙ ap (λ r. r.entries) (sym same_row);
       given = λ k q e.
           let old = older_key k q e in
           let g = h.given k q old.1 in
@@ -371,7 +371,7 @@ module _ (next : ℕ) (m : MapState) (s : Serials) (h : HasSerials next m s) whe
     pub without_key-removed : new.block ≡ m.block
         → live_content new left ≡ without_key key (live_content m s)
     without_key-removed block =
-        let same_size : new.row.value_size ≡ m.row.value_size = ap (λ r. r.value_size) row in
+        let same_size : new.row.value_size ≡ m.row.value_size = ap (λ r. r.value_size) same_row in
         ap (λ (P : Places). changed (stored new left) (entries P)) gone
         ∙ changed-removed (stored m s) (stored new left) m.places key
         (λ k q other e.

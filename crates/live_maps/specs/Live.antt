@@ -33,7 +33,7 @@ abbrev pub with_value : Live → ℕ → ℕ → ℕ → List ℕ → Live
 with_value l m n i bytes =
     with_content l m (put_value (content_at l m) (index_of_serial (content_at l m) n) i bytes)
 
--- the key has these bytes: its value keeps its serial, and that of a new key is given the next one
+-- the value of a key has these bytes, and keeps its serial; that of a new key is given the next one
 abbrev pub with_bytes : Live → ℕ → List ℕ → List ℕ → Live
 with_bytes l m key bytes =
     let old = at_key key (content_at l m) in

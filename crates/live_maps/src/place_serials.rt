@@ -59,8 +59,8 @@ pub struct PlaceSerials {
     serials: Vec<Option<u64>>,
     base: u64,
     // By what a serial is above the base, modulo the count of hints: the place that was given the
-    // last serial with this remainder. A hint is tested before it is used: it spares a search
-    // through all places.
+    // last serial with this remainder. A hint is tested before it is used: it spares a scan
+    // of all places.
     hints: Vec<usize>,
 }
 

@@ -61,19 +61,20 @@ pub alu_add_swap : (a b : ℕ) → alu Add Full64 a b ≡ alu Add Full64 b a
 unfolding alu
 alu_add_swap a b = omega arith
 
--- every region begins far from both ends
-pub start_far : (a : Layout) (rows next : ℕ) (r : Region) → IsLayout a rows → IsRegion rows next r
+-- every region's offset 0 is far from both ends of the addresses
+pub start_far : (a : Layout) (count next : ℕ) (r : Region) → IsLayout a count
+    → IsRegion count next r
     → (4294967296 ≤ region_start a r) × (region_start a r < 1099511627776)
-start_far a rows next region.Context good h = (omega arith, omega arith)
-start_far a rows next region.Packet good h = (omega arith, omega arith)
-start_far a rows next region.PacketEnd good h = let l = good.short in (omega arith, omega arith)
-start_far a rows next (region.Map m) good h = let f = good.few in (omega arith, omega arith)
-start_far a rows next (region.MapValue m n) good h =
+start_far a count next region.Context good h = (omega arith, omega arith)
+start_far a count next region.Packet good h = (omega arith, omega arith)
+start_far a count next region.PacketEnd good h = let l = good.short in (omega arith, omega arith)
+start_far a count next (region.Map m) good h = let f = good.few in (omega arith, omega arith)
+start_far a count next (region.MapValue m n) good h =
     let f = good.few in
     let l = good.low m n in
     let k = h.0 in
     (omega arith, omega arith)
-start_far a rows next (region.CallFrame n) good h =
+start_far a count next (region.CallFrame n) good h =
     let l = good.shallow n in (omega arith, omega arith)
 
 -- the word of a pointer in any region but the packet end

@@ -169,23 +169,23 @@ module _ (p : Program) (a : Layout) (s : State) (w : Words) (R : Related p a s w
         by_read (read s at.region (index_at at.region at.offset) n)
         (shows_read p a s w R K at.region at.offset n x some points)
       where
-        written : (cs : List Cell) → RepresentsCells a cs (get w (spot_of x) n)
+        by_bytes : (cs : List Cell) → RepresentsCells a cs (get w (spot_of x) n)
             → IsInside w (spot_of x) n → (b : Bool) → list_all is_byte cs ≡ b
             → Q (and_then (if b then Ok (map byte_in cs) else Err BadAccess) go)
-        written cs shown inside true e =
+        by_bytes cs shown inside true e =
             subst (λ bytes. Q (go bytes)) (bytes-shown a cs (get w (spot_of x) n) e shown)
             (next inside)
-        written cs shown inside false e = traps BadAccess
+        by_bytes cs shown inside false e = traps BadAccess
 
-        unwritten : (cs : List Cell) → RepresentsCells a cs (get w (spot_of x) n)
+        by_unwritten : (cs : List Cell) → RepresentsCells a cs (get w (spot_of x) n)
             → IsInside w (spot_of x) n → (b : Bool)
             → Q (and_then
             (if b then Err UnsetRead else if list_all is_byte cs then Ok (map byte_in cs)
             else Err BadAccess) go)
-        unwritten cs shown inside true = traps UnsetRead
-        unwritten cs shown inside false = written cs shown inside (list_all is_byte cs) refl
+        by_unwritten cs shown inside true = traps UnsetRead
+        by_unwritten cs shown inside false = by_bytes cs shown inside (list_all is_byte cs) refl
 
         by_read : (r : Result (List Cell) TrapReason) → OkRead p a s w R K n r x
             → Q (and_then (and_then r bytes_in) go)
         by_read (Err e) h = traps e
-        by_read (Ok cs) h = unwritten cs h.1 h.0 (list_any is_unwritten cs)
+        by_read (Ok cs) h = by_unwritten cs h.1 h.0 (list_any is_unwritten cs)

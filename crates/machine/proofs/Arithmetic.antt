@@ -25,15 +25,15 @@ use Rattle.word_machine.specs.Addresses.{packet_base}
 
 -- what holds of a word for this result: it represents the value, if the result is one
 abbrev pub OkShows : Layout → Result Value TrapReason → ℕ → Type 0
-OkShows a (Ok v) w = Represents a v w
-OkShows a (Err e) w = Unit {0}
+OkShows a (Ok v) x = Represents a v x
+OkShows a (Err e) x = Unit {0}
 
-module _ (a : Layout) (rows next : ℕ) (good : IsLayout a rows) where
-  pub far : (r : Region) → IsRegion rows next r
+module _ (a : Layout) (count next : ℕ) (good : IsLayout a count) where
+  pub far : (r : Region) → IsRegion count next r
       → (4294967296 ≤ region_start a r) × (region_start a r < 1099511627776)
-  far r h = start_far a rows next r good h
+  far r h = start_far a count next r good h
 
-  pub word_fits : (v : Value) (x : ℕ) → IsValue rows next v → Represents a v x → (v ≡ Unset → ⊥)
+  pub word_fits : (v : Value) (x : ℕ) → IsValue count next v → Represents a v x → (v ≡ Unset → ⊥)
       → x < 2 ^ 64
   word_fits Unset x h s n = absurd (n refl)
   word_fits (Num k) x h s n = omega arith
@@ -49,7 +49,7 @@ module _ (a : Layout) (rows next : ℕ) (good : IsLayout a rows) where
       by_test true e = h (grind (arith, nat_tests))
       by_test false e = tt
 
-  -- a pointer y that may move, moved to x
+  -- where f takes a region's address at offset z to the one at i, it takes the pointer's word there
   shows_to : (r : Region) (z i : ℤ) (f : ℕ → ℕ)
       → ((m : IsOffset i) → f (moved (region_start a r) z) ≡ moved (region_start a r) i)
       → OkShows a (moved_to r i) (f (word a r z))
@@ -61,7 +61,7 @@ module _ (a : Layout) (rows next : ℕ) (good : IsLayout a rows) where
   shows_to (region.Map m) z i f h = tt
 
   shows_pointer_and_number : (op : AluOp) (w : Width) (r : Region) (z : ℤ) (n : ℕ)
-      → IsRegion rows next r → IsOffset z → n < 2 ^ 64
+      → IsRegion count next r → IsOffset z → n < 2 ^ 64
       → OkShows a (pointer_and_number op w r z n) (alu op w (word a r z) n)
   shows_pointer_and_number Add Full64 r z n h l f =
       let g = far r h in
@@ -76,7 +76,7 @@ module _ (a : Layout) (rows next : ℕ) (good : IsLayout a rows) where
   shows_pointer_and_number op w r z n h l f = tt
 
   shows_number_and_pointer : (op : AluOp) (w : Width) (n : ℕ) (r : Region) (z : ℤ)
-      → IsRegion rows next r → IsOffset z → n < 2 ^ 64
+      → IsRegion count next r → IsOffset z → n < 2 ^ 64
       → OkShows a (number_and_pointer op w n r z) (alu op w n (word a r z))
   shows_number_and_pointer Add Full64 n r z h l f =
       let g = far r h in
@@ -86,7 +86,7 @@ module _ (a : Layout) (rows next : ℕ) (good : IsLayout a rows) where
   shows_number_and_pointer Add Low32 n r z h l f = tt
   shows_number_and_pointer op w n r z h l f = tt
 
-  shows_moved : (w : Width) (v : Value) (x y : ℕ) → IsValue rows next v → Represents a v y
+  shows_moved : (w : Width) (v : Value) (x y : ℕ) → IsValue count next v → Represents a v y
       → OkShows a (pointers.moved w v) (alu Mov w x y)
   unfolding alu
   shows_moved w (Num n) x y h s = ap (low w) s
@@ -96,8 +96,8 @@ module _ (a : Layout) (rows next : ℕ) (good : IsLayout a rows) where
   shows_moved Low32 Unset x y h s = tt
   shows_moved Full64 Unset x y h s = tt
 
-  shows_combined : (op : AluOp) (w : Width) (u v : Value) (x y : ℕ) → IsValue rows next u
-      → IsValue rows next v → Represents a u x → Represents a v y
+  shows_combined : (op : AluOp) (w : Width) (u v : Value) (x y : ℕ) → IsValue count next u
+      → IsValue count next v → Represents a u x → Represents a v y
       → OkShows a (combined op w u v) (alu op w x y)
   shows_combined op w (Num m) (Num n) x y h k s t = ap (λ x. alu op w x y) s ∙ ap (alu op w m) t
   shows_combined op w (Ptr r z) (Num n) x y h k s t =
@@ -114,8 +114,8 @@ module _ (a : Layout) (rows next : ℕ) (good : IsLayout a rows) where
   shows_combined op w (Ptr r z) Unset x y h k s t = tt
 
   -- all arithmetic, on numbers and pointers
-  pub shows_arithmetic : (op : AluOp) (w : Width) (u v : Value) (x y : ℕ) → IsValue rows next u
-      → IsValue rows next v → Represents a u x → Represents a v y
+  pub shows_arithmetic : (op : AluOp) (w : Width) (u v : Value) (x y : ℕ) → IsValue count next u
+      → IsValue count next v → Represents a u x → Represents a v y
       → OkShows a (arithmetic op w u v) (alu op w x y)
   shows_arithmetic Mov w u v x y h k s t = shows_moved w v x y k t
   shows_arithmetic op w u v x y h k s t = shows_combined op w u v x y h k s t
@@ -154,15 +154,15 @@ module _ (a : Layout) (rows next : ℕ) (good : IsLayout a rows) where
   end_right c z h = tt
 
   shows_order : (c : Comparison) (w : Width) (r : Region) (z : ℤ) (q : Region) (i : ℤ)
-      → IsValue rows next (Ptr r z) → IsValue rows next (Ptr q i)
+      → IsValue count next (Ptr r z) → IsValue count next (Ptr q i)
       → OkHolds (pointer_order a.end c w r z q i) (holds c w (word a r z) (word a q i))
   shows_order c Full64 region.Packet z region.PacketEnd i h k = end_right c z h.1
   shows_order c Full64 region.PacketEnd z region.Packet i h k = end_left c i k.1
   shows_order c w r z q i h k = tt
 
   -- all comparisons
-  pub shows_compared : (c : Comparison) (w : Width) (u v : Value) (x y : ℕ) → IsValue rows next u
-      → IsValue rows next v → Represents a u x → Represents a v y
+  pub shows_compared : (c : Comparison) (w : Width) (u v : Value) (x y : ℕ) → IsValue count next u
+      → IsValue count next v → Represents a u x → Represents a v y
       → OkHolds (compared a.end c w u v) (holds c w x y)
   shows_compared c w (Num m) (Num n) x y h k s t =
       ap (λ x. holds c w x n) (sym s) ∙ ap (holds c w x) (sym t)
@@ -177,7 +177,7 @@ module _ (a : Layout) (rows next : ℕ) (good : IsLayout a rows) where
       (shows_order c w r z q i h k))
 
   null : (c : Comparison) (w : Width) (r : Region) (z : ℤ) (x : ℕ) → word a r z ≡ x
-      → IsValue rows next (Ptr r z) → OkHolds (null_test c w r) (holds c w x (unsigned w (pos 0)))
+      → IsValue count next (Ptr r z) → OkHolds (null_test c w r) (holds c w x (unsigned w (pos 0)))
   unfolding holds
   null Equal Full64 (region.MapValue m n) z x e h =
       let f = far (region.MapValue m n) h.0 in
@@ -190,7 +190,7 @@ module _ (a : Layout) (rows next : ℕ) (good : IsLayout a rows) where
   null c w r z x e h = tt
 
   pub shows_compared_constant : (c : Comparison) (w : Width) (u : Value) (k : ℤ) (x : ℕ)
-      → IsValue rows next u → Represents a u x
+      → IsValue count next u → Represents a u x
       → OkHolds (compared_constant c w u k) (holds c w x (unsigned w k))
   shows_compared_constant c w (Num m) k x h s = ap (λ x. holds c w x (unsigned w k)) (sym s)
   shows_compared_constant c w (Ptr r z) (pos k) x h s = by_test (k == 0) refl

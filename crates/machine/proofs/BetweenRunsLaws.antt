@@ -45,9 +45,10 @@ module _ (p : Program) (bound : ℕ) (maps : List MapState) (rows : rows_of maps
   inside =
       let same : length p.maps ≡ length r.program.maps =
       ap (λ (x : Running). length x.program.maps) view in
-      let row : length (rows_of maps) ≡ length p.maps = ap (λ (rs : List MapDef). length rs) rows in
+      let as_rows : length (rows_of maps) ≡ length p.maps =
+      ap (λ (rs : List MapDef). length rs) rows in
       let many : length (rows_of maps) ≡ length maps = length-rows_of maps in
-      subst (λ (n : ℕ). m < n) (sym same ∙ sym row ∙ many) named
+      subst (λ (n : ℕ). m < n) (sym same ∙ sym as_rows ∙ many) named
 
   row_seen : (map_at maps m).row ≡ row_at (seen p bound maps) m
   row_seen = sym (get_or-map (λ (x : MapState). x.row) maps m no_map no_row inside)

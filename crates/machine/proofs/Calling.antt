@@ -72,57 +72,57 @@ back_low regs kept top k h =
     ∙ get_or-set_other regs 6 k _ 0 (λ e. omega arith)
 
 module _ (regs kept : List ℕ) (top : ℕ) (long : length regs ≡ 11) where
-  abbrev R6 : List ℕ
-  R6 = slice_set regs 6 (slice_index kept 0)
+  abbrev regs_6 : List ℕ
+  regs_6 = slice_set regs 6 (slice_index kept 0)
 
-  abbrev R7 : List ℕ
-  R7 = slice_set R6 7 (slice_index kept 1)
+  abbrev regs_7 : List ℕ
+  regs_7 = slice_set regs_6 7 (slice_index kept 1)
 
-  abbrev R8 : List ℕ
-  R8 = slice_set R7 8 (slice_index kept 2)
+  abbrev regs_8 : List ℕ
+  regs_8 = slice_set regs_7 8 (slice_index kept 2)
 
-  abbrev R9 : List ℕ
-  R9 = slice_set R8 9 (slice_index kept 3)
+  abbrev regs_9 : List ℕ
+  regs_9 = slice_set regs_8 9 (slice_index kept 3)
 
-  l6 : length R6 ≡ 11
+  l6 : length regs_6 ≡ 11
   l6 = length-set regs 6 (slice_index kept 0) ∙ long
 
-  l7 : length R7 ≡ 11
-  l7 = length-set R6 7 (slice_index kept 1) ∙ l6
+  l7 : length regs_7 ≡ 11
+  l7 = length-set regs_6 7 (slice_index kept 1) ∙ l6
 
-  l8 : length R8 ≡ 11
-  l8 = length-set R7 8 (slice_index kept 2) ∙ l7
+  l8 : length regs_8 ≡ 11
+  l8 = length-set regs_7 8 (slice_index kept 2) ∙ l7
 
-  l9 : length R9 ≡ 11
-  l9 = length-set R8 9 (slice_index kept 3) ∙ l8
+  l9 : length regs_9 ≡ 11
+  l9 = length-set regs_8 9 (slice_index kept 3) ∙ l8
 
   l10 : length (regs_back regs kept top) ≡ 11
-  l10 = length-set R9 10 top ∙ l9
+  l10 = length-set regs_9 10 top ∙ l9
 
   back_6 : slice_index (regs_back regs kept top) 6 ≡ slice_index kept 0
-  back_6 = get_or-set_other R9 10 6 top 0 (λ e. omega arith)
-      ∙ get_or-set_other R8 9 6 _ 0 (λ e. omega arith)
-      ∙ get_or-set_other R7 8 6 _ 0 (λ e. omega arith)
-      ∙ get_or-set_other R6 7 6 _ 0 (λ e. omega arith)
+  back_6 = get_or-set_other regs_9 10 6 top 0 (λ e. omega arith)
+      ∙ get_or-set_other regs_8 9 6 _ 0 (λ e. omega arith)
+      ∙ get_or-set_other regs_7 8 6 _ 0 (λ e. omega arith)
+      ∙ get_or-set_other regs_6 7 6 _ 0 (λ e. omega arith)
       ∙ get_or-set_same regs 6 _ 0 (omega (arith, long))
 
   back_7 : slice_index (regs_back regs kept top) 7 ≡ slice_index kept 1
-  back_7 = get_or-set_other R9 10 7 top 0 (λ e. omega arith)
-      ∙ get_or-set_other R8 9 7 _ 0 (λ e. omega arith)
-      ∙ get_or-set_other R7 8 7 _ 0 (λ e. omega arith)
-      ∙ get_or-set_same R6 7 _ 0 (omega (arith, l6))
+  back_7 = get_or-set_other regs_9 10 7 top 0 (λ e. omega arith)
+      ∙ get_or-set_other regs_8 9 7 _ 0 (λ e. omega arith)
+      ∙ get_or-set_other regs_7 8 7 _ 0 (λ e. omega arith)
+      ∙ get_or-set_same regs_6 7 _ 0 (omega (arith, l6))
 
   back_8 : slice_index (regs_back regs kept top) 8 ≡ slice_index kept 2
-  back_8 = get_or-set_other R9 10 8 top 0 (λ e. omega arith)
-      ∙ get_or-set_other R8 9 8 _ 0 (λ e. omega arith)
-      ∙ get_or-set_same R7 8 _ 0 (omega (arith, l7))
+  back_8 = get_or-set_other regs_9 10 8 top 0 (λ e. omega arith)
+      ∙ get_or-set_other regs_8 9 8 _ 0 (λ e. omega arith)
+      ∙ get_or-set_same regs_7 8 _ 0 (omega (arith, l7))
 
   back_9 : slice_index (regs_back regs kept top) 9 ≡ slice_index kept 3
-  back_9 = get_or-set_other R9 10 9 top 0 (λ e. omega arith)
-      ∙ get_or-set_same R8 9 _ 0 (omega (arith, l8))
+  back_9 = get_or-set_other regs_9 10 9 top 0 (λ e. omega arith)
+      ∙ get_or-set_same regs_8 9 _ 0 (omega (arith, l8))
 
   back_10 : slice_index (regs_back regs kept top) 10 ≡ top
-  back_10 = get_or-set_same R9 10 top 0 (omega (arith, l9))
+  back_10 = get_or-set_same regs_9 10 top 0 (omega (arith, l9))
 
 module _ (p : Program) (a : Layout) (s : State) (w : Words) (R : Related p a s w)
     (K : IsState p s) where

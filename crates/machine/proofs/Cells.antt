@@ -97,18 +97,18 @@ module _ (a : Layout) where
 
   pub shows_number_in : (cs : List Cell) (bs : List ℕ) → RepresentsCells a cs bs
       → OkNumber (number_in cs) (number_from bs)
-  shows_number_in cs bs s = unwritten (list_any is_unwritten cs)
+  shows_number_in cs bs s = by_unwritten (list_any is_unwritten cs)
     where
-      written : (b : Bool) → list_all is_byte cs ≡ b
+      by_bytes : (b : Bool) → list_all is_byte cs ≡ b
           → OkNumber (if b then Ok (number_of cs) else Err BadAccess) (number_from bs)
-      written true e = ap number_from (bytes-shown cs bs e s)
-      written false e = tt
+      by_bytes true e = ap number_from (bytes-shown cs bs e s)
+      by_bytes false e = tt
 
-      unwritten : (b : Bool)
+      by_unwritten : (b : Bool)
           → OkNumber (if b then Err UnsetRead else if list_all is_byte cs then Ok (number_of cs)
           else Err BadAccess) (number_from bs)
-      unwritten true = tt
-      unwritten false = written (list_all is_byte cs) refl
+      by_unwritten true = tt
+      by_unwritten false = by_bytes (list_all is_byte cs) refl
 
   -- how bytes represent the value that is read from them
   abbrev pub Spelled : Value → List ℕ → Type 0
@@ -167,15 +167,15 @@ module _ (a : Layout) where
 
   pub shows_value_in : (cs : List Cell) (bs : List ℕ) → RepresentsCells a cs bs
       → OkSpelled (value_in cs) bs
-  shows_value_in cs bs s = unwritten (list_any is_unwritten cs)
+  shows_value_in cs bs s = by_unwritten (list_any is_unwritten cs)
     where
-      written : (b : Bool) → list_all is_byte cs ≡ b
+      by_bytes : (b : Bool) → list_all is_byte cs ≡ b
           → OkSpelled (if b then Ok (Num (number_of cs)) else pointer_in cs) bs
-      written true e = ap number_from (bytes-shown cs bs e s)
-      written false e = shows_pointer_in cs bs s
+      by_bytes true e = ap number_from (bytes-shown cs bs e s)
+      by_bytes false e = shows_pointer_in cs bs s
 
-      unwritten : (b : Bool)
+      by_unwritten : (b : Bool)
           → OkSpelled (if b then Err UnsetRead
           else if list_all is_byte cs then Ok (Num (number_of cs)) else pointer_in cs) bs
-      unwritten true = tt
-      unwritten false = written (list_all is_byte cs) refl
+      by_unwritten true = tt
+      by_unwritten false = by_bytes (list_all is_byte cs) refl

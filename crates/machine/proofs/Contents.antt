@@ -59,9 +59,9 @@ sorted-placed : {Y : Type 0} (f : ℕ → Y) (P : Places)
     → T (is_sorted key_order (changed f (entries P)))
 sorted-placed f P = subst T (sym (is_sorted-changed f (entries P))) (entries_sorted P)
 
-negated : {A : Type 0} (b : Bool) (x y : A) → cond (not b) x y ≡ cond b y x
-negated true x y = refl
-negated false x y = refl
+cond_not : {A : Type 0} (b : Bool) (x y : A) → cond (not b) x y ≡ cond b y x
+cond_not true x y = refl
+cond_not false x y = refl
 
 -- a key is removed
 pub placed-remove : {Y : Type 0} (f : ℕ → Y) (P : Places) (k : List ℕ)
@@ -78,7 +78,7 @@ placed-remove {Y} f P k =
     ∙ ap (cond (is_key q k) None) (sym (find-placed f P q))
     ∙ ap (λ (b : Bool). cond b None (at_key q (changed f (entries P))))
     ((eq_by_cmp_equiv nat_list_cmp_total).symm q k)
-    ∙ sym (negated (is_key k q) (at_key q (changed f (entries P))) None)
+    ∙ sym (cond_not (is_key k q) (at_key q (changed f (entries P))) None)
     ∙ sym (find-where_key key_order (λ x. not (is_key k x)) q
     (λ x e. ap (λ (y : List ℕ). not (is_key k y))
     (sym (slice_cmp-IsAntisymmetric nat_cmp-IsAntisymmetric q x e))) (changed f (entries P))))

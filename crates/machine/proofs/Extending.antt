@@ -31,7 +31,7 @@ pub record ExtendsLayout (a b : Layout) (next : ℕ) : Type 0 where
   pub value_start : (m n : ℕ) → n < next → b.value_start m n ≡ a.value_start m n
   pub end : b.end ≡ a.end
 
--- ---- a serial at a depth, or at a value's beginning
+-- ---- a serial at a depth, or at a map value's beginning
 
 abbrev pub put_at : ℕ → ℕ → (ℕ → ℕ) → ℕ → ℕ
 put_at serial x f n = if n == serial then x else f n
@@ -81,18 +81,18 @@ ExtendsLayout-with_value_start a serial x = record {
   end = refl;
 }
 
-pub IsLayout-with_depth : (a : Layout) (rows serial j : ℕ) → j < max_call_frames → IsLayout a rows
-    → IsLayout (with_depth a serial j) rows
-IsLayout-with_depth a rows serial j h good = record {
+pub IsLayout-with_depth : (a : Layout) (count serial j : ℕ) → j < max_call_frames → IsLayout a count
+    → IsLayout (with_depth a serial j) count
+IsLayout-with_depth a count serial j h good = record {
   few = good.few;
   shallow = λ n. put_at-all (λ d. d < max_call_frames) serial j a.depth h good.shallow n;
   low = good.low;
   short = good.short;
 }
 
-pub IsLayout-with_value_start : (a : Layout) (rows serial x : ℕ) → x < offset_limit
-    → IsLayout a rows → IsLayout (with_value_start a serial x) rows
-IsLayout-with_value_start a rows serial x h good = record {
+pub IsLayout-with_value_start : (a : Layout) (count serial x : ℕ) → x < offset_limit
+    → IsLayout a count → IsLayout (with_value_start a serial x) count
+IsLayout-with_value_start a count serial x h good = record {
   few = good.few;
   shallow = good.shallow;
   low = λ m n. put_at-all (λ v. v < offset_limit) serial x (a.value_start m) h (good.low m) n;
@@ -101,8 +101,8 @@ IsLayout-with_value_start a rows serial x h good = record {
 
 -- ---- what names only older serials is represented as before
 
-module _ (a b : Layout) (rows next : ℕ) (E : ExtendsLayout a b next) where
-  word_old : (r : Region) (z : ℤ) → IsRegion rows next r → word b r z ≡ word a r z
+module _ (a b : Layout) (count next : ℕ) (E : ExtendsLayout a b next) where
+  word_old : (r : Region) (z : ℤ) → IsRegion count next r → word b r z ≡ word a r z
   word_old region.Context z h = refl
   word_old region.Packet z h = refl
   word_old region.PacketEnd z h = ap (λ n. packet_base + n) E.end
@@ -110,25 +110,25 @@ module _ (a b : Layout) (rows next : ℕ) (E : ExtendsLayout a b next) where
   word_old (region.MapValue m n) z h = ap (λ v. moved (values_base m + v) z) (E.value_start m n h.1)
   word_old (region.CallFrame n) z h = ap (λ d. moved (frame_end d) z) (E.depth n h)
 
-  pub shows_old : (v : Value) (w : ℕ) → IsValue rows next v → Represents a v w → Represents b v w
+  pub shows_old : (v : Value) (w : ℕ) → IsValue count next v → Represents a v w → Represents b v w
   shows_old Unset w h s = tt
   shows_old (Num n) w h s = s
   shows_old (Ptr r z) w h s = s ∙ sym (word_old r z h.0)
 
-  cell_old : (c : Cell) (w : ℕ) → IsCell rows next c → RepresentsCell a c w → RepresentsCell b c w
+  cell_old : (c : Cell) (w : ℕ) → IsCell count next c → RepresentsCell a c w → RepresentsCell b c w
   cell_old Unwritten w h s = tt
   cell_old (Byte n) w h s = s
   cell_old (Piece r z k) w h s = s ∙ ap (byte_at k) (sym (word_old r z h.0))
 
-  cells_old : (cs : List Cell) (bs : List ℕ) → All (IsCell rows next) cs → RepresentsCells a cs bs
+  cells_old : (cs : List Cell) (bs : List ℕ) → All (IsCell count next) cs → RepresentsCells a cs bs
       → RepresentsCells b cs bs
   cells_old [] [] h s = tt
   cells_old [] (x ∷ bs) h s = absurd s
   cells_old (c ∷ cs) [] h s = absurd s
   cells_old (c ∷ cs) (x ∷ bs) h s = (
-    cell_old c x (All-head (IsCell rows next) c cs h) s.0,
+    cell_old c x (All-head (IsCell count next) c cs h) s.0,
     cells_old cs bs
-        (All-tail (IsCell rows next) c cs h) s.1,
+        (All-tail (IsCell count next) c cs h) s.1,
   )
 
   pub content_old : (m : ℕ) (content : Content) → All (λ n. n < next) (value_serials content)

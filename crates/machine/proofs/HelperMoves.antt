@@ -23,7 +23,7 @@ use Rattle.isa_model.specs.Machine.HelperCalls.{bytes_argument, bytes_at, lookup
 use Rattle.isa_model.specs.Machine.MachineStates.{IsState}
 use Rattle.isa_model.proofs.StateLaws.{reg_fits}
 use Rattle.maps.specs.Maps.{map_at}
-use Rattle.maps.proofs.MapsLaws.{KeyFits-most}
+use Rattle.maps.proofs.KeySizes.{KeyFits-most}
 use Rattle.word_machine.specs.Words.{Words, word_at, spot_of, IsInside, area, index_of}
 use Rattle.word_machine.specs.Helping.{map_named, named, key_named, value_named, NamesKey, HasPlaces, CallFits, found_at, Calls}
 use Rattle.machine.specs.Related.{Layout, Represents, Related}
@@ -36,7 +36,7 @@ some_key Array n h = omega arith
 
 module _ (p : Program) (clock : ℕ → ℕ) (a : Layout) (s : State) (w : Words) (R : Related p a s w)
     (K : IsState p s) where
-  -- what the call of a helper means for the words
+  -- what holds of the words where the call of a helper has this result
   abbrev pub OkHelp : Option Helper → Result Helped TrapReason → Type 0
   OkHelp h (Ok helped) =
       CallFits w h × ((v : Words) → Calls clock w h v
@@ -118,11 +118,11 @@ module _ (p : Program) (clock : ℕ → ℕ) (a : Layout) (s : State) (w : Words
             ),
       )))
 
-  update_ends : map_named w < length p.maps → IsInside w (spot_of at2) row.key_size
+  update_shown : map_named w < length p.maps → IsInside w (spot_of at2) row.key_size
       → IsInside w (spot_of at3) row.value_size
       → OkHelp (Some MapUpdateElem)
       (Ok (map_update_elem row s (map_named w) (key_named w) (value_named w) (word_at w R4)))
-  update_ends inside key value = (
+  update_shown inside key value = (
     (
       key_fits inside key,
       record {
@@ -161,14 +161,14 @@ module _ (p : Program) (clock : ℕ → ℕ) (a : Layout) (s : State) (w : Words
       with_argument p a s w R K (OkHelp h) (λ e. tt) (reg s R2) at2 (reg_fits p s R2 K)
       (R.registers.shown (reg_number R2)) _ (λ at points.
       with_argument p a s w R K (OkHelp h) (λ e. tt) (reg s R3) at3 (reg_fits p s R3 K)
-      (R.registers.shown (reg_number R3)) _ (λ from ends.
+      (R.registers.shown (reg_number R3)) _ (λ from from_points.
       with_number p a s w R K (OkHelp h) (λ e. tt) (reg s R4) (word_at w R4)
       (R.registers.shown (reg_number R4)) _
       (with_bytes_at p a s w R K (OkHelp h) (λ e. tt) at row.key_size at2
       (some_key row.kind row.key_size (is_row inside).key) points _ (λ key.
       with_bytes_at p a s w R K (OkHelp h) (λ e. tt) from row.value_size at3
-      (is_row inside).some_value ends _ (λ value.
-      update_ends inside key value))))))
+      (is_row inside).some_value from_points _ (λ value.
+      update_shown inside key value))))))
 
   pub delete_moves : OkHelp (Some MapDeleteElem) (delete_call p s)
   delete_moves =

@@ -1,4 +1,5 @@
--- Map values in their maps' blocks: where a live value's bytes are, and what a write to it leaves.
+-- Map values in their maps' blocks: where the bytes of a live one are, and what a write to it
+-- leaves.
 use Rattle.std.proofs.Common.{◌≡◌, ℕ, zero, suc, ◌+◌, ◌*◌, ◌<◌, ◌≤◌, List, [], ◌∷◌, length, map, refl, sym, ap, subst, ◌∙◌, arith, Bool, true, false, Some, inl, inr, get_or-set_same, get_or-set_other, slice_set}
 use Rattle.std.specs.Prelude.{slice_index_or, T, ◌&&◌}
 use Rattle.std.specs.List.{splice}
@@ -120,19 +121,20 @@ module _ (a : Layout) (m : ℕ) (content : Content) (state : MapState)
   abbrev listed : List (List ℕ × ℕ)
   listed = entries state.places
 
-  abbrev pub place_at : ℕ → (List ℕ × ℕ)
-  place_at j = slice_index_or listed j ([], 0)
+  -- the j-th key with its place
+  abbrev pub keyed_at : ℕ → (List ℕ × ℕ)
+  keyed_at j = slice_index_or listed j ([], 0)
 
   pub as_many : length content ≡ length listed
   as_many =
       sym (length-changed (by_serial a m) content) ∙ ap length shown.same
       ∙ length-changed (by_place size state.block) listed
 
-  -- the j-th key of the content is that of the j-th place, and so is its value
+  -- the j-th key of the content is that of the j-th pair, and so is its value
   pub at_place : (j : ℕ) → j < length content
       → ◌≡◌ {A = List ℕ × (ℕ × List ℕ)}
       ((key_value_at content j).0, by_serial a m (key_value_at content j).1)
-      ((place_at j).0, by_place size state.block (place_at j).1)
+      ((keyed_at j).0, by_place size state.block (keyed_at j).1)
   at_place j h =
       let many = as_many in
       let d : List ℕ × (ℕ × List ℕ) = ([], (0, [])) in
@@ -143,22 +145,22 @@ module _ (a : Layout) (m : ℕ) (content : Content) (state : MapState)
       ([], 0) d (omega arith)
 
   pub value_starts : (j : ℕ) → j < length content
-      → a.value_start m (key_value_at content j).1.serial ≡ (place_at j).1 * size
+      → a.value_start m (key_value_at content j).1.serial ≡ (keyed_at j).1 * size
   value_starts j h = ap (λ x. x.1.0) (at_place j h)
 
   pub value_bytes : (j : ℕ) → j < length content
-      → (key_value_at content j).1.bytes ≡ block_row size state.block (place_at j).1
+      → (key_value_at content j).1.bytes ≡ block_row size state.block (keyed_at j).1
   value_bytes j h = ap (λ x. x.1.1) (at_place j h)
 
-  pub there : (j : ℕ) → j < length content → get state.places (place_at j).0 ≡ Some (place_at j).1
+  pub there : (j : ℕ) → j < length content → get state.places (keyed_at j).0 ≡ Some (keyed_at j).1
   there j h =
       let many = as_many in
-      get_at state.places j (place_at j) (slice_get-get_or listed j ([], 0) (omega arith))
+      get_at state.places j (keyed_at j) (slice_get-get_or listed j ([], 0) (omega arith))
 
-  pub in_block : (j : ℕ) → j < length content → (place_at j).1 < state.row.entries
-  in_block j h = shown.is.in_range (place_at j).0 (place_at j).1 (there j h)
+  pub in_block : (j : ℕ) → j < length content → (keyed_at j).1 < state.row.entries
+  in_block j h = shown.is.in_range (keyed_at j).0 (keyed_at j).1 (there j h)
 
-  -- the bytes of a live value are in the block
+  -- the bytes of a live map value are in the block
   pub value_inside : (j : ℕ) → j < length content
       → a.value_start m (key_value_at content j).1.serial + length (key_value_at content j).1.bytes
       ≤ length state.block
@@ -166,9 +168,9 @@ module _ (a : Layout) (m : ℕ) (content : Content) (state : MapState)
       let e = value_starts j h in
       let inside = in_block j h in
       let long = ap length (value_bytes j h)
-      ∙ length-block_row size state.row.entries state.block (place_at j).1 shown.is.whole inside 0
+      ∙ length-block_row size state.row.entries state.block (keyed_at j).1 shown.is.whole inside 0
       [] (omega arith) in
-      let end = row_end (place_at j).1 state.row.entries size inside in
+      let end = row_end (keyed_at j).1 state.row.entries size inside in
       let whole = shown.is.whole in
       omega arith
 
@@ -178,16 +180,16 @@ module _ (a : Layout) (m : ℕ) (content : Content) (state : MapState)
   value_at_block j h =
       let inside = in_block j h in
       let long = ap length (value_bytes j h)
-      ∙ length-block_row size state.row.entries state.block (place_at j).1 shown.is.whole inside 0
+      ∙ length-block_row size state.row.entries state.block (keyed_at j).1 shown.is.whole inside 0
       [] (omega arith) in
       (λ i. bytes_at state.block (value_starts j h i) (long i)) ∙ sym (value_bytes j h)
 
   pub value_long : (j : ℕ) → j < length content → length (key_value_at content j).1.bytes ≡ size
   value_long j h = ap length (value_bytes j h)
-      ∙ length-block_row size state.row.entries state.block (place_at j).1 shown.is.whole
+      ∙ length-block_row size state.row.entries state.block (keyed_at j).1 shown.is.whole
       (in_block j h) 0 [] (omega arith)
 
-  -- ---- bytes are written into a live value
+  -- ---- bytes are written into a live map value
 
   module _ (j : ℕ) (here : j < length content) (i : ℕ) (bs : List ℕ)
       (room : i + length bs ≤ length (key_value_at content j).1.bytes) (bytes : AreBytes bs) where
@@ -204,7 +206,7 @@ module _ (a : Layout) (m : ℕ) (content : Content) (state : MapState)
     written = record state { block = with_bytes state.block at bs }
 
     abbrev place : ℕ
-    place = (place_at j).1
+    place = (keyed_at j).1
 
     fits : i + length bs ≤ size
     fits = let l = value_long j here in omega arith
@@ -245,24 +247,24 @@ module _ (a : Layout) (m : ℕ) (content : Content) (state : MapState)
               ∙ ap (λ row. splice row i (i + length bs) bs) (sym (value_bytes j here))) k,
         )
 
-    apart : (k : ℕ) → k < length listed → (k ≡ j → ⊥) → (place_at k).1 ≡ place → ⊥
+    apart : (k : ℕ) → k < length listed → (k ≡ j → ⊥) → (keyed_at k).1 ≡ place → ⊥
     apart k l other e =
         let many = as_many in
         other (same_key listed k j (entries_sorted state.places) l (omega arith)
-        (shown.is.apart (place_at k).0 (place_at j).0 place (there k (omega arith) ∙ ap Some e)
+        (shown.is.apart (keyed_at k).0 (keyed_at j).0 place (there k (omega arith) ∙ ap Some e)
         (there j here)))
 
     row_other : (k : ℕ) → k < length listed → (k ≡ j → ⊥)
-        → ◌≡◌ {A = ℕ × List ℕ} (by_place size written.block (place_at k).1)
-        (by_place size state.block (place_at k).1)
+        → ◌≡◌ {A = ℕ × List ℕ} (by_place size written.block (keyed_at k).1)
+        (by_place size state.block (keyed_at k).1)
     row_other k l other =
         λ n. (
-          (place_at k).1 * size,
-          (ap (λ block. block_row size block (place_at k).1) in_row
+          (keyed_at k).1 * size,
+          (ap (λ block. block_row size block (keyed_at k).1) in_row
               ∙ block_row-other size state.block place
               (splice (block_row size state.block place) i (i + length bs) bs) state.row.entries
               row_long shown.is.whole (in_block j here)
-              (place_at k).1 (apart k l other)) n,
+              (keyed_at k).1 (apart k l other)) n,
         )
 
     pub written_shown : RepresentsMap a m (slice_set content j new) written
@@ -277,7 +279,7 @@ module _ (a : Layout) (m : ℕ) (content : Content) (state : MapState)
               (λ e. (e.0, by_place size written.block e.1)) listed j
               (new.0, by_serial a m new.1) ([], 0) (omega arith)
               (λ k. (ap (λ x. x.0) (sym (at_place j here)) k, row_here k))
-              (λ k l other. ap (λ x. ((place_at k).0, x)) (row_other k l other));
+              (λ k l other. ap (λ x. ((keyed_at k).0, x)) (row_other k l other));
         }
 
 -- one content and one map changed

@@ -56,11 +56,11 @@ pub spot_block : (m i : ℕ) → m < max_maps → i < 2 * offset_limit
 spot_block m i h g =
     let high : (values_base m + i) / region_size ≡ 32 + m = omega arith in
     let low : block_index (values_base m + i) ≡ i = omega arith in
-    let map : 32 + m - 32 ≡ m = omega arith in
-    let packet : (32 + m == 2) ≡ false = grind (arith, nat_tests) in
-    let frame : nat_le first_frame (values_base m + i) ≡ false = grind (arith, nat_tests) in
-    let block : nat_le 32 (32 + m) ≡ true = grind (arith, nat_tests) in
-    rw (high, packet, frame, block, map, low) refl
+    let same_map : 32 + m - 32 ≡ m = omega arith in
+    let no_packet : (32 + m == 2) ≡ false = grind (arith, nat_tests) in
+    let no_frame : nat_le first_frame (values_base m + i) ≡ false = grind (arith, nat_tests) in
+    let in_block : nat_le 32 (32 + m) ≡ true = grind (arith, nat_tests) in
+    rw (high, no_packet, no_frame, in_block, same_map, low) refl
 
 pub context_not : (x : ℕ) → 8589934592 ≤ x → in_context x ≡ false
 context_not x h = grind (arith, nat_tests)
@@ -73,7 +73,7 @@ module _ (p : Program) (a : Layout) (s : State) (w : Words) (R : Related p a s w
       IsInside w (spot_of x) n × RepresentsCells a cs (get w (spot_of x) n) × (8589934592 ≤ x)
   OkRead n (Err e) x = Unit {0}
 
-  -- the cells that are found at a place of some cells
+  -- the n cells from an index of some cells on
   abbrev found : Option (List Cell) → Option ℕ → ℕ → Result (List Cell) TrapReason
   found cells o n = and_then (place_in cells o n) (λ i. Ok (cells_at cells i n))
 
@@ -156,16 +156,16 @@ module _ (p : Program) (a : Layout) (s : State) (w : Words) (R : Related p a s w
       ([], record { serial = 0; bytes = [] }) e in
       (here, grind (arith, nat_tests), live_map p s m j K here)
 
-  -- where in its block a place of a live map value is
+  -- where in its block the i-th byte of a live map value is
   pub spot_value : (m j i n x : ℕ) → j < length (content_of s m) → m < length p.maps
       → i + n ≤ length (key_value_at (content_of s m) j).1.bytes
       → x ≡ values_base m + a.value_start m (key_value_at (content_of s m) j).1.serial + i
       → (spot_of x ≡ InBlock m (a.value_start m (key_value_at (content_of s m) j).1.serial + i))
       × (a.value_start m (key_value_at (content_of s m) j).1.serial + i + n
       ≤ length (map_at w.maps m).block)
-  spot_value m j i n x here row h e =
+  spot_value m j i n x here has_row h e =
       let from : ℕ = a.value_start m (key_value_at (content_of s m) j).1.serial in
-      let shown = R.maps.maps m row in
+      let shown = R.maps.maps m has_row in
       let inside = value_inside a m (content_of s m) (map_at w.maps m) shown j here in
       let long = value_long a m (content_of s m) (map_at w.maps m) shown j here in
       let short = shown.is.is_row.short_value in
@@ -177,14 +177,14 @@ module _ (p : Program) (a : Layout) (s : State) (w : Words) (R : Related p a s w
   read_map_value : (m j i n x : ℕ) → j < length (content_of s m) → m < length p.maps
       → x ≡ values_base m + a.value_start m (key_value_at (content_of s m) j).1.serial + i
       → OkRead n (found (Some (map Byte (key_value_at (content_of s m) j).1.bytes)) (Some i) n) x
-  read_map_value m j i n x here row e =
+  read_map_value m j i n x here has_row e =
       let bytes = (key_value_at (content_of s m) j).1.bytes in
       let from : ℕ = a.value_start m (key_value_at (content_of s m) j).1.serial in
       found_in (map Byte bytes) i n x (λ h.
       let long = length-map bytes Byte in
-      let (spot, inside) = spot_value m j i n x here row (omega arith) e in
+      let (spot, inside) = spot_value m j i n x here has_row (omega arith) e in
       let cells = shows-part bytes (map_at w.maps m).block from i n
-      (value_at_block a m (content_of s m) (map_at w.maps m) (R.maps.maps m row) j here)
+      (value_at_block a m (content_of s m) (map_at w.maps m) (R.maps.maps m has_row) j here)
       (omega arith) in
       let far : 8589934592 ≤ x = omega arith in
       rw spot (inside, cells, far))
@@ -217,9 +217,9 @@ module _ (p : Program) (a : Layout) (s : State) (w : Words) (R : Related p a s w
       by_value None f y g = tt
       by_value (Some j) f (negsuc i) g = tt
       by_value (Some j) f (pos i) g =
-          let (here, serial, row) = live_value m k j f in
+          let (here, serial, has_row) = live_value m k j f in
           let same = ap (a.value_start m) serial in
-          read_map_value m j i n x here row (omega (arith, ints))
+          read_map_value m j i n x here has_row (omega (arith, ints))
 
   -- ---- loads
 

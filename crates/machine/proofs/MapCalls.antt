@@ -54,7 +54,7 @@ module _ (a : Layout) (m : ℕ) (content : Content) (state : MapState)
       sym (find-changed (by_serial a m) key content) ∙ ap (at_key key) shown.same
       ∙ find-placed (by_place size state.block) state.places key
 
-  -- where the value at a place begins, or 0
+  -- where the map value at a place begins, or 0
   abbrev pub address : Option ℕ → ℕ
   address (Some place) = values_base m + place * size
   address None = 0
@@ -155,23 +155,23 @@ module _ (a : Layout) (m : ℕ) (content : Content) (state : MapState)
         ∙ ap (λ block. changed (by_place size block) (entries new.places)) (sym writes.written))
 
     -- the layout after it, by the value that the key had
-    abbrev pub given : ℕ → Option Stored → Layout
-    given next (Some old) = a
-    given next None = with_value_start a next (place * size)
+    abbrev pub layout_after : ℕ → Option Stored → Layout
+    layout_after next (Some old) = a
+    layout_after next None = with_value_start a next (place * size)
 
-    pub given_extends : (next : ℕ) (o : Option Stored) → ExtendsLayout a (given next o) next
+    pub given_extends : (next : ℕ) (o : Option Stored) → ExtendsLayout a (layout_after next o) next
     given_extends next (Some old) =
         record { depth = λ n h. refl; value_start = λ k n h. refl; end = refl }
     given_extends next None = ExtendsLayout-with_value_start a next (place * size)
 
-    pub given_good : (rows next : ℕ) (o : Option Stored) → IsLayout a rows
-        → IsLayout (given next o) rows
-    given_good rows next (Some old) good = good
-    given_good rows next None good =
-        IsLayout-with_value_start a rows next (place * size)
+    pub given_good : (count next : ℕ) (o : Option Stored) → IsLayout a count
+        → IsLayout (layout_after next o) count
+    given_good count next (Some old) good = good
+    given_good count next None good =
+        IsLayout-with_value_start a count next (place * size)
         (place_low new place is row (is.in_range key place writes.there)) good
 
-    pub given_end : (next : ℕ) (o : Option Stored) → (given next o).end ≡ a.end
+    pub given_end : (next : ℕ) (o : Option Stored) → (layout_after next o).end ≡ a.end
     given_end next (Some old) = refl
     given_end next None = refl
 
@@ -216,8 +216,8 @@ module _ (a : Layout) (m : ℕ) (content : Content) (state : MapState)
     no_place (Some p) e = absurd (cc)
 
     pub updated_shown : (next : ℕ) (o : Option Stored) → at_key key content ≡ o
-        → changed (by_serial (given next o) m) content ≡ changed (by_serial a m) content
-        → RepresentsMap (given next o) m
+        → changed (by_serial (layout_after next o) m) content ≡ changed (by_serial a m) content
+        → RepresentsMap (layout_after next o) m
         (with_key key (record { serial = serial_given next o; bytes = value }) content) new
     updated_shown next (Some old) e same =
         present old e (get state.places key) refl
@@ -229,7 +229,7 @@ module _ (a : Layout) (m : ℕ) (content : Content) (state : MapState)
 -- ---- states and words
 
 module _ (p : Program) (a : Layout) (s : State) (w : Words) (R : Related p a s w) (K : IsState p s)
-    (m : ℕ) (row : m < length p.maps) where
+    (m : ℕ) (has_row : m < length p.maps) where
   abbrev state : MapState
   state = map_at w.maps m
 
@@ -237,7 +237,7 @@ module _ (p : Program) (a : Layout) (s : State) (w : Words) (R : Related p a s w
   content = content_of s m
 
   shown : RepresentsMap a m content state
-  shown = R.maps.maps m row
+  shown = R.maps.maps m has_row
 
   -- the words represent the machine state after one map changed, and perhaps one more serial was
   -- given
@@ -322,7 +322,7 @@ module _ (p : Program) (a : Layout) (s : State) (w : Words) (R : Related p a s w
           (record w { maps = slice_set w.maps m new })
       written ok o e =
           let writes = u.updates.writes ok in
-          let b : Layout = given a m content state shown new key value is u.row long writes
+          let b : Layout = layout_after a m content state shown new key value is u.row long writes
           s.next_serial o in
           let E = given_extends a m content state shown new key value is u.row long writes
           s.next_serial o in (
@@ -353,7 +353,7 @@ module _ (p : Program) (a : Layout) (s : State) (w : Words) (R : Related p a s w
           (λ z. not_zero (update_answer state.row content key flags) e (sym same ∙ z)) in
           (a, same_related new is u.row stays.0 stays.1, same)
 
-  -- a delete: the dead value's place is still in the layout
+  -- a delete: where the dead map value began is still in the layout
   pub delete_related : (key : List ℕ) (answer : ℕ) (new : MapState) → IsMap new
       → Deleted key answer state new
       → Related p a (if delete_answer state.row content key == 0 then remove_key s m key else s)

@@ -19,7 +19,7 @@ use Rattle.maps.specs.Maps.{MapState, map_at}
 use Rattle.word_machine.specs.Addresses.{values_base}
 use Rattle.word_machine.specs.Words.{Words}
 use Rattle.machine.specs.Related.{Layout, Represents, by_place, RepresentsMap, Related}
-use Rattle.machine.proofs.LiveValues.{value_starts, in_block, place_at}
+use Rattle.machine.proofs.LiveValues.{value_starts, in_block, keyed_at}
 use Rattle.machine.proofs.Arguments.{row_of}
 use Rattle.machine.proofs.MapCalls.{found}
 
@@ -42,13 +42,13 @@ module _ (a : Layout) (m : ℕ) (state : MapState) where
   only_begins content shown array one =
       let some = has_value content shown array one in
       let inside = in_block a m content state shown 0 some in
-      let first : (place_at a m content state shown 0).1 ≡ 0 = omega arith in
+      let first : (keyed_at a m content state shown 0).1 ≡ 0 = omega arith in
       value_starts a m content state shown 0 some ∙ ap (λ n. n * state.row.value_size) first
       ∙ zero-mul state.row.value_size
 
 module _ (p : Program) (a : Layout) (s : State) (w : Words) (R : Related p a s w)
     (K : IsState p s) where
-  -- the word of a pointer into the only value
+  -- the word of a pointer into a map's only value
   pub only_value : (m offset : ℕ) → IsSomeAnd (slice_get p.maps m) (HoldsOffset offset)
       → Represents a (value_pointer s m offset) (values_base m + offset) × (m < max_maps)
   only_value m offset named = at (slice_get p.maps m) refl named

@@ -206,7 +206,7 @@ module _ (p : Program) (clock : ℕ → ℕ) (a : Layout) (s : State) (w : Words
       last : (one : Bool) → (length s.frames == 1) ≡ one
           → OkMove Exit (if one then finishes p.version (reg s R0) else Next (leave s))
       last true e =
-          let one : length s.frames ≡ 1 = grind (arith, nat_tests) in
+          let is_one : length s.frames ≡ 1 = grind (arith, nat_tests) in
           let deep = R.frames.depth in
           finish (reg s R0) (omega arith) (R.registers.shown 0)
       last false e =
@@ -224,13 +224,14 @@ module _ (p : Program) (clock : ℕ → ℕ) (a : Layout) (s : State) (w : Words
       → OkMove (CallHelper number)
       (goes_on s (CallHelper number) (after_call (helper_call p clock s (helper_numbered number))))
   act_helper number =
-      called (helper_call p clock s (helper_numbered number))
+      by_result (helper_call p clock s (helper_numbered number))
       (helper_moves p clock a s w R K (helper_numbered number))
     where
-      called : (r : Result Helped TrapReason) → OkHelp p clock a s w R K (helper_numbered number) r
+      by_result : (r : Result Helped TrapReason)
+          → OkHelp p clock a s w R K (helper_numbered number) r
           → OkMove (CallHelper number) (goes_on s (CallHelper number) (after_call r))
-      called (Err e) h = tt
-      called (Ok helped) h = (h.0, tt, h.1)
+      by_result (Err e) h = tt
+      by_result (Ok helped) h = (h.0, tt, h.1)
 
   -- the effect of each instruction
   pub acts : (i : Insn) → InsnFits i → NamesRows p.maps i → OkMove i (act p clock s i)

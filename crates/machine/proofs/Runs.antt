@@ -18,8 +18,8 @@ use Rattle.word_machine.specs.Words.{Words}
 use Rattle.word_machine.specs.Machine.{words_of}
 use Rattle.word_machine.specs.Runs.{EndsSafely, EndsInTime, Exits}
 use Rattle.machine.specs.Starting.{start_words, start_of}
-use Rattle.machine.specs.Answering.{IsStart, ReturnsAsModel as WordReturns}
-use Rattle.machine.proofs.AnsweringLaws.{start_Ends, start_Answers}
+use Rattle.machine.specs.Returning.{IsStart, ReturnsAsModel as WordReturns}
+use Rattle.machine.proofs.ReturningLaws.{start_ends, start_returns}
 use Rattle.machine.specs.Running.{RunsWithinBound, ReturnsOutcome}
 use Rattle.machine.specs.Ready.{IsReady}
 
@@ -41,7 +41,7 @@ memory_at memory head = record memory { interface = head.interface; queue = head
 
 module _ (p : Program) (bound : ℕ) (memory : Memory) (ready : IsReady p bound memory)
     (head : FrameHead) (packet : List ℕ) (clock : ℕ → ℕ)
-    (fits : IsClock clock) (short : length packet ≤ max_packet) (bytes : AreBytes packet)
+    (answers : IsClock clock) (short : length packet ≤ max_packet) (bytes : AreBytes packet)
     (interface : head.interface < 2 ^ 32) (queue : head.queue < 2 ^ 32)
     (are : All IsMap memory.maps) where
   given : IsGiven p head packet (contents_of memory.maps)
@@ -56,9 +56,9 @@ module _ (p : Program) (bound : ℕ) (memory : Memory) (ready : IsReady p bound 
 
   is_start : IsStart p clock bound head packet memory.frames.items memory.maps
   is_start = record {
-    program = ready.running.is_program;
+    is_program = ready.running.is_program;
     ends = ready.running.ends;
-    answers = fits;
+    answers = answers;
     given = given;
     few = ready.few;
     whole = ready.whole;
@@ -82,7 +82,7 @@ module _ (p : Program) (bound : ℕ) (memory : Memory) (ready : IsReady p bound 
     most = ready.running.most;
     ends =
         subst (λ w. EndsSafely p clock w bound) (sym at_start)
-        (start_Ends p clock bound head packet memory.frames.items memory.maps is_start);
+        (start_ends p clock bound head packet memory.frames.items memory.maps is_start);
   }
 
   module _ (number steps slot asked : ℕ) (regs : List ℕ) (left : Memory) (after : List ℕ)
@@ -92,7 +92,7 @@ module _ (p : Program) (bound : ℕ) (memory : Memory) (ready : IsReady p bound 
 
     word_returns : WordReturns p clock bound head packet memory.maps number steps last
     word_returns =
-        start_Answers p clock bound head packet memory.frames.items memory.maps is_start number
+        start_returns p clock bound head packet memory.frames.items memory.maps is_start number
         steps last
         (subst (λ w. Exits p clock w number steps last) at_start exits)
 
@@ -123,7 +123,7 @@ module _ (p : Program) (bound : ℕ) (memory : Memory) (ready : IsReady p bound 
         most = ready.running.most;
         fits = subst (FitRows p.maps) (sym word_returns.contents_are)
             (FitRows-HasOutcome p head packet
-            (contents_of memory.maps) clock word_returns.outcome ready.running.is_program fits
+            (contents_of memory.maps) clock word_returns.outcome ready.running.is_program answers
             given word_returns.found);
       };
       few = ready.few;

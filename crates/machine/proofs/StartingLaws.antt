@@ -28,7 +28,8 @@ use Rattle.word_machine.specs.Addresses.{frames_size}
 abbrev pub place_of : MapState → ℕ → ℕ
 place_of state k = (slice_index_or (entries state.places) k ([], 0)).1
 
--- where the value of a serial begins, where the serials are numbered from `first` on, map by map
+-- where the map value of a serial begins, where the serials are numbered from `first` on, map by
+-- map
 abbrev pub begins : ℕ → List MapState → ℕ → ℕ → ℕ
 begins first [] m n = 0
 begins first (state ∷ states) zero n = place_of state (n - first) * state.row.value_size

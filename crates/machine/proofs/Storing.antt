@@ -35,7 +35,7 @@ use Rattle.maps.specs.Maps.{MapState, map_at, with_block}
 use Rattle.isa_model.specs.Machine.MachineStates.{AreBytes, IsValue, IsState}
 use Rattle.isa_model.proofs.ValueLaws.{length-splice, bytes_of_fit}
 use Rattle.word_machine.specs.Addresses.{packet_base}
-use Rattle.word_machine.specs.Words.{Words, InPacket, InFrames, InBlock, spot_of, IsInside, saved_at, put as put_bytes}
+use Rattle.word_machine.specs.Words.{Words, InPacket, InFrames, InBlock, spot_of, IsInside, saved_at, put as words_put}
 use Rattle.machine.specs.Related.{Layout, region_start, moved, word, Represents, RepresentsCells, RepresentsFrame, RepresentsSaved, RepresentsFrames, RepresentsMaps, Related}
 use Rattle.machine.proofs.LiveValues.{contents_are, written, written_shown, set_shown}
 use Rattle.machine.proofs.Addresses.{add_near}
@@ -66,16 +66,16 @@ at_set fs j k g P here same other =
 module _ (p : Program) (a : Layout) (s : State) (w : Words) (R : Related p a s w)
     (K : IsState p s) where
   -- cells that replace some, and bytes that replace those which represent them
-  shows-splice : (cs new : List Cell) (row bs : List ℕ) (i : ℕ) → RepresentsCells a cs row
+  shows-splice : (cs new : List Cell) (held bs : List ℕ) (i : ℕ) → RepresentsCells a cs held
       → RepresentsCells a new bs
-      → RepresentsCells a (splice cs i (i + length new) new) (with_bytes row i bs)
-  shows-splice cs new row bs i h k =
+      → RepresentsCells a (splice cs i (i + length new) new) (with_bytes held i bs)
+  shows-splice cs new held bs i h k =
       let long = shows-length a new bs k in
-      let rest = subst (λ n. RepresentsCells a (drop (i + n) cs) (drop (i + length bs) row))
-      (sym long) (shows-drop a (i + length bs) cs row h) in
-      shows-append a (take i cs) (take i row) (new ++ drop (i + length new) cs)
-      (bs ++ drop (i + length bs) row) (shows-take a i cs row h)
-      (shows-append a new bs (drop (i + length new) cs) (drop (i + length bs) row) k rest)
+      let rest = subst (λ n. RepresentsCells a (drop (i + n) cs) (drop (i + length bs) held))
+      (sym long) (shows-drop a (i + length bs) cs held h) in
+      shows-append a (take i cs) (take i held) (new ++ drop (i + length new) cs)
+      (bs ++ drop (i + length bs) held) (shows-take a i cs held h)
+      (shows-append a new bs (drop (i + length new) cs) (drop (i + length bs) held) k rest)
 
   put_frame_shown : (j i : ℕ) (new : List Cell) (bs : List ℕ) → j < length s.frames
       → i + length new ≤ stack_size → RepresentsCells a new bs
@@ -179,7 +179,7 @@ module _ (p : Program) (a : Layout) (s : State) (w : Words) (R : Related p a s w
       (record s {
         packet = splice s.packet i (i + length (map Byte bs))
             (map byte_in (map Byte bs));
-      }) (put_bytes w (InPacket i) bs)
+      }) (words_put w (InPacket i) bs)
   put_packet_related i bs room =
       let long = length-map bs Byte in
       let new : splice s.packet i (i + length (map Byte bs)) (map byte_in (map Byte bs))
@@ -199,13 +199,13 @@ module _ (p : Program) (a : Layout) (s : State) (w : Words) (R : Related p a s w
   -- state that it leaves
   abbrev pub OkStore : Result State TrapReason → ℕ → List ℕ → Type 0
   OkStore (Ok t) x bs =
-      IsInside w (spot_of x) (length bs) × Related p a t (put_bytes w (spot_of x) bs)
+      IsInside w (spot_of x) (length bs) × Related p a t (words_put w (spot_of x) bs)
   OkStore (Err e) x bs = Unit {0}
 
-  stored : (cells : List Cell) (i n x : ℕ) (bs : List ℕ) (t : ℕ → State)
+  write_in : (cells : List Cell) (i n x : ℕ) (bs : List ℕ) (t : ℕ → State)
       → (i + n ≤ length cells → OkStore (Ok (t i)) x bs)
       → OkStore (and_then (place_in (Some cells) (Some i) n) (λ i. Ok (t i))) x bs
-  stored cells i n x bs t h = by_test (nat_le (i + n) (length cells)) refl
+  write_in cells i n x bs t h = by_test (nat_le (i + n) (length cells)) refl
     where
       by_test : (b : Bool) → nat_le (i + n) (length cells) ≡ b
           → OkStore (and_then (if b then Ok i else Err BadAccess) (λ i. Ok (t i))) x bs
@@ -226,7 +226,7 @@ module _ (p : Program) (a : Layout) (s : State) (w : Words) (R : Related p a s w
       by_frame None f y g = tt
       by_frame (Some j) f (negsuc i) g = tt
       by_frame (Some j) f (pos i) g =
-          stored (call_frame_at s.frames j).cells i (length new) x bs
+          write_in (call_frame_at s.frames j).cells i (length new) x bs
           (λ i. record s { frames = put_call_frame s.frames (Some j) i new }) (λ h.
           let (here, depth) = live_depth p a s w R K m j f in
           let whole = frame_whole p a s w R K j here in
@@ -248,21 +248,22 @@ module _ (p : Program) (a : Layout) (s : State) (w : Words) (R : Related p a s w
       → i + length bs ≤ length (key_value_at (content_of s m) j).1.bytes → AreBytes bs
       → Related p a
       (record s { maps = slice_set s.maps m (put_value (content_of s m) (Some j) i new) })
-      (put_bytes w (InBlock m (a.value_start m (key_value_at (content_of s m) j).1.serial + i)) bs)
-  put_value_related m j i new bs same here row room bytes =
+      (words_put w (InBlock m (a.value_start m (key_value_at (content_of s m) j).1.serial + i)) bs)
+  put_value_related m j i new bs same here has_row room bytes =
       subst (λ new. Related p a
       (record s { maps = slice_set s.maps m (put_value (content_of s m) (Some j) i new) })
-      (put_bytes w (InBlock m (a.value_start m (key_value_at (content_of s m) j).1.serial + i)) bs))
+      (words_put w (InBlock m (a.value_start m (key_value_at (content_of s m) j).1.serial + i)) bs))
       (sym same)
       (with_maps (slice_set s.maps m (put_value (content_of s m) (Some j) i bs))
       (with_block w.maps m
       (with_bytes (map_at w.maps m).block
       (a.value_start m (key_value_at (content_of s m) j).1.serial + i) bs))
       (set_shown a p.maps s.maps w.maps m (put_value (content_of s m) (Some j) i bs)
-      (written a m (content_of s m) (map_at w.maps m) (R.maps.maps m row) j here i bs room bytes)
+      (written a m (content_of s m) (map_at w.maps m) (R.maps.maps m has_row)
+      j here i bs room bytes)
       (contents_are p s K) refl
       (λ _. written_shown a m (content_of s m) (map_at w.maps m)
-      (R.maps.maps m row) j here i bs room bytes) R.maps))
+      (R.maps.maps m has_row) j here i bs room bytes) R.maps))
 
   shows_write_value : (m n : ℕ) (z : ℤ) (bs : List ℕ) (x : ℕ) → AreBytes bs
       → pos x ≡ pos (region_start a (region.MapValue m n)) +ℤ z
@@ -281,21 +282,23 @@ module _ (p : Program) (a : Layout) (s : State) (w : Words) (R : Related p a s w
       by_value None f y g = tt
       by_value (Some j) f (negsuc i) g = tt
       by_value (Some j) f (pos i) g =
-          stored (map Byte (key_value_at (content_of s m) j).1.bytes) i (length (map Byte bs)) x bs
+          write_in (map Byte (key_value_at (content_of s m) j).1.bytes) i
+          (length (map Byte bs)) x bs
           (λ i. record s {
             maps = slice_set s.maps m
                 (put_value (content_of s m) (Some j) i (map byte_in (map Byte bs)));
           }) (λ h.
           let long = length-map (key_value_at (content_of s m) j).1.bytes Byte in
           let part = length-map bs Byte in
-          let (here, serial, row) = live_value p a s w R K m n j f in
+          let (here, serial, has_row) = live_value p a s w R K m n j f in
           let same = ap (a.value_start m) serial in
           let (spot, inside) =
-          spot_value p a s w R K m j i (length bs) x here row (omega arith) (omega (arith, ints)) in
+          spot_value p a s w R K m j i (length bs) x here has_row (omega arith)
+          (omega (arith, ints)) in
           rw spot (
             inside,
             put_value_related m j i (map byte_in (map Byte bs)) bs
-                (map-byte_in-Byte bs) here row (omega arith) bytes,
+                (map-byte_in-Byte bs) here has_row (omega arith) bytes,
           ))
 
   pub shows_write_number : (r : Region) (z : ℤ) (bs : List ℕ) (x : ℕ) → 0 < length bs → AreBytes bs
@@ -310,7 +313,7 @@ module _ (p : Program) (a : Layout) (s : State) (w : Words) (R : Related p a s w
       shows_write_value m n z bs x bytes e
   shows_write_number region.Packet (negsuc i) bs x some bytes e = tt
   shows_write_number region.Packet (pos i) bs x some bytes e =
-      stored (map Byte s.packet) i (length (map Byte bs)) x bs
+      write_in (map Byte s.packet) i (length (map Byte bs)) x bs
       (λ i. record s
       { packet = splice s.packet i (i + length (map Byte bs)) (map byte_in (map Byte bs)) })
       (λ h.

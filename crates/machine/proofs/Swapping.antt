@@ -28,7 +28,7 @@ use Rattle.isa_model.specs.Machine.Steps.{base_of, atomic_number, swaps_in, fetc
 use Rattle.isa_model.specs.Machine.MachineStates.{IsValue, IsState}
 use Rattle.isa_model.proofs.StateLaws.{reg_fits}
 use Rattle.isa_model.proofs.AccessLaws.{store_number_keeps}
-use Rattle.word_machine.specs.Words.{Words, word_at, address_of, spot_of, IsInside, get, number_at, swaps, old_number, fetched_regs, put as put_bytes}
+use Rattle.word_machine.specs.Words.{Words, word_at, address_of, spot_of, IsInside, get, number_at, swaps, old_number, fetched_regs, put as words_put}
 use Rattle.machine.specs.Related.{Layout, region_start, moved, word, Represents, Related}
 use Rattle.machine.proofs.Addresses.{add_near}
 use Rattle.machine.proofs.Arithmetic.{far, OkShows}
@@ -101,10 +101,10 @@ module _ (p : Program) (a : Layout) (s : State) (w : Words) (R : Related p a s w
       (λ u. IsInside w (spot_of (alu Add Full64 x (unsigned Full64 by)))
       (size_bytes (unsigned_size size)))
   shows_load_signed size v by x fits small e =
-      signed (load_number s (unsigned_size size) v by)
+      by_number (load_number s (unsigned_size size) v by)
       (shows_load_number (unsigned_size size) v by x fits small e)
     where
-      signed : (r : Result ℕ TrapReason)
+      by_number : (r : Result ℕ TrapReason)
           → OkFound (size_bytes (unsigned_size size)) r (alu Add Full64 x (unsigned Full64 by))
           → OkShows a (and_then r (λ n. Ok (Num (sign_extended (size_extension size) n))))
           (sign_extended (size_extension size)
@@ -112,8 +112,8 @@ module _ (p : Program) (a : Layout) (s : State) (w : Words) (R : Related p a s w
           × IfOk (and_then r (λ n. Ok (Num (sign_extended (size_extension size) n))))
           (λ u. IsInside w (spot_of (alu Add Full64 x (unsigned Full64 by)))
           (size_bytes (unsigned_size size)))
-      signed (Ok n) h = (ap (sign_extended (size_extension size)) h.1, h.0)
-      signed (Err e) h = (tt, tt)
+      by_number (Ok n) h = (ap (sign_extended (size_extension size)) h.1, h.0)
+      by_number (Err e) h = (tt, tt)
 
   -- ---- numbers swapped
 
@@ -144,33 +144,33 @@ module _ (p : Program) (a : Layout) (s : State) (w : Words) (R : Related p a s w
     abbrev Q : State → Type 0
     Q t = IsInside w (spot_of x) (size_bytes size) × Related p a t (swapped width place new keeps r)
 
-    stored : (old : ℕ) → number_at w size x ≡ old → (q : Result State TrapReason)
+    after_store : (old : ℕ) → number_at w size x ≡ old → (q : Result State TrapReason)
         → OkStore p a s w R K q x (bytes_of size (new old)) → IfOk q (IsState p)
         → IfOk (and_then q (λ t. Ok (fetched_into keeps r old t))) Q
-    stored old e (Err f) h k = tt
-    stored old e (Ok t) h k = (
+    after_store old e (Err f) h k = tt
+    after_store old e (Ok t) h k = (
       subst (IsInside w (spot_of x)) (bytes_long p a s w R K size (new old)) h.0,
       subst (λ n. Related p a (fetched_into keeps r old t)
-          (record (put_bytes w (spot_of x) (bytes_of size (new n)))
+          (record (words_put w (spot_of x) (bytes_of size (new n)))
           { regs = fetched_regs keeps w.regs (reg_number r) (number_at w size x) })) (sym e)
-          (kept_related t (put_bytes w (spot_of x) (bytes_of size (new old))) keeps r old
+          (kept_related t (words_put w (spot_of x) (bytes_of size (new old))) keeps r old
           (number_at w size x) k h.1 e),
     )
 
-    loaded : (q : Result ℕ TrapReason) → OkFound (size_bytes size) q x
+    after_load : (q : Result ℕ TrapReason) → OkFound (size_bytes size) q x
         → IfOk (and_then q
         (λ old. and_then (store_number s size base place.offset (new old))
         (λ t. Ok (fetched_into keeps r old t)))) Q
-    loaded (Err f) h = tt
-    loaded (Ok old) h =
-        stored old h.1 (store_number s size base place.offset (new old))
+    after_load (Err f) h = tt
+    after_load (Ok old) h =
+        after_store old h.1 (store_number s size base place.offset (new old))
         (shows_store_number p a s w R K size base place.offset (new old) (word_at w place.base)
         (reg_fits p s place.base K) small (R.registers.shown (reg_number place.base)))
         (store_number_keeps p s size base place.offset (new old) K)
 
     pub shows_swap : IfOk (swaps_in s width place new (fetched_into keeps r)) Q
     shows_swap =
-        loaded (load_number s size base place.offset)
+        after_load (load_number s size base place.offset)
         (shows_load_number size base place.offset (word_at w place.base)
         (reg_fits p s place.base K) small (R.registers.shown (reg_number place.base)))
 

@@ -39,19 +39,19 @@ not_read_only : (p : Program) (clock : ℕ → ℕ) (s : State) (P : State → T
     → is_frame_pointer (writes i) ≡ false
 unfolding step
 not_read_only p clock s P i found h =
-    unset (list_any (λ r. is_unset (reg s r)) (reads i))
+    by_unset (list_any (λ r. is_unset (reg s r)) (reads i))
     (subst (λ o. After P (performed_at p clock s o)) found h)
   where
-    own : (b : Bool) (r : StepResult) → After P (if b then Trapped ReadOnly else r) → b ≡ false
-    own true r h = absurd h
-    own false r h = refl
+    by_r10 : (b : Bool) (r : StepResult) → After P (if b then Trapped ReadOnly else r) → b ≡ false
+    by_r10 true r h = absurd h
+    by_r10 false r h = refl
 
-    unset : (b : Bool)
+    by_unset : (b : Bool)
         → After P (if b then Trapped UnsetRead
         else if is_frame_pointer (writes i) then Trapped ReadOnly else act p clock s i)
         → is_frame_pointer (writes i) ≡ false
-    unset true h = absurd h
-    unset false h = own (is_frame_pointer (writes i)) (act p clock s i) h
+    by_unset true h = absurd h
+    by_unset false h = by_r10 (is_frame_pointer (writes i)) (act p clock s i) h
 
 module _ (p : Program) (clock : ℕ → ℕ) (program : IsProgram p) (answers : IsClock clock) where
   -- ---- runs that end
@@ -64,7 +64,7 @@ module _ (p : Program) (clock : ℕ → ℕ) (program : IsProgram p) (answers : 
       → OkMove p clock a s w R K i q → IfNext q (IsState p)
       → ((b : Layout) (t : State) (v : Words) → Related p b t v → IsState p t → Q t → P v)
       → CanStepTo p clock w P
-  carried_over P Q a s w R K i found own q ends move keeps rest = by_step q ends move keeps
+  carried_over P Q a s w R K i found keeps_r10 q ends move keeps rest = by_step q ends move keeps
     where
       shallow : length w.saved < max_call_frames
       shallow = let d = R.frames.depth in let e = K.depth in omega arith
@@ -78,7 +78,7 @@ module _ (p : Program) (clock : ℕ → ℕ) (program : IsProgram p) (answers : 
         insn = i;
         found = ap (fetch p) R.slot ∙ found;
         fits = move.0;
-        own = own;
+        keeps_r10 = keeps_r10;
         shallow = shallow;
         short = short;
         after = λ going v m. let (b, related) = move.2 v m in rest b t v related keeps ends;
@@ -87,7 +87,7 @@ module _ (p : Program) (clock : ℕ → ℕ) (program : IsProgram p) (answers : 
         insn = i;
         found = ap (fetch p) R.slot ∙ found;
         fits = subst (AccessesFit w) (sym move.0.0) tt;
-        own = own;
+        keeps_r10 = keeps_r10;
         shallow = shallow;
         short = short;
         after = λ going v m. absurd (going move.0);
@@ -122,10 +122,10 @@ module _ (p : Program) (clock : ℕ → ℕ) (program : IsProgram p) (answers : 
   one_more : (s : State) (n k : ℕ) (u v : Words) → Tracks p clock s n k u → WordsStepTo p clock u v
       → Tracks p clock s n (suc k) v
   one_more s n k u v F S =
-      let (m, left, ends) = some_left F.state F.left F.ends in
+      let (m, some, ends) = some_left F.state F.left F.ends in
       let found : fetch p F.state.slot ≡ Some S.insn =
       ap (fetch p) (sym F.related.slot) ∙ S.found in
-      goes m left (step p clock F.state) refl ends
+      goes m some (step p clock F.state) refl ends
       (moves p clock F.layout F.state u F.related F.is S.insn found program)
       (step_keeps p clock F.state program answers F.is)
     where
@@ -133,7 +133,7 @@ module _ (p : Program) (clock : ℕ → ℕ) (program : IsProgram p) (answers : 
           → After (λ t. ModelEnds p clock t m) q
           → OkMove p clock F.layout F.state u F.related F.is S.insn q → IfNext q (IsState p)
           → Tracks p clock s n (suc k) v
-      goes m left (Next t) e ends move keeps =
+      goes m some (Next t) e ends move keeps =
           let (b, related) = move.2 v S.moves in
           record {
             state = t;
@@ -145,8 +145,8 @@ module _ (p : Program) (clock : ℕ → ℕ) (program : IsProgram p) (answers : 
             in_time = let h = F.in_time in omega arith;
             ends = ends;
           }
-      goes m left (Finished x) e ends move keeps = absurd (S.goes move.0)
-      goes m left (Trapped x) e ends move keeps = absurd ends
+      goes m some (Finished x) e ends move keeps = absurd (S.goes move.0)
+      goes m some (Trapped x) e ends move keeps = absurd ends
 
   pub related_Reaches : (k n : ℕ) (a : Layout) (s : State) (w v : Words) → Related p a s w
       → IsState p s → ModelEnds p clock s n
@@ -173,7 +173,7 @@ module _ (p : Program) (clock : ℕ → ℕ) (program : IsProgram p) (answers : 
       → Exits p clock w number steps v → Finishes p clock s n number steps v
   related_Exits n a s w v number steps R K h e =
       let F = related_Reaches e.before n a s w v R K h e.reached in
-      let (m, left, ends) = some_left F.state F.left F.ends in
+      let (m, some, ends) = some_left F.state F.left F.ends in
       let found : fetch p F.state.slot ≡ Some Exit = ap (fetch p) (sym F.related.slot) ∙ e.found in
       record {
         before = e.before;
@@ -189,6 +189,6 @@ module _ (p : Program) (clock : ℕ → ℕ) (program : IsProgram p) (answers : 
           → step p clock F.state ≡ q → After (λ t. ModelEnds p clock t m) q
           → OkMove p clock F.layout F.state v F.related F.is Exit q
           → step p clock F.state ≡ Finished number
-      finished F m (Next t) f ends move = absurd (not_last v Exit move.1 (refl, e.first))
+      finished F m (Next t) f ends move = absurd (not_last v Exit move.1 (refl, e.outer))
       finished F m (Finished x) f ends move = f ∙ ap Finished (sym (e.answer ∙ move.1))
       finished F m (Trapped x) f ends move = absurd ends

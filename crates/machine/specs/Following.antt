@@ -12,7 +12,7 @@ use Rattle.machine.specs.Related.{Layout, Related}
 use Rattle.maps.specs.Maps.{MapState}
 use Rattle.machine.specs.Tracking.{Tracks, Finishes}
 use Rattle.machine.specs.Starting.{start_of}
-use Rattle.machine.specs.Answering.{IsStart, ReturnsAsModel}
+use Rattle.machine.specs.Returning.{IsStart, ReturnsAsModel}
 
 -- a run that ends in the model within n steps ends in words within n moves
 abbrev pub EndsInWords : Type 0

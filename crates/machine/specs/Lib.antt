@@ -1,7 +1,7 @@
 pub mod Related
 pub mod Tracking
 pub mod Starting
-pub mod Answering
+pub mod Returning
 pub mod Following
 pub mod Running
 pub mod Ready

@@ -30,9 +30,9 @@ pub record Layout : Type 0 where
   pub value_start : ℕ → ℕ → ℕ
   pub end : ℕ
 
--- every region begins far from both ends of the addresses, and no two overlap
-pub record IsLayout (a : Layout) (rows : ℕ) : Type 0 where
-  pub few : rows ≤ max_maps
+-- every region's offset 0 is far from both ends of the addresses, and no two regions overlap
+pub record IsLayout (a : Layout) (count : ℕ) : Type 0 where
+  pub few : count ≤ max_maps
   pub shallow : (n : ℕ) → a.depth n < max_call_frames
   pub low : (m n : ℕ) → a.value_start m n < offset_limit
   pub short : a.end ≤ max_packet
@@ -82,9 +82,9 @@ pub record RepresentsRegisters (a : Layout) (regs : List Value) (words : List �
 -- ---- call frames
 
 -- the call frame at depth j has its bytes from j * stack_size on
-pub record RepresentsFrame (a : Layout) (f : CallFrame) (j : ℕ) (frames : List ℕ) : Type 0 where
+pub record RepresentsFrame (a : Layout) (f : CallFrame) (j : ℕ) (block : List ℕ) : Type 0 where
   pub depth : a.depth f.serial ≡ j
-  pub cells : RepresentsCells a f.cells (bytes_at frames (j * stack_size) stack_size)
+  pub cells : RepresentsCells a f.cells (bytes_at block (j * stack_size) stack_size)
 
 -- what is kept for the caller: the slot to return to, and r6 to r9
 pub record RepresentsSaved (a : Layout) (f : CallFrame) (s : Saved) : Type 0 where

@@ -1,4 +1,5 @@
--- Laws of the map of an array's indexes: each is found, and there are no others.
+-- Laws of the finite map from an array's keys to their places: each index is found, and there are
+-- no other places.
 use Rattle.std.proofs.Common.{◌≡◌, ℕ, zero, suc, ◌+◌, ◌^◌, ◌<◌, ◌≤◌, List, [], Option, Some, None, Bool, true, false, cond, length, refl, sym, ap, ◌∙◌, arith, inl, inr}
 use Rattle.std.proofs.lemmas.Bool.{cases_lt}
 use Rattle.std.proofs.lemmas.List.{take_all}

@@ -1,4 +1,4 @@
--- The indexes of an array in the order of the bytes of their keys: they are the values of the map
+-- The indexes of an array in the order of the bytes of their keys, which is that of the finite map
 -- of its places.
 use Rattle.std.proofs.Common.{◌≡◌, ℕ, zero, suc, ◌+◌, ◌^◌, ◌<◌, ◌≤◌, List, [], ◌∷◌, ◌++◌, Option, Some, None, map, unwrap_or, refl, sym, ap, subst, ◌∙◌, arith, inl, inr}
 use Rattle.std.proofs.lemmas.Bool.{cases_lt}

@@ -69,8 +69,8 @@ chain_index-none n chains free chain_places long down none =
 
 module _ (keys : PlaceKeys) (free : List ℕ) (chains : ℕ) (chain_places : ℕ → Option (ℕ × ℕ))
     (is : IsChainIndex keys free chains chain_places) where
-  abbrev pub keys_here : ℕ
-  keys_here = length keys - length free
+  abbrev pub count_here : ℕ
+  count_here = length keys - length free
 
   -- the key at the place of a link
   key_there : (k chain p : ℕ) → chain_places k ≡ Some (chain, p)
@@ -122,9 +122,9 @@ module _ (keys : PlaceKeys) (free : List ℕ) (chains : ℕ) (chain_places : ℕ
             let a = is.few in
             let b = ends in
             let c = length-set keys p (Some key) in
-            let n : keys_here + 1 ≡ length S - length rest = omega arith in
+            let n : count_here + 1 ≡ length S - length rest = omega arith in
             subst (IsScan S) n
-            (scan-added keys keys_here is.scan key p last_inside last_free absent);
+            (scan-added keys count_here is.scan key p last_inside last_free absent);
         unused = λ i l.
             let e = ends in
             let u = is.unused i (omega arith) in
@@ -225,12 +225,12 @@ module _ (keys : PlaceKeys) (free : List ℕ) (chains : ℕ) (chain_places : ℕ
         record {
           few =
               let a = is.few in
-              let b = scan_some keys keys_here is.scan key p present in omega arith;
+              let b = scan_some keys count_here is.scan key p present in omega arith;
           scan =
               let a = is.few in
-              let b = scan_some keys keys_here is.scan key p present in
-              let m : keys_here - 1 ≡ length R - length longer = omega arith in
-              subst (IsScan R) m (scan-emptied keys keys_here is.scan key p present);
+              let b = scan_some keys count_here is.scan key p present in
+              let m : count_here - 1 ≡ length R - length longer = omega arith in
+              subst (IsScan R) m (scan-emptied keys count_here is.scan key p present);
           unused = λ i l. elim (cases_lt i (length free)) [
             | inl b ↦
                 let u = is.unused i b in

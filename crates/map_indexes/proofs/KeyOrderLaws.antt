@@ -162,19 +162,19 @@ module _ (keys : PlaceKeys) (apart : IsApart keys) where
   abbrev keyed : List ℕ → List (List ℕ × ℕ)
   keyed ps = map (λ p. (key p, p)) ps
 
-  abbrev HasKey : ℕ → Type 0
-  HasKey p = key_in keys p ≡ Some (key p)
+  abbrev IsUsed : ℕ → Type 0
+  IsUsed p = key_in keys p ≡ Some (key p)
 
-  has_key : (p : ℕ) (k : List ℕ) → key_in keys p ≡ Some k → HasKey p
+  has_key : (p : ℕ) (k : List ℕ) → key_in keys p ≡ Some k → IsUsed p
   has_key p k e = e ∙ ap Some (sym (ap (λ (o : Option (List ℕ)). unwrap_or o []) e))
 
-  below : (p : ℕ) (ps : List ℕ) → HasKey p → All HasKey ps
+  below : (p : ℕ) (ps : List ℕ) → IsUsed p → All IsUsed ps
       → AllByRecursion (λ y. eqb p y ≡ false) ps
       → All (λ r. is_lt (key_order (key r) (key p)) ≡ false) ps
       → T (below_all key_order (key p) (keyed ps))
   below p [] h all d up = tt
   below p (r ∷ ps) h all d up =
-      let there = All-head HasKey r ps all in
+      let there = All-head IsUsed r ps all in
       let flip : is_lt (ordering_reverse (key_order (key p) (key r))) ≡ false =
       ap is_lt (sym (nat_list_cmp_total.antisymm (key r) (key p)))
       ∙ All-head (λ r. is_lt (key_order (key r) (key p)) ≡ false) r ps up in
@@ -184,10 +184,10 @@ module _ (keys : PlaceKeys) (apart : IsApart keys) where
       eqb-false p r d.0 (apart p r (key p) h (there ∙ ap Some (sym same)))) in
       joins (is_lt (key_order (key p) (key r))) (below_all key_order (key p) (keyed ps))
       (less_is _ less)
-      (below p ps h (All-tail HasKey r ps all) d.1
+      (below p ps h (All-tail IsUsed r ps all) d.1
       (All-tail (λ r. is_lt (key_order (key r) (key p)) ≡ false) r ps up))
 
-  sorted : (ps : List ℕ) → All HasKey ps → IsDistinct eqb ps → IsSortedByKey key key_order ps
+  sorted : (ps : List ℕ) → All IsUsed ps → IsDistinct eqb ps → IsSortedByKey key key_order ps
       → T (is_sorted key_order (keyed ps))
   unfolding IsDistinct
   sorted [] all d up = tt
@@ -196,14 +196,14 @@ module _ (keys : PlaceKeys) (apart : IsApart keys) where
       λ (k : ℕ) (e : ℕ) (l : k < length ps). sorted_far (λ x y. is_lt (key_order (key x) (key y)))
       (ranks_by nat_list_cmp_total key) (p ∷ ps) up 0 (suc k) e (omega arith) (omega arith) in
       joins (below_all key_order (key p) (keyed ps)) (is_sorted key_order (keyed ps))
-      (below p ps (All-head HasKey p ps all) (All-tail HasKey p ps all) d.0 far)
-      (sorted ps (All-tail HasKey p ps all) d.1 (λ k e l m.
+      (below p ps (All-head IsUsed p ps all) (All-tail IsUsed p ps all) d.0 far)
+      (sorted ps (All-tail IsUsed p ps all) d.1 (λ k e l m.
       let s : suc k + 1 ≡ suc (k + 1) = omega arith in
       subst (λ (n : ℕ). is_lt
       (key_order (key (slice_index_or (p ∷ ps) n e)) (key (slice_index_or ps k e))) ≡ false) s
       (up (suc k) e (omega arith) (omega arith))))
 
-  found : (q : List ℕ) (p : ℕ) → key_in keys p ≡ Some q → (ps : List ℕ) → All HasKey ps
+  found : (q : List ℕ) (p : ℕ) → key_in keys p ≡ Some q → (ps : List ℕ) → All IsUsed ps
       → (All (λ r. eqb r p ≡ false) ps → ⊥) → find key_order q (keyed ps) ≡ Some p
   found q p here [] all some = absurd (some (All-nil (λ r. eqb r p ≡ false)))
   found q p here (r ∷ ps) all some =
@@ -211,9 +211,9 @@ module _ (keys : PlaceKeys) (apart : IsApart keys) where
       → cond b (Some r) (find key_order q (keyed ps)) ≡ Some p) [
         | true ↦
             λ t. ap Some (apart r p q
-            (All-head HasKey r ps all ∙ ap Some (sym (is_key-equal q (key r) t))) here)
+            (All-head IsUsed r ps all ∙ ap Some (sym (is_key-equal q (key r) t))) here)
         | false ↦
-            λ t. found q p here ps (All-tail HasKey r ps all)
+            λ t. found q p here ps (All-tail IsUsed r ps all)
             (λ none. some (All-cons (λ r. eqb r p ≡ false) r ps
             (ne_eqb r p (λ e.
             let same : key_in keys r ≡ Some q = ap (key_in keys) e ∙ here in
@@ -223,7 +223,7 @@ module _ (keys : PlaceKeys) (apart : IsApart keys) where
             cc)) none))
       ] refl
 
-  missed : (q : List ℕ) → get (places keys) q ≡ None → (ps : List ℕ) → All HasKey ps
+  missed : (q : List ℕ) → get (places keys) q ≡ None → (ps : List ℕ) → All IsUsed ps
       → find key_order q (keyed ps) ≡ None
   missed q none [] all = refl
   missed q none (r ∷ ps) all =
@@ -232,27 +232,27 @@ module _ (keys : PlaceKeys) (apart : IsApart keys) where
         | true ↦ λ t.
             let e =
             get_here keys r q apart
-            (All-head HasKey r ps all ∙ ap Some (sym (is_key-equal q (key r) t))) in
+            (All-head IsUsed r ps all ∙ ap Some (sym (is_key-equal q (key r) t))) in
             let f : Some r ≡ None = sym e ∙ none in
             absurd (cc)
-        | false ↦ λ t. missed q none ps (All-tail HasKey r ps all)
+        | false ↦ λ t. missed q none ps (All-tail IsUsed r ps all)
       ] refl
 
   places_back : (ps : List ℕ) → map (λ e. e.1) (keyed ps) ≡ ps
   places_back [] = refl
   places_back (p ∷ ps) = ap (λ (qs : List ℕ). p ∷ qs) (places_back ps)
 
-  -- the places that have a key, sorted by their keys, are the values of the map
+  -- the places that have a key, sorted by their keys, are in the order of the finite map
   pub values-sorted : (ps : List ℕ) → IsPermutation (used_places 0 keys) ps
       → IsSortedByKey key key_order ps → ps ≡ values (places keys)
   values-sorted ps moved up =
-      let each = All-permutation HasKey (used_places 0 keys) ps moved
-      (each_used HasKey keys 0
-      (λ i k e. let z : i ≡ 0 + i = omega arith in subst HasKey z (has_key i k e))) in
+      let each = All-permutation IsUsed (used_places 0 keys) ps moved
+      (each_used IsUsed keys 0
+      (λ i k e. let z : i ≡ 0 + i = omega arith in subst IsUsed z (has_key i k e))) in
       let once =
       IsDistinct-IsPermutation eqb eqb-flips (used_places 0 keys) ps moved
       (distinct_used keys 0) in
-      let at : (q : List ℕ)
+      let agree : (q : List ℕ)
       → find key_order q (keyed ps) ≡ find key_order q (entries (places keys)) =
       λ q. elim (get (places keys) q) as (λ o. get (places keys) q ≡ o
       → find key_order q (keyed ps) ≡ o) [
@@ -270,5 +270,5 @@ module _ (keys : PlaceKeys) (apart : IsApart keys) where
       let same = same_entries key_order nat_list_cmp_total
       (slice_cmp-IsAntisymmetric nat_cmp-IsAntisymmetric) (keyed ps) (entries (places keys))
       (sorted ps each once up)
-      (entries_sorted (places keys)) at in
+      (entries_sorted (places keys)) agree in
       sym (places_back ps) ∙ ap (λ (es : List (List ℕ × ℕ)). map (λ e. e.1) es) same

@@ -185,10 +185,10 @@ module _ (heads chains nexts : List (Option ℕ)) (is : IsChained heads (length 
         → next ≡ last_below (in_chain (link_in chains nexts) chain) (place_or (length chains) from)
         → IsChained (heads_led from chain (Some at) heads) (length chains) (link_in more
         (nexts_led from (Some at) written))
-    lists_added inside free leads =
+    lists_added inside free led =
         chained_added heads (length chains) (link_in chains nexts) (link_in more (nexts_led from
         (Some at) written)) is at
-        (record { chain = chain; place = at; next = next }) from inside low free behind leads
+        (record { chain = chain; place = at; next = next }) from inside low free behind led
         added_here added_others
 
   module _ (next : Option ℕ) where

@@ -48,7 +48,7 @@ find_none (Some q ∷ keys) at k d =
       | false ↦ λ t. find_none keys (at + 1) k (λ j f. d (suc j) f)
     ] refl
 
--- the same of the map
+-- the same of the finite map
 pub get_here : (keys : PlaceKeys) (i : ℕ) (k : List ℕ) → IsDistinct keys → key_in keys i ≡ Some k
     → get (places keys) k ≡ Some i
 get_here keys i k d e =

@@ -22,7 +22,7 @@ key_count-none : (n : ℕ) → key_count (replicate n None) ≡ 0
 key_count-none zero = refl
 key_count-none (suc n) = key_count-none n
 
--- the map of places without keys is empty
+-- the finite map of places without keys is empty
 pub places-none : (n : ℕ) → places (replicate n None) ≡ empty
 places-none n = ap (λ (es : List (List ℕ × ℕ)). from_entries es) (pairs_from-none 0 n)
 

@@ -1,4 +1,4 @@
--- What the map of an array's indexes has at a key.
+-- What the finite map from an array's keys to their places has at a key.
 use Rattle.std.proofs.Common.{◌≡◌, ℕ, zero, suc, ◌+◌, ◌<◌, ◌≤◌, List, Some, true, false, cond, refl, sym, ap, subst, ◌∙◌, arith}
 use Rattle.std.specs.Prelude.{is_some}
 use Rattle.std.specs.Cmp.Lexicographic.{nat_list_cmp_total}
@@ -8,7 +8,7 @@ use Rattle.isa_model.specs.Machine.MapContents.{key_order, is_key}
 use Rattle.map_indexes.specs.ArrayPlaces.{array_places}
 use Rattle.map_indexes.specs.PlaceKeyLaws.{is_key-equal}
 
--- what is found is an index below n, and its bytes are the key
+-- the place that is found is an index below n, and its bytes are the key
 pub got_index : (n : ℕ) (k : List ℕ) (p : ℕ) → get (array_places n) k ≡ Some p
     → (p < n) × (k ≡ little_bytes 4 p)
 got_index zero k p e = let h = get-empty {X = ℕ} key_order k in absurd (cc)

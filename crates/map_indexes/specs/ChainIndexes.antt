@@ -11,7 +11,7 @@ abbrev pub free_at : List ℕ → ℕ → ℕ
 free_at free i = slice_index_or free i 0
 
 -- each key's place has one link, in the key's chain, and the free places are all others, each once;
--- `chain_places` has the chain and the place of each link
+-- `chains` is the count of the chains, and `chain_places` has the chain and the place of each link
 pub record IsChainIndex (keys : PlaceKeys) (free : List ℕ) (chains : ℕ)
     (chain_places : ℕ → Option (ℕ × ℕ)) : Type 0 where
   pub few : length free ≤ length keys

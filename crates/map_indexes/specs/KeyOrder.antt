@@ -1,4 +1,4 @@
--- The places of keys in the order of the keys: they are the values of the map `places`.
+-- The places of keys in the order of the keys, which is that of the finite map `places`.
 use Rattle.std.proofs.Common.{ℕ, List, [], map, unwrap_or}
 use Rattle.map_indexes.specs.PlaceKeys.{PlaceKeys, key_in, pairs_from}
 

@@ -1,4 +1,4 @@
-//! The indexes of an array.
+//! The index of an array: a key, as a number, is its place.
 
 ghost use Rattle.std.specs.Prelude.{◌≡◌, ◌<◌, ◌≤◌, ◌^◌, vec_capacity, IsPermutation};
 ghost use Rattle.std.specs.FinMap.{values};
@@ -70,7 +70,7 @@ impl ArrayIndex {
         sort_by_key(list.as_mut_slice());
     }
 
-    /// How many indexes there are.
+    /// How many keys the array has.
     pub fn entries(&self) -> u32
         ensures { result ≡ self.now.entries }
     {

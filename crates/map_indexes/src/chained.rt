@@ -38,8 +38,8 @@ pub struct ChainIndex {
     ghost index: { IsChainIndex keys.by_place free.items chains.count
         (λ k. chain_place (link_in chains.chains chains.nexts k)) },
     ghost sized: { AreKeys keys.size keys.by_place },
-    ghost chained: { 0 < chains.count },
-    ghost spread: { length keys.by_place ≤ chains.count },
+    ghost some_chains: { 0 < chains.count },
+    ghost enough: { length keys.by_place ≤ chains.count },
     ghost links_room: { length chains.chains ≡ length keys.by_place },
     ghost free_room: { vec_capacity free ≡ length keys.by_place },
 }

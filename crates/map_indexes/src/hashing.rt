@@ -20,7 +20,7 @@ fn hash_of(key: &[u8]) -> u64
 #[tactic(auto, unfolding(crate::specs::Hashing::chain_of))]
 pub fn chain_of(key: &[u8], chains: u32) -> u32
     requires { 0 < chains }
-    ensures value { result ≡ the_chain_of key.now chains }
+    ensures chain { result ≡ the_chain_of key.now chains }
     ensures in_range { result < chains }
 {
     (hash_of(key) >> 32) as u32 % chains

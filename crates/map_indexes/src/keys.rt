@@ -68,7 +68,7 @@ impl Model for Keys {
 }
 
 impl Keys {
-    /// A number of places without keys.
+    /// This many places, none of which has a key.
     pub fn new(alloc: Global, size: u16, places: u32) -> Result<Self, AllocError>
         ensures size { IfOk result (λ keys. keys.size ≡ size) }
         ensures empty { IfOk result (λ keys. keys.by_place ≡ replicate places None) }

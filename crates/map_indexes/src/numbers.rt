@@ -56,7 +56,7 @@ impl OptionalNumbers {
     }
 }
 
-// The number that a code means.
+// The number that a code stands for.
 #[inline(always)]
 fn number_of(code: u32) -> Option<usize>
     ensures { result ≡ the_number_of code }

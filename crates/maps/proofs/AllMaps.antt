@@ -74,10 +74,10 @@ module _ (maps : List MapState) (stores : List EitherStore) (view : map state st
   others-set x = map-set state stores i x ∙ (λ k. slice_set (view k) i (sym (map_at-set x) k))
 
   -- what holds of a store before and after a change holds of that map
-  pub changed : (Is : MapState → MapState → Type 0) (x t : EitherStore)
+  pub map_changed : (Is : MapState → MapState → Type 0) (x t : EitherStore)
       → x ≡ slice_index_or stores i x → Is (state x) (state t)
       → Is (map_at maps i) (map_at (map state (slice_set stores i t)) i)
-  changed Is x t e change =
+  map_changed Is x t e change =
       subst (λ (m : MapState). Is m (map_at (map state (slice_set stores i t)) i))
       (sym (map_at-state x e))
       (subst (λ (n : MapState). Is (state x) n) (sym (map_at-set t)) change)
@@ -87,11 +87,11 @@ module _ (maps : List MapState) (stores : List EitherStore) (view : map state st
       → t.index ≡ x.index → (change : List ℕ → List ℕ)
       → t.values.items ≡ change x.values.items
       → map state (slice_set stores i t) ≡ with_block maps i (change (map_at maps i).block)
-  block-set x t e row index change block =
+  block-set x t e same_row same_index change same_block =
       let was : map_at maps i ≡ state x = map_at-state x e in
       let is : state t
       ≡ record (state x) { block = change (state x).block } = λ k.
-      record { row = row k; places = places_of (index k); block = block k } in
+      record { row = same_row k; places = places_of (same_index k); block = same_block k } in
       map-set state stores i t ∙ (λ k. slice_set (view k) i (is k))
       ∙ ap (λ (m : MapState). slice_set maps i (record m { block = change m.block })) (sym was)
 
@@ -141,7 +141,7 @@ module _ (s : EitherStore) (k : ℕ) (es : KeyValues) (view : ordered_in (state 
       let l = listed-place s.index k p (subst (λ (i : EitherIndex). Placed i (Some p)) same e) in
       let r = s.room in omega arith
 
-  -- its value is the row there
+  -- its value is the row of the block there
   pub pair_value : (place : Option ℕ) → Placed index place
       → option_map (block_row size block) place ≡ option_map (λ e. e.1) (slice_get es k)
   pair_value place e =

@@ -1,4 +1,4 @@
--- Commands one after the other.
+-- Commands on a map, one after the other.
 use Rattle.std.proofs.Common.{◌≡◌, ℕ, suc, ◌+◌, ◌<◌, List, [], ◌∷◌, ◌++◌, length, take, map, refl, sym, ap, subst, ◌∙◌, arith}
 use Rattle.std.proofs.lemmas.List.{map-append}
 use Rattle.std.proofs.Math.Seq.{take-suc}
@@ -11,7 +11,7 @@ use Rattle.map_indexes.specs.PlaceKeys.{Places}
 use Rattle.maps.specs.Contents.{content}
 use Rattle.maps.specs.Commands.{Said, said, reply_to, content_after, replies_of, content_left}
 
--- one command more is answered over what the others left
+-- one command more has its reply by what the others left
 pub replies_of-snoc : (row : MapDef) (content : KeyValues) (cs : List MapCommand) (c : MapCommand)
     → replies_of row content (cs ++ c ∷ [])
     ≡ replies_of row content cs ++ reply_to row (content_left row content cs) c ∷ []

@@ -28,7 +28,7 @@ module _ (size : ℕ) (P : Places) (block : List ℕ) where
   abbrev C : KeyValues
   C = content size P block
 
-  -- the value of a key is the row at its place
+  -- the value of a key is the row of the block at its place
   pub at_key-content : (q : List ℕ) → at_key q C ≡ option_map (block_row size block) (get P q)
   at_key-content q =
       find-changed (block_row size block) q (entries P)

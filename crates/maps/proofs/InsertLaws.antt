@@ -6,7 +6,7 @@ use Rattle.std.specs.Ordering.{is_eq, is_lt, ordering_reverse}
 use Rattle.std.specs.declared.cmp.Ordering.{Ordering}
 use Rattle.std.specs.declared.cmp.Ordering.TheVariants.{Less, Equal, Greater}
 use Rattle.std.specs.Cmp.Lexicographic.{nat_list_cmp_total}
-use Rattle.std.specs.FinMap.{entries, entries_sorted, entries-insert, find, get, get-insert, get-remove, insert as with_entry, is_sorted, remove, same_map, values, len-entries, slice_cmp-IsAntisymmetric, nat_cmp-IsAntisymmetric}
+use Rattle.std.specs.FinMap.{entries, entries_sorted, entries-insert, find, get, get-insert, get-remove, insert as with_pair, is_sorted, remove, same_map, values, len-entries, slice_cmp-IsAntisymmetric, nat_cmp-IsAntisymmetric}
 use Rattle.std.specs.FinMap.Entries.{below_all, by_order, put}
 use Rattle.std.proofs.Math.Dec.{eqb}
 use Rattle.std.proofs.Math.ListN.{get_or-map}
@@ -191,9 +191,9 @@ module _ (keys : PlaceKeys) (key : List ℕ) where
       → get (places keys) key ≡ Some p → insert (values Q) r p ≡ values (places keys)
   values-inserted r p l below after there =
       let long = length-values in
-      let same : places keys ≡ with_entry Q key p =
+      let same : places keys ≡ with_pair Q key p =
       same_map nat_list_cmp_total (slice_cmp-IsAntisymmetric nat_cmp-IsAntisymmetric) (places keys)
-      (with_entry Q key p) each in
+      (with_pair Q key p) each in
       let listed = put_at key p es r (omega arith) below (λ j m n. after j m (omega arith)) in
       sym (ap (λ (P : Places). values P) same
       ∙ ap (λ (xs : Keyed). map (λ e. e.1) xs) (entries-insert nat_list_cmp_total Q key p ∙ listed)
@@ -205,7 +205,7 @@ module _ (keys : PlaceKeys) (key : List ℕ) where
       parts (suc r) [] = refl
       parts (suc r) (x ∷ xs) = ap (λ (ys : List ℕ). x.1 ∷ ys) (parts r xs)
 
-      each : (q : List ℕ) → get (places keys) q ≡ get (with_entry Q key p) q
+      each : (q : List ℕ) → get (places keys) q ≡ get (with_pair Q key p) q
       each q = by (is_key q key) refl ∙ sym (get-insert nat_list_cmp_total Q key p q)
         where
           by : (b : Bool) → is_key q key ≡ b

@@ -4,6 +4,6 @@ pub mod ContentLaws
 pub mod EitherLaws
 pub mod InsertLaws
 pub mod MapLaws
-pub mod MapsLaws
+pub mod KeySizes
 pub mod ReportOrderLaws
 pub mod UpdateLaws

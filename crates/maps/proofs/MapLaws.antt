@@ -17,7 +17,7 @@ use Rattle.isa_model.specs.declared.map_defs.MapDef.{MapDef}
 use Rattle.isa_model.specs.Machine.States.{KeyValues}
 use Rattle.isa_model.specs.Machine.MapContents.{key_order, with_key}
 use Rattle.isa_model.specs.Machine.MachineStates.{IsKeyValue, KeysFit, keys_of, FitsRow, FitRows}
-use Rattle.isa_model.proofs.PutLaws.{IsStrictlySortedBy-is_sorted, Contains-has_key}
+use Rattle.isa_model.proofs.PutKeys.{IsStrictlySortedBy-is_sorted, Contains-has_key}
 use Rattle.isa_model.specs.Reporting.Reports.{starting_key_values, starting_contents}
 use Rattle.map_indexes.specs.ArrayPlaces.{array_places}
 use Rattle.map_indexes.specs.ArrayLaws.{got_index}
@@ -50,12 +50,12 @@ module _ (m : MapState) (is : IsMap m) where
 
   IsKeyValue-at : (e : List ℕ × ℕ) → get m.places e.0 ≡ Some e.1 → IsKeyValue m.row (pair e)
   IsKeyValue-at e here =
-      let key = is.keys e.0 e.1 here in
+      let fits = is.keys e.0 e.1 here in
       let inside = is.in_range e.0 e.1 here in
       let size : ℕ = m.row.value_size in
       record {
-        key_size = key.long;
-        key = key.bytes;
+        key_size = fits.long;
+        key = fits.bytes;
         value_size =
             length-block_row size m.row.entries m.block e.1 is.whole inside 0 [] (omega arith);
         value =
@@ -69,11 +69,11 @@ module _ (m : MapState) (is : IsMap m) where
   keys_fit Hash e = tt
   keys_fit Array e =
       let small : m.row.entries ≤ 2 ^ 32 = let few = is.is_row.few_entries in omega arith in
-      let places = is.array_places e in (
+      let same = is.array_places e in (
         (λ i l. Contains-has_key (little_bytes 4 i) C
             (has_key-content m.row.value_size m.places m.block (little_bytes 4 i)
             ∙ ap is_some
-            (ap (λ (P : Places). get P (little_bytes 4 i)) places
+            (ap (λ (P : Places). get P (little_bytes 4 i)) same
             ∙ get_index m.row.entries i small l))),
         All-map (λ key. little_number 4 key < m.row.entries) (λ (x : List ℕ × List ℕ). x.0) C
             (All-map (λ (x : List ℕ × List ℕ). little_number 4 x.0 < m.row.entries) pair listed
@@ -81,7 +81,7 @@ module _ (m : MapState) (is : IsMap m) where
             ([], 0) (λ i l.
             let got =
             got_index m.row.entries (at i).0 (at i).1
-            (ap (λ (P : Places). get P (at i).0) (sym places) ∙ there i l) in
+            (ap (λ (P : Places). get P (at i).0) (sym same) ∙ there i l) in
             let below = got.0 in
             let read : little_number 4 (at i).0 ≡ (at i).1 =
             ap (little_number 4) got.1 ∙ little_number-reads_back 4 (at i).1 [] (omega arith) in

@@ -152,7 +152,8 @@ listed-none keys k none =
       | Some e ↦ λ f. absurd (cc)
     ] (sym (slice_get-map (λ e. e.1) (entries (places keys)) k) ∙ none)
 
--- the keys and values in the order of the report are the listed keys, with the rows at their places
+-- the keys and values in the order of the report are the listed keys, with the rows of the block at
+-- their places
 pub in_report_order-listed : (index : EitherIndex) (kind : MapType) (n size : ℕ) (block : List ℕ)
     → kind_of index ≡ kind → room_of index ≡ n
     → in_report_order kind n (content size (places_of index) block)
@@ -178,7 +179,7 @@ listed-in_range (either.Array s) k e g = elim (cases_lt k s.entries) [
       let here : (little_bytes 4 k, k) ≡ e = cc in
       let same : k ≡ e.1 = ap (λ (x : List ℕ × ℕ). x.1) here in
       omega arith
-  | inr above ↦ let f = sym (listed-past s.entries k above) ∙ g in absurd (cc)
+  | inr past ↦ let f = sym (listed-past s.entries k past) ∙ g in absurd (cc)
 ]
 listed-in_range (either.Chain s) k e g =
     either_in_range (either.Chain s) e.0 e.1 (get_at (places s.keys.by_place) k e g)

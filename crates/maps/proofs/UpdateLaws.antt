@@ -20,22 +20,22 @@ zero_or_not n t = grind arith
 not_zero : (n : ℕ) → (n == 0) ≡ false → n ≢ 0
 not_zero n t = grind arith
 
-refused_array : (b : Bool) (n : ℕ) → n ≢ 0 → (if b then n else e2big) ≡ 0 → ⊥
-refused_array true n d e = d e
-refused_array false n d e = absurd (omega arith)
+never_zero : (b : Bool) (n : ℕ) → n ≢ 0 → (if b then n else e2big) ≡ 0 → ⊥
+never_zero true n d e = d e
+never_zero false n d e = absurd (omega arith)
 
 -- an absent key is added only to a hash map that is not full
 pub added_hash : (kind : MapType) (full : Bool) (flags : ℕ)
     → update_answer_by kind false full flags ≡ 0 → (kind ≡ Hash) × (full ≡ false)
 added_hash Array full flags e =
-    absurd (refused_array (nat_lt exist flags) (2 ^ 64 - 22) (λ z. omega arith) e)
+    absurd (never_zero (nat_lt exist flags) (2 ^ 64 - 22) (λ z. omega arith) e)
 added_hash Hash false flags e = (refl, refl)
 added_hash Hash true flags e =
     elim (nat_lt exist flags) as (λ b.
     (if b then 2 ^ 64 - 22 else if flags == exist then 2 ^ 64 - 2 else e2big) ≡ 0
     → (◌≡◌ {A = MapType} Hash Hash) × (true ≡ false)) [
       | true ↦ λ f. absurd (omega arith)
-      | false ↦ λ f. absurd (refused_array (flags == exist) (2 ^ 64 - 2) (λ z. omega arith) f)
+      | false ↦ λ f. absurd (never_zero (flags == exist) (2 ^ 64 - 2) (λ z. omega arith) f)
     ] e
 
 module _ (row : MapDef) (P : Places) (B : List ℕ) (key : List ℕ) where

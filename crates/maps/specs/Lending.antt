@@ -67,26 +67,26 @@ module _ {I : Type 0} {g : Ghosts I} (s : Store I g) where
       }
 
   -- the keys with another value at a place
-  abbrev pub stored_at : ℕ → List ℕ → Store I g
-  stored_at p v =
+  abbrev pub with_value_at : ℕ → List ℕ → Store I g
+  with_value_at p v =
       let start = p * s.row.value_size in
       with_values (take start s.values.items ++ (v ++ drop (length v) (drop start s.values.items)))
 
   -- a value of the right size changes its row of the block
-  pub stored_at-with_block_row : (p : ℕ) (v : List ℕ) → p < s.row.entries
+  pub with_value_at-with_block_row : (p : ℕ) (v : List ℕ) → p < s.row.entries
       → length v ≡ s.row.value_size
-      → (stored_at p v).values.items ≡ with_block_row s.row.value_size s.values.items p v
-  stored_at-with_block_row p v inside size =
+      → (with_value_at p v).values.items ≡ with_block_row s.row.value_size s.values.items p v
+  with_value_at-with_block_row p v inside size =
       let items = s.values.items in
       let start : ℕ = p * s.row.value_size in
-      let row : List ℕ = with_block_row s.row.value_size items p v in
-      let same : take start items ++ (v ++ drop (length v) (drop start items)) ≡ row =
+      let written : List ℕ = with_block_row s.row.value_size items p v in
+      let same : take start items ++ (v ++ drop (length v) (drop start items)) ≡ written =
       ap (λ (l : List ℕ). take start items ++ (v ++ l)) (drop-drop (length v) start items) in
       let long =
       length-with_block_row s.row.value_size items p v s.row.entries size s.whole inside in
-      let fits : length row ≡ s.values.len = long ∙ sym s.whole ∙ sym s.values.ok.0 in
+      let fits : length written ≡ s.values.len = long ∙ sym s.whole ∙ sym s.values.ok.0 in
       ap (λ (l : List ℕ). take s.values.len (l ++ drop (length l) items)) same
-      ∙ take_at row (drop (length row) items) s.values.len fits
+      ∙ take_at written (drop (length written) items) s.values.len fits
 
 -- the block is lent
 abbrev pub LendsBlock : (I : RattleType) (g : Ghosts I.Denot) → MutBor (Store I.Denot g)

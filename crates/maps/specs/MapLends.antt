@@ -12,8 +12,8 @@ abbrev pub Stay : MutBor (List MapState) → Fml
 Stay maps = follows_so the_row the_row maps.ghost_name none (λ _ _. ⊤) (λ after. after ≡ maps.now)
 
 -- the block of one map is lent, and keeps its length
-abbrev pub LendsBlock : MutBor (List MapState) → ℕ → MutBor (List ℕ) → Fml
-LendsBlock maps m r =
+abbrev pub LendsMapBlock : MutBor (List MapState) → ℕ → MutBor (List ℕ) → Fml
+LendsMapBlock maps m r =
     LendsBytes the_row maps r
     (λ bytes. with_block maps.now m
     (refill (length (map_at maps.now m).block) (map_at maps.now m).block bytes))

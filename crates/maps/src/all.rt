@@ -37,7 +37,7 @@ fn most_keys(rows: &[MapDef]) -> usize
 }
 
 // An image's rows keep their limits.
-fn rows_of(image: &Image) -> &[MapDef]
+fn image_rows(image: &Image) -> &[MapDef]
     ensures rows { result.now ≡ image.now.maps }
     ensures limits { All IsRow result.now }
 {
@@ -73,13 +73,13 @@ impl Model for Maps {
 
 impl Maps {
     ghost use Rattle.maps.specs.Listing.{listed_key_values};
-    ghost use Rattle.maps.specs.MapLends.{Stay, LendsBlock};
+    ghost use Rattle.maps.specs.MapLends.{Stay, LendsMapBlock};
 
     /// The maps of an image as they start.
     pub fn new(alloc: Global, image: &Image) -> Result<Self, MapError>
         ensures { IfOk result (λ maps. maps ≡ map starting_map image.now.maps) }
     {
-        Maps::of_rows(alloc, rows_of(image))
+        Maps::of_rows(alloc, image_rows(image))
     }
 
     /// The maps of these rows as they start: arrays with all their keys, hash maps without keys,
@@ -233,7 +233,7 @@ impl Maps {
     #[inline(always)]
     pub fn block_mut(&mut self, map: usize) -> &mut [u8]
         requires { map < length self.old }
-        ensures* lends { sem 𝓛 (LendsBlock self.entry map result) }
+        ensures* lends { sem 𝓛 (LendsMapBlock self.entry map result) }
         ensures value { result.now ≡ (map_at self.old map).block }
     {
         let store = &mut self.stores.all[map];

@@ -39,7 +39,7 @@ pub fn apply<S: MapStore>(
     command: &MapCommand<'_>,
 ) -> Result<Reply, AllocError>
     requires { Fits (S.row_of store.old) command.now }
-    ensures answer { IfOk result (λ r. said r ≡ reply_to (S.row_of store.old)
+    ensures reply { IfOk result (λ r. said r ≡ reply_to (S.row_of store.old)
         (content (S.row_of store.old).value_size (S.places store.old) (S.block store.old))
         command.now) }
     ensures content { OnOk result

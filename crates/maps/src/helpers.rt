@@ -22,7 +22,7 @@ const EEXIST: u64 = 0xffff_ffff_ffff_ffef;
 const EINVAL: u64 = 0xffff_ffff_ffff_ffea;
 
 // The answer to an update of a key: 0, or the error of the first test that fails.
-fn update_answer(kind: MapType, present: bool, full: bool, flags: u64) -> u64
+fn update_answer_by(kind: MapType, present: bool, full: bool, flags: u64) -> u64
     ensures { result ≡ update_answer_by kind present full flags }
 {
     if flags > EXIST {
@@ -52,7 +52,7 @@ fn test_update<S: MapStore>(store: &S, key: &[u8], flags: u64) -> Tested
         flags }
 {
     let found = store.find(key);
-    let answer = update_answer(store.row().kind, found.is_some(), store.is_full(), flags);
+    let answer = update_answer_by(store.row().kind, found.is_some(), store.is_full(), flags);
     Tested { found, answer }
 }
 

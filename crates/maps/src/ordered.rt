@@ -35,8 +35,7 @@ impl<'a> Ordered<'a> {
         Ordered { store, list }
     }
 
-    /// The value of the k-th key, from 0, if there is one; its key is put into the front of
-    /// `key`.
+    /// The value of the k-th key, from 0, if there is one; the key is put into the front of `key`.
     pub fn key_value(&self, k: usize, key: &mut [u8; KEY_ROOM]) -> Option<&'a [u8]>
         ensures value { option_copied result
             ≡ option_map (λ e. e.1) (slice_get (listed_key_values self.now) k) }

@@ -109,7 +109,8 @@ pub trait MapStore {
     ghost whole: { (s : Self) → length (block s) ≡ (row_of s).entries * (row_of s).value_size };
 
     // What is written into a value changes its bytes of the block, and nothing else.
-    ghost written_row: { (s : Self) (p : ℕ) (v : List ℕ) → row_of (with_value s p v) ≡ row_of s };
+    ghost written_map_row: { (s : Self) (p : ℕ) (v : List ℕ)
+        → row_of (with_value s p v) ≡ row_of s };
 
     ghost written_places: { (s : Self) (p : ℕ) (v : List ℕ)
         → places (with_value s p v) ≡ places s };
@@ -191,7 +192,7 @@ impl<I: Index> Store<I> {
 
 impl<I: Index> MapStore for Store<I> {
     ghost use Rattle.map_indexes.specs.BlockRowLaws.{below-same, at_most-same};
-    ghost use Rattle.maps.specs.Lending.{stored_at, stored_at-with_block_row};
+    ghost use Rattle.maps.specs.Lending.{with_value_at, with_value_at-with_block_row};
 
     ghost row_of = { λ s. s.row };
 
@@ -199,7 +200,7 @@ impl<I: Index> MapStore for Store<I> {
 
     ghost block = { λ s. s.values.items };
 
-    ghost with_value = { stored_at };
+    ghost with_value = { with_value_at };
 
     fn row(&self) -> MapDef {
         self.row
@@ -245,11 +246,11 @@ impl<I: Index> MapStore for Store<I> {
 
     ghost whole = { λ s. s.whole };
 
-    ghost written_row = { λ s p v. refl };
+    ghost written_map_row = { λ s p v. refl };
 
     ghost written_places = { λ s p v. refl };
 
-    ghost written = { λ s p v inside size. stored_at-with_block_row s p v inside size };
+    ghost written = { λ s p v inside size. with_value_at-with_block_row s p v inside size };
 }
 
 // The map row of a hash map.

@@ -1,4 +1,4 @@
-//! The modules of tests, one for each crate or subject.
+//! The modules of tests, one for each crate or subject, and what they share.
 
 mod bits;
 mod branches;

@@ -41,11 +41,11 @@ rest_in-reads : (p : Program) (e : Entry) (rest : List ℕ) → EntryFits p e
     ≡ Ok (Some e, rest)
 rest_in-reads p e rest h =
     let named = named_bytes e.successors ++ rest in
-    let frames = frame_bytes e.state.innermost ++ named in
+    let after_outer = frame_bytes e.state.innermost ++ named in
     let rows = length p.maps in
     let outer = length e.state.callers.items in
     rw (
-      callers_in-reads rows outer e.state.callers.items frames refl h.callers,
+      callers_in-reads rows outer e.state.callers.items after_outer refl h.callers,
       frame_in-reads rows outer false e.state.innermost named h.innermost,
       named_in-reads e.successors rest h.named h.indexes,
       h.allowed,
@@ -76,22 +76,22 @@ entry_read : (p : Program) (e : Entry) (rest : List ℕ) → EntryFits p e
 unfolding entry_in
 entry_read p e rest h =
     let outer = length e.state.callers.items in
-    let frames = behind_count e rest in
-    let slots = little_bytes 2 e.state.slot ++ (suc outer ∷ frames) in
-    let bytes = little_bytes 4 e.number ++ slots in
+    let after_count = behind_count e rest in
+    let from_slot = little_bytes 2 e.state.slot ++ (suc outer ∷ after_count) in
+    let bytes = little_bytes 4 e.number ++ from_slot in
     let long : nat_lt (length bytes) 7 ≡ false =
     le-ltb (length bytes) 7
     (omega (
       arith,
-      length-append (little_bytes 4 e.number) slots,
+      length-append (little_bytes 4 e.number) from_slot,
       length-append
-          (little_bytes 2 e.state.slot) (suc outer ∷ frames),
+          (little_bytes 2 e.state.slot) (suc outer ∷ after_count),
     )) in
     let number : little_number 4 bytes ≡ e.number =
-    little_number-reads_back 4 e.number slots (number-lt p e.number e.state.slot h.allowed) in
+    little_number-reads_back 4 e.number from_slot (number-lt p e.number e.state.slot h.allowed) in
     let slot : little_number 2 (drop 4 bytes) ≡ e.state.slot =
-    little_number-reads_back 2 e.state.slot (suc outer ∷ frames) h.slot in
-    let count : little_number 1 (drop 6 bytes) ≡ suc outer = byte-reads (suc outer) frames in
+    little_number-reads_back 2 e.state.slot (suc outer ∷ after_count) h.slot in
+    let count : little_number 1 (drop 6 bytes) ≡ suc outer = byte-reads (suc outer) after_count in
     let one_less : suc outer - 1 ≡ outer = omega arith in
     rw (long, count, few_frames outer h.few, number, slot, one_less) (rest_in-reads p e rest h)
 

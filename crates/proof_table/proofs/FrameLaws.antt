@@ -55,21 +55,21 @@ frame_read : (rows holder : ℕ) (outer : Bool) (f : AbstractFrame) (rest : List
     ≡ Ok (Some f, rest)
 unfolding frame_in
 frame_read rows holder outer f rest h =
-    let marks = flat_map stack_slot_bytes f.stack.slots ++ rest in
-    let values = flat_map kind_bytes f.registers ++ marks in
-    let bytes = little_bytes 2 f.return_slot ++ values in
+    let last = flat_map stack_slot_bytes f.stack.slots ++ rest in
+    let middle = flat_map kind_bytes f.registers ++ last in
+    let bytes = little_bytes 2 f.return_slot ++ middle in
     let long : nat_lt (length bytes) 2 ≡ false =
     le-ltb (length bytes) 2
-    (omega (arith, length-append (little_bytes 2 f.return_slot) values)) in
-    let first : many (λ k. kind_in rows holder) 10 0 values ≡ Ok (Some f.registers, marks) =
+    (omega (arith, length-append (little_bytes 2 f.return_slot) middle)) in
+    let first : many (λ k. kind_in rows holder) 10 0 middle ≡ Ok (Some f.registers, last) =
     many-reads (λ k. kind_in rows holder) kind_bytes (λ k. KindFits rows holder)
-    (λ k. kind_in-reads rows holder) f.registers 10 0 marks h.ten h.registers in
-    let second : many (λ k. stack_slot_in rows holder) frame_slots 0 marks
+    (λ k. kind_in-reads rows holder) f.registers 10 0 last h.ten h.registers in
+    let second : many (λ k. stack_slot_in rows holder) frame_slots 0 last
     ≡ Ok (Some f.stack.slots, rest) =
     many-reads (λ k. stack_slot_in rows holder) stack_slot_bytes (λ k. StackSlotFits rows holder)
     (λ k. stack_slot_in-reads rows holder) f.stack.slots frame_slots 0 rest h.all_slots h.slots in
     let slot : little_number 2 bytes ≡ f.return_slot =
-    little_number-reads_back 2 f.return_slot values h.return_slot in
+    little_number-reads_back 2 f.return_slot middle h.return_slot in
     rw (long, first, second, slot, h.allowed) refl
 
 pub frame_in-reads : (rows holder : ℕ) (outer : Bool) (f : AbstractFrame) (rest : List ℕ)

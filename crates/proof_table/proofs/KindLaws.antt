@@ -194,13 +194,13 @@ packet_in-reads fixed identity least greatest proved rest h =
     let bytes = signed_4 fixed ++ (little_bytes 4 identity ++ limits) in
     let named : little_number 4 (drop 4 bytes) ≡ identity =
     little_number-reads_back 4 identity limits h.identity_width in
-    let whole : lacks_identity bytes ≡ false =
+    let lacks : lacks_identity bytes ≡ false =
     ap (λ n. n == 0 && not (has_no_part limits)) named
     ∙ either_way (identity == 0) (has_no_part limits)
     (λ none. let p = h.without (grind arith) in no_part least greatest last p.0 p.1) in
     ap (λ (b : Bool). if b then None
     else packet_of (signed_32 bytes) (little_number 4 (drop 4 bytes)) (limits_in limits)
-    (little_number 4 (drop 16 bytes))) whole
+    (little_number 4 (drop 16 bytes))) lacks
     ∙ ap (λ (z : ℤ). packet_of z (little_number 4 (drop 4 bytes)) (limits_in limits)
     (little_number 4 (drop 16 bytes)))
     (signed_32-reads fixed (little_bytes 4 identity ++ limits) h.fixed_width)

@@ -40,7 +40,7 @@ low_bytes l = little_bytes 4 l.least
 abbrev pub scalar_bytes : Scalar → List ℕ
 scalar_bytes s = bits_bytes s.bits ++ (wide_bytes s.range.wide ++ low_bytes s.range.low)
 
--- ---- kinds: a byte for the number of the kind, and the fields
+-- ---- kinds: a byte that says which kind it is, and its fields
 
 unfoldable pub stack_bytes : ℕ → ℤ → List ℕ
 stack_bytes frame offset = 3 ∷ (frame ∷ signed_4 offset)

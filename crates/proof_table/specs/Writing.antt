@@ -26,7 +26,7 @@ pub record BeginsTable (p : Program) (old new : Option (List ℕ)) : Type 0 wher
   pub read : table_read p (table_bytes entries) ≡ Ok entries
   pub begun : AppendsBeginning old new (table_bytes entries)
 
--- no more entries than a table can spell
+-- `count` entries, each of which a table can spell
 pub record GainsEntries (p : Program) (count : ℕ) (old new : Option (List ℕ)) : Type 0 where
   pub entries : List Entry
   pub count_is : length entries ≡ count

@@ -10,7 +10,7 @@ use reg_state::Kind;
 use stack_state::{AbstractFrame, FRAME_SLOTS, StackSlot};
 use std::alloc::AllocError;
 
-/// Puts the lowest 16 bits of a slot's number after what the buffer has.
+/// Puts a slot of the code, its lowest 16 bits, after what the buffer has.
 pub fn spell_code_slot(slot: usize, buffer: &mut Vec<u8>) -> Result<(), AllocError>
     ensures { OnOk result (buffer.new.items ≡ buffer.old.items ++ little_bytes 2 slot) }
 {

@@ -45,36 +45,37 @@ fn write_all<W: Write>(writer: &mut W, bytes: &[u8]) -> Result<(), WriteTableErr
     }
 }
 
-/// Spells an entry that was explored, in a buffer of its own; its state is restored into `state`.
+/// Spells the entry of an explored instruction, in a buffer of its own; its state is restored into
+/// `state`.
 fn spell_explored(
     image: &Image,
-    entry: &ExploredInsn,
+    insn: &ExploredInsn,
     state: &mut State,
     buffer: &mut Vec<u8>,
 ) -> Result<(), WriteTableError>
     ensures ok { OnOk result (SpellsEntry image.now (entry_said (record {
-      number = entry.now.number;
-      state = entry.now.state;
-      successors = entry.now.successors.items;
+      number = insn.now.number;
+      state = insn.now.state;
+      successors = insn.now.successors.items;
     })) buffer.new.items) }
     ensures err { IfErr result (Lacks image.now (entry_said (record {
-      number = entry.now.number;
-      state = entry.now.state;
-      successors = entry.now.successors.items;
+      number = insn.now.number;
+      state = insn.now.state;
+      successors = insn.now.successors.items;
     }))) }
 {
-    entry.state.restore(state);
-    if !entry_fits(image, entry.number, state, &entry.successors) {
+    insn.state.restore(state);
+    if !entry_fits(image, insn.number, state, &insn.successors) {
         return Err(WriteTableError::Explored);
     }
     buffer.clear();
-    match spell_entry(entry.number, state, &entry.successors, buffer) {
+    match spell_entry(insn.number, state, &insn.successors, buffer) {
         Ok(()) => Ok(()),
         Err(_) => Err(WriteTableError::Memory),
     }
 }
 
-/// Writes this number of the explored entries, each through the buffer.
+/// Writes the entries of the first explored instructions, `count` of them, each through the buffer.
 fn write_entries<W: Write>(
     image: &Image,
     explored: &Explored,
@@ -90,10 +91,10 @@ fn write_entries<W: Write>(
     image.recall();
     let mut state = State::start();
     for index in 0..count {
-        let Some(entry) = explored.insn(index) else {
+        let Some(insn) = explored.insn(index) else {
             return Err(WriteTableError::Explored);
         };
-        spell_explored(image, entry, &mut state, buffer)?;
+        spell_explored(image, insn, &mut state, buffer)?;
         write_all(writer, buffer)?;
     }
     Ok(())

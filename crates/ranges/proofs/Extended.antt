@@ -77,21 +77,21 @@ extended_half Full32 x l g fl fg from to =
 
 -- ---- its signed reading
 
--- the result of an extension to 32 bits, read with a sign
+-- the low half of an extension to 32 bits, read with a sign
 half_between : (e : Extension) (x h : ℕ) → h + h ≡ 2 ^ extension_bits e
     → extension_width e ≡ Low32 → 0 < h → h ≤ 2 ^ 31
     → (negsuc (h - 1) ≤ℤ cast_signed w32 (sign_extended e x % 2 ^ 32))
     × (cast_signed w32 (sign_extended e x % 2 ^ 32) ≤ℤ pos (h - 1))
-half_between e x h twice narrow some most =
+half_between e x h twice is_low some most =
     let z = low_signed_equation (sign_extended e x % 2 ^ 32) (omega arith) in
-    let width : 2 ^ width_bits (extension_width e) ≡ 2 ^ 32 = ap (λ w. 2 ^ width_bits w) narrow in
+    let width : 2 ^ width_bits (extension_width e) ≡ 2 ^ 32 = ap (λ w. 2 ^ width_bits w) is_low in
     let read = mod_below x (2 ^ extension_bits e) (omega arith) in
     elim (sign_extended_cases e x h twice) [
       | inl p ↦ (omega (arith, ints, p.0, p.1), omega (arith, ints, p.0, p.1))
       | inr p ↦ (omega (arith, ints, p.0, p.1), omega (arith, ints, p.0, p.1))
     ]
 
--- the result of an extension of 8 bits, read with a sign
+-- the low half of an extension of 8 bits, read with a sign
 pub half_of_8 : (e : Extension) (x : ℕ) → extension_bits e ≡ 8
     → (negsuc 127 ≤ℤ cast_signed w32 (sign_extended e x % 2 ^ 32))
     × (cast_signed w32 (sign_extended e x % 2 ^ 32) ≤ℤ pos 127)

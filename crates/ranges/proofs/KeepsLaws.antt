@@ -163,13 +163,13 @@ remainder_kept : (w : Width) (al ag : ℤ) (x y : ℕ) → x < 2 ^ width_bits w 
     (λ l g. (l ≤ℤ signed w (result_of SignedMod w x y))
     × (signed w (result_of SignedMod w x y) ≤ℤ g))
 remainder_kept w al ag x y x_in h1 h2 =
-    let value : signed w (result_of SignedMod w x y) ≡ int_rem (signed w x) (signed_at w y) =
+    let same : signed w (result_of SignedMod w x y) ≡ int_rem (signed w x) (signed_at w y) =
     ap (signed w) (remainder_is w x y x_in)
     ∙ signed_back w (int_rem (signed w x) (signed w y))
     (remainder_fits (signed_of w) (signed w x) (signed w y) (signed_fits w x x_in))
     ∙ ap (int_rem (signed w x)) (signed_is w y) in
     subst (λ r. KeepsSignedRemainder al ag (unsigned_abs (signed_at w y))
-    (λ l g. (l ≤ℤ r) × (r ≤ℤ g))) (sym value)
+    (λ l g. (l ≤ℤ r) × (r ≤ℤ g))) (sym same)
     (remainder_between al ag (signed w x) (signed_at w y) (unsigned_abs (signed_at w y)) refl h1 h2)
 
 pub keeps_signed_member : (op : AluOp) (w : Width) (al ag bl bg : ℤ) (d e x y : ℕ)

@@ -1,4 +1,4 @@
--- Limits of sums, shifts and products.
+-- Limits of sums, differences, products, quotients, remainders, shifts and sign extensions.
 use Rattle.std.proofs.Common.{◌≡◌, ℕ, ℤ, pos, negsuc, zero, suc, ◌+◌, ◌-◌, ◌*◌, ◌/◌, ◌%◌, ◌^◌, ◌<◌, ◌≤◌, w64, refl, inl, inr, ap, ◌∙◌, arith, Bool, true, false, cond}
 use Rattle.std.specs.Prelude.{◌+ℤ◌, ◌-ℤ◌, ◌≤ℤ◌, FitsSigned, nat_eq}
 use mir.Val.{hbits}
@@ -219,13 +219,13 @@ extended_same Full32 x l g full x_in fl fg from to =
     ]
 
 -- the sign bit of the bits that are read fits the width of the result
-pub sign_bit_narrow : (e : Extension) (h : ℕ) → h + h ≡ 2 ^ extension_bits e
+pub sign_bit_fits : (e : Extension) (h : ℕ) → h + h ≡ 2 ^ extension_bits e
     → h ≤ 2 ^ width_bits (extension_width e)
-sign_bit_narrow Low8 h twice = omega arith
-sign_bit_narrow Low16 h twice = omega arith
-sign_bit_narrow Full8 h twice = omega arith
-sign_bit_narrow Full16 h twice = omega arith
-sign_bit_narrow Full32 h twice = omega arith
+sign_bit_fits Low8 h twice = omega arith
+sign_bit_fits Low16 h twice = omega arith
+sign_bit_fits Full8 h twice = omega arith
+sign_bit_fits Full16 h twice = omega arith
+sign_bit_fits Full32 h twice = omega arith
 
 pub fits_8 : (z : ℤ) → negsuc 127 ≤ℤ z → z ≤ℤ pos 127 → FitsSigned w8 z
 fits_8 (pos n) l g = record { sfits = omega (arith, ints) }

@@ -1,5 +1,5 @@
--- Low halves: their signed readings, wider limits, limits that are reached, and halves of numbers
--- between two limits.
+-- Laws of low halves: their signed readings, limits that are reached, and which halves the numbers
+-- between two limits have.
 use Rattle.std.proofs.Common.{◌≡◌, ℕ, ℤ, ◌+◌, ◌*◌, ◌/◌, ◌%◌, ◌^◌, ◌<◌, ◌≤◌, inl, inr, sym, subst, arith, w64}
 use Rattle.std.specs.Prelude.{◌⊎◌, ◌≤ℤ◌, FitsSigned}
 use Rattle.std.specs.Int.{w32, cast_signed, cast_unsigned}
@@ -23,9 +23,9 @@ low_signed_equation e h =
 
 -- ---- limits that are reached
 
-pub reached_map : (l : Low) (P Q : ℕ → Type 0) → ((e : ℕ) → P e → Q e) → AreReached l P
+pub reached_weaker : (l : Low) (P Q : ℕ → Type 0) → ((e : ℕ) → P e → Q e) → AreReached l P
     → AreReached l Q
-reached_map l P Q f h = (f _ h.0, f _ h.1, f _ h.2, f _ h.3)
+reached_weaker l P Q f h = (f _ h.0, f _ h.1, f _ h.2, f _ h.3)
 
 one_of : {A : Type 0} (P : A → Type 0) (x a b : A) → (x ≡ a) ⊎ (x ≡ b) → P a → P b → P x
 one_of P x a b is left right =

@@ -41,9 +41,9 @@ half_near (pos n) f = let s = f.sfits in omega arith
 half_near (negsuc n) f = let s = f.sfits in omega arith
 
 -- the low half of a number of 64 bits that is near enough to 0
-narrow : (z : ℤ) → unsigned_abs z ≤ 2 ^ 31 → cast_unsigned w64 z % 2 ^ 32 ≡ cast_unsigned w32 z
-narrow (pos n) h = omega arith
-narrow (negsuc n) h = omega arith
+low_of_near : (z : ℤ) → unsigned_abs z ≤ 2 ^ 31 → cast_unsigned w64 z % 2 ^ 32 ≡ cast_unsigned w32 z
+low_of_near (pos n) h = omega arith
+low_of_near (negsuc n) h = omega arith
 
 pub low_quotient : (e f : ℕ) → FitsSigned w32 (cast_signed w32 e)
     → cast_unsigned w64 (int_div (cast_signed w32 e) (cast_signed w32 f)) % 2 ^ 32
@@ -52,8 +52,8 @@ low_quotient e f fits =
     let a = cast_signed w32 e in
     let b = cast_signed w32 f in
     let near = quotient_near a b in
-    let half = half_near a fits in
-    narrow (int_div a b) (omega arith) ∙ sym (quotient_is Low32 e f)
+    let within = half_near a fits in
+    low_of_near (int_div a b) (omega arith) ∙ sym (quotient_is Low32 e f)
 
 pub low_remainder : (e f : ℕ) → e < 2 ^ 32 → FitsSigned w32 (cast_signed w32 e)
     → cast_unsigned w64 (int_rem (cast_signed w32 e) (cast_signed w32 f)) % 2 ^ 32
@@ -62,8 +62,8 @@ low_remainder e f e_in fits =
     let a = cast_signed w32 e in
     let b = cast_signed w32 f in
     let near = remainder_nearer a b in
-    let half = half_near a fits in
-    narrow (int_rem a b) (omega arith) ∙ sym (remainder_is Low32 e f e_in)
+    let within = half_near a fits in
+    low_of_near (int_rem a b) (omega arith) ∙ sym (remainder_is Low32 e f e_in)
 
 -- ---- limits
 

@@ -49,10 +49,10 @@ pub shifted_low : (e k : ℕ) → e < 2 ^ 32
     (int_shr (cast_signed w64 (cast_unsigned w64 (cast_signed w32 e))) k) % 2 ^ 32
     ≡ cast_unsigned w32 (int_shr (cast_signed w32 e) k)
 shifted_low e k h =
-    let wide : cast_signed w64 (cast_unsigned w64 (cast_signed w32 e)) ≡ cast_signed w32 e =
+    let same : cast_signed w64 (cast_unsigned w64 (cast_signed w32 e)) ≡ cast_signed w32 e =
     omega (arith, ints) in
     let f : FitsSigned w32 (cast_signed w32 e) = sfits_to_z (record { fits = h }) in
-    rw wide (low_of (int_shr (cast_signed w32 e) k)
+    rw same (low_of (int_shr (cast_signed w32 e) k)
     (record {
       sfits = let l = mag_shr (cast_signed w32 e) (2 ^ k) in
           let s = f.sfits in omega arith;

@@ -1,4 +1,4 @@
--- Ranges: wider limits, and low halves of their numbers.
+-- Laws of ranges: wider limits, low halves of their numbers, and tight limits.
 use Rattle.std.proofs.Common.{◌≡◌, ◌<◌, ◌≤◌, ◌%◌, ◌^◌, ◌∙◌, ℕ, subst, sym, refl, ap, inl, inr, arith, w64}
 use Rattle.std.specs.Prelude.{ℤ, ◌-◌, ◌⊎◌, ◌↔◌, ◌≤ℤ◌, FitsSigned}
 use Rattle.std.specs.Int.{w32, cast_signed, cast_unsigned}
@@ -14,7 +14,7 @@ use Rattle.ranges.specs.declared.low.Low.{Low}
 use Rattle.ranges.specs.declared.range.Range.{Range}
 use Rattle.ranges.proofs.EnclosesLaws.{enclosed_has}
 use Rattle.ranges.proofs.Limits.{signed_below_64}
-use Rattle.ranges.proofs.LowLaws.{reached_map, either_reached}
+use Rattle.ranges.proofs.LowLaws.{reached_weaker, either_reached}
 
 pub enclosed_half : (a b : Range) (e : ℕ) → Encloses a b → HasLow b e → HasLow a e
 enclosed_half a b e h within =
@@ -38,13 +38,13 @@ low_trans a b c h k =
 pub alike_has : (r : Wide) (x : ℕ) → r.greatest < 2 ^ 64
     → (r.greatest < 2 ^ 63) ⊎ (2 ^ 63 ≤ r.least) → W.ReadsAlike r
     → r.least ≤ x → x ≤ r.greatest → W.Has r x
-alike_has r x below half alike from to =
+alike_has r x below part alike from to =
     let e = signed_equation r.least (omega arith) in
     let f = signed_equation r.greatest below in
     let g = signed_equation x (omega arith) in
     let order : (cast_signed w64 r.least ≤ℤ cast_signed w64 x)
     × (cast_signed w64 x ≤ℤ cast_signed w64 r.greatest) =
-    elim half [
+    elim part [
       | inl plain ↦ (omega (arith, ints), omega (arith, ints))
       | inr signed ↦ (omega (arith, ints), omega (arith, ints))
     ] in
@@ -166,22 +166,22 @@ signed_between_tight r least greatest ordered fl fg most members limits unsigned
 -- those of one number
 pub constant_tight : (r : Range) (x : ℕ) → IsConstant r x → Has r x → IsTight r
 constant_tight r x is has =
-    let wide = has.0.below in
+    let below = has.0.below in
     let back = subst (λ z. Has r (cast_unsigned w64 z)) (sym is.0.2)
-    (subst (Has r) (sym (of_z-to_z w64 x wide)) has) in
+    (subst (Has r) (sym (of_z-to_z w64 x below)) has) in
     let over = subst (λ z. Has r (cast_unsigned w64 z)) (sym is.0.3)
-    (subst (Has r) (sym (of_z-to_z w64 x wide)) has) in
-    let half : HasLow r (x % 2 ^ 32) = record { number = x; has = has; low = refl } in
+    (subst (Has r) (sym (of_z-to_z w64 x below)) has) in
+    let has' : HasLow r (x % 2 ^ 32) = record { number = x; has = has; low = refl } in
     let same = of_z-to_z w32 (x % 2 ^ 32) has.1.below in (
       subst (Has r) (sym is.0.0) has,
       subst (Has r) (sym is.0.1) has,
       back,
       over,
       (
-        subst (HasLow r) (sym is.1.0) half,
-        subst (HasLow r) (sym is.1.1) half,
-        subst (λ z. HasLow r (cast_unsigned w32 z)) (sym is.1.2) (subst (HasLow r) (sym same) half),
-        subst (λ z. HasLow r (cast_unsigned w32 z)) (sym is.1.3) (subst (HasLow r) (sym same) half),
+        subst (HasLow r) (sym is.1.0) has',
+        subst (HasLow r) (sym is.1.1) has',
+        subst (λ z. HasLow r (cast_unsigned w32 z)) (sym is.1.2) (subst (HasLow r) (sym same) has'),
+        subst (λ z. HasLow r (cast_unsigned w32 z)) (sym is.1.3) (subst (HasLow r) (sym same) has'),
       ),
     )
 
@@ -198,6 +198,6 @@ either_tight r a b left right least greatest signed_least signed_greatest either
   subst (λ z. Has r (cast_unsigned w64 z)) (sym signed_greatest)
       (enclosed_has r a (cast_unsigned w64 a.wide.signed_greatest) left ta.3),
   either_reached r.low a.low b.low (HasLow r) either
-      (reached_map a.low (HasLow a) (HasLow r) (λ e h. enclosed_half r a e left h) ta.4)
-      (reached_map b.low (HasLow b) (HasLow r) (λ e h. enclosed_half r b e right h) tb.4),
+      (reached_weaker a.low (HasLow a) (HasLow r) (λ e h. enclosed_half r a e left h) ta.4)
+      (reached_weaker b.low (HasLow b) (HasLow r) (λ e h. enclosed_half r b e right h) tb.4),
 )

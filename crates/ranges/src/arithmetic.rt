@@ -207,7 +207,7 @@ fn reads_low(op: AluOp, width: Width, b: Wide) -> bool
     }
 }
 
-// The greatest number with this number of bits.
+// The greatest number of as many bits.
 fn greatest_read(span: SwapWidth) -> u64
     ensures { result + 1 ≡ 2 ^ span_bits span }
 {

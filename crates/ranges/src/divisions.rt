@@ -1,4 +1,4 @@
-//! Quotients and remainders, and common bits.
+//! Divisions, that is quotients and remainders, and the bits that numbers have in common.
 
 ghost use Rattle.std.specs.Prelude.{◌≡◌, ℕ, pos, ◌-ℤ◌, ◌<ℤ◌, ◌≤ℤ◌, FitsSigned, ◌^◌, ◌<◌, ◌↔◌, IsTrue, bit_and, unsigned_abs, int_div, int_rem};
 ghost use Rattle.std.specs.Int.{w64, cast_signed, cast_unsigned, int_min, int_max};
@@ -183,7 +183,7 @@ impl Wide {
         }
     }
 
-    // The numbers no further from 0 than a number, and between these and 0.
+    // The numbers no further from 0 than `most`, and between the numbers of this and 0.
     fn remainder_below(self, most: i64) -> Self
         requires { pos 0 ≤ℤ most }
         ensures members { (x : ℕ) → x < 2 ^ 64 → (pos 0 -ℤ most) ≤ℤ cast_signed w64 x

@@ -112,8 +112,8 @@ impl Low {
         if other.least != other.greatest {
             return Low::any();
         }
-        let by = i64::from(other.least.cast_signed());
-        self.sign_extended().signed_quotient(by).low_limits()
+        let divisor = i64::from(other.least.cast_signed());
+        self.sign_extended().signed_quotient(divisor).low_limits()
     }
 
     fn signed_remainder(self, other: Self) -> Self
@@ -125,8 +125,8 @@ impl Low {
         if other.least != other.greatest {
             return Low::any();
         }
-        let by = i64::from(other.least.cast_signed());
-        self.sign_extended().signed_remainder(by).low_limits()
+        let divisor = i64::from(other.least.cast_signed());
+        self.sign_extended().signed_remainder(divisor).low_limits()
     }
 
     // The low halves shifted to the left by 32 bits or more: only they matter to such a shift.

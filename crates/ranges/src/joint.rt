@@ -1,4 +1,4 @@
-//! What limits at 64 bits and limits of low halves show of each other.
+//! Joint limits, at 64 bits and of low halves: what they show of each other.
 
 ghost use Rattle.std.specs.Prelude.{◌≡◌, ℕ, ◌%◌, ◌^◌, ◌<◌, ◌≤◌, ◌⊎◌, IsSomeAnd, IfSome};
 ghost use Rattle.std.specs.Int.{w32};
@@ -58,6 +58,7 @@ impl Low {
         ensures reached { AreReached result (λ half. Has self half
             × IsHalfBetween least greatest half) }
     {
+        // the upper halves of the first and of the last number
         let first = least / HALVES;
         let last = greatest / HALVES;
         let from = numbers::low_32_bits(least);

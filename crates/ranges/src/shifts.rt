@@ -23,7 +23,7 @@ impl Wide {
         }
     }
 
-    // Numbers with the same upper half keep their distances.
+    // Numbers with the same upper half differ as their low halves do.
     fn low_32_bits(self) -> Self
         ensures contains { (x : ℕ) → Has self x → Has result (x % 2 ^ 32) }
         ensures fits { result.greatest < 2 ^ 32 }
@@ -154,9 +154,9 @@ impl Wide {
 }
 
 // By how many bits a shift by a number moves.
-pub(crate) fn distance(width: Width, by: u64) -> u64
-    ensures value { result ≡ shift width by }
+pub(crate) fn distance(width: Width, number: u64) -> u64
+    ensures value { result ≡ shift width number }
     ensures below { result < width_bits width }
 {
-    by % u64::from(width.bits())
+    number % u64::from(width.bits())
 }

@@ -58,7 +58,7 @@ nothing_kept : (a b : State) → KeepsParts none_kept a b
 nothing_kept a b =
     record { frames = λ j f less at. absurd (omega arith); slots = λ no. absurd (cc) }
 
--- all outer frames, and the slots if they are the same
+-- all outer call frames, and the stack slots of the innermost if they are the same
 outer_same : (a b : State) (slots : Bool) → b.callers ≡ a.callers
     → (slots ≡ true → b.innermost.stack ≡ a.innermost.stack) → KeepsParts (outer_kept a slots) a b
 outer_same a b slots same stack = record {
@@ -174,24 +174,24 @@ own_left a b at U64 source h = ap (λ s. s.callers) h.left ∙ own_slots a _
 own_left a b at size (Number numbers) h = ap (λ s. s.callers) h.left ∙ own_slots a _
 own_left a b at size source h = ap (λ s. s.callers) h.left ∙ own_slots a _
 
-store_kept : (rows : List MapDef) (a left : State) (size : Size) (place : Place) (r : Reg)
-    (source : Kind) → place.base ≡ r → StoresAt rows a size place source left (Ok tt)
+store_kept : (maps : List MapDef) (a left : State) (size : Size) (place : Place) (r : Reg)
+    (source : Kind) → place.base ≡ r → StoresAt maps a size place source left (Ok tt)
     → KeepsParts (kept_by_store a r) a left
-store_kept rows a left size place R10 source base h =
+store_kept maps a left size place R10 source base h =
     let through : StackStores a (length a.callers.items) (pos 0 +ℤ place.offset) size source left
     (Ok tt) =
-    subst (λ (x : Reg). StoresKind rows a size (kind_of a x) place.offset source left (Ok tt)) base
+    subst (λ (x : Reg). StoresKind maps a size (kind_of a x) place.offset source left (Ok tt)) base
     h in
     outer_same a left false (own_left a left through.0 size source through.3) (λ no. absurd (cc))
-store_kept rows a left size place r source base h = nothing_kept a left
+store_kept maps a left size place r source base h = nothing_kept a left
 
-stores_kept : (rows : List MapDef) (a b : State) (size : Size) (place : Place) (source : Kind)
-    (w : Ways) → GoesOn a (StoresAt rows a size place source) (Ok w) b
+stores_kept : (maps : List MapDef) (a b : State) (size : Size) (place : Place) (source : Kind)
+    (w : Ways) → GoesOn a (StoresAt maps a size place source) (Ok w) b
     → KeepsParts (kept_by_store a place.base) a b
-stores_kept rows a b size place source w h =
+stores_kept maps a b size place source w h =
     subst (KeepsParts (kept_by_store a place.base) a) (sym h.1.next)
     (gone_kept (kept_by_store a place.base) a h.1.left (a.slot + 1)
-    (store_kept rows a h.1.left size place place.base source refl h.1.leaving))
+    (store_kept maps a h.1.left size place place.base source refl h.1.leaving))
 
 -- ---- all forms
 
@@ -251,9 +251,9 @@ SpellFrames-kept : (rows n : ℕ) (bytes : List FrameBytes) (a b : State) → Ke
     → SpellFrames rows bytes a.callers.items → SpellFrames rows (take n bytes) b.callers.items
 SpellFrames-kept rows n bytes a b keeps spelled = λ j f at s known.
     let there = taken_get n bytes j s known in
-    let kept = keeps j f there.0 at in
-    spells_kept rows j (length a.callers.items) s.bytes.now f kept.0
-    (slice_get_within a.callers.items j kept.0 kept.1) (spelled j kept.0 kept.1 s there.1) kept.2
+    let was = keeps j f there.0 at in
+    spells_kept rows j (length a.callers.items) s.bytes.now f was.0
+    (slice_get_within a.callers.items j was.0 was.1) (spelled j was.0 was.1 s there.1) was.2
 
 SpellSlots-kept : (rows : ℕ) (slots : Bool) (known : Option (Bor (List ℕ))) (a b : State)
     → (slots ≡ true → (length b.callers.items ≡ length a.callers.items)

@@ -24,7 +24,8 @@ pub record Enters (t : EntryAt) (number index : ℕ) (a : State) : Type 0 where
   pub smaller : entry.number < number
   pub covers : (p : Program) → Covers p entry.state a
 
--- the same, if registers and stack slots show it, under any names of identities
+-- the same, if registers and stack slots show it, under any names of identities: `packet` gives
+-- those of packet offsets, `null` those of look-ups
 pub record EntersClearly (t : EntryAt) (number index : ℕ) (a : State) : Type 0 where
   pub entry : Entry
   pub there : t index ≡ Some entry

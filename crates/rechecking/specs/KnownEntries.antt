@@ -22,7 +22,7 @@ IsKnownEntry p t a b known.None = Unit {0}
 IsKnownEntry p t a b (known.First index head) = HasEntry p t index head a
 IsKnownEntry p t a b (known.Second index head) = HasEntry p t index head b
 
--- the bytes spell parts of the known entry's state
+-- the bytes spell parts of the known entry's state, where there are `rows` map rows
 abbrev pub IsKnownSpelled : ℕ → KnownBytes → State → State → Known → Type 0
 IsKnownSpelled rows bytes a b known.None = Unit {0}
 IsKnownSpelled rows bytes a b (known.First index head) = AreSpelled rows bytes a

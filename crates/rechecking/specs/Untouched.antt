@@ -39,7 +39,7 @@ none_kept = record { frames = 0; slots = false }
 abbrev pub outer_kept : State → Bool → UntouchedParts
 outer_kept a slots = record { frames = length a.callers.items; slots = slots }
 
--- a store through r10 writes into the innermost frame
+-- a store through r10 writes into the innermost call frame
 abbrev pub kept_by_store : State → Reg → UntouchedParts
 kept_by_store a R10 = outer_kept a false
 kept_by_store a r = none_kept

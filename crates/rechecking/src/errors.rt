@@ -20,7 +20,7 @@ pub enum TableError {
     Start,
     /// P7: the step of an entry is refused.
     Step(usize, Refusal),
-    /// P8: the successors of an entry are not those that it names.
+    /// P8: the entries named do not cover the successors, or have no smaller numbers.
     Successor(usize),
 }
 

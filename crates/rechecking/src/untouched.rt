@@ -12,7 +12,7 @@ use reg_state::Kind;
 use stack_state::State;
 use transfer::Ways;
 
-/// How many outer frames, the outermost first, and whether the stack slots of the innermost.
+/// How many outer call frames, the outermost first, and whether the stack slots of the innermost.
 #[derive(Clone, Copy, Drop)]
 pub struct UntouchedParts {
     pub frames: usize,
@@ -28,7 +28,7 @@ fn none_kept() -> UntouchedParts
     }
 }
 
-/// All outer frames, and the slots if that is said.
+/// All outer frames, and the stack slots of the innermost if `slots` says so.
 fn outer_kept(state: &State, slots: bool) -> UntouchedParts
     ensures { result ≡ untouched_defs.outer_kept state.now slots }
 {

@@ -1,4 +1,4 @@
--- How the text on a refused program is put together.
+-- How the message on a refused program is put together from its parts.
 use Rattle.std.proofs.Common.{◌≡◌, ◌∙◌, ℕ, List, ◌++◌, ap, append_assoc}
 
 -- what is known comes after the line of the instruction

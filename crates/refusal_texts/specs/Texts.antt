@@ -1,5 +1,5 @@
--- The texts of refusals: the line that the command prints, a sentence, the position, and what is
--- known there.
+-- The messages about refusals, each of which is `.._text` here: the line that the command prints, a
+-- sentence, the position, and what is known there.
 use Rattle.std.specs.Prelude.{◌≡◌, ℕ, List, [], ◌++◌, Option, Some, None, codes, decimal, ◌⊎◌}
 use Rattle.isa_model.specs.declared.instructions.Insn.{Insn}
 use Rattle.isa_model.specs.Code.Instructions.{Program, fetch}
@@ -9,7 +9,7 @@ use Rattle.image.specs.declared.errors.ImageError.{ImageError}
 use Rattle.image.specs.declared.errors.ImageError.TheVariants.{Code, Magic, MapRow, UnknownMap, ValuePointer, Memory}
 use Rattle.image.specs.Messages as image
 use Rattle.walks.specs.declared.refusals.Refusal.{Refusal}
-use Rattle.walks.specs.declared.refusals.Refusal.TheVariants as program
+use Rattle.walks.specs.declared.refusals.Refusal.TheVariants as program_refusal
 use Rattle.walks.specs.Messages as walks
 use Rattle.explanations.specs.Reasons.{IsReason}
 use Rattle.assembler.specs.declared.errors.AsmError.{AsmError}
@@ -17,7 +17,7 @@ use Rattle.assembler.specs.Messages as assembler
 use Rattle.transfer.specs.Messages as transfer
 use Rattle.table_entries.specs.declared.refusals.TableRefusal.TheVariants as table_refusal
 use Rattle.rechecking.specs.declared.errors.TableError.{TableError}
-use Rattle.rechecking.specs.declared.errors.TableError.TheVariants as table
+use Rattle.rechecking.specs.declared.errors.TableError.TheVariants as table_error
 use Rattle.rechecking.specs.Messages as rechecking
 use Rattle.explanations.specs.Entries.{IsEntryReason}
 
@@ -35,7 +35,7 @@ slot_position slot = codes "slot " ++ decimal slot
 abbrev pub map_position : ℕ → List ℕ
 map_position index = codes "map " ++ decimal index
 
--- the text for bytes that are no image, without the hint
+-- the message for bytes that are no image, without the hint
 abbrev pub image_front : ImageError → List ℕ
 image_front (Code slot error) =
     refused_at (image.code_of (Code slot error)) (slot_position slot)
@@ -58,12 +58,12 @@ image_text Magic = image_front Magic
 image_text Memory = image_front Memory
 image_text error = image_front error ++ (image.hint_of error ++ codes "\n")
 
--- the position in a text
+-- the position in a program text
 abbrev pub text_position : ℕ → ℕ → List ℕ
 text_position line column =
     codes "line " ++ (decimal line ++ (codes " column " ++ (decimal column ++ codes "\n")))
 
--- the text for a source that is no program
+-- the message for a program text that is no program
 abbrev pub source_text : AsmError → List ℕ
 source_text error =
     codes "refused "
@@ -92,28 +92,29 @@ entry_position index = codes "entry " ++ decimal index
 
 -- a table is refused at an entry, or as a whole
 abbrev pub refusal_front : TableError → List ℕ
-refusal_front (table.Bytes (table_refusal.Entry index)) =
-    refused_at (rechecking.code_of (table.Bytes (table_refusal.Entry index)))
+refusal_front (table_error.Bytes (table_refusal.Entry index)) =
+    refused_at (rechecking.code_of (table_error.Bytes (table_refusal.Entry index)))
     (entry_position index) []
-    (rechecking.sentence_of (table.Bytes (table_refusal.Entry index)))
-refusal_front (table.Step index refusal) =
-    refused_at (rechecking.code_of (table.Step index refusal)) (entry_position index)
-    (codes " " ++ transfer.code_of refusal) (rechecking.sentence_of (table.Step index refusal))
-refusal_front (table.Successor index) =
-    refused_at (rechecking.code_of (table.Successor index)) (entry_position index) []
-    (rechecking.sentence_of (table.Successor index))
+    (rechecking.sentence_of (table_error.Bytes (table_refusal.Entry index)))
+refusal_front (table_error.Step index refusal) =
+    refused_at (rechecking.code_of (table_error.Step index refusal)) (entry_position index)
+    (codes " " ++ transfer.code_of refusal)
+    (rechecking.sentence_of (table_error.Step index refusal))
+refusal_front (table_error.Successor index) =
+    refused_at (rechecking.code_of (table_error.Successor index)) (entry_position index) []
+    (rechecking.sentence_of (table_error.Successor index))
 refusal_front error = codes "refused "
     ++ (rechecking.code_of error ++ (codes "\n" ++ (rechecking.sentence_of error ++ codes "\n")))
 
 -- a table is refused, or the control flow of its program at a slot
 abbrev pub table_front : Program → TableError → List ℕ
-table_front p (table.Flow error slot) =
-    program_front (program.Flow error) slot ++ insn_end (fetch p slot)
+table_front p (table_error.Flow error slot) =
+    program_front (program_refusal.Flow error) slot ++ insn_end (fetch p slot)
 table_front p error = refusal_front error
 
 -- why the step of an entry is refused
 abbrev pub step_sentence : TableError → List ℕ
-step_sentence (table.Step index refusal) = transfer.sentence_of refusal ++ codes "\n"
+step_sentence (table_error.Step index refusal) = transfer.sentence_of refusal ++ codes "\n"
 step_sentence error = []
 
 -- what is known of the entry, if that was looked for: its slot with the instruction there, why its
@@ -128,6 +129,6 @@ IsEntryText p bytes error text =
 -- the same after the front
 pub record IsTableText (p : Program) (bytes : List ℕ) (error : TableError)
     (text : List ℕ) : Type 0 where
-  pub entry : List ℕ
-  pub is_entry : IsEntryText p bytes error entry
-  pub text_is : text ≡ table_front p error ++ entry
+  pub entry_text : List ℕ
+  pub is_entry_text : IsEntryText p bytes error entry_text
+  pub text_is : text ≡ table_front p error ++ entry_text

@@ -1,4 +1,5 @@
-//! Why a text, an image, a program or a proof table is refused, as one text for a caller's buffer.
+//! Why a program text, an image, a program or a proof table is refused, as one message for a
+//! caller's buffer.
 #![tactic(auto)]
 
 mod table_texts;

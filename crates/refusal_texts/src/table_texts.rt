@@ -1,4 +1,4 @@
-//! The text of a refused proof table.
+//! The message about a refused proof table.
 
 ghost use Rattle.std.specs.Prelude.{◌≡◌, ◌++◌, false, None, codes, IfOk, IfSome, OnOk};
 ghost use Rattle.std.specs.String.{string_bytes};
@@ -6,7 +6,9 @@ ghost use Rattle.isa_model.specs.Text.CanonicalText.{line_of};
 ghost use Rattle.explanations.specs.Entries.{IsEntryReason};
 ghost use Rattle.refusal_texts.specs.Texts.{entry_position, refusal_front, table_front, slot_position, step_sentence, IsTableText};
 
-use crate::texts::{end_line, program_front, refused, refused_at, refused_within, slot_position};
+use crate::texts::{
+    end_line, program_front, refused, refused_by_index, refused_within, slot_position,
+};
 use exact_io::write_bytes;
 use explanations::{EntryReason, entry_reason};
 use image::Image;
@@ -31,7 +33,7 @@ fn refusal_front(alloc: Global, error: TableError) -> Result<String, AllocError>
     let why = error.sentence();
     match error {
         TableError::Bytes(TableRefusal::Entry(index)) | TableError::Successor(index) => {
-            refused_at(alloc, code, "entry ", index, why)
+            refused_by_index(alloc, code, "entry ", index, why)
         }
         TableError::Step(index, refusal) => {
             let position = entry_position(alloc, index)?;

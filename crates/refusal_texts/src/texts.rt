@@ -1,4 +1,4 @@
-//! The texts of refused images, texts and programs.
+//! The messages about refused images, program texts and programs: `.._text` here is such a message.
 
 ghost use Rattle.std.specs.Prelude.{◌≡◌, ◌++◌, false, None, codes, decimal, IfOk, IfSome, OnOk};
 ghost use Rattle.std.specs.Option.{option_copied};
@@ -25,23 +25,23 @@ pub fn refused(alloc: Global, code: &str, why: &str) -> Result<String, AllocErro
     format!(in alloc; "refused {code}\n{why}\n")
 }
 
-/// The same with a position: what is counted, such as `slot` with a space, and its number.
-pub fn refused_at(
+/// The same with a position: what is counted, such as `slot` with a space, and its index.
+pub fn refused_by_index(
     alloc: Global,
     code: &str,
-    word: &str,
-    number: usize,
+    unit: &str,
+    index: usize,
     why: &str,
 ) -> Result<String, AllocError>
     ensures { IfOk result (λ text. string_bytes text
-        ≡ codes "refused " ++ (code.now ++ (codes " " ++ (word.now ++ (decimal number
-        ++ (codes "\n" ++ (why.now ++ (codes "\n" ++ (word.now ++ (decimal number
+        ≡ codes "refused " ++ (code.now ++ (codes " " ++ (unit.now ++ (decimal index
+        ++ (codes "\n" ++ (why.now ++ (codes "\n" ++ (unit.now ++ (decimal index
         ++ codes "\n")))))))))) }
 {
-    format!(in alloc; "refused {code} {word}{number}\n{why}\n{word}{number}\n")
+    format!(in alloc; "refused {code} {unit}{index}\n{why}\n{unit}{index}\n")
 }
 
-/// The same with a position as one text, and a second code.
+/// The same with a position that is written already, and a second code.
 pub fn refused_within(
     alloc: Global,
     code: &str,
@@ -55,7 +55,7 @@ pub fn refused_within(
     format!(in alloc; "refused {code} {position} {inner}\n{why}\n{position}\n")
 }
 
-/// A slot by its number.
+/// A slot by its index.
 pub fn slot_position(alloc: Global, slot: usize) -> Result<String, AllocError>
     ensures { IfOk result (λ text. string_bytes text ≡ slot_position slot) }
 {
@@ -73,15 +73,15 @@ fn image_front(alloc: Global, error: ImageError) -> Result<String, AllocError>
             let position = slot_position(alloc, slot)?;
             refused_within(alloc, code, position.as_str(), error.code(), why)
         }
-        ImageError::MapRow(index) => refused_at(alloc, code, "map ", index, why),
+        ImageError::MapRow(index) => refused_by_index(alloc, code, "map ", index, why),
         ImageError::UnknownMap(slot) | ImageError::ValuePointer(slot) => {
-            refused_at(alloc, code, "slot ", slot, why)
+            refused_by_index(alloc, code, "slot ", slot, why)
         }
         _ => refused(alloc, code, why),
     }
 }
 
-/// A text, and a line after it.
+/// A message, and a line after it.
 fn with_line(alloc: Global, text: &str, line: &str) -> Result<String, AllocError>
     ensures { IfOk result (λ whole. string_bytes whole
         ≡ text.now ++ (line.now ++ codes "\n")) }
@@ -106,7 +106,7 @@ fn text_position(alloc: Global, line: usize, column: usize) -> Result<String, Al
     format!(in alloc; "line {line} column {column}\n")
 }
 
-/// Why a text is no program, and where.
+/// The message why a program text is no program, and where.
 pub fn source_text(alloc: Global, error: AsmError) -> Result<String, AllocError>
     ensures { IfOk result (λ text. string_bytes text ≡ source_text error) }
 {
@@ -156,7 +156,7 @@ fn known_of(
     }
 }
 
-/// Why a program is refused, at which slot and instruction, and where that is asked for, what is
+/// The message why a program is refused, at which slot and instruction, and if asked for, what is
 /// known there. None: memory ran out.
 pub fn program_text(
     alloc: Global,

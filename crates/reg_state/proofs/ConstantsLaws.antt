@@ -1,4 +1,4 @@
--- Laws of the definitions in specs/Constants.
+-- Laws of constants and of limits that no code cites; specs/Constants has those that code does.
 use Rattle.std.proofs.Common.{ℕ, ◌≡◌, inl, inr, arith}
 use Rattle.std.proofs.lemmas.Int.{ints}
 use Rattle.ranges.specs.declared.range.Range.{Range}
@@ -34,7 +34,7 @@ range_constant_enclosed r d n c h =
 
 -- a Scalar that leaves one number has no other
 pub IsNumber-only : (s : Scalar) (n x : ℕ) → IsNumber s n → Has s x → x ≡ n
-IsNumber-only s n x (inl bits) h = bits_constant_only s.bits n x bits h.0
+IsNumber-only s n x (inl constant) h = bits_constant_only s.bits n x constant h.0
 IsNumber-only s n x (inr alone) h =
     let from = h.1.0.from in let to = h.1.0.to in let limits = alone.1 in omega arith
 

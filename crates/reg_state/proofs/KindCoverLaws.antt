@@ -1,4 +1,4 @@
--- Laws of the definitions in specs/KindCover.
+-- Laws of the definitions in specs/KindCover. `packet` and `null` rename identities as there.
 use Rattle.std.specs.Prelude.{ℕ, ℤ}
 use Rattle.std.proofs.Common.{arith}
 use Rattle.std.proofs.lemmas.Int.{ints}

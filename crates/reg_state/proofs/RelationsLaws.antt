@@ -61,9 +61,9 @@ both f p q = cc
 zeros : (x : ℕ) → low Low32 x ≡ low Full64 (low Low32 x)
 zeros x = sym (low_same Full64 (low Low32 x) (let b = low_below Low32 x in omega arith))
 
-wide : (n : ℕ) → n < 2 ^ 32
+same_signed : (n : ℕ) → n < 2 ^ 32
     → cast_signed w64 (cast_unsigned w64 (cast_signed w32 n)) ≡ cast_signed w32 n
-wide n h = omega (arith, ints)
+same_signed n h = omega (arith, ints)
 
 signs : (x : ℕ)
     → cast_signed w32 (low Low32 x) ≡ cast_signed w64 (low Full64 (sign_extended Full32 x))
@@ -71,7 +71,7 @@ unfolding sign_extended
 signs x =
     sym (ap (cast_signed w64)
     (low_same Full64 (sign_extended Full32 x) (sign_extended_fits Full32 x))
-    ∙ wide (low Low32 x) (low_below Low32 x))
+    ∙ same_signed (low Low32 x) (low_below Low32 x))
 
 -- a comparison at 32 bits is that of the low halves at 64
 pub holds_low : (c : Comparison) (x y : ℕ)
@@ -107,7 +107,7 @@ goes_whole c t x y left right e =
 -- the low half, extended by its sign, has its signed reading
 pub signed_half : (x : ℕ) → cast_signed w64 (sign_extended Full32 x) ≡ signed Low32 (low Low32 x)
 unfolding sign_extended
-signed_half x = wide (low Low32 x) (low_below Low32 x)
+signed_half x = same_signed (low Low32 x) (low_below Low32 x)
 
 -- numbers of 64 bits below 2^31 are their low halves so extended
 pub signed_half-small : (x : ℕ) → x < 2 ^ 31 → sign_extended Full32 x ≡ x

@@ -1,4 +1,5 @@
--- When a kind covers another, by renamings of its identities to the other's.
+-- When a kind covers another, by renamings of its identities to the other's: `packet` of packet
+-- identities, and `null` of null ones.
 use Rattle.std.specs.Prelude.{◌≡◌, ℕ, ◌≤◌, ◌≤ℤ◌, Option, Some, None, IfSome}
 use Rattle.reg_state.specs.declared.kinds.Kind.{Kind}
 use Rattle.reg_state.specs.declared.kinds.Kind.TheVariants.{Unset, Number, Context, Stack, Packet, PacketEnd, Map, MapValue, MapValueOrNull}
@@ -39,6 +40,7 @@ abbrev pub KindEncloses : (ℕ → ℕ) → (ℕ → ℕ) → Kind → Kind → 
 KindEncloses packet null (Number a) (Number b) = Encloses a b
 KindEncloses packet null a b = KindCovers packet null a b
 
+-- the kind is not that of a number
 abbrev pub IsNoNumber : Kind → Type 0
 IsNoNumber (Number numbers) = ⊥
 IsNoNumber k = Unit {0}

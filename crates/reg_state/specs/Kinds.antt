@@ -21,7 +21,7 @@ pub record Assigned : Type 0 where
   pub frames : List ℕ
   pub maps : List Content
 
--- a value of the map is live while its serial is in the map's content
+-- a map value is live while its serial is in the content of its map
 abbrev pub HasLiveValue : List Content → ℕ → ℕ → Type 0
 HasLiveValue maps m n = Contains (value_serials (slice_index_or maps m [])) n
 

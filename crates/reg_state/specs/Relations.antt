@@ -1,5 +1,5 @@
--- What the outcome of a comparison says of two numbers, as an order or an equation. RFC 9669,
--- section 4.3.
+-- What the outcome of a comparison says of two numbers, as a relation of them: an order, an
+-- equation, or that they share a bit. RFC 9669, section 4.3.
 use Rattle.std.proofs.Common.{◌≡◌, ◌≢◌, ℕ, ◌^◌, ◌<◌, ◌≤◌, ◌<ℤ◌, ◌≤ℤ◌, Bool, true, false, bit_and}
 use Rattle.std.specs.Prelude.{if◌then◌else◌}
 use Rattle.isa_model.specs.declared.sizes.Width.{Width}

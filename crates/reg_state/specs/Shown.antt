@@ -72,7 +72,7 @@ pub record DomainShows {D : Type 0} (has is_constant : D → ℕ → Type 0) (li
       → MayGo Low32 (exchanged comparison) taken (allows Low32 a) (limits Low32 a) (limits Low32 b)
       (low Low32 y)
 
--- the same of numbers
+-- the same of Scalars
 abbrev pub NarrowsBoth : Comparison → Width → Bool → Scalar → Scalar → Scalar → Scalar → Type 0
 NarrowsBoth =
     DomainShows Has IsConstant (λ w s. range_limits w s.range) allows (λ s. s.bits.value)

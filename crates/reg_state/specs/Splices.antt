@@ -8,8 +8,8 @@ use Rattle.reg_state.specs.Arithmetic.{IsFromTo, IsLowFromTo}
 
 -- the numbers of a, in which `count` bits from bit `from` on are the low bits of numbers of b. Two
 -- members of c differ only in bits that are unknown in a or b. If b's numbers fit these bits, the
--- limits are those of a and b put together so, with any bits below. A low half that is written
--- whole, or not at all, keeps its limits
+-- limits are those of a and b put together so, with any bits below. A low half of which all bits
+-- are written, or none, keeps its limits
 pub record IsSpliced (from count : ℕ) (a b c : Scalar) : Type 0 where
   pub contains : (x y : ℕ) → Has a x → Has b y → Has c (spliced from count x y)
   pub bits : (i x y : ℕ) → i < 64 → Has c x → Has c y → bit_at x i ≡ 0 → bit_at y i ≡ 1

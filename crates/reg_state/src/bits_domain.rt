@@ -167,7 +167,7 @@ impl Domain for Bits {
         }
     }
 
-    ghost bounded = { λ d x h. h.below };
+    ghost in_register = { λ d x h. h.below };
 
     ghost inside = { λ d w x h. any_inside w x };
 

@@ -14,8 +14,8 @@ use isa_model::{AluOp, ByteOrder, Extension, SwapWidth, Width};
 /// Sets of numbers below 2^64, each of which a register may hold. `has` says which numbers are
 /// members; `is_constant` that a set is represented as a single number, `encloses` that the
 /// representation of one set shows that it contains the other, `limits` between which limits the
-/// members are known to be, `ones` which bits each of them is known to have, and `possible` which
-/// bits any of them may have.
+/// members are known to be, `allows` as which numbers of a width they may be read, `ones` which
+/// bits each of them is known to have, and `possible` which bits any of them may have.
 pub trait Domain: Copy {
     ghost has: { Self → ℕ → Type 0 };
 
@@ -191,7 +191,7 @@ pub trait Domain: Copy {
             → has p.1 y → bit_at y i ≡ 1) };
 
     // every member is a number of a register
-    ghost bounded: { (d : Self) (x : ℕ) → has d x → x < 2 ^ 64 };
+    ghost in_register: { (d : Self) (x : ℕ) → has d x → x < 2 ^ 64 };
 
     // and is between the limits, as each width reads it
     ghost inside: { (d : Self) (w : Width) (x : ℕ) → has d x

@@ -8,7 +8,7 @@ use crate::scalars::Scalar;
 /// What is known of the value of a register or of a stack slot. Offsets are in bytes.
 ///
 /// An identity is shared by values that were copied from one another: what a test shows of one of
-/// them holds of all. Identity 0 of a packet pointer means no identity: its variable part is 0.
+/// them holds of all. Identity 0 of a packet pointer stands for none: its variable part is 0.
 #[derive(Clone, Copy, PartialEq, Eq, Debug, Default)]
 pub enum Kind {
     /// Nothing: it may be unset.
@@ -37,14 +37,14 @@ pub enum Kind {
     Map {
         index: u8,
     },
-    /// A pointer to a live value of the map, at an offset within limits.
+    /// A pointer to a live map value, at an offset within limits.
     MapValue {
         index: u8,
         least: i32,
         greatest: i32,
     },
-    /// The answer of a look-up: a pointer to a live value of the map, or 0. All values of the
-    /// identity are that pointer, or all are 0.
+    /// The answer of a look-up: a pointer to a live map value, or 0. All values of the identity are
+    /// that pointer, or all are 0.
     MapValueOrNull {
         index: u8,
         identity: u32,
@@ -76,7 +76,7 @@ impl Kind {
     }
 
     /// Whether it allows what `other` does, where `counterpart` is what `other`'s state calls the
-    /// identity that it names.
+    /// identity that it names. `packet` and `null` rename identities to those of `other`'s state.
     pub fn covers(self, other: Kind, counterpart: u32) -> bool
         ensures yes { IsTrue result → (packet null : ℕ → ℕ) → IsCalled packet null self counterpart
             → KindCovers packet null self other }

@@ -44,15 +44,15 @@ impl Scalar {
         let Some(known) = bits.meet(Bits::between(least, greatest)) else {
             return (bits, least, greatest);
         };
-        let from = least.max(known.least());
-        let to = greatest.min(known.greatest());
-        if from > to {
+        let smallest = least.max(known.least());
+        let largest = greatest.min(known.greatest());
+        if smallest > largest {
             return (bits, least, greatest);
         }
-        (known, from, to)
+        (known, smallest, largest)
     }
 
-    // The same numbers. If the limits leave only one number, it is represented as a constant.
+    // The same numbers. If the limits leave only one number, it is known as a constant.
     pub(crate) fn single(self) -> Scalar
         ensures contains { (x : ℕ) → Has self x → Has result x }
         ensures narrower { (x : ℕ) → Has result x → Has self x }

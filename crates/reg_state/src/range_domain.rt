@@ -1,4 +1,4 @@
-//! Limits as a domain.
+//! Ranges as a domain.
 
 ghost use Rattle.std.specs.Prelude.{ℕ, ◌≤◌, ◌-◌, ◌^◌, IsSomeAnd, IfSome};
 ghost use Rattle.ranges.specs.Ranges as R;
@@ -131,7 +131,7 @@ impl Domain for Range {
         }
     }
 
-    ghost bounded = { λ d x h. h.0.below };
+    ghost in_register = { λ d x h. h.0.below };
 
     ghost inside = { λ d w x h. range_inside d w x h };
 

@@ -1,4 +1,4 @@
-//! Known bits and limits together.
+//! Scalars: known bits and limits together.
 
 ghost use Rattle.std.specs.Prelude.{◌≡◌, ℕ, ◌+◌, ◌*◌, ◌%◌, ◌^◌, ◌<◌, ◌≤◌, pos, ◌-ℤ◌, ◌*ℤ◌, FitsSigned, ◌↔◌, Some, IsSomeAnd, IfSome, IsTrue};
 ghost use Rattle.std.specs.Int.{w32, w64, cast_signed, bit_at};
@@ -21,7 +21,7 @@ impl Scalar {
     ghost use Rattle.known_bits.specs.Bits as B;
     ghost use Rattle.reg_state.specs.Scalars.{Has, IsConstant};
 
-    // Bits and limits narrow each other; if one number is left, it is represented as a constant.
+    // Bits and limits narrow each other; if one number is left, it is known as a constant.
     fn tightened(self) -> Option<Scalar>
         ensures common { (x : ℕ) → Has self x → IsSomeAnd result (λ s. Has s x) }
         ensures narrower { IfSome result (λ s. (x : ℕ) → Has s x → Has self x) }
@@ -53,7 +53,7 @@ impl Scalar {
         }
     }
 
-    // The same; a set without members is returned unchanged.
+    // The set tightened; one without members is returned unchanged.
     fn settled(self) -> Scalar
         ensures contains { (x : ℕ) → Has self x → Has result x }
         ensures narrower { (x : ℕ) → Has result x → Has self x }
@@ -86,7 +86,7 @@ impl Scalar {
     }
 
     // Two sets, each from its bits and its range.
-    fn joined(bits: (Bits, Bits), ranges: (Range, Range)) -> Option<(Scalar, Scalar)>
+    fn paired(bits: (Bits, Bits), ranges: (Range, Range)) -> Option<(Scalar, Scalar)>
         ensures common { (x y : ℕ) → B.Has bits.0 x → R.Has ranges.0 x → B.Has bits.1 y
             → R.Has ranges.1 y
             → IsSomeAnd result (λ p. Has p.0 x × Has p.1 y) }
@@ -308,52 +308,52 @@ impl Domain for Scalar {
     fn equal(self, width: Width, other: Scalar) -> Option<(Scalar, Scalar)> {
         let bits = Domain::equal(self.bits, width, other.bits)?;
         let ranges = Domain::equal(self.range, width, other.range)?;
-        Scalar::joined(bits, ranges)
+        Scalar::paired(bits, ranges)
     }
 
     fn below(self, width: Width, other: Scalar) -> Option<(Scalar, Scalar)> {
         let bits = Domain::below(self.bits, width, other.bits)?;
         let ranges = Domain::below(self.range, width, other.range)?;
-        Scalar::joined(bits, ranges)
+        Scalar::paired(bits, ranges)
     }
 
     fn at_most(self, width: Width, other: Scalar) -> Option<(Scalar, Scalar)> {
         let bits = Domain::at_most(self.bits, width, other.bits)?;
         let ranges = Domain::at_most(self.range, width, other.range)?;
-        Scalar::joined(bits, ranges)
+        Scalar::paired(bits, ranges)
     }
 
     fn signed_below(self, width: Width, other: Scalar) -> Option<(Scalar, Scalar)> {
         let bits = Domain::signed_below(self.bits, width, other.bits)?;
         let ranges = Domain::signed_below(self.range, width, other.range)?;
-        Scalar::joined(bits, ranges)
+        Scalar::paired(bits, ranges)
     }
 
     fn signed_at_most(self, width: Width, other: Scalar) -> Option<(Scalar, Scalar)> {
         let bits = Domain::signed_at_most(self.bits, width, other.bits)?;
         let ranges = Domain::signed_at_most(self.range, width, other.range)?;
-        Scalar::joined(bits, ranges)
+        Scalar::paired(bits, ranges)
     }
 
     fn unequal(self, width: Width, other: Scalar) -> Option<(Scalar, Scalar)> {
         let bits = Domain::unequal(self.bits, width, other.bits)?;
         let ranges = Domain::unequal(self.range, width, other.range)?;
-        Scalar::joined(bits, ranges)
+        Scalar::paired(bits, ranges)
     }
 
     fn disjoint(self, width: Width, other: Scalar) -> Option<(Scalar, Scalar)> {
         let bits = Domain::disjoint(self.bits, width, other.bits)?;
         let ranges = Domain::disjoint(self.range, width, other.range)?;
-        Scalar::joined(bits, ranges)
+        Scalar::paired(bits, ranges)
     }
 
     fn overlapping(self, width: Width, other: Scalar) -> Option<(Scalar, Scalar)> {
         let bits = Domain::overlapping(self.bits, width, other.bits)?;
         let ranges = Domain::overlapping(self.range, width, other.range)?;
-        Scalar::joined(bits, ranges)
+        Scalar::paired(bits, ranges)
     }
 
-    ghost bounded = { λ d x h. h.0.below };
+    ghost in_register = { λ d x h. h.0.below };
 
     ghost inside = { λ d w x h. range_inside d.range w x h.1 };
 

@@ -25,7 +25,7 @@ impl Scalar {
         let (least, greatest) = limits(from, count, old, low_limits(count, other.range));
         let both = self.bits.spliced(from, count, other.bits);
         let (bits, least, greatest) = Scalar::shown(both, least, greatest);
-        let low = whole_low(from, count, self.range.low, other.range.low);
+        let low = given_low(from, count, self.range.low, other.range.low);
         let range = with_low(least, greatest, low);
         Scalar { bits, range }.single()
     }
@@ -71,7 +71,7 @@ fn limits(from: u64, count: u32, old: (u64, u64), new: (u64, u64)) -> (u64, u64)
 }
 
 // The limits of the low halves, if they are wholly those of one of the two.
-fn whole_low(from: u64, count: u32, old: Low, new: Low) -> Option<Low>
+fn given_low(from: u64, count: u32, old: Low, new: Low) -> Option<Low>
     requires inside { from + count ≤ 64 }
     ensures new { from ≡ 0 → count ≡ 32 → result ≡ Some new }
     ensures old { 32 ≤ from → result ≡ Some old }

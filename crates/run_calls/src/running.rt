@@ -16,7 +16,7 @@ use std::alloc::Global;
 use verdict_calls::judging::verified_of;
 use verdict_calls::statuses::{MEMORY, NotAccepted, OK, REFUSED, WRONG};
 
-/// What comes with a packet: a time in nanoseconds, which helper 5 returns, and the interface and
+/// What comes with a packet: a time in nanoseconds, which helper 5 answers, and the interface and
 /// queue that it came in by.
 #[repr(C)]
 #[derive(Clone, Copy, Drop)]

@@ -27,11 +27,11 @@ use Rattle.stack_state.specs.Calls.{kept_kinds, argument_kinds, unset_slots, cal
 
 -- ---- one frame more in the assignment
 
-frames-push : (frames : List ℕ) (serial f n : ℕ) → slice_get frames f ≡ Some n
-    → slice_get (frames ++ serial ∷ []) f ≡ Some n
+frames-push : (serials : List ℕ) (serial f n : ℕ) → slice_get serials f ≡ Some n
+    → slice_get (serials ++ serial ∷ []) f ≡ Some n
 frames-push [] serial f n is = absurd (cc)
-frames-push (x ∷ frames) serial zero n is = is
-frames-push (x ∷ frames) serial (suc f) n is = frames-push frames serial f n is
+frames-push (x ∷ serials) serial zero n is = is
+frames-push (x ∷ serials) serial (suc f) n is = frames-push serials serial f n is
 
 null_deeper : (e : Assigned) (serial m : ℕ) (o : Option ℕ) (v : Value) → AllowsOrNull e m o v
     → AllowsOrNull (with_new_frame e serial) m o v
@@ -195,11 +195,11 @@ stack_entered p e a s target j below m =
           let callee : j ≡ depth a = omega arith in
           let frame : call_frame_at (s.frames ++ new ∷ []) j ≡ new =
           ap (call_frame_at (s.frames ++ new ∷ [])) here ∙ last_frame s.frames new in
-          let slots : stack_slots_of (entered a target) j ≡ unset_slots =
+          let unknown : stack_slots_of (entered a target) j ≡ unset_slots =
           ap (stack_slots_of (entered a target)) callee
           ∙ ap (λ f. f.stack.slots) (abstract_frame_at-entered_callee a target) in
           subst (λ f. StackMeans more (stack_slots_of (entered a target) j) f.cells) (sym frame)
-          (subst (λ l. StackMeans more l new.cells) (sym slots)
+          (subst (λ l. StackMeans more l new.cells) (sym unknown)
           (StackMeans-new more new.cells (length-replicate stack_size Unwritten)))
     ]
 

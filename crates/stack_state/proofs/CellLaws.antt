@@ -60,11 +60,11 @@ none_unwritten (Piece r z k ∷ cs) h = absurd (let e : false ≡ true = h in cc
 -- bytes are read as their number
 pub number_in-bytes : (cs : List Cell) → list_all is_byte cs ≡ true
     → number_in cs ≡ Ok (number_of cs)
-number_in-bytes cs h = let set = none_unwritten cs h in rw (set, h)
+number_in-bytes cs h = let written = none_unwritten cs h in rw (written, h)
 
 pub value_in-bytes : (cs : List Cell) → list_all is_byte cs ≡ true
     → value_in cs ≡ Ok (Num (number_of cs))
-value_in-bytes cs h = let set = none_unwritten cs h in rw (set, h)
+value_in-bytes cs h = let written = none_unwritten cs h in rw (written, h)
 
 pub length-bytes_of : (size : Size) (n : ℕ) → length (bytes_of size n) ≡ size_bytes size
 length-bytes_of U8 n = refl

@@ -129,7 +129,7 @@ stack_written : (e : Assigned) (a : State) (s : Machine.State) (j i : ℕ) (slot
     → StackMeans e slots cells → StackMeans e (stack_slots_of a i) (call_frame_at s.frames i).cells
     → StackMeans e (stack_slots_of (with_frame_slots a j slots) i)
     (call_frame_at (with_cells s j cells).frames i).cells
-stack_written e a s j i slots cells inside live new old =
+stack_written e a s j i slots cells inside live stack stays =
     let f : AbstractFrame = with_slots (abstract_frame_at a j) slots in
     let g : CallFrame = record (call_frame_at s.frames j) { cells = cells } in
     elim (cases_eq i j) [
@@ -140,12 +140,12 @@ stack_written e a s j i slots cells inside live new old =
           (subst (λ h. StackMeans e h.stack.slots (call_frame_at (slice_set s.frames j g) j).cells)
           (sym (abstract_frame_at-with_frame_same a j f inside))
           (subst (λ h. StackMeans e slots h.cells)
-          (sym (get_or-set_same s.frames j g (new_call_frame 0 0 []) live)) new))
+          (sym (get_or-set_same s.frames j g (new_call_frame 0 0 []) live)) stack))
       | inr other ↦
           subst (λ h. StackMeans e h.stack.slots (call_frame_at (slice_set s.frames j g) i).cells)
           (sym (abstract_frame_at-with_frame_other a j i f inside other))
           (subst (λ h. StackMeans e (stack_slots_of a i) h.cells)
-          (sym (get_or-set_other s.frames j i g (new_call_frame 0 0 []) other)) old)
+          (sym (get_or-set_other s.frames j i g (new_call_frame 0 0 []) other)) stays)
     ]
 
 -- the jth frame has other cells, and slots that mean them

@@ -165,7 +165,7 @@ returns_last : (a : State) (d : ℕ)
 returns_last a d =
     let n : ℕ = length a.callers.items in
     let inside = length-map (frames_of a) return_slot_of in
-    let whole = length-frames_of a in
+    let long = length-frames_of a in
     get_or_any (map return_slot_of (frames_of a)) n d no_frame.return_slot (omega arith)
     ∙ get_or-map_default return_slot_of (frames_of a) n no_frame
     ∙ ap return_slot_of (abstract_frame_at-innermost a)
@@ -253,10 +253,10 @@ MeansBy-leave p e a s called is each m =
       stacks = λ j below.
           let same : call_frame_at (callers fs) j ≡ call_frame_at fs j =
           get_or-take (length fs - 1) fs j none (omega arith) in
-          let slots : stack_slots_of (left a) j
+          let stays : stack_slots_of (left a) j
           ≡ stack_slots_of a j = slots_left a j called below in
           subst (λ h. StackMeans f (stack_slots_of (left a) j) h.cells) (sym same)
-          (subst (λ l. StackMeans f l (call_frame_at fs j).cells) (sym slots)
+          (subst (λ l. StackMeans f l (call_frame_at fs j).cells) (sym stays)
           (StackMeans-change e f (stack_slots_of a j) (stack_slots_of a j)
           (call_frame_at fs j).cells
           (λ k cs inside. (each j (omega arith)).slots k cs inside)

@@ -1,4 +1,4 @@
--- What is read back whole from a slot, and what is left when a map is forgotten.
+-- Fills, which read back whole what a slot holds; and what is left when a map is forgotten.
 use Rattle.std.specs.Prelude.{◌≡◌, ◌≢◌, ℕ, ◌*◌, ◌^◌, ◌<◌, ◌==◌, Bool, true, false, if◌then◌else◌, ℤ, List, length, Option, Some, None, refl}
 use Rattle.std.proofs.Common.{sym, ap, ◌∙◌, subst, arith}
 use Rattle.std.proofs.lemmas.Bool.Decides.{nat_tests}
@@ -31,7 +31,7 @@ fills_written : (slots : List StackSlot) (k marks : ℕ) (loaded : Option Kind) 
     → slot_at slots k ≡ Written marks → IsWrittenFill marks loaded → LoadsSlot slots k loaded
 unfolding LoadsSlot
 fills_written slots k marks None within here is = tt
-fills_written slots k marks (Some kind) within here is = λ e rows next cells fit m.
+fills_written slots k marks (Some kind) within here is = λ e count next cells fit m.
     let wide : length cells ≡ stack_size = m.size in
     let marked : Marked 255 (chunk_of k cells) =
     subst (λ (s : StackSlot). SlotMeans e s (chunk_of k cells)) (here ∙ ap Written is.0)
@@ -40,7 +40,7 @@ fills_written slots k marks (Some kind) within here is = λ e rows next cells fi
     let all = all_bytes (chunk_of k cells)
     (λ i below. marked i (omega arith) (bit_at_ones 8 i (omega arith))) in
     let below : number_of (chunk_of k cells) < 2 ^ 64 =
-    part_below U64 rows next cells (8 * k) (omega arith) fit in (
+    part_below U64 count next cells (8 * k) (omega arith) fit in (
       Num (number_of (chunk_of k cells)),
       value_in-bytes (chunk_of k cells) all,
       any_number e kind _ below is.1,
@@ -49,7 +49,7 @@ fills_written slots k marks (Some kind) within here is = λ e rows next cells fi
 fills_spilled : (slots : List StackSlot) (k : ℕ) (kind : Kind) → k < frame_slots → kind ≢ Unset
     → slot_at slots k ≡ Spilled kind → LoadsSlot slots k (Some kind)
 unfolding LoadsSlot
-fills_spilled slots k kind within set here = λ e rows next cells fit m.
+fills_spilled slots k kind within set here = λ e count next cells fit m.
     let h : SlotMeans e (Spilled kind) (chunk_of k cells) =
     subst (λ (s : StackSlot). SlotMeans e s (chunk_of k cells)) here (m.each k within) in
     (h.0, ap value_in h.2 ∙ value_stored e kind h.0 set h.1, h.1)
@@ -134,6 +134,6 @@ SlotMeans-forgotten e maps m (Spilled k) cs keeps h = h
 pub forgets : (slots : List StackSlot) (m : ℕ) → length slots ≡ frame_slots
     → ForgetsMap m slots (forgotten m slots)
 unfolding ForgetsMap
-forgets slots m count = λ e maps cells keeps means.
-    StackMeans-map (forgotten_slot m) e (with_maps e maps) slots cells count
+forgets slots m count_is = λ e maps cells keeps means.
+    StackMeans-map (forgotten_slot m) e (with_maps e maps) slots cells count_is
     (λ s cs. SlotMeans-forgotten e maps m s cs keeps) means

@@ -26,14 +26,14 @@ use Rattle.stack_state.specs.declared.slots.StackSlot.{StackSlot}
 use Rattle.stack_state.specs.StackMeaning.{part_of, cells_with, stored_cells, StackMeans, StoresBytes, Spills, LoadsNumber, LoadsSlot}
 use Rattle.stack_state.proofs.CellLaws.{length-bytes_of}
 
--- a pointer into the frame of serial n, which is the jth, moved by an instruction's offset: n cells
--- from `at` on are there
+-- a pointer into the frame of this serial, which is the jth, moved by an instruction's offset: n
+-- cells from `at` on are there
 pub record IsHere (s : State) (serial j at n : ℕ) (z by : ℤ) : Type 0 where
   pub found : call_frame_index s.frames serial ≡ Some j
   pub index : index_from ((z +ℤ by) +ℤ pos stack_size) ≡ Some at
   pub inside : at + n ≤ length (call_frame_at s.frames j).cells
 
--- the state with other cells in the jth frame
+-- the machine state with other cells in the jth frame
 abbrev pub with_cells : State → ℕ → List Cell → State
 with_cells s j cells =
     record s { frames = slice_set s.frames j (record (call_frame_at s.frames j) { cells = cells }) }
@@ -70,30 +70,30 @@ load_here s serial j at z by h = rw (read_here s serial j at 8 z by h)
 
 -- where `load` returns numbers, the load of the bytes returns one of them
 pub loads_here : (e : Assigned) (s : State) (slots : List StackSlot) (size : Size)
-    (serial j at rows next : ℕ) (z by : ℤ) (numbers : Scalar)
+    (serial j at count next : ℕ) (z by : ℤ) (numbers : Scalar)
     → IsHere s serial j at (size_bytes size) z by
-    → All (IsCell rows next) (call_frame_at s.frames j).cells
+    → All (IsCell count next) (call_frame_at s.frames j).cells
     → StackMeans e slots (call_frame_at s.frames j).cells → LoadsNumber slots at size (Some numbers)
     → (n : ℕ) × (load_number s size (Ptr (region.CallFrame serial) z) by ≡ Ok n) × Has numbers n
 unfolding LoadsNumber
-loads_here e s slots size serial j at rows next z by numbers h fit m l =
-    let (n, read, has) = l e rows next (call_frame_at s.frames j).cells fit m in
+loads_here e s slots size serial j at count next z by numbers h fit m l =
+    let (n, read, has) = l e count next (call_frame_at s.frames j).cells fit m in
     (n, load_number_here s size serial j at z by h ∙ read, has)
 
 -- where `fill` returns a kind, the load of the whole slot returns a value that it allows
-pub fills_here : (e : Assigned) (s : State) (slots : List StackSlot) (serial j k rows next : ℕ)
+pub fills_here : (e : Assigned) (s : State) (slots : List StackSlot) (serial j k count next : ℕ)
     (z by : ℤ) (kind : Kind)
-    → IsHere s serial j (8 * k) 8 z by → All (IsCell rows next) (call_frame_at s.frames j).cells
+    → IsHere s serial j (8 * k) 8 z by → All (IsCell count next) (call_frame_at s.frames j).cells
     → StackMeans e slots (call_frame_at s.frames j).cells → LoadsSlot slots k (Some kind)
     → (v : Value) × (load s U64 (Ptr (region.CallFrame serial) z) by ≡ Ok v) × Allows e kind v
 unfolding LoadsSlot
-fills_here e s slots serial j k rows next z by kind h fit m f =
-    let (v, read, allowed) = f e rows next (call_frame_at s.frames j).cells fit m in
+fills_here e s slots serial j k count next z by kind h fit m f =
+    let (v, read, allowed) = f e count next (call_frame_at s.frames j).cells fit m in
     (v, load_here s serial j (8 * k) z by h ∙ read, allowed)
 
 -- ---- stores
 
--- the state that is left, and what the frame's slots then mean
+-- the machine state that is left, and what the frame's slots then mean
 abbrev pub LeavesFrame : State → ℕ → Assigned → List StackSlot → Result State TrapReason → Type 0
 LeavesFrame s j e slots went =
     (cells : List Cell) × (went ≡ Ok (with_cells s j cells)) × StackMeans e slots cells

@@ -51,24 +51,24 @@ pub call_frame_index-serial : (p : Program) (s : Machine.State) (j n : ℕ) → 
 call_frame_index-serial p s j n is found =
     let fs : List CallFrame = s.frames in
     let none : CallFrame = new_call_frame 0 0 [] in
-    let values : List ℕ = flat_map value_serials s.maps in
+    let ns : List ℕ = flat_map value_serials s.maps in
     let serials : List ℕ = map (λ f. f.serial) fs in
     let count : length serials ≡ length fs = length-map fs (λ f. f.serial) in
-    let long : length (values ++ serials) ≡ length values + length serials =
-    length-append values serials in
+    let long : length (ns ++ serials) ≡ length ns + length serials =
+    length-append ns serials in
     let inside : j < length serials = slice_get_within serials j n found in
     let serial_at : (k : ℕ) → k < length fs
     → slice_index_or serials k 0 ≡ (call_frame_at fs k).serial =
     (λ k below. get_or-map (λ f. f.serial) fs k none 0 below) in
     let given_at : (k : ℕ)
-    → slice_index_or (values ++ serials) (length values + k) 0 ≡ slice_index_or serials k 0 =
-    (λ k. let back : (length values + k) - length values ≡ k = omega arith in
-    get_or-append_right values serials (length values) (length values + k) 0 refl (omega arith)
+    → slice_index_or (ns ++ serials) (length ns + k) 0 ≡ slice_index_or serials k 0 =
+    (λ k. let back : (length ns + k) - length ns ≡ k = omega arith in
+    get_or-append_right ns serials (length ns) (length ns + k) 0 refl (omega arith)
     ∙ ap (λ i. slice_index_or serials i 0) back) in
     let here : (call_frame_at fs j).serial ≡ n = sym (serial_at j (omega arith))
     ∙ get_or_from_slice_get serials j n 0 found in
     let before : (k : ℕ) → k < j → (call_frame_at fs k).serial ≢ n =
-    (λ k below same. is.once (length values + k) (length values + j) 0 (omega arith) (omega arith)
+    (λ k below same. is.once (length ns + k) (length ns + j) 0 (omega arith) (omega arith)
     (given_at k ∙ serial_at k (omega arith) ∙ same ∙ sym here ∙ sym (serial_at j (omega arith))
     ∙ sym (given_at j))) in
     let first : position_or_len (λ f. f.serial == n) fs ≡ j =

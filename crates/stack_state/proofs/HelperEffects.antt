@@ -116,10 +116,6 @@ same_identity i = grind (arith, nat_tests)
 found_here : (e : Assigned) (i : ℕ) (o : Option ℕ) → (with_map_value e i o).map_value i ≡ o
 found_here e i o = ap (λ (b : Bool). if b then o else e.map_value i) (same_identity i)
 
-serial_of : Option Stored → Option ℕ
-serial_of (Some stored) = Some stored.serial
-serial_of None = None
-
 -- a key's value is live
 pub HasLiveValue-at_key : (maps : List Content) (m : ℕ) (key : List ℕ) (stored : Stored)
     → at_key key (slice_index_or maps m []) ≡ Some stored → HasLiveValue maps m stored.serial

@@ -226,7 +226,7 @@ IsFreshIn-innermost sort a i h =
     subst (λ f. IsFreshIn sort f i) (abstract_frame_at-innermost a)
     (record { registers = h.registers n; slots = h.slots n })
 
--- the first one from 1 up without a mark, after a search of all frames
+-- the first one from 1 up without a mark, once all frames are marked
 pub IsLeastFresh-marks : (sort : IdentitySort) (a : State) (m n i : ℕ) (none mid marks : List Bool)
     → Marks (AreFree (IsFreshAt sort a.callers.items) (length a.callers.items)) m none mid
     → Marks (IsFreshIn sort a.innermost) n mid marks
@@ -247,7 +247,7 @@ IsLeastFresh-marks sort a m n i none mid marks callers innermost empty some insi
       ];
     }
 
--- nothing is marked before a search
+-- nothing is marked at first
 pub is_marked-replicate : (n i : ℕ) → is_marked (replicate n false) i ≡ false
 is_marked-replicate zero i = refl
 is_marked-replicate (suc n) zero = refl

@@ -80,7 +80,7 @@ frame_pointer_allowed p e a s m =
     let serial : slice_index_or serials last none.serial ≡ (innermost s.frames).serial =
     get_or-map_default (λ f. f.serial) s.frames last none in (
       (innermost s.frames).serial,
-      ap (λ frames. slice_get frames (length a.callers.items)) m.assigned.serials
+      ap (λ l. slice_get l (length a.callers.items)) m.assigned.serials
           ∙ ap (slice_get serials) here ∙ found ∙ ap Some serial,
       m.pointer,
     )

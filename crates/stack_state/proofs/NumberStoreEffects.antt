@@ -40,13 +40,13 @@ write_there s serial j at z by new h =
     rw (h.index, h.found, inside)
 
 stores_number_here : (e : Assigned) (s : Machine.State) (old new : List StackSlot) (size : Size)
-    (serial j at n rows next : ℕ) (z by : ℤ) (numbers : Scalar)
+    (serial j at n count next : ℕ) (z by : ℤ) (numbers : Scalar)
     → IsHere s serial j at (size_bytes size) z by
-    → All (IsCell rows next) (call_frame_at s.frames j).cells → Has numbers n
+    → All (IsCell count next) (call_frame_at s.frames j).cells → Has numbers n
     → StackMeans e old (call_frame_at s.frames j).cells → StoresNumber old at size numbers new
     → LeavesFrame s j e new (store s size (Ptr (region.CallFrame serial) z) by (Num n))
 unfolding StoresNumber
-stores_number_here e s old new size serial j at n rows next z by numbers h fit has m stores =
+stores_number_here e s old new size serial j at n count next z by numbers h fit has m stores =
     let bytes : List Cell = map Byte (bytes_of size n) in
     let long : length bytes ≡ size_bytes size = length-map (bytes_of size n) Byte
     ∙ length-bytes_of size n in
@@ -54,13 +54,13 @@ stores_number_here e s old new size serial j at n rows next z by numbers h fit h
     subst (λ (k : ℕ). IsHere s serial j at k z by) (sym long) h in (
       cells_with (call_frame_at s.frames j).cells at bytes,
       write_there s serial j at z by bytes here,
-      stores e rows next (call_frame_at s.frames j).cells n fit has m,
+      stores e count next (call_frame_at s.frames j).cells n fit has m,
     )
 
 frame_cells_fit : (p : Program) (e : Assigned) (a : State) (s : Machine.State) (j : ℕ) → j < depth a
     → MeansBy p e a s → All (IsCell (length p.maps) s.next_serial) (call_frame_at s.frames j).cells
 frame_cells_fit p e a s j inside m =
-    let count = depth_is_length p e a s m in
+    let depth_is = depth_is_length p e a s m in
     let fits : IsCallFrame p s.next_serial (call_frame_at s.frames j) =
     m.is_state.frames j (new_call_frame 0 0 []) (omega arith) in
     fits.cells

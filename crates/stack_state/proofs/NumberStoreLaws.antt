@@ -156,14 +156,14 @@ whole_has e (Spilled (Number numbers)) cs old whole h fits =
 whole_has e (Spilled k) cs old whole h fits = whole (number_of cs) fits
 
 -- the slot that is left means its cells
-slot_stored : (e : Assigned) (rows next : ℕ) (s t : StackSlot) (cells : List Cell) (at n : ℕ)
+slot_stored : (e : Assigned) (count next : ℕ) (s t : StackSlot) (cells : List Cell) (at n : ℕ)
     (size : Size) (numbers : Scalar)
     → at % 8 + size_bytes size ≤ 8 → at + size_bytes size ≤ length cells
-    → 8 * (at / 8) + 8 ≤ length cells → All (IsCell rows next) cells
+    → 8 * (at / 8) + 8 ≤ length cells → All (IsCell count next) cells
     → Has numbers n → SlotMeans e s (chunk_of (at / 8) cells) → marks_after s (at % 8) size ≡ 255
     → IsSplicedSlot s (at % 8) size numbers t
     → SlotMeans e t (chunk_of (at / 8) (cells_with cells at (map Byte (bytes_of size n))))
-slot_stored e rows next s t cells at n size numbers inside fits eight fit has h all is =
+slot_stored e count next s t cells at n size numbers inside fits eight fit has h all is =
     let small : n < 2 ^ 64 = has.0.below in
     let bytes : List ℕ = bytes_of size n in
     let some : length bytes ≡ size_bytes size = length-bytes_of size n in
@@ -171,14 +171,14 @@ slot_stored e rows next s t cells at n size numbers inside fits eight fit has h 
     let old : List Cell = chunk_of (at / 8) cells in
     let new : List Cell = chunk_of (at / 8) (cells_with cells at (map Byte bytes)) in
     let wide = length-cells_with cells (map Byte bytes) at (omega arith) in
-    let old_fit : All (IsCell rows next) old =
-    All-take (IsCell rows next) 8 _ (All-drop (IsCell rows next) (8 * (at / 8)) cells fit) in
+    let old_fit : All (IsCell count next) old =
+    All-take (IsCell count next) 8 _ (All-drop (IsCell count next) (8 * (at / 8)) cells fit) in
     let old_bytes : EachByte (map byte_in old) =
-    slice_index_fits (map byte_in old) (bytes_in_fit rows next old old_fit) in
+    slice_index_fits (map byte_in old) (bytes_in_fit count next old old_fit) in
     let before : Marked (marks_of s) old = marked_slot e s old h in
     let marked : Marked (bit_or (marks_of s) (mask_of (at % 8) (at % 8 + length bytes))) new =
     marked_after (marks_of s) at cells bytes (omega arith) (omega arith) before in
-    let whole : Marked 255 new =
+    let full : Marked 255 new =
     subst (λ m. Marked m new)
     (ap (λ k. bit_or (marks_of s) (mask_of (at % 8) (at % 8 + k))) some ∙ all) marked in
     let number = number_of-spliced cells at n size inside fits small old_bytes in
@@ -191,10 +191,10 @@ slot_stored e rows next s t cells at n size numbers inside fits eight fit has h 
     let same : new ≡ stored_cells (Num (number_of new)) =
     stored_bytes new
     (length-chunk (at / 8) (cells_with cells at (map Byte bytes)) (omega arith)) new_bytes
-    (λ i below. whole i below (bit_at_ones 8 i below)) in
+    (λ i below. full i below (bit_at_ones 8 i below)) in
     let one : Has is.new (number_of new) = subst (Has is.new) (sym number)
     (is.spliced.contains (number_of old) n
-    (whole_has e s old is.old is.whole h (number_of_fits rows next old old_fit)) has) in
+    (whole_has e s old is.old is.whole h (number_of_fits count next old old_fit)) has) in
     SlotMeans-spill e (Number is.new) t (Num (number_of new)) new is.left
     (number_of new, refl, one) same
 
@@ -203,7 +203,7 @@ pub stores_number : (slots : List StackSlot) (at : ℕ) (size : Size) (numbers :
     → at % 8 + size_bytes size ≤ 8 → IsSlotStored (slot_at slots (at / 8)) (at % 8) size numbers t
     → StoresNumber slots at size numbers (slice_set slots (at / 8) t)
 unfolding StoresNumber
-stores_number slots at size numbers t count below inside is = λ e rows next cells n fit has m.
+stores_number slots at size numbers t count_is below inside is = λ e count next cells n fit has m.
     let wide : length cells ≡ stack_size = m.size in
     let bytes : List ℕ = bytes_of size n in
     let some : length bytes ≡ size_bytes size = length-bytes_of size n in
@@ -221,7 +221,7 @@ stores_number slots at size numbers t count below inside is = λ e rows next cel
     elim (cases_eq (marks_after s (at % 8) size) 255) [
       | inl all ↦ elim (is.whole all) [
         | inl known ↦
-            slot_stored e rows next s t cells at n size numbers inside (omega arith)
+            slot_stored e count next s t cells at n size numbers inside (omega arith)
             (omega arith) fit has before all known
         | inr blank ↦
             subst (λ (u : StackSlot).
@@ -233,7 +233,7 @@ stores_number slots at size numbers t count below inside is = λ e rows next cel
           SlotMeans e u (chunk_of (at / 8) (cells_with cells at (map Byte bytes))))
           (sym (is.parts other)) marked
     ] in
-    slot_changed e slots cells (map Byte bytes) at (at / 8) t count within (omega arith)
+    slot_changed e slots cells (map Byte bytes) at (at / 8) t count_is within (omega arith)
     (omega arith) m after
 
 -- each size is at least one byte

@@ -1,4 +1,4 @@
--- What a register's kind is after one was set.
+-- Laws of the places of an abstract state: what a register's kind is after one was set.
 use Rattle.std.specs.Prelude.{◌≡◌, ◌≢◌, ℕ, zero, suc, ◌⊎◌, List, [], ◌∷◌, slice_set, refl}
 use Rattle.std.proofs.Common.{sym, ap, ◌∙◌, subst, inl, inr}
 use Rattle.std.proofs.lemmas.Bool.{cases_eq}
@@ -47,7 +47,7 @@ pub kind_of-with_other : (a : State) (r q : Reg) (k : Kind) → q ≢ r
     → kind_of (with_register a r k) q ≡ kind_of a q
 kind_of-with_other a r q k other =
     elim (same_or_other q R10) [
-      | inl end ↦ subst (λ q. kind_of (with_register a r k) q ≡ kind_of a q) (sym end) refl
+      | inl same ↦ subst (λ q. kind_of (with_register a r k) q ≡ kind_of a q) (sym same) refl
       | inr own ↦ kind_of-registers (with_register a r k) q own
           ∙ get_or-set_other (registers_of a) (reg_number r) (reg_number q) k Unset
           (λ h. other (same_number q r h))

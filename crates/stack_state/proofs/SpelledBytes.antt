@@ -30,7 +30,7 @@ spelled-zero f (suc n) h = rw (h n) (omega (arith, spelled-zero f n h))
 spelled-below : (f : ℕ → ℕ) (n : ℕ) → ((i : ℕ) → f i < 256) → spelled f n < 256 ^ n
 spelled-below f zero h = omega arith
 spelled-below f (suc n) h =
-    let whole = mul-add-lt (f n) (256 ^ n) (spelled f n) 256 (h n) (spelled-below f n h) in
+    let sum = mul-add-lt (f n) (256 ^ n) (spelled f n) 256 (h n) (spelled-below f n h) in
     omega arith
 
 -- those from an index on, and those before it

@@ -62,8 +62,8 @@ pub slot_changed : (e : Assigned) (slots : List StackSlot) (cells new : List Cel
     → 8 * k ≤ at → at + length new ≤ 8 * k + 8 → StackMeans e slots cells
     → SlotMeans e s (chunk_of k (cells_with cells at new))
     → StackMeans e (slice_set slots k s) (cells_with cells at new)
-slot_changed e slots cells new at k s count within from to m h =
-    let size : length cells ≡ stack_size = m.size in
+slot_changed e slots cells new at k s count_is within from to m h =
+    let wide : length cells ≡ stack_size = m.size in
     record {
       size = length-cells_with cells new at (omega arith) ∙ m.size;
       each = λ j below. elim (cases_eq j k) [
@@ -93,7 +93,7 @@ pub StackMeans-map : (g : StackSlot → StackSlot) (e f : Assigned) (slots : Lis
     (cells : List Cell) → length slots ≡ frame_slots
     → ((s : StackSlot) (cs : List Cell) → SlotMeans e s cs → SlotMeans f (g s) cs)
     → StackMeans e slots cells → StackMeans f (map g slots) cells
-StackMeans-map g e f slots cells count each m =
+StackMeans-map g e f slots cells count_is each m =
     StackMeans-change e f slots (map g slots) cells
     (λ k cs below h.
     subst (λ (s : StackSlot). SlotMeans f s cs)
@@ -131,7 +131,7 @@ pub stores : (slots new : List StackSlot) (at : ℕ) (size : Size) → length sl
     → at < stack_size → at % 8 + size_bytes size ≤ 8
     → new ≡ after_store slots at (size_bytes size) → StoresBytes slots at size new
 unfolding StoresBytes
-stores slots new at size count below inside is = λ e cells n m.
+stores slots new at size count_is below inside is = λ e cells n m.
     let bytes : List ℕ = bytes_of size n in
     let some : length bytes ≡ size_bytes size = length-bytes_of size n in
     let long : length (map Byte bytes) ≡ length bytes = length-map bytes Byte in
@@ -147,7 +147,7 @@ stores slots new at size count below inside is = λ e cells n m.
     (cells_with cells at (map Byte bytes)) =
     slot_changed e slots cells (map Byte bytes) at (at / 8)
     (Written (bit_or marks (mask_of (at % 8) (at % 8 + length bytes))))
-    count within (omega arith) (omega arith) m after in
+    count_is within (omega arith) (omega arith) m after in
     subst (λ (l : List StackSlot). StackMeans e l (cells_with cells at (map Byte bytes)))
     (ap (after_store slots at) some ∙ sym is) all
 
@@ -171,12 +171,12 @@ pub spills : (slots new : List StackSlot) (k : ℕ) (kind : Kind) → length slo
     → k < frame_slots → IsSpill kind (slot_at new k)
     → new ≡ slice_set slots k (slot_at new k) → Spills slots k kind new
 unfolding Spills
-spills slots new k kind count within is others = λ e cells v set allowed m.
+spills slots new k kind count_is within is others = λ e cells v set allowed m.
     let wide : length cells ≡ stack_size = m.size in
     let eight : length (stored_cells v) ≡ 8 = length-stored_cells v set in
     subst (λ (l : List StackSlot). StackMeans e l (cells_with cells (8 * k) (stored_cells v)))
     (sym others)
-    (slot_changed e slots cells (stored_cells v) (8 * k) k (slot_at new k) count within
+    (slot_changed e slots cells (stored_cells v) (8 * k) k (slot_at new k) count_is within
     (omega arith) (omega arith) m
     (SlotMeans-spill e kind (slot_at new k) v _ is allowed
     (chunk_whole cells (stored_cells v) k eight (omega arith))))
@@ -216,20 +216,20 @@ are_bytes slots from n inside marked = λ e cells m.
     let all = marked_are_bytes e slots cells from n inside marked m in
     (all, number_in-bytes (part_of cells from n) all)
 
--- bytes of a state spell a number that fits them
-pub part_below : (size : Size) (rows next : ℕ) (cells : List Cell) (at : ℕ)
-    → at + size_bytes size ≤ length cells → All (IsCell rows next) cells
+-- bytes of a machine state spell a number that fits them
+pub part_below : (size : Size) (count next : ℕ) (cells : List Cell) (at : ℕ)
+    → at + size_bytes size ≤ length cells → All (IsCell count next) cells
     → number_of (part_of cells at (size_bytes size)) < 2 ^ (8 * size_bytes size)
-part_below size rows next cells at inside fit =
+part_below size count next cells at inside fit =
     let part : List Cell = part_of cells at (size_bytes size) in
     let rest = length-drop at cells in
     let long : length part ≡ size_bytes size =
     length-take-le (size_bytes size) (drop at cells) (omega arith) in
     let bytes : List ℕ = map byte_in part in
-    let fits = All-take (IsCell rows next) (size_bytes size) (drop at cells)
-    (All-drop (IsCell rows next) at cells fit) in
+    let fits = All-take (IsCell count next) (size_bytes size) (drop at cells)
+    (All-drop (IsCell count next) at cells fit) in
     number_from_below size bytes (length-map part byte_in ∙ long)
-    (slice_index_fits bytes (bytes_in_fit rows next part fits))
+    (slice_index_fits bytes (bytes_in_fit count next part fits))
 
 -- of a whole spilled number, its own is read
 whole_number : (e : Assigned) (numbers : Scalar) (cs : List Cell)
@@ -260,10 +260,10 @@ spelled_part : (e : Assigned) (numbers loaded : Scalar) (cells : List Cell) (at 
     → SlotMeans e (Spilled (Number numbers)) (chunk_of (at / 8) cells)
     → Has loaded (number_of (part_of cells at (size_bytes size)))
 spelled_part e numbers loaded cells at size inside are h =
-    let bytes : List Cell = chunk_of (at / 8) cells in
-    let here : part_of cells at (size_bytes size) ≡ part_of bytes (at % 8) (size_bytes size) =
+    let chunk : List Cell = chunk_of (at / 8) cells in
+    let here : part_of cells at (size_bytes size) ≡ part_of chunk (at % 8) (size_bytes size) =
     part_of-chunk cells at (size_bytes size) inside in
-    let stays : bytes ≡ stored_cells (Num h.1.0) = h.2 ∙ ap stored_cells h.1.1 in
+    let stays : chunk ≡ stored_cells (Num h.1.0) = h.2 ∙ ap stored_cells h.1.1 in
     let spelled = ap (λ (cs : List Cell). number_of (part_of cs (at % 8) (size_bytes size))) stays
     ∙ number_of-part h.1.0 (at % 8) size h.1.2.0.below inside in
     subst (Has loaded) (sym (ap number_of here ∙ spelled)) (are.contains h.1.0 h.1.2)
@@ -289,7 +289,7 @@ pub loads : (slots : List StackSlot) (at : ℕ) (size : Size) (loaded : Option S
     → IsLoad slots at size loaded → LoadsNumber slots at size loaded
 unfolding LoadsNumber
 loads slots at size None below inside is = tt
-loads slots at size (Some numbers) below inside is = λ e rows next cells fit m.
+loads slots at size (Some numbers) below inside is = λ e count next cells fit m.
     let wide : length cells ≡ stack_size = m.size in
     let within : at / 8 < frame_slots = omega arith in
     let all = marked_are_bytes e slots cells at (size_bytes size) (omega arith) is.0 m in (
@@ -297,5 +297,5 @@ loads slots at size (Some numbers) below inside is = λ e rows next cells fit m.
       number_in-bytes (part_of cells at (size_bytes size)) all,
       part_number e (slot_at slots (at / 8)) cells at size numbers inside is.1
           (m.each (at / 8) within)
-          (part_below size rows next cells at (omega arith) fit),
+          (part_below size count next cells at (omega arith) fit),
     )

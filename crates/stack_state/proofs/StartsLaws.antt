@@ -42,7 +42,7 @@ first_allowed e serial (suc (suc (suc (suc (suc (suc (suc (suc zero)))))))) = tt
 first_allowed e serial (suc (suc (suc (suc (suc (suc (suc (suc (suc zero))))))))) = tt
 first_allowed e serial (suc (suc (suc (suc (suc (suc (suc (suc (suc (suc k)))))))))) = tt
 
--- all bytes of the first call frame are unset
+-- all bytes of the first call frame are unwritten
 first_stack : (e : Assigned) (serial j : ℕ) (saved : List Value) → j < 1
     → StackMeans e (stack_slots_of start j)
     (call_frame_at (new_call_frame serial 0 saved ∷ []) j).cells
@@ -51,7 +51,7 @@ first_stack e serial zero saved below =
     StackMeans-new e (replicate stack_size Unwritten) (length-replicate stack_size Unwritten)
 first_stack e serial (suc j) saved below = absurd (omega arith)
 
--- it means every state in which a run begins
+-- it means every machine state in which a run begins
 pub Means-start : (p : Program) (head : FrameHead) (packet : List ℕ) (contents : List KeyValues)
     → IsProgram p
     → IsGiven p head packet contents → Means p start (start_state head packet contents)

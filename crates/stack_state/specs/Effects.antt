@@ -54,7 +54,7 @@ proved_kind i n (Packet fixed identity least greatest proved) =
     Packet fixed identity least greatest (if identity == i then max proved n else proved)
 proved_kind i n k = k
 
--- what a value of the identity is, once it is known whether it is null
+-- the kind of a value of the identity, once it is known whether it is null
 abbrev pub tested_value : Bool → Scalar → ℕ → Kind
 tested_value true zeros m = Number zeros
 tested_value false zeros m = MapValue m (pos 0) (pos 0)

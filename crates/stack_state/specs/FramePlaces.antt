@@ -11,7 +11,7 @@ use Rattle.stack_state.specs.Slots.{after_store, IsSpill}
 use Rattle.stack_state.specs.StackMeaning.{StoresBytes, Spills}
 use Rattle.stack_state.specs.Effects.{with_frame_slots}
 
--- n bytes of a frame from a place on; `None`: they are not all in the frame
+-- n bytes of a frame from an offset on, counted from its start; `None`: they are not all in it
 abbrev pub FindsBytes : ℤ → ℕ → Option ℕ → Type 0
 FindsBytes z n (Some at) = (z ≡ pos at) × (at + n ≤ stack_size)
 FindsBytes z n None = (at : ℕ) → z ≡ pos at → ¬ (at + n ≤ stack_size)

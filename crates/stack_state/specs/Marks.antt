@@ -1,5 +1,4 @@
--- Which identities are used: a mark for each of the lowest ones, in a search for one that no kind
--- uses.
+-- Which identities are used: a mark for each of the lowest ones, to find one that no kind uses.
 use Rattle.std.specs.Prelude.{◌≡◌, ◌≢◌, ℕ, suc, ◌+◌, ◌<◌, ◌≤◌, ◌⊎◌, Bool, true, false, List, [], ◌∷◌, length, slice_index_or, Some}
 use Rattle.reg_state.specs.declared.kinds.Kind.{Kind}
 use Rattle.stack_state.specs.declared.identities.IdentitySort.{IdentitySort}
@@ -35,9 +34,11 @@ IsFreshAt sort frames j i = IsFreshIn sort (slice_index_or frames j no_frame) i
 
 -- ---- marks
 
+-- identity i is marked
 abbrev pub is_marked : List Bool → ℕ → Bool
 is_marked marks i = slice_index_or marks i false
 
+-- how many identities are marked
 unfoldable pub marked : List Bool → ℕ
 marked [] = 0
 marked (true ∷ marks) = suc (marked marks)

@@ -63,7 +63,7 @@ pub record IsSlotStored (s : StackSlot) (from : ℕ) (size : Size) (numbers : Sc
 -- bytes of one of the numbers, stored from a place on into the cells that the slots mean
 unfoldable pub StoresNumber : List StackSlot → ℕ → Size → Scalar → List StackSlot → Type 0
 StoresNumber old at size numbers new =
-    (e : Assigned) (rows next : ℕ) (cells : List Cell) (n : ℕ) → All (IsCell rows next) cells
+    (e : Assigned) (count next : ℕ) (cells : List Cell) (n : ℕ) → All (IsCell count next) cells
     → Has numbers n → StackMeans e old cells
     → StackMeans e new (cells_with cells at (map Byte (bytes_of size n)))
 

@@ -1,4 +1,5 @@
--- The registers of an abstract state, and the state with one of them changed.
+-- Places of an abstract state: its registers. The state with another kind in one of them, or at
+-- another slot of the code.
 use Rattle.std.specs.Prelude.{ℕ, pos, length, slice_set}
 use Rattle.isa_model.specs.declared.registers.Reg.{Reg}
 use Rattle.isa_model.specs.declared.registers.Reg.TheVariants.{R10}

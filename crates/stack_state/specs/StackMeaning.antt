@@ -76,14 +76,15 @@ Spills old k kind new =
 -- the number that a load returns is one of these
 unfoldable pub LoadsNumber : List StackSlot → ℕ → Size → Option Scalar → Type 0
 LoadsNumber slots at size loaded =
-    IfSome loaded (λ numbers. (e : Assigned) (rows next : ℕ) (cells : List Cell)
-    → All (IsCell rows next) cells → StackMeans e slots cells
+    IfSome loaded (λ numbers. (e : Assigned) (count next : ℕ) (cells : List Cell)
+    → All (IsCell count next) cells → StackMeans e slots cells
     → (n : ℕ) × (number_in (part_of cells at (size_bytes size)) ≡ Ok n) × Has numbers n)
 
 -- the value that a load of a whole slot returns is one that the kind allows
 unfoldable pub LoadsSlot : List StackSlot → ℕ → Option Kind → Type 0
-LoadsSlot slots k loaded = IfSome loaded (λ kind. (e : Assigned) (rows next : ℕ) (cells : List Cell)
-    → All (IsCell rows next) cells → StackMeans e slots cells
+LoadsSlot slots k loaded =
+    IfSome loaded (λ kind. (e : Assigned) (count next : ℕ) (cells : List Cell)
+    → All (IsCell count next) cells → StackMeans e slots cells
     → (v : Value) × (value_in (chunk_of k cells) ≡ Ok v) × Allows e kind v)
 
 -- the cells are number bytes, and a load of them returns their number

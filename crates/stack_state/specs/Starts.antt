@@ -10,8 +10,8 @@ abbrev pub first_registers : List Kind
 first_registers =
     Unset ∷ Context ∷ Unset ∷ Unset ∷ Unset ∷ Unset ∷ Unset ∷ Unset ∷ Unset ∷ Unset ∷ []
 
--- slot 0 of the code, in one call frame: r1 points to the context, and the rest and all bytes are
--- unset
+-- slot 0 of the code, in one call frame: r1 points to the context, the other registers are unset,
+-- and all bytes unwritten
 unfoldable pub start : State
 start =
     record {

@@ -31,7 +31,7 @@ pub enum Fact {
 }
 
 /// What is known of a value once the bytes are proved.
-fn proved(kind: Kind, identity: u32, bytes: u32) -> Kind
+fn proved_kind(kind: Kind, identity: u32, bytes: u32) -> Kind
     ensures { result ≡ proved_kind identity bytes kind }
 {
     match kind {
@@ -59,7 +59,7 @@ fn proved(kind: Kind, identity: u32, bytes: u32) -> Kind
 }
 
 /// What is known of a value once it is known whether values of its identity are null.
-fn tested(kind: Kind, identity: u32, null: bool, zero: Scalar) -> Kind
+fn tested_kind(kind: Kind, identity: u32, null: bool, zero: Scalar) -> Kind
     ensures { result ≡ tested_kind identity null zero kind }
 {
     match kind {
@@ -84,7 +84,7 @@ fn tested(kind: Kind, identity: u32, null: bool, zero: Scalar) -> Kind
 }
 
 /// What is known of a value once the frame has ended.
-fn ended(kind: Kind, frame: u8) -> Kind
+fn without_frame(kind: Kind, frame: u8) -> Kind
     ensures { result ≡ without_frame frame kind }
 {
     match kind {
@@ -97,13 +97,13 @@ fn learned_kind(fact: Fact, kind: Kind) -> Kind
     ensures { result ≡ learned fact kind }
 {
     match fact {
-        Fact::Proved { identity, bytes } => proved(kind, identity, bytes),
+        Fact::Proved { identity, bytes } => proved_kind(kind, identity, bytes),
         Fact::Tested {
             identity,
             null,
             zero,
-        } => tested(kind, identity, null, zero),
-        Fact::Ended { frame } => ended(kind, frame),
+        } => tested_kind(kind, identity, null, zero),
+        Fact::Ended { frame } => without_frame(kind, frame),
     }
 }
 

@@ -4,22 +4,22 @@ ghost use Rattle.std.specs.Prelude.{◌≡◌, map};
 ghost use Rattle.stack_state.specs.Effects.{forgotten_register, forgotten_frame, forgotten_in};
 ghost use Rattle.stack_state.specs.HelperAnswers.{with_answer};
 
-use crate::slots::{StackSlot, forgotten};
+use crate::slots::{StackSlot, forgotten_slot};
 use crate::states::{AbstractFrame, State};
 use reg_state::Kind;
 
 /// The kind, or Unset if it refers to values of the map.
-fn forgotten_kind(kind: Kind, index: u8) -> Kind
+fn forgotten_register(kind: Kind, index: u8) -> Kind
     ensures { result ≡ forgotten_register index kind }
 {
-    forgotten(StackSlot::Spilled(kind), index).kind()
+    forgotten_slot(StackSlot::Spilled(kind), index).kind()
 }
 
 fn forget_in_registers(kinds: &mut [Kind], index: u8)
     ensures { kinds.new ≡ map (forgotten_register index) kinds.old }
 {
     for i in 0..kinds.len() {
-        kinds[i] = forgotten_kind(kinds[i], index);
+        kinds[i] = forgotten_register(kinds[i], index);
     }
 }
 

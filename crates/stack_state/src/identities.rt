@@ -33,9 +33,9 @@ impl IdentitySort {
 
 // Which of the lowest identities are named. The ten registers and 64 slots of eight call frames
 // name 592 of them at most, so that one from 1 to 593 is free.
-type Named = [bool; 594];
+type NamedIdentities = [bool; 594];
 
-fn mark(sort: IdentitySort, named: &mut Named, kind: Kind)
+fn mark(sort: IdentitySort, named: &mut NamedIdentities, kind: Kind)
     ensures { Marks (λ i. named_by sort kind ≢ Some i) 1 named.old named.new }
 {
     if let Some(identity) = sort.named_by(kind) {
@@ -45,7 +45,7 @@ fn mark(sort: IdentitySort, named: &mut Named, kind: Kind)
     }
 }
 
-fn mark_registers(sort: IdentitySort, named: &mut Named, registers: &[Kind; 10])
+fn mark_registers(sort: IdentitySort, named: &mut NamedIdentities, registers: &[Kind; 10])
     ensures { Marks (λ i. (k : ℕ) → NamesOther sort registers.now k i) 10 named.old named.new }
 {
     for index in 0..10 {
@@ -53,7 +53,7 @@ fn mark_registers(sort: IdentitySort, named: &mut Named, registers: &[Kind; 10])
     }
 }
 
-fn mark_slots(sort: IdentitySort, named: &mut Named, slots: &[StackSlot; FRAME_SLOTS])
+fn mark_slots(sort: IdentitySort, named: &mut NamedIdentities, slots: &[StackSlot; FRAME_SLOTS])
     ensures { Marks (λ i. (k : ℕ) → HoldsOther sort slots.now k i) frame_slots
         named.old named.new }
 {
@@ -62,14 +62,14 @@ fn mark_slots(sort: IdentitySort, named: &mut Named, slots: &[StackSlot; FRAME_S
     }
 }
 
-fn mark_frame(sort: IdentitySort, named: &mut Named, frame: &AbstractFrame)
+fn mark_frame(sort: IdentitySort, named: &mut NamedIdentities, frame: &AbstractFrame)
     ensures { Marks (IsFreshIn sort frame.now) 74 named.old named.new }
 {
     mark_registers(sort, named, &frame.registers);
     mark_slots(sort, named, &frame.stack.slots);
 }
 
-fn mark_frames(sort: IdentitySort, named: &mut Named, frames: &[AbstractFrame])
+fn mark_frames(sort: IdentitySort, named: &mut NamedIdentities, frames: &[AbstractFrame])
     ensures { Marks (AreFree (IsFreshAt sort frames.now) (length frames.now))
         (74 * length frames.now) named.old named.new }
 {
@@ -79,7 +79,7 @@ fn mark_frames(sort: IdentitySort, named: &mut Named, frames: &[AbstractFrame])
 }
 
 // The first identity from 1 up that is not named.
-fn first_free(named: &Named) -> u32
+fn first_free(named: &NamedIdentities) -> u32
     requires { marked named.now ≤ 592 }
     ensures some { 0 < result }
     ensures inside { result < 594 }

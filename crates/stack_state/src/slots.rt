@@ -72,11 +72,11 @@ fn part(numbers: Scalar, from: usize, size: Size) -> Scalar
     requires { from + size_bytes size ≤ 8 }
     ensures { ArePart numbers from size result }
 {
-    let from = 8 * from as u64;
+    let bit = 8 * from as u64;
     match size {
-        Size::U8 => numbers.part(from, 8),
-        Size::U16 => numbers.part(from, 16),
-        Size::U32 => numbers.part(from, 32),
+        Size::U8 => numbers.part(bit, 8),
+        Size::U16 => numbers.part(bit, 16),
+        Size::U32 => numbers.part(bit, 32),
         Size::U64 => numbers,
     }
 }
@@ -140,7 +140,7 @@ pub(crate) fn filled(slot: StackSlot) -> Option<Kind>
 }
 
 /// The slot without a pointer to a map value of the map.
-pub(crate) fn forgotten(slot: StackSlot, map: u8) -> StackSlot
+pub(crate) fn forgotten_slot(slot: StackSlot, map: u8) -> StackSlot
     ensures { result ≡ forgotten_slot map slot }
 {
     match slot {

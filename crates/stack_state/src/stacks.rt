@@ -9,7 +9,7 @@ ghost use Rattle.stack_state.specs.Slots as slot_defs;
 ghost use Rattle.stack_state.specs.Slots.{slot_at, IsNumberByte, AreMarked, after_store, IsLoad, IsSpill, IsFill, frame_slots};
 ghost use Rattle.stack_state.specs.StackMeaning.{StackMeans, StoresBytes, Spills, LoadsNumber, LoadsSlot, AreNumberBytes, ForgetsMap};
 
-use crate::slots::{StackSlot, filled, forgotten, mask, numbers, spilled};
+use crate::slots::{StackSlot, filled, forgotten_slot, mask, numbers, spilled};
 use isa_model::{STACK_SIZE, Size};
 use reg_state::{Kind, Scalar};
 
@@ -88,8 +88,8 @@ impl StackState {
         self.slots[slot] = spilled(kind);
     }
 
-    /// The kind of the value that a load of the whole slot returns. `None`: some byte may be unset,
-    /// or a pointer not whole.
+    /// The kind of the value that a load of the whole slot returns. `None`: some byte may be
+    /// unwritten, or a pointer not whole.
     pub fn fill(&self, slot: usize) -> Option<Kind>
         requires { slot < frame_slots }
         ensures exact { IsFill (slot_at self.now.slots slot) result }
@@ -126,7 +126,7 @@ impl StackState {
         ensures meant { ForgetsMap map self.old.slots self.new.slots }
     {
         for slot in 0..FRAME_SLOTS {
-            self.slots[slot] = forgotten(self.slots[slot], map);
+            self.slots[slot] = forgotten_slot(self.slots[slot], map);
         }
     }
 }

@@ -37,7 +37,7 @@ pub struct State {
 /// The index of a register in a frame's list; r10 has none.
 fn index_of(register: Reg) -> usize
     requires { register ≢ Reg.R10 }
-    ensures value { result ≡ reg_number register }
+    ensures number { result ≡ reg_number register }
     ensures below { result < 10 }
 {
     match register {

@@ -62,7 +62,7 @@ HasCounterpart s m i found = IfSome found (λ place. identity_of s place.1 ≡ S
 
 opposite_named : (s : NameSort) (m : ℕ → ℕ) (i : ℕ) (x y : Kind) → IsOpposite s m x y
     → identity_of s x ≡ Some i → identity_of s y ≡ Some (m i)
-opposite_named s m i x y o names = subst (λ n. IfSome n (λ i. identity_of s y ≡ Some (m i))) names o
+opposite_named s m i x y o e = subst (λ n. IfSome n (λ i. identity_of s y ≡ Some (m i))) e o
 
 counterpart_first : (s : NameSort) (m : ℕ → ℕ) (i : ℕ) (x y : Kind) (rest : Option (Kind × Kind))
     → IsOpposite s m x y → HasCounterpart s m i rest

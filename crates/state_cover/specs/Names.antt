@@ -28,7 +28,7 @@ is_named sort i k = is_identity (identity_of sort k) i
 abbrev pub spilled_kinds : List StackSlot → List Kind
 spilled_kinds slots = map kind_in slots
 
--- the kinds of two call frames in pairs, place by place: registers, then slots
+-- the kinds of two call frames in pairs, a pair for each place: registers, then slots
 abbrev pub frame_places : AbstractFrame → AbstractFrame → List (Kind × Kind)
 frame_places f g =
     zip f.registers g.registers ++ zip (spilled_kinds f.stack.slots) (spilled_kinds g.stack.slots)
@@ -41,17 +41,17 @@ places (f ∷ fs) (g ∷ gs) = frame_places f g ++ places fs gs
 
 -- the kinds at the first place whose first kind has the identity
 abbrev pub first_named : NameSort → ℕ → List (Kind × Kind) → Option (Kind × Kind)
-first_named sort i ps = find (λ place. is_named sort i place.0) ps
+first_named sort i ps = find (λ pair. is_named sort i pair.0) ps
 
 -- the counterpart of an identity, or the identity itself if there is none
 abbrev pub name_at : NameSort → ℕ → Option (Kind × Kind) → ℕ
 name_at sort i None = i
-name_at sort i (Some place) = unwrap_or (identity_of sort place.1) i
+name_at sort i (Some pair) = unwrap_or (identity_of sort pair.1) i
 
 unfoldable pub name_of : NameSort → State → State → ℕ → ℕ
 name_of sort a b i = name_at sort i (first_named sort i (places (frames_of a) (frames_of b)))
 
--- packet identity 0 means no identity, in every state
+-- packet identity 0 is none, in every state
 abbrev pub packet_name : State → State → ℕ → ℕ
 packet_name a b i = if nat_eq i 0 then 0 else name_of Packet a b i
 

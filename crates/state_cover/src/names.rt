@@ -82,8 +82,8 @@ impl NameSort {
     ) -> Option<(Kind, Kind)>
         ensures { result ≡ first_named self identity (frame_places left.now right.now) }
     {
-        if let Some(place) = self.find_in_registers(identity, &left.registers, &right.registers) {
-            return Some(place);
+        if let Some(kinds) = self.find_in_registers(identity, &left.registers, &right.registers) {
+            return Some(kinds);
         }
         self.find_in_slots(identity, &left.stack.slots, &right.stack.slots)
     }
@@ -98,8 +98,8 @@ impl NameSort {
         ensures { result ≡ first_named self identity (places left.now right.now) }
     {
         for index in 0..left.len() {
-            if let Some(place) = self.find_in_frame(identity, &left[index], &right[index]) {
-                return Some(place);
+            if let Some(kinds) = self.find_in_frame(identity, &left[index], &right[index]) {
+                return Some(kinds);
             }
         }
         None
@@ -112,8 +112,8 @@ impl NameSort {
     {
         let left = a.callers.as_slice();
         let right = b.callers.as_slice();
-        if let Some(place) = self.find_in_frames(identity, left, right) {
-            return Some(place);
+        if let Some(kinds) = self.find_in_frames(identity, left, right) {
+            return Some(kinds);
         }
         self.find_in_frame(identity, &a.innermost, &b.innermost)
     }

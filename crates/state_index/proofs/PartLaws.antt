@@ -204,13 +204,13 @@ all_written-parts_of f ps ten wide is =
     let none : AbstractFrame = unset_frame f.return_slot in
     let unset : none.registers ≡ [] ++ replicate (length f.registers) Unset =
     ap (λ n. replicate n Unset) (sym ten) in
-    let unwritten : none.stack.slots ≡ [] ++ replicate (length f.stack.slots) (Written 0) =
+    let blank : none.stack.slots ≡ [] ++ replicate (length f.stack.slots) (Written 0) =
     ap (λ n. replicate n (Written 0)) (sym wide) in
     ap (all_written none) is
     ∙ all_written-append none (register_parts 0 f.registers) (slot_parts 0 f.stack.slots)
     ∙ ap (λ g. all_written g (slot_parts 0 f.stack.slots))
     (registers_made none 0 [] f.registers refl unset)
-    ∙ slots_made (record none { registers = f.registers }) 0 [] f.stack.slots refl unwritten
+    ∙ slots_made (record none { registers = f.registers }) 0 [] f.stack.slots refl blank
 
 -- all that is kept of a frame
 pub kept_parts : (f : AbstractFrame) (none some all : List Part) → none ≡ []

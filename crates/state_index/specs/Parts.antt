@@ -55,7 +55,7 @@ IsPartOf f (InSlot n t) = slot_at f.stack.slots n ≡ t
 
 -- ---- a frame from parts
 
--- a frame about which nothing is known
+-- a frame about which nothing is known, which returns to the slot of the code
 unfoldable pub unset_frame : ℕ → AbstractFrame
 unset_frame slot =
     record {

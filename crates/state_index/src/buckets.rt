@@ -11,22 +11,22 @@ pub enum Stage {
     InTree,
 }
 
-/// A stored state, which is in one bucket at a time.
+/// A stored state, which is in one bucket at most at a time.
 #[derive(Clone, Copy, Drop)]
 pub struct StateLink {
     /// A fingerprint of all that is known.
     pub fingerprint: u64,
     /// A fingerprint of the state's shape, and of what is known in it.
     pub known: u64,
-    /// The one after it in its bucket.
+    /// The one after it in its bucket, or of those that wait for a tree.
     pub next: Option<u32>,
     /// The last finished stored state of its bucket when it was stored; none if the bucket could
-    /// not contain one with the same fingerprint (its mark bit was clear).
+    /// not contain one in which the same is known (its mark bit was clear).
     pub before: Option<u32>,
     pub stage: Stage,
 }
 
-/// A bucket of finished states: those of one fingerprint in the order in which they were stored.
+/// A bucket of finished states, in the order in which they were stored.
 #[derive(Clone, Copy, Drop)]
 pub struct FinishedBucket {
     pub first: Option<u32>,

@@ -1,4 +1,4 @@
-//! Iterators over the stored states that are proposed.
+//! Iterators over shapes, and over the stored states that are proposed.
 
 ghost use Rattle.std.specs.Iterator.{at_most};
 
@@ -68,7 +68,7 @@ pub struct FinishedCandidates<'a> {
     /// A row of the first tree's lowest level, and what is sought there once it is known.
     pub row_index: usize,
     pub sought: Option<Sought>,
-    /// The first stored state of a bucket.
+    /// The stored state to look at after the trees: of a bucket, or of those that are in no tree.
     pub next: Option<u32>,
     /// Whether the states of the bucket are in the order in which they were stored.
     pub is_ordered: bool,

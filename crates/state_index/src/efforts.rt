@@ -40,7 +40,7 @@ impl Effort {
     }
 
     /// Notes the cost of comparing this many parts, and of finding them.
-    pub fn spend_search(&mut self, parts: usize) {
+    pub fn spend_look_up(&mut self, parts: usize) {
         self.spend(parts.saturating_add(TEST));
     }
 

@@ -44,9 +44,9 @@ impl Fingerprints {
             }
         }
         for index in 0..FRAME_SLOTS {
-            let slot = &frame.stack.slots[index];
-            if !matches!(slot, StackSlot::Written(0)) {
-                whole = with_slot(whole, index as u8, slot);
+            let stack_slot = &frame.stack.slots[index];
+            if !matches!(stack_slot, StackSlot::Written(0)) {
+                whole = with_stack_slot(whole, index as u8, stack_slot);
             }
         }
         Fingerprints {
@@ -158,8 +158,8 @@ fn with_register(print: u64, number: u8, kind: &Kind) -> u64 {
     with_kind(mixed(print, u64::from(number)), kind)
 }
 
-fn with_slot(print: u64, index: u8, slot: &StackSlot) -> u64 {
-    match slot {
+fn with_stack_slot(print: u64, index: u8, stack_slot: &StackSlot) -> u64 {
+    match stack_slot {
         StackSlot::Written(marks) => {
             mixed(mixed(print, 128 + u64::from(index)), u64::from(*marks))
         }
@@ -170,6 +170,6 @@ fn with_slot(print: u64, index: u8, slot: &StackSlot) -> u64 {
 fn with_part(print: u64, part: &Part) -> u64 {
     match part {
         Part::InRegister(number, kind) => with_register(print, *number, kind),
-        Part::InSlot(index, slot) => with_slot(print, *index, slot),
+        Part::InSlot(index, stack_slot) => with_stack_slot(print, *index, stack_slot),
     }
 }

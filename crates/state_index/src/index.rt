@@ -68,14 +68,14 @@ impl StateIndex {
         }
     }
 
-    /// What is known of a state in a shape, if it is all that the shape knows.
+    /// A fingerprint of what is known of a state in a shape, if that is all that the shape knows.
     pub fn known_in(&self, shape: usize, key: &Key, effort: &mut Effort) -> Option<u64> {
-        effort.spend_search(key.parts.len());
+        effort.spend_look_up(key.parts.len());
         let known = self.shapes.get(shape)?.shape.known_of(key)?;
         Some(mixed(known, shape as u64))
     }
 
-    /// The first stored state in the bucket of finished states with these known bits, if they have
+    /// The first stored state in the bucket of finished states in which this is known, if they have
     /// no trees.
     fn first_finished(&self, known: u64) -> Option<u32> {
         let bucket = bucket_of(known, self.finished.len());
@@ -85,7 +85,7 @@ impl StateIndex {
         }
     }
 
-    /// The finished states with these known bits that may cover a state with these limits.
+    /// The finished states in which this is known that may cover a state with these limits.
     pub fn finished_candidates<'a>(
         &'a self,
         known: u64,
@@ -114,7 +114,7 @@ impl StateIndex {
         !self.tree_sets.is_empty()
     }
 
-    /// Notes that states with these known bits were scanned, and returns whether to make a tree of
+    /// Notes that states in which this is known were scanned, and returns whether to make a tree of
     /// them.
     pub fn note_scan(
         &mut self,
@@ -147,7 +147,7 @@ impl StateIndex {
         Ok((indexes, left))
     }
 
-    /// Adds a tree to a set after the first `left` others, and its stored states leave their links.
+    /// Adds a tree to a set after the first `left` others: its stored states are found there now.
     pub fn add_tree(&mut self, known: u64, left: usize, tree: Tree) -> Result<(), AllocError> {
         for index in tree.indexes() {
             if let Some(link) = self.links.get_mut(*index as usize) {
@@ -187,15 +187,15 @@ impl StateIndex {
         key: &Key,
         effort: &mut Effort,
     ) -> Result<usize, AllocError> {
-        let mut shapes = 0usize;
+        let mut shape_count = 0usize;
         for index in self.shapes_at(slot) {
-            effort.spend_search(key.parts.len());
+            effort.spend_look_up(key.parts.len());
             if self.has_shape(index, key) {
                 return Ok(index);
             }
-            shapes = shapes.wrapping_add(1);
+            shape_count = shape_count.wrapping_add(1);
         }
-        if shapes > SHAPES {
+        if shape_count > SHAPES {
             // the newest one, which knows nothing
             return Ok(self.shapes_at(slot).next().unwrap_or(0));
         }
@@ -204,7 +204,7 @@ impl StateIndex {
         if let Some(first) = self.first_shapes.get_mut(slot) {
             next = mem::replace(first, u32::try_from(index).ok());
         }
-        let shape = match shapes < SHAPES {
+        let shape = match shape_count < SHAPES {
             true => Shape::of(alloc, key)?,
             false => Shape::blank(alloc),
         };
@@ -227,8 +227,8 @@ impl StateIndex {
         key: &Key,
         effort: &mut Effort,
     ) -> Result<(), AllocError> {
-        self.spread_finished(alloc)?;
-        self.spread_unfinished(alloc)?;
+        self.add_finished_buckets(alloc)?;
+        self.add_unfinished_buckets(alloc)?;
         let shape = self.shape_of(alloc, slot, key, effort)?;
         let known = self.known_in(shape, key, effort).unwrap_or(0);
         let index = self.links.len();
@@ -245,8 +245,8 @@ impl StateIndex {
         Ok(())
     }
 
-    /// Spreads the finished states over more buckets, if there are too many for these.
-    fn spread_finished(&mut self, alloc: Global) -> Result<(), AllocError> {
+    /// Puts the finished states into more buckets, if there are too many for these.
+    fn add_finished_buckets(&mut self, alloc: Global) -> Result<(), AllocError> {
         let buckets = self.finished.len().saturating_mul(2);
         if self.finished_count < buckets {
             return Ok(());
@@ -260,7 +260,7 @@ impl StateIndex {
     }
 
     /// The same, of the unfinished ones.
-    fn spread_unfinished(&mut self, alloc: Global) -> Result<(), AllocError> {
+    fn add_unfinished_buckets(&mut self, alloc: Global) -> Result<(), AllocError> {
         let buckets = self.unfinished.len().saturating_mul(2);
         if self.unfinished_count < buckets {
             return Ok(());
@@ -306,8 +306,7 @@ impl StateIndex {
         }
     }
 
-    /// Moves a stored state to the finished ones of its bucket; all that were stored after it are
-    /// finished.
+    /// Moves a stored state to the finished ones; all that were stored after it are finished.
     pub fn finish(&mut self, index: usize) {
         let Some(link) = self.links.get_mut(index) else {
             return;

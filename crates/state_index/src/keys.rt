@@ -38,8 +38,8 @@ impl Key {
         })
     }
 
-    /// Becomes the key of the state. Of its innermost stack, something may be known only of the
-    /// slots that are in `kept`.
+    /// Becomes the key of the state. Of the stack slots of its innermost frame, something may be
+    /// known only of those that are in `kept`.
     pub fn take(&mut self, state: &State, kept: SlotMask) -> Result<(), AllocError>
         requires { AreBlankBeside kept state.now.innermost.stack.slots }
         ensures { OnOk result (AreParts self.new.parts.items state.now.innermost) }

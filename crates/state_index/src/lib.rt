@@ -1,6 +1,6 @@
 //! An index of abstract states: which stored ones to look at on arrival at a state.
 //!
-//! It is advice: its contracts say nothing of what it proposes, and the caller tests each state
+//! It is advice: its contracts say nothing of what it proposes, and the search tests each state
 //! that it proposes. A state is looked up by its `Key`: by the bits of its numbers that are known,
 //! by a fingerprint of all that is known, and by the limits of what is known.
 #![tactic(auto)]

@@ -201,9 +201,9 @@ impl PartSpan {
             return false;
         }
         for index in 0..MEASURES {
-            let measure = other.measures[index];
-            self.least[index] = self.least[index].min(measure);
-            self.limits.measures[index] = self.limits.measures[index].max(measure);
+            let number = other.measures[index];
+            self.least[index] = self.least[index].min(number);
+            self.limits.measures[index] = self.limits.measures[index].max(number);
         }
         variant != Variant::Written || self.limits.measures != [1; MEASURES]
     }

@@ -95,14 +95,14 @@ impl Rows {
         for span in &spread.spans {
             common.push(span.limits)?;
         }
-        let words = spread
+        let word_count = spread
             .count
             .saturating_mul(measures.len().saturating_add(1));
         Ok(Rows {
             common,
             measures,
             stored: Vec::with_capacity(alloc, spread.count)?,
-            words: Vec::with_capacity(alloc, words)?,
+            words: Vec::with_capacity(alloc, word_count)?,
         })
     }
 

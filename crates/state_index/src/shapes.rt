@@ -1,8 +1,8 @@
 //! Shapes of states: which bits of the numbers in their registers and stack slots are known.
 //!
-//! A state covers another one only if the other knows each bit that it knows, with the same value,
-//! and if the exits of both return to the same slots. So stored states are indexed by their shape,
-//! and by the known bits in it and those slots.
+//! A state covers another one only if each bit that it knows is known in the other as the same, and
+//! if the exits of both return to the same slots of the code. So stored states are indexed by their
+//! shape, and by the known bits in it and those slots.
 
 use crate::fingerprints::mixed;
 use crate::keys::Key;
@@ -13,7 +13,7 @@ use std::alloc::{AllocError, Global};
 
 /// A register or a stack slot that is known to hold a number.
 #[derive(Clone, Copy, Drop)]
-struct Known {
+struct KnownNumber {
     /// Which part it is: registers come first, then stack slots.
     part_index: u64,
     /// The bits that are not known.
@@ -23,7 +23,7 @@ struct Known {
 /// The numbers in the innermost call frame of a state, in the order of their parts.
 #[derive(Drop)]
 pub struct Shape {
-    numbers: Vec<Known>,
+    known_numbers: Vec<KnownNumber>,
 }
 
 /// The index of the part, and what it is known to hold, if that is known to be a number.
@@ -47,29 +47,29 @@ pub struct ShapeLink {
 impl Shape {
     /// The shape of a state.
     pub fn of(alloc: Global, key: &Key) -> Result<Self, AllocError> {
-        let mut known = Vec::new(alloc);
+        let mut known_numbers = Vec::new(alloc);
         for part in &key.parts {
             if let Some((part_index, numbers)) = number_in(part) {
                 let unknown = numbers.bits.mask;
-                known.push(Known {
+                known_numbers.push(KnownNumber {
                     part_index,
                     unknown,
                 })?;
             }
         }
-        Ok(Shape { numbers: known })
+        Ok(Shape { known_numbers })
     }
 
     /// The shape in which nothing is known, which every state has.
     pub fn blank(alloc: Global) -> Self {
         Shape {
-            numbers: Vec::new(alloc),
+            known_numbers: Vec::new(alloc),
         }
     }
 
     /// Whether it is the shape of a state.
     pub fn is_of(&self, key: &Key) -> bool {
-        let mut rest = self.numbers.as_slice();
+        let mut rest = self.known_numbers.as_slice();
         for part in &key.parts {
             if let Some((part_index, numbers)) = number_in(part) {
                 let [first, others @ ..] = rest else {
@@ -84,10 +84,10 @@ impl Shape {
         rest.is_empty()
     }
 
-    /// A fingerprint of the shape's known bits, with their values in a state, and of the slots to
-    /// which its frames return. None if the state does not know all of these bits.
+    /// A fingerprint of the shape's known bits as they are in a state, and of the slots of the code
+    /// to which its frames return. None if the state does not know all of these bits.
     pub fn known_of(&self, key: &Key) -> Option<u64> {
-        let mut rest = self.numbers.as_slice();
+        let mut rest = self.known_numbers.as_slice();
         let mut print = key.fingerprints.returns;
         for part in &key.parts {
             let [first, others @ ..] = rest else {

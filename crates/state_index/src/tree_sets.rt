@@ -81,7 +81,7 @@ impl TreeSets {
         }
     }
 
-    /// Adds a finished stored state with these known bits to its set, if that has trees; returns
+    /// Adds a finished stored state in which this is known to its set, if that has trees; returns
     /// the unplaced stored state after it.
     pub fn add_unplaced(&mut self, known: u64, index: usize) -> Option<Option<u32>> {
         if self.sets.is_empty() {
@@ -111,15 +111,15 @@ impl TreeSets {
             return Ok(false);
         };
         set.scanned = set.scanned.saturating_add(count);
-        let unplaced = match set.trees.is_empty() {
+        let unplaced_count = match set.trees.is_empty() {
             true => count,
             false => set.unplaced_count,
         };
-        Ok(unplaced >= LONG_SCAN && set.scanned / SCANS >= unplaced)
+        Ok(unplaced_count >= LONG_SCAN && set.scanned / SCANS >= unplaced_count)
     }
 
     fn add(&mut self, alloc: Global, known: u64) -> Result<usize, AllocError> {
-        self.spread(alloc)?;
+        self.add_buckets(alloc)?;
         let set_index = self.sets.len();
         let bucket = bucket_of(known, self.buckets.len());
         let next = match self.buckets.get_mut(bucket) {
@@ -137,16 +137,16 @@ impl TreeSets {
         Ok(set_index)
     }
 
-    /// Spreads the sets over more buckets, if there are too many for these.
-    fn spread(&mut self, alloc: Global) -> Result<(), AllocError> {
+    /// Puts the sets into more buckets, if there are too many for these.
+    fn add_buckets(&mut self, alloc: Global) -> Result<(), AllocError> {
         if self.sets.len() < self.buckets.len() {
             return Ok(());
         }
-        let buckets = self.buckets.len().saturating_mul(2).max(BUCKETS);
-        self.buckets = vec![in alloc; None; buckets]?;
+        let bucket_count = self.buckets.len().saturating_mul(2).max(BUCKETS);
+        self.buckets = vec![in alloc; None; bucket_count]?;
         for set_index in 0..self.sets.len() {
             if let Some(set) = self.sets.get_mut(set_index) {
-                if let Some(first) = self.buckets.get_mut(bucket_of(set.known, buckets)) {
+                if let Some(first) = self.buckets.get_mut(bucket_of(set.known, bucket_count)) {
                     set.next = mem::replace(first, u32::try_from(set_index).ok());
                 }
             }
@@ -154,7 +154,7 @@ impl TreeSets {
         Ok(())
     }
 
-    /// Merges states with these known bits with those of the smallest trees, three trees at a
+    /// Merges states in which this is known with those of the smallest trees, three trees at a
     /// time, while these are not much larger; returns how many trees are left.
     pub fn gather(&self, known: u64, indexes: &mut Vec<u32>) -> Result<usize, AllocError> {
         let (trees, _) = self.trees(known);

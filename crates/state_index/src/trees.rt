@@ -57,8 +57,8 @@ fn reaches(row: &[u64], sought: &[u64]) -> bool {
 /// The greatest words of up to `FAN` rows each.
 fn level_above(alloc: Global, level: &[u64], width: usize) -> Result<Vec<u64>, AllocError> {
     let mut above = Vec::new(alloc);
-    let rows = level.len().checked_div(width).unwrap_or(0);
-    for row_index in 0..rows.saturating_add(FAN - 1) / FAN {
+    let row_count = level.len().checked_div(width).unwrap_or(0);
+    for row_index in 0..row_count.saturating_add(FAN - 1) / FAN {
         let first = row_index.saturating_mul(FAN);
         for column in 0..width {
             let mut greatest: u64 = 0;
@@ -73,9 +73,9 @@ fn level_above(alloc: Global, level: &[u64], width: usize) -> Result<Vec<u64>, A
     Ok(above)
 }
 
-/// The rows of states, and the levels above them.
-fn levels_over(alloc: Global, rows: Vec<u64>, width: usize) -> Result<Vec<Vec<u64>>, AllocError> {
-    let mut highest = rows;
+/// The lowest level, and those above it.
+fn levels_over(alloc: Global, lowest: Vec<u64>, width: usize) -> Result<Vec<Vec<u64>>, AllocError> {
+    let mut highest = lowest;
     let mut levels = Vec::new(alloc);
     for _level in 0..32 {
         let above = level_above(alloc, &highest, width)?;
@@ -98,8 +98,8 @@ impl Tree {
         order.arrange(&rows.words, width);
         let mut indexes = Vec::with_capacity(alloc, count)?;
         let mut words = Vec::with_capacity(alloc, rows.words.len())?;
-        for index in 0..count {
-            let row_index = order.row_index(index).unwrap_or(0);
+        for before in 0..count {
+            let row_index = order.row_index(before).unwrap_or(0);
             if let Some(index) = rows.stored.get(row_index) {
                 indexes.push(*index)?;
                 words.extend_from_slice(row(&rows.words, width, row_index).unwrap_or(&[]))?;

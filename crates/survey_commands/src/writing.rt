@@ -39,7 +39,8 @@ fn columns_of(alloc: Global, survey: &Survey<'_>) -> Result<Vec<Column>, AllocEr
     Ok(columns)
 }
 
-/// How many characters the longest path has, but at least as many as the name of its column.
+/// How many characters the longest path of a file has, but at least as many as the name of its
+/// column.
 fn longest_of(named: &[NamedPath]) -> usize {
     let mut longest = Column::File.width();
     for one in named {

@@ -38,8 +38,8 @@ pub fn cell_text(alloc: Global, cell: &RowCell) -> Result<String, AllocError> {
             format!(in alloc; "{number}")
         }
         RowCell::Thousandths(number) => {
-            let (whole, rest) = (*number / 1000, *number % 1000);
-            format!(in alloc; "{whole}.{rest:03}")
+            let (integer, rest) = (*number / 1000, *number % 1000);
+            format!(in alloc; "{integer}.{rest:03}")
         }
         RowCell::Nothing => Ok(String::new(alloc)),
     }

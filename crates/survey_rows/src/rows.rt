@@ -104,7 +104,7 @@ impl Row {
     }
 }
 
-/// The heads of columns, with room for paths of this number of characters.
+/// The heads of columns, with room for file paths of this number of characters.
 fn heads_of(
     alloc: Global,
     columns: &[Column],
@@ -129,7 +129,8 @@ fn heads_of(
 #[derive(Drop)]
 pub struct RowLayout {
     pub columns: Vec<Column>,
-    /// How many characters the longest path has.
+    /// How many characters the longest path of a file has, but at least as many as the name of its
+    /// column.
     pub longest: usize,
     pub only_refused: bool,
 }

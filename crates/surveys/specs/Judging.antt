@@ -55,8 +55,8 @@ SaysMalformed wrong (verdict.Refused code) counts =
 SaysMalformed wrong verdict.Unreadable counts = ⊥
 SaysMalformed wrong verdict.NoMemory counts = Unit {0}
 
--- what a verdict does not have is not in its row: an accepted image has no slot, and every other
--- one no bound
+-- what a verdict does not have is not in its row: that of an accepted image has no slot of a
+-- refusal, and that of every other one no bound
 abbrev pub LacksOther : Judgement → Counts → Type 0
 LacksOther verdict.Accepted counts = counts.slot ≡ None
 LacksOther v counts = counts.bound ≡ None

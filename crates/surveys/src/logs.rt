@@ -73,7 +73,7 @@ impl<W: Write + Drop> Log<'_, W> {
     }
 
     /// Keeps the number in the log of the instruction that is explored.
-    fn keep_number(&mut self, is_stored: bool) -> Result<(), AllocError> {
+    fn keep_log_number(&mut self, is_stored: bool) -> Result<(), AllocError> {
         if is_stored {
             self.stored.push(self.tally.explored)?;
         }
@@ -122,7 +122,7 @@ impl<W: Write + Drop> Listener for Log<'_, W> {
         kept: Option<&Kept>,
     ) -> Result<(), LookError> {
         self.write_explored(state, stored.is_some())?;
-        self.keep_number(stored.is_some())?;
+        self.keep_log_number(stored.is_some())?;
         self.tally.explore(stored, kept);
         Ok(())
     }

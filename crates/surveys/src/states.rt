@@ -35,9 +35,9 @@ fn put_registers(alloc: Global, state: &State, text: &mut String) -> Result<(), 
 }
 
 /// Whether something is known about a stack slot.
-fn is_known(state: &State, frame: u8, slot: usize) -> bool {
+fn is_known(state: &State, frame: u8, stack_slot: usize) -> bool {
     match state.stack_of(frame) {
-        Some(stack) => match stack.slots.get(slot) {
+        Some(stack) => match stack.slots.get(stack_slot) {
             Some(known) => *known != StackSlot::Written(0),
             None => false,
         },
@@ -47,9 +47,9 @@ fn is_known(state: &State, frame: u8, slot: usize) -> bool {
 
 /// Adds a line for each stack slot of a call frame about which something is known.
 fn put_frame(alloc: Global, state: &State, frame: u8, text: &mut String) -> Result<(), AllocError> {
-    for slot in 0..STACK_SIZE / 8 {
-        if is_known(state, frame, slot) {
-            let line = slot_line(alloc, state, frame, slot)?;
+    for stack_slot in 0..STACK_SIZE / 8 {
+        if is_known(state, frame, stack_slot) {
+            let line = slot_line(alloc, state, frame, stack_slot)?;
             text.push_str("    ")?;
             text.push_str(line.as_str())?;
         }

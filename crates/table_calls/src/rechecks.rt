@@ -4,7 +4,7 @@ ghost use Rattle.std.specs.Prelude.{◌≡◌, ◌≢◌, Err, IfOk};
 ghost use Rattle.image.specs.Images.{image_bytes};
 ghost use Rattle.bounds.specs.Bounds.{IsVerified};
 ghost use Rattle.rechecking.specs.Refusing.{ShowsBound};
-ghost use Rattle.verdict_calls.specs.Crossing.{IsVerdict};
+ghost use Rattle.verdict_calls.specs.Crossing.{IsVerdictStatus};
 ghost use Rattle.verdict_calls.specs.declared.statuses.NotAccepted.TheVariants as NotAccepted;
 ghost use Rattle.table_calls.specs.Tables.{ReturnsShownBound, only_bound, FillsTableRefusal, FillsRefusedTable, IsRefusedTable, broken, is_table_memory};
 
@@ -103,7 +103,7 @@ fn test(alloc: Global, program: Image, table: &[u8], why: &mut [u8], out: &mut R
     ensures refused { result ≡ 2 → FillsRefusedTable program table.now why.old why.new out.new }
     ensures why_kept { result ≢ 2 → why.new ≡ why.old }
     ensures memory { result ≡ 5 → out.new ≡ out.old }
-    ensures status { IsVerdict result }
+    ensures status { IsVerdictStatus result }
 {
     let Ok(copy) = program.copy(alloc) else {
         return MEMORY;
@@ -147,7 +147,7 @@ pub fn recheck_table(
         → FillsTableRefusal image.now table.now why.old why.new out.new }
     ensures why_kept { result ≢ 2 → why.new ≡ why.old }
     ensures memory { result ≡ 5 → out.new ≡ out.old }
-    ensures status { IsVerdict result }
+    ensures status { IsVerdictStatus result }
 {
     match Image::parse(alloc, image) {
         Ok(program) => test(alloc, program, table, why, out),

@@ -111,11 +111,11 @@ LeavesEnd-stack_slot : (rows holder : ℕ) (bytes : List ℕ)
 unfolding stack_slot_in
 LeavesEnd-stack_slot rows holder [] = tt
 LeavesEnd-stack_slot rows holder (tag ∷ bytes) =
-    let kind : LeavesEnd bytes (kind_in rows holder bytes) = LeavesEnd-kind rows holder bytes in
+    let leaves : LeavesEnd bytes (kind_in rows holder bytes) = LeavesEnd-kind rows holder bytes in
     LeavesEnd-if (tag ∷ bytes) (tag == 0) _ _ (LeavesEnd-marks tag bytes)
     (LeavesEnd-if (tag ∷ bytes) (tag == 1) _ _
     (LeavesEnd-then (tag ∷ bytes) (kind_in rows holder bytes) (λ k rest. Ok (spilled k, rest))
-    (LeavesEnd-more (tag ∷ bytes) bytes (kind_in rows holder bytes) (1, refl) kind)
+    (LeavesEnd-more (tag ∷ bytes) bytes (kind_in rows holder bytes) (1, refl) leaves)
     (λ k rest. (0, refl))) tt)
 
 LeavesEnd-frame : (rows holder : ℕ) (outer : Bool) (bytes : List ℕ)

@@ -49,17 +49,17 @@ IsBegun-more p g e after b less read =
     let places = g.table.places in
     let at = length bytes - length g.rest in
     let front = map (entry_from p bytes) places in
-    let more : map (entry_from p bytes) (places ++ at ∷ []) ≡ front ++ Some e ∷ [] =
+    let all : map (entry_from p bytes) (places ++ at ∷ []) ≡ front ++ Some e ∷ [] =
     places-more p bytes g.rest places (Some e) after b.is_end read in
     let long : length (places ++ at ∷ []) ≡ count_of g.table + 1 =
     length-more places at (count_of g.table) refl in
     record {
       counted = b.counted;
       so_far =
-          rw (more, long) (entries-goes_on p front g.count (count_of g.table) g.rest
+          rw (all, long) (entries-goes_on p front g.count (count_of g.table) g.rest
           (Some e) after _ less read b.so_far);
       fine =
-          ap (first_none 0) more
+          ap (first_none 0) all
           ∙ sym (earlier-more front (count_of g.table) (Some e)
           (length-map places (entry_from p bytes)))
           ∙ ap (λ (o : Option ℕ). earlier o true (count_of g.table)) b.fine;

@@ -45,7 +45,7 @@ AreSpelled-none rows known a frames slots = record {
   slots = λ b there. absurd (cc);
 }
 
--- the frame of one index is spelled
+-- the call frame of one index is spelled
 pub SpellFrames-notes : (rows holder : ℕ) (f : AbstractFrame) (frames : List AbstractFrame)
     (old new : List FrameBytes) → slice_get frames holder ≡ Some f → SpellFrames rows old frames
     → NotesFrame rows holder f old new → SpellFrames rows new frames
@@ -78,7 +78,7 @@ pub SpellFrames-take : (rows n : ℕ) (known : List FrameBytes) (frames : List A
 SpellFrames-take rows n known frames spelled = λ holder f at s there.
     spelled holder f at s (taken_get n known holder s there).1
 
--- a state with the same outer frames, where nothing is known of the slots
+-- a state with the same outer frames, where no bytes are known for the stack slots
 pub AreSpelled-outer : (rows n : ℕ) (old new : KnownBytes) (a b : State)
     → new.frames.items ≡ take n old.frames.items → new.slots ≡ None → b.callers ≡ a.callers
     → AreSpelled rows old a → AreSpelled rows new b

@@ -1,4 +1,4 @@
-pub mod NumberBytes
+pub mod LittleNumbers
 pub mod Many
 pub mod Parts
 pub mod Ends

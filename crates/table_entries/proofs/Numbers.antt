@@ -105,19 +105,19 @@ BeginsWith-entry p bytes =
 pub number-from : (p : Program) (bytes : List ℕ) (place : ℕ) (e : Entry)
     → entry_from p bytes place ≡ Some e → e.number ≡ little_number 4 (drop place bytes)
 number-from p bytes place e h =
-    let begins : BeginsWith p (little_number 4 (drop place bytes)) e =
+    let shown : BeginsWith p (little_number 4 (drop place bytes)) e =
     subst (EntryIs (BeginsWith p (little_number 4 (drop place bytes)))) h
     (BeginsWith-entry p (drop place bytes)) in
-    begins.number
+    shown.number
 
 -- what is read has a number and a slot that are allowed
 pub allowed-in : (p : Program) (bytes : List ℕ) (e : Entry) (after : List ℕ)
     → entry_in p bytes ≡ Ok (Some e, after) → IsAllowed p e.number e.state.slot
 allowed-in p bytes e after h =
-    let begins : BeginsWith p (little_number 4 bytes) e =
+    let shown : BeginsWith p (little_number 4 bytes) e =
     subst (λ (r : Read Entry). EntryIs (BeginsWith p (little_number 4 bytes)) (allowed r)) h
     (BeginsWith-entry p bytes) in
-    begins.allowed
+    shown.allowed
 
 -- fewer than 4 bytes are no entry
 pub short-from : (p : Program) (bytes : List ℕ) → length bytes < 4

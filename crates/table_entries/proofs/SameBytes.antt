@@ -38,12 +38,12 @@ pub eight_same : (d : ℕ) (xs ys : List ℕ) → AreBytes xs → AreBytes ys
 eight_same d xs ys x y before same k less = elim (cases_lt k d) [
   | inl inside ↦ before k inside
   | inr past ↦
-      let place : d + (k - d) ≡ k = omega arith in
+      let index : d + (k - d) ≡ k = omega arith in
       let there =
       little_from-same 8 0 (drop d xs) (drop d ys) (AreBytes-drop d xs x) (AreBytes-drop d ys y)
       same (k - d) (omega arith) (omega arith) in
-      ap (λ (j : ℕ). get_or xs j 0) (sym place) ∙ sym (get_or-drop d xs (k - d) 0) ∙ there
-      ∙ get_or-drop d ys (k - d) 0 ∙ ap (λ (j : ℕ). get_or ys j 0) place
+      ap (λ (j : ℕ). get_or xs j 0) (sym index) ∙ sym (get_or-drop d xs (k - d) 0) ∙ there
+      ∙ get_or-drop d ys (k - d) 0 ∙ ap (λ (j : ℕ). get_or ys j 0) index
 ]
 
 pub one_same : (d : ℕ) (xs ys : List ℕ) → ((k : ℕ) → k < d → get_or xs k 0 ≡ get_or ys k 0)

@@ -40,14 +40,14 @@ regroup : {X : Type 0} (whole : Bool) (x : Option X) (read : Read (List X))
 regroup whole x (Ok r) = ap (λ (b : Bool). Ok (b, r.1)) (some-joined whole x r.0)
 regroup whole x (Err stop) = refl
 
-step : {X : Type 0} (one : ℕ → List ℕ → Read X) (whole : Bool) (m i : ℕ) (read : Read X)
+first_seen : {X : Type 0} (one : ℕ → List ℕ → Read X) (whole : Bool) (m i : ℕ) (read : Read X)
     → and_seen whole
     (seen (then_read read
     (λ first rest. then_read (many one m (i + 1) rest)
     (λ others after. Ok (joined first others, after)))))
     ≡ then_seen (seen read) (λ fits rest. and_seen (whole && fits) (seen (many one m (i + 1) rest)))
-step one whole m i (Ok x) = regroup whole x.0 (many one m (i + 1) x.1)
-step one whole m i (Err stop) = refl
+first_seen one whole m i (Ok x) = regroup whole x.0 (many one m (i + 1) x.1)
+first_seen one whole m i (Err stop) = refl
 
 pub seen-goes_on : {X : Type 0} (one : ℕ → List ℕ → Read X) (whole : Bool) (n i : ℕ)
     (bytes : List ℕ) (fits : Bool) (after : List ℕ) (total : Seen)
@@ -61,7 +61,7 @@ seen-goes_on one whole n i bytes fits after total lt h so_far =
     let first : and_seen whole (seen (many one (suc m) i bytes))
     ≡ then_seen (seen (one i bytes))
     (λ fits rest. and_seen (whole && fits) (seen (many one m (i + 1) rest))) =
-    step one whole m i (one i bytes) in
+    first_seen one whole m i (one i bytes) in
     let second =
     ap (λ (r : Seen). then_seen r
     (λ fits rest. and_seen (whole && fits) (seen (many one m (i + 1) rest)))) h in
@@ -78,7 +78,7 @@ seen-stops one whole n i bytes stop total lt h so_far =
     let first : and_seen whole (seen (many one (suc m) i bytes))
     ≡ then_seen (seen (one i bytes))
     (λ fits rest. and_seen (whole && fits) (seen (many one m (i + 1) rest))) =
-    step one whole m i (one i bytes) in
+    first_seen one whole m i (one i bytes) in
     let second =
     ap (λ (r : Seen). then_seen r
     (λ fits rest. and_seen (whole && fits) (seen (many one m (i + 1) rest)))) h in
@@ -126,18 +126,18 @@ some-frame holder return_slot None slots = refl
 pub seen-frame : (rows holder : ℕ) (bytes : List ℕ) → 2 ≤ length bytes
     → seen (frame_in rows holder false bytes)
     ≡ then_seen (seen (many (λ k. kind_in rows holder) 10 0 (drop 2 bytes))) (λ allowed rest.
-    then_seen (seen (many (λ k. stack_slot_in rows holder) frame_slots 0 rest)) (λ slots after.
-    Ok ((allowed && slots) && (not (holder == 0) || little_number 2 bytes == 0), after)))
+    then_seen (seen (many (λ k. stack_slot_in rows holder) frame_slots 0 rest)) (λ fits after.
+    Ok ((allowed && fits) && (not (holder == 0) || little_number 2 bytes == 0), after)))
 unfolding frame_in
 seen-frame rows holder bytes long =
     rw (le-ltb (length bytes) 2 long)
     (seen-then (many (λ k. kind_in rows holder) 10 0 (drop 2 bytes)) _
     (λ allowed rest. then_seen (seen (many (λ k. stack_slot_in rows holder) frame_slots 0 rest))
-    (λ slots after.
-    Ok ((allowed && slots) && (not (holder == 0) || little_number 2 bytes == 0), after)))
+    (λ fits after.
+    Ok ((allowed && fits) && (not (holder == 0) || little_number 2 bytes == 0), after)))
     (λ kinds rest. seen-then (many (λ k. stack_slot_in rows holder) frame_slots 0 rest) _
-    (λ slots after. Ok
-    ((is_some kinds && slots) && (not (holder == 0) || little_number 2 bytes == 0), after))
+    (λ fits after. Ok
+    ((is_some kinds && fits) && (not (holder == 0) || little_number 2 bytes == 0), after))
     (λ slots after. ap (λ (b : Bool). Ok (b, after))
     (some-frame holder (little_number 2 bytes) kinds slots))))
 
@@ -156,14 +156,14 @@ pub seen-caller : (rows holder : ℕ) (outer : Bool) (bytes : List ℕ) (allowed
     (kinds : List Kind) (rest : List ℕ) → 2 ≤ length bytes
     → many (λ k. kind_in rows holder) 10 0 (drop 2 bytes) ≡ Ok (kept allowed kinds, rest)
     → seen (frame_in rows holder outer bytes)
-    ≡ then_seen (seen (many (λ k. stack_slot_in rows holder) frame_slots 0 rest)) (λ slots after.
-    Ok ((allowed && slots) && frame_allowed holder outer (little_number 2 bytes) kinds, after))
+    ≡ then_seen (seen (many (λ k. stack_slot_in rows holder) frame_slots 0 rest)) (λ fits after.
+    Ok ((allowed && fits) && frame_allowed holder outer (little_number 2 bytes) kinds, after))
 unfolding frame_in
 seen-caller rows holder outer bytes allowed kinds rest long read =
     rw (le-ltb (length bytes) 2 long, read)
     (seen-then (many (λ k. stack_slot_in rows holder) frame_slots 0 rest) _
-    (λ slots after. Ok
-    ((allowed && slots) && frame_allowed holder outer (little_number 2 bytes) kinds, after))
+    (λ fits after. Ok
+    ((allowed && fits) && frame_allowed holder outer (little_number 2 bytes) kinds, after))
     (λ slots after. ap (λ (b : Bool). Ok (b, after))
     (some-kept holder (little_number 2 bytes) outer allowed kinds slots)))
 
@@ -199,21 +199,21 @@ some-entry p number slot None innermost successors = refl
 -- the parts of an entry
 pub seen-rest : (p : Program) (number slot caller_count : ℕ) (bytes : List ℕ)
     → seen (rest_in p number slot caller_count bytes)
-    ≡ then_seen (seen (callers_in (length p.maps) caller_count bytes)) (λ callers rest.
-    then_seen (seen (frame_in (length p.maps) caller_count false rest)) (λ innermost others.
+    ≡ then_seen (seen (callers_in (length p.maps) caller_count bytes)) (λ allowed rest.
+    then_seen (seen (frame_in (length p.maps) caller_count false rest)) (λ fits others.
     then_seen (seen (named_in others)) (λ named after.
-    Ok (((callers && innermost) && head_allowed p number slot) && named, after))))
+    Ok (((allowed && fits) && head_allowed p number slot) && named, after))))
 seen-rest p number slot caller_count bytes =
     seen-then (callers_in (length p.maps) caller_count bytes) _
-    (λ callers rest. then_seen (seen (frame_in (length p.maps) caller_count false rest))
-    (λ innermost others.
+    (λ allowed rest. then_seen (seen (frame_in (length p.maps) caller_count false rest))
+    (λ fits others.
     then_seen (seen (named_in others))
     (λ named after. Ok
-    (((callers && innermost) && head_allowed p number slot) && named, after))))
+    (((allowed && fits) && head_allowed p number slot) && named, after))))
     (λ callers rest. seen-then (frame_in (length p.maps) caller_count false rest) _
-    (λ innermost others. then_seen (seen (named_in others))
+    (λ fits others. then_seen (seen (named_in others))
     (λ named after. Ok
-    (((is_some callers && innermost) && head_allowed p number slot) && named, after)))
+    (((is_some callers && fits) && head_allowed p number slot) && named, after)))
     (λ innermost others. seen-then (named_in others) _
     (λ named after. Ok
     (((is_some callers && is_some innermost) && head_allowed p number slot) && named, after))

@@ -5,8 +5,8 @@ use Rattle.table_entries.specs.declared.refusals.TableRefusal.{TableRefusal}
 use Rattle.table_entries.specs.Entries.{Entry}
 use Rattle.table_entries.specs.Tables.{TableView, count_of, count_in, entries_in, entry_at, entry_from, first_none}
 
--- the entries that are placed, the bytes after them, and the count of entries in the head of the
--- table
+-- the entries that are placed, the bytes after them, and the count of entries that the first 8
+-- bytes of the table say
 pub record Grown : Type 0 where
   pub table : TableView
   pub rest : List ℕ

@@ -127,14 +127,14 @@ packet_of fixed identity None proved = None
 packet_of fixed identity (Some limits) proved =
     Some (Packet fixed identity limits.0 limits.1 proved)
 
--- fixed part, identity, limits of the variable part, and proved length: 20 bytes
+-- fixed part, identity, limits of the variable part, and how many bytes are proved: 20 bytes
 unfoldable pub packet_in : List ℕ → Option Kind
 packet_in bytes =
     if lacks_identity bytes then None
     else packet_of (signed_32 bytes) (little_number 4 (drop 4 bytes)) (limits_in (drop 8 bytes))
     (little_number 4 (drop 16 bytes))
 
--- a call frame up to the one that holds the pointer, and an offset: 5 bytes
+-- the index of a call frame up to the one that holds the pointer, and an offset: 5 bytes
 unfoldable pub stack_in : ℕ → List ℕ → Option Kind
 stack_in holder bytes =
     if nat_lt holder (little_number 1 bytes) then None
@@ -163,7 +163,7 @@ null_in rows bytes =
 
 -- ---- kinds
 
--- a kind by its number, with the fields that the bytes begin with
+-- the kind that a byte says, with the fields that the bytes begin with
 unfoldable pub fields_in : ℕ → ℕ → ℕ → List ℕ → Read Kind
 fields_in rows holder kind bytes =
     if kind == 0 then Ok (Some Unset, bytes)
@@ -177,12 +177,12 @@ fields_in rows holder kind bytes =
     else if kind == 8 then sized 5 (null_in rows) bytes
     else Err Meaningless
 
--- a kind: its number, and its fields
+-- a kind: the byte that says which one it is, and its fields
 unfoldable pub kind_in : ℕ → ℕ → List ℕ → Read Kind
 kind_in rows holder [] = Err Short
 kind_in rows holder (kind ∷ bytes) = fields_in rows holder kind bytes
 
--- the kind of a value in a stack slot: it is set
+-- a stack slot with a spilled value, of which something is known: its kind is not unset
 abbrev pub spilled : Option Kind → Option StackSlot
 spilled None = None
 spilled (Some Unset) = None

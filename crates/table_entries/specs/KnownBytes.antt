@@ -1,5 +1,5 @@
 -- Bytes that are known to spell parts of a state. `rows` is how many map rows the program has,
--- `holder` the index of a frame, the outermost first.
+-- `holder` the index of a call frame, the outermost first.
 use Rattle.std.specs.Prelude.{◌≡◌, ℕ, ◌⊎◌, true, false, List, [], ◌∷◌, ◌++◌, length, slice_get, Option, Some, Ok}
 use Rattle.std.specs.Borrow.{Bor}
 use Rattle.stack_state.specs.declared.slots.StackSlot.{StackSlot}
@@ -50,13 +50,13 @@ NotesFrame rows holder f old new =
 
 -- ---- stack slots
 
--- the bytes spell the slots, whatever comes after them
+-- the bytes spell the stack slots, whatever comes after them
 abbrev pub SpellsSlots : ℕ → ℕ → List ℕ → List StackSlot → Type 0
 SpellsSlots rows holder bytes slots =
     (rest : List ℕ)
     → many (λ k. stack_slot_in rows holder) frame_slots 0 (bytes ++ rest) ≡ Ok (Some slots, rest)
 
--- if bytes are known, they spell the slots
+-- if bytes are known, they spell the stack slots
 abbrev pub SpellSlots : ℕ → ℕ → Option (Bor (List ℕ)) → List StackSlot → Type 0
 SpellSlots rows holder known slots =
     (b : Bor (List ℕ)) → known ≡ Some b → SpellsSlots rows holder b.now slots

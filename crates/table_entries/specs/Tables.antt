@@ -19,8 +19,8 @@ refusal_of Meaningless k = refusal.Entry k
 
 abbrev pub before : Option Entry → Result (List (Option Entry) × List ℕ) TableRefusal
     → Result (List (Option Entry) × List ℕ) TableRefusal
-before first (Ok x) = Ok (first ∷ x.0, x.1)
-before first (Err e) = Err e
+before entry (Ok x) = Ok (entry ∷ x.0, x.1)
+before entry (Err e) = Err e
 
 -- the entry of index k, and what is read after it
 abbrev pub then_entries : ℕ → Read Entry
@@ -50,7 +50,7 @@ count_in bytes =
     else let count = little_number 4 (drop 4 bytes) in
     if count == 0 || nat_lt MAX_EXPLORED count then Err refusal.Count else Ok count
 
--- this number of entries after the first 8 bytes, and nothing more
+-- this count of entries after the first 8 bytes, and nothing more
 abbrev pub body_in : Program → List ℕ → ℕ → Result (List (Option Entry)) TableRefusal
 body_in p bytes count = to_the_end (entries_in p count 0 (drop 8 bytes))
 
@@ -111,7 +111,7 @@ pub record KeepsEntries (p : Program) (t : TableView) (entries : List Entry) : T
   pub count : count_of t ≡ length entries
   pub each : (k : ℕ) → entry_at p t k ≡ slice_get entries k
 
--- this number of entries begin at the places; `first` is the first of them that is not allowed
+-- this count of entries begin at the places; `first` is the first of them that is not allowed
 pub record ArePlaced (p : Program) (bytes : List ℕ) (count : ℕ) (places : List ℕ)
     (first : Option ℕ) : Type 0 where
   pub body : body_in p bytes count ≡ Ok (map (entry_from p bytes) places)
@@ -119,6 +119,6 @@ pub record ArePlaced (p : Program) (bytes : List ℕ) (count : ℕ) (places : Li
 
 -- the first index that was found, or else this one if its entry is not allowed
 abbrev pub earlier : Option ℕ → Bool → ℕ → Option ℕ
-earlier (Some first) allowed k = Some first
+earlier (Some first) fits k = Some first
 earlier None true k = None
 earlier None false k = Some k

@@ -28,8 +28,8 @@ use std::marker::Model;
 /// A table whose first entries are placed: their bytes have the format, with every field allowed.
 /// Placing an entry takes 8 bytes of memory.
 ///
-/// Contracts see the table of those entries, the bytes after them, and the count of entries in the
-/// head.
+/// Contracts see the table of those entries, the bytes after them, and the count of entries that
+/// the first 8 bytes say.
 #[derive(Drop)]
 pub struct Growing<'a> {
     table: Table<'a>,
@@ -46,7 +46,8 @@ impl<'a> Model for Growing<'a> {
 }
 
 impl<'a> Growing<'a> {
-    /// The table of the bytes, with no entry placed yet. None: they do not begin with a head.
+    /// The table of the bytes, with no entry placed yet. None: the first 8 bytes are not those of a
+    /// table.
     pub fn begin(alloc: Global, bytes: &'a [u8]) -> Option<Growing<'a>>
         ensures bytes { IfSome result (λ growing. growing.table.bytes ≡ bytes.now) }
         ensures begun { IfSome result (λ growing. (p : Program) → IsBegun p growing) }
@@ -84,7 +85,7 @@ impl<'a> Growing<'a> {
         &self.table
     }
 
-    /// The count of entries in the head of the table.
+    /// The count of entries that the table's first 8 bytes say.
     pub fn count(&self) -> usize
         ensures { result ≡ self.now.count }
     {
@@ -192,7 +193,8 @@ impl<'a> Growing<'a> {
         if self.place(after) { Some(head) } else { None }
     }
 
-    // The bytes of the innermost frame in the next entry, if those of all outer ones are known.
+    // The bytes of the innermost call frame in the next entry, if those of all outer frames are
+    // known.
     fn inner_bytes(&self, known: &KnownBytes<'a>) -> &'a [u8] {
         let mut rest = after(self.rest, 7);
         let frames = known.frames.as_slice();
@@ -227,7 +229,7 @@ impl<'a> Growing<'a> {
         if index != self.table.len() {
             return None;
         }
-        let whole = state.innermost;
+        let innermost = state.innermost;
         known.keep(MAX_CALLERS, false);
         forget_unsaid(self.inner_bytes(known), &mut state.innermost);
         if let Some(head) = self.take(image, index, state, known) {
@@ -235,7 +237,7 @@ impl<'a> Growing<'a> {
                 return Some(head);
             }
         }
-        state.innermost = whole;
+        state.innermost = innermost;
         known.keep(MAX_CALLERS, false);
         None
     }

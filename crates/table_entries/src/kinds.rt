@@ -179,7 +179,7 @@ fn packet_of(fixed: i32, identity: u32, limits: Option<(i32, i32)>, proved: u32)
 }
 
 #[tactic(auto, unfolding(crate::specs::Kinds::packet_in))]
-/// A pointer into the packet: 20 bytes. None: a field is not allowed.
+/// The kind of a packet pointer: 20 bytes. None: a field is not allowed.
 pub fn packet_in(bytes: &[u8]) -> Option<Kind>
     requires { 20 ≤ length bytes.now }
     ensures { result ≡ packet_in bytes.now }
@@ -197,7 +197,7 @@ pub fn packet_in(bytes: &[u8]) -> Option<Kind>
 
 #[tactic(auto, unfolding(crate::specs::Kinds::stack_in))]
 #[inline(always)]
-/// A frame pointer: 5 bytes. None: a field is not allowed.
+/// The kind of a frame pointer: 5 bytes. None: a field is not allowed.
 pub fn stack_in(holder: usize, bytes: &[u8]) -> Option<Kind>
     requires { 5 ≤ length bytes.now }
     ensures { result ≡ stack_in holder bytes.now }
@@ -270,7 +270,7 @@ pub fn number_in(bytes: &[u8]) -> Option<Kind>
     }
 }
 
-/// A kind by its number, with the fields that the bytes begin with.
+/// The kind that a byte says, with the fields that the bytes begin with.
 #[tactic(auto, unfolding(crate::specs::Kinds::fields_in))]
 fn fields_in(
     rows: usize,
@@ -324,7 +324,7 @@ fn fields_in(
     }
 }
 
-/// A kind: its number, and its fields.
+/// A kind: the byte that says which one it is, and its fields.
 #[tactic(auto, unfolding(crate::specs::Kinds::kind_in))]
 pub fn kind_in(
     rows: usize,
@@ -349,7 +349,7 @@ fn marks_in(bytes: &[u8]) -> Result<(Option<StackSlot>, &[u8]), StopReason>
     }
 }
 
-/// The kind of a value in a stack slot, which is set.
+/// A stack slot with a spilled value, of which something is known: its kind is not unset.
 fn spilled(kind: Option<Kind>) -> Option<StackSlot>
     ensures { result ≡ spilled kind }
 {

@@ -30,7 +30,7 @@ pub struct KnownBytes<'a> {
 }
 
 impl<'a> KnownBytes<'a> {
-    /// None.
+    /// No bytes are known.
     pub fn none() -> KnownBytes<'a>
         ensures { (rows : ℕ) (a : State) → AreSpelled rows result a }
     {
@@ -40,13 +40,14 @@ impl<'a> KnownBytes<'a> {
         }
     }
 
-    /// Only those of the first frames, and those of the slots if they are kept.
-    pub fn keep(&mut self, frames: usize, slots: bool)
-        ensures frames { self.new.frames.items ≡ take frames self.old.frames.items }
-        ensures slots { self.new.slots ≡ (if slots then self.old.slots else None) }
+    /// Keeps only those of the first call frames, this many, and those of the stack slots if
+    /// `with_slots` says so.
+    pub fn keep(&mut self, count: usize, with_slots: bool)
+        ensures frames { self.new.frames.items ≡ take count self.old.frames.items }
+        ensures slots { self.new.slots ≡ (if with_slots then self.old.slots else None) }
     {
-        self.frames.truncate(frames);
-        if !slots {
+        self.frames.truncate(count);
+        if !with_slots {
             self.slots = None;
         }
     }

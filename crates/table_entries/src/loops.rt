@@ -1,4 +1,5 @@
-//! Ten kinds and the stack slots of a call frame in the bytes of a table, read into a frame.
+//! Loops that read ten kinds, and the stack slots of a call frame, from the bytes of a table into a
+//! frame.
 
 ghost use Rattle.std.specs.Prelude.{◌≡◌, ◌≤◌, ◌&&◌, take, replicate};
 ghost use Rattle.stack_state.specs.Slots.{frame_slots};
@@ -49,7 +50,7 @@ fn read_kind<'a>(
     }
 }
 
-// Marks the written bytes of a stack slot; a whole slot is written only where one was spilled.
+// Marks the written bytes of a stack slot, which is replaced only where it has a spilled value.
 #[inline(always)]
 pub fn mark(slot: &mut StackSlot, marks: u8)
     ensures { slot.new ≡ StackSlot.Written marks }
@@ -124,8 +125,8 @@ fn clear(slots: &mut [StackSlot; FRAME_SLOTS], count: usize)
     }
 }
 
-/// The stack slots of a frame: whether all are allowed, and the bytes after them. Most have no
-/// value, and those that come first are read many at a time.
+/// The stack slots of a frame: whether all are allowed, and the bytes after them. Nothing is known
+/// of most, and those that come first are read many at a time.
 pub fn read_stack_slots<'a>(
     rows: usize,
     holder: usize,

@@ -29,7 +29,7 @@ fn pass_other(rows: usize, holder: usize, bytes: &[u8]) -> Result<(bool, &[u8]),
     Ok((kind.is_some(), rest))
 }
 
-// Whether the bytes begin with a call frame up to the one that holds a pointer into it.
+// Whether the bytes begin with the index of a call frame up to the one that holds the pointer.
 #[inline(always)]
 #[tactic(auto, unfolding(crate::specs::Kinds::stack_in))]
 fn is_stack(holder: usize, bytes: &[u8]) -> bool

@@ -20,7 +20,7 @@ use arrayvec::ArrayVec;
 use image::Image;
 use stack_state::{AbstractFrame, FRAME_SLOTS, MAX_CALLERS, StackSlot, State};
 
-// An outer frame, whose bytes are known afterwards if it is the first for which none were.
+// An outer call frame, whose bytes are known afterwards if it is the first for which none were.
 fn after_caller<'a>(
     rows: usize,
     holder: usize,
@@ -186,8 +186,8 @@ pub(crate) fn after_entry<'a>(
     if bytes.len() < 7 {
         return None;
     }
-    let frames = usize::from(bytes[6]);
-    if frames == 0 || frames - 1 != state.callers.len() {
+    let frame_count = usize::from(bytes[6]);
+    if frame_count == 0 || frame_count - 1 != state.callers.len() {
         return None;
     }
     if usize::from(u16_at(bytes, 4)) != state.slot {

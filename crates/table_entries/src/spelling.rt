@@ -93,7 +93,7 @@ fn after_number<'a>(bytes: &'a [u8], numbers: &Scalar) -> Option<&'a [u8]>
     Some(skip(bytes, 64))
 }
 
-// Whether both are the same pointer whose offset is within limits.
+// Whether both are the same kind of pointer, one whose offset has limits, with the same fields.
 fn are_same_within(found: Kind, kind: &Kind) -> bool
     ensures { IsTrue result → found ≡ kind.now }
 {
@@ -156,7 +156,7 @@ fn are_same(found: Kind, kind: &Kind) -> bool
     }
 }
 
-// A pointer into a packet.
+// The kind of a packet pointer.
 #[inline(always)]
 fn after_packet<'a>(bytes: &'a [u8], kind: &Kind) -> Option<&'a [u8]>
     ensures { IfSome result
@@ -178,7 +178,7 @@ fn after_packet<'a>(bytes: &'a [u8], kind: &Kind) -> Option<&'a [u8]>
     }
 }
 
-// A pointer into a call frame.
+// The kind of a frame pointer.
 #[inline(always)]
 fn after_stack<'a>(holder: usize, bytes: &'a [u8], kind: &Kind) -> Option<&'a [u8]>
     ensures { IfSome result

@@ -178,14 +178,14 @@ impl<'a> Table<'a> {
         }
     }
 
-    /// Places one more entry, which begins `left` bytes before the end. False: memory ran out.
-    pub(crate) fn place(&mut self, left: usize) -> bool
-        requires { left ≤ length self.old.bytes }
+    /// Places one more entry, which begins `remaining` bytes before the end. False: memory ran out.
+    pub(crate) fn place(&mut self, remaining: usize) -> bool
+        requires { remaining ≤ length self.old.bytes }
         ensures placed { IsTrue result
-            → self.new ≡ with_place self.old (length self.old.bytes - left) }
+            → self.new ≡ with_place self.old (length self.old.bytes - remaining) }
         ensures left { result ≡ false → self.new ≡ self.old }
     {
-        match self.places.push(self.bytes.len() - left) {
+        match self.places.push(self.bytes.len() - remaining) {
             Ok(()) => true,
             Err(_) => false,
         }

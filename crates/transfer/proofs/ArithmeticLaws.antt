@@ -129,11 +129,11 @@ combined_yields p e a s op w (Number b) c k u v m h left right =
 combined_yields p e a s op w b c k u v m h left right =
     pointer_and_yields p e a s op w b c k u v m h left right
 
-copied_whole : (e : Assigned) (rows next : ℕ) (b : Kind) (v : Value) → IsValue rows next v
+copied_whole : (e : Assigned) (count next : ℕ) (b : Kind) (v : Value) → IsValue count next v
     → is_unset v ≡ false → Allows e b v → Yields e b (moved Full64 v)
-copied_whole e rows next b value.Unset fits set allowed = absurd (cc)
-copied_whole e rows next b (value.Num n) fits set allowed = rw (low_same Full64 n fits) allowed
-copied_whole e rows next b (value.Ptr r z) fits set allowed = allowed
+copied_whole e count next b value.Unset fits set allowed = absurd (cc)
+copied_whole e count next b (value.Num n) fits set allowed = rw (low_same Full64 n fits) allowed
+copied_whole e count next b (value.Ptr r z) fits set allowed = allowed
 
 -- MOV at 32 bits computes the low half
 low_number_has : (a c : Scalar) (x : ℕ) → IsLowNumber a c → Has a x → Has c (low Low32 x)
@@ -148,13 +148,13 @@ low_copied e (Number a) (Number c) v h allowed =
 low_copied e (Number a) k v h allowed = absurd h
 low_copied e b k v h allowed = absurd (cc)
 
-copied_yields : (e : Assigned) (rows next : ℕ) (w : Width) (b k : Kind) (v : Value)
+copied_yields : (e : Assigned) (count next : ℕ) (w : Width) (b k : Kind) (v : Value)
     → Copied w b (Ok k)
-    → IsValue rows next v → is_unset v ≡ false → Allows e b v → Yields e k (moved w v)
-copied_yields e rows next Full64 b k v h fits set allowed =
+    → IsValue count next v → is_unset v ≡ false → Allows e b v → Yields e k (moved w v)
+copied_yields e count next Full64 b k v h fits set allowed =
     let same : k ≡ b = cc in
-    rw same (copied_whole e rows next b v fits set allowed)
-copied_yields e rows next Low32 b k v h fits set allowed = low_copied e b k v h allowed
+    rw same (copied_whole e count next b v fits set allowed)
+copied_yields e count next Low32 b k v h fits set allowed = low_copied e b k v h allowed
 
 pub arithmetic_yields : (p : Program) (e : Assigned) (a : State) (s : Machine.State) (op : AluOp)
     (w : Width) (b c k : Kind) (u v : Value)

@@ -61,8 +61,8 @@ swapped_goes : (p : Program) (e : Assigned) (a : State) (s : Machine.State) (fra
     → ContinuesIn p e b
     (and_then (load_number s size v by)
     (λ old. and_then (store_number s size v by (new old)) (λ t. Ok (keep_old register old t))))
-swapped_goes p e a s frame z by size register b v new m own base h =
-    let (serial, found, is) = base in
+swapped_goes p e a s frame z by size register b v new m own allowed h =
+    let (serial, found, is) = allowed in
     let (at, place, swapped) = h in
     let c : Scalar = swapped.old in
     let (n, read, has) =
@@ -94,10 +94,10 @@ pub stack_swap_goes : (p : Program) (e : Assigned) (a : State) (s : Machine.Stat
     → keep ≡ keep_old register
     → StackSwaps a frame (z +ℤ place.offset) (width_size w) register b (Ok tt)
     → ContinuesIn p e b (swaps_in s w place new keep)
-stack_swap_goes p e a s frame z w place register b new keep m own base same h =
+stack_swap_goes p e a s frame z w place register b new keep m own allowed same h =
     subst (λ k. ContinuesIn p e b (swaps_in s w place new k)) (sym same)
     (swapped_goes p e a s frame z place.offset (width_size w) register b
-    (base_of s place) new m own base h)
+    (base_of s place) new m own allowed h)
 
 -- ---- in a map's value
 
@@ -118,11 +118,11 @@ value_swapped_goes : (p : Program) (e : Assigned) (a : State) (s : Machine.State
     → GoesIntoSome p b
     (and_then (load_number s size v by)
     (λ old. and_then (store_number s size v by (new old)) (λ t. Ok (keep_old register old t))))
-value_swapped_goes p e a s j least greatest by size register b v new m own base
+value_swapped_goes p e a s j least greatest by size register b v new m own allowed
     (inside, (old, is, left)) =
     let (n, loaded, has) =
-    value_number_read p e a s size j least greatest by old v m inside base is in
-    let stored = value_stored p e a s size j least greatest by (new n) v m inside base in
+    value_number_read p e a s size j least greatest by old v m inside allowed is in
+    let stored = value_stored p e a s size j least greatest by (new n) v m inside allowed in
     let kept = value_kept_goes p register old n a
     (store_number s size v by (new n)) own has stored in
     subst (λ r. GoesIntoSome p b
@@ -144,10 +144,10 @@ value_swap_goes : (p : Program) (e : Assigned) (a : State) (s : Machine.State) (
     (AreInValue (value_size (slice_get p.maps j)) least greatest place.offset
     (size_bytes (width_size w))) a (width_size w) register b (Ok tt)
     → GoesIntoSome p b (swaps_in s w place new keep)
-value_swap_goes p e a s j least greatest w place register b new keep m own base same h =
+value_swap_goes p e a s j least greatest w place register b new keep m own allowed same h =
     subst (λ k. GoesIntoSome p b (swaps_in s w place new k)) (sym same)
     (value_swapped_goes p e a s j least greatest place.offset (width_size w) register b
-    (base_of s place) new m own base h)
+    (base_of s place) new m own allowed h)
 
 -- ---- all places
 

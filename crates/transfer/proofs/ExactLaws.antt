@@ -183,8 +183,8 @@ calls_in p e a s by w b c is m h =
 -- a number that names an action ends the run
 finishes_after : (P : Machine.State → Type 0) (version : Version) (v : Value) (n : ℕ)
     → v ≡ value.Num n → is_answer version n ≡ true → After P (finishes version v)
-finishes_after P version v n is names =
-    subst (λ v. After P (finishes version v)) (sym is) (rw names tt)
+finishes_after P version v n is action =
+    subst (λ v. After P (finishes version v)) (sym is) (rw action tt)
 
 exits_in : (p : Program) (e : Assigned) (a : State) (s : Machine.State) (w : Ways) (b c : State)
     (n : ℕ) → length a.callers.items ≡ n

@@ -93,7 +93,7 @@ Points s v n =
     × ((bytes : List ℕ) × (bytes_at s at n ≡ Ok bytes))
 
 read_bytes : (cs : List Cell) → list_all is_byte cs ≡ true → bytes_in cs ≡ Ok (map byte_in cs)
-read_bytes cs all = let set = none_unwritten cs all in rw (set, all)
+read_bytes cs all = let written = none_unwritten cs all in rw (written, all)
 
 read_there : (s : Machine.State) (at : BytesArgument) (n : ℕ) (cs : List Cell)
     → read s at.region (index_at at.region at.offset) n ≡ Ok cs

@@ -104,7 +104,7 @@ update_is p s m h at bytes flags there reads number =
 
 -- ---- what is left
 
--- the machine answers, and the answer is in r0
+-- the helper answers, and its answer is in r0
 answer_goes : (p : Program) (f : Assigned) (a b : State) (k : Kind)
     (called : Result Helped TrapReason) (helped : Helped) → called ≡ Ok helped
     → IfOk called (IsHelped p) → b ≡ with_answer a k → Allows f k helped.answer
@@ -146,12 +146,12 @@ updated : (p : Program) (e : Assigned) (a : State) (s : Machine.State) (m : Call
     → IfOk (update_call p s) (IsHelped p) → called_map p.maps (kind_of a R1) ≡ Ok m
     → is_number (kind_of a R4) ≡ true → KeyIsKnown p.maps a m
     → ValueIsKnown p.maps a m → AnswersNumber a b → GoesIntoSome p b (after_call (update_call p s))
-updated p e a s m b rows means fits is number key value left =
-    let h = key_read p e a s m rows means is key in
+updated p e a s m b rows means fits is number key_known value_known left =
+    let h = key_read p e a s m rows means is key_known in
     let row : IsRow m.row = row_within p.maps m.index m.row h.named rows in
     let (at, there, bytes) =
     known_points p e a s (kind_of a R3) (reg s R3) m.row.value_size row.some_value means
-    (reg_allowed p e a s means R3) value in
+    (reg_allowed p e a s means R3) value_known in
     let (flags, flagged) =
     flags_there e (kind_of a R4) (reg s R4) number (reg_allowed p e a s means R4) in
     let helped : Helped = map_update_elem m.row s m.index h.key bytes.0 flags in
@@ -205,31 +205,31 @@ helps_goes : (p : Program) (clock : ℕ → ℕ) (e : Assigned) (a : State) (s :
 helps_goes p clock e a s (Some MapLookupElem) b answers rows means fits h =
     let (m, is, known, left) =
     left_by b (key_arguments p.maps a) (KeyIsKnown p.maps a) (AnswersValue a) h in
-    let named = judged_map (is_untested (kind_of a R1) || is_untested (kind_of a R2))
+    let passed = judged_map (is_untested (kind_of a R1) || is_untested (kind_of a R2))
     (points_to_bytes (kind_of a R2))
     (called_map p.maps (kind_of a R1)) m is in
-    looked_up p e a s m b rows means fits named.0 known left
+    looked_up p e a s m b rows means fits passed.0 known left
 helps_goes p clock e a s (Some MapUpdateElem) b answers rows means fits h =
     let (m, is, known, left) =
     left_by b (update_arguments p.maps a) (λ m. KeyIsKnown p.maps a m × ValueIsKnown p.maps a m)
     (λ m. AnswersNumber a) h in
-    let named = judged_map
+    let passed = judged_map
     ((is_untested (kind_of a R1) || is_untested (kind_of a R2))
     || (is_untested (kind_of a R3) || is_untested (kind_of a R4)))
     (points_to_bytes (kind_of a R2) && (points_to_bytes (kind_of a R3) && is_number (kind_of a R4)))
     (called_map p.maps (kind_of a R1)) m is in
-    updated p e a s m b rows means fits named.0
+    updated p e a s m b rows means fits passed.0
     (last_of (points_to_bytes (kind_of a R2)) (points_to_bytes (kind_of a R3))
-    (is_number (kind_of a R4)) named.1)
+    (is_number (kind_of a R4)) passed.1)
     known.0 known.1 left
 helps_goes p clock e a s (Some MapDeleteElem) b answers rows means fits h =
     let (m, is, known, left) =
     left_by b (key_arguments p.maps a) (KeyIsKnown p.maps a)
     (λ m. AnswersNumber (without_values m.row.kind m.index a)) h in
-    let named = judged_map (is_untested (kind_of a R1) || is_untested (kind_of a R2))
+    let passed = judged_map (is_untested (kind_of a R1) || is_untested (kind_of a R2))
     (points_to_bytes (kind_of a R2))
     (called_map p.maps (kind_of a R1)) m is in
-    deleted p e a s m b rows means fits named.0 known left
+    deleted p e a s m b rows means fits passed.0 known left
 helps_goes p clock e a s (Some KtimeGetNs) b answers rows means fits h =
     let helped : Helped = ktime_get_ns clock s in
     let kept = MeansBy-asked p e a s (s.clock_calls + 1) fits.0 means in

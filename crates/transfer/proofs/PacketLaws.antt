@@ -88,19 +88,19 @@ place_from (negsuc i) n m from to = absurd (omega (arith, ints))
 
 -- bytes that are known to be in the packet are there
 pub packet_place : (e : Assigned) (s : Machine.State) (fixed least greatest : ℤ)
-    (identity proved bytes : ℕ) (by : ℤ) (v : Value) → AssignmentFits e s
-    → AreInPacket fixed least proved by bytes
+    (identity proved count : ℕ) (by : ℤ) (v : Value) → AssignmentFits e s
+    → AreInPacket fixed least proved by count
     → AllowsPacket e fixed identity least greatest proved v
     → (i : ℕ) × (index_from ((fixed +ℤ e.offset identity) +ℤ by) ≡ Some i)
-    × (i + bytes ≤ length s.packet)
-packet_place e s fixed least greatest identity proved bytes by v of h allowed =
+    × (i + count ≤ length s.packet)
+packet_place e s fixed least greatest identity proved count by v of h allowed =
     let off : ℤ = e.offset identity in
     let low = h.from in
     let high = h.to in
     let from = allowed.from in
     let there : (off +ℤ pos proved) ≤ℤ pos e.packet_length = allowed.inside h.some in
     let same = of.length_is in
-    place_from ((fixed +ℤ off) +ℤ by) bytes (length s.packet) (omega (arith, ints))
+    place_from ((fixed +ℤ off) +ℤ by) count (length s.packet) (omega (arith, ints))
     (omega (arith, ints))
 
 -- ---- loads from the packet
@@ -205,18 +205,18 @@ pub packet_load_signed_yields : (p : Program) (e : Assigned) (s : Machine.State)
     → Yields e k (load_signed s size v by)
 packet_load_signed_yields p e s size fixed least greatest identity proved by k v is of
     (inside, number) allowed =
-    let bytes : ℕ = size_bytes (unsigned_size size) in
+    let count : ℕ = size_bytes (unsigned_size size) in
     let (i, found, room) =
-    packet_place e s fixed least greatest identity proved bytes by v of inside allowed in
-    let x : ℕ = sign_extended (size_extension size) (number_from (bytes_at s i bytes)) in
+    packet_place e s fixed least greatest identity proved count by v of inside allowed in
+    let x : ℕ = sign_extended (size_extension size) (number_from (bytes_at s i count)) in
     rw (
       allowed.points,
       packet_number s (unsigned_size size) (fixed +ℤ e.offset identity) by i found room,
     )
     (number_yields e (IsOfSignedSize size) k x
     (λ c h. (h.members x).1 (
-      sign_extended_fits (size_extension size) (number_from (bytes_at s i bytes)),
-      extended_fits size (number_from (bytes_at s i bytes)),
+      sign_extended_fits (size_extension size) (number_from (bytes_at s i count)),
+      extended_fits size (number_from (bytes_at s i count)),
     )) number)
 
 -- ---- stores into the packet
@@ -232,7 +232,7 @@ packet_stored p e a s size fixed least greatest identity proved by n v inside al
     packet_place e s fixed least greatest identity proved
     (size_bytes size) by v m.assigned inside allowed in
     let new : List Cell = map Byte (bytes_of size n) in
-    let count : length new ≡ size_bytes size = length-map (bytes_of size n) Byte
+    let as_many : length new ≡ size_bytes size = length-map (bytes_of size n) Byte
     ∙ length-bytes_of size n in
     let long : length (map Byte s.packet) ≡ length s.packet = length-map s.packet Byte in
     let yes : nat_le (i + length new) (length (map Byte s.packet)) ≡ true =

@@ -41,13 +41,13 @@ use Rattle.transfer.specs.Following.{returns_of}
 
 -- ---- memory
 
-returns-with_frame_slots : (a : State) (j : ℕ) (slots : List StackSlot) → j < depth a
-    → returns_of (with_frame_slots a j slots) ≡ returns_of a
-returns-with_frame_slots a j slots inside =
+returns-with_frame_slots : (a : State) (j : ℕ) (stack_slots : List StackSlot) → j < depth a
+    → returns_of (with_frame_slots a j stack_slots) ≡ returns_of a
+returns-with_frame_slots a j stack_slots inside =
     ap (λ fs. map (λ f. f.return_slot) fs)
-    (frames_of-with_frame a j (with_slots (abstract_frame_at a j) slots) inside)
+    (frames_of-with_frame a j (with_slots (abstract_frame_at a j) stack_slots) inside)
     ∙ map-set_same (λ f. f.return_slot) (frames_of a) j
-    (with_slots (abstract_frame_at a j) slots) no_frame refl
+    (with_slots (abstract_frame_at a j) stack_slots) no_frame refl
 
 returns-left : (a b : State) (frame at : ℕ) (size : Size) (source : Kind) → frame < depth a
     → IsLeft a frame at size source b → returns_of b ≡ returns_of a
@@ -137,7 +137,7 @@ returns-leaves cond taken a some b (compared.OrNull identity null) is h l =
 returns-leaves cond taken a some b (compared.Live null) is h l = ap returns_of l.1
 returns-leaves cond taken a some b compared.Undefined is h l = ap returns_of l.1
 
--- each outcome of a conditional jump
+-- each side of a conditional jump
 pub returns-refines : (cond : Cond) (taken : Bool) (a : State) (some : Bool) (b : State)
     → Refines cond taken a some b → returns_of b ≡ returns_of a
 returns-refines cond taken a some b h =

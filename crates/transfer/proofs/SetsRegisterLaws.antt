@@ -139,25 +139,25 @@ puts_yields p clock e a s (ByteSwap order span x) d k fits m set written names h
 puts_yields p clock e a s (LoadNumber x n) d k fits m set written names h =
     let same : x ≡ d = cc in
     let (b, just, is) = h in
-    let kind : k ≡ b = cc in (
+    let kind_is : k ≡ b = cc in (
       Ok (value.Num n),
       ap (λ y. sets s (LoadNumber x n) y (Ok (value.Num n))) same,
-      yields_in p e a s k (Ok (value.Num n)) m (rw kind (just_allowed e b n just)),
+      yields_in p e a s k (Ok (value.Num n)) m (rw kind_is (just_allowed e b n just)),
     )
 puts_yields p clock e a s (LoadMap x j) d k fits m set written names h =
     let same : x ≡ d = cc in
-    let kind : k ≡ kind.Map j = cc in (
+    let kind_is : k ≡ kind.Map j = cc in (
       Ok (map_pointer j),
       ap (λ y. sets s (LoadMap x j) y (Ok (map_pointer j))) same,
-      yields_in p e a s k (Ok (map_pointer j)) m (rw kind refl),
+      yields_in p e a s k (Ok (map_pointer j)) m (rw kind_is refl),
     )
 puts_yields p clock e a s (LoadMapValue x j offset) d k fits m set written names h =
     let same : x ≡ d = cc in
-    let kind : k ≡ kind.MapValue j (pos offset) (pos offset) = cc in (
+    let kind_is : k ≡ kind.MapValue j (pos offset) (pos offset) = cc in (
       Ok (value_pointer s j offset),
       ap (λ y. sets s (LoadMapValue x j offset) y (Ok (value_pointer s j offset))) same,
       yields_in p e a s k (Ok (value_pointer s j offset)) m
-          (rw kind (value_pointer_allowed p e a s j offset m names)),
+          (rw kind_is (value_pointer_allowed p e a s j offset m names)),
     )
 puts_yields p clock e a s (Load size x place) d k fits m set written names h =
     let same : x ≡ d = cc in
@@ -199,8 +199,8 @@ sets_goes p clock e a s i d k (Ok v) keeps m own is yields =
     let held : reg t d ≡ v = get_or-set_same s.regs (reg_number d) v value.Unset (omega arith) in
     let v_fits : IsValue (length p.maps) s.next_serial v =
     subst (IsValue (length p.maps) s.next_serial) held (reg_fits p t d t_is) in
-    let set = MeansBy-set p e a s d k v own yields v_fits m in
-    let gone = MeansBy-go_to p e (with_register a d k) (set_reg s d v) n t_is.slot set in
+    let put = MeansBy-set p e a s d k v own yields v_fits m in
+    let gone = MeansBy-go_to p e (with_register a d k) (set_reg s d v) n t_is.slot put in
     subst (After (MeansBy p e (go_to (with_register a d k) (a.slot + slots_filled i)))) (sym is)
     (subst (λ m. MeansBy p e (go_to (with_register a d k) (m + slots_filled i)) t) m.slot_is gone)
 sets_goes p clock e a s i d k (Err reason) keeps m own is yields = absurd yields

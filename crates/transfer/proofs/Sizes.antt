@@ -1,4 +1,4 @@
--- The greatest number of some bytes.
+-- The greatest number of each size of bytes.
 use native.Mathlib.Nat.{zero-div, div-eq_of_lt}
 use Rattle.std.proofs.Common.{◌≡◌, ◌≢◌, ℕ, ◌+◌, ◌*◌, ◌/◌, ◌^◌, ◌<◌, ◌≤◌, pos, w64, inl, inr, sym, ◌∙◌, refl, arith}
 use Rattle.std.specs.Prelude.{◌≤ℤ◌}
@@ -34,7 +34,7 @@ pub greatest_signed : (size : Size) (most : ℕ) → most + 1 ≡ 2 ^ (8 * size_
     → size_bytes size < 8
     → (cast_signed w64 0 ≤ℤ cast_signed w64 most) × (cast_signed w64 most ≡ pos most)
     × (cast_signed w64 0 ≡ pos 0)
-greatest_signed U8 most is narrow = small_signed most (omega arith)
-greatest_signed U16 most is narrow = small_signed most (omega arith)
-greatest_signed U32 most is narrow = small_signed most (omega arith)
-greatest_signed U64 most is narrow = absurd (omega arith)
+greatest_signed U8 most is short = small_signed most (omega arith)
+greatest_signed U16 most is short = small_signed most (omega arith)
+greatest_signed U32 most is short = small_signed most (omega arith)
+greatest_signed U64 most is short = absurd (omega arith)

@@ -104,8 +104,8 @@ pub stack_load_yields : (p : Program) (e : Assigned) (a : State) (s : Machine.St
     (z by : ℤ) (size : Size) (k : Kind) (v : Value)
     → MeansBy p e a s → Allows e (Stack frame z) v → StackLoads a frame (z +ℤ by) size (Ok k)
     → Yields e k (load s size v by)
-stack_load_yields p e a s frame z by size k v m base h =
-    let (serial, found, is) = base in
+stack_load_yields p e a s frame z by size k v m pointer h =
+    let (serial, found, is) = pointer in
     let (at, place, given) = h in
     subst (λ x. Yields e k (load s size x by)) (sym is)
     (at_yields p e a s frame at serial z by size k m found place given)
@@ -117,9 +117,9 @@ signed_yields : (p : Program) (e : Assigned) (a : State) (s : Machine.State) (fr
     → IsSignedLoad (stack_slots_of a frame) at size (Some k)
     → Yields e k (load_signed s size (value.Ptr (region.CallFrame serial) z) by)
 signed_yields p e a s frame at serial z by size (Number c) m found place h =
-    let (b, whole, extended) = h in
+    let (b, loaded, extended) = h in
     let (n, read, has) =
-    number_read p e a s frame at serial z by (unsigned_size size) b m found place whole in
+    number_read p e a s frame at serial z by (unsigned_size size) b m found place loaded in
     let f : ℕ → Value = λ n. value.Num (sign_extended (size_extension size) n) in
     subst (λ (r : Result ℕ TrapReason). Yields e (Number c) (and_then r (λ n. Ok (f n)))) (sym read)
     (sign_extended (size_extension size) n, refl, extended.contains n has)
@@ -129,8 +129,8 @@ pub stack_load_signed_yields : (p : Program) (e : Assigned) (a : State) (s : Mac
     (frame : ℕ) (z by : ℤ) (size : SignedSize) (k : Kind) (v : Value)
     → MeansBy p e a s → Allows e (Stack frame z) v → StackLoadsSigned a frame (z +ℤ by) size (Ok k)
     → Yields e k (load_signed s size v by)
-stack_load_signed_yields p e a s frame z by size k v m base h =
-    let (serial, found, is) = base in
+stack_load_signed_yields p e a s frame z by size k v m pointer h =
+    let (serial, found, is) = pointer in
     let (at, place, given) = h in
     subst (λ x. Yields e k (load_signed s size x by)) (sym is)
     (signed_yields p e a s frame at serial z by size k m found place given)

@@ -84,8 +84,8 @@ live_key_value content n live =
 -- the index of a live value in its map's content, and its bytes
 pub record IsLiveValue (p : Program) (s : Machine.State) (m n : ℕ) (nth : ℕ) : Type 0 where
   pub found : index_of_serial (content_of s m) n ≡ Some nth
-  pub size : length (key_value_at (content_of s m) nth).1.bytes ≡ value_size (slice_get p.maps m)
-  pub bytes : AreBytes (key_value_at (content_of s m) nth).1.bytes
+  pub long : length (key_value_at (content_of s m) nth).1.bytes ≡ value_size (slice_get p.maps m)
+  pub are_bytes : AreBytes (key_value_at (content_of s m) nth).1.bytes
 
 key_value_there : (p : Program) (s : Machine.State) (m n j : ℕ) (row : MapDef)
     → slice_get p.maps m ≡ Some row → IsState p s → j < length (content_of s m) → IsKeyValue row
@@ -108,21 +108,21 @@ live_value p s m n (Some row) here is live some =
       j,
       record {
         found = found;
-        size = pair.value_size ∙ ap value_size (sym here);
-        bytes = pair.value;
+        long = pair.value_size ∙ ap value_size (sym here);
+        are_bytes = pair.value;
       },
     )
 
 -- ---- places
 
 -- bytes that are known to be in a map value are there
-value_place : (value_bytes : ℕ) (least greatest z by : ℤ) (bytes : ℕ)
-    → AreInValue value_bytes least greatest by bytes → least ≤ℤ z → z ≤ℤ greatest
-    → (i : ℕ) × (index_from (z +ℤ by) ≡ Some i) × (i + bytes ≤ value_bytes)
-value_place value_bytes least greatest z by bytes h from to =
+value_place : (value_bytes : ℕ) (least greatest z by : ℤ) (count : ℕ)
+    → AreInValue value_bytes least greatest by count → least ≤ℤ z → z ≤ℤ greatest
+    → (i : ℕ) × (index_from (z +ℤ by) ≡ Some i) × (i + count ≤ value_bytes)
+value_place value_bytes least greatest z by count h from to =
     let low = h.from in
     let high = h.to in
-    place_from (z +ℤ by) bytes value_bytes (omega (arith, ints)) (omega (arith, ints))
+    place_from (z +ℤ by) count value_bytes (omega (arith, ints)) (omega (arith, ints))
 
 some_bytes : (size : Size) → 0 < size_bytes size
 some_bytes U8 = omega arith
@@ -131,28 +131,28 @@ some_bytes U32 = omega arith
 some_bytes U64 = omega arith
 
 -- where the bytes of a pointer to a map value are
-pub record HasBytesAt (p : Program) (s : Machine.State) (m n : ℕ) (z : ℤ) (bytes : ℕ) : Type 0 where
+pub record HasBytesAt (p : Program) (s : Machine.State) (m n : ℕ) (z : ℤ) (count : ℕ) : Type 0 where
   pub nth : ℕ
   pub live : IsLiveValue p s m n nth
   pub index : ℕ
   pub found : index_from z ≡ Some index
-  pub inside : index + bytes ≤ length (key_value_at (content_of s m) nth).1.bytes
+  pub inside : index + count ≤ length (key_value_at (content_of s m) nth).1.bytes
 
 -- some bytes that are known to be in a map value are there
 pub at_value : (p : Program) (e : Assigned) (a : State) (s : Machine.State) (m : ℕ)
-    (least greatest by : ℤ) (v : Value) (bytes : ℕ) → 0 < bytes
+    (least greatest by : ℤ) (v : Value) (count : ℕ) → 0 < count
     → MeansBy p e a s → (h : AllowsMapValue e m least greatest v)
-    → AreInValue (value_size (slice_get p.maps m)) least greatest by bytes
-    → HasBytesAt p s m h.serial (h.offset +ℤ by) bytes
-at_value p e a s m least greatest by v bytes some means h inside =
+    → AreInValue (value_size (slice_get p.maps m)) least greatest by count
+    → HasBytesAt p s m h.serial (h.offset +ℤ by) count
+at_value p e a s m least greatest by v count some means h inside =
     let value_bytes : ℕ = value_size (slice_get p.maps m) in
     let (i, found, within) =
-    value_place value_bytes least greatest h.offset by bytes inside h.from h.to in
+    value_place value_bytes least greatest h.offset by count inside h.from h.to in
     let live : HasLiveValue s.maps m h.serial =
     subst (λ maps. HasLiveValue maps m h.serial) means.assigned.contents h.live in
     let (j, value) =
     live_value p s m h.serial (slice_get p.maps m) refl means.is_state live (omega arith) in
-    let long = value.size in
+    let long = value.long in
     record { nth = j; live = value; index = i; found = found; inside = omega arith }
 
 -- ---- loads
@@ -208,7 +208,7 @@ value_number_below p s size m n z h =
     length-take-le (size_bytes size) (drop h.index bytes) (omega arith) in
     number_from_below size (bytes_from s m h.nth h.index (size_bytes size)) long
     (EachByte-take (size_bytes size) (drop h.index bytes)
-    (EachByte-drop h.index bytes (slice_index_fits bytes h.live.bytes)))
+    (EachByte-drop h.index bytes (slice_index_fits bytes h.live.are_bytes)))
 
 pub value_load_yields : (p : Program) (e : Assigned) (a : State) (s : Machine.State) (size : Size)
     (m : ℕ) (least greatest by : ℤ) (k : Kind) (v : Value)
@@ -270,7 +270,7 @@ value_stored p e a s size m least greatest by x v means inside allowed =
     let n : ℕ = allowed.serial in
     let bytes : List ℕ = (key_value_at (content_of s m) h.nth).1.bytes in
     let new : List Cell = map Byte (bytes_of size x) in
-    let count : length new ≡ size_bytes size = length-map (bytes_of size x) Byte
+    let as_many : length new ≡ size_bytes size = length-map (bytes_of size x) Byte
     ∙ length-bytes_of size x in
     let long : length (map Byte bytes) ≡ length bytes = length-map bytes Byte in
     let room = h.inside in

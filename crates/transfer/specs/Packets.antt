@@ -1,4 +1,4 @@
--- The results of loads, stores and moves through packet pointers.
+-- The results of loads and stores through packet pointers, and of moves of them.
 -- Linux, Documentation/bpf/verifier.rst (direct packet access).
 use Rattle.std.specs.Prelude.{◌≡◌, ℕ, ◌+◌, ◌*◌, ◌^◌, ◌<◌, ◌≤◌, ◌⊎◌, ◌↔◌, ℤ, pos, ◌+ℤ◌, ◌-ℤ◌, ◌≤ℤ◌, FitsSigned, unsigned_abs, Bool, true, false, Option, Some, None, Result, Ok, Err}
 use Rattle.std.specs.Int.{w32, w64, cast_signed, bit_at}
@@ -23,15 +23,15 @@ use Rattle.transfer.specs.declared.packets.PacketPointer.{PacketPointer}
 
 -- this number of bytes is in the packet, wherever the variable part is: from 0 up, and within what
 -- is proved to be there
-pub record AreInPacket (fixed least : ℤ) (proved : ℕ) (by : ℤ) (bytes : ℕ) : Type 0 where
+pub record AreInPacket (fixed least : ℤ) (proved : ℕ) (by : ℤ) (count : ℕ) : Type 0 where
   pub some : 0 < proved
   pub from : pos 0 ≤ℤ ((fixed +ℤ by) +ℤ least)
-  pub to : ((fixed +ℤ by) +ℤ pos bytes) ≤ℤ pos proved
+  pub to : ((fixed +ℤ by) +ℤ pos count) ≤ℤ pos proved
 
 -- ---- loads
 
--- any number with this number of bytes: no other bit may be 1, and the limits are no wider; those
--- with a sign are narrower for fewer than 8 bytes
+-- any number of this size: no other bit may be 1, and the limits are no wider; those with a sign
+-- are narrower for fewer than 8 bytes
 pub record IsOfSize (size : Size) (c : Scalar) : Type 0 where
   pub members : (x : ℕ) → (Has c x ↔ (x < 2 ^ (8 * size_bytes size)))
   pub unknown : (i : ℕ) → bit_at c.bits.mask i ≡ 1 → i < 8 * size_bytes size
@@ -41,7 +41,7 @@ pub record IsOfSize (size : Size) (c : Scalar) : Type 0 where
   pub signed_greatest : size_bytes size < 8
       → c.range.wide.signed_greatest ≡ pos c.range.wide.greatest
 
--- any number with this number of bytes and a sign, in 64 bits
+-- any number of this size with a sign, in 64 bits
 pub record IsOfSignedSize (size : SignedSize) (c : Scalar) : Type 0 where
   pub members : (x : ℕ)
       → (Has c x

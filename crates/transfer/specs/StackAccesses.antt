@@ -36,22 +36,22 @@ FindsFramePlace a frame z size None = IsNoFramePlace a frame z size
 
 -- the number that the bytes spell; `None`: not all of them are written number bytes
 abbrev pub IsNumberLoad : List StackSlot → ℕ → Size → Option Kind → Type 0
-IsNumberLoad slots at size None = IsLoad slots at size None
-IsNumberLoad slots at size (Some (Number c)) = IsLoad slots at size (Some c)
-IsNumberLoad slots at size (Some k) = ⊥
+IsNumberLoad stack_slots at size None = IsLoad stack_slots at size None
+IsNumberLoad stack_slots at size (Some (Number c)) = IsLoad stack_slots at size (Some c)
+IsNumberLoad stack_slots at size (Some k) = ⊥
 
 -- a load of 8 bytes returns the value that was stored whole
 abbrev pub IsStackLoad : List StackSlot → ℕ → Size → Option Kind → Type 0
-IsStackLoad slots at U64 loaded = IsFill (slot_at slots (at / 8)) loaded
-IsStackLoad slots at size loaded = IsNumberLoad slots at size loaded
+IsStackLoad stack_slots at U64 loaded = IsFill (slot_at stack_slots (at / 8)) loaded
+IsStackLoad stack_slots at size loaded = IsNumberLoad stack_slots at size loaded
 
 -- the number, sign-extended
 abbrev pub IsSignedLoad : List StackSlot → ℕ → SignedSize → Option Kind → Type 0
-IsSignedLoad slots at size None = IsLoad slots at (unsigned_size size) None
-IsSignedLoad slots at size (Some (Number c)) =
-    (b : Scalar) × IsLoad slots at (unsigned_size size) (Some b)
+IsSignedLoad stack_slots at size None = IsLoad stack_slots at (unsigned_size size) None
+IsSignedLoad stack_slots at size (Some (Number c)) =
+    (b : Scalar) × IsLoad stack_slots at (unsigned_size size) (Some b)
     × IsSignExtended (size_extension size) b c
-IsSignedLoad slots at size (Some k) = ⊥
+IsSignedLoad stack_slots at size (Some k) = ⊥
 
 -- a load is refused for its place, and then for its bytes
 abbrev pub LoadsIn : State → ℕ → ℤ → Size → (List StackSlot → ℕ → Option Kind → Type 0)
@@ -65,11 +65,12 @@ LoadsIn a frame z size gives (Err e) = ⊥
 
 abbrev pub StackLoads : State → ℕ → ℤ → Size → Result Kind Refusal → Type 0
 StackLoads a frame z size result =
-    LoadsIn a frame z size (λ slots at. IsStackLoad slots at size) result
+    LoadsIn a frame z size (λ stack_slots at. IsStackLoad stack_slots at size) result
 
 abbrev pub StackLoadsSigned : State → ℕ → ℤ → SignedSize → Result Kind Refusal → Type 0
 StackLoadsSigned a frame z size result =
-    LoadsIn a frame z (unsigned_size size) (λ slots at. IsSignedLoad slots at size) result
+    LoadsIn a frame z (unsigned_size size)
+    (λ stack_slots at. IsSignedLoad stack_slots at size) result
 
 -- ---- stores
 

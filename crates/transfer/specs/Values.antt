@@ -1,4 +1,5 @@
--- The results of wide loads of maps, and of loads, stores and moves through pointers to map values.
+-- The results of wide loads of maps, of loads and stores through pointers to map values, and of
+-- moves of these.
 -- bpf(2) (maps); Linux, Documentation/bpf/verifier.rst (pointers to map values).
 use Rattle.std.specs.Prelude.{◌≡◌, ℕ, ◌^◌, ◌<◌, ℤ, pos, ◌+ℤ◌, ◌-ℤ◌, ◌≤ℤ◌, Bool, true, false, Option, Some, None, Result, Ok, Err}
 use Rattle.isa_model.specs.declared.sizes.Size.{Size}
@@ -32,9 +33,9 @@ value_size (Some row) = row.value_size
 value_size None = 0
 
 -- this number of bytes is in a map value of `value_bytes` bytes, wherever the pointer points
-pub record AreInValue (value_bytes : ℕ) (least greatest by : ℤ) (bytes : ℕ) : Type 0 where
+pub record AreInValue (value_bytes : ℕ) (least greatest by : ℤ) (count : ℕ) : Type 0 where
   pub from : pos 0 ≤ℤ (least +ℤ by)
-  pub to : ((greatest +ℤ by) +ℤ pos bytes) ≤ℤ pos value_bytes
+  pub to : ((greatest +ℤ by) +ℤ pos count) ≤ℤ pos value_bytes
 
 -- ---- loads and stores
 

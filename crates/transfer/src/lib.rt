@@ -37,11 +37,11 @@ pub enum Ways {
     None,
     /// One, left in the state.
     One,
-    /// Two: the fall-through in the state, the jump's target in the other.
+    /// Two: the fall-through's in the state, the jump's in the other.
     Two,
 }
 
-/// The successors of an instruction, the fall-through first.
+/// The successors of a state, the fall-through first.
 #[derive(Drop)]
 pub enum Successors {
     /// It exits, or no member goes on.

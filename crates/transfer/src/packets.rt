@@ -1,4 +1,4 @@
-//! Loads, stores and moves through packet pointers.
+//! Loads and stores through packet pointers, and moves of them.
 
 ghost use Rattle.std.specs.Prelude.{◌≡◌, ◌+◌, ◌*◌, ◌^◌, ◌↔◌, ℤ, pos, ◌+ℤ◌, ◌-ℤ◌, ◌≤ℤ◌, FitsSigned, IsTrue};
 ghost use Rattle.isa_model.specs.Code.Sizes.{size_bytes, unsigned_size, size_extension};
@@ -25,8 +25,8 @@ pub struct PacketPointer {
     pub proved: u32,
 }
 
-/// The greatest number with this number of bytes.
-fn greatest(size: Size) -> u64
+/// The greatest number of this size.
+fn greatest_number(size: Size) -> u64
     ensures { result + 1 ≡ 2 ^ (8 * size_bytes size) }
 {
     match size {
@@ -37,18 +37,18 @@ fn greatest(size: Size) -> u64
     }
 }
 
-/// Any number with this number of bytes.
+/// Any number of this size.
 pub fn of_size(size: Size) -> Scalar
     ensures { IsOfSize size result }
 {
-    let greatest = greatest(size);
+    let greatest = greatest_number(size);
     Scalar {
         bits: Bits::between(0, greatest),
         range: Range::between(0, greatest),
     }
 }
 
-/// The least and the greatest number with this number of bytes and a sign.
+/// The least and the greatest number of this size with a sign.
 fn signed_limits(size: SignedSize) -> (i64, i64)
     ensures fits { (z : ℤ) → (((result.0 ≤ℤ z) × (z ≤ℤ result.1))
         ↔ FitsSigned (extension_signed (size_extension size)) z) }
@@ -61,7 +61,7 @@ fn signed_limits(size: SignedSize) -> (i64, i64)
     }
 }
 
-/// Any number with this number of bytes and a sign.
+/// Any number of this size with a sign.
 pub fn of_signed_size(size: SignedSize) -> Scalar
     ensures { IsOfSignedSize size result }
 {
@@ -195,11 +195,11 @@ fn variable_part(fixed: i32, from: i32, to: i32) -> Option<(i32, i32)>
     Some((least, greatest))
 }
 
-/// How many bytes after the variable part are still in the packet, when its greatest has moved.
-fn still_proved(proved: u32, greatest: i32, moved: i32) -> u32
-    ensures { StaysProved proved (moved -ℤ greatest) result }
+/// How many bytes after the variable part are still proved, once its greatest is another one.
+fn still_proved(proved: u32, greatest: i32, new_greatest: i32) -> u32
+    ensures { StaysProved proved (new_greatest -ℤ greatest) result }
 {
-    let left = i64::from(proved) + i64::from(greatest) - i64::from(moved);
+    let left = i64::from(proved) + i64::from(greatest) - i64::from(new_greatest);
     if proved == 0 || left < 0 || left > i64::from(u32::MAX) {
         return 0;
     }

@@ -24,7 +24,7 @@ pub enum Refusal {
     NotMemory,
     /// Stack bytes out of the call frame, or not aligned.
     StackPlace,
-    /// Stack bytes that may be unset are read, or a stored pointer otherwise than whole.
+    /// Stack bytes that may be unwritten are read, or a stored pointer otherwise than whole.
     StackBytes,
     /// An access of the context that is not a load of one of its fields.
     ContextAccess,
@@ -34,7 +34,8 @@ pub enum Refusal {
     MapValueBytes,
     /// The pointer that a look-up answered is used before a test that it is not 0.
     NullNotTested,
-    /// A pointer is stored otherwise than whole into the innermost frame.
+    /// A pointer is stored in part or elsewhere than on the stack, or a frame pointer into an outer
+    /// frame.
     PointerStored,
     /// A comparison that is not defined on its operands.
     Comparison,
@@ -96,7 +97,7 @@ impl Refusal {
             Refusal::StackPlace =>
                 "the stack access is outside the frame's 512 bytes, or not aligned to its size",
             Refusal::StackBytes =>
-                "stack bytes are read that may be unset, or a part of a stored pointer",
+                "stack bytes are read that may be unwritten, or a part of a stored pointer",
             Refusal::ContextAccess => "the context has only 4-byte loads at 0, 4, 12 and 16",
             Refusal::PacketBytes => "the packet bytes are not proved to be there",
             Refusal::MapValueBytes => "the bytes are not proved to be in the map's value",
@@ -106,8 +107,7 @@ impl Refusal {
             Refusal::Comparison => "the comparison is not defined for a pointer",
             Refusal::HelperArgument =>
                 "there is no such helper, or it does not take such an argument",
-            Refusal::HelperBytes =>
-                "the helper's key or value bytes are not all written and in bounds",
+            Refusal::HelperBytes => "the helper's key or value bytes are not all there and written",
             Refusal::TooManyFrames => "the call makes a ninth frame, and 8 may be live",
             Refusal::ExitValue =>
                 "r0 is no number at the last exit, or points into the frame that ends",

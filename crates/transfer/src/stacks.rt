@@ -56,7 +56,7 @@ fn number(stack: &StackState, at: usize, size: Size) -> Option<Kind>
     }
 }
 
-/// The kind that a load of the bytes returns.
+/// The kind that a load of the bytes puts into its register.
 fn loaded(stack: &StackState, at: usize, size: Size) -> Option<Kind>
     requires inside { at < stack_size }
     requires in_slot { at % 8 + size_bytes size ≤ 8 }

@@ -89,7 +89,7 @@ fn result_kind(maps: &[MapDef], state: &State, insn: &Insn) -> Result<Kind, Refu
     }
 }
 
-/// Sets the register that a form writes, and moves to the next instruction.
+/// Sets the register that a form writes, and goes on to the next instruction.
 fn set(maps: &[MapDef], state: &mut State, insn: &Insn) -> Result<Ways, Refusal>
     requires writable { is_frame_pointer (writes insn.now) ≡ false }
     requires slot { state.old.slot + slots_filled insn.now < 2 ^ 63 }
@@ -108,7 +108,7 @@ fn set(maps: &[MapDef], state: &mut State, insn: &Insn) -> Result<Ways, Refusal>
 
 // ---- memory
 
-/// Stores a value, and moves to the next instruction.
+/// Stores a value, and goes on to the next instruction.
 fn store_at(
     maps: &[MapDef],
     state: &mut State,
@@ -178,7 +178,7 @@ fn compare_at(
 
 // ---- helpers
 
-/// Calls a helper, and moves to the next instruction.
+/// Calls a helper, and goes on to the next instruction.
 fn help(maps: &[MapDef], number: i32, state: &mut State) -> Result<Ways, Refusal>
     requires { state.old.slot + 1 < 2 ^ 63 }
     ensures { GoesOn state.old (CallsHelper maps.now state.old number) result state.new }

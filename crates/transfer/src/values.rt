@@ -1,4 +1,4 @@
-//! Wide loads of maps; loads, stores and moves through pointers to map values.
+//! Wide loads of maps; loads and stores through pointers to map values, and moves of them.
 
 ghost use Rattle.std.specs.Prelude.{◌≡◌, ◌^◌, ◌<◌, ◌↔◌, pos, slice_get, IsTrue, Ok};
 ghost use Rattle.isa_model.specs.Code.Sizes.{size_bytes};

@@ -1,26 +1,26 @@
--- What calls return and write: statuses, and bytes in a buffer.
+-- What calls return and write: statuses, which `src/statuses` names, and bytes in a buffer.
 use Rattle.std.specs.Prelude.{◌≡◌, ℕ, Bool, true, false, List, ◌++◌, length, take, drop, ◌⊎◌}
 use Rattle.control_flow.specs.declared.errors.FlowError.TheVariants as flow
 use Rattle.walks.specs.declared.refusals.Refusal.{Refusal}
 use Rattle.walks.specs.declared.refusals.Refusal.TheVariants.{Flow, Step, Repeats, TooLong, Memory}
 
 -- done, refused, or out of memory
-abbrev pub IsVerdict : ℕ → Type 0
-IsVerdict status = (status ≡ 0) ⊎ ((status ≡ 2) ⊎ (status ≡ 5))
+abbrev pub IsVerdictStatus : ℕ → Type 0
+IsVerdictStatus status = (status ≡ 0) ⊎ ((status ≡ 2) ⊎ (status ≡ 5))
 
--- one of these, or an argument is outside its limits
+-- one of these, or `WRONG`: nothing was done
 abbrev pub IsStatus : ℕ → Type 0
-IsStatus status = (status ≡ 1) ⊎ IsVerdict status
+IsStatus status = (status ≡ 1) ⊎ IsVerdictStatus status
 
 -- done, refused, out of memory, or the limit on explored instructions came first
 abbrev pub IsDecision : ℕ → Type 0
-IsDecision status = (status ≡ 6) ⊎ IsVerdict status
+IsDecision status = (status ≡ 6) ⊎ IsVerdictStatus status
 
--- of a key: done, an argument is outside its limits, or there is no such key
+-- of a key: done, `WRONG`, or there is no such key
 abbrev pub IsLookUp : ℕ → Type 0
 IsLookUp status = (status ≡ 0) ⊎ ((status ≡ 1) ⊎ (status ≡ 7))
 
--- of a run or a change: done, or an argument is outside its limits
+-- of a run or a change: done, or `WRONG`
 abbrev pub IsChange : ℕ → Type 0
 IsChange status = (status ≡ 0) ⊎ (status ≡ 1)
 

@@ -84,22 +84,22 @@ no_call i plain = refl
 
 call_to-none : (p : Program) (slot to : ℕ) → HasNoCalls p → call_to p slot ≡ Some to → ⊥
 unfolding call_to
-call_to-none p slot to forms h = of (fetch p slot) refl h where
+call_to-none p slot to no_calls h = of (fetch p slot) refl h where
   of : (o : Option Insn) → fetch p slot ≡ o
       → option_map (destination p slot) (option_and_then call_distance o) ≡ Some to → ⊥
   of None here e = absurd (cc)
   of (Some i) here e =
-      let none = forms slot i here in
+      let none = no_calls slot i here in
       let e' : option_map (destination p slot) None ≡ Some to =
       subst (λ (d : Option ℤ). option_map (destination p slot) d ≡ Some to) none e in
       absurd (cc)
 
 -- without calls there is one function
 one_function : (p : Program) (slot to : ℕ) → HasNoCalls p → SameFunction p slot to
-one_function p slot to forms = record { none = λ f begins. of f begins } where
+one_function p slot to no_calls = record { none = λ f begins. of f begins } where
   of : (f : ℕ) → BeginsFunction p f → (f ≤ slot) ↔ (f ≤ to)
   of f (inl is) = (λ h. omega (arith, is), λ h. omega (arith, is))
-  of f (inr (from, called)) = absurd (call_to-none p from f forms called)
+  of f (inr (from, called)) = absurd (call_to-none p from f no_calls called)
 
 PathTo-reached : (p : Program) (n slot : ℕ) (written : List Reg) → PathTo p n slot written
     → ReachedIn p n slot
@@ -109,17 +109,17 @@ PathTo-reached p (suc n) slot written h =
     (h.0, PathTo-reached p n h.0 h.1 h.3, HasEdge-Follows p h.0 slot (h.2, h.4, h.5))
 
 pub IsFlow-whole : (p : Program) → IsWhole p → HasNoCalls p → IsFlow p
-IsFlow-whole p whole forms = record {
+IsFlow-whole p whole no_calls = record {
   jumps = λ slot to h.
       let j = jump_to-by p slot to h in (
         subst (BeginsInsn p) j.at (whole.jumps slot j.insn j.by j.here j.distance),
-        one_function p slot to forms,
+        one_function p slot to no_calls,
       );
-  calls = λ slot to h. absurd (call_to-none p slot to forms h);
+  calls = λ slot to h. absurd (call_to-none p slot to no_calls h);
   falls = λ slot to h.
       let f = fall_to-by p slot to h in (
         subst (BeginsInsn p) f.at (whole.falls slot f.insn f.here f.falls),
-        one_function p slot to forms,
+        one_function p slot to no_calls,
       );
   reached =
       λ slot begins. let path = whole.reached slot begins in
@@ -138,12 +138,12 @@ pub IsRefused-want : (p : Program) (e : Refusal) (slot : ℕ) (Rest : Refusal �
     → ((e : StepRefusal) (slot : ℕ) → IsStuck p e slot → Rest (Step e))
     → ((slot : ℕ) → ComesBack p slot → ⊥) → (StartTakes p 1000001 → ⊥) → IsRefused p e slot
     → IsOutOfMemory e ⊎ Rest e
-IsRefused-want p (Flow e) slot Rest good moves parts ends h =
+IsRefused-want p (Flow e) slot Rest good stuck back long h =
     inl (Flow-out_of_memory p e slot good h)
-IsRefused-want p (Step e) slot Rest good moves parts ends h = inr (moves e slot h.1)
-IsRefused-want p Repeats slot Rest good moves parts ends h = absurd (parts slot h.1)
-IsRefused-want p TooLong slot Rest good moves parts ends h = absurd (ends h.1.1)
-IsRefused-want p Memory slot Rest good moves parts ends h = inl tt
+IsRefused-want p (Step e) slot Rest good stuck back long h = inr (stuck e slot h.1)
+IsRefused-want p Repeats slot Rest good stuck back long h = absurd (back slot h.1)
+IsRefused-want p TooLong slot Rest good stuck back long h = absurd (long h.1.1)
+IsRefused-want p Memory slot Rest good stuck back long h = inl tt
 
 -- ---- the tests of registers
 

@@ -12,7 +12,7 @@ use Rattle.walks.proofs.Plain.{IsPlain-refused, IsPlain-bound}
 use Rattle.walks.proofs.Determined.{IsDetermined-refused, IsDetermined-bound}
 use Rattle.walks.proofs.Guarded.{IsGuarded-refused, IsGuarded-bound}
 
--- a refusal is one that programs which must be accepted do not get
+-- programs that must be accepted get no other refusals than these
 pub AcceptsAll-refused : (p : Program) (e : Refusal) (slot : ℕ) → IsProgram p → IsRefused p e slot
     → AcceptsAll p e
 AcceptsAll-refused p e slot program refused = record {

@@ -37,7 +37,7 @@ use Rattle.walks.proofs.Exits.{exited_none}
 use Rattle.walks.proofs.OnNumbers.{NumbersIn, Refines-remains, StepsToWays-performs, kind_of-go_to, compared_operand, just_number}
 use Rattle.walks.proofs.StackSlots.{PutsSlot, store_puts}
 use Rattle.walks.proofs.Beside.{HoldsIf, Mirrored, first, Along, KnowsRegister, read_numbers, just_below}
-use Rattle.walks.proofs.StillBeside.{NextAlong, Mirrors-go, not_yet, here_too, still_known, slot_before, still_live, run_acts, goes_along, sets_along, one_next, jump_along}
+use Rattle.walks.proofs.StillBeside.{NextAlong, Mirrors-go, not_yet, here_too, still_known, stack_slot_before, still_live, run_acts, goes_along, sets_along, one_next, jump_along}
 
 -- ---- conditional jumps
 
@@ -170,7 +170,7 @@ put_along p steps d k s left t i j y along here silent falls keeps below fits pu
     (λ live. put.there)
     (λ n z apart held live.
     put.others n z apart
-    (held (slot_before p steps d k s t i (s.slot + 1) n along here (keeps n apart)
+    (held (stack_slot_before p steps d k s t i (s.slot + 1) n along here (keeps n apart)
     (inl falls) live))) in
     record {
       reached =
@@ -188,14 +188,14 @@ put_along p steps d k s left t i j y along here silent falls keeps below fits pu
             (m.regs r own
             (still_known p steps d k s t i (s.slot + 1) along here silent
             (inl falls) r live));
-        all_slots = put.wide ∙ m.all_slots;
+        all_slots = put.all_slots ∙ m.all_slots;
         stack =
             HasKnownStackSlots-keep (HoldsIf (λ h. IsHomeLive p h (s.slot + 1)) left)
             (HoldsIf (λ h. IsHomeLive p h (s.slot + 1)) (go_to left (s.slot + 1))) u
             (Machine.go_to u (t.slot + 1)) known refl refl (λ k z held. held);
       };
       numbers = λ r own. elim (along.numbers r own) [
-        | inl plain ↦ inl plain
+        | inl free ↦ inl free
         | inr argument ↦
             inr (
               argument.0,
@@ -214,8 +214,8 @@ goes_on_along : (p : Program) (steps : ℕ) (d : IsDetermined p steps) (k : ℕ)
     → w ≡ ways.One → GoesOnWith s (StoresAt p.maps s U64 (stack_slot_place j) source) a
     → NextAlong p steps d k w a
 goes_on_along p steps d k s t i j y source w a along here silent falls keeps below just acts one h =
-    let wide = along.mirrors.all_slots in
-    let put = store_puts s h.left j y source (omega (arith, below, wide)) just h.leaving in
+    let all = along.mirrors.all_slots in
+    let put = store_puts s h.left j y source (omega (arith, below, all)) just h.leaving in
     one_next p steps d k w a (go_to h.left (s.slot + 1))
     (Machine.go_to (stored t along.mirrors.stack.call_frame j y) (t.slot + 1)) one h.next
     (put_along p steps d k s h.left t i j y along here silent falls keeps below

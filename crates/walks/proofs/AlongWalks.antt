@@ -31,25 +31,25 @@ use Rattle.walks.proofs.StillBeside.{NextAlong}
 use Rattle.walks.proofs.Along.{step_along}
 
 -- stack slots that are live are known as before
-kept_slots : (p : Program) (a b : State) (t : Machine.State) → Forgets p a b
+known_stack_slots : (p : Program) (a b : State) (t : Machine.State) → Forgets p a b
     → HasKnownStackSlots (HoldsIf (λ h. IsHomeLive p h a.slot) a) t
     → HasKnownStackSlots (HoldsIf (λ h. IsHomeLive p h b.slot) b) t
-kept_slots p a b t f h = record {
+known_stack_slots p a b t f h = record {
   call_frame = h.call_frame;
   only = h.only;
   pointer = h.pointer;
   wide = h.wide;
   each = λ j below. elim (h.each j below) [
-    | inl unset ↦ inl unset
-    | inr known ↦ inr (
-      known.0,
-      known.1,
-      known.2,
+    | inl unwritten ↦ inl unwritten
+    | inr number ↦ inr (
+      number.0,
+      number.1,
+      number.2,
       λ live.
           let before : IsSlotLive p j a.slot =
           subst (λ n. IsSlotLive p j n) (Forgets-slot p a b f) live in
-          subst (λ x. IsJust (kind_in x) known.0)
-          (sym (Forgets-stack_slot_live p a b j f below before)) (known.3 before),
+          subst (λ x. IsJust (kind_in x) number.0)
+          (sym (Forgets-stack_slot_live p a b j f below before)) (number.3 before),
     )
   ];
 }
@@ -73,7 +73,7 @@ Along-forgets p steps d k a b t f along =
             subst (Mirrored (reg t r)) (sym (Forgets-live p a b r f own before))
             (m.regs r own before);
         all_slots = f.slots.all;
-        stack = kept_slots p a b t f m.stack;
+        stack = known_stack_slots p a b t f m.stack;
       };
       numbers = along.numbers;
     }
@@ -128,11 +128,11 @@ start_mirrored : (serial : ℕ) (r : Reg) → r ≢ R10
 start_mirrored serial R10 own = absurd (own refl)
 start_mirrored serial r own = tt
 
-start_number : (serial : ℕ) (r : Reg) → r ≢ R10
+start_no_pointer : (serial : ℕ) (r : Reg) → r ≢ R10
     → IsNoPointer (value_at (start_regs serial) (reg_number r)) ⊎ (r ≡ R1)
-start_number serial R10 own = absurd (own refl)
-start_number serial R1 own = inr refl
-start_number serial r own = inl tt
+start_no_pointer serial R10 own = absurd (own refl)
+start_no_pointer serial R1 own = inr refl
+start_no_pointer serial r own = inl tt
 
 pub start_along : (p : Program) (steps : ℕ) (d : IsDetermined p steps)
     → Along p steps d 0 start (first p steps d)
@@ -153,8 +153,8 @@ start_along p steps d =
                 HasKnownStackSlots-start (HoldsIf (λ h. IsHomeLive p h start.slot) start) d.run.head
                 d.run.packet d.run.contents;
           };
-      numbers = λ r own. elim (start_number serial r own) [
-        | inl plain ↦ inl plain
+      numbers = λ r own. elim (start_no_pointer serial r own) [
+        | inl free ↦ inl free
         | inr argument ↦
             inr (argument, λ w. let before = w.before in absurd (omega (arith, before)))
       ];

@@ -59,7 +59,7 @@ abbrev pub IsNoPointer : Value → Type 0
 IsNoPointer (Ptr r z) = ⊥
 IsNoPointer v = Unit {0}
 
--- slot j of the stack holds this number, if it is one of these homes
+-- stack slot j holds this number, if it is one of these homes
 abbrev pub HoldsIf : (Home → Type 0) → State → ℕ → ℕ → Type 0
 HoldsIf alive s j y = alive (InSlot j) → SlotHolds s j y
 
@@ -126,7 +126,7 @@ read_live p steps d k s t i r along here among =
     IsLive-read p r s.slot i there
     (read_needed i (determined_calls i (d.forms t.slot i here)) r among)
 
--- and hold numbers
+-- and what the operands of an instruction hold are numbers
 operand_read : (i : Insn) (r : Reg) → IsOneOf (operands i) r → IsOneOf (reads i) r
 operand_read (Load size d place) r among = absurd among
 operand_read (Store size place q) r among = inr among
@@ -142,7 +142,7 @@ read_numbers p steps d k s t i along here =
     let own = Each-one (λ r. r ≢ R10) (operands i) r (d.unnamed t.slot i here) among in
     let read = operand_read i r among in
     let free : IsNoPointer (reg t r) = elim (along.numbers r own) [
-      | inl plain ↦ plain
+      | inl is ↦ is
       | inr argument ↦
           absurd (argument.1
           (d.run.argument k t i along.reached here (subst (IsOneOf (reads i)) argument.0 read)))
@@ -152,16 +152,17 @@ read_numbers p steps d k s t i along here =
 
 -- ---- what an instruction on numbers computes
 
-record Sharp (says : Scalar → Scalar → Type 0) (f : ℕ → ℕ) : Type 0 where
+-- the relation allows what is computed, and a constant leads to a constant
+record ComputesConstants (says : Scalar → Scalar → Type 0) (f : ℕ → ℕ) : Type 0 where
   contains : (a c : Scalar) → says a c → (x : ℕ) → Has a x → Has c (f x)
   exact : (a c : Scalar) → says a c → (x : ℕ) → IsConstant a x → IsConstant c (f x)
 
-just_one : (says : Scalar → Scalar → Type 0) (f : ℕ → ℕ) (a k : Kind) (x : ℕ) → Sharp says f
-    → OfNumber says a (Ok k) → IsJust a x → IsJust k (f x)
-just_one says f (kind.Number a) (kind.Number c) x sharp h just =
-    (sharp.contains a c h x just.0, sharp.exact a c h x just.1)
-just_one says f (kind.Number a) k x sharp h just = absurd h
-just_one says f a k x sharp h just = absurd just
+just_one : (says : Scalar → Scalar → Type 0) (f : ℕ → ℕ) (a k : Kind) (x : ℕ)
+    → ComputesConstants says f → OfNumber says a (Ok k) → IsJust a x → IsJust k (f x)
+just_one says f (kind.Number a) (kind.Number c) x computes h just =
+    (computes.contains a c h x just.0, computes.exact a c h x just.1)
+just_one says f (kind.Number a) k x computes h just = absurd h
+just_one says f a k x computes h just = absurd just
 
 just_is : (k : Kind) (x : ℕ) → IsJust k x
     → (c : Scalar) × (k ≡ kind.Number c) × Has c x × IsConstant c x
@@ -192,8 +193,8 @@ unfolding alu
 just_low b k y h just =
     just_one (λ a c. IsAlu Mov Low32 a a c) (low Low32) b k y
     (record {
-      contains = λ a c says x has. says.contains x x has has;
-      exact = λ a c says x is. says.exact x x is is;
+      contains = λ a c fact x has. fact.contains x x has has;
+      exact = λ a c fact x is. fact.exact x x is is;
     }) h just
 
 just_copied : (w : Width) (b k : Kind) (y : ℕ) → Copied w b (Ok k) → IsJust b y → IsJust k (low w y)
@@ -277,7 +278,7 @@ pub computed : (alive : Home → Type 0) (p : Program) (clock : ℕ → ℕ) (s 
     → ((e : TrapReason) → act p clock t i ≡ Trapped e → ⊥) → writes i ≡ Some d
     → ResultKind p.maps s i (Ok k) → Computed p clock t i d k
 unfolding act
-computed alive p clock s t (Alu w op x source) d k plain set stack read traps written h =
+computed alive p clock s t (Alu w op x source) d k form set stack read traps written h =
     let same : x ≡ d = cc in
     let (b, operand, gives) = h in
     let (n, is, just) = alu_computed s t w op x source b k set operand gives in
@@ -287,7 +288,7 @@ computed alive p clock s t (Alu w op x source) d k plain set stack read traps wr
           ∙ ap (λ y. sets t (Alu w op x source) y (Ok (Num n))) same;
       just = just;
     }
-computed alive p clock s t (Neg w x) d k plain set stack read traps written h =
+computed alive p clock s t (Neg w x) d k form set stack read traps written h =
     let same : x ≡ d = cc in
     let (n, there, own) = set.0 in
     record {
@@ -295,9 +296,9 @@ computed alive p clock s t (Neg w x) d k plain set stack read traps written h =
       acts = ap (λ v. sets t (Neg w x) x (on_number (negated w) v)) there
           ∙ ap (λ y. sets t (Neg w x) y (Ok (Num (negated w n)))) same;
       just = just_one (IsNegated w) (negated w) (kind_of s x) k n
-          (record { contains = λ a c says. says.contains; exact = λ a c says. says.exact }) h own;
+          (record { contains = λ a c fact. fact.contains; exact = λ a c fact. fact.exact }) h own;
     }
-computed alive p clock s t (MovSx by x r) d k plain set stack read traps written h =
+computed alive p clock s t (MovSx by x r) d k form set stack read traps written h =
     let same : x ≡ d = cc in
     let (n, there, own) = set.0 in
     record {
@@ -305,9 +306,9 @@ computed alive p clock s t (MovSx by x r) d k plain set stack read traps written
       acts = ap (λ v. sets t (MovSx by x r) x (on_number (sign_extended by) v)) there
           ∙ ap (λ y. sets t (MovSx by x r) y (Ok (Num (sign_extended by n)))) same;
       just = just_one (IsSignExtended by) (sign_extended by) (kind_of s r) k n
-          (record { contains = λ a c says. says.contains; exact = λ a c says. says.exact }) h own;
+          (record { contains = λ a c fact. fact.contains; exact = λ a c fact. fact.exact }) h own;
     }
-computed alive p clock s t (ByteSwap order span x) d k plain set stack read traps written h =
+computed alive p clock s t (ByteSwap order span x) d k form set stack read traps written h =
     let same : x ≡ d = cc in
     let (n, there, own) = set.0 in
     record {
@@ -315,9 +316,9 @@ computed alive p clock s t (ByteSwap order span x) d k plain set stack read trap
       acts = ap (λ v. sets t (ByteSwap order span x) x (on_number (reordered order span) v)) there
           ∙ ap (λ y. sets t (ByteSwap order span x) y (Ok (Num (reordered order span n)))) same;
       just = just_one (IsReordered order span) (reordered order span) (kind_of s x) k n
-          (record { contains = λ a c says. says.contains; exact = λ a c says. says.exact }) h own;
+          (record { contains = λ a c fact. fact.contains; exact = λ a c fact. fact.exact }) h own;
     }
-computed alive p clock s t (LoadNumber x n) d k plain set stack read traps written h =
+computed alive p clock s t (LoadNumber x n) d k form set stack read traps written h =
     let same : x ≡ d = cc in
     record {
       number = n;

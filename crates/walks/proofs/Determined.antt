@@ -72,7 +72,7 @@ member_goes p steps d k s t i a b program along here makes =
           (d.forms s.slot i here) is))
       of clock v means (Trapped e) is after = absurd after
 
--- ---- numbers are those of runs
+-- ---- the number of a state is the count of steps of its members' runs
 
 last_runs : (p : Program) (clock : ℕ → ℕ) (v : Machine.State) (r : StepResult) → step p clock v ≡ r
     → After (λ x. ⊥) r → (a : ℕ) × Runs p clock v 1 a
@@ -102,7 +102,7 @@ member_runs p steps d k n s t program (LeadsToOne _ a b m _ into child is) along
     let (y, runs) = member_runs p steps d (suc k) m a u program child next clock answers x meant in
     let same : suc m ≡ n = omega (arith, is) in
     (y, subst (λ j. Runs p clock v j y) same (Runs-before p clock v x m y goes runs))
-member_runs p steps d k n s t program (LeadsToTwo _ a b i j _ into left right is) along =
+member_runs p steps d k n s t program (LeadsToTwo _ a b i j _ into number other is) along =
     absurd (into_along p steps d k s t ways.Two a b along into)
 member_runs p steps d k n s t program (IsCoveredBy _ e far _ walk same covers number) along =
     λ clock answers v means.
@@ -216,8 +216,8 @@ ComesBack-determined p steps d slot program h =
     let means = Means-start p d.run.head d.run.packet d.run.contents program d.run.given in
     let ends = Ends-Runs p d.run.clock from steps steps d.run.number d.run.runs (omega arith) in
     let walk = h.walk in
-    let here = first_along p steps d walk.first walk.begins in
-    let begun = Means-forgets p start walk.first from walk.begins means in
+    let here = first_along p steps d walk.first walk.starts in
+    let begun = Means-forgets p start walk.first from walk.starts means in
     let later = walk_members p steps d h.before 0 steps walk.first h.first from program here
     walk.leads d.run.clock d.run.clock_is from begun ends in
     let (t, along) = walks_along p steps d h.before h.first walk in

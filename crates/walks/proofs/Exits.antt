@@ -37,7 +37,7 @@ exits_not_two version (suc n) s b h = absurd (cc h.1)
 abbrev pub ShowsNoAction : Version → Refusal → Type 0
 ShowsNoAction version e = (version ≡ Two) × (e ≡ NoAction)
 
--- the exit of the only frame with a number in r0 is refused for no other reason
+-- the exit of the only frame with a number in r0 is refused for nothing else
 pub exit_goes : (version : Version) (callers : ℕ) (s b : State) (e : Refusal) → callers + 1 ≡ 1
     → IsNumberKind (kind_of s R0) → ExitsFrom version callers s (Err e) b → ShowsNoAction version e
 exit_goes version zero s b e one number h =

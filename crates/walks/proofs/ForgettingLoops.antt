@@ -78,7 +78,7 @@ kept_more_dead p slot n r old new is within join dead m =
 
 pub AreKept-below : (p : Program) (slot n : ℕ) (old new : List Kind) → 10 ≤ n
     → KeptBelow p slot n old new → AreKept p slot old new
-AreKept-below p slot n old new all m =
+AreKept-below p slot n old new every m =
     record { ten = m.ten; each = λ r own. m.below r own (let low = below_ten r own in omega arith) }
 
 -- away from joins nothing is forgotten

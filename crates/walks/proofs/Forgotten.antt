@@ -195,7 +195,7 @@ frames_keep p a b e j f below = elim (cases_eq j (length a.callers.items)) [
       }
 ]
 
--- whatever the state means, it means once dead registers are forgotten
+-- whatever the state means, it means once dead registers and stack slots are forgotten
 pub Means-forgets : (p : Program) (a b : State) (w : Machine.State) → Forgets p a b → Means p a w
     → Means p b w
 unfolding Means
@@ -221,9 +221,9 @@ some_forgotten p ways.Two a b first other v f (inr h) = inr (Means-forgets p b o
 pub LeadsTo-forgets : (p : Program) (s : State) (w : Ways) (a b first other : State)
     → AreForgotten p w a b first other → LeadsTo p s w a b → LeadsTo p s w first other
 unfolding LeadsTo
-LeadsTo-forgets p s w a b first other f leads = λ clock fits v means.
+LeadsTo-forgets p s w a b first other f leads = λ clock answers v means.
     After-weaker (InSome p w a b) (InSome p w first other) (step p clock v)
-    (λ x h. some_forgotten p w a b first other x f h) (leads clock fits v means)
+    (λ x h. some_forgotten p w a b first other x f h) (leads clock answers v means)
 
 pub GoesOnTo-forgets : (p : Program) (s a b : State) → Forgets p a b → GoesOnTo p s a
     → GoesOnTo p s b

@@ -103,7 +103,7 @@ HasSteps-alone p (suc n) a b free one h =
 pub WalksTo-alone : (p : Program) (n : ℕ) (s : State) → HasNoCalls p → WalksTo p n s → depth s ≡ 1
 WalksTo-alone p n s free walk =
     HasSteps-alone p n walk.first s free
-    (Forgets-depth p start walk.first walk.begins ∙ one_frame-start) walk.leads
+    (Forgets-depth p start walk.first walk.starts ∙ one_frame-start) walk.leads
 
 -- ---- steps lead forward
 

@@ -177,11 +177,11 @@ stuck_unshown p len g e slot h =
 pub IsGuarded-refused : (p : Program) (len : ℕ) (e : Refusal) (slot : ℕ) → IsRefused p e slot
     → IsGuarded p len → IsOutOfMemory e ⊎ IsUnanswered p e
 IsGuarded-refused p len e slot refused g =
-    let free = IsGuarded-no_calls p len g in
-    IsRefused-want p e slot (IsUnanswered p) (IsFlow-whole p g.whole free)
+    let no_calls = IsGuarded-no_calls p len g in
+    IsRefused-want p e slot (IsUnanswered p) (IsFlow-whole p g.whole no_calls)
     (λ e slot h. let unshown = stuck_unshown p len g e slot h in (unshown.0, ap Step unshown.1))
-    (λ slot h. ComesBack-forward p slot free g.forward h)
-    (λ h. StartTakes-few p free g.forward h) refused
+    (λ slot h. ComesBack-forward p slot no_calls g.forward h)
+    (λ h. StartTakes-few p no_calls g.forward h) refused
 
 pub IsGuarded-bound : (p : Program) (len n : ℕ) → HasNumber p start n → IsGuarded p len
     → n ≤ length p.insns

@@ -68,14 +68,14 @@ pub numbers_needed : (p : Program) (len : ℕ) (g : IsGuarded p len) (s : State)
     → Guards p len g s
     → fetch p s.slot ≡ Some i → Each IsFree (needs i) → Each (NumbersIn s) (needs i)
 numbers_needed p len g s i h here free =
-    let written = g.written h.steps s.slot h.written i h.path here in
+    let each = g.written h.steps s.slot h.written i h.path here in
     Each-all (NumbersIn s) (needs i) (λ r among.
     let own = Each-one IsFree (needs i) r free among in
     let live = needs_live p s.slot i r here (IsGuarded-calls p len s.slot i g here) among in
     h.knows.numbers r
     (h.free r own live
     (written_free r h.written own
-    (Each-one (IsOneOf (R1 ∷ h.written)) (needs i) r written among))))
+    (Each-one (IsOneOf (R1 ∷ h.written)) (needs i) r each among))))
 
 -- what is free, written and live is known, one instruction further
 more_free : (p : Program) (len : ℕ) (g : IsGuarded p len) (s : State) (next : ℕ) (i : Insn)
@@ -85,7 +85,7 @@ more_free : (p : Program) (len : ℕ) (g : IsGuarded p len) (s : State) (next : 
 more_free p len g s next i h here follows r free live among =
     known_further (writes i) h.written h.known r
     (elim (live_before p s.slot next i r here (IsGuarded-calls p len s.slot i g here) follows live)
-    [ inl is ↦ inl is | inr early ↦ inr (h.free r free early) ]) among
+    [ inl is ↦ inl is | inr was_live ↦ inr (h.free r free was_live) ]) among
 
 freed : (x d : Reg) → Some x ≡ Some d → IsFree x → IsFree d
 freed x d is free = let same : x ≡ d = cc is in subst IsFree same free
@@ -135,11 +135,11 @@ plain_step p len g s t i w a b h behind here plain set makes among kept =
       ahead = λ k. absurd (omega (arith, k, up, behind));
       proved = λ k below live.
           let (before, same, aside) = kept below in
-          let early : IsLive p R2 s.slot =
+          let was_live : IsLive p R2 s.slot =
           elim (live_before p s.slot t.slot i R2 here
           (IsGuarded-calls p len s.slot i g here) follows live)
-          [ inl is ↦ absurd (aside is) | inr early ↦ early ] in
-          let (m, is, most) = h.proved behind before early in
+          [ inl is ↦ absurd (aside is) | inr was_live ↦ was_live ] in
+          let (m, is, most) = h.proved behind before was_live in
           (m, same ∙ is, most);
     }
 

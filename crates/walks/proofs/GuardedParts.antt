@@ -78,7 +78,7 @@ IsGuarded-calls p len slot i g here = of (part_at p len slot i g here) where
 pub IsGuarded-no_calls : (p : Program) (len : ℕ) → IsGuarded p len → HasNoCalls p
 IsGuarded-no_calls p len g = λ slot i here. none_called i (IsGuarded-calls p len slot i g here)
 
--- no jump leads to the first five slots: they hold none, and jumps lead forward
+-- no jump leads to the first five slots, since the first four hold none and jumps lead forward
 jumps_not : (i j : Insn) (by : ℤ) → j ≡ i → jump_distance j ≡ None → jump_distance i ≡ Some by → ⊥
 jumps_not i j by one none jumps =
     let nowhere : jump_distance i ≡ None = subst (λ (x : Insn). jump_distance x ≡ None) one none in

@@ -29,7 +29,7 @@ use Rattle.walks.proofs.Forward.{StepsToWays-follows, follows_up}
 use Rattle.walks.proofs.Living.{needs_live, live_before}
 use Rattle.walks.proofs.OnNumbers.{NumbersIn, StepsToWays-made}
 use Rattle.walks.proofs.KnowsNumbers.{KnowsNumbers}
-use Rattle.walks.proofs.OnPackets.{packet_from, GivesKind, packet_gives, packet_end_gives, copy_gives, ahead_gives, load_gives, load_signed_gives, end_test, Proves, ShowsBytes, test_leaves}
+use Rattle.walks.proofs.OnPackets.{packet_from, GivesKind, packet_gives, packet_end_gives, copy_gives, ahead_gives, load_gives, load_signed_gives, end_test, Proves, ShowsNoBytes, test_leaves}
 use Rattle.walks.proofs.Plain.{PathTo-more}
 use Rattle.walks.proofs.GuardedParts.{AtPacket, AtEnd, AtCopy, AtAhead, AtTest, InBody, AtAnswer, AtExit, GuardedPart, part_at, one_insn, IsGuarded-no_calls}
 use Rattle.walks.proofs.Guards.{put_of, known_aside, Guards, start_guards, none_known, prologue, Guards-forgets}
@@ -113,11 +113,11 @@ body_step p len g s t i w a b h behind before here body made among =
     let plain = plain_form len i body tt in
     let set = needs_reads (NumbersIn s) i
     (numbers_needed p len g s i h here (body_needs len i plain body)) in
-    let known = StepsToWays-made p s i w a b plain h.knows.one made in
+    let makes = StepsToWays-made p s i w a b plain h.knows.one made in
     plain_step p len g s t i w a b h behind here plain set made among
     (λ below. (
       before,
-      body_keeps p len s t i w a b plain set body known among,
+      body_keeps p len s t i w a b plain set body makes among,
       λ e. body_free len i R2 body e,
     ))
 
@@ -136,34 +136,34 @@ makes_guards p len g s t insn taken first other there makes among h =
           elim (live_before p s.slot t.slot (JumpIf (end_test R4 R3) g.by) r here tt
           (JumpIf (end_test R4 R3) g.by, here, on) live) [
             | inl is ↦ absurd (cc is)
-            | inr early ↦ early
+            | inr was_live ↦ was_live
           ]
 
       behind_test : s.slot ≡ 4 → fetch p s.slot ≡ Some (JumpIf (end_test R4 R3) g.by)
           → KnowsNumbers s [] → (Proves len s t × (t.slot ≡ s.slot + 1))
-          ⊎ (ShowsBytes s t × (t.slot ≡ destination p s.slot g.by))
+          ⊎ (ShowsNoBytes s t × (t.slot ≡ destination p s.slot g.by))
           → Guards p len g t
-      behind_test at here known (inl (proves, slot)) =
+      behind_test at here knows (inl (proves, slot)) =
           past_test p len g s t h (omega (arith, at)) (omega (arith, at, slot))
           (back here (inl (refl, slot)))
           (PathTo-more p h.steps s.slot t.slot h.written _ h.path here (inl (refl, slot)))
           (record {
-            one = proves.one ∙ known.one;
-            room = proves.room ∙ known.room;
+            one = proves.one ∙ knows.one;
+            room = proves.room ∙ knows.room;
             numbers = λ r among. absurd among;
           })
           (λ behind below.
           proves.copies R2 0 0 (λ e. absurd (cc e))
           (h.packet (omega (arith, at)) (omega (arith, at))))
-      behind_test at here known (inr (same, slot)) =
+      behind_test at here knows (inr (same, slot)) =
           let to = slot ∙ ap (λ n. destination p n g.by) at ∙ g.to_tail in
           let far = g.behind in
           past_test p len g s t h (omega (arith, at)) (omega (arith, to, far))
           (back here (inr (g.by, refl, slot)))
           (PathTo-more p h.steps s.slot t.slot h.written _ h.path here (inr (g.by, refl, slot)))
           (record {
-            one = same.one ∙ known.one;
-            room = same.room ∙ known.room;
+            one = same.one ∙ knows.one;
+            room = same.room ∙ knows.room;
             numbers = λ r among. absurd among;
           })
           (λ behind below. absurd (omega (arith, to, below)))
@@ -188,15 +188,15 @@ makes_guards p len g s t insn taken first other there makes among h =
           let here : fetch p s.slot ≡ Some (Load U32 R2 (record { base = R1; offset = pos 0 })) =
           there
           ∙ ap Some (sym one) in
-          let known = subst (λ ks. KnowsNumbers s ks) (h.early (omega (arith, at))) h.knows in
+          let knows = subst (λ ks. KnowsNumbers s ks) (h.early (omega (arith, at))) h.knows in
           let gives : GivesKind s R2 (packet_from 0 0) taken first =
           packet_gives p s R2 R1 taken first other (h.context (omega (arith, at))) made in
-          let put = put_of s first other t R2 (packet_from 0 0) taken [] known
+          let put = put_of s first other t R2 (packet_from 0 0) taken [] knows
           (λ e. absurd (cc e)) gives among in
           let slot = put.slot in
           prologue p len g s t R2 (Load U32 R2 (record { base = R1; offset = pos 0 })) h
           (omega (arith, at)) here refl (refl, slot) slot (λ x. x)
-          (known_aside s first other t R2 (packet_from 0 0) taken gives among known)
+          (known_aside s first other t R2 (packet_from 0 0) taken gives among knows)
           (record {
             context = λ k. put.others R1 (λ e. absurd (cc e))
                 ∙ h.context (omega (arith, at));
@@ -212,15 +212,15 @@ makes_guards p len g s t insn taken first other there makes among h =
           let here : fetch p s.slot ≡ Some (Load U32 R3 (record { base = R1; offset = pos 4 })) =
           there
           ∙ ap Some (sym one) in
-          let known = subst (λ ks. KnowsNumbers s ks) (h.early (omega (arith, at))) h.knows in
+          let knows = subst (λ ks. KnowsNumbers s ks) (h.early (omega (arith, at))) h.knows in
           let gives : GivesKind s R3 (kind.PacketEnd) taken first =
           packet_end_gives p s R3 R1 taken first other (h.context (omega (arith, at))) made in
-          let put = put_of s first other t R3 (kind.PacketEnd) taken [] known
+          let put = put_of s first other t R3 (kind.PacketEnd) taken [] knows
           (λ e. absurd (cc e)) gives among in
           let slot = put.slot in
           prologue p len g s t R3 (Load U32 R3 (record { base = R1; offset = pos 4 })) h
           (omega (arith, at)) here refl (refl, slot) slot (λ x. x)
-          (known_aside s first other t R3 (kind.PacketEnd) taken gives among known)
+          (known_aside s first other t R3 (kind.PacketEnd) taken gives among knows)
           (record {
             context = λ k. absurd (omega (arith, k, slot, at));
             packet = λ k m. put.others R2 (λ e. absurd (cc e))
@@ -234,16 +234,16 @@ makes_guards p len g s t insn taken first other there makes among h =
           let made = subst (λ x. StepsToWays p s x taken first other) (sym one) makes in
           let here : fetch p s.slot ≡ Some (Alu Full64 Mov R4 (Register R2)) = there
           ∙ ap Some (sym one) in
-          let known = subst (λ ks. KnowsNumbers s ks) (h.early (omega (arith, at))) h.knows in
+          let knows = subst (λ ks. KnowsNumbers s ks) (h.early (omega (arith, at))) h.knows in
           let gives : GivesKind s R4 (packet_from 0 0) taken first =
           copy_gives p s R4 R2 (packet_from 0 0) taken first other
           (h.packet (omega (arith, at)) (omega (arith, at))) made in
-          let put = put_of s first other t R4 (packet_from 0 0) taken [] known
+          let put = put_of s first other t R4 (packet_from 0 0) taken [] knows
           (λ e. absurd (cc e)) gives among in
           let slot = put.slot in
           prologue p len g s t R4 (Alu Full64 Mov R4 (Register R2)) h (omega (arith, at)) here refl
           (refl, slot) slot (λ x. x)
-          (known_aside s first other t R4 (packet_from 0 0) taken gives among known)
+          (known_aside s first other t R4 (packet_from 0 0) taken gives among knows)
           (record {
             context = λ k. absurd (omega (arith, k, slot, at));
             packet = λ k m. put.others R2 (λ e. absurd (cc e))
@@ -259,16 +259,16 @@ makes_guards p len g s t insn taken first other there makes among h =
           let made = subst (λ x. StepsToWays p s x taken first other) (sym one) makes in
           let here : fetch p s.slot ≡ Some (Alu Full64 Add R4 (Constant (pos len))) = there
           ∙ ap Some (sym one) in
-          let known = subst (λ ks. KnowsNumbers s ks) (h.early (omega (arith, at))) h.knows in
+          let knows = subst (λ ks. KnowsNumbers s ks) (h.early (omega (arith, at))) h.knows in
           let gives : GivesKind s R4 (packet_from (0 + len) 0) taken first =
           ahead_gives p s R4 0 0 len taken first other (h.copied at)
           (let most = g.most in omega (arith, most)) made in
-          let put = put_of s first other t R4 (packet_from (0 + len) 0) taken [] known
+          let put = put_of s first other t R4 (packet_from (0 + len) 0) taken [] knows
           (λ e. absurd (cc e)) gives among in
           let slot = put.slot in
           prologue p len g s t R4 (Alu Full64 Add R4 (Constant (pos len))) h
           (omega (arith, at)) here refl (refl, slot) slot (λ x. x)
-          (known_aside s first other t R4 (packet_from (0 + len) 0) taken gives among known)
+          (known_aside s first other t R4 (packet_from (0 + len) 0) taken gives among knows)
           (record {
             context = λ k. absurd (omega (arith, k, slot, at));
             packet = λ k m. put.others R2 (λ e. absurd (cc e))
@@ -283,8 +283,8 @@ makes_guards p len g s t insn taken first other there makes among h =
           let made = subst (λ x. StepsToWays p s x taken first other) (sym one) makes in
           let here : fetch p s.slot ≡ Some (JumpIf (end_test R4 R3) g.by) = there
           ∙ ap Some (sym one) in
-          let known = subst (λ ks. KnowsNumbers s ks) (h.early (omega (arith, at))) h.knows in
-          behind_test at here known
+          let knows = subst (λ ks. KnowsNumbers s ks) (h.early (omega (arith, at))) h.knows in
+          behind_test at here knows
           (test_leaves p s R4 R3 g.by len 0 taken first other t (h.ahead at)
           (h.packet_end (omega (arith, at)) (omega (arith, at))) made among)
       of (InBody behind before) =
@@ -322,4 +322,4 @@ pub WalksTo-guards : (p : Program) (len : ℕ) (g : IsGuarded p len) (n : ℕ) (
     → WalksTo p n s → Guards p len g s
 WalksTo-guards p len g n s walk =
     walk_guards p len g n walk.first s walk.leads
-    (Guards-forgets p len g start walk.first walk.begins (start_guards p len g))
+    (Guards-forgets p len g start walk.first walk.starts (start_guards p len g))

@@ -145,9 +145,9 @@ prologue p len g s t d i h below here written falls slot not_free knows pointers
         (i, here, inl falls) live) [
           | inl is ↦
               let same : r ≡ d = cc (is, written) in absurd (not_free (subst IsFree same free))
-          | inr early ↦
+          | inr was_live ↦
               absurd (none_known h.known r (h.early (omega (arith, below)))
-              (h.free r free early rest))
+              (h.free r free was_live rest))
         ]
   ];
   early = λ k. refl;

@@ -135,7 +135,7 @@ remaining p a b (q ∷ known) f numbers =
     let own : NumbersIn a q = numbers q (inl refl) in
     elim (same_or_other q R10) [
       | inl last ↦ let wrong : NumbersIn a R10 = subst (NumbersIn a) last own in absurd wrong
-      | inr own_place ↦ elim (Forgets-each p a b q f own_place) [
+      | inr apart ↦ elim (Forgets-each p a b q f apart) [
         | inl same ↦ one_kept p a b q known (subst IsNumberKind (sym same.1) own) rest
         | inr gone ↦ one_dropped p a b q known gone.0.1 rest
       ]

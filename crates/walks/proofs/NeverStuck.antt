@@ -201,8 +201,8 @@ goes_along_run p steps d k s t (StoreConstant U64 place n) e b c along here form
     refuses_store p.maps s h.2.0 place h.0 e form (just_number h.0 (unsigned Full64 n) h.1) h.2.1
 goes_along_run p steps d k s t (StoreConstant size place n) e b c along here form set h = form
 goes_along_run p steps d k s t Exit e b c along here form set h =
-    let (x, just, answers) = exit_answer p steps d k s t along here in
-    constant_goes p.version (length s.callers.items) s b x e along.mirrors.one just answers h
+    let (x, just, names) = exit_answer p steps d k s t along here in
+    constant_goes p.version (length s.callers.items) s b x e along.mirrors.one just names h
 goes_along_run p steps d k s t (Alu v op x source) e b c along here form set h =
     form_goes p s (Alu v op x source) e b c form tt set h
 goes_along_run p steps d k s t (Neg v x) e b c along here form set h =
@@ -226,7 +226,7 @@ pub walks_along : (p : Program) (steps : ℕ) (d : IsDetermined p steps) (n : �
     → WalksTo p n s → (u : Machine.State) × Along p steps d (0 + n) s u
 walks_along p steps d n s walk =
     walk_along p steps d n 0 walk.first s (first p steps d)
-    (first_along p steps d walk.first walk.begins) walk.leads
+    (first_along p steps d walk.first walk.starts) walk.leads
 
 pub never_stuck : (p : Program) (steps : ℕ) (d : IsDetermined p steps) (e : StepRefusal) (slot : ℕ)
     → IsStuck p e slot → ⊥

@@ -322,7 +322,7 @@ pub RefusesStep-performs : (p : Program) (s : State) (i : Insn) (e : Refusal) (P
 RefusesStep-performs p s i e P pass h goes =
     goes h.0 h.1 (subst (λ o. Tested o (Err e) (StepsForm p s i (Err e) h.0 h.1)) pass h.2)
 
--- a form on numbers is refused for no other reason
+-- a form on numbers is refused for nothing else
 pub refused_unshown : (p : Program) (s : State) (i : Insn) (e : Refusal) → IsPlainForm i
     → Each (NumbersIn s) (needs i) → depth s ≡ 1 → register_refusal s i ≡ None → RefusesStep p s i e
     → ShowsNoAction p.version e

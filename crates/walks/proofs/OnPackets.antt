@@ -274,7 +274,7 @@ pub record Proves (n : ℕ) (s t : State) : Type 0 where
       → (more : ℕ) × (kind_of t r ≡ packet_from fixed more) × (n ≤ more)
 
 -- where it is beyond the end nothing is shown of bytes: as many call frames and registers are left
-pub record ShowsBytes (s t : State) : Type 0 where
+pub record ShowsNoBytes (s t : State) : Type 0 where
   pub one : depth t ≡ depth s
   pub room : length (registers_of t) ≡ length (registers_of s)
 
@@ -303,7 +303,8 @@ pub test_leaves : (p : Program) (s : State) (r q : Reg) (by : ℤ) (n m : ℕ) (
     (a b t : State)
     → kind_of s r ≡ packet_from n m → kind_of s q ≡ kind.PacketEnd
     → StepsToWays p s (JumpIf (end_test r q) by) w a b → IsAmong w a b t
-    → (Proves n s t × (t.slot ≡ s.slot + 1)) ⊎ (ShowsBytes s t × (t.slot ≡ destination p s.slot by))
+    → (Proves n s t × (t.slot ≡ s.slot + 1))
+    ⊎ (ShowsNoBytes s t × (t.slot ≡ destination p s.slot by))
 test_leaves p s r q by n m w a b t is end makes among =
     let h : Branches p s (end_test r q) by w a b =
     StepsToWays-performs p s (JumpIf (end_test r q) by) w a b makes in
@@ -315,21 +316,21 @@ test_leaves p s r q by n m w a b t is end makes among =
     side_among h.stays h.goes (go_to h.stay (s.slot + 1))
     (go_to h.go (destination p s.slot by)) w a b t
     (λ x. (Proves n s x × (x.slot ≡ s.slot + 1))
-    ⊎ (ShowsBytes s x × (x.slot ≡ destination p s.slot by))) h.sides among
+    ⊎ (ShowsNoBytes s x × (x.slot ≡ destination p s.slot by))) h.sides among
     (inl (
       subst (λ (x : State). Proves n s (go_to x (s.slot + 1))) (sym left.1)
-          (moved (proves n s)),
+          (at_next (proves n s)),
       refl,
     ))
     (inr (
-      subst (λ (x : State). ShowsBytes s (go_to x (destination p s.slot by))) (sym taken.1)
+      subst (λ (x : State). ShowsNoBytes s (go_to x (destination p s.slot by))) (sym taken.1)
           (record { one = refl; room = refl }),
       refl,
     ))
   where
-    moved : Proves n s (map_kinds (proved_kind 0 n) s)
+    at_next : Proves n s (map_kinds (proved_kind 0 n) s)
         → Proves n s (go_to (map_kinds (proved_kind 0 n) s) (s.slot + 1))
-    moved h = record {
+    at_next h = record {
       one = h.one;
       room = h.room;
       copies =

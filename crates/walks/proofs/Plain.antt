@@ -42,12 +42,12 @@ record KnowsWritten (p : Program) (s : State) : Type 0 where
 needed : (p : Program) (s : State) (i : Insn) → IsPlain p → fetch p s.slot ≡ Some i
     → (h : KnowsWritten p s) → Each (NumbersIn s) (needs i)
 needed p s i plain here h =
-    let written = plain.written h.steps s.slot h.written i h.path here in
+    let each = plain.written h.steps s.slot h.written i h.path here in
     let calls = plain_calls i (plain.forms s.slot i here) in
     Each-all (NumbersIn s) (needs i)
     (λ r among. h.knows.numbers r
     (h.live r (needs_live p s.slot i r here calls among)
-    (Each-one (IsOneOf h.written) (needs i) r written among)))
+    (Each-one (IsOneOf h.written) (needs i) r each among)))
 
 pub follows_by : (p : Program) (slot next : ℕ) (i : Insn) → fetch p slot ≡ Some i
     → Follows p slot next → FallsTo slot i next ⊎ JumpsTo p slot i next
@@ -98,15 +98,15 @@ step_known p s t plain step h =
       live = λ r live among. known_further (writes i) h.written h.known r
           (elim (live_before p s.slot step.next.slot i r step.here
           (plain_calls i form) follows live)
-          [ inl written ↦ inl written | inr early ↦ inr (h.live r early) ]) among;
+          [ inl is ↦ inl is | inr was_live ↦ inr (h.live r was_live) ]) among;
     })
 
 walk_known : (p : Program) (n : ℕ) (a b : State) → IsPlain p → HasSteps p n a b → KnowsWritten p a
     → KnowsWritten p b
 unfolding HasSteps
-walk_known p zero a b plain h known = subst (KnowsWritten p) (sym h) known
-walk_known p (suc n) a b plain h known =
-    walk_known p n h.0 b plain h.2 (step_known p a h.0 plain h.1 known)
+walk_known p zero a b plain h there = subst (KnowsWritten p) (sym h) there
+walk_known p (suc n) a b plain h there =
+    walk_known p n h.0 b plain h.2 (step_known p a h.0 plain h.1 there)
 
 start_known : (p : Program) → KnowsWritten p start
 unfolding start PathTo
@@ -125,13 +125,13 @@ stuck_unshown : (p : Program) (e : StepRefusal) (slot : ℕ) → IsPlain p → I
     → ShowsNoAction p.version e
 stuck_unshown p e slot plain h =
     let walk = h.walk in
-    let known = walk_known p h.steps walk.first h.state plain walk.leads
-    (known_forgets p start walk.first walk.begins (start_known p)) in
-    let set = needed p h.state h.insn plain h.here known in
+    let there = walk_known p h.steps walk.first h.state plain walk.leads
+    (known_forgets p start walk.first walk.starts (start_known p)) in
+    let set = needed p h.state h.insn plain h.here there in
     let pass = tests_pass h.state h.insn (needs_reads (NumbersIn h.state) h.insn set)
     (plain.own h.state.slot h.insn h.here) in
     refused_unshown p h.state h.insn e
-    (plain.forms h.state.slot h.insn h.here) set known.knows.one pass h.refused
+    (plain.forms h.state.slot h.insn h.here) set there.knows.one pass h.refused
 
 -- ---- refusals and the bound
 

@@ -30,12 +30,12 @@ use Rattle.transfer.specs.StackAccesses.{IsFramePlace, store_refusal, StackLoads
 abbrev pub SlotHolds : State → ℕ → ℕ → Type 0
 SlotHolds s j y = IsJust (kind_in (slot_at s.innermost.stack.slots j)) y
 
-abbrev innermost : State → ℕ
-innermost s = length s.callers.items
+abbrev last_index : State → ℕ
+last_index s = length s.callers.items
 
 -- ---- places
 
-slots_here : (s : State) → stack_slots_of s (innermost s) ≡ s.innermost.stack.slots
+slots_here : (s : State) → stack_slots_of s (last_index s) ≡ s.innermost.stack.slots
 slots_here s = ap (λ f. f.stack.slots) (abstract_frame_at-innermost s)
 
 starts_at : (j : ℕ) → (pos 0 +ℤ stack_slot_offset j) +ℤ pos stack_size ≡ pos (8 * j)
@@ -48,7 +48,7 @@ slot_of_place j at place =
     omega (arith, here)
 
 place_there : (s : State) (j : ℕ) → j < 64
-    → IsFramePlace s (innermost s) (pos 0 +ℤ stack_slot_offset j) U64 (8 * j)
+    → IsFramePlace s (last_index s) (pos 0 +ℤ stack_slot_offset j) U64 (8 * j)
 place_there s j below =
     record {
       live = omega arith;
@@ -61,53 +61,54 @@ place_there s j below =
 
 -- ---- loads
 
-fill_just : (slot : StackSlot) (k : Kind) (y : ℕ) → IsFill slot (Some k) → IsJust (kind_in slot) y
-    → IsJust k y
+fill_just : (stack_slot : StackSlot) (k : Kind) (y : ℕ) → IsFill stack_slot (Some k)
+    → IsJust (kind_in stack_slot) y → IsJust k y
 fill_just (Written marks) k y h just = absurd just
 fill_just (Spilled (Number c)) k y h just =
     let same : k ≡ Number c = cc h in subst (λ x. IsJust x y) (sym same) just
 fill_just (Spilled other) k y h just = absurd just
 
-fill_some : (slot : StackSlot) (y : ℕ) → IsFill slot None → IsJust (kind_in slot) y → ⊥
+fill_some : (stack_slot : StackSlot) (y : ℕ) → IsFill stack_slot None
+    → IsJust (kind_in stack_slot) y → ⊥
 fill_some (Written marks) y h just = just
 fill_some (Spilled (Number c)) y h just = absurd (cc h)
 fill_some (Spilled other) y h just = just
 
 held_at : (s : State) (j y at : ℕ) → at / 8 ≡ j → SlotHolds s j y
-    → IsJust (kind_in (slot_at (stack_slots_of s (innermost s)) (at / 8))) y
+    → IsJust (kind_in (slot_at (stack_slots_of s (last_index s)) (at / 8))) y
 held_at s j y at same held =
-    subst (λ n. IsJust (kind_in (slot_at (stack_slots_of s (innermost s)) n)) y) (sym same)
+    subst (λ n. IsJust (kind_in (slot_at (stack_slots_of s (last_index s)) n)) y) (sym same)
     (subst (λ (slots : List StackSlot). IsJust (kind_in (slot_at slots j)) y)
     (sym (slots_here s)) held)
 
 -- what is loaded is the number
 pub load_just : (s : State) (j y : ℕ) (k : Kind) → SlotHolds s j y
-    → StackLoads s (innermost s) (pos 0 +ℤ stack_slot_offset j) U64 (Ok k) → IsJust k y
+    → StackLoads s (last_index s) (pos 0 +ℤ stack_slot_offset j) U64 (Ok k) → IsJust k y
 load_just s j y k held h =
     let same = slot_of_place j h.0 h.1.place in
-    fill_just (slot_at (stack_slots_of s (innermost s)) (h.0 / 8)) k y h.2
+    fill_just (slot_at (stack_slots_of s (last_index s)) (h.0 / 8)) k y h.2
     (held_at s j y h.0 same held)
 
 -- and the load is not refused
 pub load_goes : (s : State) (j y : ℕ) (e : Refusal) → j < 64 → SlotHolds s j y
-    → StackLoads s (innermost s) (pos 0 +ℤ stack_slot_offset j) U64 (Err e) → ⊥
+    → StackLoads s (last_index s) (pos 0 +ℤ stack_slot_offset j) U64 (Err e) → ⊥
 load_goes s j y StackPlace below held h = h (8 * j) (place_there s j below)
 load_goes s j y StackBytes below held h =
     let same = slot_of_place j h.0 h.1.place in
-    fill_some (slot_at (stack_slots_of s (innermost s)) (h.0 / 8)) y h.2
+    fill_some (slot_at (stack_slots_of s (last_index s)) (h.0 / 8)) y h.2
     (held_at s j y h.0 same held)
 load_goes s j y e below held h = absurd h
 
 -- ---- stores
 
-spill_just : (source : Kind) (slot : StackSlot) (y : ℕ) → IsSpill source slot → IsJust source y
-    → IsJust (kind_in slot) y
+spill_just : (source : Kind) (stack_slot : StackSlot) (y : ℕ) → IsSpill source stack_slot
+    → IsJust source y → IsJust (kind_in stack_slot) y
 spill_just (Number c) (Spilled k) y h just = subst (λ x. IsJust x y) (sym h.0) just
 spill_just (Number c) (Written marks) y h just =
     let none : 0 ≡ y = IsNumber-only c y 0 (inl just.1.0) (h.1 0 (omega arith)) in
     let one : 1 ≡ y = IsNumber-only c y 1 (inl just.1.0) (h.1 1 (omega arith)) in
     absurd (omega (arith, none, one))
-spill_just source slot y h just = absurd just
+spill_just source stack_slot y h just = absurd just
 
 -- the number is in the stack slot, and all else is as before
 pub record PutsSlot (s t : State) (j y : ℕ) : Type 0 where
@@ -115,7 +116,7 @@ pub record PutsSlot (s t : State) (j y : ℕ) : Type 0 where
   pub callers : t.callers ≡ s.callers
   pub room : length (registers_of t) ≡ length (registers_of s)
   pub kinds : (q : Reg) → kind_of t q ≡ kind_of s q
-  pub wide : length t.innermost.stack.slots ≡ length s.innermost.stack.slots
+  pub all_slots : length t.innermost.stack.slots ≡ length s.innermost.stack.slots
   pub there : SlotHolds t j y
   pub others : (k z : ℕ) → k ≢ j → SlotHolds s k z → SlotHolds t k z
 
@@ -128,45 +129,45 @@ kinds_stay s slots R10 = refl
 kinds_stay s slots q = refl
 
 own_slots : (s : State) (slots : List StackSlot)
-    → with_frame_slots s (innermost s) slots ≡ with_own s slots
+    → with_frame_slots s (last_index s) slots ≡ with_own s slots
 own_slots s slots =
-    let same : (innermost s == innermost s) ≡ true = grind (arith, nat_tests) in
+    let same : (last_index s == last_index s) ≡ true = grind (arith, nat_tests) in
     rw (same, abstract_frame_at-innermost s) refl
 
-puts_in : (s : State) (j y : ℕ) (slot : StackSlot) → j < length s.innermost.stack.slots
-    → IsJust (kind_in slot) y
-    → PutsSlot s (with_own s (slice_set s.innermost.stack.slots j slot)) j y
-puts_in s j y slot below just = record {
+puts_in : (s : State) (j y : ℕ) (stack_slot : StackSlot) → j < length s.innermost.stack.slots
+    → IsJust (kind_in stack_slot) y
+    → PutsSlot s (with_own s (slice_set s.innermost.stack.slots j stack_slot)) j y
+puts_in s j y stack_slot below just = record {
   slot = refl;
   callers = refl;
   room = refl;
-  kinds = λ q. kinds_stay s (slice_set s.innermost.stack.slots j slot) q;
-  wide = length-set s.innermost.stack.slots j slot;
+  kinds = λ q. kinds_stay s (slice_set s.innermost.stack.slots j stack_slot) q;
+  all_slots = length-set s.innermost.stack.slots j stack_slot;
   there =
       subst (λ x. IsJust (kind_in x) y)
-      (sym (get_or-set_same s.innermost.stack.slots j slot (Written 0) below)) just;
+      (sym (get_or-set_same s.innermost.stack.slots j stack_slot (Written 0) below)) just;
   others = λ k z other held.
       subst (λ x. IsJust (kind_in x) z)
-      (sym (get_or-set_other s.innermost.stack.slots j k slot (Written 0) other)) held;
+      (sym (get_or-set_other s.innermost.stack.slots j k stack_slot (Written 0) other)) held;
 }
 
 pub store_puts : (s left : State) (j y : ℕ) (source : Kind) → j < length s.innermost.stack.slots
-    → IsJust source y → StackStores s (innermost s) (pos 0 +ℤ stack_slot_offset j) U64 source left
+    → IsJust source y → StackStores s (last_index s) (pos 0 +ℤ stack_slot_offset j) U64 source left
     (Ok tt)
     → PutsSlot s left j y
 store_puts s left j y source below just h =
     let same = slot_of_place j h.0 h.1.place in
     let spilled = h.3 in
-    let slot = spilled.slot in
-    let list : slice_set (stack_slots_of s (innermost s)) (h.0 / 8) slot
-    ≡ slice_set s.innermost.stack.slots j slot =
-    ap (λ n. slice_set (stack_slots_of s (innermost s)) n slot) same
-    ∙ ap (λ (slots : List StackSlot). slice_set slots j slot) (slots_here s) in
-    let is : left ≡ with_own s (slice_set s.innermost.stack.slots j slot) =
-    spilled.left ∙ ap (with_frame_slots s (innermost s)) list
-    ∙ own_slots s (slice_set s.innermost.stack.slots j slot) in
+    let stack_slot = spilled.slot in
+    let list : slice_set (stack_slots_of s (last_index s)) (h.0 / 8) stack_slot
+    ≡ slice_set s.innermost.stack.slots j stack_slot =
+    ap (λ n. slice_set (stack_slots_of s (last_index s)) n stack_slot) same
+    ∙ ap (λ (slots : List StackSlot). slice_set slots j stack_slot) (slots_here s) in
+    let is : left ≡ with_own s (slice_set s.innermost.stack.slots j stack_slot) =
+    spilled.left ∙ ap (with_frame_slots s (last_index s)) list
+    ∙ own_slots s (slice_set s.innermost.stack.slots j stack_slot) in
     subst (λ t. PutsSlot s t j y) (sym is)
-    (puts_in s j y slot below (spill_just source slot y spilled.spill just))
+    (puts_in s j y stack_slot below (spill_just source stack_slot y spilled.spill just))
 
 numbers_stored : (s : State) (n : ℕ) (source : Kind) → IsNumberKind source
     → store_refusal s n U64 source ≡ None
@@ -176,9 +177,9 @@ numbers_stored s n source number = absurd number
 -- a store of a number is not refused
 pub store_goes : (s left : State) (j : ℕ) (source : Kind) (e : Refusal) → j < 64
     → IsNumberKind source
-    → StackStores s (innermost s) (pos 0 +ℤ stack_slot_offset j) U64 source left (Err e) → ⊥
+    → StackStores s (last_index s) (pos 0 +ℤ stack_slot_offset j) U64 source left (Err e) → ⊥
 store_goes s left j source e below number h = of e h.1 where
-  of : (e : Refusal) → IsStoreRefused s (innermost s) (pos 0 +ℤ stack_slot_offset j) U64 source e
+  of : (e : Refusal) → IsStoreRefused s (last_index s) (pos 0 +ℤ stack_slot_offset j) U64 source e
       → ⊥
   of StackPlace h = h (8 * j) (place_there s j below)
-  of e h = let stored = numbers_stored s (innermost s) source number in absurd (cc (h.2, stored))
+  of e h = let stored = numbers_stored s (last_index s) source number in absurd (cc (h.2, stored))

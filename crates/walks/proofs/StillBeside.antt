@@ -193,12 +193,12 @@ still_known p steps d k s t i next along here silent on r live =
     ]
 
 -- a stack slot that the instruction does not write is live before it
-pub slot_before : (p : Program) (steps : ℕ) (d : IsDetermined p steps) (k : ℕ) (s : State)
+pub stack_slot_before : (p : Program) (steps : ℕ) (d : IsDetermined p steps) (k : ℕ) (s : State)
     (t : Machine.State) (i : Insn) (next j : ℕ)
     → Along p steps d k s t → fetch p t.slot ≡ Some i → (WritesSlot i j → ⊥)
     → FallsTo s.slot i next ⊎ JumpsTo p s.slot i next
     → IsSlotLive p j next → IsSlotLive p j s.slot
-slot_before p steps d k s t i next j along here keeps on live =
+stack_slot_before p steps d k s t i next j along here keeps on live =
     let there : fetch p s.slot ≡ Some i = ap (fetch p) (sym along.mirrors.slot) ∙ here in
     IsSlotLive-back p j s.slot next i there keeps (i, there, on) live
 
@@ -223,7 +223,7 @@ pub still_live : (p : Program) (steps : ℕ) (d : IsDetermined p steps) (k : ℕ
 still_live p steps d k s t i by next along here silent jumps on (InRegister r) live =
     still_known p steps d k s t i next along here silent on r live
 still_live p steps d k s t i by next along here silent jumps on (InSlot j) live =
-    slot_before p steps d k s t i next j along here (jumps_keep i by jumps j) on live
+    stack_slot_before p steps d k s t i next j along here (jumps_keep i by jumps j) on live
 
 -- what is live after a form that writes a register is that register, or is live before it
 one_more : (p : Program) (steps : ℕ) (d : IsDetermined p steps) (k : ℕ) (s : State)
@@ -237,7 +237,7 @@ one_more p steps d k s t i q next along here written on (InRegister r) live =
       | inr before ↦ inr before
     ]
 one_more p steps d k s t i q next along here written on (InSlot j) live =
-    inr (slot_before p steps d k s t i next j along here (sets_keep i q written j) on live)
+    inr (stack_slot_before p steps d k s t i next j along here (sets_keep i q written j) on live)
 
 pub run_acts : (p : Program) (steps : ℕ) (d : IsDetermined p steps) (k : ℕ) (s : State)
     (t : Machine.State) (i : Insn)
@@ -259,7 +259,7 @@ goes_along p steps d k s b t i slot to along here silent goes mirrors = record {
       Reaches-then p d.run.clock (first p steps d) k t (Machine.go_to t to) along.reached goes;
   mirrors = mirrors;
   numbers = λ r own. elim (along.numbers r own) [
-    | inl plain ↦ inl plain
+    | inl free ↦ inl free
     | inr argument ↦
         inr (
           argument.0,
@@ -316,9 +316,9 @@ sets_along p steps d k s a t i along here h =
               (subst IsNoPointer
               (sym (reg_with_own t h.register (Num c.number) along.mirrors.wide)) tt))
           | inr apart ↦
-              let stays : reg u q ≡ reg t q = reg_with_other t h.register q (Num c.number) apart in
+              let still : reg u q ≡ reg t q = reg_with_other t h.register q (Num c.number) apart in
               elim (along.numbers q own) [
-                | inl plain ↦ inl (subst IsNoPointer (sym stays) plain)
+                | inl free ↦ inl (subst IsNoPointer (sym still) free)
                 | inr argument ↦
                     inr (
                       argument.0,

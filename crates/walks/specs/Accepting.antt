@@ -1,4 +1,4 @@
--- Programs that are accepted: their refusals, and their bounds.
+-- Programs that must be accepted: what they may be refused for, and their bounds.
 use Rattle.std.specs.Prelude.{◌≡◌, ◌≤◌, ◌⊎◌, ℕ, length}
 use Rattle.isa_model.specs.declared.versions.Version.TheVariants.{Two}
 use Rattle.isa_model.specs.Code.Instructions.{Program}

@@ -1,6 +1,6 @@
 -- What is forgotten of a state when a path reaches it: at joins, the registers and stack slots of
--- the innermost call frame that no path reads before it writes them. What is known of a slot of a
--- caller's stack may be forgotten too, if no path reads it from where the caller goes on.
+-- the innermost call frame that no path reads before it writes them. What is known of a stack slot
+-- of a caller may be forgotten too, if no path reads it from where the caller goes on.
 use Rattle.std.specs.Prelude.{◌≡◌, ◌≢◌, ◌⊎◌, ℕ, ◌+◌, ◌<◌, List, length}
 use Rattle.isa_model.specs.declared.registers.Reg.{Reg}
 use Rattle.isa_model.specs.declared.registers.Reg.TheVariants.{R10}
@@ -41,11 +41,11 @@ pub record AreSlotsLeft (p : Program) (slot : ℕ) (old new : List StackSlot) : 
   pub all : length new ≡ 64
   pub each : (j : ℕ) → j < 64 → IsSlotLeft p slot j (slot_at old j) (slot_at new j)
 
--- the slot of the code is a join at which slot j of the stack is dead
+-- the slot of the code is a join at which stack slot j is dead
 abbrev pub IsSlotDeadAt : Program → ℕ → ℕ → Type 0
 IsSlotDeadAt p slot j = IsJoin p slot × (¬ IsSlotLive p j slot)
 
--- what is known of a stack slot stays known, or the slot is dead and nothing is
+-- what is known of a stack slot stays known, or it is dead and nothing is
 abbrev pub IsSlotKept : Program → ℕ → ℕ → StackSlot → StackSlot → Type 0
 IsSlotKept p slot j before after =
     ((¬ IsSlotDeadAt p slot j) × (after ≡ before)) ⊎ (IsSlotDeadAt p slot j × (after ≡ Written 0))
@@ -58,13 +58,13 @@ pub record AreSlotsKept (p : Program) (slot : ℕ) (old new : List StackSlot) : 
 abbrev pub slots_in : State → List StackSlot
 slots_in s = s.innermost.stack.slots
 
--- what is known of a slot of a caller's stack stays known; or nothing is, and the slot is dead
--- where the caller goes on
+-- what is known of a stack slot of a caller stays known; or nothing is, and it is dead where the
+-- caller goes on
 abbrev pub IsCallerSlotKept : Program → ℕ → ℕ → StackSlot → StackSlot → Type 0
 IsCallerSlotKept p slot j before after =
     (after ≡ before) ⊎ ((¬ IsSlotLive p j slot) × (after ≡ Written 0))
 
--- a caller that goes on at the slot: only what is known of dead slots of its stack may be forgotten
+-- a caller that goes on at the slot: only what is known of its dead stack slots may be forgotten
 pub record IsCallerKept (p : Program) (slot : ℕ) (old new : AbstractFrame) : Type 0 where
   pub rest : new ≡ record old { stack = record { slots = new.stack.slots } }
   pub slots : (j : ℕ) → j < 64

@@ -38,7 +38,7 @@ HasSteps p (suc n) a b = (c : State) × StepsTo p a c × HasSteps p n c b
 -- a walk of n steps from the start reaches a state
 pub record WalksTo (p : Program) (n : ℕ) (s : State) : Type 0 where
   pub first : State
-  pub begins : Forgets p start first
+  pub starts : Forgets p start first
   pub leads : HasSteps p n first s
 
 -- ---- where walks stop

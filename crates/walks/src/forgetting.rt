@@ -42,12 +42,12 @@ fn forget_registers(flow: &Flow<'_>, slot: usize, registers: &mut [Kind; 10])
 /// Forgets what is known of a stack slot. It is written as a whole only if a value was
 /// spilled there.
 #[inline(always)]
-fn clear(slot: &mut StackSlot)
-    ensures { slot.new ≡ StackSlot.Written 0 }
+fn clear(stack_slot: &mut StackSlot)
+    ensures { stack_slot.new ≡ StackSlot.Written 0 }
 {
-    match slot {
+    match stack_slot {
         StackSlot::Written(marks) => *marks = 0,
-        StackSlot::Spilled(_) => *slot = StackSlot::Written(0),
+        StackSlot::Spilled(_) => *stack_slot = StackSlot::Written(0),
     }
 }
 
@@ -109,7 +109,7 @@ fn forget_places(
     forget_slots(flow, slot, slots);
 }
 
-/// Forgets what is known of the slots of the last caller's stack that are dead where it goes on, if
+/// Forgets what is known of the stack slots of the last caller that are dead where it goes on, if
 /// it has just called.
 fn forget_caller(flow: &Flow<'_>, has_called: bool, state: &mut State)
     ensures { CallersForgotten flow.now state.old state.new }
@@ -127,8 +127,8 @@ fn forget_caller(flow: &Flow<'_>, has_called: bool, state: &mut State)
 
 /// Forgets what is known of the registers and of the stack slots of the innermost frame that are
 /// dead at a state's slot, if it is a join: no path from there reads them before it writes them,
-/// and states that differ only in them become one. After a call it forgets dead slots of the
-/// caller's stack too; until the return they stay as they are.
+/// and states that differ only in them become one. After a call it forgets dead stack slots of the
+/// caller too; until the return they stay as they are.
 pub fn forget_dead(flow: &Flow<'_>, has_called: bool, state: &mut State)
     ensures { Forgets flow.now state.old state.new }
 {

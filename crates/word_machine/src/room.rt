@@ -6,8 +6,8 @@ ghost use Rattle.isa_model.specs.Code.Limits.{max_value_size};
 use maps::VALUE_ROOM;
 use std::alloc::{AllocError, Global};
 
-/// A list of this number of zeros, without room for more. `vec!` may make a list with more room;
-/// that is treated as if memory ran out.
+/// A list of this number of zeros, with capacity for no more. `vec!` may make a list with more
+/// capacity; that is treated as if memory ran out.
 pub fn zeros(alloc: Global, count: usize) -> Result<Vec<u8>, AllocError>
     ensures zeros { IfOk result (λ bytes. length bytes.items ≡ count) }
     ensures exact { IfOk result (λ bytes. vec_capacity bytes ≡ count) }

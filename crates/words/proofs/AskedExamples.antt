@@ -134,9 +134,9 @@ nothing : asked (codes "xdpvm" ∷ []) ≡ None
 unfolding clap_on_literals asked program asm dis verify run trace prove recheck
 nothing = refl
 
-walks : asked (codes "xdpvm" ∷ codes "walk" ∷ codes "a" ∷ []) ≡ None
+unknown : asked (codes "xdpvm" ∷ codes "walk" ∷ codes "a" ∷ []) ≡ None
 unfolding clap_on_literals asked program asm dis verify run trace prove recheck
-walks = refl
+unknown = refl
 
 helps : asked (codes "xdpvm" ∷ codes "--help" ∷ []) ≡ None
 unfolding clap_on_literals asked program asm dis verify run trace prove recheck

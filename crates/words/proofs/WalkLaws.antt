@@ -137,9 +137,9 @@ reads-more : (s : Shape) (w next end : Walk) (word : Text) (rest : List Text)
     → walked s.rules [] w word ≡ next → turn_fault s [] w word ≡ [] → ReadsTo s next rest end
     → ReadsTo s w (word ∷ rest) end
 unfolding walk_fault ReadsTo
-reads-more s w next end word rest step quiet reads = (
-  ap (λ (x : Walk). fold (walked s.rules []) x rest) step ∙ reads.0,
-  ap₂ or_else quiet (ap (λ (x : Walk). walk_fault s [] x rest) step ∙ reads.1),
+reads-more s w next end word rest leads quiet reads = (
+  ap (λ (x : Walk). fold (walked s.rules []) x rest) leads ∙ reads.0,
+  ap₂ or_else quiet (ap (λ (x : Walk). walk_fault s [] x rest) leads ∙ reads.1),
 )
 
 -- the word is not an option: it has a first byte, which is not a hyphen
@@ -171,15 +171,15 @@ pub reads-plain : (s : Shape) (h : Held) (p : ℕ) (word : Text) (rest : List Te
     → positional_fault s.rules s.args_override_self a h ≡ []
     → ReadsTo s (to_positional s.rules (Some a) word (walk_at h p) h) rest end
     → ReadsTo s (walk_at h p) (word ∷ rest) end
-reads-plain s h p [] rest a end plain next quiet reads = cc
-reads-plain s h p (c ∷ cs) rest a end plain next quiet reads =
+reads-plain s h p [] rest a end plain found quiet reads = cc
+reads-plain s h p (c ∷ cs) rest a end plain found quiet reads =
     let apart : (c == 45) ≡ false = no-hyphen _ plain in
     reads-more s (walk_at h p) _ end (c ∷ cs) rest
     (walked-plain s.rules h p c cs apart
-    ∙ ap (λ (o : Option Rule). to_positional s.rules o (c ∷ cs) (walk_at h p) h) next)
+    ∙ ap (λ (o : Option Rule). to_positional s.rules o (c ∷ cs) (walk_at h p) h) found)
     (turn_fault-plain s h p c cs apart
     ∙ (ap (λ (o : Option Rule). option_map_or
-    (λ b. positional_fault s.rules s.args_override_self b h) o (stray_fault s)) next ∙ quiet))
+    (λ b. positional_fault s.rules s.args_override_self b h) o (stray_fault s)) found ∙ quiet))
     reads
 
 -- ---- an option
@@ -222,7 +222,7 @@ reads-value s h p id (c ∷ cs) rest a end plain found last reads =
 
 -- ---- after the words
 
--- what is refused when all words are read
+-- the errors that are found when all words are read
 abbrev pub end_fault : Shape → Held → Kinds
 end_fault s h = or_else (settle_fault s.rules s.args_override_self h)
     (or_else (defaults_fault (settled s.rules h).rows s.rules)

@@ -84,7 +84,8 @@ pub limit_of-read : (text : List ℕ) (steps : ℕ) → 0 < length text
     → list_all is_ascii_digit text ≡ true → steps ≡ digits_value 10 (without_leading_plus text)
     → 1 ≤ steps → steps ≤ max_steps → Some steps ≡ limit_of text
 limit_of-read text steps some digits read least most =
-    let value : steps ≡ digits_value 10 text = read ∙ ap (digits_value 10) (no-sign text digits) in
+    let spelled : steps ≡ digits_value 10 text =
+    read ∙ ap (digits_value 10) (no-sign text digits) in
     let low : nat_le 1 (digits_value 10 text) ≡ true =
     le-leb 1 (digits_value 10 text) (omega arith) in
     let high : nat_le (digits_value 10 text) max_steps ≡ true =

@@ -46,7 +46,7 @@ prove = command (codes "prove") (codes "image" ∷ codes "table" ∷ [])
 unfoldable pub recheck : App
 recheck = command (codes "recheck") (codes "image" ∷ codes "table" ∷ [])
 
--- a program with one more command
+-- the command line with one more command
 abbrev pub with_command : App → App → App
 with_command program command = with_subcommand program command.top
 

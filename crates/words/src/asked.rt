@@ -137,7 +137,7 @@ fn without_tip(alloc: Global, message: String) -> Result<String, AllocError> {
     Ok(message)
 }
 
-// The text that clap makes for a command line that it did not accept, or for help or the version.
+// What clap prints for a command line that it did not accept, or for help or the version.
 fn message_of(alloc: Global, error: &clap::Error) -> Result<String, AllocError> {
     let message = format!(in alloc; "{error}")?;
     without_tip(alloc, message)
@@ -150,7 +150,7 @@ fn words_error_of(alloc: Global, error: &clap::Error) -> WordsError
     match error.kind() {
         ErrorKind::OutOfMemory => WordsError::Memory,
         _ => match message_of(alloc, error) {
-            Ok(text) => WordsError::Wrong(text),
+            Ok(message) => WordsError::Wrong(message),
             Err(_) => WordsError::Memory,
         },
     }

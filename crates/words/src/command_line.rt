@@ -150,8 +150,8 @@ fn running<'a>(
     with_choice(alloc, plain, choice)
 }
 
-// A program with one more command, of this name, that requires these arguments, unless memory ran
-// out before.
+// The command line with one more command, of this name, that requires these arguments, unless
+// memory ran out before.
 fn with_command<'a>(
     alloc: Global,
     program: Result<Command<'a>, AllocError>,
@@ -168,8 +168,8 @@ fn with_command<'a>(
     before.subcommand(made)
 }
 
-// A program with one more command, of this name, that runs a program and takes this option, unless
-// memory ran out before.
+// The command line with one more command, of this name, that runs a program on a frame stream and
+// takes this option, unless memory ran out before.
 fn with_running<'a>(
     alloc: Global,
     program: Result<Command<'a>, AllocError>,

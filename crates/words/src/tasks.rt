@@ -32,7 +32,8 @@ pub struct StepLimit {
     ghost most: { steps ≤ max_steps },
 }
 
-/// The files of `run` and `trace`: the image and the frames that are read, and the frames out.
+/// The files of `run` and `trace`: the image and the frame stream that are read, and the frames
+/// out.
 #[derive(Clone, Copy)]
 pub struct RunPaths<'a> {
     pub image: &'a str,
@@ -57,8 +58,8 @@ pub struct TablePaths<'a> {
 /// Why the arguments ask for nothing.
 #[derive(Drop)]
 pub enum WordsError {
-    /// The arguments are invalid, or not UTF-8, or they ask for help or the version. The text is
-    /// the message or the help, in whole lines, and may be empty.
+    /// The arguments are invalid, or not UTF-8, or they ask for help or the version. With the
+    /// message or the help, in whole lines, which may be empty.
     Wrong(String),
     Memory,
 }

@@ -3,7 +3,7 @@
 ghost use Rattle.std.specs.Prelude.{◌≡◌, ◌≢◌, ◌<◌, ◌↔◌, length, ◌⊎◌};
 ghost use Rattle.isa_model.specs.Code.Limits.{max_steps};
 ghost use Rattle.isa_model.specs.{max_packet};
-ghost use Rattle.verdict_calls.specs.Crossing.{IsStatus, IsVerdict};
+ghost use Rattle.verdict_calls.specs.Crossing.{IsStatus, IsVerdictStatus};
 ghost use Rattle.verdict_calls.specs.Verdicts.{IsRefusedImage, IsNoImage};
 ghost use Rattle.run_calls.specs.Runs.{RunsProgram};
 ghost use Rattle.command_calls.specs.Streams.{RunsStream};
@@ -64,25 +64,25 @@ pub extern "C" fn xdpvm_trace_once(
     trace_once(alloc, image, head, packet, limit, out)
 }
 
-/// Verifies an image, and runs its program on the frames of a stream. The report is written to
-/// `report` and the frames out to `sent`, as far as there is room; the maps keep their contents
+/// Verifies an image, and runs its program on the packet frames of a stream. The report is written
+/// to `report` and the frames out to `sent`, as far as there is room; the maps keep their contents
 /// from frame to frame.
 #[unsafe(no_mangle)]
 pub extern "C" fn xdpvm_run_stream(
     alloc: Global,
     image: &[u8],
-    frames: &[u8],
+    stream: &[u8],
     report: &mut [u8],
     sent: &mut [u8],
     out: &mut Streamed,
 ) -> u32
-    ensures ran { result ≡ 0 → RunsStream image.now frames.now
+    ensures ran { result ≡ 0 → RunsStream image.now stream.now
         report.old sent.old report.new sent.new out.new }
     ensures refused { result ≡ 2 → IsRefusedImage image.now }
     ensures report_kept { result ≢ 0 → report.new ≡ report.old }
     ensures sent_kept { result ≢ 0 → sent.new ≡ sent.old }
     ensures out_kept { result ≢ 0 → out.new ≡ out.old }
-    ensures status { IsVerdict result }
+    ensures status { IsVerdictStatus result }
 {
-    run_stream(alloc, image, frames, report, sent, out)
+    run_stream(alloc, image, stream, report, sent, out)
 }

@@ -2,7 +2,7 @@
 
 ghost use Rattle.std.specs.Prelude.{◌≡◌, ◌≢◌, ◌<◌, ◌↔◌, ◌⊎◌};
 ghost use Rattle.isa_model.specs.Code.Limits.{max_explored};
-ghost use Rattle.verdict_calls.specs.Crossing.{IsVerdict, IsDecision};
+ghost use Rattle.verdict_calls.specs.Crossing.{IsVerdictStatus, IsDecision};
 ghost use Rattle.verdict_calls.specs.Verdicts.{ReturnsBound, FillsImageRefusal, IsUndecided};
 ghost use Rattle.table_calls.specs.Tables.{ReturnsShownBound, FillsTableRefusal};
 ghost use Rattle.command_calls.specs.Texts.{FillsAssembledImage, only_size, FillsTextRefusal};
@@ -29,7 +29,7 @@ pub extern "C" fn xdpvm_assemble(
     ensures image_kept { result ≢ 0 → image.new ≡ image.old }
     ensures why_kept { result ≢ 2 → why.new ≡ why.old }
     ensures memory { result ≡ 5 → out.new ≡ out.old }
-    ensures status { IsVerdict result }
+    ensures status { IsVerdictStatus result }
 {
     assemble_text(alloc, text, image, why, out)
 }
@@ -75,7 +75,7 @@ pub extern "C" fn xdpvm_recheck(
         → FillsTableRefusal image.now table.now why.old why.new out.new }
     ensures why_kept { result ≢ 2 → why.new ≡ why.old }
     ensures memory { result ≡ 5 → out.new ≡ out.old }
-    ensures status { IsVerdict result }
+    ensures status { IsVerdictStatus result }
 {
     recheck_table(alloc, image, table, why, out)
 }

@@ -24,15 +24,16 @@ returns-clause-kept c =
     c.in-Some-operand_numbers.right
     c.in-Some-narrowed.new_left c.in-Some-narrowed.new_right
     c.in-Some.ensures c.in-Some-operand_numbers.ensures
-    (λ x y l r o. c.in-Some-narrowed.ensures.shows.common x y l r o))
+    (λ x y l r o. c.in-Some-narrowed.ensures.narrows.common x y l r o))
 
 pub returns-clause-narrowed : goal.returns-clause-narrowed
 returns-clause-narrowed c =
     (Narrows-compared c.args.state.now c.args.cond c.in-Some.left c.in-Some-operand_numbers.right
     c.in-Some-narrowed.new_left c.in-Some-narrowed.new_right
     c.in-Some.ensures c.in-Some-operand_numbers.ensures
-    c.in-Some-narrowed.ensures.shows.left_fewer c.in-Some-narrowed.ensures.shows.right_fewer
-    c.in-Some-narrowed.ensures.shows.left_constant c.in-Some-narrowed.ensures.shows.right_constant)
+    c.in-Some-narrowed.ensures.narrows.left_fewer c.in-Some-narrowed.ensures.narrows.right_fewer
+    c.in-Some-narrowed.ensures.narrows.left_constant
+    c.in-Some-narrowed.ensures.narrows.right_constant)
 
 pub returns-clause-others : goal.returns-clause-others
 returns-clause-others c =
@@ -53,13 +54,13 @@ returns-clause-constants c = λ x y left right apart.
     (kind_of c.args.state.now c.args.cond.register) c.in-Some.left x c.in-Some.ensures left in
     let r = just_operand c.args.state.now c.args.cond.width c.args.cond.operand
     c.in-Some-operand_numbers.right y c.in-Some-operand_numbers.ensures right in
-    let none = c.in-Some-narrowed.ensures.never x y l.1 r.1 apart in
+    let none = c.in-Some-narrowed.ensures.constants x y l.1 r.1 apart in
     absurd (cc none)
 
 pub returns-in_default-clause-shown : goal.returns-in_default-clause-shown
 returns-in_default-clause-shown c = λ compared some.
     absurd (no_number (kind_of c.args.state.now c.args.cond.register)
-    (sym c.in_default.is ∙ c.number_of.ensures) compared.0)
+    (sym c.in_default.is ∙ c.register_numbers.ensures) compared.0)
 
 pub returns-in_default-operand_numbers-clause-shown : goal.returns-in_default-operand_numbers-clause-shown
 returns-in_default-operand_numbers-clause-shown c = λ compared some.
@@ -74,7 +75,7 @@ returns-clause-shown c = λ compared some. record {
   new_right = c.in-Some-narrowed.new_right;
   left_is = c.in-Some.ensures;
   right_is = c.in-Some-operand_numbers.ensures;
-  shows = c.in-Some-narrowed.ensures.shows;
+  narrows = c.in-Some-narrowed.ensures.narrows;
   new = refl;
 }
 

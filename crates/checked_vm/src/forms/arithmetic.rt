@@ -13,17 +13,17 @@ use isa_model::{
 };
 
 impl Core {
-    /// Sets a register and goes on at the slot that is `slots` slots later.
-    pub fn set_and_go_on(&mut self, d: Reg, value: Value, slots: usize)
-        requires { self.old.slot + slots < 2 ^ 64 }
+    /// Sets a register and goes on at the slot that is `by` slots later.
+    pub fn set_and_go_on(&mut self, d: Reg, value: Value, by: usize)
+        requires { self.old.slot + by < 2 ^ 64 }
         ensures { self.new ≡ record self.old {
           slot = self.old.slot
-              + slots;
+              + by;
           regs = slice_set self.old.regs (reg_number d) value;
         } }
     {
         self.set(d, value);
-        self.slot += slots;
+        self.slot += by;
     }
 
     fn operand(&self, width: Width, source: Operand) -> Value

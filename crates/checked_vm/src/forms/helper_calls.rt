@@ -219,14 +219,14 @@ impl Core {
             IsStep clock (act p clock (state_of self.old packet.now) (Insn.CallHelper number))
             result (state_of self.old packet.now) (state_of self.new packet.now) }
     {
-        let done = match Helper::numbered(number) {
+        let helped = match Helper::numbered(number) {
             Some(Helper::MapLookupElem) => self.do_lookup(packet),
             Some(Helper::MapUpdateElem) => self.do_update(packet),
             Some(Helper::MapDeleteElem) => self.do_delete(packet),
             Some(Helper::KtimeGetNs) => return Stepped::AsksTime,
             None => Err(TrapReason::BadHelper),
         };
-        match done {
+        match helped {
             Ok(()) => Stepped::Went,
             Err(reason) => Stepped::Trapped(reason),
         }

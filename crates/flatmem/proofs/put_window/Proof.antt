@@ -96,18 +96,18 @@ module _ (n : ℕ) {M : Type 1} {𝓤 : Ura M} (𝓛 : Logic 𝓤) (at_mem : Mem
     abbrev passed : List Val × (List Val × (List Val × Unit {0}))
     passed = (mut_slice_vals (buf xs), (vint w64 m ∷ [], (bytes_val w ∷ [], tt)))
 
-    abbrev bound : (walk_of 𝓛 (ended n) (stayed n) clauses).Ghost
-    bound = (((κ, (κN, tt)), (q, (qN, tt)), bd, (buf xs, (m, (w, tt))), passed), tt)
+    abbrev ghosts : (walk_of 𝓛 (ended n) (stayed n) clauses).Ghost
+    ghosts = (((κ, (κN, tt)), (q, (qN, tt)), bd, (buf xs, (m, (w, tt))), passed), tt)
 
     abbrev Post : Val → SProp 𝓤
-    Post = (walk_of 𝓛 (ended n) (stayed n) clauses).post bound
+    Post = (walk_of 𝓛 (ended n) (stayed n) clauses).post ghosts
 
-    walk : m < 2 ^ 64 → Room u8 (length xs) → Is (Window n) w (bytes_val w ∷ []) → length w ≡ n
+    meet : m < 2 ^ 64 → Room u8 (length xs) → Is (Window n) w (bytes_val w ∷ []) → length w ≡ n
         → m + n ≤ length xs
         → ent 𝓤 (on_entry 𝓛 (ended n).signature (κ, (κN, tt)) (q, (qN, tt))
         (buf xs, (m, (w, tt))) passed)
         (WpFn 𝓤 H C Λ (fn' n) (slice_val (b, o) (length xs) ∷ vint w64 m ∷ bytes_val w ∷ []) Post)
-    walk fm rm is lw le =
+    meet fm rm is lw le =
         let front : List ℕ = take m xs in
         let mid : List ℕ = take n (drop_l m xs) in
         let back : List ℕ = drop_l n (drop_l m xs) in
@@ -155,7 +155,7 @@ module _ (n : ℕ) {M : Type 1} {𝓤 : Ura M} (𝓛 : Logic 𝓤) (at_mem : Mem
         use1 𝓛 (‵ (row u8 full_share ys b o)) (array_in 𝓛 full_share n front w back b o p lw on) $
         closes_slice ! tt u8 xs ys same b o $
         returns ! (look_at ! 0 refl) $ free_all ! refl $ keep ! (0 ∷ 1 ∷ 2 ∷ 3 ∷ []) $
-        suffices ! _ (ends_at 𝓛 (ended n) (stayed n) clauses bound vunit tt (ys, (tt, (tt, tt)))
+        suffices ! _ (ends_at 𝓛 (ended n) (stayed n) clauses ghosts vunit tt (ys, (tt, (tt, tt)))
         (same, (tt, (tt, tt)))) $
         says ! (ap (λ (l : List ℕ). front ++ (w ++ l)) (drop-drop n m xs)) $
         nothing ! $ move ! (4 ∷ 0 ∷ []) $ join ! $ move ! (3 ∷ 0 ∷ []) $ join ! $ frame ! $
@@ -205,7 +205,7 @@ module _ (n : ℕ) {M : Type 1} {𝓤 : Ura M} (𝓛 : Logic 𝓤) (at_mem : Mem
       qed 𝓛 (raw On ∷ (given (κs.1.0 ⊑ []) (‵ ftrue) ⊛ given (size (layout (Window n)) < 2 ^ 63)
       (‵ ftrue) ⊛ given (a.1.0 + n ≤ length a.0.now) (‵ ftrue)) ∷ []) ∵
       move ! (1 ∷ []) $ split3 ! $ drop ! $ drop ! $ learn ! (λ le. drop ! $
-      by ! (walk 𝓣.C 𝓣.Λ κs.0 κs.1.0 qs.0 qs.1.0 bounds a.0.ref_ptr.0 a.0.ref_ptr.1 a.0.ghost_name
+      by ! (meet 𝓣.C 𝓣.Λ κs.0 κs.1.0 qs.0 qs.1.0 bounds a.0.ref_ptr.0 a.0.ref_ptr.1 a.0.ghost_name
       a.0.now a.1.0
       a.1.1.0 are.1.0.1 are.0.0.1 are.1.1.0 are.1.1.0.1.0.1 le))))
 

@@ -83,8 +83,8 @@ module _ (n : ℕ) {M : Type 1} {𝓤 : Ura M} (𝓛 : Logic 𝓤) (at_mem : Mem
     abbrev self : Bor (List ℕ)
     self = record { ref_ptr = (b, o); now = xs }
 
-    abbrev bound : (walk_of 𝓛 (ended n) (stayed n) clauses).Ghost
-    bound = (
+    abbrev ghosts : (walk_of 𝓛 (ended n) (stayed n) clauses).Ghost
+    ghosts = (
       (
         (κ, (κN, tt)),
         (q, (qN, tt)),
@@ -96,13 +96,13 @@ module _ (n : ℕ) {M : Type 1} {𝓤 : Ura M} (𝓛 : Logic 𝓤) (at_mem : Mem
     )
 
     abbrev Post : Val → SProp 𝓤
-    Post = (walk_of 𝓛 (ended n) (stayed n) clauses).post bound
+    Post = (walk_of 𝓛 (ended n) (stayed n) clauses).post ghosts
 
-    walk : m < 2 ^ 64 → Room u8 (length xs) → m + n ≤ length xs
+    meet : m < 2 ^ 64 → Room u8 (length xs) → m + n ≤ length xs
         → ent 𝓤 (on_entry 𝓛 (ended n).signature (κ, (κN, tt)) (q, (qN, tt)) (self, (m, tt))
         (shr_slice_vals self, (vint w64 m ∷ [], tt))) (WpFn 𝓤 H C Λ (fn' n) (slice_val (b, o)
         (length xs) ∷ vint w64 m ∷ []) Post)
-    walk fm rm le =
+    meet fm rm le =
         let front : List ℕ = take m xs in
         let mid : List ℕ = take n (drop_l m xs) in
         let back : List ℕ = drop_l n (drop_l m xs) in
@@ -148,7 +148,7 @@ module _ (n : ℕ) {M : Type 1} {𝓤 : Ura M} (𝓛 : Logic 𝓤) (at_mem : Mem
         rewrite ! 0 (λ (l : List ℕ). ‵ (row u8 s l b o)) (sym cut) refl $ move ! (0 ∷ 2 ∷ []) $
         shuts_slice ! tt u8 s xs b o $
         returns ! (look_at ! 0 refl) $ free_all ! refl $ keep ! (1 ∷ 0 ∷ 4 ∷ []) $
-        suffices ! _ (ends_at 𝓛 (ended n) (stayed n) clauses bound (bytes_val mid) mid
+        suffices ! _ (ends_at 𝓛 (ended n) (stayed n) clauses ghosts (bytes_val mid) mid
         (tt, (tt, tt))
         (tt, (tt, tt))) $ says ! refl $
         nothing ! $ move ! (3 ∷ 0 ∷ []) $ join ! $ move ! (2 ∷ 0 ∷ []) $ join ! $ frame ! $
@@ -172,7 +172,7 @@ module _ (n : ℕ) {M : Type 1} {𝓤 : Ura M} (𝓛 : Logic 𝓤) (at_mem : Mem
       qed 𝓛 (raw On ∷ (given (κs.1.0 ⊑ []) (‵ ftrue) ⊛ given (size (layout (ArrayAt u8 (param 0
       (number n)))) < 2 ^ 63) (‵ ftrue) ⊛ given (a.1.0 + n ≤ length a.0.now) (‵ ftrue)) ∷ []) ∵
       move ! (1 ∷ []) $ split3 ! $ drop ! $ drop ! $ learn ! (λ le. drop ! $
-      by ! (walk 𝓣.C 𝓣.Λ κs.0 κs.1.0 qs.0 qs.1.0 bounds a.0.ref_ptr.0 a.0.ref_ptr.1 a.0.now a.1.0
+      by ! (meet 𝓣.C 𝓣.Λ κs.0 κs.1.0 qs.0 qs.1.0 bounds a.0.ref_ptr.0 a.0.ref_ptr.1 a.0.now a.1.0
       are.1.0.1
       are.0.0.1 le))))
 

@@ -169,9 +169,9 @@ first_slot (StoreConstant size p k) =
     slot (0x62 + size_code size) (reg_number p.base) 0 (offset16 p.offset) (imm32 k)
 first_slot (Store size p s) =
     slot (0x63 + size_code size) (reg_number p.base) (reg_number s) (offset16 p.offset) 0
-first_slot (Atomic w op fetch p s) =
+first_slot (Atomic w op fetched p s) =
     slot (atomic_opcode w) (reg_number p.base) (reg_number s) (offset16 p.offset)
-    (atomic_code op + fetch_bit fetch)
+    (atomic_code op + fetch_bit fetched)
 first_slot (Exchange w p s) =
     slot (atomic_opcode w) (reg_number p.base) (reg_number s) (offset16 p.offset) 0xe1
 first_slot (CompareExchange w p s) =
@@ -222,7 +222,7 @@ InsnFits (Load size d p) = FitsSigned w16 p.offset
 InsnFits (LoadSx size d p) = FitsSigned w16 p.offset
 InsnFits (StoreConstant size p k) = FitsSigned w16 p.offset × FitsSigned w32 k
 InsnFits (Store size p s) = FitsSigned w16 p.offset
-InsnFits (Atomic w op fetch p s) = FitsSigned w16 p.offset
+InsnFits (Atomic w op fetched p s) = FitsSigned w16 p.offset
 InsnFits (Exchange w p s) = FitsSigned w16 p.offset
 InsnFits (CompareExchange w p s) = FitsSigned w16 p.offset
 InsnFits (Jump by) = FitsSigned w16 by

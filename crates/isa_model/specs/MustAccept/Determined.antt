@@ -16,7 +16,7 @@ use Rattle.isa_model.specs.MustAccept.Paths.{IsPlainForm, Each, IsOneOf, IsWhole
 
 -- ---- forms
 
--- from a call frame's end, stack slot j, counted from the lowest address on
+-- from a call frame's end, stack slot j, counted from the lowest offset on
 abbrev pub stack_slot_offset : ℕ → ℤ
 stack_slot_offset j = pos (8 * j) -ℤ pos stack_size
 
@@ -52,7 +52,8 @@ pub record WritesIn (p : Program) (clock : ℕ → ℕ) (first : State) (n : ℕ
   pub here : fetch p state.slot ≡ Some insn
   pub writes_it : writes insn ≡ Some r
 
--- a run of the program from a start takes this number of steps, and reads r1 only after writing it
+-- a run of the program from a start takes this number of steps, and reads r1 only after writing it;
+-- `number` is its answer
 pub record HasRun (p : Program) (steps : ℕ) : Type 0 where
   pub clock : ℕ → ℕ
   pub clock_is : IsClock clock

@@ -1,4 +1,5 @@
--- Guarded programs: packet bytes are loaded where one test has shown that they are there.
+-- Guarded programs: packet bytes are loaded where one test has shown that they are there. The body
+-- of such a program is what is between that test and its last two instructions, the tail.
 use Rattle.std.specs.Prelude.{◌≡◌, ℕ, ◌+◌, ◌<◌, ◌≤◌, ℤ, pos, Some, [], ◌∷◌, length}
 use Rattle.isa_model.specs.declared.sizes.Width.TheVariants.{Full64}
 use Rattle.isa_model.specs.declared.sizes.Size.TheVariants.{U32}

@@ -48,7 +48,7 @@ written_too (Some r) rs = r ∷ rs
 
 -- ---- paths
 
--- a path of n steps from slot 0 to a slot, which writes these registers, the last one first
+-- a path of n edges from slot 0 to a slot, which writes these registers, the last one first
 unfoldable pub PathTo : Program → ℕ → ℕ → List Reg → Type 0
 PathTo p zero slot written = (slot ≡ 0) × (written ≡ [])
 PathTo p (suc n) slot written =

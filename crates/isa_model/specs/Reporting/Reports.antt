@@ -1,5 +1,5 @@
--- What running a program over a frame stream writes: the report and the frames out, as pieces in
--- their order. docs/FORMATS.md.
+-- What running a program over a frame stream writes: the report and the frames out, as pieces of a
+-- report in their order. docs/FORMATS.md.
 use Rattle.std.specs.Prelude.{◌≡◌, ℕ, ◌+◌, ◌/◌, ◌^◌, ◌==◌, if◌then◌else◌, Bool, true, false, List, [], ◌∷◌, ◌++◌, length, map, fold, replicate, codes, decimal, Option, Some, None}
 use Rattle.std.specs.List.{flat_map, filter_map, range_with_len}
 use Rattle.std.specs.Option.{option_map}
@@ -26,7 +26,7 @@ use Rattle.isa_model.specs.Machine.States.{KeyValues}
 use Rattle.isa_model.specs.declared.versions.Version.{Version}
 use Rattle.isa_model.specs.declared.versions.Version.TheVariants.{One, Two}
 use Rattle.isa_model.specs.Code.Versions.{stream_magic}
-use Rattle.isa_model.specs.Reporting.Streams.{PacketFrame, Stream, frame_bytes}
+use Rattle.isa_model.specs.Reporting.Streams.{PacketFrame, Stream, record_bytes}
 use Rattle.isa_model.specs.Reporting.Messages.{code_of}
 use Rattle.isa_model.specs.Running.Runs.{Outcome, HasOutcome, Turn, turn}
 use Rattle.isa_model.specs.Code.Limits.{max_steps}
@@ -61,14 +61,14 @@ is_forwarded action.Pass = true
 is_forwarded action.Tx = true
 is_forwarded other = false
 
--- in version 2 the upper half of an answer says why a frame is dropped; without one it is 1
+-- the reason of a dropped frame: in version 2 the upper half of the answer, and 1 where that is 0
 abbrev pub drop_reason : Version → ℕ → ℕ
-drop_reason One value = 1
-drop_reason Two value = if value / 2 ^ 32 == 0 then 1 else value / 2 ^ 32
+drop_reason One answer = 1
+drop_reason Two answer = if answer / 2 ^ 32 == 0 then 1 else answer / 2 ^ 32
 
 -- the reason of a frame, by the program's version and answer; 0 where the frame is forwarded
 abbrev pub reason_of : Version → ℕ → ℕ
-reason_of program value = if is_forwarded (action_of value) then 0 else drop_reason program value
+reason_of v answer = if is_forwarded (action_of answer) then 0 else drop_reason v answer
 
 -- ---- lines, each ended by one line feed
 
@@ -86,21 +86,21 @@ reason_text Two reason = codes " " ++ decimal reason
 
 -- a frame's line, by its number, how its run ended, and the length of its body
 unfoldable pub frame_line : ReportForm → ℕ → End → ℕ → List ℕ
-frame_line form number (Exit value steps) size =
-    decimal number ++ codes " " ++ action_name (action_of value) ++ codes " " ++ decimal size
+frame_line form number (Exit answer steps) len =
+    decimal number ++ codes " " ++ action_name (action_of answer) ++ codes " " ++ decimal len
     ++ codes " " ++ decimal steps
-    ++ reason_text form.stream (reason_of form.program value) ++ codes "\n"
-frame_line form number (Trap trap_reason steps) size =
-    decimal number ++ codes " TRAP " ++ trap_reason_name trap_reason ++ codes " " ++ decimal size
+    ++ reason_text form.stream (reason_of form.program answer) ++ codes "\n"
+frame_line form number (Trap trap_reason steps) len =
+    decimal number ++ codes " TRAP " ++ trap_reason_name trap_reason ++ codes " " ++ decimal len
     ++ codes " " ++ decimal steps ++ codes "\n"
-frame_line form number Limit size =
-    decimal number ++ codes " LIMIT " ++ decimal size ++ codes " " ++ decimal form.limit
+frame_line form number Limit len =
+    decimal number ++ codes " LIMIT " ++ decimal len ++ codes " " ++ decimal form.limit
     ++ codes "\n"
 
 -- the line of a frame that has a reason already, and is not run
 unfoldable pub skip_line : ℕ → ℕ → ℕ → List ℕ
-skip_line number size reason =
-    decimal number ++ codes " SKIP " ++ decimal size ++ codes " 0 " ++ decimal reason ++ codes "\n"
+skip_line number len reason =
+    decimal number ++ codes " SKIP " ++ decimal len ++ codes " 0 " ++ decimal reason ++ codes "\n"
 
 -- the line of a key and its value, by the map's index, in lower-case hexadecimal
 unfoldable pub map_line : ℕ → (List ℕ × List ℕ) → List ℕ
@@ -108,10 +108,10 @@ map_line index e =
     codes "map " ++ decimal index ++ codes " " ++ encode_lower e.0 ++ codes " " ++ encode_lower e.1
     ++ codes "\n"
 
--- the last line, by the number of frames and how the stream ended
+-- the last line, by how many frames there are and how the stream ended
 unfoldable pub last_line : ℕ → Finish → List ℕ
-last_line number finish.End = codes "end " ++ decimal number ++ codes "\n"
-last_line number (finish.Fault f offset) =
+last_line count finish.End = codes "end " ++ decimal count ++ codes "\n"
+last_line count (finish.Fault f offset) =
     codes "fault " ++ code_of f ++ codes " at " ++ decimal offset ++ codes "\n"
 
 -- ---- pieces of a report: each is written whole, or a beginning of it is the last that is written
@@ -139,20 +139,20 @@ frames_out pieces = flat_map frames_part pieces
 
 -- PASS and TX frames are written out, and where the stream has reasons all frames whose runs exit
 abbrev pub is_sent : Version → End → Bool
-is_sent One (Exit value steps) = is_forwarded (action_of value)
-is_sent Two (Exit value steps) = true
+is_sent One (Exit answer steps) = is_forwarded (action_of answer)
+is_sent Two (Exit answer steps) = true
 is_sent stream end = false
 
 -- the reason that a frame is written out with
 abbrev pub end_reason : Version → End → ℕ
-end_reason program (Exit value steps) = reason_of program value
+end_reason program (Exit answer steps) = reason_of program answer
 end_reason program end = 0
 
 abbrev pub record_pieces : ReportForm → FrameHead → Turn → List OutputPiece
 record_pieces form head t =
     if is_sent form.stream t.ends
     then ToFrames
-    (frame_bytes form.stream
+    (record_bytes form.stream
     (record { head = head; body = t.packet; reason = end_reason form.program t.ends })) ∷ []
     else []
 
@@ -164,9 +164,10 @@ frame_pieces form number f t =
 -- a frame that is not run is written out as it was read
 unfoldable pub skip_pieces : ReportForm → ℕ → PacketFrame → List OutputPiece
 skip_pieces form number f =
-    ToReport (skip_line number (length f.body) f.reason) ∷ ToFrames (frame_bytes form.stream f) ∷ []
+    ToReport (skip_line number (length f.body) f.reason)
+    ∷ ToFrames (record_bytes form.stream f) ∷ []
 
--- the turn of a frame on map contents
+-- the turn of the run on a packet frame, by the map contents at its start
 abbrev pub Rule : Type 0
 Rule = FrameHead → List ℕ → List KeyValues → Turn
 
@@ -182,7 +183,7 @@ abbrev pub contents_left : List KeyValues → Option Turn → List KeyValues
 contents_left contents (Some t) = t.contents
 contents_left contents None = contents
 
--- the frames' pieces, the maps' contents carried along
+-- the frames' pieces of the report, the maps' contents carried along
 abbrev pub turns_pieces : ReportForm → Rule → ℕ → List KeyValues → List PacketFrame
     → List OutputPiece
 turns_pieces form rule number contents [] = []
@@ -198,7 +199,7 @@ contents_after rule contents (f ∷ frames) =
 
 -- ---- maps
 
--- an array's value by its index
+-- a key of an array with its value, by the index that the key spells
 abbrev pub key_value_by_index : KeyValues → ℕ → Option (List ℕ × List ℕ)
 key_value_by_index es i =
     option_map (λ value. (little_bytes 4 i, value)) (find (slice_cmp nat_cmp) (little_bytes 4 i) es)
@@ -231,7 +232,7 @@ starting_contents rows = map (λ row. starting_key_values row.kind row) rows
 
 -- ---- reports
 
--- the magic, each frame's pieces, the maps' lines, and the last line
+-- the magic, each frame's pieces of the report, the maps' lines, and the last line
 abbrev pub report_of : ℕ → Version → List MapDef → Rule → List KeyValues → Stream → List OutputPiece
 report_of limit program rows rule contents found =
     let form : ReportForm = record { limit = limit; program = program; stream = found.version } in
@@ -239,7 +240,7 @@ report_of limit program rows rule contents found =
     ++ (maps_pieces 0 rows (contents_after rule contents found.frames)
     ++ ToReport (last_line (length found.frames) found.finish) ∷ [])
 
--- a run with checks, stopped at the limit; every answer of the clock is the frame's time
+-- the turn of a run with checks, stopped at the limit; the clock always answers the frame's time
 abbrev pub checked_rule : Program → ℕ → Rule
 checked_rule p limit head body contents = turn p limit (λ k. head.time) head body contents
 
@@ -258,8 +259,8 @@ turn_by o =
       clock_calls = o.clock_calls;
     }
 
--- a frame without a reason has the pieces of its run's outcome, which leaves the contents;
--- every other one is skipped
+-- a frame without a reason has the pieces of the report that its run's outcome gives, and that
+-- outcome leaves the contents; every other one is skipped
 abbrev pub ReportsFrame : ReportForm → Program → ℕ → List KeyValues → PacketFrame → Bool
     → List OutputPiece
     → List KeyValues → Type 0
@@ -269,7 +270,7 @@ ReportsFrame form p number contents f true pieces next =
 ReportsFrame form p number contents f false pieces next =
     (pieces ≡ skip_pieces form number f) × (next ≡ contents)
 
--- the frames' pieces by the outcomes of their runs, and the contents that the last one leaves
+-- the frames' pieces of the report, by their runs' outcomes, and the contents that the last leaves
 abbrev pub ReportsFrames : ReportForm → Program → ℕ → List KeyValues → List PacketFrame
     → List OutputPiece
     → List KeyValues → Type 0
@@ -283,7 +284,7 @@ ReportsFrames form p number contents (f ∷ frames) pieces last =
 abbrev pub report_form_of : Program → Stream → ReportForm
 report_form_of p found = record { limit = max_steps; program = p.version; stream = found.version }
 
--- the report of a program, and a stream: every run exits
+-- the report of a program, and a stream: every run exits; `turns` are the turns' pieces of it
 pub record IsReport (p : Program) (found : Stream) (pieces : List OutputPiece) : Type 0 where
   pub turns : List OutputPiece
   pub last : List KeyValues

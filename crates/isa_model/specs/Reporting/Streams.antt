@@ -35,12 +35,12 @@ head_bytes version head n reason =
     ++ (little_bytes 4 head.queue ++ (little_bytes 4 n ++ reason_bytes version reason)))
 
 -- a record
-abbrev pub frame_bytes : Version → PacketFrame → List ℕ
-frame_bytes version f = head_bytes version f.head (length f.body) f.reason ++ f.body
+abbrev pub record_bytes : Version → PacketFrame → List ℕ
+record_bytes version f = head_bytes version f.head (length f.body) f.reason ++ f.body
 
 -- records, one after the other
 abbrev pub records_bytes : Version → List PacketFrame → List ℕ
-records_bytes version frames = flat_map (frame_bytes version) frames
+records_bytes version frames = flat_map (record_bytes version) frames
 
 abbrev pub ReasonFits : Version → ℕ → Type 0
 ReasonFits One reason = reason ≡ 0
@@ -107,7 +107,7 @@ stop_at version number offset (b ∷ bytes) ending =
     then Some (finish.Fault (cut_by ending TruncatedBody) offset)
     else None
 
--- the record at the front of the bytes
+-- the packet frame whose record is at the front of the bytes
 abbrev pub packet_frame_of : Version → List ℕ → PacketFrame
 packet_frame_of version bytes = record {
   head =
@@ -124,8 +124,8 @@ packet_frame_of version bytes = record {
 abbrev pub record_size : Version → PacketFrame → ℕ
 record_size version f = head_size version + length f.body
 
--- the records that the bytes begin with, after `number` others and at `offset`, and how they end;
--- `fuel` is more than the number of bytes
+-- the frames whose records the bytes begin with, after `number` others and at `offset`, and how
+-- these end; `fuel` is more than the number of bytes
 unfoldable pub frames_from : ℕ → Version → ℕ → ℕ → List ℕ → InputEnding → List PacketFrame × Finish
 frames_from zero version number offset bytes ending = ([], finish.End)
 frames_from (suc fuel) version number offset bytes ending =

@@ -125,7 +125,7 @@ abbrev pub turn_of : Progress → Turn
 turn_of (GoesOn s) = left Limit s
 turn_of (Ended e s) = left e s
 
--- one run on a packet frame, stopped at the limit
+-- the turn of a run on a packet frame, stopped at the limit
 unfoldable pub turn : Program → ℕ → (ℕ → ℕ) → FrameHead → List ℕ → List KeyValues → Turn
 turn p limit clock head packet contents =
     turn_of (progress p clock limit (start_state head packet contents))

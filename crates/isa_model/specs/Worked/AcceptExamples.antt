@@ -58,9 +58,9 @@ unfolding PathTo
 at_slot zero slot written h = inl h.0
 at_slot (suc n) slot written (from, before, i, path, here, inl (falls, at), is) =
     let (first, same) = falls_on from i here falls in
-    let wide = ap slots_filled same in
+    let filled = ap slots_filled same in
     inr (
-      omega (arith, at, first, wide),
+      omega (arith, at, first, filled),
       subst (λ (rs : List Reg). IsOneOf rs R0)
           (sym (is ∙ ap (λ x. written_too (writes x) before) same)) (inl refl),
     )

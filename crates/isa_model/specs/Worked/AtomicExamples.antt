@@ -94,7 +94,7 @@ compare_exchanges_at_32_bits = refl
 abbrev pub with_zero : Insn → End
 with_zero i = end_on (set R0 (pos 0) ∷ i ∷ insn.Exit ∷ []) [] 3
 
--- an unset source, and r0 unset where it is compared
+-- an unset source, r0 unset where it is compared, and an unset base
 pub unset_operands : map (λ i. end_on (i ∷ insn.Exit ∷ []) [] 2)
     (insn.Atomic Full64 atomic.Add false (below R10 8) R3 ∷ insn.Exchange Full64 (below R10 8) R3
     ∷ insn.CompareExchange Full64 (below R10 8) R1
@@ -127,7 +127,7 @@ pub pointer_compared : end_on
 unfolding turn progress start_state new_call_frame step act alu holds sign_extended reordered
 pointer_compared = refl
 
--- the place, and then unset bytes
+-- the place, and then unwritten bytes
 pub places_of_atomic_instructions : map with_zero
     (insn.Atomic Full64 atomic.Add false (below R10 7) R0 ∷ insn.Exchange Low32 (below R10 3) R0
     ∷ insn.CompareExchange Low32 (below R10 513) R0

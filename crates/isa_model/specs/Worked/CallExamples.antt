@@ -62,9 +62,10 @@ unfolding turn progress start_state new_call_frame step act alu holds sign_exten
 wide_loads_fill_two_slots = refl
 
 -- r0 = 1; exit, within 2 steps and within 1
-pub limits : map (end_on (set R0 (pos 1) ∷ insn.Exit ∷ []) []) (2 ∷ 1 ∷ []) ≡ Exit 1 2 ∷ Limit ∷ []
+pub exit_at_the_limit : map (end_on (set R0 (pos 1) ∷ insn.Exit ∷ []) []) (2 ∷ 1 ∷ [])
+    ≡ Exit 1 2 ∷ Limit ∷ []
 unfolding turn progress start_state new_call_frame step act alu holds sign_extended reordered
-limits = refl
+exit_at_the_limit = refl
 
 -- a trap at the step after the limit is not met
 pub trap_behind_the_limit : map (end_on (set R1 (pos 1) ∷ insn.Exit ∷ []) []) (2 ∷ 1 ∷ [])
@@ -88,7 +89,7 @@ pub reads_of_an_unset_register : map past_one
 unfolding turn progress start_state new_call_frame step act alu holds sign_extended reordered
 reads_of_an_unset_register = refl
 
--- MOV, MOVSX, wide loads and loads do not read their destination
+-- MOV, wide loads and loads do not read their destination register
 pub destinations_that_are_not_read : map past_one
     (insn.Alu Full64 Mov R3 (Register R1) ∷ insn.Alu Low32 Mov R3 (Constant (pos 1))
     ∷ insn.LoadNumber R3 1 ∷ insn.Load U64 R3 (below R10 8) ∷ [])
@@ -120,15 +121,17 @@ unset_before_readonly = refl
 
 -- ---- calls
 
-abbrev pub sum : Reg → Insn
-sum r = insn.Alu Full64 Add R0 (Register r)
+-- r0 += r
+abbrev pub add_register : Reg → Insn
+add_register r = insn.Alu Full64 Add R0 (Register r)
 
 -- r6 = 6; r7 = 7; r8 = 8; r9 = 9; call pc+6; r0 += r6; r0 += r7; r0 += r8; r0 += r9; i; exit;
 -- r6 = 60; r7 = 70; r8 = 80; r9 = 90; r1 = 1; r0 = 100; exit
 abbrev pub kept_over_a_call : Insn → End
 kept_over_a_call i =
     end_on (set R6 (pos 6) ∷ set R7 (pos 7) ∷ set R8 (pos 8) ∷ set R9 (pos 9)
-    ∷ insn.CallLocal (pos 6) ∷ sum R6 ∷ sum R7 ∷ sum R8 ∷ sum R9 ∷ i ∷ insn.Exit
+    ∷ insn.CallLocal (pos 6) ∷ add_register R6 ∷ add_register R7 ∷ add_register R8
+    ∷ add_register R9 ∷ i ∷ insn.Exit
     ∷ set R6 (pos 60) ∷ set R7 (pos 70) ∷ set R8 (pos 80) ∷ set R9 (pos 90) ∷ set R1 (pos 1)
     ∷ set R0 (pos 100) ∷ insn.Exit ∷ []) [] 18
 
@@ -157,9 +160,9 @@ unfolding turn progress start_state new_call_frame step act alu holds sign_exten
 registers_within = refl
 
 -- r0 is returned unset, too
-pub result_handed_over_unset : within_a_call [] ≡ Trap NoResult 12
+pub answer_handed_over_unset : within_a_call [] ≡ Trap NoResult 12
 unfolding turn progress start_state new_call_frame step act alu holds sign_extended reordered
-result_handed_over_unset = refl
+answer_handed_over_unset = refl
 
 -- unset arguments are no trap: call pc+1; exit; r0 = 3; exit
 pub call_with_no_arguments : end_on

@@ -34,7 +34,7 @@ use Rattle.isa_model.specs.declared.versions.Version.TheVariants.{One}
 abbrev pub head_by : ℕ → FrameHead
 head_by interface = record { time = 0; interface = interface; queue = 0 }
 
--- a run on a packet frame, with no maps and a clock that answers 0
+-- the turn of a run on a packet frame, with no maps and a clock that answers 0
 abbrev pub turn_of_code : List Insn → FrameHead → List ℕ → ℕ → Turn
 turn_of_code code head packet limit =
     turn (record { insns = slots code; maps = []; version = One }) limit (λ k. 0) head packet []
@@ -79,9 +79,9 @@ if_register c r q by =
 -- ---- arithmetic
 
 -- r0 = 2; exit
-pub returns_a_constant : end_on (set R0 (pos 2) ∷ insn.Exit ∷ []) [] 2 ≡ Exit 2 2
+pub answers_a_constant : end_on (set R0 (pos 2) ∷ insn.Exit ∷ []) [] 2 ≡ Exit 2 2
 unfolding turn progress start_state new_call_frame step act alu holds sign_extended reordered
-returns_a_constant = refl
+answers_a_constant = refl
 
 -- r0 = 0x100000002 ll; w1 = 0; w0 %= w1; exit
 pub modulo_by_zero_clears_the_upper_half : end_on
@@ -108,12 +108,12 @@ unfolding turn progress start_state new_call_frame step act alu holds sign_exten
 signed_modulo_by_zero_of_minus_one = refl
 
 -- r0 = 0x8000000000000000 ll; r1 = -1; r0 s/= r1; r0 >>= 62; exit
-pub least_value_by_minus_one : end_on
+pub least_number_by_minus_one : end_on
     (insn.LoadNumber R0 0x8000000000000000 ∷ set R1 (minus 1)
     ∷ insn.Alu Full64 SignedDiv R0 (Register R1)
     ∷ insn.Alu Full64 Rsh R0 (Constant (pos 62)) ∷ insn.Exit ∷ []) [] 5 ≡ Exit 2 5
 unfolding turn progress start_state new_call_frame step act alu holds sign_extended reordered
-least_value_by_minus_one = refl
+least_number_by_minus_one = refl
 
 -- r0 = -13; r0 s%= 3; r0 += 3; exit
 pub signed_modulo_cuts_toward_zero : end_on

@@ -34,8 +34,8 @@ moved_on = Alu Full64 Add R4 (Constant (pos 1))
 abbrev pub byte_loaded : Insn
 byte_loaded = Load U8 R0 (record { base = R2; offset = pos 0 })
 
-abbrev pub answered : Insn
-answered = Alu Full64 Mov R0 (Constant (pos 2))
+abbrev pub answer_set : Insn
+answer_set = Alu Full64 Mov R0 (Constant (pos 2))
 
 -- if the packet is empty, the test jumps to the last two instructions
 abbrev pub to_answer : Insn
@@ -47,7 +47,7 @@ abbrev pub first_byte : Program
 first_byte = record {
   insns = Some packet_loaded ∷ Some end_loaded
       ∷ Some copied ∷ Some moved_on ∷ Some to_answer
-      ∷ Some byte_loaded ∷ Some Exit ∷ Some answered ∷ Some Exit ∷ [];
+      ∷ Some byte_loaded ∷ Some Exit ∷ Some answer_set ∷ Some Exit ∷ [];
   maps = [];
   version = One;
 }
@@ -61,7 +61,7 @@ record Holds (P : ℕ → Insn → Type 0) : Type 0 where
   test : P 4 to_answer
   load : P 5 byte_loaded
   exit : P 6 Exit
-  answer : P 7 answered
+  answer : P 7 answer_set
   last : P 8 Exit
 
 each : (P : ℕ → Insn → Type 0) → Holds P → (slot : ℕ) (i : Insn) → fetch first_byte slot ≡ Some i
@@ -77,7 +77,7 @@ each P h (suc (suc (suc (suc (suc zero))))) i here =
 each P h (suc (suc (suc (suc (suc (suc zero)))))) i here =
     let same : Exit ≡ i = cc in subst (P 6) same h.exit
 each P h (suc (suc (suc (suc (suc (suc (suc zero))))))) i here =
-    let same : answered ≡ i = cc in subst (P 7) same h.answer
+    let same : answer_set ≡ i = cc in subst (P 7) same h.answer
 each P h (suc (suc (suc (suc (suc (suc (suc (suc zero)))))))) i here =
     let same : Exit ≡ i = cc in subst (P 8) same h.last
 each P h (suc (suc (suc (suc (suc (suc (suc (suc (suc slot))))))))) i here = absurd (cc)
@@ -117,13 +117,13 @@ falls_in =
 to_test : PathTo first_byte 4 4 (R4 ∷ R4 ∷ R3 ∷ R2 ∷ [])
 unfolding PathTo
 to_test =
-    let packet : PathTo first_byte 1 1
+    let to_end : PathTo first_byte 1 1
     (R2 ∷ []) = (0, [], _, (refl, refl), refl, inl (refl, refl), refl) in
-    let end : PathTo first_byte 2 2
-    (R3 ∷ R2 ∷ []) = (1, _, _, packet, refl, inl (refl, refl), refl) in
-    let copy : PathTo first_byte 3 3
-    (R4 ∷ R3 ∷ R2 ∷ []) = (2, _, _, end, refl, inl (refl, refl), refl) in
-    (3, _, _, copy, refl, inl (refl, refl), refl)
+    let to_copy : PathTo first_byte 2 2
+    (R3 ∷ R2 ∷ []) = (1, _, _, to_end, refl, inl (refl, refl), refl) in
+    let to_ahead : PathTo first_byte 3 3
+    (R4 ∷ R3 ∷ R2 ∷ []) = (2, _, _, to_copy, refl, inl (refl, refl), refl) in
+    (3, _, _, to_ahead, refl, inl (refl, refl), refl)
 
 reach : (slot : ℕ) → IsSome (fetch first_byte slot)
     → (n : ℕ) × (written : List Reg) × PathTo first_byte n slot written
@@ -194,19 +194,20 @@ sure slot = []
 abbrev AreSure : List Reg → ℕ → Type 0
 AreSure written slot = Each (IsOneOf written) (sure slot)
 
-falls_to : (written : List Reg) (slot next f : ℕ) (i : Insn) → jump_distance i ≡ None
+leads_to : (written : List Reg) (slot next f : ℕ) (i : Insn) → jump_distance i ≡ None
     → f + slots_filled i ≡ next → AreSure written next → FallsTo f i slot
     ⊎ JumpsTo first_byte f i slot
     → AreSure written slot
-falls_to written slot next f i straight at known (inl falls) =
+leads_to written slot next f i straight at known (inl falls) =
     subst (AreSure written) (sym (falls.1 ∙ at)) known
-falls_to written slot next f i straight at known (inr jump) =
+leads_to written slot next f i straight at known (inr jump) =
     let distance = jump.1 in absurd (cc (distance, straight))
 
-ends : (written : List Reg) (slot f : ℕ) → FallsTo f Exit slot ⊎ JumpsTo first_byte f Exit slot
+leads_nowhere : (written : List Reg) (slot f : ℕ)
+    → FallsTo f Exit slot ⊎ JumpsTo first_byte f Exit slot
     → AreSure written slot
-ends written slot f (inl falls) = absurd (cc (falls.0))
-ends written slot f (inr jump) = absurd (cc (jump.1))
+leads_nowhere written slot f (inl falls) = absurd (cc (falls.0))
+leads_nowhere written slot f (inr jump) = absurd (cc (jump.1))
 
 tests : (written : List Reg) (slot : ℕ) → IsOneOf written R2
     → FallsTo 4 to_answer slot ⊎ JumpsTo first_byte 4 to_answer slot → AreSure written slot
@@ -222,20 +223,20 @@ keeps : (before : List Reg) (slot : ℕ) → (f : ℕ) (i : Insn) → fetch firs
 keeps before slot =
     each (λ f x. AreSure before f → FallsTo f x slot ⊎ JumpsTo first_byte f x slot
     → AreSure (written_too (writes x) before) slot) (record {
-      packet = λ h on. falls_to (R2 ∷ before) slot 1 0 packet_loaded refl refl (inl refl, tt) on;
+      packet = λ h on. leads_to (R2 ∷ before) slot 1 0 packet_loaded refl refl (inl refl, tt) on;
       packet_end =
-          λ h on. falls_to (R3 ∷ before) slot 2 1 end_loaded refl refl (inr h.0, (inl refl, tt)) on;
+          λ h on. leads_to (R3 ∷ before) slot 2 1 end_loaded refl refl (inr h.0, (inl refl, tt)) on;
       copy =
-          λ h on. falls_to (R4 ∷ before) slot 3 2 copied refl refl
+          λ h on. leads_to (R4 ∷ before) slot 3 2 copied refl refl
           (inr h.0, (inr h.1.0, (inl refl, tt))) on;
       ahead =
-          λ h on. falls_to (R4 ∷ before) slot 4 3 moved_on refl refl
+          λ h on. leads_to (R4 ∷ before) slot 4 3 moved_on refl refl
           (inr h.0, (inr h.1.0, (inl refl, tt))) on;
       test = λ h on. tests before slot h.0 on;
-      load = λ h on. falls_to (R0 ∷ before) slot 6 5 byte_loaded refl refl (inl refl, tt) on;
-      exit = λ h on. ends before slot 6 on;
-      answer = λ h on. falls_to (R0 ∷ before) slot 8 7 answered refl refl (inl refl, tt) on;
-      last = λ h on. ends before slot 8 on;
+      load = λ h on. leads_to (R0 ∷ before) slot 6 5 byte_loaded refl refl (inl refl, tt) on;
+      exit = λ h on. leads_nowhere before slot 6 on;
+      answer = λ h on. leads_to (R0 ∷ before) slot 8 7 answer_set refl refl (inl refl, tt) on;
+      last = λ h on. leads_nowhere before slot 8 on;
     })
 
 known_at : (n slot : ℕ) (written : List Reg) → PathTo first_byte n slot written

@@ -15,10 +15,10 @@ use Rattle.isa_model.specs.Machine.States.{KeyValues, new_call_frame}
 use Rattle.isa_model.specs.Machine.Steps.{act, step}
 use Rattle.isa_model.specs.Running.Runs.{start_state, progress, Turn, turn}
 use Rattle.isa_model.specs.Worked.Examples.{head_by, end_on, set, copy, add, above, below, minus}
-use Rattle.isa_model.specs.Worked.MapExamples.{one_key, one_index, index, value, zero_filled}
+use Rattle.isa_model.specs.Worked.MapExamples.{one_key, one_index, index, map_value, zero_filled}
 use Rattle.isa_model.specs.declared.versions.Version.TheVariants.{One}
 
--- a run on a packet frame of no bytes, with one map, and a clock that answers 7, 8, ..
+-- the turn of a run on a packet frame of no bytes, with one map, and a clock that answers 7, 8, ..
 abbrev pub turn_with : MapDef → KeyValues → List Insn → Turn
 turn_with row content code =
     turn (record { insns = slots code; maps = row ∷ []; version = One }) 100 (λ k. k + 7)
@@ -106,16 +106,16 @@ put_again_after is =
     ++ insn.Load U8 R0 (above R6 0) ∷ insn.Exit ∷ [])
 
 -- deleted in between: what r6 points to is gone for ever, though the map has the key again
-pub pointer_to_a_deleted_value : put_again_after (map_and_key 1 ++ delete ∷ [])
+pub pointer_to_a_deleted_map_value : put_again_after (map_and_key 1 ++ delete ∷ [])
     ≡ turn_leaving (Trap BadAccess 25) ((9 ∷ [], 7 ∷ []) ∷ [])
 unfolding turn progress start_state new_call_frame step act alu
-pointer_to_a_deleted_value = refl
+pointer_to_a_deleted_map_value = refl
 
--- and with no delete: the value is written over, and r6 points to it still
-pub pointer_to_a_kept_value : put_again_after (put_byte 2 8 ∷ [])
+-- and with no delete: the key's value is written over, and r6 points to it still
+pub pointer_to_a_kept_map_value : put_again_after (put_byte 2 8 ∷ [])
     ≡ turn_leaving (Exit 8 24) ((9 ∷ [], 8 ∷ []) ∷ [])
 unfolding turn progress start_state new_call_frame step act alu
-pointer_to_a_kept_value = refl
+pointer_to_a_kept_map_value = refl
 
 -- *(u8 *)(r10 - 1) = 9; r1 = map_by_idx(0); r2 = r10; r2 += -1; i; r0 += 2; exit
 abbrev pub on_an_absent_key : Insn → End
@@ -146,7 +146,7 @@ update_by j i =
     end_with one_key []
     (j ∷ map_and_key 1 ++ stack R3 2 ++ set R4 (pos 0) ∷ i ∷ update ∷ insn.Exit ∷ [])
 
--- the type of each argument is tested before the key, which is unset
+-- the type of each argument is tested before the key, which is unwritten
 pub types_of_arguments : map (update_by (set R0 (pos 0)))
     (set R1 (pos 0) ∷ copy R1 R10 ∷ set R2 (pos 0) ∷ copy R2 R1 ∷ set R3 (pos 0) ∷ copy R3 R1
     ∷ copy R4 R10 ∷ [])
@@ -154,16 +154,16 @@ pub types_of_arguments : map (update_by (set R0 (pos 0)))
 unfolding turn progress start_state new_call_frame step act alu
 types_of_arguments = refl
 
--- the key is unset and the value past the call frame, the key is past the call frame and the value
--- unset: the key comes first
+-- the key is unwritten and the value past the call frame, the key is past the call frame and the
+-- value unwritten: the key comes first
 pub key_before_value : update_by (set R0 (pos 0)) (copy R3 R10)
     ∷ update_by (set R0 (pos 0)) (copy R2 R10) ∷ []
     ≡ Trap UnsetRead 8 ∷ Trap BadAccess 8 ∷ []
 unfolding turn progress start_state new_call_frame step act alu
 key_before_value = refl
 
--- the key is there. The value is past the call frame, and it is unset where the flags are over 2:
--- the value comes first
+-- the key is there. The value is past the call frame, and it is unwritten where the flags are over
+-- 2: the value comes first
 pub value_before_flags : update_by (put_byte 1 9) (copy R3 R10)
     ∷ update_by (put_byte 1 9) (set R4 (pos 3)) ∷ []
     ≡ Trap BadAccess 8 ∷ Trap UnsetRead 8 ∷ []
@@ -177,7 +177,7 @@ key_of_pieces = refl
 
 -- ---- what is in the registers after a call
 
--- r1 to r5 = 1; call 5; r0 = r
+-- r1 to r6 = 1; call 5; r0 = r; exit
 abbrev pub after_ktime : Reg → End
 after_ktime r =
     end_with one_key []
@@ -200,20 +200,20 @@ answers_of_the_clock = refl
 
 -- map array 4 8 1 with the value 1 1 1 1 1 1 1 1:
 -- r1 = map_val(map_by_idx(0)) + 7; r0 = *(u8 *)(r1 + 0); *(u8 *)(r1 - 7) = 5; exit
-pub value_pointer_of_an_array : turn_with one_index ((index 0, value 1) ∷ [])
+pub map_value_pointer_of_an_array : turn_with one_index ((index 0, map_value 1) ∷ [])
     (insn.LoadMapValue R1 0 7 ∷ insn.Load U8 R0 (above R1 0)
     ∷ insn.StoreConstant U8 (below R1 7) (pos 5)
     ∷ insn.Exit ∷ [])
     ≡ turn_leaving (Exit 1 4) ((index 0, 5 ∷ replicate 7 1) ∷ [])
 unfolding turn progress start_state new_call_frame step act alu
-value_pointer_of_an_array = refl
+map_value_pointer_of_an_array = refl
 
--- one byte past the value: r1 = map_val(map_by_idx(0)) + 7; r0 = *(u8 *)(r1 + 1)
-pub past_a_value : end_with one_index zero_filled
+-- one byte past the map's value: r1 = map_val(map_by_idx(0)) + 7; r0 = *(u8 *)(r1 + 1)
+pub past_a_map_value : end_with one_index zero_filled
     (insn.LoadMapValue R1 0 7 ∷ insn.Load U8 R0 (above R1 1) ∷ insn.Exit ∷ [])
     ≡ Trap BadAccess 1
 unfolding turn progress start_state new_call_frame step act alu
-past_a_value = refl
+past_a_map_value = refl
 
 -- a map itself is not read: r1 = map_by_idx(0); r0 = *(u8 *)(r1 + 0)
 pub read_of_a_map : end_with one_index zero_filled

@@ -1,4 +1,4 @@
--- The limits of the code are those of the meaning.
+-- Worked examples: the limits of src/limits are those of specs/Code/Limits.
 use Rattle.std.specs.Prelude.{◌≡◌, pos, [], ◌∷◌, refl}
 use Rattle.isa_model.specs.declared.limits.TheConstants.{MAX_SLOTS, MAX_MAPS, MAX_KEY_SIZE, MAX_VALUE_SIZE, MAX_MAP_ENTRIES, MAX_MAP_ROOM, STACK_SIZE, MAX_CALL_FRAMES, OFFSET_LIMIT, MAX_PACKET, MAX_SHORT_PACKET, MAX_STEPS, MAX_EXPLORED}
 use Rattle.isa_model.specs.declared.versions.Version.TheVariants.{One, Two}

@@ -18,20 +18,21 @@ pub data MapChange : Type 0 where
   Delete : List ℕ → MapChange
 
 abbrev pub answer_to : MapDef → KeyValues → MapChange → ℕ
-answer_to row es (Update key value flags) = update_answer row es key flags
-answer_to row es (Delete key) = delete_answer row es key
+answer_to row content (Update key value flags) = update_answer row content key flags
+answer_to row content (Delete key) = delete_answer row content key
 
 abbrev pub content_after : MapDef → KeyValues → MapChange → KeyValues
-content_after row es (Update key value flags) = after_update row es key value flags
-content_after row es (Delete key) = after_delete row es key
+content_after row content (Update key value flags) = after_update row content key value flags
+content_after row content (Delete key) = after_delete row content key
 
 abbrev pub answers : MapDef → KeyValues → List MapChange → List ℕ
-answers row es [] = []
-answers row es (c ∷ cs) = answer_to row es c ∷ answers row (content_after row es c) cs
+answers row content [] = []
+answers row content (c ∷ cs) =
+    answer_to row content c ∷ answers row (content_after row content c) cs
 
 abbrev pub left_by : MapDef → KeyValues → List MapChange → KeyValues
-left_by row es [] = es
-left_by row es (c ∷ cs) = left_by row (content_after row es c) cs
+left_by row content [] = content
+left_by row content (c ∷ cs) = left_by row (content_after row content c) cs
 
 -- map hash 1 1 1
 abbrev pub one_key : MapDef
@@ -67,22 +68,24 @@ keys_in_order = refl
 abbrev pub one_index : MapDef
 one_index = record { kind = Array; key_size = 4; value_size = 8; entries = 1 }
 
+-- the key of an array that is this index
 abbrev pub index : ℕ → List ℕ
 index n = n ∷ 0 ∷ 0 ∷ 0 ∷ []
 
-abbrev pub value : ℕ → List ℕ
-value n = replicate 8 n
+abbrev pub map_value : ℕ → List ℕ
+map_value n = replicate 8 n
 
 -- its content at the start
 abbrev pub zero_filled : KeyValues
-zero_filled = (index 0, value 0) ∷ []
+zero_filled = (index 0, map_value 0) ∷ []
 
 -- past the end -7, with wrong flags -22 before that; index 0 by flags 0, 1, 2 and 3;
 -- nothing is deleted
 pub array_changes : answers one_index zero_filled
-    (Update (index 1) (value 9) 1 ∷ Update (index 1) (value 9) 9 ∷ Update (index 0) (value 9) 0
-    ∷ Update (index 0) (value 9) 1 ∷ Update (index 0) (value 9) 2
-    ∷ Update (index 0) (value 9) 3 ∷ Delete (index 0) ∷ Delete (index 1) ∷ [])
+    (Update (index 1) (map_value 9) 1 ∷ Update (index 1) (map_value 9) 9
+    ∷ Update (index 0) (map_value 9) 0 ∷ Update (index 0) (map_value 9) 1
+    ∷ Update (index 0) (map_value 9) 2 ∷ Update (index 0) (map_value 9) 3
+    ∷ Delete (index 0) ∷ Delete (index 1) ∷ [])
     ≡ 0xfffffffffffffff9 ∷ 0xffffffffffffffea ∷ 0 ∷ 0xffffffffffffffef ∷ 0 ∷ 0xffffffffffffffea
     ∷ 0xffffffffffffffea ∷ 0xffffffffffffffea ∷ []
 array_changes = refl
@@ -92,7 +95,7 @@ array_changes = refl
 -- at the start of a run on a packet of no bytes, with this content of map 0; its call frame has the
 -- serial 0 or 1
 abbrev pub before : KeyValues → State
-before es = start_state (record { time = 0; interface = 0; queue = 0 }) [] (es ∷ [])
+before content = start_state (record { time = 0; interface = 0; queue = 0 }) [] (content ∷ [])
 
 -- key 1 has the value 7, is deleted, and is put again with 8
 abbrev pub found_first : Helped
@@ -106,7 +109,7 @@ abbrev pub found_again : Helped
 found_again =
     map_lookup_elem (map_update_elem one_key deleted.state 0 (1 ∷ []) (8 ∷ []) 0).state 0 (1 ∷ [])
 
--- a look-up gives a pointer to the value, or 0
+-- a look-up gives a pointer to the key's value, or 0
 pub look_ups : found_first.answer ∷ (map_lookup_elem deleted.state 0 (1 ∷ [])).answer
     ∷ found_again.answer ∷ []
     ≡ Ptr (region.MapValue 0 1) (pos 0) ∷ Num 0 ∷ Ptr (region.MapValue 0 2) (pos 0) ∷ []
@@ -139,10 +142,10 @@ next_serials = refl
 
 -- an update that answers an error changes nothing: map array 4 8 1, past its end and with wrong
 -- flags
-pub refused_updates_change_nothing : (map_update_elem one_index (before zero_filled) 0 (index 1)
-    (value 9) 1)
-    ∷ (map_update_elem one_index (before zero_filled) 0 (index 1) (value 9) 9) ∷ []
+pub failed_updates_change_nothing : (map_update_elem one_index (before zero_filled) 0 (index 1)
+    (map_value 9) 1)
+    ∷ (map_update_elem one_index (before zero_filled) 0 (index 1) (map_value 9) 9) ∷ []
     ≡ record { answer = Num 0xfffffffffffffff9; state = before zero_filled }
     ∷ record { answer = Num 0xffffffffffffffea; state = before zero_filled } ∷ []
 unfolding start_state new_call_frame
-refused_updates_change_nothing = refl
+failed_updates_change_nothing = refl

@@ -76,35 +76,35 @@ pub stores_of_a_constant : map over_zeros
 unfolding turn progress start_state new_call_frame step act alu holds sign_extended reordered
 stores_of_a_constant = refl
 
--- ---- the stack: its edges
+-- ---- the stack: its boundaries
 
 -- i; r0 = 0; exit
 abbrev pub alone : Insn → End
 alone i = end_on (i ∷ set R0 (pos 0) ∷ insn.Exit ∷ []) [] 3
 
-pub stores_at_the_edges : map alone
+pub stores_at_the_boundaries : map alone
     (insn.StoreConstant U8 (below R10 512) (pos 1) ∷ insn.StoreConstant U64 (below R10 512) (pos 1)
     ∷ insn.StoreConstant U8 (below R10 1) (pos 1) ∷ insn.StoreConstant U64 (below R10 8) (pos 1)
     ∷ [])
     ≡ replicate 4 (Exit 0 3)
 unfolding turn progress start_state new_call_frame step act alu holds sign_extended reordered
-stores_at_the_edges = refl
+stores_at_the_boundaries = refl
 
-pub stores_past_the_edges : map alone
+pub stores_past_the_boundaries : map alone
     (insn.StoreConstant U8 (below R10 513) (pos 1) ∷ insn.StoreConstant U64 (below R10 513) (pos 1)
     ∷ insn.StoreConstant U8 (above R10 0) (pos 1) ∷ insn.StoreConstant U64 (below R10 7) (pos 1)
     ∷ insn.Store U64 (below R10 7) R10 ∷ [])
     ≡ replicate 5 (Trap BadAccess 0)
 unfolding turn progress start_state new_call_frame step act alu holds sign_extended reordered
-stores_past_the_edges = refl
+stores_past_the_boundaries = refl
 
--- the place is tested before unset bytes
-pub loads_past_the_edges : map alone
+-- the place is tested before unwritten bytes
+pub loads_past_the_boundaries : map alone
     (insn.Load U8 R0 (below R10 513) ∷ insn.Load U64 R0 (below R10 7)
     ∷ insn.Load U8 R0 (below R10 1) ∷ [])
     ≡ Trap BadAccess 0 ∷ Trap BadAccess 0 ∷ Trap UnsetRead 0 ∷ []
 unfolding turn progress start_state new_call_frame step act alu holds sign_extended reordered
-loads_past_the_edges = refl
+loads_past_the_boundaries = refl
 
 -- ---- pointers on the stack
 
@@ -121,10 +121,10 @@ pub loads_of_a_pointer : map after_a_spill
 unfolding turn progress start_state new_call_frame step act alu holds sign_extended reordered
 loads_of_a_pointer = refl
 
--- four pieces and four unset bytes: unset bytes count first
-pub pieces_and_unset_bytes : after_a_spill (insn.Load U64 R0 (below R10 12)) ≡ Trap UnsetRead 1
+-- four pieces and four unwritten bytes: unwritten bytes count first
+pub pieces_and_unwritten_bytes : after_a_spill (insn.Load U64 R0 (below R10 12)) ≡ Trap UnsetRead 1
 unfolding turn progress start_state new_call_frame step act alu holds sign_extended reordered
-pieces_and_unset_bytes = refl
+pieces_and_unwritten_bytes = refl
 
 -- *(u64 *)(r10 - 16) = r10; i; r0 = *(u64 *)(r10 - k); r0 = 0; exit
 abbrev pub after_two_stores : Insn → ℕ → End
@@ -132,7 +132,7 @@ after_two_stores i k =
     end_on (insn.Store U64 (below R10 16) R10 ∷ i ∷ insn.Load U64 R0 (below R10 k) ∷ set R0 (pos 0)
     ∷ insn.Exit ∷ []) [] 5
 
--- pieces and bytes; pieces 4 to 7 and 0 to 3 of one pointer; pieces 0 to 3 twice
+-- pieces and number bytes; pieces 4 to 7 and 0 to 3 of one pointer; pieces 0 to 3 twice
 pub mixed_pieces : after_two_stores (insn.StoreConstant U64 (below R10 8) (pos 0)) 12
     ∷ after_two_stores (insn.Store U64 (below R10 8) R10) 12
     ∷ after_two_stores (insn.Store U64 (below R10 12) R10) 16 ∷ []
@@ -149,25 +149,25 @@ unfolding turn progress start_state new_call_frame step act alu holds sign_exten
 whole_pointers = refl
 
 -- pieces 0 to 3 of a pointer and 4 to 7 of another: of another call frame, another offset, and
--- another value
-abbrev pub first_half_and : Value → Value → Result Value TrapReason
-first_half_and (Ptr r z) (Ptr q y) = value_in (take 4 (pieces r z) ++ drop 4 (pieces q y))
-first_half_and v w = Ok v
+-- another map value
+abbrev pub first_pieces_and : Value → Value → Result Value TrapReason
+first_pieces_and (Ptr r z) (Ptr q y) = value_in (take 4 (pieces r z) ++ drop 4 (pieces q y))
+first_pieces_and v w = Ok v
 
-pub pieces_of_two_pointers : first_half_and (Ptr (region.CallFrame 3) (pos 0))
+pub pieces_of_two_pointers : first_pieces_and (Ptr (region.CallFrame 3) (pos 0))
     (Ptr (region.CallFrame 4) (pos 0))
-    ∷ first_half_and (Ptr region.Packet (pos 1)) (Ptr region.Packet (pos 2))
-    ∷ first_half_and (Ptr region.Packet (pos 0)) (Ptr region.Packet (negsuc 0))
-    ∷ first_half_and (Ptr (region.MapValue 0 1) (pos 0)) (Ptr (region.MapValue 0 2) (pos 0))
-    ∷ first_half_and (Ptr (region.MapValue 0 1) (pos 0)) (Ptr (region.MapValue 1 1) (pos 0))
-    ∷ first_half_and (Ptr region.Packet (pos 0)) (Ptr region.Context (pos 0)) ∷ []
+    ∷ first_pieces_and (Ptr region.Packet (pos 1)) (Ptr region.Packet (pos 2))
+    ∷ first_pieces_and (Ptr region.Packet (pos 0)) (Ptr region.Packet (negsuc 0))
+    ∷ first_pieces_and (Ptr (region.MapValue 0 1) (pos 0)) (Ptr (region.MapValue 0 2) (pos 0))
+    ∷ first_pieces_and (Ptr (region.MapValue 0 1) (pos 0)) (Ptr (region.MapValue 1 1) (pos 0))
+    ∷ first_pieces_and (Ptr region.Packet (pos 0)) (Ptr region.Context (pos 0)) ∷ []
     ≡ replicate 6 (Err BadAccess)
 pieces_of_two_pointers = refl
 
-pub pieces_of_one_pointer : first_half_and (Ptr (region.MapValue 0 1) (negsuc 3))
+pub pieces_of_one_pointer : first_pieces_and (Ptr (region.MapValue 0 1) (negsuc 3))
     (Ptr (region.MapValue 0 1) (negsuc 3))
-    ∷ first_half_and (Ptr region.PacketEnd (pos 0)) (Ptr region.PacketEnd (pos 0))
-    ∷ first_half_and (Ptr (region.Map 2) (pos 0)) (Ptr (region.Map 2) (pos 0)) ∷ []
+    ∷ first_pieces_and (Ptr region.PacketEnd (pos 0)) (Ptr region.PacketEnd (pos 0))
+    ∷ first_pieces_and (Ptr (region.Map 2) (pos 0)) (Ptr (region.Map 2) (pos 0)) ∷ []
     ≡ Ok (Ptr (region.MapValue 0 1) (negsuc 3)) ∷ Ok (Ptr region.PacketEnd (pos 0))
     ∷ Ok (Ptr (region.Map 2) (pos 0)) ∷ []
 pieces_of_one_pointer = refl
@@ -196,13 +196,13 @@ unfolding turn progress start_state new_call_frame step act alu holds sign_exten
 packet_loads = refl
 
 -- before the first byte, across the last, through the packet end, and a store of a pointer
-pub packet_accesses_past_the_edges : map on_three_bytes
+pub packet_accesses_past_the_boundaries : map on_three_bytes
     (insn.Load U8 R0 (below R2 1) ∷ insn.Load U8 R0 (above R2 3) ∷ insn.Load U16 R0 (above R2 2)
     ∷ insn.Load U8 R0 (below R3 1)
     ∷ insn.Store U32 (above R2 0) R10 ∷ insn.StoreConstant U32 (above R2 0) (pos 0) ∷ [])
     ≡ replicate 6 (Trap BadAccess 2)
 unfolding turn progress start_state new_call_frame step act alu holds sign_extended reordered
-packet_accesses_past_the_edges = refl
+packet_accesses_past_the_boundaries = refl
 
 -- r2 = *(u32 *)(r1 + 0); i; r0 = 2; exit: the bytes that are left of eight zeros
 abbrev pub left_of_zeros : Insn → List ℕ
@@ -291,55 +291,61 @@ contents = ((1 ∷ [], 0xf0 ∷ 0xe0 ∷ []) ∷ (2 ∷ [], 7 ∷ 9 ∷ []) ∷ 
 abbrev pub state : State
 state = start_state head [] contents
 
--- the values have the serials 0 and 1 in the first map and 2 in the second; the call frame has 3
-abbrev pub value : ℕ → ℕ → ℤ → Value
-value m n z = Ptr (region.MapValue m n) z
+-- a pointer to a map value, by the map's index and the serial: the values have the serials 0 and 1
+-- in the first map and 2 in the second; the call frame has 3
+abbrev pub to_map_value : ℕ → ℕ → ℤ → Value
+to_map_value m n z = Ptr (region.MapValue m n) z
 
-pub value_loads : load state U8 (value 0 1 (pos 1)) (pos 0)
-    ∷ load state U16 (value 0 0 (pos 4)) (negsuc 3) ∷ load state U8 (value 1 2 (pos 0)) (pos 0)
-    ∷ load_signed state S16 (value 0 0 (pos 0)) (pos 0) ∷ []
+pub map_value_loads : load state U8 (to_map_value 0 1 (pos 1)) (pos 0)
+    ∷ load state U16 (to_map_value 0 0 (pos 4)) (negsuc 3)
+    ∷ load state U8 (to_map_value 1 2 (pos 0)) (pos 0)
+    ∷ load_signed state S16 (to_map_value 0 0 (pos 0)) (pos 0) ∷ []
     ≡ Ok (Num 9) ∷ Ok (Num 0xe0f0) ∷ Ok (Num 5) ∷ Ok (Num 0xffffffffffffe0f0) ∷ []
 unfolding start_state new_call_frame sign_extended
-value_loads = refl
+map_value_loads = refl
 
--- before a value, past its end, of a serial that is gone or another map's, and of a map itself
-pub other_value_loads : load state U8 (value 0 1 (pos 0)) (negsuc 0)
-    ∷ load state U8 (value 0 0 (pos 2)) (pos 0) ∷ load state U16 (value 1 2 (pos 0)) (pos 0)
-    ∷ load state U8 (value 0 4 (pos 0)) (pos 0) ∷ load state U8 (value 0 2 (pos 0)) (pos 0)
-    ∷ load state U8 (value 2 0 (pos 0)) (pos 0)
+-- before a map value, past its end, of a serial that is gone or another map's, and of a map itself
+pub other_map_value_loads : load state U8 (to_map_value 0 1 (pos 0)) (negsuc 0)
+    ∷ load state U8 (to_map_value 0 0 (pos 2)) (pos 0)
+    ∷ load state U16 (to_map_value 1 2 (pos 0)) (pos 0)
+    ∷ load state U8 (to_map_value 0 4 (pos 0)) (pos 0)
+    ∷ load state U8 (to_map_value 0 2 (pos 0)) (pos 0)
+    ∷ load state U8 (to_map_value 2 0 (pos 0)) (pos 0)
     ∷ load state U8 (Ptr (region.Map 0) (pos 0)) (pos 0) ∷ []
     ≡ replicate 7 (Err BadAccess)
 unfolding start_state new_call_frame
-other_value_loads = refl
+other_map_value_loads = refl
 
 -- the maps' contents after a store, where there is one
 abbrev pub contents_then : Result State TrapReason → Result (List KeyValues) TrapReason
 contents_then (Ok s) = Ok (map key_values_of s.maps)
 contents_then (Err e) = Err e
 
-pub value_store : contents_then (store state U8 (value 0 1 (pos 0)) (pos 1) (Num 0x1ff))
+pub map_value_store : contents_then (store state U8 (to_map_value 0 1 (pos 0)) (pos 1) (Num 0x1ff))
     ≡ Ok (((1 ∷ [], 0xf0 ∷ 0xe0 ∷ []) ∷ (2 ∷ [], 7 ∷ 0xff ∷ []) ∷ []) ∷ ((3 ∷ [], 5 ∷ []) ∷ [])
     ∷ [])
 unfolding start_state new_call_frame
-value_store = refl
+map_value_store = refl
 
-pub value_store_in_the_second_map : contents_then
-    (store state U8 (value 1 2 (pos 0)) (pos 0) (Num 6))
+pub map_value_store_in_the_second_map : contents_then
+    (store state U8 (to_map_value 1 2 (pos 0)) (pos 0) (Num 6))
     ≡ Ok (((1 ∷ [], 0xf0 ∷ 0xe0 ∷ []) ∷ (2 ∷ [], 7 ∷ 9 ∷ []) ∷ []) ∷ ((3 ∷ [], 6 ∷ []) ∷ []) ∷ [])
 unfolding start_state new_call_frame
-value_store_in_the_second_map = refl
+map_value_store_in_the_second_map = refl
 
 -- past the end, of a serial that is gone, and a pointer
-pub other_value_stores : contents_then (store state U16 (value 0 1 (pos 1)) (pos 0) (Num 1))
-    ∷ contents_then (store state U8 (value 0 3 (pos 0)) (pos 0) (Num 1))
-    ∷ contents_then (store state U64 (value 0 1 (pos 0)) (pos 0) (value 0 1 (pos 0))) ∷ []
+pub other_map_value_stores : contents_then
+    (store state U16 (to_map_value 0 1 (pos 1)) (pos 0) (Num 1))
+    ∷ contents_then (store state U8 (to_map_value 0 3 (pos 0)) (pos 0) (Num 1))
+    ∷ contents_then (store state U64 (to_map_value 0 1 (pos 0)) (pos 0) (to_map_value 0 1 (pos 0)))
+    ∷ []
     ≡ replicate 3 (Err BadAccess)
 unfolding start_state new_call_frame
-other_value_stores = refl
+other_map_value_stores = refl
 
--- a value that is 8 bytes long takes no pointer either
-pub pointer_stored_in_a_value : contents_then
-    (store (start_state head [] (((1 ∷ [], zeros 8) ∷ []) ∷ [])) U64 (value 0 0 (pos 0)) (pos 0)
-    (value 0 0 (pos 0))) ≡ Err BadAccess
+-- a map value that is 8 bytes long takes no pointer either
+pub pointer_stored_in_a_map_value : contents_then
+    (store (start_state head [] (((1 ∷ [], zeros 8) ∷ []) ∷ [])) U64 (to_map_value 0 0 (pos 0))
+    (pos 0) (to_map_value 0 0 (pos 0))) ≡ Err BadAccess
 unfolding start_state new_call_frame
-pointer_stored_in_a_value = refl
+pointer_stored_in_a_map_value = refl

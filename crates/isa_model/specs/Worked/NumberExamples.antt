@@ -64,11 +64,11 @@ unfolding alu
 signed_quotients = refl
 
 -- by zero, and the least numbers of 64 and of 32 bits by -1
-pub signed_quotients_at_the_edge : both SignedDiv 7 0 ∷ both SignedDiv least minus_one
+pub signed_quotients_by_zero_and_minus_one : both SignedDiv 7 0 ∷ both SignedDiv least minus_one
     ∷ both SignedDiv least32 minus_one ∷ []
     ≡ (0, 0) ∷ (least, 0) ∷ (0xffffffff80000000, least32) ∷ []
 unfolding alu
-signed_quotients_at_the_edge = refl
+signed_quotients_by_zero_and_minus_one = refl
 
 -- a modulo by zero leaves the dividend, at 32 bits its low half
 pub remainders : both Mod minus_one 10 ∷ both Mod 0x700000007 0 ∷ both Mod 7 minus_one ∷ []
@@ -83,11 +83,11 @@ pub signed_remainders : both SignedMod 0xfffffffffffffff3 3 ∷ both SignedMod 1
 unfolding alu
 signed_remainders = refl
 
-pub signed_remainders_at_the_edge : both SignedMod minus_one 0 ∷ both SignedMod least minus_one
-    ∷ both SignedMod least32 minus_one ∷ []
+pub signed_remainders_by_zero_and_minus_one : both SignedMod minus_one 0
+    ∷ both SignedMod least minus_one ∷ both SignedMod least32 minus_one ∷ []
     ≡ (minus_one, 0xffffffff) ∷ (0, 0) ∷ (0, 0) ∷ []
 unfolding alu
-signed_remainders_at_the_edge = refl
+signed_remainders_by_zero_and_minus_one = refl
 
 -- on 12 and 10, bit for bit, and above bit 31
 pub bits : both Or 12 10 ∷ both And 12 10 ∷ both Xor 12 10 ∷ []
@@ -101,7 +101,7 @@ pub high_bits : both Or end32 1 ∷ both And minus_one 0x300000003 ∷ both Xor 
 unfolding alu
 high_bits = refl
 
--- the distance counts modulo the width: 33, 65 and -1
+-- the right operand counts modulo the width: 33, 65 and -1
 pub left_shifts : both Lsh 3 33 ∷ both Lsh 3 65 ∷ both Lsh 3 minus_one ∷ []
     ≡ (0x600000000, 6) ∷ (6, 6) ∷ (least, least32) ∷ []
 unfolding alu
@@ -119,9 +119,9 @@ pub signed_right_shifts : both Arsh least 1 ∷ both Arsh least32 33 ∷ both Ar
 unfolding alu
 signed_right_shifts = refl
 
-pub moves : both Mov 5 0x900000007 ≡ (0x900000007, 7)
+pub copies : both Mov 5 0x900000007 ≡ (0x900000007, 7)
 unfolding alu
-moves = refl
+copies = refl
 
 pub negations : negated Full64 1 ∷ negated Low32 1 ∷ negated Full64 least ∷ negated Low32 least32
     ∷ negated Low32 end32 ∷ negated Full64 0 ∷ []
@@ -168,18 +168,18 @@ extension_of_negative_32_bits = refl
 
 -- ---- byte order
 
-abbrev pub orders : ByteOrder → List ℕ
-orders order = map (λ span. reordered order span 0x0102030405060708) (B16 ∷ B32 ∷ B64 ∷ [])
+abbrev pub reordered_by : ByteOrder → List ℕ
+reordered_by order = map (λ span. reordered order span 0x0102030405060708) (B16 ∷ B32 ∷ B64 ∷ [])
 
-pub little_endian : orders Little ≡ 0x0708 ∷ 0x05060708 ∷ 0x0102030405060708 ∷ []
+pub little_endian : reordered_by Little ≡ 0x0708 ∷ 0x05060708 ∷ 0x0102030405060708 ∷ []
 unfolding reordered
 little_endian = refl
 
-pub big_endian : orders Big ≡ 0x0807 ∷ 0x08070605 ∷ 0x0807060504030201 ∷ []
+pub big_endian : reordered_by Big ≡ 0x0807 ∷ 0x08070605 ∷ 0x0807060504030201 ∷ []
 unfolding reordered
 big_endian = refl
 
-pub byte_swaps : orders Swap ≡ 0x0807 ∷ 0x08070605 ∷ 0x0807060504030201 ∷ []
+pub byte_swaps : reordered_by Swap ≡ 0x0807 ∷ 0x08070605 ∷ 0x0807060504030201 ∷ []
 unfolding reordered
 byte_swaps = refl
 
@@ -187,10 +187,10 @@ pub bytes_of_a_number : map (λ size. bytes_of size 0x0102030405060708) (U8 ∷ 
     ≡ (8 ∷ []) ∷ (8 ∷ 7 ∷ []) ∷ (8 ∷ 7 ∷ 6 ∷ 5 ∷ []) ∷ (8 ∷ 7 ∷ 6 ∷ 5 ∷ 4 ∷ 3 ∷ 2 ∷ 1 ∷ []) ∷ []
 bytes_of_a_number = refl
 
-pub number_of_bytes : map number_from
+pub number_from_bytes : map number_from
     ((8 ∷ []) ∷ (8 ∷ 7 ∷ []) ∷ (8 ∷ 7 ∷ 6 ∷ 5 ∷ []) ∷ (8 ∷ 7 ∷ 6 ∷ 5 ∷ 4 ∷ 3 ∷ 2 ∷ 1 ∷ []) ∷ [])
     ≡ 8 ∷ 0x0708 ∷ 0x05060708 ∷ 0x0102030405060708 ∷ []
-number_of_bytes = refl
+number_from_bytes = refl
 
 -- ---- comparisons
 
@@ -229,11 +229,11 @@ unfolding holds
 minus_one_and_zero_with_signs = refl
 
 -- 2^32 and 1: above at 64 bits, below at 32
-pub halves_differ : map (both_hold end32 1) unsigned_comparisons
+pub widths_differ : map (both_hold end32 1) unsigned_comparisons
     ≡ (false, false) ∷ (true, true) ∷ (true, false) ∷ (true, false) ∷ (false, true) ∷ (false, true)
     ∷ (false, false) ∷ []
 unfolding holds
-halves_differ = refl
+widths_differ = refl
 
 -- 2^32 and 0 are equal at 32 bits, and 2^32 has a bit in common with itself at 64 only
 pub low_halves_are_equal : holds Equal Low32 end32 0 ∷ holds NotEqual Low32 end32 0

@@ -1,4 +1,4 @@
--- Worked examples of plain programs: a number that fills two slots, and jumps ahead.
+-- Worked examples of plain programs: a wide load of a number, and jumps ahead.
 use Rattle.std.specs.Prelude.{pos, [], ◌∷◌, refl}
 use Rattle.std.proofs.Common.{arith}
 use Rattle.isa_model.specs.declared.versions.Version.TheVariants.{One}
@@ -41,8 +41,8 @@ modulo_by_zero_is_plain = record {
 -- ---- two paths that meet
 
 -- if w2 != 7 goto +3
-abbrev pub other_path : Insn
-other_path =
+abbrev pub to_other_path : Insn
+to_other_path =
     insn.JumpIf (record {
       width = Low32;
       comparison = NotEqual;
@@ -56,7 +56,7 @@ other_path =
 abbrev pub two_paths : Program
 two_paths = record {
   insns =
-      slots (set R2 (pos 7) ∷ other_path ∷ insn.LoadNumber R0 0x100000002 ∷ insn.JumpLong (pos 1)
+      slots (set R2 (pos 7) ∷ to_other_path ∷ insn.LoadNumber R0 0x100000002 ∷ insn.JumpLong (pos 1)
       ∷ set R0 (pos 2) ∷ if_constant Greater R0 (pos 9) (pos 1) ∷ set R0 (pos 3) ∷ insn.Exit ∷ []);
   maps = [];
   version = One;

@@ -25,11 +25,11 @@ use Rattle.isa_model.specs.Worked.Examples.{end_on, copy}
 
 -- ---- arithmetic
 
-abbrev pub packet : ℤ → Value
-packet z = Ptr region.Packet z
+abbrev pub in_packet : ℤ → Value
+in_packet z = Ptr region.Packet z
 
-abbrev pub packet_end : Value
-packet_end = Ptr region.PacketEnd (pos 0)
+abbrev pub at_packet_end : Value
+at_packet_end = Ptr region.PacketEnd (pos 0)
 
 -- the regions whose pointers move, and the others
 abbrev pub moving : List Region
@@ -39,15 +39,15 @@ abbrev pub fixed : List Region
 fixed = region.Context ∷ region.PacketEnd ∷ region.Map 0 ∷ []
 
 -- the number counts as a signed one: 4 + -8 in either order, and 4 - 8
-pub pointer_and_number : map
+pub pointer_plus_number : map
     (λ r. arithmetic Add Full64 (Ptr r (pos 4)) (Num 0xfffffffffffffff8)) moving
     ≡ map (λ r. Ok (Ptr r (negsuc 3))) moving
-pointer_and_number = refl
+pointer_plus_number = refl
 
-pub number_and_pointer : map
+pub number_plus_pointer : map
     (λ r. arithmetic Add Full64 (Num 0xfffffffffffffff8) (Ptr r (pos 4))) moving
     ≡ map (λ r. Ok (Ptr r (negsuc 3))) moving
-number_and_pointer = refl
+number_plus_pointer = refl
 
 pub pointer_less_a_number : map (λ r. arithmetic Sub Full64 (Ptr r (pos 4)) (Num 8)) moving
     ≡ map (λ r. Ok (Ptr r (negsuc 3))) moving
@@ -64,11 +64,12 @@ pub fixed_pointers_do_not_move : map (λ r. arithmetic Add Full64 (Ptr r (pos 0)
 fixed_pointers_do_not_move = refl
 
 -- number - pointer, pointer - pointer, pointer + pointer, and sums and differences at 32 bits
-pub undefined_sums : arithmetic Sub Full64 (Num 8) (packet (pos 4))
-    ∷ arithmetic Sub Full64 (packet (pos 4)) (packet (pos 4))
-    ∷ arithmetic Add Full64 (packet (pos 4)) (packet (pos 4))
-    ∷ arithmetic Add Low32 (packet (pos 4)) (Num 0)
-    ∷ arithmetic Sub Low32 (packet (pos 4)) (Num 0) ∷ arithmetic Add Low32 (Num 0) (packet (pos 4))
+pub undefined_sums : arithmetic Sub Full64 (Num 8) (in_packet (pos 4))
+    ∷ arithmetic Sub Full64 (in_packet (pos 4)) (in_packet (pos 4))
+    ∷ arithmetic Add Full64 (in_packet (pos 4)) (in_packet (pos 4))
+    ∷ arithmetic Add Low32 (in_packet (pos 4)) (Num 0)
+    ∷ arithmetic Sub Low32 (in_packet (pos 4)) (Num 0)
+    ∷ arithmetic Add Low32 (Num 0) (in_packet (pos 4))
     ∷ []
     ≡ replicate 6 (Err BadPointer)
 undefined_sums = refl
@@ -77,8 +78,8 @@ undefined_sums = refl
 abbrev pub numbers_only : List AluOp
 numbers_only = Mul ∷ Div ∷ SignedDiv ∷ Or ∷ And ∷ Lsh ∷ Rsh ∷ Mod ∷ SignedMod ∷ Xor ∷ Arsh ∷ []
 
-pub other_operations : map (λ op. arithmetic op Full64 (packet (pos 0)) (Num 1)) numbers_only
-    ++ map (λ op. arithmetic op Full64 (Num 1) (packet (pos 0))) numbers_only
+pub other_operations : map (λ op. arithmetic op Full64 (in_packet (pos 0)) (Num 1)) numbers_only
+    ++ map (λ op. arithmetic op Full64 (Num 1) (in_packet (pos 0))) numbers_only
     ≡ replicate 22 (Err BadPointer)
 other_operations = refl
 
@@ -100,17 +101,17 @@ operations_on_one_operand = refl
 
 -- ---- the limit of offsets, 2^29 both ways
 
-pub offsets_at_the_limit : arithmetic Add Full64 (packet (pos 1)) (Num 0x1fffffff)
-    ∷ arithmetic Add Full64 (Num 0xffffffffe0000000) (packet (pos 0))
-    ∷ arithmetic Sub Full64 (packet (pos 0)) (Num 0x20000000) ∷ []
-    ≡ Ok (packet (pos 0x20000000)) ∷ Ok (packet (negsuc 0x1fffffff))
-    ∷ Ok (packet (negsuc 0x1fffffff)) ∷ []
+pub offsets_at_the_limit : arithmetic Add Full64 (in_packet (pos 1)) (Num 0x1fffffff)
+    ∷ arithmetic Add Full64 (Num 0xffffffffe0000000) (in_packet (pos 0))
+    ∷ arithmetic Sub Full64 (in_packet (pos 0)) (Num 0x20000000) ∷ []
+    ≡ Ok (in_packet (pos 0x20000000)) ∷ Ok (in_packet (negsuc 0x1fffffff))
+    ∷ Ok (in_packet (negsuc 0x1fffffff)) ∷ []
 offsets_at_the_limit = refl
 
-pub offsets_past_the_limit : arithmetic Add Full64 (packet (pos 1)) (Num 0x20000000)
-    ∷ arithmetic Sub Full64 (packet (pos 0)) (Num 0x20000001)
-    ∷ arithmetic Add Full64 (Num 0x8000000000000000) (packet (pos 0))
-    ∷ arithmetic Sub Full64 (packet (pos 0)) (Num 0x8000000000000000) ∷ []
+pub offsets_past_the_limit : arithmetic Add Full64 (in_packet (pos 1)) (Num 0x20000000)
+    ∷ arithmetic Sub Full64 (in_packet (pos 0)) (Num 0x20000001)
+    ∷ arithmetic Add Full64 (Num 0x8000000000000000) (in_packet (pos 0))
+    ∷ arithmetic Sub Full64 (in_packet (pos 0)) (Num 0x8000000000000000) ∷ []
     ≡ replicate 4 (Err OutOfRange)
 offsets_past_the_limit = refl
 
@@ -124,45 +125,47 @@ other_comparisons = Equal ∷ NotEqual ∷ AnyBit ∷ SignedGreater ∷ SignedGr
     ∷ SignedLessEqual ∷ []
 
 -- offset 14 against the end of a packet of 14 bytes, and the end against it
-pub packet_pointer_at_the_end : map (λ c. compared 14 c Full64 (packet (pos 14)) packet_end) orders
+pub packet_pointer_at_the_end : map
+    (λ c. compared 14 c Full64 (in_packet (pos 14)) at_packet_end) orders
     ≡ Ok false ∷ Ok true ∷ Ok false ∷ Ok true ∷ []
 packet_pointer_at_the_end = refl
 
-pub end_at_a_packet_pointer : map (λ c. compared 14 c Full64 packet_end (packet (pos 14))) orders
+pub end_at_a_packet_pointer : map
+    (λ c. compared 14 c Full64 at_packet_end (in_packet (pos 14))) orders
     ≡ Ok false ∷ Ok true ∷ Ok false ∷ Ok true ∷ []
 end_at_a_packet_pointer = refl
 
 -- offset 14 against the end of 13 bytes, the end against it, and an offset before the packet
 -- against its end
 pub packet_pointer_past_the_end : map
-    (λ c. compared 13 c Full64 (packet (pos 14)) packet_end) orders
+    (λ c. compared 13 c Full64 (in_packet (pos 14)) at_packet_end) orders
     ≡ Ok true ∷ Ok true ∷ Ok false ∷ Ok false ∷ []
 packet_pointer_past_the_end = refl
 
 pub end_before_a_packet_pointer : map
-    (λ c. compared 13 c Full64 packet_end (packet (pos 14))) orders
+    (λ c. compared 13 c Full64 at_packet_end (in_packet (pos 14))) orders
     ≡ Ok false ∷ Ok false ∷ Ok true ∷ Ok true ∷ []
 end_before_a_packet_pointer = refl
 
 pub packet_pointer_before_the_packet : map
-    (λ c. compared 0 c Full64 (packet (negsuc 0)) packet_end) orders
+    (λ c. compared 0 c Full64 (in_packet (negsuc 0)) at_packet_end) orders
     ≡ Ok false ∷ Ok false ∷ Ok true ∷ Ok true ∷ []
 packet_pointer_before_the_packet = refl
 
 pub other_comparisons_with_the_end : map
-    (λ c. compared 14 c Full64 (packet (pos 14)) packet_end) other_comparisons
+    (λ c. compared 14 c Full64 (in_packet (pos 14)) at_packet_end) other_comparisons
     ≡ replicate 7 (Err BadCompare)
 other_comparisons_with_the_end = refl
 
 -- at 32 bits, two packet pointers, two ends, two frame pointers, and a pointer and a number
-pub undefined_orders : compared 14 Greater Low32 (packet (pos 14)) packet_end
-    ∷ compared 14 Greater Full64 (packet (pos 14)) (packet (pos 13))
-    ∷ compared 14 Greater Full64 packet_end packet_end
+pub undefined_comparisons : compared 14 Greater Low32 (in_packet (pos 14)) at_packet_end
+    ∷ compared 14 Greater Full64 (in_packet (pos 14)) (in_packet (pos 13))
+    ∷ compared 14 Greater Full64 at_packet_end at_packet_end
     ∷ compared 14 Equal Full64 (Ptr (region.CallFrame 3) (pos 0)) (Ptr (region.CallFrame 3) (pos 0))
-    ∷ compared 14 Equal Full64 (packet (pos 0)) (Num 0)
-    ∷ compared 14 Equal Full64 (Num 0) (packet (pos 0)) ∷ []
+    ∷ compared 14 Equal Full64 (in_packet (pos 0)) (Num 0)
+    ∷ compared 14 Equal Full64 (Num 0) (in_packet (pos 0)) ∷ []
     ≡ replicate 6 (Err BadCompare)
-undefined_orders = refl
+undefined_comparisons = refl
 
 pub numbers_compared : compared 14 Greater Full64 (Num 0x100000000) (Num 1)
     ∷ compared 14 Greater Low32 (Num 0x100000000) (Num 1) ∷ [] ≡ Ok true ∷ Ok false ∷ []
@@ -171,20 +174,21 @@ numbers_compared = refl
 
 -- ---- comparisons with a constant
 
-abbrev pub map_value : Value
-map_value = Ptr (region.MapValue 0 5) (pos 8)
+-- a pointer to a map value
+abbrev pub in_map_value : Value
+in_map_value = Ptr (region.MapValue 0 5) (pos 8)
 
 -- a pointer to a map's value is never 0
-pub null_tests : map (λ c. compared_constant c Full64 map_value (pos 0)) (Equal ∷ NotEqual ∷ [])
+pub null_tests : map (λ c. compared_constant c Full64 in_map_value (pos 0)) (Equal ∷ NotEqual ∷ [])
     ≡ Ok false ∷ Ok true ∷ []
 null_tests = refl
 
 -- by another comparison, at 32 bits, with other constants than 0, and of other pointers
-pub undefined_null_tests : map (λ c. compared_constant c Full64 map_value (pos 0))
+pub undefined_null_tests : map (λ c. compared_constant c Full64 in_map_value (pos 0))
     (orders ++ AnyBit ∷ SignedGreater ∷ SignedGreaterEqual ∷ SignedLess ∷ SignedLessEqual ∷ [])
-    ++ compared_constant Equal Low32 map_value (pos 0)
-    ∷ compared_constant Equal Full64 map_value (pos 1)
-    ∷ compared_constant Equal Full64 map_value (negsuc 0) ∷ []
+    ++ compared_constant Equal Low32 in_map_value (pos 0)
+    ∷ compared_constant Equal Full64 in_map_value (pos 1)
+    ∷ compared_constant Equal Full64 in_map_value (negsuc 0) ∷ []
     ++ map (λ r. compared_constant Equal Full64 (Ptr r (pos 0)) (pos 0))
     (region.Packet ∷ region.CallFrame 3 ∷ fixed)
     ≡ replicate 17 (Err BadCompare)

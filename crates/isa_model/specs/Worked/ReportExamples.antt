@@ -43,38 +43,38 @@ out_on p bytes =
     frames_out (checked_report p 100 (stream_of (record { bytes = bytes; ending = ByEnd })))
 
 -- the magic and a record without a body
-abbrev pub one_empty_record : List ℕ
-one_empty_record = stream_magic One ++ zeros 20
+abbrev pub one_frame_stream : List ℕ
+one_frame_stream = stream_magic One ++ zeros 20
 
-pub passes_an_empty_frame : report_on passes one_empty_record ≡ codes "0 PASS 0 2\nend 1\n"
+pub passes_an_empty_frame : report_on passes one_frame_stream ≡ codes "0 PASS 0 2\nend 1\n"
 unfolding frames_from opened stop_at turn progress start_state new_call_frame step act alu
     frame_pieces frame_line last_line digits
 passes_an_empty_frame = refl
 
-pub passed_frame_is_written_out : out_on passes one_empty_record ≡ one_empty_record
+pub passed_frame_is_written_out : out_on passes one_frame_stream ≡ one_frame_stream
 unfolding frames_from opened stop_at turn progress start_state new_call_frame step act alu
     frame_pieces frame_line last_line head_bytes digits
 passed_frame_is_written_out = refl
 
-pub too_long_a_body : report_on passes (one_empty_record ++ head_of 4097)
+pub too_long_a_body : report_on passes (one_frame_stream ++ head_of 4097)
     ≡ codes "0 PASS 0 2\nfault F3 at 24\n"
 unfolding frames_from opened stop_at turn progress start_state new_call_frame step act alu
     frame_pieces frame_line last_line digits
 too_long_a_body = refl
 
-pub body_cut_off : report_on passes (one_empty_record ++ head_of 10 ++ zeros 9)
+pub body_cut_off : report_on passes (one_frame_stream ++ head_of 10 ++ zeros 9)
     ≡ codes "0 PASS 0 2\nfault F4 at 24\n"
 unfolding frames_from opened stop_at turn progress start_state new_call_frame step act alu
     frame_pieces frame_line last_line digits
 body_cut_off = refl
 
-pub head_cut_off : report_on passes (one_empty_record ++ zeros 5)
+pub head_cut_off : report_on passes (one_frame_stream ++ zeros 5)
     ≡ codes "0 PASS 0 2\nfault F2 at 24\n"
 unfolding frames_from opened stop_at turn progress start_state new_call_frame step act alu
     frame_pieces frame_line last_line digits
 head_cut_off = refl
 
-pub longest_body : report_on passes (one_empty_record ++ head_of 4096 ++ zeros 4096)
+pub longest_body : report_on passes (one_frame_stream ++ head_of 4096 ++ zeros 4096)
     ≡ codes "0 PASS 0 2\n1 PASS 4096 2\nend 2\n"
 unfolding frames_from opened stop_at turn progress start_state new_call_frame step act alu
     frame_pieces frame_line last_line digits
@@ -88,17 +88,17 @@ pub empty_stream_out : out_on passes [] ≡ codes "XPF1"
 unfolding frames_from opened stop_at last_line digits
 empty_stream_out = refl
 
--- r0 = r2; exit: the frame traps, and is not written out
+-- r0 = r2; exit: the run traps, and the frame is not written out
 pub trap_line : report_on
     (record { insns = slots (copy R0 R2 ∷ insn.Exit ∷ []); maps = []; version = One })
-    one_empty_record ≡ codes "0 TRAP unset 0 0\nend 1\n"
+    one_frame_stream ≡ codes "0 TRAP unset 0 0\nend 1\n"
 unfolding frames_from opened stop_at turn progress start_state new_call_frame step act alu
     frame_pieces frame_line last_line digits
 trap_line = refl
 
 pub trapped_frame_is_not_written_out : out_on
     (record { insns = slots (copy R0 R2 ∷ insn.Exit ∷ []); maps = []; version = One })
-    one_empty_record ≡ codes "XPF1"
+    one_frame_stream ≡ codes "XPF1"
 unfolding frames_from opened stop_at turn progress start_state new_call_frame step act alu
     frame_pieces frame_line last_line digits
 trapped_frame_is_not_written_out = refl
@@ -109,7 +109,7 @@ pub limit_line : report_on
       insns = slots (insn.Jump (pos 0) ∷ insn.Jump (negsuc 0) ∷ []);
       maps = [];
       version = One;
-    }) one_empty_record ≡ codes "0 LIMIT 0 100\nend 1\n"
+    }) one_frame_stream ≡ codes "0 LIMIT 0 100\nend 1\n"
 unfolding frames_from opened stop_at turn progress start_state new_call_frame step act alu
     frame_pieces frame_line last_line digits
 limit_line = refl
@@ -126,7 +126,7 @@ pub actions : map action_of (0 ∷ 1 ∷ 2 ∷ 3 ∷ 4 ∷ 5 ∷ 0x700000002 ∷
     ∷ action.Pass ∷ action.Redirect ∷ action.Invalid ∷ []
 actions = refl
 
--- frame 12 of 60 bytes, by a program that returns 0 to 5 after 7 steps
+-- frame 12 of 60 bytes, by runs that answer 0 to 5 after 7 steps
 pub lines_of_actions : map (λ n. frame_line (report_form 100) 12 (Exit n 7) 60)
     (0 ∷ 1 ∷ 2 ∷ 3 ∷ 4 ∷ 5 ∷ [])
     ≡ codes "12 ABORTED 60 7\n" ∷ codes "12 DROP 60 7\n" ∷ codes "12 PASS 60 7\n"
@@ -182,14 +182,14 @@ writes_and_sends_back =
 abbrev pub record_of : List ℕ → List ℕ
 record_of body = range_with_len 1 16 ++ length body ∷ 0 ∷ 0 ∷ 0 ∷ body
 
-abbrev pub three_records : List ℕ
-three_records =
+abbrev pub three_frame_stream : List ℕ
+three_frame_stream =
     stream_magic One ++ record_of (8 ∷ 9 ∷ []) ++ record_of (8 ∷ []) ++ record_of (5 ∷ 5 ∷ 5 ∷ [])
 
 -- a frame is written out as its run left it, with its head;
 -- the run on the second one, of one byte, traps, and the third is run
-pub frames_out_as_they_are_left : report_on writes_and_sends_back three_records
-    ∷ out_on writes_and_sends_back three_records ∷ []
+pub frames_out_as_they_are_left : report_on writes_and_sends_back three_frame_stream
+    ∷ out_on writes_and_sends_back three_frame_stream ∷ []
     ≡ codes "0 TX 2 4\n1 TRAP access 1 1\n2 TX 3 4\nend 3\n"
     ∷ (stream_magic One ++ record_of (8 ∷ 7 ∷ []) ++ record_of (5 ∷ 7 ∷ 5 ∷ [])) ∷ []
 unfolding frames_from opened stop_at turn progress start_state new_call_frame step act alu
@@ -249,18 +249,18 @@ contents_carried_along = refl
 -- ---- streams and programs of version 2
 
 -- r0 = n ll; exit
-abbrev pub answers : Version → ℕ → Program
-answers version n =
+abbrev pub answering : Version → ℕ → Program
+answering version n =
     record { insns = slots (insn.LoadNumber R0 n ∷ insn.Exit ∷ []); maps = []; version = version }
 
 -- the head of a record whose body has n bytes, with a reason, all other fields 0
 abbrev pub head_with_reason : ℕ → ℕ → List ℕ
 head_with_reason n reason = zeros 16 ++ n ∷ 0 ∷ 0 ∷ 0 ∷ reason ∷ 0 ∷ 0 ∷ 0 ∷ []
 
--- a frame that is dropped is written out with the reason that the program returns
-pub reason_goes_out : report_on (answers Two 0x700000001)
+-- a frame that is dropped is written out with the reason in the run's answer
+pub reason_goes_out : report_on (answering Two 0x700000001)
     (stream_magic Two ++ head_with_reason 3 0 ++ 170 ∷ 187 ∷ 204 ∷ [])
-    ∷ out_on (answers Two 0x700000001)
+    ∷ out_on (answering Two 0x700000001)
     (stream_magic Two ++ head_with_reason 3 0 ++ 170 ∷ 187 ∷ 204 ∷ []) ∷ []
     ≡ codes "0 DROP 3 2 7\nend 1\n"
     ∷ (stream_magic Two ++ head_with_reason 3 7 ++ 170 ∷ 187 ∷ 204 ∷ []) ∷ []
@@ -269,18 +269,19 @@ unfolding frames_from opened stop_at turn progress start_state new_call_frame st
 reason_goes_out = refl
 
 -- on a stream without reasons it is not written
-pub no_reason_goes_out : report_on (answers Two 0x700000001)
+pub no_reason_goes_out : report_on (answering Two 0x700000001)
     (stream_magic One ++ head_of 3 ++ 170 ∷ 187 ∷ 204 ∷ [])
-    ∷ out_on (answers Two 0x700000001) (stream_magic One ++ head_of 3 ++ 170 ∷ 187 ∷ 204 ∷ []) ∷ []
+    ∷ out_on (answering Two 0x700000001)
+    (stream_magic One ++ head_of 3 ++ 170 ∷ 187 ∷ 204 ∷ []) ∷ []
     ≡ codes "0 DROP 3 2\nend 1\n" ∷ codes "XPF1" ∷ []
 unfolding frames_from opened stop_at turn progress start_state new_call_frame step act alu
     frame_pieces frame_line last_line head_bytes digits
 no_reason_goes_out = refl
 
 -- a frame that has a reason is not run, and is written out as it was read
-pub frame_with_a_reason_is_skipped : report_on (answers One 0x700000001)
+pub frame_with_a_reason_is_skipped : report_on (answering One 0x700000001)
     (stream_magic Two ++ head_with_reason 0 0 ++ head_with_reason 2 5 ++ 1 ∷ 2 ∷ [])
-    ∷ out_on (answers One 0x700000001)
+    ∷ out_on (answering One 0x700000001)
     (stream_magic Two ++ head_with_reason 0 0 ++ head_with_reason 2 5 ++ 1 ∷ 2 ∷ []) ∷ []
     ≡ codes "0 DROP 0 2 1\n1 SKIP 2 0 5\nend 2\n"
     ∷ (stream_magic Two ++ head_with_reason 0 1 ++ head_with_reason 2 5 ++ 1 ∷ 2 ∷ []) ∷ []
@@ -288,9 +289,9 @@ unfolding frames_from opened stop_at turn progress start_state new_call_frame st
     frame_pieces frame_line skip_pieces skip_line last_line head_bytes digits
 frame_with_a_reason_is_skipped = refl
 
--- a program of version 2 has to return an action; one of version 1 may return any number
+-- a program of version 2 has to answer with an action; one of version 1 may answer any number
 pub action_over_4 : map
-    (λ version. report_on (answers version 6) (stream_magic Two ++ head_with_reason 0 0))
+    (λ version. report_on (answering version 6) (stream_magic Two ++ head_with_reason 0 0))
     (One ∷ Two ∷ [])
     ≡ codes "0 INVALID 0 2 1\nend 1\n" ∷ codes "0 TRAP action 0 1\nend 1\n" ∷ []
 unfolding frames_from opened stop_at turn progress start_state new_call_frame step act alu
@@ -298,14 +299,15 @@ unfolding frames_from opened stop_at turn progress start_state new_call_frame st
 action_over_4 = refl
 
 -- a trapped frame is not written out
-pub trapped_frame_has_no_record : out_on (answers Two 6) (stream_magic Two ++ head_with_reason 0 0)
+pub trapped_frame_has_no_record : out_on (answering Two 6)
+    (stream_magic Two ++ head_with_reason 0 0)
     ≡ codes "XPF2"
 unfolding frames_from opened stop_at turn progress start_state new_call_frame step act alu
     frame_pieces frame_line last_line digits
 trapped_frame_has_no_record = refl
 
--- the reason is 0 for PASS and TX; else it is the upper half of the number that the program
--- returns, or 1 where that half is 0 or the program is of version 1
+-- the reason is 0 for PASS and TX; else it is the upper half of the answer, or 1 where that half is
+-- 0 or the program is of version 1
 pub reasons : map (reason_of Two)
     (0x700000002 ∷ 0x700000003 ∷ 0x700000004 ∷ 0xffffffff00000000 ∷ 1 ∷ [])
     ++ map (reason_of One) (0x700000002 ∷ 0x700000001 ∷ 9 ∷ [])

@@ -48,7 +48,7 @@ signed_loads = record {
   version = One;
 }
 
--- the instructions of the slots from 5 to 9
+-- the body of the program: the instructions of the slots from 5 to 9
 in_body : (slot : ℕ) (i : Insn) → fetch signed_loads slot ≡ Some i
     → Where (nat_le 5 slot && nat_lt slot 10) (IsBodyForm 14 i)
 in_body = of_each signed_loads

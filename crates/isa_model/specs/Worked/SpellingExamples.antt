@@ -35,13 +35,13 @@ example_of_the_rfc = refl
 
 -- ---- arithmetic
 
-abbrev pub operations : List AluOp
-operations = Add ∷ Sub ∷ Mul ∷ Div ∷ SignedDiv ∷ Or ∷ And ∷ Lsh ∷ Rsh ∷ Mod ∷ SignedMod ∷ Xor ∷ Mov
-    ∷ Arsh ∷ []
+abbrev pub all_operations : List AluOp
+all_operations = Add ∷ Sub ∷ Mul ∷ Div ∷ SignedDiv ∷ Or ∷ And ∷ Lsh ∷ Rsh ∷ Mod ∷ SignedMod ∷ Xor
+    ∷ Mov ∷ Arsh ∷ []
 
 -- r3 op -2
 pub constants_at_64_bits : map
-    (λ op. spelled (insn.Alu Full64 op R3 (Constant (negsuc 1)))) operations
+    (λ op. spelled (insn.Alu Full64 op R3 (Constant (negsuc 1)))) all_operations
     ≡ codes "07030000feffffff" ∷ codes "17030000feffffff" ∷ codes "27030000feffffff"
     ∷ codes "37030000feffffff"
     ∷ codes "37030100feffffff" ∷ codes "47030000feffffff" ∷ codes "57030000feffffff"
@@ -53,7 +53,7 @@ unfolding encode_with
 constants_at_64_bits = refl
 
 -- w1 op w10
-pub registers_at_32_bits : map (λ op. spelled (insn.Alu Low32 op R1 (Register R10))) operations
+pub registers_at_32_bits : map (λ op. spelled (insn.Alu Low32 op R1 (Register R10))) all_operations
     ≡ codes "0ca1000000000000" ∷ codes "1ca1000000000000" ∷ codes "2ca1000000000000"
     ∷ codes "3ca1000000000000"
     ∷ codes "3ca1010000000000" ∷ codes "4ca1000000000000" ∷ codes "5ca1000000000000"
@@ -88,7 +88,7 @@ pub byte_swaps : spelled (insn.ByteSwap Little B32 R1) ∷ spelled (insn.ByteSwa
 unfolding encode_with
 byte_swaps = refl
 
--- r1 = 0x102030405060708 ll: the low half, the reserved bits and the high half
+-- r1 = 0x102030405060708 ll: the low half, the reserved bits and the upper half
 pub wide_load : spelled (insn.LoadNumber R1 0x0102030405060708)
     ≡ codes "18010000080706050000000004030201"
 unfolding encode_with
@@ -132,20 +132,20 @@ stores_of_registers = refl
 
 -- ---- atomic instructions
 
-abbrev pub atomic_operations : List AtomicOp
-atomic_operations = atomic.Add ∷ atomic.Or ∷ atomic.And ∷ atomic.Xor ∷ []
+abbrev pub all_atomic_operations : List AtomicOp
+all_atomic_operations = atomic.Add ∷ atomic.Or ∷ atomic.And ∷ atomic.Xor ∷ []
 
 -- lock *(u64 *)(r1 + 8) op r2
 pub atomic_without_fetch : map
-    (λ op. spelled (insn.Atomic Full64 op false (above R1 8) R2)) atomic_operations
+    (λ op. spelled (insn.Atomic Full64 op false (above R1 8) R2)) all_atomic_operations
     ≡ codes "db21080000000000" ∷ codes "db21080040000000" ∷ codes "db21080050000000"
     ∷ codes "db210800a0000000" ∷ []
 unfolding encode_with
 atomic_without_fetch = refl
 
--- the same with the old value into r2, on 4 bytes
+-- the same with the old number into r2, on 4 bytes
 pub atomic_with_fetch : map
-    (λ op. spelled (insn.Atomic Low32 op true (above R1 8) R2)) atomic_operations
+    (λ op. spelled (insn.Atomic Low32 op true (above R1 8) R2)) all_atomic_operations
     ≡ codes "c321080001000000" ∷ codes "c321080041000000" ∷ codes "c321080051000000"
     ∷ codes "c3210800a1000000" ∷ []
 unfolding encode_with
@@ -163,8 +163,8 @@ compare_exchanges = refl
 
 -- ---- jumps, calls and exits
 
-abbrev pub comparisons : List Comparison
-comparisons =
+abbrev pub all_comparisons : List Comparison
+all_comparisons =
     Equal ∷ Greater ∷ GreaterEqual ∷ AnyBit ∷ NotEqual ∷ SignedGreater ∷ SignedGreaterEqual ∷ Less
     ∷ LessEqual ∷ SignedLess ∷ SignedLessEqual ∷ []
 
@@ -173,7 +173,7 @@ pub jumps_by_constants : map
     (λ c. spelled
     (insn.JumpIf
     (record { width = Full64; comparison = c; register = R1; operand = Constant (pos 7) }) (pos 1)))
-    comparisons
+    all_comparisons
     ≡ codes "1501010007000000" ∷ codes "2501010007000000" ∷ codes "3501010007000000"
     ∷ codes "4501010007000000"
     ∷ codes "5501010007000000" ∷ codes "6501010007000000" ∷ codes "7501010007000000"
@@ -186,7 +186,7 @@ jumps_by_constants = refl
 pub jumps_by_registers : map
     (λ c. spelled
     (insn.JumpIf (record { width = Low32; comparison = c; register = R1; operand = Register R2 })
-    (negsuc 0))) comparisons
+    (negsuc 0))) all_comparisons
     ≡ codes "1e21ffff00000000" ∷ codes "2e21ffff00000000" ∷ codes "3e21ffff00000000"
     ∷ codes "4e21ffff00000000"
     ∷ codes "5e21ffff00000000" ∷ codes "6e21ffff00000000" ∷ codes "7e21ffff00000000"

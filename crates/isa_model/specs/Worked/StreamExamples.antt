@@ -7,21 +7,21 @@ use Rattle.isa_model.specs.declared.streams.Finish.{Finish}
 use Rattle.isa_model.specs.declared.streams.Finish.TheVariants as finish
 use Rattle.isa_model.specs.Code.Versions.{stream_magic}
 use Rattle.isa_model.specs.declared.versions.Version.TheVariants.{One, Two}
-use Rattle.isa_model.specs.Reporting.Streams.{PacketFrame, max_frames, InputEnding, ByEnd, ByError, head_bytes, frame_bytes, opened, stop_at, frames_from, stream_of}
+use Rattle.isa_model.specs.Reporting.Streams.{PacketFrame, max_frames, InputEnding, ByEnd, ByError, head_bytes, record_bytes, opened, stop_at, frames_from, stream_of}
 use Rattle.isa_model.specs.Worked.Examples.{zeros}
 
--- the magic, and two records of no bytes
-abbrev pub two_empty_records : List ℕ
-two_empty_records = stream_magic One ++ zeros 40
+-- the magic, and two records without a body
+abbrev pub two_frame_stream : List ℕ
+two_frame_stream = stream_magic One ++ zeros 40
 
--- how many records there are, and how they end
+-- how many records these bytes have, and how their stream ends
 abbrev pub summary_of : List ℕ → InputEnding → ℕ × Finish
 summary_of bytes ending =
     let found = stream_of (record { bytes = bytes; ending = ending }) in
     (length found.frames, found.finish)
 
--- the two records cut after 0, 1, .. 44 bytes
-pub cuts_by_an_end : map (λ n. summary_of (take n two_empty_records) ByEnd) (range_with_len 0 45)
+-- that stream, cut after 0, 1, .. 44 bytes
+pub cuts_by_an_end : map (λ n. summary_of (take n two_frame_stream) ByEnd) (range_with_len 0 45)
     ≡ replicate 4 (0, finish.Fault BadMagic 0)
     ++ (0, finish.End) ∷ replicate 19 (0, finish.Fault TruncatedHead 4)
     ++ (1, finish.End) ∷ replicate 19 (1, finish.Fault TruncatedHead 24) ++ (2, finish.End) ∷ []
@@ -29,7 +29,7 @@ unfolding frames_from opened stop_at
 cuts_by_an_end = refl
 
 -- and by an error of the reader
-pub cuts_by_an_error : map (λ n. summary_of (take n two_empty_records) ByError)
+pub cuts_by_an_error : map (λ n. summary_of (take n two_frame_stream) ByError)
     (range_with_len 0 45)
     ≡ replicate 4 (0, finish.Fault ReadFailed 0) ++ replicate 20 (0, finish.Fault ReadFailed 4)
     ++ replicate 20 (1, finish.Fault ReadFailed 24) ++ (2, finish.Fault ReadFailed 44) ∷ []
@@ -37,7 +37,7 @@ unfolding frames_from opened stop_at
 cuts_by_an_error = refl
 
 -- another byte at each index of the magic, also where an error follows
-pub other_magic : map (λ text. summary_of (text ++ zeros 20) ByEnd)
+pub other_magic : map (λ magic. summary_of (magic ++ zeros 20) ByEnd)
     (codes "xPF1" ∷ codes "XpF1" ∷ codes "XPf1" ∷ codes "XPF3" ∷ [])
     ≡ replicate 4 (0, finish.Fault BadMagic 0)
 unfolding frames_from opened stop_at
@@ -62,15 +62,15 @@ frame = record {
 }
 
 -- the time, the interface and the queue, then the length and the body
-abbrev pub record_bytes : List ℕ
-record_bytes = range_with_len 1 16 ++ 2 ∷ 0 ∷ 0 ∷ 0 ∷ 0xaa ∷ 0xbb ∷ []
+abbrev pub one_record : List ℕ
+one_record = range_with_len 1 16 ++ 2 ∷ 0 ∷ 0 ∷ 0 ∷ 0xaa ∷ 0xbb ∷ []
 
-pub record_written : frame_bytes One frame ≡ record_bytes
+pub record_written : record_bytes One frame ≡ one_record
 unfolding head_bytes
 record_written = refl
 
 pub record_read : stream_of
-    (record { bytes = stream_magic One ++ record_bytes ++ record_bytes; ending = ByEnd })
+    (record { bytes = stream_magic One ++ one_record ++ one_record; ending = ByEnd })
     ≡ record { version = One; frames = frame ∷ frame ∷ []; finish = finish.End }
 unfolding frames_from opened stop_at
 record_read = refl
@@ -138,7 +138,7 @@ dropped = record { head = frame.head; body = 0xaa ∷ 0xbb ∷ []; reason = 0x08
 abbrev pub dropped_bytes : List ℕ
 dropped_bytes = range_with_len 1 16 ++ 2 ∷ 0 ∷ 0 ∷ 0 ∷ 5 ∷ 6 ∷ 7 ∷ 8 ∷ 0xaa ∷ 0xbb ∷ []
 
-pub dropped_written : frame_bytes Two dropped ≡ dropped_bytes
+pub dropped_written : record_bytes Two dropped ≡ dropped_bytes
 unfolding head_bytes
 dropped_written = refl
 

@@ -130,11 +130,11 @@ pub atomic_sum : line_of
 unfolding line_of digits
 atomic_sum = refl
 
-pub fetched_sum : line_of
+pub fetched_xor : line_of
     (insn.Atomic Low32 atomic.Xor true (record { base = R1; offset = pos 8 }) R2)
     ≡ codes "r2 = atomic_fetch_xor_32(r1 + 8, r2)\n"
 unfolding line_of digits
-fetched_sum = refl
+fetched_xor = refl
 
 pub exchange : line_of (insn.Exchange Full64 (record { base = R1; offset = pos 8 }) R2)
     ≡ codes "r2 = xchg_64(r1 + 8, r2)\n"

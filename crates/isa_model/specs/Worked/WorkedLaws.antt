@@ -70,7 +70,7 @@ abbrev pub Where : Bool → Type 0 → Type 0
 Where false A = Unit {0}
 Where true A = A
 
-pub of_where : (A : Type 0) (here : Bool) → Where here A → here ≡ true → A
+pub of_where : (A : Type 0) (b : Bool) → Where b A → b ≡ true → A
 of_where A true h is = h
 of_where A false h is = absurd (cc)
 
@@ -89,8 +89,8 @@ abbrev pub next_passes : (ℕ → Bool) → Program → ℕ → Insn → Bool
 next_passes test p slot i = fall_passes test (falls_through i) (slot + slots_filled i)
     && jump_passes test p slot (jump_distance i)
 
-on_fall : (test : ℕ → Bool) (falls : Bool) (next : ℕ) → fall_passes test falls next ≡ true
-    → falls ≡ true → test next ≡ true
+on_fall : (test : ℕ → Bool) (b : Bool) (next : ℕ) → fall_passes test b next ≡ true
+    → b ≡ true → test next ≡ true
 on_fall test true next h is = h
 on_fall test false next h is = absurd (cc)
 
@@ -108,10 +108,10 @@ on_next test p slot i next h (inl falls) =
     let (fall, jump) = and_parts (fall_passes test (falls_through i) (slot + slots_filled i))
     (jump_passes test p slot (jump_distance i)) h in
     ap test falls.1 ∙ on_fall test (falls_through i) (slot + slots_filled i) fall falls.0
-on_next test p slot i next h (inr jumps) =
+on_next test p slot i next h (inr jumping) =
     let (fall, jump) = and_parts (fall_passes test (falls_through i) (slot + slots_filled i))
     (jump_passes test p slot (jump_distance i)) h in
-    ap test jumps.2 ∙ on_jump test p slot (jump_distance i) jumps.0 jump jumps.1
+    ap test jumping.2 ∙ on_jump test p slot (jump_distance i) jumping.0 jump jumping.1
 
 -- jumps lead ahead
 abbrev pub goes_ahead : Program → Bool
@@ -152,11 +152,11 @@ either false b h = inr h
 equal : (a b : ℕ) → (a == b) ≡ true → a ≡ b
 equal a b h = grind (arith, nat_tests, h)
 
-jumps : (p : Program) (from : ℕ) (distance : Option ℤ) (slot : ℕ)
+jumps_by : (p : Program) (from : ℕ) (distance : Option ℤ) (slot : ℕ)
     → jumps_to p from distance slot ≡ true
     → (by : ℤ) × (distance ≡ Some by) × (slot ≡ destination p from by)
-jumps p from None slot h = absurd (cc)
-jumps p from (Some by) slot h = (by, refl, equal slot (destination p from by) h)
+jumps_by p from None slot h = absurd (cc)
+jumps_by p from (Some by) slot h = (by, refl, equal slot (destination p from by) h)
 
 follows_by : (p : Program) (from : ℕ) (o : Option Insn) (slot : ℕ) → follows p from o slot ≡ true
     → (i : Insn) × (o ≡ Some i) × (FallsTo from i slot ⊎ JumpsTo p from i slot)
@@ -166,7 +166,7 @@ follows_by p from (Some i) slot h =
       | inl falls ↦
           let (through, at) = and_parts (falls_through i) (slot == from + slots_filled i) falls in
           (i, refl, inl (through, equal slot (from + slots_filled i) at))
-      | inr jump ↦ (i, refl, inr (jumps p from (jump_distance i) slot jump))
+      | inr jump ↦ (i, refl, inr (jumps_by p from (jump_distance i) slot jump))
     ]
 
 some_insn : (o : Option Insn) → IsSome o → (i : Insn) × (o ≡ Some i)
@@ -174,22 +174,22 @@ some_insn (Some i) h = (i, refl)
 some_insn None h = absurd (cc)
 
 path : (p : Program) (froms : List ℕ) → all_insns p (λ slot i. is_entered p froms slot) ≡ true
-    → (limit slot : ℕ) → slot < limit → IsSome (fetch p slot)
+    → (fuel slot : ℕ) → slot < fuel → IsSome (fetch p slot)
     → (n : ℕ) × (written : List Reg) × PathTo p n slot written
 unfolding PathTo
-path p froms entered zero slot below begins = absurd (omega arith)
-path p froms entered (suc limit) slot below begins =
-    let (i, here) = some_insn (fetch p slot) begins in
+path p froms entered zero slot below found = absurd (omega arith)
+path p froms entered (suc fuel) slot below found =
+    let (i, here) = some_insn (fetch p slot) found in
     let from = slice_index_or froms slot 0 in
     elim (either (slot == 0) (nat_lt from slot && follows p from (fetch p from) slot)
     (of_all p (λ f x. is_entered p froms f) entered slot i here)) [
       | inl first ↦ (0, [], (equal slot 0 first, refl))
-      | inr behind ↦
+      | inr followed ↦
           let (earlier, on) = and_parts (nat_lt from slot)
-          (follows p from (fetch p from) slot) behind in
-          let before : from < slot = grind (arith, nat_tests, earlier) in
+          (follows p from (fetch p from) slot) followed in
+          let lower : from < slot = grind (arith, nat_tests, earlier) in
           let (j, there, leads) = follows_by p from (fetch p from) slot on in
-          let to = path p froms entered limit from (omega (arith, below, before))
+          let to = path p froms entered fuel from (omega (arith, below, lower))
           (subst (λ (o : Option Insn). IsSome o) (sym there) refl) in
           (suc to.0, written_too (writes j) to.1, (from, to.1, j, to.2, there, leads, refl))
     ]
@@ -206,7 +206,7 @@ IsWhole-tested p froms inside entered = record {
   falls =
       λ slot i here falls. on_next begins p slot i (slot + slots_filled i)
       (of_all p (next_passes begins p) inside slot i here) (inl (falls, refl));
-  reached = λ slot begins. path p froms entered (suc slot) slot (omega arith) begins;
+  reached = λ slot here. path p froms entered (suc slot) slot (omega arith) here;
 } where
   begins : ℕ → Bool
   begins slot = is_some (fetch p slot)
@@ -291,12 +291,12 @@ known_at p sure none stays zero slot written h =
     (subst (λ (rs : List Reg). Each (IsOneOf written) rs) (sym none) tt)
 known_at p sure none stays (suc n) slot written (from, before, i, path, here, on, is) =
     let after = written_too (writes i) (sure_at sure from) in
-    let step = on_next (λ next. names_each after (sure_at sure next)) p from i slot
+    let kept = on_next (λ next. names_each after (sure_at sure next)) p from i slot
     (of_all p (stays_sure p sure) stays from i here) on in
     subst (λ (rs : List Reg). Each (IsOneOf rs) (sure_at sure slot)) (sym is)
     (each_more (IsOneOf after) (IsOneOf (written_too (writes i) before)) (sure_at sure slot)
     (λ r. written_behind (writes i) (sure_at sure from) before r
-    (known_at p sure none stays n from before path)) (are_of after (sure_at sure slot) step))
+    (known_at p sure none stays n from before path)) (are_of after (sure_at sure slot) kept))
 
 abbrev pub has_needed : List Reg → List (List Reg) → ℕ → Insn → Bool
 has_needed given sure slot i = names_each (given ++ sure_at sure slot) (needs i)

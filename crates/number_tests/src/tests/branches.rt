@@ -27,7 +27,7 @@ const R3: Operand = Operand::Register(Reg::R3);
 const NONE: Limits = (1, 0);
 
 /// r2 is compared with the operand, and the jump is taken or not: the limits of r2 and r3 before
-/// it, and after it if a member goes this way.
+/// it, and after it if any member gets there.
 type Row = (
     Comparison,
     Width,

@@ -124,7 +124,7 @@ const EIGHT_IN_63: Sample = Sample::Outer(3, &[Put::Spill(63, Held::Number(8))])
 
 const POINTER_IN_63: Sample = Sample::Outer(3, &[Put::Spill(63, Held::Context)]);
 
-const ONE_IN_SLOTS: Sample = Sample::Outer(
+const ONE_IN_STACK: Sample = Sample::Outer(
     3,
     &[
         Put::Spill(0, Held::Packet(1, 0)),
@@ -132,7 +132,7 @@ const ONE_IN_SLOTS: Sample = Sample::Outer(
     ],
 );
 
-const SAME_IN_SLOTS: Sample = Sample::Outer(
+const SAME_IN_STACK: Sample = Sample::Outer(
     3,
     &[
         Put::Spill(0, Held::Packet(4, 0)),
@@ -140,7 +140,7 @@ const SAME_IN_SLOTS: Sample = Sample::Outer(
     ],
 );
 
-const TWO_IN_SLOTS: Sample = Sample::Outer(
+const TWO_IN_STACK: Sample = Sample::Outer(
     3,
     &[
         Put::Spill(0, Held::Packet(4, 0)),
@@ -152,7 +152,7 @@ const PROVED_14_IN_0: Sample = Sample::Outer(3, &[Put::Spill(0, Held::Packet(1, 
 
 const PROVED_10_IN_0: Sample = Sample::Outer(3, &[Put::Spill(0, Held::Packet(1, 10))]);
 
-const SAME_IN_SLOT_AND_REGISTER: Sample = Sample::Outer(
+const SAME_SPILL_AND_REGISTER: Sample = Sample::Outer(
     3,
     &[
         Put::Spill(8, Held::Packet(1, 0)),
@@ -160,7 +160,7 @@ const SAME_IN_SLOT_AND_REGISTER: Sample = Sample::Outer(
     ],
 );
 
-const OTHER_IN_SLOT_AND_REGISTER: Sample = Sample::Outer(
+const OTHER_SPILL_AND_REGISTER: Sample = Sample::Outer(
     3,
     &[
         Put::Spill(8, Held::Packet(2, 0)),
@@ -183,14 +183,14 @@ const STACKS: &[Row] = &[
     (SEVEN_IN_63, EIGHT_IN_63, false),
     (ALL_WRITTEN, POINTER_IN_63, false),
     // Identities are the same in all stack slots.
-    (ONE_IN_SLOTS, SAME_IN_SLOTS, true),
-    (ONE_IN_SLOTS, TWO_IN_SLOTS, false),
-    (TWO_IN_SLOTS, ONE_IN_SLOTS, true),
+    (ONE_IN_STACK, SAME_IN_STACK, true),
+    (ONE_IN_STACK, TWO_IN_STACK, false),
+    (TWO_IN_STACK, ONE_IN_STACK, true),
     (PROVED_14_IN_0, PROVED_10_IN_0, false),
     // Identities are the same in registers and stack slots.
-    (SAME_IN_SLOT_AND_REGISTER, SAME_IN_SLOT_AND_REGISTER, true),
-    (SAME_IN_SLOT_AND_REGISTER, OTHER_IN_SLOT_AND_REGISTER, false),
-    (OTHER_IN_SLOT_AND_REGISTER, SAME_IN_SLOT_AND_REGISTER, true),
+    (SAME_SPILL_AND_REGISTER, SAME_SPILL_AND_REGISTER, true),
+    (SAME_SPILL_AND_REGISTER, OTHER_SPILL_AND_REGISTER, false),
+    (OTHER_SPILL_AND_REGISTER, SAME_SPILL_AND_REGISTER, true),
 ];
 
 #[test]

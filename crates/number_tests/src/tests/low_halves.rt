@@ -215,7 +215,7 @@ fn goes(comparison: Comparison, taken: bool, number: u64) -> bool {
 }
 
 #[test]
-fn a_known_low_half_goes_one_way(rt: HostRuntime) {
+fn a_known_low_half_has_one_result(rt: HostRuntime) {
     for (comparison, never, number) in NEVER.iter() {
         assert!(rt; !goes(*comparison, *never, *number), "{comparison:?}");
         assert!(rt; goes(*comparison, !*never, *number), "{comparison:?}");

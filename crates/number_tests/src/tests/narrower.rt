@@ -1,5 +1,5 @@
-//! Reversed bytes, parts of numbers, and signed quotients and remainders: worked out by hand at the
-//! ends, and from all members of small sets.
+//! How much narrower results become: reversed bytes, parts of numbers, and signed quotients and
+//! remainders, worked out by hand at the ends, and from all members of small sets.
 
 use isa_model::{AluOp, ByteOrder, SwapWidth, Width, numbers};
 use ranges::Range;

@@ -137,7 +137,7 @@ fn are_shown(rt: &impl Abort, rows: &[Row]) {
     }
 }
 
-/// Which bytes of slot 2 are written after a store.
+/// Which bytes of stack slot 2 are written after a store.
 #[rattlefmt::skip]
 const STORES: &[Row] = &[
     (&[Act::Store(16, Size::U8)], &[Look::Written(2, 0x01)]),
@@ -200,7 +200,7 @@ const NUMBERS: &[Row] = &[
             Look::Load(24, Size::U64, Numbers::One(7)),
             Look::Load(24, Size::U8, Numbers::One(7)),
             Look::Load(26, Size::U16, Numbers::One(0)),
-            // Bytes of two slots; the second has a pointer.
+            // Bytes of two stack slots; the second has a pointer.
             Look::IsBytes(28, 8, false),
         ],
     ),

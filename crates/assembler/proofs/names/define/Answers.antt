@@ -8,5 +8,5 @@ returns-in-Ok c =
     let none : slot_in (map label_of c.args.labels.now.entries) c.args.name.now ≡ None =
     sym c.in-None.ensures in
     rw none (ap (λ labels. Ok labels)
-    (sym (ap (λ entries. map label_of entries) c.in-Ok.ensures.entries
+    (sym (ap (λ labels. map label_of labels) c.in-Ok.ensures.entries
     ∙ insert_label c.args.labels.now.entries c.args.name c.args.slot none)))

@@ -4,17 +4,17 @@ use Rattle.commands.specs.Messages.{hint_line}
 use Rattle.commands.proofs.Written.{on_err, first_failed, ok_behind, err_behind}
 use Rattle.commands.proofs.rejections.say_with_hint.Goals as goal
 
-pub returns-in_err-say_number-clause-err : goal.returns-in_err-say_number-clause-err
-returns-in_err-say_number-clause-err g c =
-    on_err _ _ (first_failed _ _ (c.args.unit.now ++ (decimal c.args.number ++ codes "\n"))
-    (hint_line c.args.error) _ refl c.in_err-say_number.ensures.err)
+pub returns-in_err-say_index-clause-err : goal.returns-in_err-say_index-clause-err
+returns-in_err-say_index-clause-err g c =
+    on_err _ _ (first_failed _ _ (c.args.unit.now ++ (decimal c.args.index ++ codes "\n"))
+    (hint_line c.args.error) _ refl c.in_err-say_index.ensures.err)
 
 pub returns-clause-ok : goal.returns-clause-ok
 returns-clause-ok g c =
-    ok_behind _ _ _ _ (c.args.unit.now ++ (decimal c.args.number ++ codes "\n"))
-    (hint_line c.args.error) _ refl c.in_ok-say_number.ensures.ok c.say_hint.ensures.ok
+    ok_behind _ _ _ _ (c.args.unit.now ++ (decimal c.args.index ++ codes "\n"))
+    (hint_line c.args.error) _ refl c.in_ok-say_index.ensures.ok c.say_hint.ensures.ok
 
 pub returns-clause-err : goal.returns-clause-err
 returns-clause-err g c =
-    err_behind _ _ _ _ (c.args.unit.now ++ (decimal c.args.number ++ codes "\n"))
-    (hint_line c.args.error) _ refl c.in_ok-say_number.ensures.ok c.say_hint.ensures.err
+    err_behind _ _ _ _ (c.args.unit.now ++ (decimal c.args.index ++ codes "\n"))
+    (hint_line c.args.error) _ refl c.in_ok-say_index.ensures.ok c.say_hint.ensures.err

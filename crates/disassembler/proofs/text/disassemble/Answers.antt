@@ -1,7 +1,7 @@
 use Rattle.std.proofs.KnownBytes.{Appends-trans}
 use Rattle.isa_model.specs.Text.CanonicalText.{version_line, canonical_text}
 use Rattle.exact_io.proofs.TransferLaws.{AppendsBeginning-first, AppendsBeginning-second}
-use Rattle.disassembler.specs.SlotText.{program_text}
+use Rattle.disassembler.specs.SlotText.{unversioned_text}
 use Rattle.image.proofs.Writing.{on_err}
 use Rattle.disassembler.proofs.text.disassemble.Goals as goal
 
@@ -10,19 +10,19 @@ unfolding canonical_text
 returns-in_err-write_version-clause-err g c =
     on_err _ c.from_residual.result
     (AppendsBeginning-first _ _ (version_line c.args.image.now.version)
-    (program_text c.args.image.now) c.in_err-write_version.ensures.err)
+    (unversioned_text c.args.image.now) c.in_err-write_version.ensures.err)
 
 pub returns-in_err-write_program-clause-err : goal.returns-in_err-write_program-clause-err
 unfolding canonical_text
 returns-in_err-write_program-clause-err g c =
     on_err _ c.from_residual-in_err-write_program.result
     (AppendsBeginning-second _ (g.W.Write.contents c.write_version.new.out) _
-    (version_line c.args.image.now.version) (program_text c.args.image.now)
+    (version_line c.args.image.now.version) (unversioned_text c.args.image.now)
     c.in_ok-write_version.ensures.ok c.in_err-write_program.ensures.err)
 
 pub returns-clause-ok : goal.returns-clause-ok
 unfolding canonical_text
 returns-clause-ok g c =
     Appends-trans _ (g.W.Write.contents c.write_version.new.out) _
-    (version_line c.args.image.now.version) (program_text c.args.image.now)
+    (version_line c.args.image.now.version) (unversioned_text c.args.image.now)
     c.in_ok-write_version.ensures.ok c.in_ok-write_program.ensures.ok

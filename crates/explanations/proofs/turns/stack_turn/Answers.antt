@@ -2,7 +2,7 @@ use Rattle.std.proofs.Common.{◌≡◌, List, ℕ, ◌++◌, rules, subst, leng
 use Rattle.std.specs.Prelude.{IfOk, codes}
 use Rattle.std.specs.Fmt.{signed_decimal}
 use Rattle.std.specs.String.{string_bytes}
-use Rattle.explanations.specs.Slots.{place_of}
+use Rattle.explanations.specs.Slots.{offset_of}
 use Rattle.explanations.specs.Mismatches.{stack_words}
 use Rattle.explanations.specs.Turns.{turn_line}
 use Rattle.explanations.proofs.turns.stack_turn.Goals as goal
@@ -12,7 +12,7 @@ returns c =
     let earlier = c.args.earlier.now in
     let state = c.args.state.now in
     let slot = c.args.slot in
-    let place : c.as_str.result.now ≡ codes "stack " ++ signed_decimal (place_of slot 0) =
+    let place : c.as_str.result.now ≡ codes "stack " ++ signed_decimal (offset_of slot 0) =
     search rules in
     let before : c.as_str-2.result.now ≡ stack_words earlier (length earlier.callers.items) slot =
     search rules in

@@ -25,7 +25,7 @@ pub returns-in-Ended-fill_at_once-clause-bytes : goal.returns-in-Ended-fill_at_o
 returns-in-Ended-fill_at_once-clause-bytes g c =
     record_cut _ _ _ _ _ _ _ (search rules) (search rules)
     (whole_head _ _ _ _ c.fill_at_once.auto.buffer c.head_size.ensures.size
-    c.head_size.ensures.bounded refl) c.in-Ended-fill_at_once.ensures.0
+    c.head_size.ensures.short refl) c.in-Ended-fill_at_once.ensures.0
     c.in-Ended-fill_at_once.ensures.1 c.in-Ended-fill_at_once.ensures.2
 
 pub returns-in-Failed-fill_at_once-clause-bytes : goal.returns-in-Failed-fill_at_once-clause-bytes
@@ -37,7 +37,7 @@ pub returns-then-length-max_body-clause-bytes : goal.returns-then-length-max_bod
 returns-then-length-max_body-clause-bytes g c =
     record_long _ _ _ _ _ _ (search rules)
     (whole_head _ _ _ _ c.fill_at_once.auto.buffer c.head_size.ensures.size
-    c.head_size.ensures.bounded refl)
+    c.head_size.ensures.short refl)
     (omega (arith, c.max_body.ensures.most, c.decode_head-length.ensures.field))
     c.in-Whole-fill_at_once.ensures
 
@@ -50,7 +50,7 @@ pub returns-in-Ended-fill_at_once-2-clause-bytes : goal.returns-in-Ended-fill_at
 returns-in-Ended-fill_at_once-2-clause-bytes g c =
     body_cut _ _ _ _ _ _ _ _ _ (search rules)
     (whole_head _ _ _ _ c.fill_at_once.auto.buffer c.head_size.ensures.size
-    c.head_size.ensures.bounded refl)
+    c.head_size.ensures.short refl)
     (omega (arith, c.max_body.ensures.most, c.decode_head-length.ensures.field))
     (search rules) c.in-Ended-fill_at_once-2.ensures.0 c.in-Whole-fill_at_once.ensures
     c.in-Ended-fill_at_once-2.ensures.1 c.in-Ended-fill_at_once-2.ensures.2
@@ -59,7 +59,7 @@ pub returns-in-Failed-fill_at_once-2-clause-bytes : goal.returns-in-Failed-fill_
 returns-in-Failed-fill_at_once-2-clause-bytes g c =
     body_failed _ _ _ _ _ _ _ _ _ (search rules)
     (whole_head _ _ _ _ c.fill_at_once.auto.buffer c.head_size.ensures.size
-    c.head_size.ensures.bounded refl)
+    c.head_size.ensures.short refl)
     (omega (arith, c.max_body.ensures.most, c.decode_head-length.ensures.field))
     (search rules) c.in-Failed-fill_at_once-2.ensures.0 c.in-Whole-fill_at_once.ensures
     c.in-Failed-fill_at_once-2.ensures.1
@@ -86,7 +86,7 @@ pub returns-then-length-max_body-clause-room : goal.returns-then-length-max_body
 returns-then-length-max_body-clause-room g c =
     can_be_long _ _ _ c.fill_at_once.new.buffer (search rules)
     (whole_head _ _ _ _ c.fill_at_once.auto.buffer c.head_size.ensures.size
-    c.head_size.ensures.bounded refl)
+    c.head_size.ensures.short refl)
     (omega (arith, c.max_body.ensures.most, c.decode_head-length.ensures.field))
 
 pub returns-in-Whole-fill_at_once-2-clause-room : goal.returns-in-Whole-fill_at_once-2-clause-room
@@ -99,7 +99,7 @@ pub returns-in-Ended-fill_at_once-2-clause-room : goal.returns-in-Ended-fill_at_
 returns-in-Ended-fill_at_once-2-clause-room g c =
     can_lack_body _ _ _ c.fill_at_once.new.buffer _ _ (search rules)
     (whole_head _ _ _ _ c.fill_at_once.auto.buffer c.head_size.ensures.size
-    c.head_size.ensures.bounded refl)
+    c.head_size.ensures.short refl)
     (omega (arith, c.max_body.ensures.most, c.decode_head-length.ensures.field))
     (search rules) c.in-Ended-fill_at_once-2.ensures.0
 

@@ -4,5 +4,5 @@ use Rattle.host.proofs.checked.run_checked.Goals as goal
 pub returns-clause-reports : goal.returns-clause-reports
 returns-clause-reports g c = λ wrote.
     Reports-machine c.args.image _ _ _ _ _ _ _ _
-    (c.version_of-program.ensures _ c.version.ensures) c.in-Ok.ensures.made c.new-2.ensures
+    (c.version_of-program_version.ensures _ c.version.ensures) c.in-Ok.ensures.made c.new-2.ensures
     c.run_frames.ensures.reports

@@ -9,10 +9,10 @@ abbrev pub invariant-frames : goal.invariant-frames
 invariant-frames g l = (taken : List PacketFrame) × WrittenSoFar (report_form_by l.form)
     (g.M.Runner.rule l.fn.machine) (g.M.Runner.contents l.fn.machine)
     (g.R.Read.remaining l.fn.source)
-    (record { report = g.W1.Write.contents l.fn.report; frames = g.W2.Write.contents l.fn.out })
+    (record { report = g.W1.Write.contents l.fn.report; sent = g.W2.Write.contents l.fn.out })
     taken (g.R.Read.remaining l.reader.source) l.reader.position l.number
     (g.M.Runner.contents l.machine)
-    (record { report = g.W1.Write.contents l.report; frames = g.W2.Write.contents l.out })
+    (record { report = g.W1.Write.contents l.report; sent = g.W2.Write.contents l.out })
     × (g.M.Runner.rule l.machine ≡ g.M.Runner.rule l.fn.machine)
     × (g.M.Runner.rows l.machine ≡ g.M.Runner.rows l.fn.machine)
     × (g.M.Runner.notes l.machine ≡ g.M.Runner.notes l.fn.machine)

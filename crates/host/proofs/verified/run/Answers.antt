@@ -13,9 +13,10 @@ new-requires-2 g c =
 pub returns-clause-reports : goal.returns-clause-reports
 returns-clause-reports g c = λ wrote.
     rw c.tally_in.ensures
-    (ReportsRun-machine c.args.verified _ _ _ _ c.bound-bound.result c.version_of-program.result _ _
-    _ _ c.bound-bound.ensures.verified c.bound-bound.ensures.bound
-    (c.version_of-program.ensures _
+    (ReportsRun-machine c.args.verified _ _ _ _ c.bound-bound.result
+    c.version_of-program_version.result _ _ _ _ c.bound-bound.ensures.verified
+    c.bound-bound.ensures.bound
+    (c.version_of-program_version.ensures _
     (c.version.ensures
     ∙ ap (λ (p : Program). version_number p.version) c.image.ensures.program))
     (rw (c.in-Ok.ensures, c.image-2.ensures.program)

@@ -17,7 +17,7 @@ loop-i-preserved g c =
       ap (map said) e.items
           ∙ replies_next (g.S.MapStore.row_of t) row inv.2 (g.S.MapStore.places t)
           (g.S.MapStore.block t) before c.args.commands.now c.loop-i.i (omega arith) inv.1 _
-          c.loop-i.replies.items c.in_ok-reply.reply inv.0 c.in_ok-reply.ensures.answer,
+          c.loop-i.replies.items c.in_ok-reply.reply inv.0 c.in_ok-reply.ensures.reply,
       left_next (g.S.MapStore.row_of t) row inv.2 (g.S.MapStore.places t)
           (g.S.MapStore.block t) before c.args.commands.now c.loop-i.i (omega arith) inv.1 _
           (g.S.MapStore.places u) (g.S.MapStore.block u) c.in_ok-reply.ensures.content,

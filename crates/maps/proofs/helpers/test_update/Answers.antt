@@ -9,5 +9,5 @@ returns-clause-answer g c =
     answer_found (g.S.MapStore.row_of s) (g.S.MapStore.places s) (g.S.MapStore.block s)
     c.args.key.now
     c.row.result.kind c.find-found.result c.is_some.result c.is_full.result c.args.flags
-    c.update_answer-answer.result (ap (λ (r : MapDef). r.kind) c.row.ensures) c.find-found.ensures
-    c.is_some.ensures c.is_full.ensures c.update_answer-answer.ensures
+    c.update_answer_by-answer.result (ap (λ (r : MapDef). r.kind) c.row.ensures)
+    c.find-found.ensures c.is_some.ensures c.is_full.ensures c.update_answer_by-answer.ensures

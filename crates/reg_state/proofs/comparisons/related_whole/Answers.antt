@@ -22,13 +22,13 @@ returns-clause-whole g c =
           may_whole c.args.comparison c.args.taken (g.D.Domain.allows Full64 c.args.b)
           (g.D.Domain.has c.args.b)
           (g.D.Domain.limits Full64 c.args.b) (g.D.Domain.limits Full64 c.args.a) x
-          (g.met.D.Domain.bounded p.0 x h) (g.met.D.Domain.whole c.args.b)
+          (g.met.D.Domain.in_register p.0 x h) (g.met.D.Domain.whole c.args.b)
           (shown.0.0 x h);
       right_limits = λ y h.
           may_whole (exchanged c.args.comparison) c.args.taken (g.D.Domain.allows Full64 c.args.a)
           (g.D.Domain.has c.args.a)
           (g.D.Domain.limits Full64 c.args.a) (g.D.Domain.limits Full64 c.args.b) y
-          (g.met.D.Domain.bounded p.1 y h) (g.met.D.Domain.whole c.args.a)
+          (g.met.D.Domain.in_register p.1 y h) (g.met.D.Domain.whole c.args.a)
           (shown.0.1 y h);
       left_bits = shown.1.0;
       right_bits = shown.1.1;

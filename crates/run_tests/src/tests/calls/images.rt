@@ -1,4 +1,5 @@
-//! The images of the tests, as docs/FORMATS.md and docs/REFUSALS.md show them, and a frame's head.
+//! The images of the tests, as docs/FORMATS.md and docs/REFUSALS.md show them, and the head of a
+//! packet frame.
 
 use run_calls::running::Head;
 

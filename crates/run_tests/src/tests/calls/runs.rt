@@ -71,7 +71,7 @@ fn traces_once(rt: HostRuntime) {
     }
 }
 
-/// The stream of one frame of two bytes.
+/// The stream of one packet frame of two bytes.
 const FRAMES: &[u8] = b"XPF1\xe8\x03\0\0\0\0\0\0\x01\0\0\0\0\0\0\0\x02\0\0\0\xca\xfe";
 
 /// The same stream, and the first byte of another record.
@@ -84,7 +84,7 @@ type Returned = (u32, usize, usize, u32, u32, u64);
 fn streamed(
     alloc: Global,
     image: &[u8],
-    frames: &[u8],
+    stream: &[u8],
     report: &mut [u8],
     sent: &mut [u8],
 ) -> Returned {
@@ -95,7 +95,7 @@ fn streamed(
         frames: 9,
         fault: 9,
     };
-    let status = run_stream(alloc, image, frames, report, sent, &mut out);
+    let status = run_stream(alloc, image, stream, report, sent, &mut out);
     (
         status, out.report, out.sent, out.frames, out.fault, out.offset,
     )
@@ -106,14 +106,14 @@ fn streamed(
 fn streams_so(
     alloc: Global,
     image: &[u8],
-    frames: &[u8],
+    stream: &[u8],
     room: usize,
     wanted: &(Returned, &[u8], &[u8]),
 ) -> bool {
     let mut report = [7; 40];
     let mut sent = [7; 40];
     let room = room.min(40);
-    let found = streamed(alloc, image, frames, &mut report[..room], &mut sent[..room]);
+    let found = streamed(alloc, image, stream, &mut report[..room], &mut sent[..room]);
     found == wanted.0 && holds(&report, wanted.1) && holds(&sent, wanted.2)
 }
 
@@ -141,8 +141,8 @@ const STREAMS: &[(&[u8], &[u8], usize, (Returned, &[u8], &[u8]))] = &[
 
 #[test]
 fn runs_streams(rt: HostRuntime) {
-    for (image, frames, room, wanted) in STREAMS.iter() {
-        let is_so = streams_so(rt.alloc(), image, frames, *room, wanted);
+    for (image, stream, room, wanted) in STREAMS.iter() {
+        let is_so = streams_so(rt.alloc(), image, stream, *room, wanted);
         holds_at(&rt, is_so, *room as u64, wanted.0.0);
     }
 }

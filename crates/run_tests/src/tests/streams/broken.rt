@@ -1,7 +1,7 @@
 //! Programs on streams whose reads fail after some bytes, and frames out that fail within the
 //! magic.
 
-use super::cases::{Case, ENDLESS, MAGIC, ONE, Output, PASSES, TWO, TWO_WITH_REASONS, ends_so};
+use super::cases::{Case, MAGIC, ONE, Output, PASSES, TAKES_ALL, TWO, TWO_WITH_REASONS, ends_so};
 use failing_io::FAILURES;
 use host::{HostError, Tally};
 use isa_model::Fault;
@@ -22,7 +22,7 @@ fn ends_with(
         limit: Some(100),
         given,
         is_broken,
-        report: ENDLESS,
+        report: TAKES_ALL,
         out,
         ended,
         lines,
@@ -77,7 +77,7 @@ fn breaks_at(
     };
     let fault = Some((Fault::ReadFailed, offset));
     let ended = Ok(Tally { frames, fault });
-    ends_with(rt, (given, true, ENDLESS), ended, lines, sent)
+    ends_with(rt, (given, true, TAKES_ALL), ended, lines, sent)
 }
 
 fn each_front_breaks(

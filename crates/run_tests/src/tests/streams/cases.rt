@@ -10,7 +10,7 @@ use std::io::ErrorKind;
 use std::process::Abort;
 use std::test::Fail;
 
-/// Passes each frame.
+/// Passes each packet frame.
 pub const PASSES: &str = "r0 = 2; exit";
 
 /// The magic and two empty records.
@@ -32,7 +32,7 @@ pub const MAGIC: &[u8] = b"XPF1";
 pub type Output = (usize, Option<Failure>);
 
 /// An output that takes all.
-pub const ENDLESS: Output = (0, None);
+pub const TAKES_ALL: Output = (0, None);
 
 /// A program that is run on a stream, with the result, the report and the frames out.
 #[derive(Drop)]

@@ -1,6 +1,6 @@
 //! Programs that are run on streams, while one output fails after each of its bytes.
 
-use super::cases::{Case, ENDLESS, MAGIC, ONE, PASSES, TWO, TWO_WITH_REASONS, ends_so};
+use super::cases::{Case, MAGIC, ONE, PASSES, TAKES_ALL, TWO, TWO_WITH_REASONS, ends_so};
 use failing_io::{FAILURES, Failure};
 use host::{HostError, Tally};
 use std::process::Abort;
@@ -21,7 +21,7 @@ struct Whole {
     lines_before: &'static [(usize, usize)],
 }
 
-// Counts frames, adds the keys 254 and 16, and traps.
+// Counts packet frames, adds the keys 254 and 16, and traps.
 const COUNTS: &str = "
     map hash 1 2 3; map array 4 8 1
     r1 = map_val(map_by_idx(1)) + 0; r2 = 1; lock *(u64 *)(r1 + 0) += r2
@@ -134,7 +134,7 @@ fn report_fails(
         given: whole.given,
         is_broken: false,
         report: (room, Some(failing)),
-        out: ENDLESS,
+        out: TAKES_ALL,
         ended: end_of(whole, room, whole.lines.len(), HostError::Report),
         lines: front(whole.lines, room),
         sent: front(whole.sent, count_at(whole.sent_before, room)),
@@ -153,7 +153,7 @@ fn frames_fail(
         limit: whole.limit,
         given: whole.given,
         is_broken: false,
-        report: ENDLESS,
+        report: TAKES_ALL,
         out: (room, Some(failing)),
         ended: end_of(whole, room, whole.sent.len(), HostError::Frames),
         lines: front(whole.lines, count_at(whole.lines_before, room)),

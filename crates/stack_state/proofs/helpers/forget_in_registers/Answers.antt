@@ -10,8 +10,8 @@ loop-i-preserved c =
     let i = c.loop-i.i in
     let x = c.index-kinds-i.result in
     record {
-      length = length-set ys i c.forgotten_kind.result ∙ c.loop-i.invariant.length;
-      done = ap (set ys i) c.forgotten_kind.ensures
+      length = length-set ys i c.forgotten_register.result ∙ c.loop-i.invariant.length;
+      done = ap (set ys i) c.forgotten_register.ensures
           ∙ map_over_more (forgotten_register c.args.index) xs ys i x
           (omega arith) c.loop-i.invariant.done c.index-kinds-i.is;
     }

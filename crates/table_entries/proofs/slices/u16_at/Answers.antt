@@ -1,5 +1,5 @@
 use Rattle.std.proofs.Common.{◌∙◌, drop}
-use Rattle.table_entries.proofs.NumberBytes.{two_bytes}
+use Rattle.table_entries.proofs.LittleNumbers.{two_bytes}
 use Rattle.table_entries.proofs.slices.u16_at.Goals as goal
 
 pub returns : goal.returns

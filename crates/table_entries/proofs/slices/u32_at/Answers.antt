@@ -1,5 +1,5 @@
 use Rattle.std.proofs.Common.{◌∙◌, drop}
-use Rattle.table_entries.proofs.NumberBytes.{four_bytes}
+use Rattle.table_entries.proofs.LittleNumbers.{four_bytes}
 use Rattle.table_entries.proofs.slices.u32_at.Goals as goal
 
 pub returns : goal.returns

@@ -1,5 +1,5 @@
 use Rattle.std.proofs.Common.{◌∙◌, drop}
-use Rattle.table_entries.proofs.NumberBytes.{eight_bytes}
+use Rattle.table_entries.proofs.LittleNumbers.{eight_bytes}
 use Rattle.table_entries.proofs.slices.u64_at.Goals as goal
 
 pub returns : goal.returns

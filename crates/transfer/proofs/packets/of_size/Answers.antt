@@ -6,8 +6,8 @@ use Rattle.transfer.proofs.packets.of_size.Goals as goal
 pub returns : goal.returns
 returns c =
     let size = c.args.size in
-    let most : ℕ = c.greatest-greatest.result in
-    let is : most + 1 ≡ 2 ^ (8 * size_bytes size) = c.greatest-greatest.ensures in
+    let most : ℕ = c.greatest_number-greatest.result in
+    let is : most + 1 ≡ 2 ^ (8 * size_bytes size) = c.greatest_number-greatest.ensures in
     let bits = c.between.ensures in
     let range = c.between-2.ensures in
     let limits = range.limits in

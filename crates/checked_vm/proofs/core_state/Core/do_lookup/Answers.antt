@@ -8,7 +8,7 @@ use Rattle.isa_model.specs.Machine.MapContents.{at_key}
 use Rattle.isa_model.specs.Machine.MapHelpers.{pointer_or_zero}
 use Rattle.isa_model.specs.Machine.HelperCalls.{answered}
 use Rattle.live_maps.specs.Live.{Live, content_at}
-use Rattle.maps.proofs.MapsLaws.{KeyFits-most}
+use Rattle.maps.proofs.KeySizes.{KeyFits-most}
 use Rattle.checked_vm.specs.Machine.{state_of, helped_on}
 use Rattle.checked_vm.proofs.Helpers.{looks_up, found_key, no_key}
 use Rattle.checked_vm.proofs.core_state.Core.do_lookup.Goals.{in-Some, in-None}

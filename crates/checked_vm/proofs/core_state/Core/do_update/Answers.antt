@@ -6,7 +6,7 @@ use Rattle.isa_model.specs.Machine.States.{State}
 use Rattle.isa_model.specs.Machine.Steps.{Next}
 use Rattle.isa_model.specs.Machine.MapContents.{update_answer}
 use Rattle.live_maps.specs.Live.{content_at}
-use Rattle.maps.proofs.MapsLaws.{KeyFits-most}
+use Rattle.maps.proofs.KeySizes.{KeyFits-most}
 use Rattle.checked_vm.specs.Machine.{state_of, helped_on}
 use Rattle.checked_vm.proofs.Helpers.{updates, updated}
 use Rattle.checked_vm.proofs.core_state.Core.do_update.Goals as goal

@@ -3,7 +3,7 @@ use Rattle.std.proofs.lemmas.List.{drop_all}
 use Rattle.state_index.specs.Parts.{unset_frame, all_written}
 use Rattle.explorer.specs.Groups.{whole, few_of, groups_of}
 use Rattle.state_index.proofs.PartLaws.{all_written-append}
-use Rattle.explorer.proofs.GroupLaws.{with_part-next}
+use Rattle.explorer.proofs.GroupLaws.{all_written-next}
 use Rattle.explorer.proofs.kept_frames.KeptFrame.restore.Goals as goal
 
 pub loop-index-init : goal.loop-index-init
@@ -24,7 +24,7 @@ loop-index-preserved c =
     let i : ℕ = c.loop-index.index in
     ap (λ f. all_written f (whole (drop (i + 1) groups)))
     (c.write_all-in-loop-index.ensures ∙ ap (all_written c.loop-index.frame) c.parts.ensures)
-    ∙ sym (with_part-next c.loop-index.frame groups i c.index-groups-index.result
+    ∙ sym (all_written-next c.loop-index.frame groups i c.index-groups-index.result
     (omega arith) c.index-groups-index.is)
     ∙ c.loop-index.invariant
 

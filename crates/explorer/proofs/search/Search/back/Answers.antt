@@ -5,20 +5,20 @@ use Rattle.explorer.proofs.Stores.{Settles-start}
 use Rattle.explorer.proofs.Paths.{LastVisit, Path-pop, Path-none}
 use Rattle.explorer.proofs.Unfinished.{OnPath-pop}
 use Rattle.explorer.proofs.Counting.{spent_back}
-use Rattle.explorer.proofs.Steps.{step_back, comes_aside}
+use Rattle.explorer.proofs.Steps.{goes_back, comes_aside}
 use Rattle.explorer.proofs.search.Search.back.Goals as goal
 use Rattle.explorer.proofs.search.Search.back.Goals.{In-Some}
 
 last_of : (c : In-Some)
-    → LastVisit c.args.flow.now c.args.self.now.finished c.args.self.now.stored.states.items
+    → LastVisit c.args.flow.now c.args.self.now.finished c.args.self.now.states.states.items
     c.requires.at.at.first c.pop.new.self.items c.in-Some.visit c.requires.at.state
 last_of c =
     let p = c.args.flow.now in
     let search = c.args.self.now in
     let at = c.requires.at in
-    Path-pop p search.finished search.stored.states.items c.pop.new.self.items c.in-Some.visit
+    Path-pop p search.finished search.states.states.items c.pop.new.self.items c.in-Some.visit
     at.at.first at.state
-    (subst (λ (x : List Visit). Path p search.finished search.stored.states.items at.at.first x
+    (subst (λ (x : List Visit). Path p search.finished search.states.states.items at.at.first x
     at.state) c.in-Some.ensures.items at.at.path)
 
 pub returns-in_default-clause-moves : goal.returns-in_default-clause-moves
@@ -27,9 +27,9 @@ returns-in_default-clause-moves c =
     let search = c.args.self.now in
     let at = c.requires.at in
     let same =
-    Path-none p search.finished search.stored.states.items search.path.items at.at.first
+    Path-none p search.finished search.states.states.items search.path.items at.at.first
     at.state (omega (arith, c.in_default.ensures.cases.0)) at.at.path in
-    let settled = subst (λ x. Settles p x c.args.ended) same at.within in
+    let settled = subst (λ x. Settles p x c.args.ended) same at.settled in
     (Settles-start p at.at.first c.args.ended at.at.begins settled, at.some, at.most)
 
 pub overflow_add-number : goal.overflow_add-number
@@ -46,16 +46,16 @@ pub returns-in_default-pending-clause-moves : goal.returns-in_default-pending-cl
 returns-in_default-pending-clause-moves c =
     let p = c.args.flow.now in
     let search = c.args.self.now in
-    let states = search.stored.states.items in
+    let states = search.states.states.items in
     let path = c.pop.new.self.items in
     let visit = c.in-Some.visit in
     let at = c.requires.at in
     let last = last_of (goal.at.returns-in_default-pending-clause-moves c).In-Some in
     let on_path =
     OnPath-pop states path search.path.items visit c.in-Some.ensures.items at.on_path in
-    let back = step_back p search.finished states c.finish.new.self.states.items at.at.first path
+    let back = goes_back p search.finished states c.finish.new.self.states.items at.at.first path
     visit at.state c.args.ended c.max-best.result
-    at.at.begins at.at.fine last on_path at.within at.most c.in_default-pending.is
+    at.at.begins at.at.fine last on_path at.settled at.most c.in_default-pending.is
     c.max-best.ensures c.finish.ensures in
     let same : search.finished + length search.path.items ≡ search.finished + 1 + length path =
     omega (arith, c.in-Some.ensures.cases) in
@@ -69,7 +69,7 @@ returns-in_default-pending-clause-moves c =
             path = back.before;
           };
       on_path = back.on_path;
-      within = back.within;
+      settled = back.settled;
       spent =
           subst (λ n. HasSpent p at.at.first path n) same
           (spent_back p at.at.first path search.path.items visit

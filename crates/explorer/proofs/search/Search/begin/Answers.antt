@@ -12,7 +12,7 @@ pub come-requires-clause-comes : goal.come-requires-clause-comes
 come-requires-clause-comes c =
     let p = c.args.flow.now in
     let search = c.args.self.now in
-    let states = search.stored.states.items in
+    let states = search.states.states.items in
     let path = search.path.items in
     let s = c.forget_dead.new.state in
     let new = c.requires.new in
@@ -20,13 +20,13 @@ come-requires-clause-comes c =
     record {
       at =
           record {
-            fine = empty_fine p search.finished states new.stored;
+            fine = empty_fine p search.finished states new.states;
             first = s;
             begins = begins;
             path = Path-here p search.finished states path s s new.path refl;
           };
-      on_path = OnPath-start states path new.stored new.path;
-      spent =
+      on_path = OnPath-start states path new.states new.path;
+      counts =
           CountsTo-here p path s s (search.finished + length path) new.path refl
           (omega (arith, new.finished, ap (λ (x : List Visit). length x) new.path));
       ready = starts_ready p p s refl c.requires.whole begins;

@@ -10,11 +10,11 @@ returns-clause-moves c =
     let p = c.args.flow.now in
     let old = c.args.self.now in
     IfOk-weaker c.arrive.result
-    (λ made. Arrives p old.stored.states.items old.current made
-    c.arrive.new.stored.states.items)
+    (λ made. Arrives p old.states.states.items old.current made
+    c.arrive.new.states.states.items)
     (λ made. AfterMove p
-    (record old { stored = c.arrive.new.stored; scratch = c.arrive.new.scratch }) made)
-    (λ made arrives. comes_to p old c.arrive.new.stored c.arrive.new.scratch made c.requires.comes
+    (record old { states = c.arrive.new.states; scratch = c.arrive.new.scratch }) made)
+    (λ made arrives. comes_to p old c.arrive.new.states c.arrive.new.scratch made c.requires.comes
     arrives) c.arrive.ensures.arrives
 
 pub returns-clause-stops : goal.returns-clause-stops
@@ -22,8 +22,8 @@ returns-clause-stops c =
     let p = c.args.flow.now in
     let old = c.args.self.now in
     let at = c.requires.comes.at in
-    IfErr-weaker c.arrive.result (λ r. RefusesArrival p old.stored.states.items old.current r.0 r.1)
+    IfErr-weaker c.arrive.result (λ r. RefusesArrival p old.states.states.items old.current r.0 r.1)
     (λ r. StopsAt p r.0 r.1)
-    (λ r refuses. arrival_refused p old.finished old.stored.states.items old.path.items at.first
+    (λ r refuses. arrival_refused p old.finished old.states.states.items old.path.items at.first
     old.current r.0 r.1 at.begins at.path c.requires.comes.on_path refuses)
     c.arrive.ensures.refused

@@ -31,10 +31,10 @@ returns-in-Err-clause-stops c =
       state = s;
       steps = length c.args.self.now.path.items;
       walk =
-          Path-walks p c.args.self.now.finished c.args.self.now.stored.states.items
+          Path-walks p c.args.self.now.finished c.args.self.now.states.states.items
           c.args.self.now.path.items at.at.first s at.at.begins at.at.path;
       slot_is = refl;
-      begins = at.ready.begins;
+      begins = at.ready.insn_begins;
       insn = i;
       here = here;
       refused = subst (λ x. RefusesStep x s i c.in-Err.refusal) (sym c.requires.image)
@@ -55,7 +55,7 @@ returns-in-None-clause-moves c =
     let into =
     into_by p q s a b a b c.in-Ok.ways ways.None c.requires.image c.in-Ok.ensures.steps i here
     c.in-None.is tt in
-    let back = step_ends p q search.finished search.stored.states.items
+    let back = step_ends p q search.finished search.states.states.items
     c.finish.new.self.states.items at.at.first search.path.items c.args.stored s a b
     c.in-Ok.ways
     at.at.begins c.requires.image at.at.fine at.at.path at.stored_at at.on_path
@@ -70,11 +70,11 @@ returns-in-None-clause-moves c =
             path = back.before;
           };
       on_path = back.on_path;
-      within = back.within;
+      settled = back.settled;
       spent =
           spent_here p at.at.first search.path.items s total 1
-          (search.finished + 1 + length search.path.items) at.spent
-          (ItsOwn s 1 at.ready.begins refl) (omega arith);
+          (search.finished + 1 + length search.path.items) at.counts
+          (ItsOwn s 1 at.ready.insn_begins refl) (omega arith);
       some = omega arith;
       most = back.most;
     }
@@ -82,14 +82,14 @@ returns-in-None-clause-moves c =
 -- ---- where the path continues
 
 entered_of : (c : After-push)
-    → Entered c.args.flow.now c.args.self.now.finished c.args.self.now.stored.states.items
+    → Entered c.args.flow.now c.args.self.now.finished c.args.self.now.states.states.items
     (record { pending = c.match-ways.pending; best = 0; stored = c.args.stored })
     c.args.self.now.current c.forget_dead-2.new.state
 entered_of c =
     let p = c.args.flow.now in
     let q = c.args.image.now in
     let m = c.args.self.now.finished in
-    let states = c.args.self.now.stored.states.items in
+    let states = c.args.self.now.states.states.items in
     let s = c.args.self.now.current in
     let a = c.step_in_place.new.state in
     let b = c.step_in_place.new.other in
@@ -136,7 +136,7 @@ of_forgotten-requires c = λ j below none.
     let forgotten =
     Forgets-forgotten c.args.flow.now c.step_in_place.new.other c.forget_dead.new.state
     c.forget_dead.ensures in
-    forgotten.1 j below (c.kept_slots-slots.ensures j below none)
+    forgotten.1 j below (c.kept_slots-mask.ensures j below none)
 
 pub come-requires-clause-forgotten : goal.come-requires-clause-forgotten
 come-requires-clause-forgotten c = λ new.

@@ -14,7 +14,7 @@ use denote.Steps.{nothing}
 use denote.Triple.Walked.{Stays, walk_of}
 use Rattle.std.specs.Prelude.{None}
 use Rattle.std.proofs.raw_atomic.Walks.{proved_at, leaves}
-use Rattle.held_machines.proofs.Values.{Session, one_word, session_in}
+use Rattle.held_machines.proofs.Values.{Session, one_field, session_in}
 use Rattle.held_machines.specs.contracts.sessions.Session.closed.{ended, clauses}
 use Rattle.held_machines.specs.contracts.sessions.Session.closed.Key.{name as #self}
 use Rattle.held_machines.proofs.sessions.Session.closed.Statement.{statement}
@@ -27,7 +27,7 @@ closed_spec 𝓤 𝓛 𝓜 𝓡 wired =
     proved_at 𝓛 ended hs c 𝓜 𝓡 tt #self code.function (code.unfolded 𝓤 H 𝓜 𝓡 wired) (λ z are.
     let Post : Val → SProp 𝓤 = (walk_of 𝓛 ended hs c).post z in
     let d : Session.Denot = record { at = null_ptr; held = None } in
-    let w : Val = one_word (ptr_val null_ptr) in
+    let w : Val = one_field (ptr_val null_ptr) in
     qed 𝓛 ((‵ ftrue ⊛ ‵ ftrue) ∷ raw ((c z.0.0 z.0.3).requires z.1) ∷ []) ∵
     enter ! 𝓣.C 𝓣.Λ code.function [] Post $ alloc_all ! (λ l. pass_all ! refl tt $
     sets ! (agg ! (and_then ! (lit ! tt) (no_more !))) refl (tt, (record { fits = lit< tt }, tt)) $

@@ -29,7 +29,7 @@ use Rattle.std.specs.contracts.impls.GlobalAllocator.TheImpl.{ghosts}
 use Rattle.std.proofs.ResultValues.{and_tt}
 use Rattle.std.proofs.raw_atomic.Walks.{proved_at, leaves}
 use Rattle.machine.specs.contracts.machines.Machine as machine
-use Rattle.held_machines.proofs.Values.{Session, Loose, al, both, one_word, loose_good, loose_in, session_out, either}
+use Rattle.held_machines.proofs.Values.{Session, Loose, al, both, one_field, loose_good, loose_in, session_out, either}
 use Rattle.held_machines.specs.contracts.sessions.Session.into_loose.{ended, clauses}
 use Rattle.held_machines.specs.contracts.sessions.Session.into_loose.Key.{name as #self}
 use Rattle.held_machines.proofs.sessions.Session.into_loose.Statement.{statement}
@@ -61,10 +61,10 @@ into_loose_spec 𝓤 𝓛 𝓜 𝓡 wired =
     (λ h eh fits.
     -- [the handle; nothing; what the session owns; nothing; nothing]
     move ! (2 ∷ []) $ either ! d.held d.at a
-    (λ none null. let w : Val = one_word (ptr_val null_ptr) in let v : Val = live 0 vnil in
+    (λ none null. let w : Val = one_field (ptr_val null_ptr) in let v : Val = live 0 vnil in
     suffices ! (Run (w ∷ h ∷ []))
     (subst (λ (us : List Val). ent 𝓤 (Run (w ∷ h ∷ [])) (Run us))
-    (sym (λ i. (ws ∙ ap (λ (p : Ptr). one_word (ptr_val p) ∷ []) null) i ++ (eh i ++ [])))
+    (sym (λ i. (ws ∙ ap (λ (p : Ptr). one_field (ptr_val p) ∷ []) null) i ++ (eh i ++ [])))
     (id⊢ 𝓤 (Run (w ∷ h ∷ [])))) $
     enter ! 𝓣.C 𝓣.Λ fn (w ∷ h ∷ []) Post $ alloc_all !
     (λ l. pass_all ! refl ((tt, (record { fits = lit< tt }, tt)), (fits, tt)) $
@@ -82,7 +82,7 @@ into_loose_spec 𝓤 𝓛 𝓜 𝓡 wired =
     returns ! (look_at ! 0 refl) $ free_all ! refl $ keep ! (4 ∷ 0 ∷ 2 ∷ 1 ∷ []) $ by !
     (leaves 𝓛 ended hs c z v None (tt, (tt, tt)) (tt, (tt, tt))))
     (λ wrong. absurd wrong)))
-    (λ b o x some is tested. let w : Val = one_word (vptr b o) in let made : Val = both
+    (λ b o x some is tested. let w : Val = one_field (vptr b o) in let made : Val = both
     (vptr b o) h in let typed = loose_good R Z LZ ghosts b o h fits in
     let v : Val = live 1 (vcons made vnil) in
     let m : Lr.Denot = record { at = block_ptr b o; alloc = a; value = x } in
@@ -90,7 +90,7 @@ into_loose_spec 𝓤 𝓛 𝓜 𝓡 wired =
     (and_tt _ typed.0, (record { fits = lit< tt }, (typed.1, tt))) in
     suffices ! (Run (w ∷ h ∷ []))
     (subst (λ (us : List Val). ent 𝓤 (Run (w ∷ h ∷ [])) (Run us))
-    (sym (λ i. (ws ∙ ap (λ (p : Ptr). one_word (ptr_val p) ∷ []) is) i ++ (eh i ++ [])))
+    (sym (λ i. (ws ∙ ap (λ (p : Ptr). one_field (ptr_val p) ∷ []) is) i ++ (eh i ++ [])))
     (id⊢ 𝓤 (Run (w ∷ h ∷ [])))) $
     enter ! 𝓣.C 𝓣.Λ fn (w ∷ h ∷ []) Post $ alloc_all !
     (λ l. pass_all ! refl ((tt, (tt, tt)), (fits, tt)) $

@@ -24,7 +24,7 @@ use Rattle.std.specs.contracts.impls.GlobalAllocator.TheImpl.{ghosts}
 use Rattle.std.specs.Box.Ownership.{box_owns}
 use Rattle.std.proofs.raw_atomic.Walks.{proved_at, leaves}
 use Rattle.machine.specs.contracts.machines.Machine as machine
-use Rattle.held_machines.proofs.Values.{Session, Loose, both, one_word, loose_good, loose_out, session_in}
+use Rattle.held_machines.proofs.Values.{Session, Loose, both, one_field, loose_good, loose_out, session_in}
 use Rattle.held_machines.specs.contracts.sessions.Session.of_loose.{ended, clauses}
 use Rattle.held_machines.specs.contracts.sessions.Session.of_loose.Key.{name as #self}
 use Rattle.held_machines.proofs.sessions.Session.of_loose.Statement.{statement}
@@ -63,4 +63,4 @@ of_loose_spec 𝓤 𝓛 𝓜 𝓡 wired =
     use0 𝓛 (raw (fact 𝓤 (d.held ≡ Some v.value)))
     (fact_i 𝓤 (d.held ≡ Some v.value) (emp 𝓤) refl) $ nothing ! $ nothing ! $ fjoin ! $
     returns ! (look_at ! 0 refl) $ free_all ! refl $ keep ! (4 ∷ 0 ∷ 2 ∷ 1 ∷ []) $ by !
-    (leaves 𝓛 ended hs c z (one_word (ptr_val p)) d (tt, tt) (tt, tt)))))
+    (leaves 𝓛 ended hs c z (one_field (ptr_val p)) d (tt, tt) (tt, tt)))))

@@ -1,7 +1,7 @@
 use Rattle.std.proofs.Common.{arith, ◌*◌, ◌^◌, ◌<◌}
 use Rattle.std.proofs.lemmas.Nat.{mul-le}
 use Rattle.std.proofs.Math.Nat.{mod-eq_of_lt}
-use Rattle.known_bits.proofs.ProductZeros.{member-length}
+use Rattle.known_bits.proofs.ProductZeros.{member-below}
 use Rattle.known_bits.proofs.bits.Bits.product_limit.Goals as goal
 
 pub returns-in-Some-clause-contains : goal.returns-in-Some-clause-contains
@@ -20,5 +20,5 @@ returns-in-Some-clause-limit c = λ l z small h.
     let product : c.greatest.result * c.greatest-2.result < 2 ^ l =
     rw (c.greatest.ensures.value, c.greatest-2.ensures.value) small in
     omega arith in
-    member-length c.between.result.value c.between.result.mask c.in-Some.greatest z l
+    member-below c.between.result.value c.between.result.mask c.in-Some.greatest z l
     (omega arith) zero c.between.ensures.sharp below h

@@ -19,7 +19,7 @@ returns-clause-contains c = λ x y hx hy.
     let w = c.args.width in
     let k = c.distance.result in
     let e : shift w y ≡ k = ap (shift w) (only_member c.if-other-ne0.false hy)
-    ∙ sym c.distance.ensures.value in
+    ∙ sym c.distance.ensures.is_shift in
     rw e (rw (low_wrapped w (x * 2 ^ k)) at
     (c.truncate.ensures.contains _ (c.shift_left.ensures.contains x hx)))
 
@@ -36,7 +36,7 @@ returns-clause-sharp c = λ one i h.
     let o = left_sharp ka kb k i (rw c.shift_left.ensures.mask at s.1) in
     let moved = λ (y : ℕ) (hy : IsMember c.args.other.value c.args.other.mask y).
     (let e : shift w y ≡ k = ap (shift w) (only_member c.if-other-ne0.false hy)
-    ∙ sym c.distance.ensures.value in e) in (
+    ∙ sym c.distance.ensures.is_shift in e) in (
       occurs_low (λ x y. (x * 2 ^ k) % 2 ^ 64) (result_of Lsh w) (width_bits w) i 0 s.0
           (λ x y hx hy. rw (moved y hy) (low_wrapped w (x * 2 ^ k))) o.0,
       occurs_low (λ x y. (x * 2 ^ k) % 2 ^ 64) (result_of Lsh w) (width_bits w) i 1 s.0

@@ -21,7 +21,7 @@ returns-clause-contains c = λ x y x_in hx hy.
     let w = c.args.width in
     let k = c.distance.result in
     let e : shift w y ≡ k = ap (shift w) (only_member c.if-other-ne0.false hy)
-    ∙ sym c.distance.ensures.value in
+    ∙ sym c.distance.ensures.is_shift in
     let l = div-le_self x (2 ^ k) in
     rw e (rw (low_same w (x / 2 ^ k) (omega arith)) at
     (c.truncate.ensures.contains _ (c.shift_right.ensures.contains x hx)))
@@ -39,7 +39,7 @@ returns-clause-sharp c = λ one small i h.
     let o = right_sharp ka kb k i (rw c.shift_right.ensures.mask at s.1) in
     let moved = λ (y : ℕ) (hy : IsMember c.args.other.value c.args.other.mask y).
     (let e : shift w y ≡ k = ap (shift w) (only_member c.if-other-ne0.false hy)
-    ∙ sym c.distance.ensures.value in e) in
+    ∙ sym c.distance.ensures.is_shift in e) in
     let kept = λ (x : ℕ) (hx : IsMember c.args.self.value c.args.self.mask x).
     (let e : x / 2 ^ k % 2 ^ width_bits w ≡ x / 2 ^ k =
     low_same w (x / 2 ^ k)

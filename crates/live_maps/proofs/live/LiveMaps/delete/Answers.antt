@@ -8,7 +8,7 @@ use Rattle.live_maps.specs.Live.{Live, Serials, AreLive, content_at, serials_at,
 use Rattle.live_maps.specs.Orders.{AreLiveMaps, IsOrder, KeyOrder, places_without}
 use Rattle.live_maps.proofs.ContentLaws.{live_of}
 use Rattle.live_maps.proofs.LiveLaws.{live-removed, live-same, deleted_there, delete_answer-live}
-use Rattle.live_maps.proofs.SearchLaws.{lookup-present}
+use Rattle.live_maps.proofs.LookUpLaws.{lookup-present}
 use Rattle.live_maps.proofs.OrderLaws.{AreOrders-changed, IsOrder-listed, order_found, values-removed}
 use Rattle.live_maps.proofs.OneChanged.{OneChanged, row_known, one_changed, row_seen, still_kept}
 use Rattle.live_maps.proofs.live.LiveMaps.delete.Goals as goal

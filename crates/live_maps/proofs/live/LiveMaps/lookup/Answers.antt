@@ -3,7 +3,7 @@ use Rattle.std.specs.Option.{option_map}
 use Rattle.isa_model.specs.declared.map_defs.MapDef.{MapDef}
 use Rattle.isa_model.specs.Machine.MapContents.{at_key}
 use Rattle.live_maps.specs.Live.{Live, content_at}
-use Rattle.live_maps.proofs.SearchLaws.{lookup-absent, lookup-present}
+use Rattle.live_maps.proofs.LookUpLaws.{lookup-absent, lookup-present}
 use Rattle.live_maps.proofs.OneChanged.{row_known}
 use Rattle.live_maps.proofs.live.LiveMaps.lookup.Goals as goal
 

@@ -5,7 +5,7 @@ use Rattle.isa_model.specs.declared.map_defs.MapType.TheVariants.{Array}
 use Rattle.isa_model.specs.Machine.Steps.{one_serial}
 use Rattle.live_maps.specs.Live.{Live, content_at}
 use Rattle.live_maps.proofs.ContentLaws.{rows_of-known}
-use Rattle.live_maps.proofs.SearchLaws.{only-present}
+use Rattle.live_maps.proofs.LookUpLaws.{only-present}
 use Rattle.live_maps.proofs.live.LiveMaps.only_serial.Goals as goal
 
 pub serial_at-requires-clause-index : goal.serial_at-requires-clause-index

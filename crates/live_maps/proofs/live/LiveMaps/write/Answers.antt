@@ -4,7 +4,7 @@ use Rattle.maps.specs.Maps.{IsMap, map_at}
 use Rattle.live_maps.specs.Live.{Live, AreLive, content_at, serials_at, value_bytes, with_value}
 use Rattle.live_maps.proofs.ContentLaws.{live_of, length-changed_maps}
 use Rattle.live_maps.proofs.LiveLaws.{live-written}
-use Rattle.live_maps.proofs.SearchLaws.{serials-once, searched-none, position-serial}
+use Rattle.live_maps.proofs.LookUpLaws.{serials-once, serial_place-none, position-serial}
 use Rattle.live_maps.proofs.OrderLaws.{AreOrders-set}
 use Rattle.live_maps.proofs.OneChanged.{Found, found_at, still_kept}
 use Rattle.live_maps.proofs.live.LiveMaps.write.Goals as goal
@@ -77,7 +77,7 @@ pub returns-in-None : goal.returns-in-None
 returns-in-None c =
     let i = c.self.inside in
     let Q : List ℕ → Type 0 = λ value. c.args.at + length c.args.bytes.now ≤ length value in
-    let none = searched-none i.next i.maps i.serials.items c.args.map c.args.serial
+    let none = serial_place-none i.next i.maps i.serials.items c.args.map c.args.serial
     c.self.invariant.2 (sym c.find_serial.ensures ∙ c.in-None.is) in
     absurd (subst (λ (o : Option (List ℕ)). IsSomeAnd o Q) (sym (ap (λ (l : Live). value_bytes
     (content_at l c.args.map) c.args.serial) c.self.view_is) ∙ none) c.requires)

@@ -3,7 +3,7 @@ use Rattle.std.specs.List.{position}
 use Rattle.live_maps.specs.Live.{Serials, has_serial}
 use Rattle.live_maps.specs.Numbering.{above}
 use Rattle.live_maps.proofs.AboveLaws.{position-map}
-use Rattle.live_maps.proofs.SearchLaws.{position-once}
+use Rattle.live_maps.proofs.LookUpLaws.{position-once}
 use Rattle.live_maps.proofs.place_serials.PlaceSerials.find.Goals as goal
 
 pub returns-in-Some : goal.returns-in-Some

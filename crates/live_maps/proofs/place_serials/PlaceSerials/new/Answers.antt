@@ -3,7 +3,7 @@ use Rattle.std.specs.Prelude.{replicate}
 use Rattle.live_maps.specs.Live.{Serials, serial_in}
 use Rattle.live_maps.specs.Numbering.{above}
 use Rattle.live_maps.proofs.AboveLaws.{serial_in-above}
-use Rattle.live_maps.proofs.LivingLaws.{serial_in-none}
+use Rattle.live_maps.proofs.SerialLists.{serial_in-none}
 use Rattle.live_maps.proofs.place_serials.PlaceSerials.new.Goals as goal
 
 pub returns-clause-none : goal.returns-clause-none

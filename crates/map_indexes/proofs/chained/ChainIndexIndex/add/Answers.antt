@@ -58,7 +58,7 @@ invariant_of-self-2-clause-index c =
     let e = c.add.ensures in
     let new = λ (k : ℕ). chain_place (link_in t.chains t.nexts k) in
     let chain : c.chain_of-chain.result ≡ chain_of key s.chains.count =
-    c.chain_of-chain.ensures.value ∙ ap (chain_of key) c.count.ensures in
+    c.chain_of-chain.ensures.chain ∙ ap (chain_of key) c.count.ensures in
     subst (λ (x : PlaceKeys). IsChainIndex x rest t.count new) (sym c.put.ensures.keys)
     (subst (λ (x : ℕ). IsChainIndex (slice_set keys p (Some key)) rest x new) (sym e.count)
     (chain_index-added keys s.free.items s.chains.count (λ (k : ℕ). chain_place

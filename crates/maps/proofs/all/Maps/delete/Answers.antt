@@ -3,7 +3,7 @@ use Rattle.std.specs.Prelude.{vec_capacity}
 use Rattle.isa_model.specs.declared.map_defs.MapDef.{MapDef}
 use Rattle.maps.specs.Contents.{content}
 use Rattle.maps.specs.Maps.{Deleted}
-use Rattle.maps.proofs.AllMaps.{state, changed, others-set, HaveRoom-set, inside}
+use Rattle.maps.proofs.AllMaps.{state, map_changed, others-set, HaveRoom-set, inside}
 use Rattle.maps.proofs.all.Maps.delete.Goals as goal
 
 pub returns-clause-deleted : goal.returns-clause-deleted
@@ -11,7 +11,8 @@ returns-clause-deleted c =
     let x = c.index_mut.result.now in
     let t = c.delete.new.store in
     let e = c.delete.ensures in
-    changed c.args.self.now c.self.inside.stores.all.items c.self.view_is c.args.map c.requires.map
+    map_changed c.args.self.now c.self.inside.stores.all.items c.self.view_is c.args.map
+    c.requires.map
     (Deleted c.args.key.now c.delete.result) x t c.index_mut.ensures.value
     (record {
       row = e.row;

@@ -6,7 +6,7 @@ use Rattle.isa_model.specs.declared.map_defs.MapType.TheVariants.{Hash}
 use Rattle.isa_model.specs.declared.map_defs.MapDef.{MapDef}
 use Rattle.maps.specs.Either.{places_of}
 use Rattle.isa_model.specs.Code.MapRows.{IsRow}
-use Rattle.maps.proofs.MapsLaws.{KeyFits-index}
+use Rattle.maps.proofs.KeySizes.{KeyFits-index}
 use Rattle.maps.specs.Maps.{rows_of, starting_map}
 use Rattle.maps.proofs.MapLaws.{rows_of-starting}
 use Rattle.maps.specs.StoreStates.{IsListed}

@@ -3,7 +3,7 @@ use Rattle.std.specs.Prelude.{vec_capacity}
 use Rattle.isa_model.specs.declared.map_defs.MapDef.{MapDef}
 use Rattle.maps.specs.Contents.{content}
 use Rattle.maps.specs.Maps.{Updated}
-use Rattle.maps.proofs.AllMaps.{state, changed, others-set, HaveRoom-set, inside}
+use Rattle.maps.proofs.AllMaps.{state, map_changed, others-set, HaveRoom-set, inside}
 use Rattle.maps.proofs.all.Maps.update.Goals as goal
 
 pub returns-clause-updated : goal.returns-clause-updated
@@ -11,7 +11,8 @@ returns-clause-updated c =
     let x = c.index_mut.result.now in
     let t = c.update.new.store in
     let e = c.update.ensures in
-    changed c.args.self.now c.self.inside.stores.all.items c.self.view_is c.args.map c.requires.map
+    map_changed c.args.self.now c.self.inside.stores.all.items c.self.view_is c.args.map
+    c.requires.map
     (Updated c.args.key.now c.args.value.now c.args.flags c.update.result) x t
     c.index_mut.ensures.value
     (record {

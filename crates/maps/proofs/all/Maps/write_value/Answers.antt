@@ -1,14 +1,15 @@
 use Rattle.std.proofs.Common.{refl}
 use Rattle.std.specs.Prelude.{vec_capacity}
 use Rattle.maps.specs.Maps.{WritesValue}
-use Rattle.maps.proofs.AllMaps.{changed, others-set, HaveRoom-set, inside}
+use Rattle.maps.proofs.AllMaps.{map_changed, others-set, HaveRoom-set, inside}
 use Rattle.maps.proofs.all.Maps.write_value.Goals as goal
 
 pub returns-clause-written : goal.returns-clause-written
 returns-clause-written c =
     let x = c.index_mut.result.now in
     let e = c.write_value.ensures in
-    changed c.args.self.now c.self.inside.stores.all.items c.self.view_is c.args.map c.requires.map
+    map_changed c.args.self.now c.self.inside.stores.all.items c.self.view_is c.args.map
+    c.requires.map
     (WritesValue c.args.place c.args.at c.args.bytes.now) x c.write_value.new.self
     c.index_mut.ensures.value
     (record { row = e.row; places = rw e.index refl; block = e.block })

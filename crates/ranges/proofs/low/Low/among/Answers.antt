@@ -3,7 +3,7 @@ use Rattle.std.proofs.lemmas.Bool.{cases_lt}
 use Rattle.ranges.specs.Joint.{IsHalfBetween}
 use Rattle.ranges.specs.Lows.{Has}
 use Rattle.ranges.proofs.EnclosesLaws.{enclosed_low}
-use Rattle.ranges.proofs.LowLaws.{reached_map, either_reached, among_same, among_start, among_end, among_middle}
+use Rattle.ranges.proofs.LowLaws.{reached_weaker, either_reached, among_same, among_start, among_end, among_middle}
 use Rattle.ranges.proofs.low.Low.among.Goals as goal
 
 pub returns-then-first-last-clause-reached : goal.returns-then-first-last-clause-reached
@@ -15,7 +15,7 @@ returns-then-first-last-clause-reached c =
     let here : Has c.between.result (c.args.least % 2 ^ 32) =
     (c.between.ensures.members _).1 (omega arith, omega arith) in
     let other = c.with.ensures.other _ l here in
-    reached_map c.with.result (Has c.with.result)
+    reached_weaker c.with.result (Has c.with.result)
     (λ (e : ℕ). Has c.args.self e × IsHalfBetween c.args.least c.args.greatest e)
     (λ e h. (
       enclosed_low c.args.self c.with.result e c.with.ensures.enclosed h,
@@ -56,7 +56,7 @@ returns-then-first-last-2-clause-reached c =
     either_reached c.hull.result c.with-start.result c.with-end.result
     (λ (e : ℕ). Has c.args.self e × IsHalfBetween c.args.least c.args.greatest e)
     c.hull.ensures.either
-    (reached_map c.with-start.result (Has c.with-start.result)
+    (reached_weaker c.with-start.result (Has c.with-start.result)
     (λ (e : ℕ). Has c.args.self e × IsHalfBetween c.args.least c.args.greatest e)
     (λ e is. (
       enclosed_low c.args.self c.with-start.result e c.with-start.ensures.enclosed is,
@@ -66,7 +66,7 @@ returns-then-first-last-2-clause-reached c =
           among_start c.args.least c.args.greatest e apart (omega arith) is.below,
     ))
     (c.with-start.ensures.tight _ l start))
-    (reached_map c.with-end.result (Has c.with-end.result)
+    (reached_weaker c.with-end.result (Has c.with-end.result)
     (λ (e : ℕ). Has c.args.self e × IsHalfBetween c.args.least c.args.greatest e)
     (λ e is. (
       enclosed_low c.args.self c.with-end.result e c.with-end.ensures.enclosed is,
@@ -80,6 +80,6 @@ returns-then-first-last-2-clause-reached c =
 pub returns-else-first-last-2-clause-reached : goal.returns-else-first-last-2-clause-reached
 returns-else-first-last-2-clause-reached c =
     let apart : c.args.least / 2 ^ 32 + 1 < c.args.greatest / 2 ^ 32 = omega arith in
-    reached_map c.args.self (Has c.args.self)
+    reached_weaker c.args.self (Has c.args.self)
     (λ (e : ℕ). Has c.args.self e × IsHalfBetween c.args.least c.args.greatest e)
     (λ e is. (is, among_middle c.args.least c.args.greatest e apart is.below)) c.requires.tight

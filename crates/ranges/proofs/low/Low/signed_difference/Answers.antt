@@ -18,6 +18,7 @@ returns-clause-signed c = λ e f he hf fl fg.
     let hy = c.sign_extended-y.ensures.contains f hf in
     let a = c.sign_extended-x.ensures.limits in
     let b = c.sign_extended-y.ensures.limits in
-    let sum = rw (a.0, a.1, b.0, b.1) at (c.alu.ensures.signed _ _ hx hy refl) in
-    signed_kept c.alu.result c.low_limits.result _ _ fl fg (sum (widened _ fl) (widened _ fg))
+    let difference = rw (a.0, a.1, b.0, b.1) at (c.alu.ensures.signed _ _ hx hy refl) in
+    signed_kept c.alu.result c.low_limits.result _ _ fl fg
+    (difference (widened _ fl) (widened _ fg))
     (λ is. c.low_limits.ensures.signed _ (c.alu.ensures.contains _ _ hx hy) is)

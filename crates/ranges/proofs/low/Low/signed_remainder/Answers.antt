@@ -28,8 +28,8 @@ returns-clause-contains c = λ e f he hf.
     let fe : FitsSigned w32 (cast_signed w32 e) = sfits_to_z (record { fits = he.below }) in
     let wide = widened (cast_signed w32 e) fe in
     let fb : FitsSigned w32 c.cast_signed.result = search rules in
-    let fw : FitsSigned w64 c.from-by.result = search rules in
-    let by : c.from-by.result ≡ cast_signed w32 f = simp to_z-of_z at c.from-by.ensures
+    let fw : FitsSigned w64 c.from-divisor.result = search rules in
+    let by : c.from-divisor.result ≡ cast_signed w32 f = simp to_z-of_z at c.from-divisor.ensures
     ∙ c.cast_signed.ensures ∙ ap (cast_signed w32) (sym one) in
     let has = simp to_z-of_z at
     (c.signed_remainder.ensures.contains _ (c.sign_extended.ensures.contains e he)) in
@@ -47,9 +47,9 @@ returns-clause-signed c = λ e f he hf one.
     let f1 : FitsSigned w32 s.signed_least = search rules in
     let f2 : FitsSigned w32 s.signed_greatest = search rules in
     let fb : FitsSigned w32 c.cast_signed.result = search rules in
-    let fw : FitsSigned w64 c.from-by.result = search rules in
-    let by : c.from-by.result ≡ cast_signed w32 c.args.other.least =
-    simp to_z-of_z at c.from-by.ensures ∙ c.cast_signed.ensures in
+    let fw : FitsSigned w64 c.from-divisor.result = search rules in
+    let by : c.from-divisor.result ≡ cast_signed w32 c.args.other.least =
+    simp to_z-of_z at c.from-divisor.ensures ∙ c.cast_signed.ensures in
     let has = c.signed_remainder.ensures.contains _ (c.sign_extended.ensures.contains e he) in
     let limits = rw (x.0, x.1) at (simp to_z-of_z at c.signed_remainder.ensures.limits) in
     let fits : FitsSigned w32 (cast_signed w32 c.args.other.least) =

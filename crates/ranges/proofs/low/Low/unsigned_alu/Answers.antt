@@ -5,7 +5,7 @@ use Rattle.isa_model.proofs.NumberLaws.{alu_below}
 use Rattle.isa_model.specs.Code.NumberLaws.{low_same}
 use Rattle.ranges.specs.Wides as W
 use Rattle.ranges.specs.Lows.{Has, IsBetween}
-use Rattle.ranges.proofs.KeepsMaps.{keeps_map}
+use Rattle.ranges.proofs.KeepsWeaker.{keeps_weaker}
 use Rattle.ranges.proofs.low.Low.unsigned_alu.Goals as goal
 
 pub returns-clause-contains : goal.returns-clause-contains
@@ -24,6 +24,6 @@ returns-clause-limits c = λ e f he hf.
     let has = c.alu.ensures.contains e f (c.zero_extended.ensures.contains e he)
     (c.zero_extended-2.ensures.contains f hf) in
     let small = c.low_limits.ensures.small _ has c.alu.ensures.fits in
-    keeps_map c.args.op Low32 c.args.a.least c.args.a.greatest c.args.b.least c.args.b.greatest
+    keeps_weaker c.args.op Low32 c.args.a.least c.args.a.greatest c.args.b.least c.args.b.greatest
     (W.IsBetween c.alu.result) (IsBetween c.low_limits.result)
     (λ l g h. (omega (arith, h.0, small.0), omega (arith, h.1, small.1))) wide

@@ -13,7 +13,7 @@ use Rattle.ranges.specs.Wides as W
 use Rattle.ranges.specs.Lows as L
 use Rattle.ranges.specs.Ranges.{Has}
 use Rattle.ranges.proofs.Limits.{shl_mono}
-use Rattle.ranges.proofs.KeepsMaps.{keeps_map, keeps_signed_map}
+use Rattle.ranges.proofs.KeepsWeaker.{keeps_weaker, keeps_signed_weaker}
 use Rattle.ranges.proofs.KeepsLaws.{keeps_member, keeps_signed_member}
 use Rattle.ranges.proofs.LowResults.{low_result_of}
 use Rattle.ranges.proofs.RangeLaws.{constant_tight}
@@ -47,7 +47,7 @@ returns-then-b-clause-limits c = λ fa fb.
     let b_in : b.least < 2 ^ width_bits w = omega arith in
     let is = rw (low_same w a.least a_in, low_same w b.least b_in) at c.compute.ensures in
     let k = c.constant.ensures.constant.0 in
-    keeps_map c.args.op w a.least a.greatest b.least b.greatest
+    keeps_weaker c.args.op w a.least a.greatest b.least b.greatest
     (λ (l : ℕ) (g : ℕ). (l ≤ result_of c.args.op w a.least b.least)
     × (result_of c.args.op w a.least b.least ≤ g))
     (W.IsBetween c.constant.result.wide)
@@ -67,7 +67,7 @@ returns-then-b-clause-signed c = λ x y hx hy full.
     let k = c.constant.ensures.constant.0 in
     let ha = rw one at hx.0 in
     let hb = rw other at hy.0 in
-    keeps_signed_map c.args.op Full64 a.signed_least a.signed_greatest b.signed_least
+    keeps_signed_weaker c.args.op Full64 a.signed_least a.signed_greatest b.signed_least
     b.signed_greatest b.least b.greatest
     (λ (l : ℤ) (g : ℤ). (l ≤ℤ cast_signed w64 (result_of c.args.op Full64 a.least b.least))
     × (cast_signed w64 (result_of c.args.op Full64 a.least b.least) ≤ℤ g))
@@ -89,7 +89,7 @@ returns-then-b-clause-low_limits c = λ x y hx hy reads.
     let v = ap (λ n. n % 2 ^ 32) is
     ∙ low_result_of c.args.op c.args.width x y c.args.b.wide hx.0.below hy.0 reads in
     let k = c.constant.ensures.constant.1 in
-    keeps_map c.args.op Low32 a.least a.greatest b.least b.greatest
+    keeps_weaker c.args.op Low32 a.least a.greatest b.least b.greatest
     (λ (l : ℕ) (g : ℕ). (l ≤ result_of c.args.op Low32 (x % 2 ^ 32) (y % 2 ^ 32))
     × (result_of c.args.op Low32 (x % 2 ^ 32) (y % 2 ^ 32) ≤ g))
     (L.IsBetween c.constant.result.low)
@@ -108,7 +108,7 @@ returns-then-b-clause-low_signed c = λ x y hx hy reads.
     let v = ap (λ n. n % 2 ^ 32) is
     ∙ low_result_of c.args.op c.args.width x y c.args.b.wide hx.0.below hy.0 reads in
     let k = c.constant.ensures.constant.1 in
-    keeps_signed_map c.args.op Low32 a.signed_least a.signed_greatest b.signed_least
+    keeps_signed_weaker c.args.op Low32 a.signed_least a.signed_greatest b.signed_least
     b.signed_greatest b.least b.greatest
     (λ (l : ℤ) (g : ℤ). (l ≤ℤ cast_signed w32 (result_of c.args.op Low32 (x % 2 ^ 32) (y % 2 ^ 32)))
     × (cast_signed w32 (result_of c.args.op Low32 (x % 2 ^ 32) (y % 2 ^ 32)) ≤ℤ g))
@@ -175,7 +175,7 @@ returns-clause-limits c = λ fa fb.
     let a = c.args.a.wide in
     let b = c.args.b.wide in
     let e = c.settled.ensures.enclosed.0 in
-    keeps_map c.args.op c.args.width a.least a.greatest b.least b.greatest
+    keeps_weaker c.args.op c.args.width a.least a.greatest b.least b.greatest
     (W.IsBetween c.wide_alu-wide.result) (W.IsBetween c.settled.result.wide)
     (λ l g h. (omega (arith, h.0, e.0), omega (arith, h.1, e.1)))
     (c.wide_alu-wide.ensures.limits fa fb)
@@ -185,7 +185,7 @@ returns-clause-signed c = λ x y hx hy full.
     let a = c.args.a.wide in
     let b = c.args.b.wide in
     let e = c.settled.ensures.enclosed.0 in
-    keeps_signed_map c.args.op Full64 a.signed_least a.signed_greatest b.signed_least
+    keeps_signed_weaker c.args.op Full64 a.signed_least a.signed_greatest b.signed_least
     b.signed_greatest b.least b.greatest
     (W.IsSignedBetween c.wide_alu-wide.result) (W.IsSignedBetween c.settled.result.wide)
     (λ l g h. (omega (arith, ints, h.0, e.2), omega (arith, ints, h.1, e.3)))
@@ -196,7 +196,7 @@ returns-clause-low_limits c = λ x y hx hy reads.
     let a = c.args.a.low in
     let b = c.args.b.low in
     let e = c.settled.ensures.enclosed.1 in
-    keeps_map c.args.op Low32 a.least a.greatest b.least b.greatest
+    keeps_weaker c.args.op Low32 a.least a.greatest b.least b.greatest
     (L.IsBetween c.low_alu-low.result) (L.IsBetween c.settled.result.low)
     (λ l g h. (omega (arith, h.0, e.0), omega (arith, h.1, e.1)))
     (c.low_alu-low.ensures.limits x y hx hy reads)
@@ -206,7 +206,7 @@ returns-clause-low_signed c = λ x y hx hy reads.
     let a = c.args.a.low in
     let b = c.args.b.low in
     let e = c.settled.ensures.enclosed.1 in
-    keeps_signed_map c.args.op Low32 a.signed_least a.signed_greatest b.signed_least
+    keeps_signed_weaker c.args.op Low32 a.signed_least a.signed_greatest b.signed_least
     b.signed_greatest b.least b.greatest
     (L.IsSignedBetween c.low_alu-low.result) (L.IsSignedBetween c.settled.result.low)
     (λ l g h. (omega (arith, ints, h.0, e.2), omega (arith, ints, h.1, e.3)))

@@ -7,7 +7,7 @@ use Rattle.ranges.specs.Wides as W
 use Rattle.ranges.specs.Lows as L
 use Rattle.ranges.specs.Ranges.{Has, HasLow}
 use Rattle.ranges.specs.declared.range.Range.{Range}
-use Rattle.ranges.proofs.LowLaws.{reached_map}
+use Rattle.ranges.proofs.LowLaws.{reached_weaker}
 use Rattle.ranges.proofs.range.Range.any.Goals as goal
 
 pub returns-clause-members : goal.returns-clause-members
@@ -34,7 +34,7 @@ returns-clause-tight c =
       has _ t.1,
       has _ t.2,
       has _ t.3,
-      reached_map c.any-2.result (L.Has c.any-2.result) (HasLow r)
+      reached_weaker c.any-2.result (L.Has c.any-2.result) (HasLow r)
           (λ e is. record {
             number = e;
             has = has e ((c.any.ensures.members e).1 (half_below c.args.width e is.below));

@@ -6,7 +6,7 @@ use Rattle.ranges.specs.Joint.{IsHalfBetween}
 use Rattle.ranges.specs.Lows as L
 use Rattle.ranges.specs.Ranges.{Has, HasLow}
 use Rattle.ranges.specs.declared.range.Range.{Range}
-use Rattle.ranges.proofs.LowLaws.{reached_map}
+use Rattle.ranges.proofs.LowLaws.{reached_weaker}
 use Rattle.ranges.proofs.range.Range.narrowed.Goals as goal
 
 pub returns-in_err-least-clause-common : goal.returns-in_err-least-clause-common
@@ -57,7 +57,7 @@ returns-clause-tight c =
       subst (Has r) (sym lim.1) to,
       subst (Has r) (sym back) from,
       subst (Has r) (sym over) to,
-      reached_map c.among.result
+      reached_weaker c.among.result
           (λ (half : ℕ). L.Has c.args.low half × IsHalfBetween least greatest half) (HasLow r)
           (λ half is. record {
             number = is.1.number;

@@ -2,7 +2,7 @@ use Rattle.std.proofs.Common.{ℕ}
 use Rattle.ranges.specs.Wides as W
 use Rattle.ranges.specs.Ranges.{Has, HasLow}
 use Rattle.ranges.specs.declared.range.Range.{Range}
-use Rattle.ranges.proofs.LowLaws.{reached_map}
+use Rattle.ranges.proofs.LowLaws.{reached_weaker}
 use Rattle.ranges.proofs.range.Range.within_limits.Goals as goal
 
 pub returns-clause-members : goal.returns-clause-members
@@ -17,7 +17,7 @@ returns-clause-tight c = λ t.
       has _ t.1,
       has _ t.2,
       has _ t.3,
-      reached_map c.low_limits.result (W.HasHalf c.args.wide) (HasLow r)
+      reached_weaker c.low_limits.result (W.HasHalf c.args.wide) (HasLow r)
           (λ half is. record { number = is.number; has = has is.number is.has; low = is.low })
           (c.low_limits.ensures.reached _ t.0),
     )

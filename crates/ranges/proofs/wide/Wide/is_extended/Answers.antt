@@ -4,7 +4,7 @@ use Rattle.std.proofs.lemmas.Int.{ints, to_z-of_z}
 use Rattle.isa_model.specs.declared.sizes.Width.TheVariants.{Full64}
 use Rattle.isa_model.proofs.ExtensionLaws.{sign_extended-small}
 use Rattle.isa_model.specs.Code.Sizes.{extension_width}
-use Rattle.ranges.proofs.Limits.{extended_same, sign_bit_narrow, test_le}
+use Rattle.ranges.proofs.Limits.{extended_same, sign_bit_fits, test_le}
 use Rattle.ranges.proofs.wide.Wide.is_extended.Goals as goal
 
 pub returns-then-self-sign_bit_read-clause-sound : goal.returns-then-self-sign_bit_read-clause-sound
@@ -14,7 +14,7 @@ returns-then-self-sign_bit_read-clause-sound c = λ t x hx.
 
 pub returns-then-self-sign_bit_read-clause-fits : goal.returns-then-self-sign_bit_read-clause-fits
 returns-then-self-sign_bit_read-clause-fits c = λ t.
-    let h = sign_bit_narrow c.args.extension c.sign_bit_read.result c.sign_bit_read.ensures in
+    let h = sign_bit_fits c.args.extension c.sign_bit_read.result c.sign_bit_read.ensures in
     omega arith
 
 pub returns-then-all-self-clause-sound : goal.returns-then-all-self-clause-sound

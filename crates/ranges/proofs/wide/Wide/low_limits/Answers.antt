@@ -4,7 +4,7 @@ use Rattle.std.proofs.lemmas.Bool.{cases_lt}
 use Rattle.ranges.proofs.EnclosesLaws.{enclosed_low}
 use Rattle.ranges.specs.Joint.{IsHalfBetween}
 use Rattle.ranges.specs.Wides.{HasHalf}
-use Rattle.ranges.proofs.LowLaws.{reached_map, either_reached, fits_between}
+use Rattle.ranges.proofs.LowLaws.{reached_weaker, either_reached, fits_between}
 use Rattle.ranges.proofs.RangeLaws.{among_half}
 use Rattle.ranges.proofs.wide.Wide.low_limits.Goals as goal
 
@@ -58,12 +58,12 @@ returns-in-Some-plain_part-2-clause-reached c = λ x h.
     let ra = c.unsigned_halves-in-Some-plain_part-2.result in
     let rb = c.unsigned_halves-in-Some-plain_part-2-2.result in
     either_reached c.hull.result ra rb (HasHalf s) c.hull.ensures.either
-    (reached_map ra (IsHalfBetween a.least a.greatest) (HasHalf s)
+    (reached_weaker ra (IsHalfBetween a.least a.greatest) (HasHalf s)
     (λ e is. among_half s a e (omega arith)
     (inl c.in-Some-plain_part-2.ensures.side) c.in-Some-plain_part-2.ensures.alike
     c.in-Some-plain_part-2.ensures.left is)
     c.unsigned_halves-in-Some-plain_part-2.ensures.reached)
-    (reached_map rb (IsHalfBetween b.least b.greatest) (HasHalf s)
+    (reached_weaker rb (IsHalfBetween b.least b.greatest) (HasHalf s)
     (λ e is. among_half s b e (omega arith)
     (inr c.in-Some.ensures.side) c.in-Some.ensures.alike c.in-Some.ensures.left is)
     c.unsigned_halves-in-Some-plain_part-2-2.ensures.reached)
@@ -84,7 +84,7 @@ pub returns-in-Some-plain_part-clause-reached : goal.returns-in-Some-plain_part-
 returns-in-Some-plain_part-clause-reached c = λ x h.
     let s = c.args.self in
     let a = c.in-Some-plain_part.plain in
-    reached_map c.unsigned_halves.result (IsHalfBetween a.least a.greatest) (HasHalf s)
+    reached_weaker c.unsigned_halves.result (IsHalfBetween a.least a.greatest) (HasHalf s)
     (λ e is. among_half s a e (omega arith)
     (inl c.in-Some-plain_part.ensures.side) c.in-Some-plain_part.ensures.alike
     c.in-Some-plain_part.ensures.left is)
@@ -106,7 +106,7 @@ pub returns-in-None-plain_part-clause-reached : goal.returns-in-None-plain_part-
 returns-in-None-plain_part-clause-reached c = λ x h.
     let s = c.args.self in
     let a = c.in-Some.signed in
-    reached_map c.unsigned_halves-in-None-plain_part.result (IsHalfBetween a.least a.greatest)
+    reached_weaker c.unsigned_halves-in-None-plain_part.result (IsHalfBetween a.least a.greatest)
     (HasHalf s)
     (λ e is. among_half s a e (omega arith)
     (inr c.in-Some.ensures.side) c.in-Some.ensures.alike c.in-Some.ensures.left is)

@@ -1,7 +1,7 @@
 use Rattle.std.proofs.Common.{ℕ, ◌<◌, ◌%◌, ◌^◌, arith}
 use Rattle.ranges.specs.Joint.{IsHalfBetween}
 use Rattle.ranges.specs.Lows.{Has}
-use Rattle.ranges.proofs.LowLaws.{reached_map}
+use Rattle.ranges.proofs.LowLaws.{reached_weaker}
 use Rattle.ranges.proofs.wide.Wide.unsigned_halves.Goals as goal
 
 pub among-requires-clause-least : goal.among-requires-clause-least
@@ -14,7 +14,7 @@ among-requires-clause-greatest c =
 
 pub returns-clause-reached : goal.returns-clause-reached
 returns-clause-reached c =
-    reached_map c.among.result
+    reached_weaker c.among.result
     (λ (half : ℕ). Has c.any.result half
     × IsHalfBetween c.args.self.least c.args.self.greatest half)
     (IsHalfBetween c.args.self.least c.args.self.greatest) (λ e is. is.1) c.among.ensures.reached

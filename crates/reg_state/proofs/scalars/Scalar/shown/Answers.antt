@@ -6,8 +6,8 @@ returns-clause-contains c = λ x h least greatest.
     let known = c.in-Some.ensures.common x h (c.between.ensures.contains x least greatest) in
     let from = c.least.ensures.limit x known in
     let to = c.greatest.ensures.limit x known in
-    let max = c.max-from.ensures in
-    let min = c.min-to.ensures in
+    let max = c.max-smallest.ensures in
+    let min = c.min-largest.ensures in
     (known, omega arith, omega arith)
 
 pub returns-clause-bits : goal.returns-clause-bits
@@ -15,6 +15,6 @@ returns-clause-bits c = λ x h. c.in-Some.ensures.left x h
 
 pub returns-clause-limits : goal.returns-clause-limits
 returns-clause-limits c =
-    let max = c.max-from.ensures in
-    let min = c.min-to.ensures in
+    let max = c.max-smallest.ensures in
+    let min = c.min-largest.ensures in
     (omega arith, omega arith, omega arith)

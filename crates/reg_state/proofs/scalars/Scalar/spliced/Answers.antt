@@ -63,8 +63,8 @@ returns c = record {
       c.single.ensures.contains _ (
         inside.0,
         c.with_low-range.ensures.members _ inside.1 inside.2
-            (within (spliced c.args.from c.args.count) c.whole_low-low.result c.args.self.range.low
-            c.args.other.range.low x y c.whole_low-low.ensures.contains hx.1.1 hy.1.1),
+            (within (spliced c.args.from c.args.count) c.given_low-low.result c.args.self.range.low
+            c.args.other.range.low x y c.given_low-low.ensures.contains hx.1.1 hy.1.1),
       );
   bits = λ i x y inside hx hy zero one.
       let left = c.shown-least.ensures.bits x (c.single.ensures.narrower x hx).0 in
@@ -96,11 +96,11 @@ returns c = record {
             kept.1 fits (omega arith) (omega arith) (omega arith)),
       );
   low = λ x y hx hy none half z hz.
-      low_is c.whole_low-low.result c.args.other.range.low c.with_low-range.result.low z
-      (c.whole_low-low.ensures.new none half) c.with_low-range.ensures.low
+      low_is c.given_low-low.result c.args.other.range.low c.with_low-range.result.low z
+      (c.given_low-low.ensures.new none half) c.with_low-range.ensures.low
       (c.single.ensures.narrower z hz).1.1;
   kept = λ x y hx hy above z hz.
-      low_is c.whole_low-low.result c.args.self.range.low c.with_low-range.result.low z
-      (c.whole_low-low.ensures.old above) c.with_low-range.ensures.low
+      low_is c.given_low-low.result c.args.self.range.low c.with_low-range.result.low z
+      (c.given_low-low.ensures.old above) c.with_low-range.ensures.low
       (c.single.ensures.narrower z hz).1.1;
 }

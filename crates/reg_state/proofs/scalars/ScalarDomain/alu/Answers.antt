@@ -2,7 +2,7 @@ use Rattle.std.proofs.Common.{◌<◌, ◌^◌, arith}
 use Rattle.std.proofs.lemmas.Int.{ints}
 use Rattle.known_bits.proofs.MemberLaws.{bit_at-differing}
 use Rattle.isa_model.specs.declared.sizes.Width.TheVariants.{Low32, Full64}
-use Rattle.ranges.proofs.KeepsMaps.{keeps_map, keeps_signed_map}
+use Rattle.ranges.proofs.KeepsWeaker.{keeps_weaker, keeps_signed_weaker}
 use Rattle.reg_state.proofs.scalars.ScalarDomain.alu.Goals as goal
 
 pub returns-clause-contains : goal.returns-clause-contains
@@ -23,7 +23,7 @@ pub returns-clause-limits : goal.returns-clause-limits
 returns-clause-limits c = λ fa fb.
     let a = c.args.a.range.wide in
     let b = c.args.b.range.wide in
-    keeps_map c.args.op c.args.width a.least a.greatest b.least b.greatest _ _
+    keeps_weaker c.args.op c.args.width a.least a.greatest b.least b.greatest _ _
     (λ least greatest kept x h. let r = (c.settled.ensures.narrower x h).1.0 in
     let from = r.from in let to = r.to in (omega arith, omega arith))
     (c.alu-2.ensures.limits fa fb)
@@ -32,7 +32,7 @@ pub returns-clause-signed : goal.returns-clause-signed
 returns-clause-signed c = λ x y hx hy full.
     let a = c.args.a.range.wide in
     let b = c.args.b.range.wide in
-    keeps_signed_map c.args.op Full64 a.signed_least a.signed_greatest b.signed_least
+    keeps_signed_weaker c.args.op Full64 a.signed_least a.signed_greatest b.signed_least
     b.signed_greatest b.least b.greatest _ _
     (λ least greatest kept z h.
     let r = (c.settled.ensures.narrower z h).1.0 in
@@ -45,7 +45,7 @@ pub returns-clause-low_limits : goal.returns-clause-low_limits
 returns-clause-low_limits c = λ x y hx hy reads.
     let a = c.args.a.range.low in
     let b = c.args.b.range.low in
-    keeps_map c.args.op Low32 a.least a.greatest b.least b.greatest _ _
+    keeps_weaker c.args.op Low32 a.least a.greatest b.least b.greatest _ _
     (λ least greatest kept z h. let r = (c.settled.ensures.narrower z h).1.1 in
     let from = r.from in let to = r.to in (omega arith, omega arith))
     (c.alu-2.ensures.low_limits x y hx.1 hy.1 reads)
@@ -54,7 +54,7 @@ pub returns-clause-low_signed : goal.returns-clause-low_signed
 returns-clause-low_signed c = λ x y hx hy reads.
     let a = c.args.a.range.low in
     let b = c.args.b.range.low in
-    keeps_signed_map c.args.op Low32 a.signed_least a.signed_greatest b.signed_least
+    keeps_signed_weaker c.args.op Low32 a.signed_least a.signed_greatest b.signed_least
     b.signed_greatest b.least b.greatest _ _
     (λ least greatest kept z h.
     let r = (c.settled.ensures.narrower z h).1.1 in

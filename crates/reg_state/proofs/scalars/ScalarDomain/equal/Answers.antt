@@ -17,11 +17,11 @@ pub returns-clause-common : goal.returns-clause-common
 returns-clause-common c = λ x y hx hy h.
     let b = c.in_ok-bits.ensures.common x y hx.0 hy.0 h in
     let r = c.in_ok-ranges.ensures.common x y hx.1 hy.1 h in
-    c.joined.ensures.common x y b.0 r.0 b.1 r.1
+    c.paired.ensures.common x y b.0 r.0 b.1 r.1
 
 pub returns-clause-left_allowed : goal.returns-clause-left_allowed
 returns-clause-left_allowed c =
-    IfSome_then c.joined.result c.joined.ensures.left
+    IfSome_then c.paired.result c.paired.ensures.left
     (λ p within x h.
     let w = within x h in
     both_allow c.args.width c.args.other _ (c.in_ok-bits.ensures.left_allowed x w.0)
@@ -29,7 +29,7 @@ returns-clause-left_allowed c =
 
 pub returns-clause-right_allowed : goal.returns-clause-right_allowed
 returns-clause-right_allowed c =
-    IfSome_then c.joined.result c.joined.ensures.right
+    IfSome_then c.paired.result c.paired.ensures.right
     (λ p within y h.
     let w = within y h in
     both_allow c.args.width c.args.self _ (c.in_ok-bits.ensures.right_allowed y w.0)

@@ -16,9 +16,9 @@ loop-slot-preserved c =
     let count : length xs ≡ frame_slots = omega arith in
     let wide : length ys ≡ frame_slots = c.loop-slot.invariant.length in
     record {
-      length = length-set ys i c.forgotten.result ∙ wide;
+      length = length-set ys i c.forgotten_slot.result ∙ wide;
       done =
-          ap (set ys i) c.forgotten.ensures
+          ap (set ys i) c.forgotten_slot.ensures
           ∙ map_over_more (forgotten_slot c.args.map) xs ys i x
           (omega arith) c.loop-slot.invariant.done
           (get_or_default ys i c.index-self-slot.result x (omega arith));

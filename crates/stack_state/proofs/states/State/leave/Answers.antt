@@ -19,14 +19,14 @@ returns c =
     sym (abstract_frame_at-caller b n (omega arith)
     ∙ get_or_from_slice_get b.callers.items n c.in-Some.caller no_frame
     (sym c.pop.ensures.value ∙ c.in-Some.is)) in
-    let callee : State =
+    let resumed : State =
     record {
       slot = b.innermost.return_slot;
       callers = record { items = take n b.callers.items };
       innermost = c.resume.new.self;
     } in
-    ap (λ l. record callee { callers = record { items = l } }) c.pop.ensures.rest
-    ∙ ap (λ f. record callee { innermost = f }) (c.resume.ensures
+    ap (λ l. record resumed { callers = record { items = l } }) c.pop.ensures.rest
+    ∙ ap (λ f. record resumed { innermost = f }) (c.resume.ensures
     ∙ ap (resumed_of c.in-Some.caller) c.kind_of-answer.ensures
     ∙ ap (λ f. resumed_of f (kind_at (registers_of b) 0)) caller)
     ∙ ap left forgotten

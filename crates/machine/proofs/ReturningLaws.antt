@@ -1,4 +1,4 @@
--- Laws of the definitions in specs/Answering.
+-- Laws of the definitions in specs/Returning.
 use Rattle.std.proofs.Common.{◌≡◌, ℕ, suc, ◌<◌, List, [], ◌∷◌, length, map, refl, sym, ap, ◌∙◌, arith}
 use Rattle.std.specs.Prelude.{slice_index_or}
 use Rattle.std.specs.FinMap.{entries}
@@ -20,22 +20,22 @@ use Rattle.machine.proofs.TrackingLaws.{related_Ends, related_Exits}
 use Rattle.machine.specs.Starting.{start_of}
 use Rattle.machine.proofs.StartingLaws.{start_layout, start_related}
 use Rattle.machine.proofs.LiveValues.{contents_are}
-use Rattle.machine.specs.Answering.{ReturnsAsModel, IsStart}
+use Rattle.machine.specs.Returning.{ReturnsAsModel, IsStart}
 
 changed-twice : {X Y Z : Type 0} (g : Y → Z) (f : X → Y) (es : List (List ℕ × X))
     → changed g (changed f es) ≡ changed (λ x. g (f x)) es
 changed-twice g f [] = refl
 changed-twice g f (e ∷ es) = λ i. (e.0, g (f e.1)) ∷ changed-twice g f es i
 
-abbrev value_in : (ℕ × List ℕ) → List ℕ
-value_in x = x.1
+abbrev bytes_there : (ℕ × List ℕ) → List ℕ
+bytes_there x = x.1
 
 -- a map that represents a content has its keys and values
 pub content_same : (a : Layout) (m : ℕ) (content : Content) (state : MapState)
     → RepresentsMap a m content state → key_values_of content ≡ content_in state
 content_same a m content state shown =
-    sym (changed-twice value_in (by_serial a m) content) ∙ ap (changed value_in) shown.same
-    ∙ changed-twice value_in (by_place state.row.value_size state.block) (entries state.places)
+    sym (changed-twice bytes_there (by_serial a m) content) ∙ ap (changed bytes_there) shown.same
+    ∙ changed-twice bytes_there (by_place state.row.value_size state.block) (entries state.places)
 
 same_each : (contents : List Content) (states : List MapState) → length contents ≡ length states
     → ((m : ℕ) → m < length states
@@ -74,17 +74,17 @@ module _ (p : Program) (clock : ℕ → ℕ) (n : ℕ) (head : FrameHead) (packe
   in_time = h.ends clock head packet (contents_of maps) h.answers h.given
 
   -- the run of words ends within n moves
-  pub start_Ends : EndsSafely p clock (start_of head packet frames maps) n
-  start_Ends =
-      related_Ends p clock h.program h.answers n (start_layout packet maps) first
+  pub start_ends : EndsSafely p clock (start_of head packet frames maps) n
+  start_ends =
+      related_Ends p clock h.is_program h.answers n (start_layout packet maps) first
       (start_of head packet frames maps) related is_state in_time
 
   -- and what it leaves is the outcome
-  pub start_Answers : (number steps : ℕ) (v : Words)
+  pub start_returns : (number steps : ℕ) (v : Words)
       → Exits p clock (start_of head packet frames maps) number steps v
       → ReturnsAsModel p clock n head packet maps number steps v
-  start_Answers number steps v e =
-      let F = related_Exits p clock h.program h.answers n (start_layout packet maps) first
+  start_returns number steps v e =
+      let F = related_Exits p clock h.is_program h.answers n (start_layout packet maps) first
       (start_of head packet frames maps) v number steps related is_state in_time e in
       let last : State = F.follows.state in
       record {
@@ -112,6 +112,6 @@ module _ (p : Program) (clock : ℕ → ℕ) (n : ℕ) (head : FrameHead) (packe
         contents_are = sym (contents_same p F.follows.layout last v F.follows.related F.follows.is);
         clock_calls_are = F.follows.related.clock_calls;
         whole = F.follows.related.frames.whole;
-        back = e.first;
+        back = e.outer;
         rows = F.follows.related.maps.rows;
       }

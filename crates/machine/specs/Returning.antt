@@ -17,7 +17,7 @@ use Rattle.word_machine.specs.Words.{Words}
 -- `max_maps`
 pub record IsStart (p : Program) (clock : ℕ → ℕ) (n : ℕ) (head : FrameHead) (packet frames : List ℕ)
     (maps : List MapState) : Type 0 where
-  pub program : IsProgram p
+  pub is_program : IsProgram p
   pub ends : StartsEnd p n
   pub answers : IsClock clock
   pub given : IsGiven p head packet (contents_of maps)

@@ -1,5 +1,5 @@
 use Rattle.std.proofs.Common.{rules}
-use Rattle.maps.proofs.helpers.update_answer.Goals as goal
+use Rattle.maps.proofs.helpers.update_answer_by.Goals as goal
 
 pub returns-then-flags-gt-EXIST : goal.returns-then-flags-gt-EXIST
 returns-then-flags-gt-EXIST c = search rules

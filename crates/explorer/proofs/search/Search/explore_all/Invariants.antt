@@ -1,7 +1,7 @@
 use Rattle.std.proofs.Common.{◌≡◌, ◌+◌, length}
 use Rattle.explorer.specs.Search.{IsNext}
 use Rattle.explorer.specs.Listening.{FollowsNext}
-use Rattle.explorer.proofs.search.Search.run.Given as goal
+use Rattle.explorer.proofs.search.Search.explore_all.Given as goal
 
 abbrev pub invariant-loop-explored : goal.invariant-loop-explored
 invariant-loop-explored g l = record {

@@ -3,7 +3,7 @@ use Rattle.walks.specs.Counts.{Takes, ItsOwn}
 use Rattle.explorer.proofs.Counting.{CountsTo-takes}
 use Rattle.explorer.proofs.Walking.{Path-walks}
 use Rattle.explorer.proofs.Telling.{told_begin, refused_begin}
-use Rattle.explorer.proofs.search.Search.run.Goals as goal
+use Rattle.explorer.proofs.search.Search.explore_all.Goals as goal
 
 pub returns-in-Explore-next_move-clause-stops : goal.returns-in-Explore-next_move-clause-stops
 returns-in-Explore-next_move-clause-stops g c =
@@ -14,18 +14,18 @@ returns-in-Explore-next_move-clause-stops g c =
         state = search.current;
         steps = length search.path.items;
         walk =
-            Path-walks p search.finished search.stored.states.items search.path.items goes.at.first
+            Path-walks p search.finished search.states.states.items search.path.items goes.at.first
             search.current goes.at.begins goes.at.path;
         slot_is = refl;
-        begins = goes.ready.begins;
+        begins = goes.ready.insn_begins;
       },
       (
         goes.at.first,
         goes.at.begins,
         subst (λ n. Takes p goes.at.first n) (omega (arith, c.loop-explored.invariant.explored))
             (CountsTo-takes p search.path.items goes.at.first search.current
-            (search.finished + length search.path.items) 1 goes.spent
-            (ItsOwn search.current 1 goes.ready.begins refl)),
+            (search.finished + length search.path.items) 1 goes.counts
+            (ItsOwn search.current 1 goes.ready.insn_begins refl)),
       ),
     )
 

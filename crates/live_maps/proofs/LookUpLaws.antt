@@ -91,23 +91,23 @@ module _ (next : ℕ) (maps : List MapState) (all : List Serials) (m : ℕ)
     only-present array one =
         let mine = h.each m inside in
         let long = mine.long in
-        let places : old.places ≡ array_places 1 =
+        let same : old.places ≡ array_places 1 =
         mine.is_map.array_places array ∙ ap array_places one in (
           omega arith,
           sym (ap one_serial
               (here ∙ ap (λ (P : Places). changed (stored old (serials_at all m)) (entries P))
-              places)
+              same)
               ∙ ap (λ (es : List (List ℕ × ℕ)). one_serial
               (changed (stored old (serials_at all m)) es)) (entries-array_one)),
         )
       where
-        no_entries : (es : List (List ℕ × ℕ)) → length es ≡ 0 → es ≡ []
-        no_entries [] e = refl
-        no_entries (x ∷ es) e = absurd (omega arith)
+        no_pairs : (es : List (List ℕ × ℕ)) → length es ≡ 0 → es ≡ []
+        no_pairs [] e = refl
+        no_pairs (x ∷ es) e = absurd (omega arith)
 
         entries-none : entries (array_places 0) ≡ []
         entries-none =
-            no_entries (entries (array_places 0))
+            no_pairs (entries (array_places 0))
             (sym (len-entries (array_places 0)) ∙ len-empty key_order ℕ)
 
         entries-array_one : entries (array_places 1) ≡ (little_bytes 4 0, 0) ∷ []
@@ -173,22 +173,23 @@ serials-once next maps all m n h p q a b = elim (cases_lt m (length maps)) [
       absurd cc
 ]
 
--- ---- what a search of the serials shows
+-- ---- what the place of a serial shows
 
 module _ (next : ℕ) (maps : List MapState) (all : List Serials) (m n : ℕ)
     (h : AreLive next maps all) where
-  abbrev searched : Option ℕ
-  searched = position (has_serial n) (serials_at all m)
+  abbrev serial_place : Option ℕ
+  serial_place = position (has_serial n) (serials_at all m)
 
-  pub searched-none : searched ≡ None → value_bytes (content_at (live_of maps all next) m) n ≡ None
-  searched-none e = elim (cases_lt m (length maps)) [
+  pub serial_place-none : serial_place ≡ None
+      → value_bytes (content_at (live_of maps all next) m) n ≡ None
+  serial_place-none e = elim (cases_lt m (length maps)) [
     | inl inside ↦
         value-absent next maps all m h inside n (position-no_serial n (serials_at all m) e)
     | inr past ↦ value-past next maps all m h past n
   ]
 
-  pub searched-inside : (p : ℕ) → searched ≡ Some p → m < length maps
-  searched-inside p e = elim (cases_lt m (length maps)) [
+  pub serial_place-inside : (p : ℕ) → serial_place ≡ Some p → m < length maps
+  serial_place-inside p e = elim (cases_lt m (length maps)) [
     | inl inside ↦ inside
     | inr past ↦
         let long = h.long in
@@ -197,14 +198,14 @@ module _ (next : ℕ) (maps : List MapState) (all : List Serials) (m n : ℕ)
         absurd cc
   ]
 
-  pub searched-some : (p : ℕ) (e : searched ≡ Some p)
+  pub serial_place-some : (p : ℕ) (e : serial_place ≡ Some p)
       → (p < (map_at maps m).row.entries)
       × (value_bytes (content_at (live_of maps all next) m) n
       ≡ Some (block_row (map_at maps m).row.value_size (map_at maps m).block p))
       × (length (block_row (map_at maps m).row.value_size (map_at maps m).block p)
       ≡ (map_at maps m).row.value_size)
-  searched-some p e =
-      let inside = searched-inside p e in
+  serial_place-some p e =
+      let inside = serial_place-inside p e in
       let there = position-serial n p (serials_at all m) e in
       let r = value-present next maps all m h inside n p there in
       let old = map_at maps m in (

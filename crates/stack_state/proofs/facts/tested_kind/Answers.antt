@@ -1,5 +1,5 @@
 use Rattle.std.proofs.Common.{rules}
-use Rattle.stack_state.proofs.facts.tested.Goals as goal
+use Rattle.stack_state.proofs.facts.tested_kind.Goals as goal
 
 pub returns-then-null : goal.returns-then-null
 returns-then-null c = search rules

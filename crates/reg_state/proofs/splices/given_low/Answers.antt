@@ -2,7 +2,7 @@ use Rattle.std.proofs.Common.{◌%◌, ◌^◌, sym, subst, arith}
 use Rattle.ranges.specs.Lows as L
 use Rattle.known_bits.specs.Bits.{spliced}
 use Rattle.known_bits.proofs.Splices.{spliced_new_low, spliced_old_low}
-use Rattle.reg_state.proofs.splices.whole_low.Goals as goal
+use Rattle.reg_state.proofs.splices.given_low.Goals as goal
 
 pub returns-then-from-ge32-clause-contains : goal.returns-then-from-ge32-clause-contains
 returns-then-from-ge32-clause-contains c = λ x y old new.
