@@ -13,6 +13,7 @@ import unittest
 sys.dont_write_bytecode = True
 sys.path.append(os.path.join(os.path.dirname(os.path.abspath(__file__)), "../bench"))
 import damage
+import edits
 import file_map
 import fuzz
 import hostile_inputs
@@ -195,6 +196,77 @@ class Map(Tree):
 
 ONE = struct.pack("<QIII", 1000, 1, 0, 2) + b"\xca\xfe"
 FIRST, SKIPPED = struct.pack("<QIIII", 1000, 1, 0, 2, 0) + b"\xca\xfe", struct.pack("<QIIII", 2000, 1, 0, 0, 7)
+
+
+COUNTS = """//! Counts.
+use crate::Count;
+
+const MOST: u32 = 9;
+
+impl Count {
+    /// One more.
+    pub fn next(self) -> u32
+        requires { self.0 < 9 }
+    {
+        self.0 + 1
+    }
+}
+
+impl From<Count> for u32 {
+    fn from(count: Count) -> u32 {
+        count.0
+    }
+}
+
+fn most() -> u32 {
+    MOST
+}
+"""
+
+
+class Edits(Tree):
+    """A crate with a type whose methods are in another file."""
+
+    def setUp(self):
+        super().setUp()
+        self.write("crates/low/src/lib.rt", CODE + "\npub struct Count(u32);\n")
+        self.write("crates/low/src/counts.rt", COUNTS)
+        self.folder = os.path.join(self.room.name, "crates/low")
+
+    def edit(self, name, *lines):
+        self.write(f"edits/{name}", "file: src/counts.rt\n" + "".join(f"{line}\n" for line in lines))
+        return os.path.join(self.room.name, "edits", name)
+
+    def test_the_functions_that_an_edit_changes(self):
+        more = self.edit("more", "old:         self.0 + 1", "new:         self.0 + 2")
+        other = self.edit("other", "old:         count.0", "new:         0")
+        ten = self.edit("ten", "old: u32 = 9", "new: u32 = 10")
+        named = self.edit("named", "# refused in: counts::most", "old: u32 = 9", "new: u32 = 10")
+        changed = [edits.changed_functions(self.folder, path) for path in (more, other, ten, named)]
+        self.assertEqual(changed, [({"Count::next"}, True), ({"u32From::from"}, True), (set(), False), ({"counts::most"}, False)])
+        rounds = [[names for _, names in listed] for listed in edits.in_rounds(self.folder, [more, named, other, more])]
+        self.assertEqual(rounds, [[{"Count::next"}, {"u32From::from"}], [{"counts::most"}], [{"Count::next"}]])
+        self.assertEqual(sorted(edits.proof_folders(self.folder)), ["Count/next", "counts/most", "three"])
+
+    def test_edits_that_cannot_be_made(self):
+        lost = self.edit("lost", "old: self.1", "new: self.0")
+        self.assertEqual(edits.edited(self.folder, edits.changes(lost))[1], "its file has 0 times: self.1")
+        texts, why = edits.edited(self.folder, edits.changes(self.edit("more", "old:         self.0 + 1", "new: 1")))
+        self.assertEqual((why, texts["src/counts.rt"].count("self.0 + 1")), (None, 0))
+
+    def test_what_counts_as_a_refusal(self):
+        texts = {"src/counts.rt": COUNTS}
+        fails = "fn low::Count::next: not proved"
+        goal = "./proofs/Count/next/Answers.antt:3:5: error: `returns`: `omega`: the goal does not follow"
+        note = "note: src/counts.rt:11:9: it is not proved that what the function ensures holds"
+        by_name = "./proofs/Count/next/Answers.antt:3:5: error: module `Goals` has no `returns-in-Ok`"
+        beside = "./proofs/counts/most/Answers.antt:3:5: error: `returns`: no proof"
+        told = "fn low::Count::next: no proof: expected answers; `search` did not prove `returns`"
+        for said, wanted in (
+            ([goal, fails], goal), ([note, fails], note), ([by_name, fails], None), ([beside, fails], None), ([told], told),
+            ([goal, "fn low::Count::next: depends on a hole in `x`"], None), ([goal, "fn low::counts::next: not proved"], None),
+        ):
+            self.assertEqual(edits.refusal("low", "Count::next", said, texts), wanted, said)
 
 
 class Attacks(unittest.TestCase):

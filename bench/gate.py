@@ -36,7 +36,7 @@ def prover(pid):
         folder = os.readlink(f"/proc/{pid}/cwd")
     except OSError:
         return None
-    kind = "edits" if "/rt-edit-" in folder else "tests" if "--test" in words else "code"
+    kind = "edits" if "/edits-" in folder or "/rt-edit-" in folder else "tests" if "--test" in words else "code"
     return words[words.index("--crate-name") + 1], kind
 
 

@@ -1,6 +1,6 @@
 #!/usr/bin/env python3
-"""Says which modules take longest to prove, in each crate with must-fail edits, from a run of the
-gate: without a proof of its own.
+"""Says which modules take longest to prove, in each crate with must-fail edits, from a run of
+`rt ci` by itself: without a proof of its own.
 
 usage: python3 bench/seeds.py FOLDER [COUNT]
 

@@ -1,0 +1,149 @@
+"""What an edit says: the lines of a crate's code that it changes, and the functions that they are in.
+
+An edit is a file of lines 'file: PATH', below the crate, and of pairs 'old: TEXT' and 'new: TEXT', one line for one line; a text that is
+replaced is in its file once. Where no changed line is in a function, as if a constant is changed, a line
+'# refused in: FUNCTION' names the one that must be refused.
+"""
+import os
+import re
+import sys
+
+FUNCTION = re.compile(r'(\s*)(?:pub(?:\([a-z ]+\))? )?(?:const )?(?:unsafe )?(?:extern "C" )?fn (\w+)')
+BLOCK = re.compile(r"(?:unsafe )?impl(?:<[^{]*?>)? (?:(?P<trait>[\w:<>, '&]+) for )?&?(?P<type>\w+)")
+TYPE = re.compile(r"(?:pub(?:\([a-z ]+\))? )?(?:struct|enum|union) (\w+)")
+ROOTS = ("src/lib.rt", "src/main.rt")
+# A proof file that names what an edit removed, or that rests on such a file.
+BY_NAME = re.compile(r"has no field|is not in scope|has no `|was not admitted")
+
+
+def text_of(path):
+    with open(path, encoding="utf-8") as file:
+        return file.read()
+
+
+def changes(path):
+    """The changes that an edit lists, each as (file, old text, new text)."""
+    found, file, old = [], None, None
+    for line in text_of(path).split("\n"):
+        if line.startswith("file: "):
+            file = line[len("file: ") :].strip()
+        elif line.startswith("old: "):
+            old = line[len("old: ") :]
+        elif line.startswith("new:"):
+            found.append((file, old, line[len("new:") :].removeprefix(" ")))
+    return found
+
+
+def edited(folder, listed):
+    """The texts of a crate's files with these changes made, by file; and why a change cannot be made, or None."""
+    texts = {}
+    for file, old, new in listed:
+        if file not in texts:
+            if not file or not os.path.isfile(f"{folder}/{file}"):
+                return texts, f"there is no {file}"
+            texts[file] = text_of(f"{folder}/{file}")
+        if not old or texts[file].count(old) != 1:
+            return texts, f"its file has {texts[file].count(old) if old else 0} times: {(old or '').strip()}"
+        texts[file] = texts[file].replace(old, new)
+    return texts, None if texts else "it names no file"
+
+
+def module_of(file):
+    return [] if file in ROOTS else file[len("src/") : -len(".rt")].split("/")
+
+
+def is_end(line, indent):
+    """Whether a line ends the function whose header has this indent: its last brace, or a header that has no body."""
+    return line == indent + "}" or re.match(indent + r"[^ ].*(;|\})$", line) is not None
+
+
+def functions(file, text):
+    """The functions of a file: (first line, last line, name, type, trait). Lines begin at 0; outside a block `impl` there is no
+    type and no trait."""
+    lines, block = text.split("\n"), None
+    for at, line in enumerate(lines):
+        if line.startswith("}"):
+            block = None
+        elif BLOCK.match(line):
+            block = BLOCK.match(line)
+        header = FUNCTION.match(line)
+        if header:
+            end = next((it for it in range(at, len(lines)) if is_end(lines[it], header[1])), at)
+            own = block if header[1] else None
+            trait = re.sub(r"<.*", "", own["trait"] or "").split("::")[-1].strip() if own else None
+            yield at, end, header[2], own and own["type"], trait
+
+
+def shown(file, name, kind, trait):
+    """A function's name as a check ends it: with its type (and trait), or with its module."""
+    return "::".join(([kind + trait] if kind else module_of(file)) + [name])
+
+
+def changed_functions(folder, path):
+    """The names of the functions in which an edit must be refused, and whether all that it changes is in them."""
+    names, is_all = set(), True
+    for file, old, _ in changes(path):
+        text = text_of(f"{folder}/{file}")
+        at = text[: text.find(old)].count("\n")
+        inside = [shown(file, *it) for first, last, *it in functions(file, text) if first <= at <= last]
+        names.update(inside[-1:])
+        is_all = is_all and bool(inside)
+    return names | set(re.findall(r"(?m)^# refused in: (\S+)$", text_of(path))), is_all
+
+
+def is_in(name, file, text, line):
+    """Whether a line of a file, from 0, is in the function of this name."""
+    return any(first <= line <= last and shown(file, *it) == name for first, last, *it in functions(file, text))
+
+
+def source_files(folder):
+    for at, _, names in os.walk(f"{folder}/src"):
+        for name in sorted(names):
+            if name.endswith(".rt"):
+                yield os.path.relpath(f"{at}/{name}", folder)
+
+
+def proof_folders(folder):
+    """Where the proofs of a crate's functions are, below proofs/, but for those of a trait."""
+    texts = {file: text_of(f"{folder}/{file}") for file in source_files(folder)}
+    homes = {}
+    for file, text in texts.items():
+        for kind in re.findall(rf"(?m)^{TYPE.pattern}", text):
+            homes.setdefault(kind, []).append(module_of(file))
+    for file, text in texts.items():
+        for _, _, name, kind, trait in functions(file, text):
+            if kind is None:
+                yield "/".join(module_of(file) + [name])
+            elif not trait and len(homes.get(kind, ())) == 1:
+                yield "/".join(homes[kind][0] + [kind, name])
+
+
+def refusal(crate, name, said, texts):
+    """The line that says which goal of a function is not proved, or None."""
+    ends = rf"fn {crate}::((?:\S*::)?{re.escape(name)}): (not proved|no proof)"
+    line = next((it for it in said if re.match(ends, it)), None)
+    if line and "did not prove" in line:
+        return line
+    own = line and "proofs/" + re.match(ends, line)[1].replace("::", "/") + "/"
+    for it in said if line else ():
+        at = re.match(r"(?:note: )?(?:\./)?([\w/+-]+\.(?:antt|rt)):(\d+):\d+: (.*)", it)
+        if at and at[1].startswith(own) and at[3].startswith("error") and not BY_NAME.search(at[3]):
+            return it
+        if at and "is not proved that" in at[3] and is_in(name, at[1], texts.get(at[1], ""), int(at[2]) - 1):
+            return it
+    return None
+
+
+def in_rounds(folder, paths):
+    """The edits of a crate in lists that are checked together, each with the functions that it changes: those of a list change
+    different functions, and nothing else."""
+    rounds = []
+    for path in paths:
+        names, is_all = changed_functions(folder, path)
+        fits = [it for it in rounds if is_all and it[0] is not None and not it[0] & names]
+        if fits:
+            fits[0][0].update(names)
+            fits[0][1].append((path, names))
+        else:
+            rounds.append((set(names) if is_all else None, [(path, names)]))
+    return [listed for _, listed in rounds]
