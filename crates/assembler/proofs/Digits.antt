@@ -13,7 +13,7 @@ use Rattle.std.proofs.lemmas.Str.Parse.{digit_from_value}
 use Rattle.lexer.specs.declared.tokens.Token.TheVariants.{Number}
 use Rattle.lexer.specs.declared.tokens.Lexeme.TheVariants.{Solid}
 use Rattle.lexer.specs.Lexing.{is_word_byte, number_at, number_after, number_from, digits_number, lexeme_at}
-use Rattle.assembler.proofs.PlainTexts.{StatementSoFar, read_rest}
+use Rattle.assembler.proofs.PlainTexts.{PlainReadSoFar, read_rest}
 use Rattle.assembler.proofs.FrontTokens.{token}
 
 -- digits up to the first byte that is not a digit
@@ -110,10 +110,10 @@ lexeme-decimal c (d ∷ ds) rest h small low =
     ∙ ap (λ k. Some (Solid (Number (digits_value 10 (d ∷ ds))), k)) (zero-add (length (d ∷ ds)))
 
 -- what was read, with one more number
-abbrev with_number : StatementSoFar → ℕ → StatementSoFar
+abbrev with_number : PlainReadSoFar → ℕ → PlainReadSoFar
 with_number s n = record { tokens = s.tokens ++ Number n ∷ []; parts = s.parts }
 
-pub decimal-read : (n c : ℕ) (rest : List ℕ) (s : StatementSoFar) → n < 2 ^ 64 → c < 48
+pub decimal-read : (n c : ℕ) (rest : List ℕ) (s : PlainReadSoFar) → n < 2 ^ 64 → c < 48
     → read_rest (decimal n ++ c ∷ rest) 0 s
     ≡ read_rest (c ∷ rest) 0 (record { tokens = s.tokens ++ Number n ∷ []; parts = s.parts })
 decimal-read n c rest s small low =
@@ -124,7 +124,7 @@ decimal-read n c rest s small low =
     ∙ ap (λ v. read_rest (c ∷ rest) 0 (with_number s v)) own.1
 
 -- hexadecimal digits after 0x
-pub hexadecimal-read : (n c : ℕ) (rest : List ℕ) (s : StatementSoFar) → n < 2 ^ 64 → c < 48
+pub hexadecimal-read : (n c : ℕ) (rest : List ℕ) (s : PlainReadSoFar) → n < 2 ^ 64 → c < 48
     → read_rest (48 ∷ 120 ∷ (digits 16 false n ++ c ∷ rest)) 0 s
     ≡ read_rest (c ∷ rest) 0 (record { tokens = s.tokens ++ Number n ∷ []; parts = s.parts })
 hexadecimal-read n c rest s small low =

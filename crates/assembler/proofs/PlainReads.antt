@@ -27,7 +27,7 @@ use Rattle.assembler.proofs.PlainTexts.{unnamed, unnamed_reading, plain_statemen
 use Rattle.assembler.proofs.PlainTexts as plain
 
 -- the part of it that the simpler reading has: all but the spans, the labels and the uses of names
-abbrev pub shadow : ReadSoFar → plain.StatementSoFar
+abbrev pub shadow : ReadSoFar → plain.PlainReadSoFar
 shadow s = record {
   tokens = s.tokens;
   parts = record { version = s.version; maps = s.maps; insns = s.insns };
@@ -38,22 +38,22 @@ abbrev pub Bare : ReadSoFar → Type 0
 Bare s = (s.uses ≡ []) × (s.labels ≡ [])
 
 -- the result is that of the simpler reading, and no name is used or defined
-abbrev pub ReadsPlainly : Result ReadSoFar Refusal → plain.StatementSoFar → Type 0
+abbrev pub ReadsPlainly : Result ReadSoFar Refusal → plain.PlainReadSoFar → Type 0
 ReadsPlainly r final = (s : ReadSoFar) × (r ≡ Ok s) × (shadow s ≡ final) × (Bare s)
 
-abbrev some : plain.StatementSoFar → Option plain.StatementSoFar
+abbrev some : plain.PlainReadSoFar → Option plain.PlainReadSoFar
 some s = Some s
 
-pub same_some : (s t : plain.StatementSoFar) → some s ≡ some t → s ≡ t
+pub same_some : (s t : plain.PlainReadSoFar) → some s ≡ some t → s ≡ t
 same_some s t h = cc
 
-abbrev keep_progress : Bool → plain.StatementSoFar → Option plain.StatementSoFar
+abbrev keep_progress : Bool → plain.PlainReadSoFar → Option plain.PlainReadSoFar
 keep_progress b s = plain.keep b s
 
-abbrev pub none : Option plain.StatementSoFar
+abbrev pub none : Option plain.PlainReadSoFar
 none = None
 
-pub never : (final : plain.StatementSoFar) → none ≡ Some final → ⊥
+pub never : (final : plain.PlainReadSoFar) → none ≡ Some final → ⊥
 never final h = cc
 
 -- ---- a label is no instruction
@@ -142,7 +142,7 @@ at_end-behind s i other more e allowed fits =
     })) fits
 
 added-agrees : (s : ReadSoFar) (i : Insn) (o : Option Objection) (room : Bool)
-    (final : plain.StatementSoFar) → objection_to_load s.maps i ≡ o
+    (final : plain.PlainReadSoFar) → objection_to_load s.maps i ≡ o
     → has_room (s.insns ++ i ∷ []) ≡ room → (length s.tokens == 0) ≡ false
     → plain_statement s.tokens ≡ Some i → Bare s
     → plain.keep (is_none o && room) (shadow (with_one s i)) ≡ Some final
@@ -158,7 +158,7 @@ added-agrees s i None true final allowed fits more e unused h = (
   unused,
 )
 
-pub statement-agrees : (s : ReadSoFar) (o : Option Insn) (final : plain.StatementSoFar)
+pub statement-agrees : (s : ReadSoFar) (o : Option Insn) (final : plain.PlainReadSoFar)
     → plain_statement s.tokens ≡ o → (length s.tokens == 0) ≡ false → Bare s
     → added (shadow s).parts o ≡ Some final → ReadsPlainly (at_end s) final
 statement-agrees s None final e more unused h = absurd (never final h)
@@ -221,7 +221,7 @@ row-behind s row other more line e fits =
     (if b then None else Some (record { kind = MapLine; token = 0 }))
     >>= λ u. ended s 0 (Row row)) fits
 
-taken-agrees : (s : ReadSoFar) (row : MapDef) (taken : Bool) (final : plain.StatementSoFar)
+taken-agrees : (s : ReadSoFar) (row : MapDef) (taken : Bool) (final : plain.PlainReadSoFar)
     → takes_row s.insns s.maps row ≡ taken → (length s.tokens == 0) ≡ false
     → begins_map_line (slice_get s.tokens 0) ≡ true → map_line s.tokens ≡ found row → Bare s
     → plain.keep taken (shadow (with_row s row)) ≡ Some final → ReadsPlainly (at_end s) final
@@ -235,7 +235,7 @@ taken-agrees s row true final t more line e unused h = (
   unused,
 )
 
-pub row-agrees : (s : ReadSoFar) (r : Result MapDef Wrong) (final : plain.StatementSoFar)
+pub row-agrees : (s : ReadSoFar) (r : Result MapDef Wrong) (final : plain.PlainReadSoFar)
     → map_line s.tokens ≡ r → (length s.tokens == 0) ≡ false
     → begins_map_line (slice_get s.tokens 0) ≡ true → Bare s
     → added_row (shadow s).parts r ≡ Some final → ReadsPlainly (at_end s) final
@@ -280,7 +280,7 @@ first-bare : (s : ReadSoFar) → s.labels ≡ [] → is_start (shadow s).parts �
 first-bare s unlabelled h =
     ap (λ (ls : List (List ℕ × ℕ)). length ls == 0 && is_start (shadow s).parts) unlabelled ∙ h
 
-started-agrees : (s : ReadSoFar) (b : Bool) (final : plain.StatementSoFar)
+started-agrees : (s : ReadSoFar) (b : Bool) (final : plain.PlainReadSoFar)
     → is_start (shadow s).parts ≡ b → begins_version_line (slice_get s.tokens 0) ≡ true
     → version_line s.tokens ≡ version_read → Bare s
     → keep_progress b (record { tokens = []; parts = plain.with_version (shadow s).parts })
@@ -295,7 +295,7 @@ started-agrees s true final first line e unused h = (
   unused,
 )
 
-pub version-agrees : (s : ReadSoFar) (r : Result Statement Wrong) (final : plain.StatementSoFar)
+pub version-agrees : (s : ReadSoFar) (r : Result Statement Wrong) (final : plain.PlainReadSoFar)
     → version_line s.tokens ≡ r → begins_version_line (slice_get s.tokens 0) ≡ true → Bare s
     → added_version (shadow s).parts r ≡ Some final → ReadsPlainly (at_end s) final
 version-agrees s (Ok Version) final e line unused h =

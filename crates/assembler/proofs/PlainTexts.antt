@@ -48,8 +48,8 @@ pub record Parts : Type 0 where
   pub maps : List MapDef
   pub insns : List Insn
 
--- the tokens of the statement so far, and what comes before it
-pub record StatementSoFar : Type 0 where
+-- what was read so far: the tokens of the statement, and what comes before it
+pub record PlainReadSoFar : Type 0 where
   pub tokens : List Token
   pub parts : Parts
 
@@ -70,21 +70,21 @@ is_start ps = is_one ps.version && (length ps.maps == 0 && (length ps.insns == 0
 abbrev pub takes : Parts → Insn → Bool
 takes ps i = is_none (objection_to_load ps.maps i) && has_room (ps.insns ++ i ∷ [])
 
-abbrev pub added : Parts → Option Insn → Option StatementSoFar
+abbrev pub added : Parts → Option Insn → Option PlainReadSoFar
 added ps None = None
 added ps (Some i) = keep (takes ps i) (record { tokens = []; parts = with_insn ps i })
 
-abbrev pub added_row : Parts → Result MapDef Wrong → Option StatementSoFar
+abbrev pub added_row : Parts → Result MapDef Wrong → Option PlainReadSoFar
 added_row ps (Err wrong) = None
 added_row ps (Ok row) =
     keep (takes_row ps.insns ps.maps row) (record { tokens = []; parts = with_row ps row })
 
-abbrev pub added_version : Parts → Result Statement Wrong → Option StatementSoFar
+abbrev pub added_version : Parts → Result Statement Wrong → Option PlainReadSoFar
 added_version ps (Ok Version) = keep (is_start ps) (record { tokens = []; parts = with_version ps })
 added_version ps r = None
 
 -- what was read once a statement has ended
-abbrev pub at_end : StatementSoFar → Option StatementSoFar
+abbrev pub at_end : PlainReadSoFar → Option PlainReadSoFar
 at_end s =
     if length s.tokens == 0 then Some s
     else if begins_version_line (slice_get s.tokens 0)
@@ -92,19 +92,19 @@ at_end s =
     else if begins_map_line (slice_get s.tokens 0) then added_row s.parts (map_line s.tokens)
     else added s.parts (plain_statement s.tokens)
 
-abbrev pub accept : StatementSoFar → Lexeme → Option StatementSoFar
+abbrev pub accept : PlainReadSoFar → Lexeme → Option PlainReadSoFar
 accept s Blank = Some s
 accept s End = at_end s
 accept s (Solid t) = Some (record { tokens = s.tokens ++ t ∷ []; parts = s.parts })
 
 -- the result of reading the bytes of a text after the first k of them
-abbrev pub read_rest : List ℕ → ℕ → StatementSoFar → Option StatementSoFar
+abbrev pub read_rest : List ℕ → ℕ → PlainReadSoFar → Option PlainReadSoFar
 read_rest [] k s = at_end s
 read_rest (b ∷ bs) (suc k) s = read_rest bs k s
 read_rest (b ∷ bs) zero s =
     lexeme_at (b ∷ bs) >>= λ (p : Lexeme × ℕ). accept s p.0 >>= λ t. read_rest bs (p.1 - 1) t
 
-abbrev pub start : StatementSoFar
+abbrev pub start : PlainReadSoFar
 start = record { tokens = []; parts = record { version = One; maps = []; insns = [] } }
 
 -- ---- a map line is no instruction

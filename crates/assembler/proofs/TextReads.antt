@@ -1,4 +1,4 @@
--- The canonical text of an image is read back: it spells that image.
+-- The canonical text of an image's program is read back: it spells that program.
 use Rattle.std.proofs.lemmas.List.Sums.{sum_by-append, sum_by-cons}
 use Rattle.std.proofs.lemmas.List.Elements.{All-nil, All-cons, All-head, All-tail}
 use Rattle.std.proofs.Common.{◌≡◌, ℕ, suc, ◌+◌, ◌≤◌, ◌==◌, nat_lt, nat_le, lt-ltb, le-leb, sum_by, All, Bool, true, false, not, if◌then◌else◌, is_none, List, [], ◌∷◌, ◌++◌, length, Option, Some, None, Result, Ok, Err, refl, sym, ap, ◌∙◌, arith, append_assoc, append-nil, length-append, le-ltb, ne_eqb}
@@ -123,7 +123,7 @@ all-named maps (None ∷ xs) h = all-named maps xs h
 all-named maps (Some i ∷ xs) h =
     All-cons (NamesRows maps) i (instructions xs) h.0 (all-named maps xs h.1)
 
--- the image of an image's version, rows and instructions is that image
+-- the program of the version, rows and instructions of an image's program is that program
 image-again : (p : Program) → IsImage p → program_of p.version p.maps (instructions p.insns) ≡ p
 image-again p h =
     ap (λ xs. let q : Program = record p { insns = xs } in q) (slots-instructions p.insns h.code)
@@ -167,12 +167,12 @@ finished-unused s parts e unused =
     ap (λ us. resolved (slot_in s.labels) us s.insns >>= text.program_of s.version s.maps) unused
     ∙ ap (λ (ps : Parts). text.program_of ps.version ps.maps ps.insns) e
 
--- the canonical text of an image spells that image
+-- the canonical text of an image's program spells that program
 pub program_in-canonical_text : (p : Program) → IsImage p → program_in (canonical_text p) ≡ Ok p
 program_in-canonical_text p h =
     let went = read-agrees (canonical_text p) 0 0 text.start
     (draft [] (parts_of p.version p.maps (instructions p.insns))) (refl, refl) (text-read p h) in
     ap (λ (r : Result ReadSoFar Refusal). r >>= finished) went.1
     ∙ finished-unused went.0 (parts_of p.version p.maps (instructions p.insns))
-    (ap (λ (s : plain.StatementSoFar). s.parts) went.2) went.3.0
+    (ap (λ (s : plain.PlainReadSoFar). s.parts) went.2) went.3.0
     ∙ program_of-instructions p h

@@ -37,12 +37,12 @@ use Rattle.lexer.specs.declared.tokens.Token.TheVariants.{Named, Number, Signed}
 use Rattle.lexer.specs.declared.tokens.Lexeme.TheVariants.{Solid}
 use Rattle.lexer.specs.Lexing.{is_word_byte, lexeme_at}
 use Rattle.assembler.specs.Spells.{assigns, changes, compares, extends}
-use Rattle.assembler.proofs.PlainTexts.{Parts, StatementSoFar, read_rest}
+use Rattle.assembler.proofs.PlainTexts.{Parts, PlainReadSoFar, read_rest}
 use Rattle.assembler.proofs.FrontTokens.{token}
 use Rattle.assembler.proofs.Digits.{decimal-read, no-equals}
 
 -- the tokens of the statement so far, and what comes before it
-abbrev pub draft : List Token → Parts → StatementSoFar
+abbrev pub draft : List Token → Parts → PlainReadSoFar
 draft ts ps = record { tokens = ts; parts = ps }
 
 -- ---- registers, before a byte that is part of no word

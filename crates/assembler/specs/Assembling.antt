@@ -29,7 +29,7 @@ use Rattle.assembler.specs.Labels.{with_label, slot_in}
 use Rattle.assembler.specs.Naming.{NameUse, resolved}
 use Rattle.assembler.specs.Positions.{error_at}
 
--- where a token begins in the text, and its bytes
+-- where a token, or the lexeme that is read next, begins in the text, and its bytes
 abbrev pub TokenSpan : Type 0
 TokenSpan = ℕ × List ℕ
 
@@ -75,9 +75,9 @@ refused_at at (Err kind) = Err (record { kind = kind; offset = at })
 -- fits
 abbrev pub refusal_of : ReadSoFar → ℕ → Wrong → Refusal
 refusal_of s k Form = record { kind = NoForm; offset = begins_at s }
-refusal_of s k (Range at) =
+refusal_of s k (Range token) =
     if has_form (drop k s.tokens)
-    then (record { kind = OutOfRange; offset = offset_or (slice_get s.spans (at + k)) 0 })
+    then (record { kind = OutOfRange; offset = offset_or (slice_get s.spans (token + k)) 0 })
     else record { kind = NoForm; offset = begins_at s }
 
 abbrev pub unless_wrong : {A : Type 0} → ReadSoFar → ℕ → Result A Wrong → Result A Refusal
@@ -94,7 +94,7 @@ unless_refused s k (Some o) = Err (refused_by s k o)
 
 -- ---- instructions
 
--- whether the instructions fill no more slots than an image has
+-- whether the instructions fill no more slots than an image may have
 abbrev pub has_room : List Insn → Bool
 has_room insns = not (nat_lt max_slots (length (slots insns)))
 
@@ -165,7 +165,7 @@ abbrev pub is_first : ReadSoFar → Bool
 is_first s =
     length s.labels == 0 && (is_one s.version && (length s.maps == 0 && (length s.insns == 0)))
 
--- the statement, which follows a label of k tokens, is added to what was read
+-- what a statement spells after its label of k tokens is added to what was read
 abbrev pub ended : ReadSoFar → ℕ → Statement → Result ReadSoFar Refusal
 ended s k said.Empty = Ok
     (record {
@@ -200,7 +200,7 @@ ended s k (said.Row row) = Ok
     })
 ended s k (said.Instruction r) = added s k r
 
--- the end of a statement that follows a label of k tokens
+-- the end of a statement whose label has k tokens
 abbrev pub at_end_behind : ReadSoFar → ℕ → Result ReadSoFar Refusal
 at_end_behind s k =
     unless_wrong s k (spelled_behind k (drop k s.tokens))

@@ -117,7 +117,7 @@ impl<'a> Draft<'a> {
         self.end(statement, label_tokens)
     }
 
-    // Ends a statement that tokens spell, after a label of `label_tokens` tokens.
+    // Ends a statement whose label has `label_tokens` tokens, with what it spells.
     fn end(&mut self, statement: Statement, label_tokens: usize) -> Result<(), Refusal>
         ensures { IsAsWanted (λ _. progress_of self.new) result
             (ended (progress_of self.old) label_tokens statement) }

@@ -29,7 +29,7 @@ pub second_failed : (old mid new : Option (List ℕ)) (first rest bytes : List �
 second_failed old mid new first rest bytes e p q =
     AppendsBeginning-second old mid new first rest (subst (Appends old mid) e p) q
 
--- the same text under another name, whether it was written or not
+-- a text that is equal to another, whether it was written or not
 pub ok_text : {X E : Type 0} (r : Result X E) (old new : Option (List ℕ)) (bytes text : List ℕ)
     → bytes ≡ text → OnOk r (Appends old new bytes) → OnOk r (Appends old new text)
 ok_text r old new bytes text e h = subst (λ (l : List ℕ). OnOk r (Appends old new l)) e h

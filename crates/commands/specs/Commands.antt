@@ -38,8 +38,8 @@ LoadsNone path old new result =
 abbrev pub ReadsImage : (Program → Type 0) → Type 0
 ReadsImage P = (p : Program) × IsImage p × P p
 
--- the image could not be read, or after it the table; or one of the two is refused, and the text at
--- the end of the message says what is known
+-- the image could not be read, or after it the table; or one of the two is refused, and the lines
+-- at the end of the message say what is known
 abbrev pub ShowsNone : TableFiles → Option (List ℕ) → Option (List ℕ) → Ending → Type 0
 ShowsNone files old new result =
     Plainly (LoadsNone files.image old new) result
@@ -99,7 +99,7 @@ pub record ProvesSome (p : Program) (bound : ℕ) (path : List ℕ) (old new : O
 
 -- ---- the commands
 
--- `trace`: the text at the end of the message says where runs stopped without an action
+-- `trace`: the lines at the end of the message say where runs stopped without an action
 abbrev pub TracesFile : RunFiles → ℕ → Option (List ℕ) → Option (List ℕ) → Ending → Type 0
 TracesFile files limit old new result =
     Plainly (LoadsNone files.image old new) result
@@ -117,7 +117,7 @@ AcceptsAndRuns files p old new result =
     (bound : ℕ) × IsBoundOf p bound
     × RunsOn files (record { program = p; bound = bound }) old new result
 
--- `run`: if the program is refused, the text at the end of the message says what is known
+-- `run`: if the program is refused, the lines at the end of the message say what is known
 abbrev pub RunsFile : RunFiles → Option (List ℕ) → Option (List ℕ) → Ending → Type 0
 RunsFile files old new result =
     Plainly (LoadsNone files.image old new) result
@@ -149,7 +149,7 @@ AcceptsAndProves table p old new result =
     (bound : ℕ) × IsBoundOf p bound
     × (MakesNone table old new result ⊎ ProvesSome p bound table old new result)
 
--- `prove`: if the program is refused, the text at the end of the message says what is known
+-- `prove`: if the program is refused, the lines at the end of the message say what is known
 abbrev pub ProvesFile : TableFiles → Option (List ℕ) → Option (List ℕ) → Ending → Type 0
 ProvesFile files old new result =
     Plainly (LoadsNone files.image old new) result
@@ -164,20 +164,20 @@ DisassemblesFile path old new result = LoadsNone path old new result
 
 -- a text was read, and it spells a program with the property P
 abbrev pub ReadsText : List ℕ → (Program → Type 0) → Type 0
-ReadsText source P = (p : Program) × (assembled source ≡ Ok p) × P p
+ReadsText text P = (p : Program) × (assembled text ≡ Ok p) × P p
 
 -- a text that was read is refused, or its image is written to the file at the path
 abbrev pub Assembles : List ℕ → List ℕ → Option (List ℕ) → Option (List ℕ) → TaskOutcome → Type 0
-Assembles source image old new result =
-    RefusesText source old new result
-    ⊎ ReadsText source (λ p. MakesNone image old new result ⊎ StoresSome p image old new result)
+Assembles text image old new result =
+    RefusesText text old new result
+    ⊎ ReadsText text (λ p. MakesNone image old new result ⊎ StoresSome p image old new result)
 
--- `asm`: if the text is refused, the text at the end of the message shows its line
+-- `asm`: if the text is refused, the lines at the end of the message show its line
 abbrev pub AssemblesFile : List ℕ → List ℕ → Option (List ℕ) → Option (List ℕ) → Ending → Type 0
-AssemblesFile text image old new result =
-    Plainly (ReadsNone text old new) result
-    ⊎ ((source : List ℕ) × Assembles source image old new result.outcome
-    × IsKnownOfText source result)
+AssemblesFile path image old new result =
+    Plainly (ReadsNone path old new) result
+    ⊎ ((text : List ℕ) × Assembles text image old new result.outcome
+    × IsKnownOfText text result)
 
 -- ---- the program
 
@@ -190,5 +190,5 @@ Serves (Some (Run files (Some table))) old new result = RunsShown files table ol
 Serves (Some (Verify path)) old new result = VerifiesFile path old new result
 Serves (Some (Prove files)) old new result = ProvesFile files old new result
 Serves (Some (Recheck files)) old new result = RechecksFile files old new result
-Serves (Some (Assemble text image)) old new result = AssemblesFile text image old new result
+Serves (Some (Assemble path image)) old new result = AssemblesFile path image old new result
 Serves (Some (Disassemble path)) old new result = Plainly (DisassemblesFile path old new) result

@@ -118,14 +118,14 @@ RefusesText source old new result =
     ⊎ ((error : AsmError) × (assembled source ≡ Err error) × (error.kind ≢ kind.Memory)
     × Says old new (text_line error) (Refused (rejection.Text error)) result)
 
--- the file with this name cannot be written, or memory ran out
+-- the file at this path cannot be written, or memory ran out
 abbrev pub IsStoreFailure : List ℕ → TaskOutcome → Type 0
-IsStoreFailure name result = (result ≡ NoMemory) ⊎ IsWriteFailure name result
+IsStoreFailure path result = (result ≡ NoMemory) ⊎ IsWriteFailure path result
 
 -- an image was written, and then standard output says the line; or a beginning of the image was,
 -- and standard output got nothing
 abbrev pub StoresImage : Program → List ℕ → List ℕ → Option (List ℕ) → Option (List ℕ)
     → Option (List ℕ) → Option (List ℕ) → TaskOutcome → Type 0
-StoresImage p line name before after old new result =
+StoresImage p line path before after old new result =
     (Appends before after (image_bytes p) × Says old new line Done result)
-    ⊎ (AppendsBeginning before after (image_bytes p) × IsStoreFailure name result × (new ≡ old))
+    ⊎ (AppendsBeginning before after (image_bytes p) × IsStoreFailure path result × (new ≡ old))

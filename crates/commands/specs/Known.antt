@@ -15,8 +15,8 @@ use Rattle.commands.specs.declared.outcomes.TaskOutcome.TheVariants.{Refused}
 use Rattle.commands.specs.declared.endings.Ending.{Ending}
 use Rattle.commands.specs.Statuses.{message_of}
 
--- the text at the end of the message after a task on this program: there is one only if the program
--- was refused, and it says what is known of the refusal at its slot
+-- the lines at the end of the message after a task on this program: there are some only if the
+-- program was refused, and they say what is known of the refusal at its slot
 abbrev pub Tells : Program → TaskOutcome → Option (String Global) → Type 0
 Tells p (Refused (rejection.Program refusal slot insn)) why =
     IfSome why (λ text. IsReason p refusal slot (string_bytes text))
@@ -25,9 +25,9 @@ Tells p outcome why = why ≡ None
 abbrev pub IsKnownOfProgram : Program → Ending → Type 0
 IsKnownOfProgram p ending = Tells p ending.outcome ending.why
 
--- the text at the end of the message after a task on these bytes as a proof table of the program:
+-- the lines at the end of the message after a task on these bytes as a proof table of the program:
 -- if the step of an entry was tested, the message may name its slot and its instruction, and the
--- text says what is known there
+-- lines say what is known there
 abbrev pub TellsTable : Program → List ℕ → TaskOutcome → Option (String Global) → Type 0
 TellsTable p bytes (Refused (rejection.Table error (Some (slot, insn)))) why =
     IsSomeAnd why (λ text. IsEntryReason p bytes error slot insn (string_bytes text))
@@ -36,8 +36,8 @@ TellsTable p bytes outcome why = why ≡ None
 abbrev pub IsKnownOfTable : Program → List ℕ → Ending → Type 0
 IsKnownOfTable p bytes ending = TellsTable p bytes ending.outcome ending.why
 
--- the text at the end of the message after a task that read this program text: if it was refused,
--- the line with a caret
+-- the lines at the end of the message after a task that read this program text: if it was refused,
+-- its line with a caret, and a hint
 abbrev pub TellsText : List ℕ → TaskOutcome → Option (String Global) → Type 0
 TellsText source (Refused (rejection.Text error)) why =
     IfSome why (λ text. string_bytes text ≡ shown source error)
@@ -55,14 +55,14 @@ position_found found = option_map (λ f. (f.slot, f.insn)) found
 abbrev pub why_found : Option EntryReason → Option (String Global)
 why_found found = option_map (λ f. f.text) found
 
--- a text is kept only after a refusal
+-- what is known is kept only after a refusal
 abbrev pub with_refusal : TaskOutcome → Option (String Global) → Option (String Global)
 with_refusal (Refused rejection) why = why
 with_refusal outcome why = None
 
 -- ---- endings
 
--- the property holds of the task's outcome, and no text comes after its message
+-- the property holds of the task's outcome, and no lines come after its message
 abbrev pub Plainly : (TaskOutcome → Type 0) → Ending → Type 0
 Plainly P ending = P ending.outcome × (ending.why ≡ None)
 

@@ -29,33 +29,33 @@ outcome_at form None = Done
 outcome_at form (Some (fault, at)) = Faulted fault form
 
 -- how a task ends, from the result on a stream of this file form; the frames out are written to the
--- file with this name, and `cause` is why that failed, if it did
+-- file at this path, and `cause` is why that failed, if it did
 abbrev pub EndsBy : List ℕ → Option ErrorKind → FileForm → Result Tally HostError → TaskOutcome
     → Type 0
-EndsBy name cause form (Ok tally) result = result ≡ outcome_at form tally.fault
-EndsBy name cause form (Err failure.Memory) result = result ≡ NoMemory
-EndsBy name cause form (Err failure.Report) result = IsOutputFailure result
-EndsBy name cause form (Err failure.Frames) result = IsWriteFailureBy name cause result
+EndsBy path cause form (Ok tally) result = result ≡ outcome_at form tally.fault
+EndsBy path cause form (Err failure.Memory) result = result ≡ NoMemory
+EndsBy path cause form (Err failure.Report) result = IsOutputFailure result
+EndsBy path cause form (Err failure.Frames) result = IsWriteFailureBy path cause result
 
 -- the same if the file did not get all of the frames out: it failed, or before it standard output
 -- did or memory ran out
 abbrev pub FailsBy : List ℕ → Option ErrorKind → FileForm → Result Tally HostError → TaskOutcome
     → Type 0
-FailsBy name cause form (Ok tally) result = IsWriteFailureBy name cause result
-FailsBy name cause form (Err error) result = EndsBy name cause form (Err error) result
+FailsBy path cause form (Ok tally) result = IsWriteFailureBy path cause result
+FailsBy path cause form (Err error) result = EndsBy path cause form (Err error) result
 
 -- a file got a beginning of some bytes, and lacks the rest, if the bytes are known
 abbrev pub IsBeginningOf : Option (List ℕ) → Option (List ℕ) → Type 0
 IsBeginningOf got bytes = (lost : List ℕ) × Keeps bytes (append_known got lost)
 
 -- How a task ends, from the result `ended` on a stream. `handed` is what was written to the buffer
--- of the file with this name. The file got all of it; or it got a beginning, and then it failed, or
+-- of the file at this path. The file got all of it; or it got a beginning, and then it failed, or
 -- something had failed before.
 abbrev pub EndsTask : List ℕ → Option ErrorKind → FileForm → Result Tally HostError
     → Option (List ℕ) → Option (List ℕ) → TaskOutcome → Type 0
-EndsTask name cause form ended handed got result =
-    (Keeps handed got × EndsBy name cause form ended result)
-    ⊎ (IsBeginningOf got handed × FailsBy name cause form ended result)
+EndsTask path cause form ended handed got result =
+    (Keeps handed got × EndsBy path cause form ended result)
+    ⊎ (IsBeginningOf got handed × FailsBy path cause form ended result)
 
 -- A program is traced on a stream: what is written is exactly the checked report of the program and
 -- of the packet frames that were found, which are those that the source's bytes spell, if those are
@@ -63,10 +63,10 @@ EndsTask name cause form ended handed got result =
 -- If the file of the frames out failed, `cause` is why, and the message says it. The message also
 -- says where runs stopped that ended without an action.
 pub record Traces (p : Program) (limit : ℕ) (source : Option (List ℕ)) (form : FileForm)
-    (name : List ℕ) (cause : Option ErrorKind) (old new : Outputs) (result : Ending) : Type 0 where
+    (path : List ℕ) (cause : Option ErrorKind) (old new : Outputs) (result : Ending) : Type 0 where
   pub ended : Result Traced HostError
   pub handed : Option (List ℕ)
-  pub ends : EndsTask name cause form (tallied ended) handed new.sent result.outcome
+  pub ends : EndsTask path cause form (tallied ended) handed new.sent result.outcome
   pub report_untouched : ended ≡ Err failure.Memory → new.report ≡ old.report
   pub sent_untouched : ended ≡ Err failure.Memory → handed ≡ old.sent
   pub lines : Option (String Global)
@@ -79,11 +79,11 @@ pub record Traces (p : Program) (limit : ℕ) (source : Option (List ℕ)) (form
 -- An accepted program is run on a stream: what is written is exactly the report of the program and
 -- of the packet frames that were found, which are those that the source's bytes spell, if those are
 -- known; no run meets a trap, and each exits within the bound.
-pub record RunsAccepted (v : Bounded) (source : Option (List ℕ)) (form : FileForm) (name : List ℕ)
+pub record RunsAccepted (v : Bounded) (source : Option (List ℕ)) (form : FileForm) (path : List ℕ)
     (cause : Option ErrorKind) (old new : Outputs) (result : TaskOutcome) : Type 0 where
   pub ended : Result Tally HostError
   pub handed : Option (List ℕ)
-  pub ends : EndsTask name cause form ended handed new.sent result
+  pub ends : EndsTask path cause form ended handed new.sent result
   pub report_untouched : ended ≡ Err failure.Memory → new.report ≡ old.report
   pub sent_untouched : ended ≡ Err failure.Memory → handed ≡ old.sent
   pub reports : ended ≢ Err failure.Memory

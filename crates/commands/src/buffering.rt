@@ -25,16 +25,16 @@ fn unbuffered<W: Write + Drop>(alloc: Global, out: W) -> io::Result<PromptWriter
 /// of 64 KiB; otherwise each write goes through immediately, so that a reader sees it.
 pub fn buffered<W: Write + Drop>(
     alloc: Global,
-    is_stored: bool,
+    is_file: bool,
     out: W,
 ) -> io::Result<PromptWriter<W>>
     ensures behind { IfOk result (λ w. behind w ≡ out) }
     ensures empty { IfOk result (λ w. waiting w ≡ []) }
     ensures prompt { IfOk result
-        (λ w. prompt_left w ≡ (if is_stored then 0 else usize.MAX)) }
+        (λ w. prompt_left w ≡ (if is_file then 0 else usize.MAX)) }
     ensures sound { IfOk result (λ w. failure_of w ≡ None) }
 {
-    if is_stored {
+    if is_file {
         PromptWriter::new(alloc, BUFFER, 0, out)
     } else {
         unbuffered(alloc, out)

@@ -25,8 +25,9 @@ use words::{WordsError, read_words};
 /// standard error. At status 0, 2 and 3 all output has been written through the buffer. At status 1
 /// and 5 nothing is written to standard output. At 0 nothing is written to standard error, except
 /// by `trace`, which names the packet frames whose runs ended without an action. At 2 standard
-/// error says what was refused, why and where; for a program also what is known there, for a text
-/// also the line and a hint. At 3 it says why the frame stream ended early.
+/// error says what was refused, why and where; for a program and for an entry of a proof table also
+/// what is known there, for a text also the line and a hint. At 3 it says why the frame stream
+/// ended early.
 #[tactic(auto, using(crate::proofs::StatusesLaws::statuses))]
 pub fn execute<R: Files + Clock + AllocGlobal, W1: Write + Drop, W2: Write>(
     rt: &R,

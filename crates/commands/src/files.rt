@@ -110,7 +110,7 @@ pub fn open_streams<'a, 'b, R: Files + Clock>(
     Ok((source, form, file))
 }
 
-/// Runs a program on a frame stream with checks: the image is read and judged, then the stream is
+/// Runs a program on a frame stream with checks: the image is read and parsed, then the stream is
 /// opened, then the frames out. The checked report is written to standard output as it is made.
 pub fn trace<'a, R: Files + Clock, W: Write>(
     rt: &R,
@@ -196,7 +196,7 @@ pub fn verify_file<'a, R: Files + Clock, W: Write>(
     say_verdict(rt, alloc, image, out)
 }
 
-/// Writes the text of an image: it is read and judged, and then its text is written to standard
+/// Writes the text of an image: it is read and parsed, and then its text is written to standard
 /// output.
 pub fn disassemble_file<'a, R: Files, W: Write>(
     rt: &R,
@@ -252,6 +252,6 @@ pub fn assemble_file<'a, R: Files, W: Write>(
         Ok(text) => text,
         Err(error) => return Ending::plain(TaskOutcome::of_read(paths.text, &error)),
     };
-    let source = text.as_slice();
-    Ending::of_text(alloc, source, assemble_text(rt, alloc, source, paths, out))
+    let bytes = text.as_slice();
+    Ending::of_text(alloc, bytes, assemble_text(rt, alloc, bytes, paths, out))
 }

@@ -19,8 +19,8 @@ const FRONT: usize = 4;
 pub struct Watched<'a, R: Files + Clock, S> {
     source: S,
     has_failed: bool,
-    /// How many bytes were read.
-    count: u64,
+    /// How many bytes were read so far.
+    total: u64,
     screen: Screen<'a, R>,
 }
 
@@ -30,7 +30,7 @@ impl<'a, R: Files + Clock, S> Watched<'a, R, S> {
         Watched {
             source,
             has_failed: false,
-            count: 0,
+            total: 0,
             screen,
         }
     }
@@ -50,9 +50,9 @@ impl<R: Files + Clock, S: Read> Read for Watched<'_, R, S> {
                 return Err(error);
             }
         };
-        self.count = self.count.saturating_add(count as u64);
+        self.total = self.total.saturating_add(count as u64);
         if self.screen.is_due() {
-            self.screen.show(self.count >> 10, "KiB of frames read");
+            self.screen.show(self.total >> 10, "KiB of frames read");
         }
         Ok(count)
     }

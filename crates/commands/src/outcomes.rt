@@ -28,9 +28,9 @@ const USAGE: &str = "usage: xdpvm asm|dis|verify|run|trace|prove|recheck\n";
 #[derive(Clone, Copy)]
 pub enum TaskOutcome<'a> {
     Done,
-    /// No command was given in full. The text says what is wrong, or is the help.
+    /// No command was given in full. The message says what is wrong, or is the help or the version.
     WrongWords(&'a str),
-    /// The image, the program, the table or the text was refused, as standard output says.
+    /// The image, program, proof table or program text was refused, as standard output says.
     Refused(Rejection),
     /// The frame stream has this fault, as the report's last line says; its first bytes have this
     /// file form.
@@ -136,8 +136,8 @@ impl<'a> TaskOutcome<'a> {
             TaskOutcome::CannotRead(path, kind) => {
                 write_texts(err, "cannot read ", path, cause_line(kind))
             }
-            TaskOutcome::CannotWrite(path, cause) => {
-                write_texts(err, "cannot write ", path, line_after(cause))
+            TaskOutcome::CannotWrite(name, cause) => {
+                write_texts(err, "cannot write ", name, line_after(cause))
             }
             TaskOutcome::CannotReplace(path) => {
                 let why = "\nit is one of the files that are read\n";

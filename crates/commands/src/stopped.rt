@@ -39,8 +39,8 @@ fn insn_lines(
         None => String::from_str(alloc, "no instruction begins there\n"),
         Some(insn) => {
             let line = insn_text(alloc, &insn)?;
-            let values = value_lines(alloc, registers, &insn)?;
-            format!(in alloc; "{line}{values}")
+            let value_text = value_lines(alloc, registers, &insn)?;
+            format!(in alloc; "{line}{value_text}")
         }
     }
 }
@@ -90,8 +90,8 @@ fn stop_line(alloc: Global, found: &FrameStop) -> Result<String, AllocError>
     let frame = found.frame;
     let slot = found.stop.slot;
     let lines = insn_lines(alloc, found.stop.insn, &found.stop.registers)?;
-    let end = end_line(found.stop.end);
-    format!(in alloc; "frame {frame}, slot {slot}: {lines}{end}")
+    let hint = end_line(found.stop.end);
+    format!(in alloc; "frame {frame}, slot {slot}: {lines}{hint}")
 }
 
 // The lines for the first frames.

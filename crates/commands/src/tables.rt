@@ -21,7 +21,7 @@ use std::rt::{Clock, Files};
 use words::{RunPaths, TablePaths};
 
 // The program of an image with the bound that a table shows, or how the task ends without one: the
-// image is read and judged, then the table.
+// image is read and parsed, then the table is read and tested.
 fn load_shown<'a, R: Files, W: Write>(
     rt: &R,
     alloc: Global,
@@ -43,8 +43,8 @@ fn load_shown<'a, R: Files, W: Write>(
     }
 }
 
-/// Tests a proof table: the image is read and judged, then the table, and standard output says the
-/// most steps of a run.
+/// Tests a proof table: the image is read and parsed, then the table is read and tested, and
+/// standard output says the most steps of a run.
 pub fn recheck_file<'a, R: Files, W: Write>(
     rt: &R,
     alloc: Global,
@@ -61,8 +61,8 @@ pub fn recheck_file<'a, R: Files, W: Write>(
 }
 
 /// Runs a program on a frame stream after testing a proof table, in place of verifying the program:
-/// the image is read and judged, then the table, then the stream is opened, then the frames out.
-/// The report is written to standard output as it is made.
+/// the image is read and parsed, then the table is read and tested, then the stream is opened, then
+/// the frames out. The report is written to standard output as it is made.
 pub fn run_shown<'a, R: Files + Clock, W: Write>(
     rt: &R,
     alloc: Global,

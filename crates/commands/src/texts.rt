@@ -9,14 +9,15 @@ use std::io;
 use std::io::Write;
 
 /// Writes three texts, one after another.
-pub fn write_texts<W: Write>(out: &mut W, front: &str, name: &str, back: &str) -> io::Result<()>
+pub fn write_texts<W: Write>(out: &mut W, front: &str, middle: &str, back: &str) -> io::Result<()>
     ensures ok { OnOk result
-        (Appends (W.contents out.old) (W.contents out.new) (front.now ++ (name.now ++ back.now))) }
+        (Appends (W.contents out.old) (W.contents out.new)
+        (front.now ++ (middle.now ++ back.now))) }
     ensures err { OnErr result
         (AppendsBeginning (W.contents out.old) (W.contents out.new)
-        (front.now ++ (name.now ++ back.now))) }
+        (front.now ++ (middle.now ++ back.now))) }
 {
     write_bytes(out, front.as_bytes())?;
-    write_bytes(out, name.as_bytes())?;
+    write_bytes(out, middle.as_bytes())?;
     write_bytes(out, back.as_bytes())
 }

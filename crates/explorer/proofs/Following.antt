@@ -16,7 +16,7 @@ use Rattle.explorer.specs.Listening.{ComesTo, StopsIn, IsToStop, EndsIn}
 use Rattle.explorer.specs.declared.turns.Turns.{Turns}
 use Rattle.explorer.specs.Turns.{AreOn}
 use Rattle.explorer.specs.Followed.{HasFollowed, IsWalk, slots_along}
-use Rattle.explorer.proofs.Stores.{slice_get-push, slice_get-seam}
+use Rattle.explorer.proofs.StoredStatesLaws.{slice_get-push, slice_get-seam}
 use Rattle.explorer.proofs.LastJumps.{led_start}
 
 -- ---- the last jumps of the path

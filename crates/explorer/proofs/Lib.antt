@@ -1,7 +1,7 @@
-pub mod Stores
+pub mod StoredStatesLaws
 pub mod GroupLaws
 pub mod Paths
-pub mod Steps
+pub mod Moves
 pub mod Starts
 pub mod Unfinished
 pub mod Walking

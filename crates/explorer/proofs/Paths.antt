@@ -12,7 +12,7 @@ use Rattle.explorer.specs.declared.stored_states.StoredState.{StoredState}
 use Rattle.explorer.specs.declared.trail.Visit.{Visit}
 use Rattle.walks.specs.Counts.{StepsInto, HasNumber, LeadsToOne, LeadsToTwo}
 use Rattle.explorer.specs.Search.{MeantBy, StepsAwaited, NumberFollowsBoth, NumberFollows, Waiting, Path}
-use Rattle.explorer.proofs.Stores.{KeepsStates, KeepsStates-at}
+use Rattle.explorer.proofs.StoredStatesLaws.{KeepsStates, KeepsStates-at}
 
 -- ---- paths
 

@@ -19,8 +19,8 @@ use maps::Maps;
 use std::alloc::Global;
 use std::io::{Read, Write};
 
-// A checked machine, the most steps of a run on one packet frame, and what was noted of the frames
-// so far.
+// A checked machine, the limit of steps of a run on one packet frame, and what was noted of the
+// frames so far.
 #[derive(Drop)]
 struct CheckedRunner {
     machine: Checked,
@@ -65,8 +65,8 @@ impl Runner for CheckedRunner {
 /// returns, at most `limit` steps a frame. The report is written to one writer, and the frames that
 /// are sent on to the other.
 ///
-/// A frame with a reason is not run, and is sent on unchanged. Where a run ends without an action,
-/// the result says where it stopped.
+/// A frame with a reason is not run, and is sent on unchanged. The result says how many runs ended
+/// without an action, and where the first 20 of them stopped.
 ///
 /// Every answer of a frame's clock is the frame's time. Memory is taken before the first byte is
 /// written, and none after that. Nothing is tried again, and after a failure nothing is written to

@@ -2,7 +2,7 @@
 
 use isa_model::Version;
 
-/// The most steps of a run, and the versions of the program and of the stream.
+/// The limit of steps of a run, and the versions of the program and of the stream.
 #[derive(Clone, Copy)]
 pub struct ReportForm {
     pub limit: u32,

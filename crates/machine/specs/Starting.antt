@@ -5,7 +5,7 @@ use Rattle.maps.specs.Maps.{MapState}
 use Rattle.word_machine.specs.Addresses.{context_base, frame_end}
 use Rattle.word_machine.specs.Words.{Words}
 
--- r1 is the context, and r10 the end of the first call frame
+-- the words of r0 to r10: r1 is the context, and r10 the end of the first call frame
 abbrev pub start_words : List ℕ
 start_words = 0 ∷ context_base ∷ 0 ∷ 0 ∷ 0 ∷ 0 ∷ 0 ∷ 0 ∷ 0 ∷ 0 ∷ frame_end 0 ∷ []
 

@@ -2,8 +2,8 @@
 //! `rechecking`.
 //!
 //! A table says of each abstract state that the verifier reached how many more steps a run makes
-//! from it at most, and which entries are its successors. `recheck` tests a table with no trust in
-//! who made it. `write_table` makes one, which is read as the entries that it spells; that
+//! from it at most, and which entries cover its successors. `recheck` tests a table, with no trust
+//! in who made it. `write_table` makes one, which is read as the entries that it spells; that
 //! `recheck` accepts it is only tested.
 #![tactic(auto)]
 

@@ -85,7 +85,7 @@ pub record IsRefusedStep (p : Program) (t : EntryAt) (k : ℕ) (refusal : Refusa
   pub fetched : fetch p entry.state.slot ≡ Some insn
   pub refused : RefusesStep p entry.state insn refusal
 
--- its step is made, and its successors are not clearly those that it names
+-- its step is made, and the states to which it leads do not clearly enter the entries that it names
 pub record IsUnnamed (p : Program) (t : EntryAt) (k : ℕ) : Type 0 where
   pub entry : Entry
   pub insn : Insn

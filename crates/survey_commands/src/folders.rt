@@ -101,7 +101,7 @@ fn one(alloc: Global, path: &str) -> Result<FoundImages, AllocError> {
 
 fn is_folder<R: Files>(rt: &R, path: &str) -> bool {
     match fs::metadata(rt, path) {
-        Ok(found) => found.is_dir(),
+        Ok(metadata) => metadata.is_dir(),
         Err(_) => false,
     }
 }

@@ -17,7 +17,7 @@ use survey_words::Survey;
 use surveys::{Judged, judge};
 
 /// Says on standard error why a file cannot be read, and returns how its image is judged.
-fn unread<W: Write>(
+fn judged_unread<W: Write>(
     alloc: Global,
     path: &str,
     kind: ErrorKind,
@@ -48,7 +48,7 @@ fn row_unread<W: Write>(
     kind: ErrorKind,
     err: &mut W,
 ) -> Result<Row, AllocError> {
-    let verdict = unread(alloc, path, kind, err)?;
+    let verdict = judged_unread(alloc, path, kind, err)?;
     row_unjudged(alloc, path, verdict)
 }
 
@@ -71,9 +71,9 @@ fn row_of_folder<W: Write>(
 
 /// How an image is judged. If it is accepted and has not got the table that is wanted, memory ran
 /// out.
-fn verdict_of(judged: &Judged, has_table: bool) -> Judgement {
+fn verdict_of(judged: &Judged, wants_table: bool) -> Judgement {
     match judged.verdict {
-        Judgement::Accepted if has_table && judged.table.is_none() => Judgement::NoMemory,
+        Judgement::Accepted if wants_table && judged.table.is_none() => Judgement::NoMemory,
         verdict => verdict,
     }
 }
@@ -116,13 +116,13 @@ fn row_of<R: Files + Clock + AllocGlobal, W: Write>(
 /// The row of a path.
 fn row_named<R: Files + Clock + AllocGlobal, W: Write>(
     rt: &R,
-    named: &NamedPath,
+    one: &NamedPath,
     tables: Option<&str>,
     err: &mut W,
 ) -> Result<Row, SurveyError> {
-    match named.failure {
-        Some(failure) => Ok(row_of_folder(rt.alloc(), named.path.as_str(), failure, err)?),
-        None => row_of(rt, named.path.as_str(), tables, err),
+    match one.failure {
+        Some(failure) => Ok(row_of_folder(rt.alloc(), one.path.as_str(), failure, err)?),
+        None => row_of(rt, one.path.as_str(), tables, err),
     }
 }
 

@@ -43,8 +43,8 @@ fn columns_of(alloc: Global, survey: &Survey<'_>) -> Result<Vec<Column>, AllocEr
 /// column.
 fn longest_of(named: &[NamedPath]) -> usize {
     let mut longest = Column::File.width();
-    for one in named {
-        longest = longest.max(shown_width(one.path.as_str()));
+    for named_path in named {
+        longest = longest.max(shown_width(named_path.path.as_str()));
     }
     longest
 }

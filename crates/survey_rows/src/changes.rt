@@ -148,10 +148,10 @@ fn add_gone(
     Ok(())
 }
 
-/// The files of rows.
-fn files_of(alloc: Global, rows: &[Row]) -> Result<IndexSet<&[u8]>, AllocError> {
+/// The files of the rows of a survey.
+fn files_of(alloc: Global, surveyed: &[Row]) -> Result<IndexSet<&[u8]>, AllocError> {
     let mut files = IndexSet::new(alloc);
-    for row in rows {
+    for row in surveyed {
         files.insert(row.file.as_bytes())?;
     }
     Ok(files)

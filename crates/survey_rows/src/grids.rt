@@ -13,8 +13,8 @@ fn show(alloc: Global, shown: &mut String, character: char) -> Result<(), AllocE
     shown.push_str(escape.as_str())
 }
 
-/// A text as grids and messages show it: `\x1b` for each control character, the others
-/// unchanged.
+/// A text as grids for people and messages show it: `\x1b` for each control character, the
+/// others unchanged.
 pub fn shown(alloc: Global, text: &str) -> Result<String, AllocError> {
     let mut shown = String::new(alloc);
     for character in text.chars() {
@@ -85,14 +85,14 @@ fn row_line(
 /// Adds a row, without spaces at its end.
 fn put_row(
     alloc: Global,
-    text: &mut String,
+    lines: &mut String,
     heads: &[ColumnHead],
     texts: &[String],
     widths: &[usize],
 ) -> Result<(), AllocError> {
     let line = row_line(alloc, heads, texts, widths)?;
-    text.push_str(line.as_str().trim_end())?;
-    text.push('\n')
+    lines.push_str(line.as_str().trim_end())?;
+    lines.push('\n')
 }
 
 /// The texts of a row, as they are shown.
@@ -134,12 +134,18 @@ pub fn grid_text(alloc: Global, grid: &Grid, has_header: bool) -> Result<String,
     for row in &texts {
         widen(widths.as_mut_slice(), row.as_slice());
     }
-    let mut text = String::new(alloc);
+    let mut lines = String::new(alloc);
     if has_header {
-        put_row(alloc, &mut text, heads, names.as_slice(), widths.as_slice())?;
+        put_row(
+            alloc,
+            &mut lines,
+            heads,
+            names.as_slice(),
+            widths.as_slice(),
+        )?;
     }
     for row in &texts {
-        put_row(alloc, &mut text, heads, row.as_slice(), widths.as_slice())?;
+        put_row(alloc, &mut lines, heads, row.as_slice(), widths.as_slice())?;
     }
-    Ok(text)
+    Ok(lines)
 }

@@ -30,12 +30,12 @@ fn object_of(alloc: Global, heads: &[ColumnHead], row: &[RowCell]) -> Result<Val
 
 /// A grid as JSON, a line for each row.
 pub fn json_text(alloc: Global, grid: &Grid) -> Result<String, AllocError> {
-    let mut text = String::new(alloc);
+    let mut lines = String::new(alloc);
     for row in &grid.rows {
         let object = object_of(alloc, grid.heads.as_slice(), row.as_slice())?;
         let line = object.to_string(alloc)?;
-        text.push_str(line.as_str())?;
-        text.push('\n')?;
+        lines.push_str(line.as_str())?;
+        lines.push('\n')?;
     }
-    Ok(text)
+    Ok(lines)
 }

@@ -35,7 +35,7 @@ impl Judgement {
     }
 }
 
-/// What was counted and measured of an image.
+/// What was counted and measured of an image, and the slot at which it is refused.
 #[derive(Clone, Copy, Default, Drop)]
 pub struct Counts {
     pub slot: Option<u64>,
@@ -52,7 +52,7 @@ pub struct Counts {
     pub recheck_microseconds: Option<u64>,
 }
 
-/// An image with its verdict.
+/// An image with its verdict, or a folder that cannot be read, or only in part.
 #[derive(Drop)]
 pub struct Row {
     pub file: String,
@@ -142,13 +142,16 @@ pub fn grid_of(alloc: Global, rows: &[Row], layout: &RowLayout) -> Result<Grid, 
 {
     let columns = layout.columns.as_slice();
     let heads = heads_of(alloc, columns, layout.longest)?;
-    let mut cells = Vec::new(alloc);
+    let mut chosen = Vec::new(alloc);
     for row in rows {
         if !layout.only_refused || row.verdict.is_refused() {
-            cells.push(row.cells(alloc, columns)?)?;
+            chosen.push(row.cells(alloc, columns)?)?;
         }
     }
-    Ok(Grid { heads, rows: cells })
+    Ok(Grid {
+        heads,
+        rows: chosen,
+    })
 }
 
 /// Sorts rows by a column: texts from the first to the last, numbers from the greatest to the

@@ -23,41 +23,41 @@ const DIS_ABOUT: &str =
 #[derive(Clone, Copy)]
 struct Choice {
     name: &'static str,
-    value: &'static str,
+    value_name: &'static str,
     help: &'static str,
 }
 
 const CHOICES: [Choice; 5] = [
     Choice {
         name: "format",
-        value: "FORMAT",
+        value_name: "FORMAT",
         help: "How rows are written: table, csv or json [default: table]",
     },
     Choice {
         name: "sort",
-        value: "COLUMN",
+        value_name: "COLUMN",
         help: "Sorts by a column: texts from a to z, numbers from the greatest to the least",
     },
     Choice {
         name: "only",
-        value: "refused",
+        value_name: "refused",
         help: "Prints only the rows of refused images",
     },
     Choice {
         name: "compare",
-        value: "OLD.csv",
+        value_name: "OLD.csv",
         help: "Prints what differs from an earlier survey, written as csv",
     },
     Choice {
         name: "tables",
-        value: "FOLDER",
+        value_name: "FOLDER",
         help: "Writes a proof table of each accepted image there, and tests it",
     },
 ];
 
 const SLOT: Choice = Choice {
     name: "slot",
-    value: "N",
+    value_name: "N",
     help: "Prints only what was explored at this slot",
 };
 
@@ -66,7 +66,7 @@ fn option<'a>(alloc: Global, choice: Choice) -> Arg<'a> {
     Arg::new(alloc, choice.name)
         .long(choice.name)
         .action(ArgAction::Set)
-        .value_name(choice.value)
+        .value_name(choice.value_name)
         .help(choice.help)
 }
 

@@ -52,7 +52,7 @@ pub lacks_same : (v w : Judgement) (c d : Counts) → w ≡ v → d.bound ≡ c.
 lacks_same v w c d same bound slot h =
     subst (λ (u : Judgement). LacksOther u d) (sym same) (lacks_alike v c d bound slot h)
 
--- what a row says of one program it says of the same program under another name
+-- what a row says of one program it says of one that is equal
 pub says_at : (p q : Program) (v : Judgement) (c : Counts) → q ≡ p → SaysVerdict q v c
     → SaysVerdict p v c
 says_at p q v c same says = subst (λ (r : Program). SaysVerdict r v c) same says
@@ -105,7 +105,7 @@ sizes_kept p b c d h slots maps same = record {
   maps = ap (λ (k : Counts). k.maps) same ∙ maps ∙ h.maps;
 }
 
--- the sizes of one program are those of the same program under another name
+-- the sizes of one program are those of one that is equal
 pub says_sizes : (p q : Program) (v : Judgement) (c : Counts) → q ≡ p → HasSizes q c
     → SaysSizes p v c
 says_sizes p q verdict.Accepted c same h = subst (λ (r : Program). HasSizes r c) same h

@@ -12,14 +12,14 @@ saturated count = min count (2 ^ 64 - 1)
 
 -- bytes that are whole words
 pub record AreWords (bytes : ℕ) : Type 0 where
-  pub words : ℕ
-  pub most : words < 2 ^ 32
-  pub is : bytes ≡ words * 8
+  pub count : ℕ
+  pub most : count < 2 ^ 32
+  pub is : bytes ≡ count * 8
 
 -- a number of bytes that grew by those of a stored state
 pub record GrowsByWords (old new : ℕ) : Type 0 where
   pub bytes : ℕ
-  pub words : AreWords bytes
+  pub are_words : AreWords bytes
   pub grown : new ≡ saturated (old + bytes)
 
 -- the bytes of stored states after an instruction: they grow only by a state that is stored and

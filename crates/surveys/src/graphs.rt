@@ -26,7 +26,7 @@ fn falls_through(image: &Image, slot: usize) -> bool {
 }
 
 /// Whether a jump or a call goes to a slot.
-fn begins(labels: &[SlotLabel], slot: usize) -> bool {
+fn is_target(labels: &[SlotLabel], slot: usize) -> bool {
     labels.get(slot).copied().unwrap_or(SlotLabel::Nothing) != SlotLabel::Nothing
 }
 
@@ -110,7 +110,7 @@ struct Graph {
 }
 
 /// How an instruction's text begins: as its block, if it is the first one.
-fn head_of(alloc: Global, block: usize, slot: usize) -> Result<String, AllocError> {
+fn block_opening(alloc: Global, block: usize, slot: usize) -> Result<String, AllocError> {
     if block != slot {
         return Ok(String::new(alloc));
     }
@@ -133,10 +133,10 @@ fn insn_node(
     graph: &mut Graph,
 ) -> Result<String, AllocError> {
     let next = after(image, slot);
-    let mut text = head_of(alloc, graph.block, slot)?;
+    let mut text = block_opening(alloc, graph.block, slot)?;
     put_insn(alloc, image, slot, &mut text)?;
     put_call(alloc, image, graph.block, slot, &mut graph.edges)?;
-    if is_end(image, slot) || begins(labels, next) || next >= image.slots() {
+    if is_end(image, slot) || is_target(labels, next) || next >= image.slots() {
         text.push_str("\"];\n")?;
         put_edges(alloc, image, graph.block, slot, next, &mut graph.edges)?;
         graph.block = next;

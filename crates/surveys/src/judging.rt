@@ -186,7 +186,7 @@ fn judge_verified<C: Clock>(
     alloc: Global,
     verified: Verified,
     counts: Counts,
-    has_table: bool,
+    wants_table: bool,
 ) -> Judged
     ensures says { HasNumber verified.program start verified.bound
         → SaysVerdict verified.program result.verdict result.counts }
@@ -194,10 +194,10 @@ fn judge_verified<C: Clock>(
     ensures rest { searched result.counts ≡ searched counts }
     ensures table { IfSome result.table
         (λ table. HasTable verified.program table.items result.counts) }
-    ensures no_table { has_table ≡ false → result.table ≡ None }
+    ensures no_table { wants_table ≡ false → result.table ≡ None }
 {
     let mut judged = accepted(&verified, counts);
-    if !has_table {
+    if !wants_table {
         return judged;
     }
     prove(clock, alloc, verified, &mut judged);
@@ -205,12 +205,12 @@ fn judge_verified<C: Clock>(
 }
 
 /// Judges a program by `verify`.
-fn judge_image<C: Clock>(clock: &C, alloc: Global, image: Image, has_table: bool) -> Judged
+fn judge_image<C: Clock>(clock: &C, alloc: Global, image: Image, wants_table: bool) -> Judged
     ensures says { SaysVerdict image result.verdict result.counts }
     ensures other { LacksOther result.verdict result.counts }
     ensures sizes { HasSizes image result.counts }
     ensures table { IfSome result.table (λ table. HasTable image table.items result.counts) }
-    ensures no_table { has_table ≡ false → result.table ≡ None }
+    ensures no_table { wants_table ≡ false → result.table ≡ None }
 {
     let sizes = sizes_of(&image);
     let mut tally = SearchTally::default();
@@ -224,7 +224,7 @@ fn judge_image<C: Clock>(clock: &C, alloc: Global, image: Image, has_table: bool
         },
     );
     match found {
-        Ok(verified) => judge_verified(clock, alloc, verified, counts, has_table),
+        Ok(verified) => judge_verified(clock, alloc, verified, counts, wants_table),
         Err(Halt::Refused(refusal, slot)) => refused(refusal, slot, counts),
         Err(Halt::Stopped(never)) => match never {},
     }
@@ -233,7 +233,7 @@ fn judge_image<C: Clock>(clock: &C, alloc: Global, image: Image, has_table: bool
 /// Judges the bytes of an image: accepted by `verify` with its bound, or refused with the code and
 /// the slot; and what was counted in the search. A proof table is made only if one is wanted, and
 /// is one that `recheck` accepts.
-pub fn judge<C: Clock>(clock: &C, alloc: Global, bytes: &[u8], has_table: bool) -> Judged
+pub fn judge<C: Clock>(clock: &C, alloc: Global, bytes: &[u8], wants_table: bool) -> Judged
     ensures says { (p : Program) → IsImage p → bytes.now ≡ image_bytes p
         → SaysVerdict p result.verdict result.counts }
     ensures malformed { (wrong : ImageError) → refusal_of bytes.now ≡ Some wrong
@@ -243,10 +243,10 @@ pub fn judge<C: Clock>(clock: &C, alloc: Global, bytes: &[u8], has_table: bool) 
         → SaysSizes p result.verdict result.counts }
     ensures table { (p : Program) → IsImage p → bytes.now ≡ image_bytes p
         → IfSome result.table (λ table. HasTable p table.items result.counts) }
-    ensures no_table { has_table ≡ false → result.table ≡ None }
+    ensures no_table { wants_table ≡ false → result.table ≡ None }
 {
     match Image::parse(alloc, bytes) {
-        Ok(image) => judge_image(clock, alloc, image, has_table),
+        Ok(image) => judge_image(clock, alloc, image, wants_table),
         Err(error) => malformed(error),
     }
 }

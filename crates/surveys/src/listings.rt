@@ -37,12 +37,12 @@ fn slot_bytes(alloc: Global, code: &[u8], slot: usize) -> Result<String, AllocEr
 
 /// The label above a slot, with an empty line before the label of a function.
 fn label_above(alloc: Global, label: SlotLabel, slot: usize) -> Result<String, AllocError> {
-    let front = match label {
+    let prefix = match label {
         SlotLabel::Nothing => return Ok(String::new(alloc)),
         SlotLabel::Target => "L",
         SlotLabel::Function => "\nF",
     };
-    format!(in alloc; "{front}{slot}:\n")
+    format!(in alloc; "{prefix}{slot}:\n")
 }
 
 /// The comment after an instruction's text: the label of the slot to which the instruction jumps

@@ -27,13 +27,13 @@ struct Log<'a, W: Write + Drop> {
     /// The numbers in the log of the path's instructions.
     path: Vec<u64>,
     /// The numbers in the log of the instructions whose states were stored.
-    stored: Vec<u64>,
+    stored_log_numbers: Vec<u64>,
 }
 
 /// Where a state comes from, if not from the instruction before it in the log.
 fn from_text(alloc: Global, path: &[u64], explored: u64) -> Result<String, AllocError> {
     match path.last().copied() {
-        Some(from) if from.saturating_add(1) != explored => format!(in alloc; " from #{from}"),
+        Some(last) if last.saturating_add(1) != explored => format!(in alloc; " from #{last}"),
         _ => Ok(String::new(alloc)),
     }
 }
@@ -48,9 +48,9 @@ impl<W: Write + Drop> Log<'_, W> {
     fn explored_text(&self, state: &State, is_stored: bool) -> Result<String, AllocError> {
         let (log_number, slot) = (self.tally.explored, state.slot);
         let from = from_text(self.alloc, self.path.as_slice(), log_number)?;
-        let stored = if is_stored { ", stored" } else { "" };
+        let note = if is_stored { ", stored" } else { "" };
         let insn = insn_text(self.alloc, self.image, slot)?;
-        let mut text = format!(in self.alloc; "#{log_number} slot {slot}{from}{stored}: {insn}")?;
+        let mut text = format!(in self.alloc; "#{log_number} slot {slot}{from}{note}: {insn}")?;
         put_state(self.alloc, state, &mut text)?;
         Ok(text)
     }
@@ -59,7 +59,7 @@ impl<W: Write + Drop> Log<'_, W> {
     fn covered_text(&self, index: usize, steps: u32) -> Result<String, AllocError> {
         let slot = self.arrived;
         let from = from_text(self.alloc, self.path.as_slice(), self.tally.explored)?;
-        let by = self.stored.get(index).copied().unwrap_or(0);
+        let by = self.stored_log_numbers.get(index).copied().unwrap_or(0);
         format!(in self.alloc; "slot {slot}{from}: covered by #{by}, at most {steps} to the exit\n")
     }
 
@@ -75,7 +75,7 @@ impl<W: Write + Drop> Log<'_, W> {
     /// Keeps the number in the log of the instruction that is explored.
     fn keep_log_number(&mut self, is_stored: bool) -> Result<(), AllocError> {
         if is_stored {
-            self.stored.push(self.tally.explored)?;
+            self.stored_log_numbers.push(self.tally.explored)?;
         }
         self.path.push(self.tally.explored)?;
         Ok(())
@@ -157,7 +157,7 @@ pub fn write_log<W: Write>(
         tally: SearchTally::default(),
         arrived: 0,
         path: Vec::new(alloc),
-        stored: Vec::new(alloc),
+        stored_log_numbers: Vec::new(alloc),
     };
     let copy = image.copy(alloc)?;
     match verify_with(alloc, copy, &mut log) {

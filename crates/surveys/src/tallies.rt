@@ -36,19 +36,19 @@ fn own_bytes(kept: &Kept) -> u64
 
 impl SearchTally {
     /// An instruction is explored. If its state is stored, this is its index, and it was kept last.
-    pub fn explore(&mut self, stored: Option<usize>, kept: Option<&Kept>)
+    pub fn explore(&mut self, index: Option<usize>, kept: Option<&Kept>)
         ensures explored { self.new.explored ≡ saturated (self.old.explored + 1) }
         ensures depth { self.new.depth ≡ saturated (self.old.depth + 1) }
         ensures deepest { self.new.deepest ≡ max self.old.deepest self.new.depth }
         ensures stored { self.new.stored
-            ≡ if is_some stored then saturated (self.old.stored + 1) else self.old.stored }
+            ≡ if is_some index then saturated (self.old.stored + 1) else self.old.stored }
         ensures stored_bytes { CountsBytes self.old.stored_bytes
-            (is_some stored && is_some kept.entry) self.new.stored_bytes }
+            (is_some index && is_some kept.entry) self.new.stored_bytes }
     {
         self.explored = self.explored.saturating_add(1);
         self.depth = self.depth.saturating_add(1);
         self.deepest = self.deepest.max(self.depth);
-        if stored.is_none() {
+        if index.is_none() {
             return;
         }
         self.stored = self.stored.saturating_add(1);

@@ -1,8 +1,8 @@
 //! Proof tables as bytes, read entry by entry.
 //!
 //! A table says of each abstract state that the verifier reached how many more steps a run makes
-//! from it at most, and which entries are its successors. Whether that is true is not judged here,
-//! only whether the bytes have the format and the fields are allowed.
+//! from it at most, and which entries cover its successors. Whether that is true is not judged
+//! here, only whether the bytes have the format and the fields are allowed.
 #![tactic(auto)]
 
 pub mod blanks;

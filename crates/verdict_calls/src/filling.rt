@@ -8,7 +8,7 @@ pub fn fill(buffer: &mut [u8], bytes: &[u8]) -> usize
     ensures count { result ≡ length bytes.now }
     ensures filled { buffer.new ≡ filled buffer.old bytes.now }
 {
-    let count = bytes.len().min(buffer.len());
-    buffer[..count].copy_from_slice(&bytes[..count]);
+    let copied = bytes.len().min(buffer.len());
+    buffer[..copied].copy_from_slice(&bytes[..copied]);
     bytes.len()
 }

@@ -136,22 +136,22 @@ asked-trace name image frames out h i j =
 
 -- `xdpvm trace IMAGE FRAMES OUT --limit N` asks for runs of at most N steps each, if N is a limit,
 -- and else for nothing
-pub asked-trace-limit : (name image frames out text : List ℕ) → is_plain image ≡ true
-    → is_plain frames ≡ true → is_plain out ≡ true → is_plain text ≡ true
-    → asked (name ∷ codes "trace" ∷ image ∷ frames ∷ out ∷ codes "--limit" ∷ text ∷ [])
-    ≡ option_map (Trace (record { image = image; frames = frames; out = out })) (limit_of text)
+pub asked-trace-limit : (name image frames out value : List ℕ) → is_plain image ≡ true
+    → is_plain frames ≡ true → is_plain out ≡ true → is_plain value ≡ true
+    → asked (name ∷ codes "trace" ∷ image ∷ frames ∷ out ∷ codes "--limit" ∷ value ∷ [])
+    ≡ option_map (Trace (record { image = image; frames = frames; out = out })) (limit_of value)
 unfolding clap_on_literals program asm dis verify run trace prove recheck
-asked-trace-limit name image frames out text h i j k =
-    asked-read name (codes "trace") (image ∷ frames ∷ out ∷ codes "--limit" ∷ text ∷ [])
+asked-trace-limit name image frames out value h i j k =
+    asked-read name (codes "trace") (image ∷ frames ∷ out ∷ codes "--limit" ∷ value ∷ [])
     (built_leaf trace.top) _ refl refl refl
     (reads-plain _ _ _ image _ _ _ h refl refl
     (reads-plain _ _ _ frames _ _ _ i refl refl
     (reads-plain _ _ _ out _ _ _ j refl refl
     (reads-option _ _ _ (codes "--limit") (codes "limit") _ _ _ refl refl refl refl refl
-    (reads-value _ _ _ _ text _ _ _ k refl refl (reads-none _ _)))))) refl
+    (reads-value _ _ _ _ value _ _ _ k refl refl (reads-none _ _)))))) refl
 
 -- `xdpvm run IMAGE FRAMES OUT --table TABLE` asks for runs of the program after a test of the
--- table, in place of verifying it
+-- table, in place of verifying the program
 pub asked-run-table : (name image frames out table : List ℕ) → is_plain image ≡ true
     → is_plain frames ≡ true → is_plain out ≡ true → is_plain table ≡ true
     → asked (name ∷ codes "run" ∷ image ∷ frames ∷ out ∷ codes "--table" ∷ table ∷ [])

@@ -50,11 +50,11 @@ recheck = command (codes "recheck") (codes "image" ∷ codes "table" ∷ [])
 abbrev pub with_command : App → App → App
 with_command program command = with_subcommand program command.top
 
--- the program, which has a version
+-- xdpvm, which has a version
 abbrev pub versioned_program : App
 versioned_program = on_top (λ s. record s { has_version = true }) (new_app (codes "xdpvm"))
 
--- the program, which has a version and needs one of its commands
+-- xdpvm, which has a version and needs one of its commands
 abbrev pub empty_program : App
 empty_program = on_top (λ s. record s { subcommand_required = true }) versioned_program
 

@@ -59,7 +59,7 @@ pub struct TablePaths<'a> {
 #[derive(Drop)]
 pub enum WordsError {
     /// The arguments are invalid, or not UTF-8, or they ask for help or the version. With the
-    /// message or the help, in whole lines, which may be empty.
+    /// message, the help or the version, in whole lines, which may be empty.
     Wrong(String),
     Memory,
 }

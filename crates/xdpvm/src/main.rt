@@ -14,7 +14,7 @@ use words::given_words;
 
 // Whether standard output is a file on a disk. If the system does not have this path, standard
 // output is written at once, as to someone who watches.
-fn is_stored<R: Files>(rt: &R) -> bool {
+fn is_file<R: Files>(rt: &R) -> bool {
     match fs::metadata(rt, "/dev/stdout") {
         Ok(output) => output.is_file(),
         Err(_) => false,
@@ -23,7 +23,7 @@ fn is_stored<R: Files>(rt: &R) -> bool {
 
 fn main(rt: HostRuntime) -> ExitCode {
     let mut err = rt.stderr();
-    ExitCode::from(match buffered(rt.alloc(), is_stored(&rt), rt.stdout()) {
+    ExitCode::from(match buffered(rt.alloc(), is_file(&rt), rt.stdout()) {
         Ok(mut out) => execute_given(&rt, given_words(&rt), &mut out, &mut err),
         Err(_) => TaskOutcome::NoMemory.tell(&mut err),
     })

@@ -230,7 +230,7 @@ const GREAT: Pair = (0xffff_ffff_ffff_ff00, 0);
 const RELATIONS: &[(Relation, Pair, Pair, Option<(Pair, Pair)>)] = &[
     (Relation::Below, BYTE, TEN, Some(((0, 15), TEN))),
     (Relation::Below, TEN, (0, 7), None),
-    // The numbers above one with leading ones have these too.
+    // The numbers above a number with leading ones have these too.
     (Relation::Below, GREAT, ANY, Some((GREAT, TOP))),
     (Relation::AtMost, GREAT, ANY, Some((GREAT, TOP))),
     (Relation::AtMost, BYTE, (7, 0), Some(((0, 7), (7, 0)))),
@@ -304,8 +304,8 @@ const SEVEN: Pair = (0x5_0000_0007, 0);
 
 const EIGHT: Pair = (0x5_0000_0008, 0);
 
-/// A relation of low halves, two sets, and what it leaves of both. A set with upper halves stays as
-/// it is.
+/// A relation of low halves, two sets, and what it leaves of both. A set with a number of 2^32 or
+/// more stays as it is.
 const LOW_RELATIONS: &[(Relation, Pair, Pair, Option<(Pair, Pair)>)] = &[
     (Relation::Equal, UNSIGNED_32, SEVEN, Some(((7, 0), SEVEN))),
     (Relation::Equal, SEVEN, UNSIGNED_32, Some((SEVEN, (7, 0)))),

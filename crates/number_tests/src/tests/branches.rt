@@ -54,8 +54,8 @@ const ROWS: &[Row] = &[
     (Comparison::Equal, FULL, R3, false, (SEVEN, SEVEN), None),
     // Equal numbers are members of both sets.
     (Comparison::Equal, FULL, R3, true, ((7, 100), (5, 10)), Some(((7, 10), (7, 10)))),
-    // A number that is not 7 is above 7 if 7 is the least member; at 32 bits too, for numbers of 32
-    // bits.
+    // A number that is not 7 is above 7 if 7 is the least member, and below 7 if 7 is the greatest;
+    // at 32 bits too, for numbers of 32 bits.
     (Comparison::Equal, FULL, R3, false, (SEVEN, (7, 100)), Some((SEVEN, (8, 100)))),
     (Comparison::NotEqual, LOW, R3, true, ((5, 7), SEVEN), Some(((5, 6), SEVEN))),
 ];

@@ -223,11 +223,11 @@ const DIVIDED_AT_THE_ENDS_OF_32_BITS: &[Row] = &[
 fn signed_between(least: i64, greatest: i64) -> Scalar {
     let any = Scalar::any(FULL);
     if least <= greatest {
-        let limits = Scalar {
+        let within = Scalar {
             bits: any.bits,
             range: Range::signed_between(least, greatest),
         };
-        limits.meet(any).unwrap_or(any)
+        within.meet(any).unwrap_or(any)
     } else {
         any
     }

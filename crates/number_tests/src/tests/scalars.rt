@@ -260,8 +260,8 @@ fn between(limits: Limits) -> Scalar {
 }
 
 fn narrows(row: &Narrowing) -> bool {
-    let (comparison, goes, limits, number, wanted) = row;
-    match refined(*comparison, FULL, *goes, between(*limits), *number) {
+    let (comparison, taken, limits, number, wanted) = row;
+    match refined(*comparison, FULL, *taken, between(*limits), *number) {
         Some(left) => match wanted {
             Some(wanted) => left == between(*wanted),
             None => false,

@@ -61,9 +61,9 @@ enum Act {
 
 fn act_on(stack: &mut StackState, act: &Act) {
     match act {
-        Act::Spill(slot, held) => {
-            if *slot < 64 {
-                stack.spill(*slot, kind_of(held));
+        Act::Spill(stack_slot, held) => {
+            if *stack_slot < 64 {
+                stack.spill(*stack_slot, kind_of(held));
             }
         }
         Act::Store(at, size) => {
@@ -101,11 +101,13 @@ enum Look {
 
 fn is_shown(stack: &StackState, look: &Look) -> bool {
     match look {
-        Look::Written(slot, marks) => {
-            stack.slots.get(*slot) == Some(&StackSlot::Written(*marks))
+        Look::Written(stack_slot, marks) => {
+            stack.slots.get(*stack_slot) == Some(&StackSlot::Written(*marks))
         }
-        Look::Fill(slot, held) => *slot < 64 && stack.fill(*slot) == Some(kind_of(held)),
-        Look::NoFill(slot) => *slot < 64 && stack.fill(*slot).is_none(),
+        Look::Fill(stack_slot, held) => {
+            *stack_slot < 64 && stack.fill(*stack_slot) == Some(kind_of(held))
+        }
+        Look::NoFill(stack_slot) => *stack_slot < 64 && stack.fill(*stack_slot).is_none(),
         Look::Load(at, size, numbers) => {
             *at < 512
                 && *at % 8 + size.bytes() <= 8
@@ -126,8 +128,8 @@ type Row = (&'static [Act], &'static [Look]);
 fn is_row_shown(rt: &impl Abort, index: usize, row: &Row) {
     let (acts, looks) = row;
     let stack = after(*acts);
-    for (at, look) in looks.iter().enumerate() {
-        assert!(rt; is_shown(&stack, look), "row {index}, look {at}");
+    for (look_index, look) in looks.iter().enumerate() {
+        assert!(rt; is_shown(&stack, look), "row {index}, look {look_index}");
     }
 }
 

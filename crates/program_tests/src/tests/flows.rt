@@ -1,4 +1,4 @@
-//! Where paths of small programs meet, and which registers are live there.
+//! Which slots of small programs are joins, and which registers are live at a slot.
 
 use super::programs::image_of;
 use control_flow::{Flow, RegisterMask};
@@ -63,7 +63,7 @@ fn is_live(live: RegisterMask, number: u8) -> bool {
 /// Adds the numbers from r1 down to 1, and sets one more register that is not used again.
 const COUNTS: &str = "r0 = 0; r3 = 7; r2 = r3; r0 += r1; r1 -= 1; if r1 != 0 goto -3; exit";
 
-/// A function that is called with r1 and r2, and r6 over the call.
+/// A function that is called with r1, and r6 over the call.
 const CALLS: &str = "r6 = 1; r1 = 2; call pc+2; r0 += r6; exit; r0 = r1; exit";
 
 /// A helper without arguments, and r6 over its call; a wide load that writes r6.

@@ -34,7 +34,7 @@ const FRONTS: &[(&[u8], &str, usize)] = &[
 
 #[test]
 fn finds_the_longest_or_no_token(rt: HostRuntime) {
-    for (text, name, at) in FRONTS.iter() {
-        assert_eq!(rt; front_of(*text), (*name, *at));
+    for (text, wanted, at) in FRONTS.iter() {
+        assert_eq!(rt; front_of(*text), (*wanted, *at));
     }
 }

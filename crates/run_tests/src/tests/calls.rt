@@ -1,5 +1,4 @@
-//! Each call from C and Rust, on images of the documents and with each argument that can be
-//! invalid.
+//! Each call from C and Rust, on a few small images and with each argument that can be invalid.
 
 mod buffers;
 mod images;

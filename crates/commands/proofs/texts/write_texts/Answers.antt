@@ -7,9 +7,9 @@ pub returns-in_err-write_bytes-2-clause-err : goal.returns-in_err-write_bytes-2-
 returns-in_err-write_bytes-2-clause-err g c =
     on_err _ _
     (second_failed _ _ _ c.args.front.now
-    (c.args.name.now ++ c.args.back.now) _ c.as_bytes.ensures.value
+    (c.args.middle.now ++ c.args.back.now) _ c.as_bytes.ensures.value
     c.in_ok-write_bytes.ensures.ok
-    (first_failed _ _ c.args.name.now c.args.back.now _ c.as_bytes-2.ensures.value
+    (first_failed _ _ c.args.middle.now c.args.back.now _ c.as_bytes-2.ensures.value
     c.in_err-write_bytes-2.ensures.err))
 
 pub returns-clause-err : goal.returns-clause-err
@@ -18,9 +18,9 @@ returns-clause-err g c =
     (λ (failed : AppendsBeginning (g.W.Write.contents c.write_bytes-2.new.writer)
     (g.W.Write.contents c.write_bytes-3.new.writer) c.as_bytes-3.result.now).
     second_failed _ _ _ c.args.front.now
-    (c.args.name.now ++ c.args.back.now) _ c.as_bytes.ensures.value
+    (c.args.middle.now ++ c.args.back.now) _ c.as_bytes.ensures.value
     c.in_ok-write_bytes.ensures.ok
-    (second_failed _ _ _ c.args.name.now c.args.back.now _ c.as_bytes-2.ensures.value
+    (second_failed _ _ _ c.args.middle.now c.args.back.now _ c.as_bytes-2.ensures.value
     c.in_ok-write_bytes-2.ensures.ok
     (subst (AppendsBeginning _ _) c.as_bytes-3.ensures.value failed)))
     c.write_bytes-3.ensures.err
@@ -28,8 +28,8 @@ returns-clause-err g c =
 pub returns-clause-ok : goal.returns-clause-ok
 returns-clause-ok g c =
     ok_behind _ _ _ _ c.args.front.now
-    (c.args.name.now ++ c.args.back.now) _ c.as_bytes.ensures.value c.in_ok-write_bytes.ensures.ok
-    (ok_behind _ _ _ _ c.args.name.now c.args.back.now _ c.as_bytes-2.ensures.value
+    (c.args.middle.now ++ c.args.back.now) _ c.as_bytes.ensures.value c.in_ok-write_bytes.ensures.ok
+    (ok_behind _ _ _ _ c.args.middle.now c.args.back.now _ c.as_bytes-2.ensures.value
     c.in_ok-write_bytes-2.ensures.ok
     (ok_text _ _ _ _ c.args.back.now c.as_bytes-3.ensures.value c.write_bytes-3.ensures.ok))
 
@@ -37,5 +37,5 @@ pub returns-in_err-write_bytes-clause-err : goal.returns-in_err-write_bytes-clau
 returns-in_err-write_bytes-clause-err g c =
     on_err _ _
     (first_failed _ _ c.args.front.now
-    (c.args.name.now ++ c.args.back.now) _ c.as_bytes.ensures.value
+    (c.args.middle.now ++ c.args.back.now) _ c.as_bytes.ensures.value
     c.in_err-write_bytes.ensures.err)

@@ -1,5 +1,5 @@
-//! The images of the tests, as docs/FORMATS.md and docs/REFUSALS.md show them, and the head of a
-//! packet frame.
+//! The images of the tests, of which docs/FORMATS.md shows the first, and the head of a packet
+//! frame.
 
 use run_calls::running::Head;
 

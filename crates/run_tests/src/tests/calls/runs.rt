@@ -72,7 +72,7 @@ fn traces_once(rt: HostRuntime) {
 }
 
 /// The stream of one packet frame of two bytes.
-const FRAMES: &[u8] = b"XPF1\xe8\x03\0\0\0\0\0\0\x01\0\0\0\0\0\0\0\x02\0\0\0\xca\xfe";
+const ONE_FRAME: &[u8] = b"XPF1\xe8\x03\0\0\0\0\0\0\x01\0\0\0\0\0\0\0\x02\0\0\0\xca\xfe";
 
 /// The same stream, and the first byte of another record.
 const CUT: &[u8] = b"XPF1\xe8\x03\0\0\0\0\0\0\x01\0\0\0\0\0\0\0\x02\0\0\0\xca\xfe\x01";
@@ -85,8 +85,8 @@ fn streamed(
     alloc: Global,
     image: &[u8],
     stream: &[u8],
-    report: &mut [u8],
-    sent: &mut [u8],
+    report_buffer: &mut [u8],
+    sent_buffer: &mut [u8],
 ) -> Returned {
     let mut out = Streamed {
         report: 9,
@@ -95,7 +95,7 @@ fn streamed(
         frames: 9,
         fault: 9,
     };
-    let status = run_stream(alloc, image, stream, report, sent, &mut out);
+    let status = run_stream(alloc, image, stream, report_buffer, sent_buffer, &mut out);
     (
         status, out.report, out.sent, out.frames, out.fault, out.offset,
     )
@@ -110,11 +110,17 @@ fn streams_so(
     room: usize,
     wanted: &(Returned, &[u8], &[u8]),
 ) -> bool {
-    let mut report = [7; 40];
-    let mut sent = [7; 40];
+    let mut report_buffer = [7; 40];
+    let mut sent_buffer = [7; 40];
     let room = room.min(40);
-    let found = streamed(alloc, image, stream, &mut report[..room], &mut sent[..room]);
-    found == wanted.0 && holds(&report, wanted.1) && holds(&sent, wanted.2)
+    let found = streamed(
+        alloc,
+        image,
+        stream,
+        &mut report_buffer[..room],
+        &mut sent_buffer[..room],
+    );
+    found == wanted.0 && holds(&report_buffer, wanted.1) && holds(&sent_buffer, wanted.2)
 }
 
 /// An image, a stream, the room for each output, and what is returned, with what is written of the
@@ -122,9 +128,9 @@ fn streams_so(
 const STREAMS: &[(&[u8], &[u8], usize, (Returned, &[u8], &[u8]))] = &[
     (
         &PASS,
-        FRAMES,
+        ONE_FRAME,
         40,
-        ((0, 17, 26, 1, 0, 0), b"0 PASS 2 2\nend 1\n", FRAMES),
+        ((0, 17, 26, 1, 0, 0), b"0 PASS 2 2\nend 1\n", ONE_FRAME),
     ),
     (
         &PASS,
@@ -136,7 +142,7 @@ const STREAMS: &[(&[u8], &[u8], usize, (Returned, &[u8], &[u8]))] = &[
             b"XPF1\xe8\x03\0\0\0\0\0\0",
         ),
     ),
-    (&ENDLESS, FRAMES, 12, ((2, 9, 9, 9, 9, 9), b"", b"")),
+    (&ENDLESS, ONE_FRAME, 12, ((2, 9, 9, 9, 9, 9), b"", b"")),
 ];
 
 #[test]

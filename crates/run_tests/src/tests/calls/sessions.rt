@@ -103,7 +103,9 @@ fn called(alloc: Global, session: &mut Session, call: &Call) -> Returned {
             let status = delete_key(alloc, session, *map, key, &mut out);
             changed(status, out)
         }
-        Call::Next(map, rank, key, value) => listed(alloc, session, *map, *rank, (*key, *value)),
+        Call::Next(map, rank, key_size, value_size) => {
+            listed(alloc, session, *map, *rank, (*key_size, *value_size))
+        }
     }
 }
 

@@ -57,7 +57,7 @@ fn assembles(rt: HostRuntime) {
     }
 }
 
-/// The status, and the bound, the slot and the size of the text, within a limit.
+/// The status, and the bound, the slot and the size of the message, within a limit.
 type Judged = (u32, u32, usize, usize);
 
 fn verdict(alloc: Global, image: &[u8], limit: u32, why: &mut [u8]) -> Judged {
@@ -70,7 +70,7 @@ fn verdict(alloc: Global, image: &[u8], limit: u32, why: &mut [u8]) -> Judged {
     (status, out.bound, out.slot, out.said)
 }
 
-/// Whether the call on an image returns this, with room for a text if one is wanted.
+/// Whether the call on an image returns this, with room for a message if one is wanted.
 fn judges_so(alloc: Global, image: &[u8], limit: u32, wanted: &(Judged, &str)) -> bool {
     let mut why = [7; 300];
     let room = if wanted.1.is_empty() { 0 } else { 300 };
@@ -79,7 +79,7 @@ fn judges_so(alloc: Global, image: &[u8], limit: u32, wanted: &(Judged, &str)) -
 }
 
 /// An image and a limit of explored instructions, and what is returned and said: `PASS` has two
-/// instructions, and each is explored once. Without room for a text, what is known at the
+/// instructions, and each is explored once. Without room for a message, what is known at the
 /// instruction is not looked for.
 const IMAGES: &[(&[u8], u32, (Judged, &str))] = &[
     (&PASS, 1_000_000, ((0, 2, 0, 0), "")),

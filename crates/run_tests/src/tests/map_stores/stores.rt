@@ -21,7 +21,7 @@ fn deleted(chained: &mut HashMapChain, number: u32) -> (bool, u64, bool) {
     (is_there, found, value_of(chained, &key).is_none())
 }
 
-fn fills_and_empties(rt: &impl Abort, chained: &mut HashMapChain) {
+fn puts_and_deletes(rt: &impl Abort, chained: &mut HashMapChain) {
     for number in 0..65_536u32 {
         assert_eq!(rt; put(chained, number), 0, "{number}");
     }
@@ -36,7 +36,7 @@ fn fills_and_empties(rt: &impl Abort, chained: &mut HashMapChain) {
 #[test]
 fn full_map_takes_a_key_once_all_are_gone(rt: HostRuntime) -> Result<(), Fail> {
     let mut chained = HashMapChain::new(rt.alloc(), 4, 8, 65_536)?;
-    fills_and_empties(&rt, &mut chained);
+    puts_and_deletes(&rt, &mut chained);
     Ok(())
 }
 
@@ -88,7 +88,7 @@ fn stores_agree_over_a_long_list(rt: HostRuntime) -> Result<(), Fail> {
 }
 
 /// Updates the keys 0 to 39, and returns whether each update was done.
-fn is_filled(chained: &mut HashMapChain) -> bool {
+fn has_put_all(chained: &mut HashMapChain) -> bool {
     let mut is_taken = true;
     for index in 0..40u32 {
         let found = answer(chained, &index.to_le_bytes(), &[0; 4], Some(1));
@@ -99,7 +99,7 @@ fn is_filled(chained: &mut HashMapChain) -> bool {
 
 /// An array and a hash map that has all its keys answer the same over a list of updates.
 fn array_agrees(rt: &impl Abort, array: &mut ArrayMap, chained: &mut HashMapChain) {
-    assert!(rt; is_filled(chained));
+    assert!(rt; has_put_all(chained));
     let mut number = 1;
     for round in 0..2_000u32 {
         number = next(number);

@@ -32,7 +32,7 @@ const COUNTS: &str = "
     put: r1 = map_by_idx(0); r4 = 0; call 2; exit";
 
 // The report on two packet frames: a trap undoes nothing, and the second run finds what the first
-// one left. The key-value pairs come after the frames, in the order of their keys.
+// one left. The key-value pairs come after the lines of the frames, in the order of their keys.
 const COUNTED: &[u8] = b"0 TRAP access 0 24\n1 TRAP access 0 24\nmap 0 10 0102\nmap 0 fe 0102\n\
 map 1 00000000 0200000000000000\nend 2\n";
 
@@ -142,7 +142,7 @@ fn report_fails(
     ends_so(rt, &case)
 }
 
-fn frames_fail(
+fn frames_out_fail(
     rt: &(impl AllocGlobal + Abort),
     whole: &Whole,
     failing: Failure,
@@ -171,7 +171,7 @@ fn outputs_fail(
         report_fails(rt, whole, failing, room)?;
     }
     for room in 0..=whole.sent.len() {
-        frames_fail(rt, whole, failing, room)?;
+        frames_out_fail(rt, whole, failing, room)?;
     }
     Ok(())
 }

@@ -32,16 +32,16 @@ pub returns-in-CannotWrite-clause-ok : goal.returns-in-CannotWrite-clause-ok
 returns-in-CannotWrite-clause-ok g c =
     rw c.in-CannotWrite.is
     (ok_text _ _ _ _
-    (codes "cannot write " ++ (c.in-CannotWrite.path.now ++ line_after c.in-CannotWrite.cause))
-    (ap (λ (l : List ℕ). codes "cannot write " ++ (c.in-CannotWrite.path.now ++ l))
+    (codes "cannot write " ++ (c.in-CannotWrite.name.now ++ line_after c.in-CannotWrite.cause))
+    (ap (λ (l : List ℕ). codes "cannot write " ++ (c.in-CannotWrite.name.now ++ l))
     c.line_after.ensures) c.write_texts-in-CannotWrite.ensures.ok)
 
 pub returns-in-CannotWrite-clause-err : goal.returns-in-CannotWrite-clause-err
 returns-in-CannotWrite-clause-err g c =
     rw c.in-CannotWrite.is
     (err_text _ _ _ _
-    (codes "cannot write " ++ (c.in-CannotWrite.path.now ++ line_after c.in-CannotWrite.cause))
-    (ap (λ (l : List ℕ). codes "cannot write " ++ (c.in-CannotWrite.path.now ++ l))
+    (codes "cannot write " ++ (c.in-CannotWrite.name.now ++ line_after c.in-CannotWrite.cause))
+    (ap (λ (l : List ℕ). codes "cannot write " ++ (c.in-CannotWrite.name.now ++ l))
     c.line_after.ensures) c.write_texts-in-CannotWrite.ensures.err)
 
 pub returns-in-Refused-clause-ok : goal.returns-in-Refused-clause-ok

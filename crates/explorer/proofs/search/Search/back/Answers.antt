@@ -1,11 +1,11 @@
 use Rattle.std.proofs.Common.{◌≡◌, ◌∙◌, ℕ, ◌+◌, List, Some, None, arith, sym, ap, length, subst}
 use Rattle.explorer.specs.declared.trail.Visit.{Visit}
 use Rattle.explorer.specs.Search.{Settles, HasSpent, Path}
-use Rattle.explorer.proofs.Stores.{Settles-start}
+use Rattle.explorer.proofs.StoredStatesLaws.{Settles-start}
 use Rattle.explorer.proofs.Paths.{LastVisit, Path-pop, Path-none}
 use Rattle.explorer.proofs.Unfinished.{OnPath-pop}
 use Rattle.explorer.proofs.Counting.{spent_back}
-use Rattle.explorer.proofs.Steps.{goes_back, comes_aside}
+use Rattle.explorer.proofs.Moves.{goes_back, comes_aside}
 use Rattle.explorer.proofs.search.Search.back.Goals as goal
 use Rattle.explorer.proofs.search.Search.back.Goals.{In-Some}
 

@@ -33,6 +33,6 @@ come-requires-clause-comes c =
     }
 
 pub come-requires-clause-forgotten : goal.come-requires-clause-forgotten
-come-requires-clause-forgotten c = λ new.
+come-requires-clause-forgotten c = λ none.
     Forgets-forgotten c.args.flow.now c.args.self.now.current c.forget_dead.new.state
     c.forget_dead.ensures

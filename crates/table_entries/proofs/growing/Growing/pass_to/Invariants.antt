@@ -3,7 +3,7 @@ use Rattle.table_entries.specs.Tables.{count_of}
 use Rattle.table_entries.specs.Growing.{Grows}
 use Rattle.table_entries.proofs.growing.Growing.pass_to.Given as goal
 
--- as many entries are placed as were counted
+-- as many entries are placed as the counter of the loop says
 abbrev pub invariant-loop : goal.invariant-loop
 invariant-loop l = record {
   grows : Grows l.image l.fn.self l.self;

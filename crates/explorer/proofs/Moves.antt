@@ -30,7 +30,7 @@ use Rattle.walks.proofs.Forgotten.{LeadsTo-forgets, GoesOnTo-forgets}
 use Rattle.explorer.proofs.Walking.{steps_by, into_by, Path-walks}
 use Rattle.explorer.proofs.Counting.{Spends-one, Spends-two, spent_here, spent_into, spent_on}
 use Rattle.walks.specs.Counts.{StepsInto, LeadsNowhere, Nothing}
-use Rattle.explorer.proofs.Stores.{AllSettled-more, IsCovered-known, Arrives-keeps, Arrives-fine, Arrives-stored, GetsNumber-fine, GetsNumber-keeps}
+use Rattle.explorer.proofs.StoredStatesLaws.{AllSettled-more, IsCovered-known, Arrives-keeps, Arrives-fine, Arrives-stored, GetsNumber-fine, GetsNumber-keeps}
 use Rattle.explorer.proofs.Unfinished.{OnPath-same, OnPath-push, OnPath-pop, OnPath-arrives, OnPath-finish}
 use Rattle.explorer.proofs.Paths.{LastVisit, Path-more, Path-push, Path-pop, StepsAwaited-ends, StepsAwaited-next, LeadsTo-ends, StepsAwaited-one, StepsAwaited-two, NumberFollows-ends, NumberFollows-next, NumberFollows-one, NumberFollows-two}
 
