@@ -59,6 +59,23 @@ def nested_calls(turns):
     return "\n".join(lines + ["g: r0 = 0\nexit"]) + "\n"
 
 
+def seven_frames(first, body, turns, start="r6 = r1", given="r6"):
+    """Each of seven functions calls the next, which gets a pointer; the last one has a loop."""
+    lines = [*first, start]
+    for number in range(6):
+        lines.append(f"r7 = 7\nr9 = 9\nr1 = r6\ncall f{number}\nr0 = 2\nexit\nf{number}: r6 = r1")
+    loop = f"r8 = 0\nloop: r8 += 1\n{body}\nif r8 < {turns} goto loop\nout: r0 = 2\nexit"
+    return "\n".join([*lines, f"r7 = 7\nr9 = 9\nr1 = {given}\ncall g\nr0 = 2\nexit\ng: r6 = r1", loop]) + "\n"
+
+
+ARRAY, HASH = "map array 4 8 1", "map hash 4 8 1"
+KEY = "*(u32 *)(r10 - 4) = 0\nr2 = r10\nr2 += -4\nr1 = map_by_idx(0)\n"
+LOOK_UP = KEY + "call 1\nif r0 == 0 goto out"
+ADD = "r1 = map_val(map_by_idx(0)) + 0\nr2 = 1\nlock *(u64 *)(r1 + 0) += r2"
+TEST = "r2 = *(u32 *)(r6 + 0)\nr3 = *(u32 *)(r6 + 4)\nr4 = r2\nr4 += 4\nif r4 > r3 goto out"
+STORE = "r2 = 1\n*(u64 *)(r6 - 8) = r2"
+
+
 def branches(count):
     lines = ["r2 = *(u32 *)(r1 + 12)", "r0 = 0"]
     for bit in range(count):
@@ -76,6 +93,13 @@ ROWS = [
     ("18 branches on unknown bits in a row", branches(18)),
     ("a call in each turn, 50,000 turns", call_loop(50_000)),
     ("calls from the seventh frame, 15,500 turns", nested_calls(15_500)),
+    ("a look-up and a null test in the eighth frame", seven_frames([HASH], LOOK_UP, 10_000)),
+    ("a delete in the eighth frame", seven_frames([HASH], KEY + "call 3", 10_000)),
+    ("the clock asked in the eighth frame", seven_frames([], "call 5", 20_000)),
+    ("atomic adds to a map value in the eighth frame", seven_frames([ARRAY], ADD, 15_000)),
+    ("packet tests in the eighth frame", seven_frames([], TEST, 10_000)),
+    ("stores into the seventh frame from the eighth", seven_frames([], STORE, 20_000, given="r10")),
+    ("stores into the first frame from the eighth", seven_frames([], STORE, 20_000, "r6 = r10")),
     ("bench/parser.text", text_of("parser")),
     ("bench/headers.text", text_of("headers")),
     ("bench/options.text", text_of("options")),

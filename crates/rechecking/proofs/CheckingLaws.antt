@@ -21,7 +21,9 @@ use Rattle.transfer.specs.Exact.{Steps}
 use Rattle.transfer.specs.Leading.{LeadsTo, InSome}
 use Rattle.isa_model.specs.declared.limits.TheConstants.{MAX_STEPS}
 use Rattle.table_entries.specs.declared.entries.EntryHead.{EntryHead}
-use Rattle.table_entries.specs.Entries.{Entry, entry_of}
+use Rattle.table_entries.specs.declared.entries.NamedEntries.{NamedEntries}
+use Rattle.table_entries.specs.declared.entries.NamedEntries.TheVariants as named
+use Rattle.table_entries.specs.Entries.{Entry, entry_of, list_of}
 use Rattle.rechecking.specs.Tables.{EntryAt, EntersSmaller, IsClosedEntry, MeansStarts}
 use Rattle.rechecking.specs.declared.errors.TableError.TheVariants.{Step, Successor}
 use Rattle.rechecking.specs.KnownEntries.{HasEntry}
@@ -74,6 +76,12 @@ pub MeansStarts-covers : (p : Program) (a : State) → IsProgram p → Covers p 
 unfolding Covers
 MeansStarts-covers p a program covers head packet contents given =
     covers (start_state head packet contents) (Means-start p head packet contents program given)
+
+-- two that are entered
+pub FollowsBy-two : (t : EntryAt) (number i j : ℕ) (names : NamedEntries) (w : Ways) (a b : State)
+    → names ≡ named.Two i j → w ≡ ways.Two → Enters t number i a → Enters t number j b
+    → FollowsBy (Enters t number) (list_of names) w a b
+FollowsBy-two t number i j names w a b two goes first second = rw (two, goes) (first, second)
 
 -- ---- options that have an element
 

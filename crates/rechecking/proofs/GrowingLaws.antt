@@ -70,6 +70,15 @@ HasStart-grows p g h n grows s = record {
   number_is = s.number_is;
 }
 
+pub Enters-grows : (p : Program) (g h : Grown) (number index : ℕ) (a : State) → Grows p g h
+    → Enters (entry_at p g.table) number index a → Enters (entry_at p h.table) number index a
+Enters-grows p g h number index a grows s = record {
+  entry = s.entry;
+  there = entry_at-stays p g h index s.entry grows s.there;
+  smaller = s.smaller;
+  covers = s.covers;
+}
+
 -- an entry whose bytes spell the state
 pub Enters-spelled : (p : Program) (t : EntryAt) (number index : ℕ) (a : State) (head : EntryHead)
     → IsAllowed p head.number a.slot → t index ≡ Some (entry_of head a)

@@ -1,40 +1,34 @@
 -- The parts of a state that a step leaves as they are, and the bytes that spell them.
-use Rattle.std.specs.Prelude.{◌≡◌, ℕ, zero, suc, ◌+◌, ◌-◌, ◌<◌, ◌⊎◌, ◌==◌, ◌&&◌, if◌then◌else◌, Bool, true, false, ℤ, pos, ◌+ℤ◌, List, [], ◌∷◌, ◌++◌, length, map, take, slice_get, Option, Some, None, Ok, refl}
+use Rattle.std.specs.Prelude.{◌≡◌, ℕ, zero, suc, ◌+◌, ◌-◌, ◌<◌, ◌⊎◌, if◌then◌else◌, Bool, true, false, ℤ, List, [], ◌∷◌, ◌++◌, length, map, take, slice_get, Option, Some, None, Result, Ok, refl}
 use Rattle.std.specs.Borrow.{Bor}
-use Rattle.std.specs.Option.{option_map}
 use Rattle.std.proofs.Common.{inl, inr, sym, ap, ◌∙◌, subst, arith}
-use Rattle.std.proofs.lemmas.Bool.Decides.{nat_tests}
 use Rattle.std.proofs.lemmas.Option.{slice_get-map, slice_get_within}
-use Rattle.isa_model.specs.declared.sizes.Size.{Size}
-use Rattle.isa_model.specs.declared.sizes.Size.TheVariants.{U64}
-use Rattle.isa_model.specs.declared.registers.Reg.{Reg}
-use Rattle.isa_model.specs.declared.registers.Reg.TheVariants.{R0, R10}
-use Rattle.isa_model.specs.declared.instructions.Place.{Place}
-use Rattle.isa_model.specs.declared.map_defs.MapDef.{MapDef}
+use Rattle.isa_model.specs.declared.registers.Reg.TheVariants.{R0}
 use Rattle.isa_model.specs.declared.instructions.Cond.{Cond}
-use Rattle.isa_model.specs.declared.instructions.Operand.{Operand}
-use Rattle.isa_model.specs.declared.instructions.Operand.TheVariants.{Constant, Register}
 use Rattle.isa_model.specs.declared.instructions.Insn.{Insn}
 use Rattle.isa_model.specs.declared.instructions.Insn.TheVariants.{StoreConstant, Store, Atomic, Exchange, CompareExchange, Jump, JumpLong, JumpIf, CallHelper, CallLocal, Exit}
 use Rattle.isa_model.specs.declared.versions.Version.{Version}
+use Rattle.isa_model.specs.Code.Helpers.{helper_numbered}
+use Rattle.isa_model.specs.Code.Sizes.{width_size}
 use Rattle.isa_model.specs.Code.Instructions.{Program, writes, is_frame_pointer}
 use Rattle.isa_model.specs.Machine.Steps.{destination}
-use Rattle.reg_state.specs.declared.kinds.Kind.{Kind}
-use Rattle.reg_state.specs.declared.kinds.Kind.TheVariants.{Number}
-use Rattle.stack_state.specs.declared.slots.StackSlot.{StackSlot}
 use Rattle.stack_state.specs.declared.states.AbstractFrame.{AbstractFrame}
 use Rattle.stack_state.specs.declared.states.State.{State}
 use Rattle.stack_state.specs.Places.{kind_of, go_to}
 use Rattle.stack_state.specs.Calls.{caller_of, entered, without_frame, ended}
-use Rattle.stack_state.specs.Effects.{with_kinds, with_frame_slots}
-use Rattle.branch_refine.specs.Refining.{IsNumberKind, IsNumberOperand, Narrows}
+use Rattle.stack_state.specs.Effects.{with_kinds, map_kinds, proved_kind, tested_kind}
+use Rattle.branch_refine.specs.declared.comparing.Compared.{Compared}
+use Rattle.branch_refine.specs.declared.comparing.Compared.TheVariants.{Numbers, Packet, OrNull, Live, Undefined}
+use Rattle.branch_refine.specs.Comparing.{compared_by, same}
+use Rattle.branch_refine.specs.Refining.{LearnsOf, Refines}
+use Rattle.branch_refine.proofs.RefiningLaws.{numbers-compared_by}
 use Rattle.transfer.specs.declared.Ways.{Ways}
 use Rattle.transfer.specs.declared.Ways.TheVariants as ways
+use Rattle.transfer.specs.declared.refusals.Refusal.{Refusal}
 use Rattle.transfer.specs.declared.refusals.Refusal.TheVariants.{UnsetRegister, ReadOnlyRegister}
 use Rattle.transfer.specs.Refusing.{reads_unset}
-use Rattle.transfer.specs.Accesses.{StoresKind}
-use Rattle.transfer.specs.StackAccesses.{IsLeft, StackStores}
-use Rattle.transfer.specs.Exact.{GoesOn, StoresAt, Sides, Branches, ExitsFrom, StepsForm, Steps}
+use Rattle.transfer.specs.HelperCalls.{CallsHelper}
+use Rattle.transfer.specs.Exact.{GoesOn, StoresAt, SwapsAtPlace, ComparesAtPlace, Sides, Branches, ExitsFrom, StepsForm, Steps}
 use Rattle.transfer.proofs.AnswerLaws.{answered_number}
 use Rattle.transfer.proofs.ExactLaws.{tested_rest}
 use Rattle.table_entries.specs.declared.known_bytes.FrameBytes.{FrameBytes}
@@ -42,29 +36,17 @@ use Rattle.table_entries.specs.declared.known_bytes.KnownBytes.{KnownBytes}
 use Rattle.table_entries.specs.KnownBytes.{SpellsFrame, SpellFrames, SpellSlots, AreSpelled}
 use Rattle.table_entries.proofs.Below.{frame_in-stays}
 use Rattle.table_entries.proofs.KnownBytesLaws.{taken_get}
+use Rattle.rechecking.specs.declared.changes.KindChange.TheVariants.{Proves, Tests}
 use Rattle.rechecking.specs.declared.untouched.UntouchedParts.{UntouchedParts}
-use Rattle.rechecking.specs.Untouched.{is_number_kind, is_number, compares_by, compares_numbers, none_kept, outer_kept, kept_by_store, parts_kept, kept_after, KeepsOuterFrames, KeepsParts}
+use Rattle.rechecking.specs.Changes.{LeavesParts}
+use Rattle.rechecking.specs.Untouched.{outer_kept, kept_by_write, KeptByTest, KeptBy, kept_after, KeepsOuterFrames, KeepsParts}
+use Rattle.rechecking.proofs.ChangeLaws.{proved_kind-kept, tested_kind-kept}
+use Rattle.rechecking.proofs.KeptLaws.{nothing_kept, all_kept, same_kept, mapped_some, kinds_kept, store_kept, numbers_kept, compare_kept, helper_kept}
 
 -- the step has a successor
 abbrev IsGoing : Ways → Type 0
 IsGoing ways.None = ⊥
 IsGoing w = Unit {0}
-
-same_frames : (n : ℕ) (a b : State) → b.callers ≡ a.callers → KeepsOuterFrames n a b
-same_frames n a b same =
-    λ j f less at. (f, ap (λ c. slice_get c.items j) (sym same) ∙ at, inl refl)
-
-nothing_kept : (a b : State) → KeepsParts none_kept a b
-nothing_kept a b =
-    record { frames = λ j f less at. absurd (omega arith); slots = λ no. absurd (cc) }
-
--- all outer call frames, and the stack slots of the innermost if they are the same
-outer_same : (a b : State) (slots : Bool) → b.callers ≡ a.callers
-    → (slots ≡ true → b.innermost.stack ≡ a.innermost.stack) → KeepsParts (outer_kept a slots) a b
-outer_same a b slots same stack = record {
-  frames = same_frames (length a.callers.items) a b same;
-  slots = λ yes. (ap (λ c. length c.items) same, ap (λ s. s.slots) (stack yes));
-}
 
 -- ---- calls and exits
 
@@ -83,11 +65,6 @@ entered_kept a target = record {
   );
   slots = λ no. absurd (cc);
 }
-
-mapped_some : {X Y : Type 0} (g : X → Y) (o : Option X) (y : Y) → option_map g o ≡ Some y
-    → (x : X) × (o ≡ Some x) × (y ≡ g x)
-mapped_some g (Some x) y h = (x, refl, cc)
-mapped_some g None y h = absurd (cc)
 
 ended_kept : (a : State) (n : ℕ) → KeepsParts (record { frames = n; slots = false }) a (ended a)
 ended_kept a n = record { frames = each; slots = λ no. absurd (cc) } where
@@ -110,24 +87,6 @@ exit_kept v (suc n) m a w b on h =
 
 -- ---- conditional jumps
 
-number_there : (k : Kind) → is_number_kind k ≡ true → IsNumberKind k
-number_there (Number numbers) h = tt
-number_there k h = absurd (cc)
-
-both_are : (x y : Bool) → (x && y) ≡ true → (x ≡ true) × (y ≡ true)
-both_are true y h = (refl, h)
-both_are false y h = absurd (cc)
-
-numbers_there : (a : State) (cond : Cond) (operand : Operand) → compares_by a cond operand ≡ true
-    → IsNumberKind (kind_of a cond.register) × IsNumberOperand a operand
-numbers_there a cond (Constant k) h = (number_there (kind_of a cond.register) h, tt)
-numbers_there a cond (Register r) h =
-    let two = both_are (is_number a cond.register) (is_number a r) h in
-    (number_there (kind_of a cond.register) two.0, number_there (kind_of a r) two.1)
-
-narrows_kept : (a b : State) → Narrows a b → KeepsParts (outer_kept a true) a b
-narrows_kept a b h = outer_same a b true h.callers (λ yes. h.stack)
-
 side_kept : (parts : UntouchedParts) (stays goes : Bool) (a stay go : State) (w : Ways)
     (b c : State)
     → IsGoing w → Sides stays goes stay go w b c → KeepsParts parts a stay
@@ -142,99 +101,160 @@ gone_kept : (parts : UntouchedParts) (a b : State) (slot : ℕ) → KeepsParts p
     → KeepsParts parts a (go_to b slot)
 gone_kept parts a b slot h = record { frames = h.frames; slots = h.slots }
 
+proved_kept : (t : Bool) (i n : ℕ) (a : State) (parts : UntouchedParts)
+    → LeavesParts (Proves i n) a parts
+    → KeepsParts parts a (if t then map_kinds (proved_kind i n) a else a)
+proved_kept true i n a parts h =
+    kinds_kept (Proves i n) (proved_kind i n) (proved_kind-kept i n) a parts h
+proved_kept false i n a parts h = same_kept parts a a refl
+
+learned_kept : (cond : Cond) (taken : Bool) (a : State) (some : Bool) (b : State) (c : Compared)
+    (parts : UntouchedParts) → compared_by a cond ≡ c → Refines cond taken a some b
+    → LearnsOf c taken a some b → KeptByTest a c parts → KeepsParts parts a b
+learned_kept cond taken a some b Numbers parts is h l kept =
+    let narrows = h.narrowed (numbers-compared_by a cond is) in
+    all_kept parts a b narrows.callers narrows.stack
+learned_kept cond taken a some b (Packet i shows n) parts is h l kept =
+    subst (KeepsParts parts a) (sym l.1) (proved_kept (same taken shows) i n a parts kept)
+learned_kept cond taken a some b (OrNull i null) parts is h l kept =
+    let (zeros, has, constant, left) = l.1 in
+    subst (KeepsParts parts a) (sym left)
+    (kinds_kept (Tests i) (tested_kind i (same taken null) zeros)
+    (tested_kind-kept i (same taken null) zeros) a parts kept)
+learned_kept cond taken a some b (Live null) parts is h l kept = same_kept parts a b l.1
+learned_kept cond taken a some b Undefined parts is h l kept = same_kept parts a b l.1
+
+refined_kept : (cond : Cond) (taken : Bool) (a : State) (some : Bool) (b : State)
+    (parts : UntouchedParts) → Refines cond taken a some b
+    → KeptByTest a (compared_by a cond) parts → KeepsParts parts a b
+refined_kept cond taken a some b parts h kept =
+    learned_kept cond taken a some b (compared_by a cond) parts refl h h.pointers kept
+
 jump_kept : (p : Program) (a : State) (cond : Cond) (by : ℤ) (w : Ways) (b c : State)
-    → IsGoing w → Branches p a cond by w b c
-    → KeepsParts (if compares_numbers a cond then outer_kept a true else none_kept) a b
-jump_kept p a cond by w b c on h = of (compares_numbers a cond) refl where
-  of : (t : Bool) → compares_numbers a cond ≡ t
-      → KeepsParts (if t then outer_kept a true else none_kept) a b
-  of true e =
-      let two = numbers_there a cond cond.operand e in
-      side_kept (outer_kept a true) h.stays h.goes a (go_to h.stay (a.slot + 1))
-      (go_to h.go (destination p a.slot by)) w b c on h.sides
-      (gone_kept (outer_kept a true) a h.stay (a.slot + 1)
-      (narrows_kept a h.stay (h.left_there.narrowed two)))
-      (gone_kept (outer_kept a true) a h.go (destination p a.slot by)
-      (narrows_kept a h.go (h.taken_there.narrowed two)))
-  of false e = nothing_kept a b
-
--- ---- stores
-
-own_slots : (a : State) (slots : List StackSlot)
-    → (with_frame_slots a (length a.callers.items) slots).callers ≡ a.callers
-own_slots a slots = of (length a.callers.items == length a.callers.items) refl where
-  of : (t : Bool) → (length a.callers.items == length a.callers.items) ≡ t
-      → (with_frame_slots a (length a.callers.items) slots).callers ≡ a.callers
-  of true e = rw e refl
-  of false e = absurd (grind (arith, nat_tests))
-
-own_left : (a b : State) (at : ℕ) (size : Size) (source : Kind)
-    → IsLeft a (length a.callers.items) at size source b → b.callers ≡ a.callers
-own_left a b at U64 source h = ap (λ s. s.callers) h.left ∙ own_slots a _
-own_left a b at size (Number numbers) h = ap (λ s. s.callers) h.left ∙ own_slots a _
-own_left a b at size source h = ap (λ s. s.callers) h.left ∙ own_slots a _
-
-store_kept : (maps : List MapDef) (a left : State) (size : Size) (place : Place) (r : Reg)
-    (source : Kind) → place.base ≡ r → StoresAt maps a size place source left (Ok tt)
-    → KeepsParts (kept_by_store a r) a left
-store_kept maps a left size place R10 source base h =
-    let through : StackStores a (length a.callers.items) (pos 0 +ℤ place.offset) size source left
-    (Ok tt) =
-    subst (λ (x : Reg). StoresKind maps a size (kind_of a x) place.offset source left (Ok tt)) base
-    h in
-    outer_same a left false (own_left a left through.0 size source through.3) (λ no. absurd (cc))
-store_kept maps a left size place r source base h = nothing_kept a left
-
-stores_kept : (maps : List MapDef) (a b : State) (size : Size) (place : Place) (source : Kind)
-    (w : Ways) → GoesOn a (StoresAt maps a size place source) (Ok w) b
-    → KeepsParts (kept_by_store a place.base) a b
-stores_kept maps a b size place source w h =
-    subst (KeepsParts (kept_by_store a place.base) a) (sym h.1.next)
-    (gone_kept (kept_by_store a place.base) a h.1.left (a.slot + 1)
-    (store_kept maps a h.1.left size place place.base source refl h.1.leaving))
+    (parts : UntouchedParts) → IsGoing w → KeptByTest a (compared_by a cond) parts
+    → Branches p a cond by w b c → KeepsParts parts a b
+jump_kept p a cond by w b c parts on kept h =
+    side_kept parts h.stays h.goes a (go_to h.stay (a.slot + 1))
+    (go_to h.go (destination p a.slot by)) w b c on h.sides
+    (gone_kept parts a h.stay (a.slot + 1)
+    (refined_kept cond false a h.stays h.stay parts h.left_there kept))
+    (gone_kept parts a h.go (destination p a.slot by)
+    (refined_kept cond true a h.goes h.go parts h.taken_there kept))
 
 -- ---- all forms
 
-all_kept : (a b : State) → b.callers ≡ a.callers → b.innermost.stack ≡ a.innermost.stack
-    → KeepsParts (outer_kept a true) a b
-all_kept a b same stack = outer_same a b true same (λ yes. stack)
+goes_kept : (parts : UntouchedParts) (a b : State)
+    (leaves : State → Result (Unit {0}) Refusal → Type 0) (w : Ways)
+    → ((left : State) → leaves left (Ok tt) → KeepsParts parts a left)
+    → GoesOn a leaves (Ok w) b → KeepsParts parts a b
+goes_kept parts a b leaves w each h =
+    subst (KeepsParts parts a) (sym h.1.next)
+    (gone_kept parts a h.1.left (a.slot + 1) (each h.1.left h.1.leaving))
 
-form_kept : (p : Program) (a : State) (i : Insn) (w : Ways) (b c : State) → IsGoing w
-    → StepsForm p a i (Ok w) b c → KeepsParts (parts_kept a i) a b
-form_kept p a (Jump by) w b c on h =
-    all_kept a b (ap (λ s. s.callers) h.1) (ap (λ s. s.innermost.stack) h.1)
-form_kept p a (JumpLong by) w b c on h =
-    all_kept a b (ap (λ s. s.callers) h.1) (ap (λ s. s.innermost.stack) h.1)
-form_kept p a (JumpIf cond by) w b c on h = jump_kept p a cond by w b c on h
-form_kept p a (CallLocal by) w b c on h =
-    subst (KeepsParts (outer_kept a false) a) (sym h.2)
-    (entered_kept a (destination p a.slot by))
-form_kept p a Exit w b c on h =
-    exit_kept p.version (length a.callers.items) (length a.callers.items - 1) a w b on h
-form_kept p a (StoreConstant size place k) w b c on h =
-    stores_kept p.maps a b size place h.0 w h.2
-form_kept p a (Store size place r) w b c on h =
-    stores_kept p.maps a b size place (kind_of a r) w h
-form_kept p a (Atomic v op fetched place r) w b c on h = nothing_kept a b
-form_kept p a (Exchange v place r) w b c on h = nothing_kept a b
-form_kept p a (CompareExchange v place r) w b c on h = nothing_kept a b
-form_kept p a (CallHelper number) w b c on h = nothing_kept a b
-form_kept p a i w b c on h =
-    all_kept a b (ap (λ s. s.callers) h.1.next) (ap (λ s. s.innermost.stack) h.1.next)
+-- the parts that are named
+named_kept : (parts named : UntouchedParts) (a b : State) → parts ≡ named → KeepsParts named a b
+    → KeepsParts parts a b
+named_kept parts named a b is h = subst (λ (q : UntouchedParts). KeepsParts q a b) (sym is) h
 
-step_kept : (p : Program) (a : State) (i : Insn) (w : Ways) (b c : State) → IsGoing w
-    → Steps p a i (Ok w) b c → KeepsParts (parts_kept a i) a b
-step_kept p a i w b c on h =
+form_kept : (p : Program) (a : State) (i : Insn) (w : Ways) (b c : State) (parts : UntouchedParts)
+    → IsGoing w → KeptBy a i parts → StepsForm p a i (Ok w) b c → KeepsParts parts a b
+form_kept p a (Jump by) w b c parts on kept h =
+    all_kept parts a b (ap (λ s. s.callers) h.1) (ap (λ s. s.innermost.stack) h.1)
+form_kept p a (JumpLong by) w b c parts on kept h =
+    all_kept parts a b (ap (λ s. s.callers) h.1) (ap (λ s. s.innermost.stack) h.1)
+form_kept p a (JumpIf cond by) w b c parts on kept h =
+    jump_kept p a cond by w b c parts on kept h
+form_kept p a (CallLocal by) w b c parts on kept h =
+    named_kept parts (outer_kept a false) a b kept
+    (subst (KeepsParts (outer_kept a false) a) (sym h.2)
+    (entered_kept a (destination p a.slot by)))
+form_kept p a Exit w b c parts on kept h =
+    named_kept parts (record { frames = length a.callers.items - 1; slots = false }) a b kept
+    (exit_kept p.version (length a.callers.items) (length a.callers.items - 1) a w b on h)
+form_kept p a (StoreConstant size place k) w b c parts on kept h =
+    let base = kind_of a place.base in
+    named_kept parts (kept_by_write a base) a b kept
+    (goes_kept (kept_by_write a base) a b (StoresAt p.maps a size place h.0) w
+    (λ left stores. store_kept p.maps a left size base place.offset h.0 stores) h.2)
+form_kept p a (Store size place r) w b c parts on kept h =
+    let base = kind_of a place.base in
+    named_kept parts (kept_by_write a base) a b kept
+    (goes_kept (kept_by_write a base) a b (StoresAt p.maps a size place (kind_of a r)) w
+    (λ left stores. store_kept p.maps a left size base place.offset (kind_of a r) stores) h)
+form_kept p a (Atomic v op fetched place r) w b c parts on kept h =
+    let base = kind_of a place.base in
+    let old = writes (Atomic v op fetched place r) in
+    named_kept parts (kept_by_write a base) a b kept
+    (goes_kept (kept_by_write a base) a b (SwapsAtPlace p.maps a v place r old) w
+    (λ left swaps. numbers_kept p.maps a left (kind_of a r) base place.offset (width_size v) old
+    swaps) h)
+form_kept p a (Exchange v place r) w b c parts on kept h =
+    let base = kind_of a place.base in
+    named_kept parts (kept_by_write a base) a b kept
+    (goes_kept (kept_by_write a base) a b (SwapsAtPlace p.maps a v place r (Some r)) w
+    (λ left swaps. numbers_kept p.maps a left (kind_of a r) base place.offset (width_size v)
+    (Some r) swaps) h)
+form_kept p a (CompareExchange v place r) w b c parts on kept h =
+    let base = kind_of a place.base in
+    named_kept parts (kept_by_write a base) a b kept
+    (goes_kept (kept_by_write a base) a b (ComparesAtPlace p.maps a v place r) w
+    (λ left compares. compare_kept p.maps a left (kind_of a R0) (kind_of a r) base place.offset
+    (width_size v) compares) h)
+form_kept p a (CallHelper number) w b c parts on kept h =
+    goes_kept parts a b (CallsHelper p.maps a number) w
+    (λ left calls. helper_kept p.maps a left (helper_numbered number) parts kept calls) h
+form_kept p a i w b c parts on kept h =
+    all_kept parts a b (ap (λ s. s.callers) h.1.next) (ap (λ s. s.innermost.stack) h.1.next)
+
+step_kept : (p : Program) (a : State) (i : Insn) (w : Ways) (b c : State) (parts : UntouchedParts)
+    → IsGoing w → KeptBy a i parts → Steps p a i (Ok w) b c → KeepsParts parts a b
+step_kept p a i w b c parts on kept h =
     let (known, own, performs) =
     tested_rest (reads_unset a i) (is_frame_pointer (writes i)) UnsetRegister ReadOnlyRegister w
     (StepsForm p a i (Ok w) b c) h in
-    form_kept p a i w b c on performs
+    form_kept p a i w b c parts on kept performs
 
-after_kept : (p : Program) (a : State) (i : Insn) (w : Ways) (b c : State)
-    → Steps p a i (Ok w) b c → KeepsParts (kept_after w (parts_kept a i)) a b
-after_kept p a i ways.None b c h = nothing_kept a b
-after_kept p a i ways.One b c h = step_kept p a i ways.One b c tt h
-after_kept p a i ways.Two b c h = step_kept p a i ways.Two b c tt h
+after_kept : (p : Program) (a : State) (i : Insn) (w : Ways) (b c : State) (parts : UntouchedParts)
+    → KeptBy a i parts → Steps p a i (Ok w) b c → KeepsParts (kept_after w parts) a b
+after_kept p a i ways.None b c parts kept h = nothing_kept a b
+after_kept p a i ways.One b c parts kept h = step_kept p a i ways.One b c parts tt kept h
+after_kept p a i ways.Two b c parts kept h = step_kept p a i ways.Two b c parts tt kept h
+
+-- ---- the second successor
+
+side_of_two : (parts : UntouchedParts) (stays goes : Bool) (a stay go b c : State)
+    → Sides stays goes stay go ways.Two b c → KeepsParts parts a go → KeepsParts parts a c
+side_of_two parts true true a stay go b c h y = subst (KeepsParts parts a) (sym h.2) y
+side_of_two parts true false a stay go b c h y = let no = h.0 in absurd (cc)
+side_of_two parts false true a stay go b c h y = let no = h.0 in absurd (cc)
+side_of_two parts false false a stay go b c h y = absurd (cc)
+
+exit_of_one : (v : Version) (n : ℕ) (a : State) (b : State) → ¬ ExitsFrom v n a (Ok ways.Two) b
+exit_of_one v zero a b h =
+    let none = (answered_number v (kind_of a R0) ways.Two h).3 in absurd (cc)
+exit_of_one v (suc n) a b h = let one = h.1 in absurd (cc)
+
+-- only a conditional jump has two
+form_of_two : (p : Program) (a : State) (i : Insn) (b c : State) (parts : UntouchedParts)
+    → KeptBy a i parts → StepsForm p a i (Ok ways.Two) b c → KeepsParts parts a c
+form_of_two p a (JumpIf cond by) b c parts kept h =
+    side_of_two parts h.stays h.goes a (go_to h.stay (a.slot + 1))
+    (go_to h.go (destination p a.slot by)) b c h.sides
+    (gone_kept parts a h.go (destination p a.slot by)
+    (refined_kept cond true a h.goes h.go parts h.taken_there kept))
+form_of_two p a (CallLocal by) b c parts kept h = let one = h.1 in absurd (cc)
+form_of_two p a Exit b c parts kept h =
+    absurd (exit_of_one p.version (length a.callers.items) a b h)
+form_of_two p a (StoreConstant size place k) b c parts kept h = let one = h.2.0 in absurd (cc)
+form_of_two p a i b c parts kept h = let one = h.0 in absurd (cc)
+
+two_kept : (p : Program) (a : State) (i : Insn) (b c : State) (parts : UntouchedParts)
+    → KeptBy a i parts → Steps p a i (Ok ways.Two) b c → KeepsParts parts a c
+two_kept p a i b c parts kept h =
+    let (known, own, performs) =
+    tested_rest (reads_unset a i) (is_frame_pointer (writes i)) UnsetRegister ReadOnlyRegister
+    ways.Two (StepsForm p a i (Ok ways.Two) b c) h in
+    form_of_two p a i b c parts kept performs
 
 -- ---- the bytes that spell them
 
@@ -267,22 +287,40 @@ SpellSlots-kept rows true known a b keeps spelled =
     (subst (SpellSlots rows (length a.callers.items) known) (sym same.1) spelled)
 SpellSlots-kept rows false known a b keeps spelled = λ s there. absurd (cc)
 
--- the bytes of the parts that are kept still spell them after the step
+-- the bytes of the parts that are kept still spell them
+AreSpelled-kept : (rows : ℕ) (old new : KnownBytes) (a b : State) (kept : UntouchedParts)
+    → new.frames.items ≡ take kept.frames old.frames.items
+    → new.slots ≡ (if kept.slots then old.slots else None)
+    → AreSpelled rows old a → KeepsParts kept a b → AreSpelled rows new b
+AreSpelled-kept rows old new a b kept frames slots spelled keeps = record {
+  frames = subst (λ (xs : List FrameBytes). SpellFrames rows xs b.callers.items) (sym frames)
+      (SpellFrames-kept rows kept.frames old.frames.items a b keeps.frames spelled.frames);
+  slots = subst (λ (o : Option (Bor (List ℕ))).
+      SpellSlots rows (length b.callers.items) o b.innermost.stack.slots) (sym slots)
+      (SpellSlots-kept rows kept.slots old.slots a b keeps.slots spelled.slots);
+}
+
+-- after the step, in its first successor
 pub AreSpelled-after : (rows : ℕ) (old new : KnownBytes) (p : Program) (a : State) (i : Insn)
-    (w : Ways) (b c : State) (parts kept : UntouchedParts) → parts ≡ parts_kept a i
+    (w : Ways) (b c : State) (parts kept : UntouchedParts) → KeptBy a i parts
     → kept ≡ kept_after w parts → new.frames.items ≡ take kept.frames old.frames.items
     → new.slots ≡ (if kept.slots then old.slots else None)
     → AreSpelled rows old a → Steps p a i (Ok w) b c → AreSpelled rows new b
 AreSpelled-after rows old new p a i w b c parts kept are after frames slots spelled h =
-    let keeps : KeepsParts kept a b =
-    subst (λ (k : UntouchedParts). KeepsParts k a b) (sym (after ∙ ap (kept_after w) are))
-    (after_kept p a i w b c h) in
-    record {
-      frames =
-          subst (λ (xs : List FrameBytes). SpellFrames rows xs b.callers.items) (sym frames)
-          (SpellFrames-kept rows kept.frames old.frames.items a b keeps.frames spelled.frames);
-      slots =
-          subst (λ (o : Option (Bor (List ℕ))).
-          SpellSlots rows (length b.callers.items) o b.innermost.stack.slots) (sym slots)
-          (SpellSlots-kept rows kept.slots old.slots a b keeps.slots spelled.slots);
-    }
+    AreSpelled-kept rows old new a b kept frames slots spelled
+    (subst (λ (k : UntouchedParts). KeepsParts k a b) (sym after)
+    (after_kept p a i w b c parts are h))
+
+-- and in its second
+pub AreSpelled-after_two : (rows : ℕ) (old new : KnownBytes) (p : Program) (a : State) (i : Insn)
+    (w : Ways) (b c : State) (parts kept : UntouchedParts) → KeptBy a i parts
+    → kept ≡ kept_after w parts → new.frames.items ≡ take kept.frames old.frames.items
+    → new.slots ≡ (if kept.slots then old.slots else None)
+    → AreSpelled rows old a → Steps p a i (Ok w) b c → w ≡ ways.Two → AreSpelled rows new c
+AreSpelled-after_two rows old new p a i w b c parts kept are after frames slots spelled h two =
+    let same : kept ≡ parts = after ∙ ap (λ (v : Ways). kept_after v parts) two in
+    let steps : Steps p a i (Ok ways.Two) b c =
+    subst (λ (v : Ways). Steps p a i (Ok v) b c) two h in
+    AreSpelled-kept rows old new a c kept frames slots spelled
+    (subst (λ (k : UntouchedParts). KeepsParts k a c) (sym same)
+    (two_kept p a i b c parts are steps))

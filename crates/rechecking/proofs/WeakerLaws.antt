@@ -19,7 +19,7 @@ use Rattle.stack_state.specs.declared.states.State.{State}
 use Rattle.stack_state.specs.Meaning.{frames_of, abstract_frame_at, depth, kind_at, Means, Covers}
 use Rattle.stack_state.proofs.MeaningLaws.{abstract_frame_at-caller, abstract_frame_at-innermost, FrameKeeps, MeansBy-change}
 use Rattle.table_entries.specs.declared.entries.EntryHead.{EntryHead}
-use Rattle.table_entries.specs.Entries.{entry_of}
+use Rattle.table_entries.specs.Entries.{Entry, entry_of}
 use Rattle.table_entries.specs.Forgetting.{IsWeakerFrame}
 use Rattle.rechecking.specs.Tables.{EntryAt}
 use Rattle.rechecking.specs.KnownEntries.{HasEntry}
@@ -106,4 +106,17 @@ Enters-covers p t number index head a b stands less covers = record {
   there = stands.there;
   smaller = less;
   covers = covers;
+}
+
+-- an entry whose state is another one without some of what is known of its innermost frame
+pub Enters-weaker : (t : EntryAt) (number index : ℕ) (head : EntryHead) (a b : State)
+    → t index ≡ Some (entry_of head b)
+    → ((e : Entry) → t index ≡ Some e → e.number < number)
+    → ((g : AbstractFrame) × IsWeakerFrame a.innermost g × (b ≡ record a { innermost = g }))
+    → Enters t number index a
+Enters-weaker t number index head a b there smaller (g, weaker, is) = record {
+  entry = entry_of head b;
+  there = there;
+  smaller = smaller (entry_of head b) there;
+  covers = λ p. Covers-weaker p a b g weaker is;
 }

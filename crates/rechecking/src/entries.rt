@@ -79,26 +79,27 @@ fn read_covering(
     }
 }
 
-/// Whether the entry of that index covers a state, and its number is smaller, tested first. Its own
-/// state is read into `room` only if its bytes do not spell this one.
-fn enters<'a>(
+/// Whether the entry of that index, which is placed, covers a state, and its number is smaller,
+/// tested first. Where its bytes spell the state, or that without what they say nothing of in the
+/// innermost frame, the state becomes the entry's; else that is read into `room`.
+fn enters_placed<'a>(
     image: &Image,
     table: &Table<'a>,
     number: u32,
     index: usize,
-    state: &State,
+    state: &mut State,
     room: &mut State,
     bytes: &mut KnownBytes<'a>,
 ) -> Option<Known>
-    requires { AreSpelled (length image.now.maps) bytes.old state.now }
+    requires { AreSpelled (length image.now.maps) bytes.old state.old }
     ensures spelled { IfSome result
-        (IsKnownSpelled (length image.now.maps) bytes.new state.now room.new) }
+        (IsKnownSpelled (length image.now.maps) bytes.new state.new room.new) }
     ensures yes { IfSome result
-        (λ _. Enters (entry_at image.now table.now) number index state.now) }
+        (λ _. Enters (entry_at image.now table.now) number index state.old) }
     ensures known { IfSome result
-        (IsKnownEntry image.now (entry_at image.now table.now) state.now room.new) }
+        (IsKnownEntry image.now (entry_at image.now table.now) state.new room.new) }
     ensures none { result ≡ None
-        → EntersClearly (entry_at image.now table.now) number index state.now → ⊥ }
+        → EntersClearly (entry_at image.now table.now) number index state.old → ⊥ }
 {
     if !is_smaller(table, index, number) {
         return None;
@@ -106,48 +107,12 @@ fn enters<'a>(
     if let Some(head) = table.head_of(image, index, state, bytes) {
         return Some(Known::First(index, head));
     }
+    if let Some(weaker) = table.head_of_weaker(image, index, state, bytes) {
+        return Some(Known::First(index, weaker));
+    }
     let head = read_covering(image, table, index, state, room)?;
     bytes.forget();
     Some(Known::Second(index, head))
-}
-
-/// Whether an entry names as many entries as it has successors, and each covers its successor. The
-/// first successor's entry is then the known one.
-fn follows<'a>(
-    image: &Image,
-    table: &Table<'a>,
-    head: EntryHead,
-    ways: Ways,
-    state: &State,
-    other: &State,
-    room: &mut State,
-    bytes: &mut KnownBytes<'a>,
-) -> Option<Known>
-    requires { AreSpelled (length image.now.maps) bytes.old state.now }
-    ensures spelled { IfSome result
-        (IsKnownSpelled (length image.now.maps) bytes.new state.now room.new) }
-    ensures yes { IfSome result
-        (λ _. FollowsBy (Enters (entry_at image.now table.now) head.number)
-        (list_of head.named) ways state.now other.now) }
-    ensures known { IfSome result
-        (IsKnownEntry image.now (entry_at image.now table.now) state.now room.new) }
-    ensures none { result ≡ None
-        → FollowsBy (EntersClearly (entry_at image.now table.now) head.number)
-        (list_of head.named) ways state.now other.now → ⊥ }
-{
-    let number = head.number;
-    match (head.named, ways) {
-        (NamedEntries::None, Ways::None) => Some(Known::None),
-        (NamedEntries::One(first), Ways::One) => {
-            enters(image, table, number, first as usize, state, room, bytes)
-        }
-        (NamedEntries::Two(first, second), Ways::Two) => {
-            let none = &mut KnownBytes::none();
-            enters(image, table, number, second as usize, other, room, none)?;
-            enters(image, table, number, first as usize, state, room, bytes)
-        }
-        _ => None,
-    }
 }
 
 /// The next entry to be placed, if it has this index, and its bytes spell the state, or else the
@@ -182,55 +147,75 @@ fn take_next<'a>(
     }
 }
 
-/// The entry that an entry names, if it is the next one to be placed, the state that it spells is
-/// the only successor, or that without what the entry says nothing of, and its number is smaller.
-/// The state becomes the entry's. None: nothing is known of it, and the state is as before.
-fn next_follows<'a>(
+/// Whether the entry of that index covers a state, and its number is smaller; it is placed if it is
+/// not yet. The state becomes the entry's, or that is read into `room`.
+fn enters<'a>(
+    image: &Image,
+    growing: &mut Growing<'a>,
+    number: u32,
+    index: usize,
+    state: &mut State,
+    room: &mut State,
+    bytes: &mut KnownBytes<'a>,
+) -> Option<Known>
+    requires may { MayGrow image.now growing.old }
+    requires spelled { AreSpelled (length image.now.maps) bytes.old state.old }
+    ensures grows { Grows image.now growing.old growing.new }
+    ensures spelled { IfSome result
+        (IsKnownSpelled (length image.now.maps) bytes.new state.new room.new) }
+    ensures yes { IfSome result
+        (λ _. Enters (entry_at image.now growing.new.table) number index state.old) }
+    ensures known { IfSome result
+        (IsKnownEntry image.now (entry_at image.now growing.new.table) state.new room.new) }
+    ensures none { result ≡ None
+        → EntersClearly (entry_at image.now growing.new.table) number index state.old → ⊥ }
+{
+    if let Some(next) = take_next(image, growing, number, index, state, bytes) {
+        return Some(Known::First(index, next));
+    }
+    let _there = growing.reach(image, index);
+    enters_placed(image, growing.placed(), number, index, state, room, bytes)
+}
+
+/// Whether an entry names as many entries as it has successors, and each covers its successor. The
+/// first successor's entry is then the known one.
+fn follows<'a>(
     image: &Image,
     growing: &mut Growing<'a>,
     head: EntryHead,
     ways: Ways,
     state: &mut State,
+    other: &mut State,
+    room: &mut State,
     bytes: &mut KnownBytes<'a>,
 ) -> Option<Known>
     requires may { MayGrow image.now growing.old }
     requires spelled { AreSpelled (length image.now.maps) bytes.old state.old }
-    ensures spelled { AreSpelled (length image.now.maps) bytes.new state.new }
-    ensures first { IfSome result (λ known. (room : State)
-        → IsKnownSpelled (length image.now.maps) bytes.new state.new room known) }
+    requires others { ways ≡ Ways.Two → AreSpelled (length image.now.maps) bytes.old other.old }
     ensures grows { Grows image.now growing.old growing.new }
-    ensures left { result ≡ None → state.new ≡ state.old }
+    ensures spelled { IfSome result
+        (IsKnownSpelled (length image.now.maps) bytes.new state.new room.new) }
     ensures yes { IfSome result
-        (λ _. (other : State) → FollowsBy
-        (Enters (entry_at image.now growing.new.table) head.number)
-        (list_of head.named) ways state.old other) }
-    ensures known { IfSome result (λ known. (room : State)
-        → IsKnownEntry image.now (entry_at image.now growing.new.table) state.new room known) }
+        (λ _. FollowsBy (Enters (entry_at image.now growing.new.table) head.number)
+        (list_of head.named) ways state.old other.old) }
+    ensures known { IfSome result
+        (IsKnownEntry image.now (entry_at image.now growing.new.table) state.new room.new) }
+    ensures none { result ≡ None
+        → FollowsBy (EntersClearly (entry_at image.now growing.new.table) head.number)
+        (list_of head.named) ways state.old other.old → ⊥ }
 {
+    let number = head.number;
     match (head.named, ways) {
-        (NamedEntries::One(only), Ways::One) => {
-            let index = only as usize;
-            let next = take_next(image, growing, head.number, index, state, bytes)?;
-            Some(Known::First(index, next))
+        (NamedEntries::None, Ways::None) => Some(Known::None),
+        (NamedEntries::One(first), Ways::One) => {
+            enters(image, growing, number, first as usize, state, room, bytes)
+        }
+        (NamedEntries::Two(first, second), Ways::Two) => {
+            let others = &mut bytes.copy();
+            enters(image, growing, number, second as usize, other, room, others)?;
+            enters(image, growing, number, first as usize, state, room, bytes)
         }
         _ => None,
-    }
-}
-
-/// Places the entries that an entry names.
-fn place_named(image: &Image, growing: &mut Growing, named: NamedEntries)
-    requires { MayGrow image.now growing.old }
-    ensures { Grows image.now growing.old growing.new }
-{
-    match named {
-        NamedEntries::None => {}
-        NamedEntries::One(first) => {
-            let _there = growing.reach(image, first as usize);
-        }
-        NamedEntries::Two(first, second) => {
-            let _there = growing.reach(image, first as usize);
-            let _other = growing.reach(image, second as usize);
-        }
     }
 }
 
@@ -268,20 +253,7 @@ fn test_read_entry<'a>(
     };
     let kept = kept_after(ways, parts);
     bytes.keep(kept.frames, kept.slots);
-    if let Some(known) = next_follows(image, growing, head, ways, state, bytes) {
-        return Ok(known);
-    }
-    place_named(image, growing, head.named);
-    match follows(
-        image,
-        growing.placed(),
-        head,
-        ways,
-        state,
-        other,
-        room,
-        bytes,
-    ) {
+    match follows(image, growing, head, ways, state, other, room, bytes) {
         Some(known) => Ok(known),
         None => Err(TableError::Successor(index)),
     }

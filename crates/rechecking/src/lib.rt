@@ -5,6 +5,7 @@
 //! meets no trap, and exits within the number of the table's first entry.
 #![tactic(auto)]
 
+pub mod changes;
 pub mod entries;
 pub mod errors;
 pub mod rechecks;

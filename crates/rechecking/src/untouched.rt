@@ -3,11 +3,15 @@
 ghost use Rattle.std.specs.Prelude.{◌≡◌, Some};
 ghost use Rattle.isa_model.specs.declared.instructions.Insn.{Insn as TheInsn};
 ghost use Rattle.isa_model.specs.Code.Instructions.{fetch};
+ghost use Rattle.stack_state.specs.Places.{kind_of};
+ghost use Rattle.rechecking.specs.Changes.{LeavesParts};
 ghost use Rattle.rechecking.specs.Untouched as untouched_defs;
-ghost use Rattle.rechecking.specs.Untouched.{is_number, compares_numbers};
+ghost use Rattle.rechecking.specs.Untouched.{KeptByTest, KeptByDelete, KeptByHelper, KeptBy};
 
+use crate::changes::{KindChange, are_slots_kept, frames_kept};
+use branch_refine::{Compared, compared_by};
 use image::Image;
-use isa_model::{Cond, Insn, Operand, Reg};
+use isa_model::{Helper, Insn, Reg};
 use reg_state::Kind;
 use stack_state::State;
 use transfer::Ways;
@@ -38,59 +42,91 @@ fn outer_kept(state: &State, slots: bool) -> UntouchedParts
     }
 }
 
-fn is_number(state: &State, register: Reg) -> bool
-    ensures { result ≡ is_number state.now register }
-{
-    match state.kind_of(register) {
-        Kind::Number(_) => true,
-        _ => false,
-    }
-}
-
-/// Whether two numbers are compared: then only registers are narrowed.
-fn compares_numbers(state: &State, cond: Cond) -> bool
-    ensures { result ≡ compares_numbers state.now cond }
-{
-    match cond.operand {
-        Operand::Constant(_) => is_number(state, cond.register),
-        Operand::Register(register) => {
-            is_number(state, cond.register) && is_number(state, register)
-        }
-    }
-}
-
-/// What a store leaves: all outer frames, if it writes through r10.
-fn kept_by_store(state: &State, base: Reg) -> UntouchedParts
-    ensures { result ≡ untouched_defs.kept_by_store state.now base }
+/// What a write through a pointer of that kind leaves: all but the frame that it points into, and
+/// the outer ones after that.
+fn kept_by_write(state: &State, base: Kind) -> UntouchedParts
+    ensures { result ≡ untouched_defs.kept_by_write state.now base }
 {
     match base {
-        Reg::R10 => outer_kept(state, false),
+        Kind::Stack { frame, .. } => {
+            let frames = usize::from(frame);
+            if frames == state.callers.len() {
+                outer_kept(state, false)
+            } else {
+                UntouchedParts {
+                    frames,
+                    slots: true,
+                }
+            }
+        }
+        _ => outer_kept(state, true),
+    }
+}
+
+/// What a change of kinds leaves: the first outer frames, up to one that it changes, and the slots
+/// if it changes none.
+fn left_by(change: KindChange, state: &State) -> UntouchedParts
+    ensures { LeavesParts change state.now result }
+{
+    UntouchedParts {
+        frames: frames_kept(change, state.callers.as_slice()),
+        slots: are_slots_kept(change, &state.innermost.stack.slots),
+    }
+}
+
+/// What a conditional jump leaves.
+fn kept_by_test(state: &State, compared: Compared) -> UntouchedParts
+    ensures { KeptByTest state.now compared result }
+{
+    match compared {
+        Compared::Numbers | Compared::Live { .. } => outer_kept(state, true),
+        Compared::Packet {
+            identity,
+            bytes,
+            ..
+        } => left_by(KindChange::Proves(identity, bytes), state),
+        Compared::OrNull { identity, .. } => left_by(KindChange::Tests(identity), state),
+        Compared::Undefined => none_kept(),
+    }
+}
+
+/// What a delete in that map leaves.
+fn kept_by_delete(state: &State, map: Kind) -> UntouchedParts
+    ensures { KeptByDelete state.now map result }
+{
+    match map {
+        Kind::Map { index } => left_by(KindChange::Forgets(index), state),
         _ => none_kept(),
+    }
+}
+
+/// What the call of a helper leaves.
+fn kept_by_helper(state: &State, helper: Option<Helper>) -> UntouchedParts
+    ensures { KeptByHelper state.now helper result }
+{
+    match helper {
+        Some(Helper::MapDeleteElem) => kept_by_delete(state, state.kind_of(Reg::R1)),
+        _ => outer_kept(state, true),
     }
 }
 
 /// What the step of an instruction leaves.
 fn kept_by(state: &State, insn: &Insn) -> UntouchedParts
-    ensures { result ≡ untouched_defs.parts_kept state.now insn.now }
+    ensures { KeptBy state.now insn.now result }
 {
     match *insn {
-        Insn::JumpIf(cond, _) => {
-            if compares_numbers(state, cond) {
-                outer_kept(state, true)
-            } else {
-                none_kept()
-            }
-        }
+        Insn::JumpIf(cond, _) => kept_by_test(state, compared_by(cond, state)),
         Insn::CallLocal(_) => outer_kept(state, false),
         Insn::Exit => UntouchedParts {
             frames: state.callers.len().saturating_sub(1),
             slots: false,
         },
-        Insn::StoreConstant(_, place, _) | Insn::Store(_, place, _) => {
-            kept_by_store(state, place.base)
-        }
-        Insn::Atomic(..) | Insn::Exchange(..) | Insn::CompareExchange(..) | Insn::CallHelper(_) =>
-            none_kept(),
+        Insn::StoreConstant(_, place, _)
+        | Insn::Store(_, place, _)
+        | Insn::Atomic(_, _, _, place, _)
+        | Insn::Exchange(_, place, _)
+        | Insn::CompareExchange(_, place, _) => kept_by_write(state, state.kind_of(place.base)),
+        Insn::CallHelper(number) => kept_by_helper(state, Helper::numbered(number)),
         Insn::Alu(..)
         | Insn::Neg(..)
         | Insn::MovSx(..)
@@ -108,7 +144,7 @@ fn kept_by(state: &State, insn: &Insn) -> UntouchedParts
 /// What the step of a state leaves.
 pub fn parts_kept(image: &Image, state: &State) -> UntouchedParts
     ensures { (i : TheInsn) → fetch image.now state.now.slot ≡ Some i
-        → result ≡ untouched_defs.parts_kept state.now i }
+        → KeptBy state.now i result }
 {
     match image.at(state.slot) {
         Some(insn) => kept_by(state, insn),

@@ -8,7 +8,7 @@ use Rattle.table_entries.specs.declared.known_bytes.KnownBytes.{KnownBytes}
 use Rattle.table_entries.specs.KnownBytes.{SpellsFrame, SpellFrames, IsNoted, NotesFrame, AreSpelled}
 
 -- an element of a list that has one more at its end
-pushed_get : {X : Type 0} (xs : List X) (y x : X) (j : ℕ) → slice_get (xs ++ y ∷ []) j ≡ Some x
+pub pushed_get : {X : Type 0} (xs : List X) (y x : X) (j : ℕ) → slice_get (xs ++ y ∷ []) j ≡ Some x
     → (slice_get xs j ≡ Some x) ⊎ ((j ≡ length xs) × (x ≡ y))
 pushed_get [] y x zero h = inr (refl, cc)
 pushed_get [] y x (suc j) h = absurd (cc)

@@ -14,5 +14,6 @@ pub mod GrowingLaws
 pub mod Fronts
 pub mod Below
 pub mod KnownBytesLaws
+pub mod PassedLaws
 pub mod ForgettingLaws
 pub mod SameBytes

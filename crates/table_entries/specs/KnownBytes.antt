@@ -30,6 +30,11 @@ SpellFrames rows known frames =
     (holder : ℕ) (f : AbstractFrame) → slice_get frames holder ≡ Some f
     → SpellsAt rows known holder f
 
+-- all bytes that are known spell some outer frame
+abbrev pub ArePassed : ℕ → List FrameBytes → Type 0
+ArePassed rows known = (holder : ℕ) (s : FrameBytes) → slice_get known holder ≡ Some s
+    → (f : AbstractFrame) × SpellsFrame rows holder s.bytes.now f
+
 -- the bytes begin with those that are known for that index
 abbrev pub BeginsKnown : List FrameBytes → ℕ → List ℕ → List ℕ → Type 0
 BeginsKnown known holder bytes rest =

@@ -8,19 +8,18 @@ ghost use Rattle.isa_model.specs.Code.Instructions.{Program};
 ghost use Rattle.table_entries.specs.Entries.{IsAllowed, entry_of};
 ghost use Rattle.table_entries.specs.Tables.{entry_at, count_of};
 ghost use Rattle.table_entries.specs.Growing.{IsBegun, MayGrow, Grows, with_place};
-ghost use Rattle.table_entries.specs.KnownBytes.{AreSpelled};
+ghost use Rattle.table_entries.specs.KnownBytes.{AreSpelled, ArePassed};
 ghost use Rattle.table_entries.specs.Forgetting.{IsWeakerFrame};
 ghost use Rattle.stack_state.specs.declared.states.AbstractFrame.{AbstractFrame as TheFrame};
 
 use crate::entries::EntryHead;
-use crate::forgetting::{after, forget_unsaid};
+use crate::forgetting::forget_unsaid;
 use crate::known_bytes::KnownBytes;
-use crate::passing::pass_entry;
+use crate::passing::{Passing, pass_entry};
 use crate::slices::skip;
 use crate::spelled_entries::after_entry;
 use crate::tables::{Table, count_in};
 use image::Image;
-use reg_state::Kind;
 use stack_state::{MAX_CALLERS, State};
 use std::alloc::Global;
 use std::marker::Model;
@@ -119,13 +118,15 @@ impl<'a> Growing<'a> {
     }
 
     // Passes over the next entry and places it, if it is allowed.
-    fn pass_next(&mut self, image: &Image, room: &mut [Kind; 10]) -> bool
+    fn pass_next(&mut self, image: &Image, passing: &mut Passing<'a>) -> bool
         requires begun { IsBegun image.now self.old }
         requires more { count_of self.old.table < self.old.count }
+        requires passed { ArePassed (length image.now.maps) passing.old.frames.items }
+        ensures passed { ArePassed (length image.now.maps) passing.new.frames.items }
         ensures grows { Grows image.now self.old self.new }
         ensures next { IsTrue result → count_of self.new.table ≡ count_of self.old.table + 1 }
     {
-        match pass_entry(image, self.rest, room) {
+        match pass_entry(image, self.rest, passing) {
             Ok((true, after)) => self.place(after),
             _ => false,
         }
@@ -139,9 +140,9 @@ impl<'a> Growing<'a> {
         ensures grows { Grows image.now self.old self.new }
         ensures there { IsTrue result → index < count_of self.new.table }
     {
-        let mut room = [Kind::Unset; 10];
+        let mut passing = Passing::new();
         for _ in self.table.len()..index + 1 {
-            if !self.pass_next(image, &mut room) {
+            if !self.pass_next(image, &mut passing) {
                 return false;
             }
         }
@@ -193,17 +194,6 @@ impl<'a> Growing<'a> {
         if self.place(after) { Some(head) } else { None }
     }
 
-    // The bytes of the innermost call frame in the next entry, if those of all outer frames are
-    // known.
-    fn inner_bytes(&self, known: &KnownBytes<'a>) -> &'a [u8] {
-        let mut rest = after(self.rest, 7);
-        let frames = known.frames.as_slice();
-        for holder in 0..frames.len() {
-            rest = after(rest, frames[holder].bytes.len());
-        }
-        rest
-    }
-
     /// The same of the state without what the entry says nothing of in the innermost frame, if the
     /// entry's number is below this one. The state is as before where None is returned.
     pub fn take_weaker(
@@ -231,7 +221,7 @@ impl<'a> Growing<'a> {
         }
         let innermost = state.innermost;
         known.keep(MAX_CALLERS, false);
-        forget_unsaid(self.inner_bytes(known), &mut state.innermost);
+        forget_unsaid(known.inner_bytes(self.rest), &mut state.innermost);
         if let Some(head) = self.take(image, index, state, known) {
             if head.number < number {
                 return Some(head);

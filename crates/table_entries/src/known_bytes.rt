@@ -5,6 +5,7 @@ ghost use Rattle.std.specs.Prelude.{◌≡◌, ℕ, IfSome, take, None, if◌the
 ghost use Rattle.stack_state.specs.declared.states.State.{State};
 ghost use Rattle.table_entries.specs.KnownBytes.{AreSpelled, BeginsKnown, IsNoted};
 
+use crate::forgetting::after;
 use crate::slices::{begins_with, skip};
 use arrayvec::ArrayVec;
 use stack_state::MAX_CALLERS;
@@ -40,6 +41,20 @@ impl<'a> KnownBytes<'a> {
         }
     }
 
+    /// The same bytes.
+    pub fn copy(&self) -> KnownBytes<'a>
+        ensures { result ≡ self.now }
+    {
+        let mut frames = ArrayVec::new();
+        let Ok(()) = frames.try_extend_from_slice(&self.frames) else {
+            unreachable!()
+        };
+        KnownBytes {
+            frames,
+            slots: self.slots,
+        }
+    }
+
     /// Keeps only those of the first call frames, this many, and those of the stack slots if
     /// `with_slots` says so.
     pub fn keep(&mut self, count: usize, with_slots: bool)
@@ -50,6 +65,16 @@ impl<'a> KnownBytes<'a> {
         if !with_slots {
             self.slots = None;
         }
+    }
+
+    // The bytes of the innermost call frame in an entry, if those of all outer ones are known.
+    pub(crate) fn inner_bytes(&self, entry: &'a [u8]) -> &'a [u8] {
+        let mut rest = after(entry, 7);
+        let frames = self.frames.as_slice();
+        for holder in 0..frames.len() {
+            rest = after(rest, frames[holder].bytes.len());
+        }
+        rest
     }
 
     /// Nothing is known any more.

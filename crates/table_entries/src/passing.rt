@@ -1,24 +1,47 @@
 //! Entries passed over: whether they are allowed, and where they end.
 
-ghost use Rattle.std.specs.Prelude.{◌≡◌, ◌==◌, ◌||◌, ◌≤◌, not, false, true, length};
+ghost use Rattle.std.specs.Prelude.{◌≡◌, ◌==◌, ◌||◌, ◌≤◌, not, false, true, length, []};
 ghost use Rattle.std.specs.Option.{is_some};
 ghost use Rattle.stack_state.specs.Slots.{frame_slots};
 ghost use Rattle.table_entries.specs.Kinds.{kind_in, stack_slot_in, stack_in};
 ghost use Rattle.table_entries.specs.Frames.{frame_in, callers_in};
 ghost use Rattle.table_entries.specs.Entries.{rest_in, entry_in};
 ghost use Rattle.table_entries.specs.Reading.{ReturnsRead, seen, many};
+ghost use Rattle.table_entries.specs.KnownBytes.{ArePassed};
 
 use crate::blanks::{begins_unset, blank_stack_slots};
 use crate::entries::{head_allowed, named_in};
 use crate::frames::frame_allowed;
 use crate::kinds::{kind_in, packet_in, scalar_in, stack_slot_in};
+use crate::known_bytes::{FrameBytes, after_known, note};
 use crate::loops::{both, read_registers};
-use crate::slices::{skip, u16_at, u32_at};
+use crate::slices::{before, skip, u16_at, u32_at};
 use crate::stops::StopReason;
+use arrayvec::ArrayVec;
 use image::Image;
 use isa_model::MAX_CALL_FRAMES;
 use reg_state::Kind;
-use stack_state::FRAME_SLOTS;
+use stack_state::{FRAME_SLOTS, MAX_CALLERS};
+
+/// What is kept as entries are passed over: room for the registers of an outer frame, and the bytes
+/// of the outer frames that were passed over last, whose fields are allowed.
+#[derive(Drop)]
+pub struct Passing<'a> {
+    pub room: [Kind; 10],
+    pub frames: ArrayVec<FrameBytes<'a>, MAX_CALLERS>,
+}
+
+impl<'a> Passing<'a> {
+    /// No bytes are known.
+    pub fn new() -> Passing<'a>
+        ensures { result.frames.items ≡ [] }
+    {
+        Passing {
+            room: [Kind::Unset; 10],
+            frames: ArrayVec::new(),
+        }
+    }
+}
 
 // One of the rare kinds, or bytes whose fields are not allowed, or that begin with no kind.
 #[inline(never)]
@@ -174,7 +197,7 @@ fn pass_registers<'a>(
 
 /// An outer call frame. Where r0 to r5 are unset, as they have to be, it is read as an innermost
 /// one.
-fn pass_caller<'a>(
+fn pass_other_caller<'a>(
     rows: usize,
     holder: usize,
     bytes: &'a [u8],
@@ -189,19 +212,47 @@ fn pass_caller<'a>(
     pass_registers(rows, holder, bytes, room)
 }
 
+/// An outer frame, which is not looked at field by field if the one passed over last at that index
+/// has the same bytes.
+fn pass_caller<'a>(
+    rows: usize,
+    holder: usize,
+    bytes: &'a [u8],
+    passing: &mut Passing<'a>,
+) -> Result<(bool, &'a [u8]), StopReason>
+    requires { ArePassed rows passing.old.frames.items }
+    ensures passed { ArePassed rows passing.new.frames.items }
+    ensures read { ReturnsRead (λ x. (x.0, x.1.now)) result
+        (seen (frame_in rows holder true bytes.now)) }
+{
+    if let Some(rest) = after_known(passing.frames.as_slice(), holder, bytes) {
+        return Ok((true, rest));
+    }
+    let (allowed, rest) = pass_other_caller(rows, holder, bytes, &mut passing.room)?;
+    if !allowed {
+        return Ok((false, rest));
+    }
+    passing.frames.truncate(holder);
+    note(&mut passing.frames, holder, before(bytes, rest));
+    Ok((true, rest))
+}
+
 /// The outer frames.
 fn pass_callers<'a>(
     rows: usize,
     count: usize,
     bytes: &'a [u8],
-    room: &mut [Kind; 10],
+    passing: &mut Passing<'a>,
 ) -> Result<(bool, &'a [u8]), StopReason>
-    ensures { ReturnsRead (λ x. (x.0, x.1.now)) result (seen (callers_in rows count bytes.now)) }
+    requires { ArePassed rows passing.old.frames.items }
+    ensures passed { ArePassed rows passing.new.frames.items }
+    ensures read { ReturnsRead (λ x. (x.0, x.1.now)) result
+        (seen (callers_in rows count bytes.now)) }
 {
     let mut rest = bytes;
     let mut allowed = true;
     for holder in 0..count {
-        let (fits, after) = pass_caller(rows, holder, rest, room)?;
+        let (fits, after) = pass_caller(rows, holder, rest, passing)?;
         allowed = both(allowed, fits);
         rest = after;
     }
@@ -215,13 +266,15 @@ fn pass_rest<'a>(
     slot: usize,
     caller_count: usize,
     bytes: &'a [u8],
-    room: &mut [Kind; 10],
+    passing: &mut Passing<'a>,
 ) -> Result<(bool, &'a [u8]), StopReason>
-    ensures { ReturnsRead (λ x. (x.0, x.1.now)) result
+    requires { ArePassed (length image.now.maps) passing.old.frames.items }
+    ensures passed { ArePassed (length image.now.maps) passing.new.frames.items }
+    ensures read { ReturnsRead (λ x. (x.0, x.1.now)) result
         (seen (rest_in image.now number slot caller_count bytes.now)) }
 {
     let rows = image.maps().len();
-    let (callers, rest) = pass_callers(rows, caller_count, bytes, room)?;
+    let (callers, rest) = pass_callers(rows, caller_count, bytes, passing)?;
     let (innermost, rest) = pass_frame(rows, caller_count, rest)?;
     let (_, rest) = named_in(rest)?;
     let fits = head_allowed(image, number, slot);
@@ -229,14 +282,16 @@ fn pass_rest<'a>(
 }
 
 /// Whether the entry at the front of the bytes has only fields that are allowed, and the bytes
-/// after it. The registers of its outer call frames are read into `room`.
+/// after it. Which bytes of outer call frames were passed over is kept.
 #[tactic(auto, unfolding(crate::specs::Entries::entry_in))]
 pub fn pass_entry<'a>(
     image: &Image,
     bytes: &'a [u8],
-    room: &mut [Kind; 10],
+    passing: &mut Passing<'a>,
 ) -> Result<(bool, &'a [u8]), StopReason>
-    ensures { ReturnsRead (λ x. (x.0, x.1.now)) result (seen (entry_in image.now bytes.now)) }
+    requires { ArePassed (length image.now.maps) passing.old.frames.items }
+    ensures passed { ArePassed (length image.now.maps) passing.new.frames.items }
+    ensures read { ReturnsRead (λ x. (x.0, x.1.now)) result (seen (entry_in image.now bytes.now)) }
 {
     if bytes.len() < 7 {
         return Err(StopReason::Short);
@@ -247,5 +302,5 @@ pub fn pass_entry<'a>(
     }
     let number = u32_at(bytes, 0);
     let slot = usize::from(u16_at(bytes, 4));
-    pass_rest(image, number, slot, frames - 1, skip(bytes, 7), room)
+    pass_rest(image, number, slot, frames - 1, skip(bytes, 7), passing)
 }

@@ -7,20 +7,22 @@ ghost use Rattle.table_entries.specs.Entries.{Entry, IsAllowed, entry_in, entry_
 ghost use Rattle.table_entries.specs.declared.entries.EntryHead.{EntryHead};
 ghost use Rattle.table_entries.specs.declared.stops.StopReason.{StopReason};
 ghost use Rattle.table_entries.specs.Growing.{with_place};
-ghost use Rattle.table_entries.specs.KnownBytes.{AreSpelled};
+ghost use Rattle.table_entries.specs.KnownBytes.{AreSpelled, ArePassed};
+ghost use Rattle.table_entries.specs.Forgetting.{IsWeakerFrame};
+ghost use Rattle.stack_state.specs.declared.states.AbstractFrame.{AbstractFrame as TheFrame};
 ghost use Rattle.table_entries.specs.Tables.{TableView, KeepsEntries, table_read, entry_at, count_of, ArePlaced, count_in, body_in, refusal_of, earlier};
 
 use crate::entries::{EntryHead, read_entry};
+use crate::forgetting::forget_unsaid;
 use crate::known_bytes::KnownBytes;
-use crate::passing::pass_entry;
+use crate::passing::{Passing, pass_entry};
 use crate::refusals::TableRefusal;
 use crate::slices::{skip, u32_at};
 use crate::spelled_entries::after_entry;
 use crate::stops::StopReason;
 use image::Image;
 use isa_model::MAX_EXPLORED;
-use reg_state::Kind;
-use stack_state::State;
+use stack_state::{MAX_CALLERS, State};
 use std::alloc::Global;
 use std::marker::Model;
 
@@ -76,13 +78,15 @@ fn pass_or_refuse<'a>(
     image: &Image,
     index: usize,
     bytes: &'a [u8],
-    room: &mut [Kind; 10],
+    passing: &mut Passing<'a>,
 ) -> Result<(bool, &'a [u8]), TableRefusal>
-    ensures { MatchResult result (λ x. seen (entry_in image.now bytes.now) ≡ Ok (x.0, x.1.now))
+    requires { ArePassed (length image.now.maps) passing.old.frames.items }
+    ensures passed { ArePassed (length image.now.maps) passing.new.frames.items }
+    ensures read { MatchResult result (λ x. seen (entry_in image.now bytes.now) ≡ Ok (x.0, x.1.now))
         (λ refusal. (stop : StopReason) × (seen (entry_in image.now bytes.now) ≡ Err stop)
         × (refusal ≡ refusal_of stop index)) }
 {
-    match pass_entry(image, bytes, room) {
+    match pass_entry(image, bytes, passing) {
         Ok(passed) => Ok(passed),
         Err(stop) => Err(refusal_of(stop, index)),
     }
@@ -104,10 +108,10 @@ fn places_in(
     let mut places = Vec::new(alloc);
     let mut first = None;
     let mut rest = skip(bytes, 8);
-    let mut room = [Kind::Unset; 10];
+    let mut passing = Passing::new();
     for index in 0..count {
         push_place(&mut places, bytes.len() - rest.len())?;
-        let (allowed, after) = pass_or_refuse(image, index, rest, &mut room)?;
+        let (allowed, after) = pass_or_refuse(image, index, rest, &mut passing)?;
         first = earlier(first, allowed, index);
         rest = after;
     }
@@ -250,5 +254,37 @@ impl<'a> Table<'a> {
         let place = *self.places.get(index)?;
         let (head, _) = after_entry(image, bytes_from(self.bytes, place), state, known)?;
         Some(head)
+    }
+
+    /// The same of the state without what the entry says nothing of in the innermost frame. The
+    /// state is as before where None is returned.
+    pub fn head_of_weaker(
+        &self,
+        image: &Image,
+        index: usize,
+        state: &mut State,
+        known: &mut KnownBytes<'a>,
+    ) -> Option<EntryHead>
+        requires { AreSpelled (length image.now.maps) known.old state.old }
+        ensures spelled { AreSpelled (length image.now.maps) known.new state.new }
+        ensures left { result ≡ None → state.new ≡ state.old }
+        ensures weaker { IfSome result (λ _. (g : TheFrame) × IsWeakerFrame state.old.innermost g
+            × (state.new ≡ record state.old { innermost = g })) }
+        ensures allowed { IfSome result
+            (λ head. IsAllowed image.now head.number state.new.slot) }
+        ensures entry { IfSome result
+            (λ head. entry_at image.now self.now index ≡ Some (entry_of head state.new)) }
+    {
+        let place = *self.places.get(index)?;
+        let whole = state.innermost;
+        known.keep(MAX_CALLERS, false);
+        let entry = bytes_from(self.bytes, place);
+        forget_unsaid(known.inner_bytes(entry), &mut state.innermost);
+        if let Some(head) = self.head_of(image, index, state, known) {
+            return Some(head);
+        }
+        state.innermost = whole;
+        known.keep(MAX_CALLERS, false);
+        None
     }
 }

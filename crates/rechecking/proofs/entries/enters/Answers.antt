@@ -1,34 +1,20 @@
-use Rattle.std.proofs.Common.{refl, length}
 use Rattle.table_entries.specs.Tables.{entry_at}
-use Rattle.rechecking.proofs.CheckingLaws.{Enters-same, Enters-covering, unclear_covers, unclear_number}
+use Rattle.table_entries.proofs.GrowingLaws.{Grows-then, MayGrow-more}
+use Rattle.rechecking.proofs.WeakerLaws.{Enters-covers}
 use Rattle.rechecking.proofs.entries.enters.Goals as goal
-
-pub returns-then-not-is_smaller-clause-none : goal.returns-then-not-is_smaller-clause-none
-returns-then-not-is_smaller-clause-none c = λ none.
-    let p = c.args.image.now in
-    unclear_number (entry_at p c.args.table.now) c.args.number c.args.index c.args.state.now
-    c.is_smaller.result (c.is_smaller.ensures.no p) c.if-not-is_smaller.true
 
 pub returns-in-Some-clause-yes : goal.returns-in-Some-clause-yes
 returns-in-Some-clause-yes c =
-    let p = c.args.image.now in
-    Enters-same p (entry_at p c.args.table.now) c.args.number c.args.index c.args.state.now
-    c.in-Some.head
-    (record { allowed = c.in-Some.ensures.allowed; there = c.in-Some.ensures.entry })
-    (c.is_smaller.ensures.yes c.if-not-is_smaller.false p)
+    Enters-covers c.args.image.now (entry_at c.args.image.now c.take_next.new.growing.table)
+    c.args.number c.args.index c.in-Some.next c.args.state.now c.take_next.new.state
+    c.in-Some.ensures.entry c.in-Some.ensures.number c.in-Some.ensures.covers
 
-pub returns-in_err-head-clause-none : goal.returns-in_err-head-clause-none
-returns-in_err-head-clause-none c = λ none.
-    unclear_covers (entry_at c.args.image.now c.args.table.now) c.args.number c.args.index
-    c.args.state.now (c.in_err-head.ensures.none refl)
+pub reach-there-requires : goal.reach-there-requires
+reach-there-requires c =
+    MayGrow-more c.args.image.now c.args.growing.now c.take_next.new.growing
+    c.take_next.ensures.grows c.requires.may
 
-pub returns-clause-spelled : goal.returns-clause-spelled
-returns-clause-spelled c =
-    c.forget.ensures (length c.args.image.now.maps) c.read_covering.new.room
-
-pub returns-clause-yes : goal.returns-clause-yes
-returns-clause-yes c =
-    let p = c.args.image.now in
-    Enters-covering (entry_at p c.args.table.now) c.args.number c.args.index c.args.state.now
-    c.in_ok-head.ensures.covers
-    (c.is_smaller.ensures.yes c.if-not-is_smaller.false p)
+pub returns-clause-grows : goal.returns-clause-grows
+returns-clause-grows c =
+    Grows-then c.args.image.now c.args.growing.now c.take_next.new.growing c.reach-there.new.self
+    c.take_next.ensures.grows c.reach-there.ensures.grows

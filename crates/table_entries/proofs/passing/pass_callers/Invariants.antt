@@ -1,12 +1,15 @@
 use Rattle.std.proofs.Common.{◌≡◌, ◌-◌, true}
 use Rattle.table_entries.specs.Frames.{frame_in, callers_in}
 use Rattle.table_entries.specs.Reading.{many, seen}
+use Rattle.table_entries.specs.KnownBytes.{ArePassed}
 use Rattle.table_entries.proofs.Seen.{and_seen}
 use Rattle.table_entries.proofs.passing.pass_callers.Given as goal
 
 -- what was passed over, and what is left
 abbrev pub invariant-loop-holder : goal.invariant-loop-holder
-invariant-loop-holder l =
-    and_seen l.allowed
-    (seen (many (λ k. frame_in l.rows k true) (l.count - l.holder) l.holder l.rest))
-    ≡ seen (callers_in l.rows l.count l.bytes)
+invariant-loop-holder l = record {
+  so_far : and_seen l.allowed
+      (seen (many (λ k. frame_in l.rows k true) (l.count - l.holder) l.holder l.rest))
+      ≡ seen (callers_in l.rows l.count l.bytes);
+  passed : ArePassed l.rows l.passing.frames.items;
+}

@@ -8,6 +8,7 @@ use Rattle.std.proofs.lemmas.List.{length-map}
 use Rattle.table_entries.specs.Tables.{entry_from, first_none, earlier, to_the_end}
 use Rattle.table_entries.proofs.Ends.{IsEnd-more, entry_in-end}
 use Rattle.table_entries.proofs.EntryOrder.{entries-begins, entries-goes_on, entries-stops, entries-done, places-more, length-more, end-empty, end-long, earlier-more}
+use Rattle.table_entries.proofs.PassedLaws.{ArePassed-none}
 use Rattle.table_entries.proofs.tables.places_in.Goals as goal
 
 pub loop-index-init : goal.loop-index-init
@@ -19,6 +20,9 @@ loop-index-init c =
       first_is = rw c.new-places.ensures.items;
       long = rw c.new-places.ensures.items;
       is_end = (8, c.skip-rest.ensures);
+      passed =
+          ArePassed-none (length c.args.image.now.maps) c.new-passing.result.frames.items
+          c.new-passing.ensures;
     }
 
 pub loop-index-preserved : goal.loop-index-preserved
@@ -29,7 +33,8 @@ loop-index-preserved c =
     let after = c.in_ok-allowed.after.now in
     let places = c.loop-index.places.items in
     let front = map (entry_from p bytes) places in
-    let found = read-seen (entry_in p rest) c.in_ok-allowed.allowed after c.in_ok-allowed.ensures in
+    let found =
+    read-seen (entry_in p rest) c.in_ok-allowed.allowed after c.in_ok-allowed.ensures.read in
     let e : Option Entry = found.0 in
     let read : entry_in p rest ≡ Ok (e, after) = found.1 in
     let items = c.in_ok-push_place.ensures.ok in
@@ -54,12 +59,13 @@ loop-index-preserved c =
       is_end =
           IsEnd-more bytes rest after c.loop-index.invariant.is_end
           (entry_in-end p rest e after read);
+      passed = c.pass_or_refuse.ensures.passed;
     }
 
 pub returns-in_err-allowed : goal.returns-in_err-allowed
 returns-in_err-allowed c =
     let p = c.args.image.now in
-    let s = c.in_err-allowed.ensures in
+    let s = c.in_err-allowed.ensures.read in
     let given =
     err_from_is_err_and c.from_residual-in_err-allowed.result
     c.from_residual-in_err-allowed.ensures.1 in

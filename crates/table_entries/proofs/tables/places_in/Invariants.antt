@@ -1,6 +1,7 @@
 use Rattle.std.proofs.Common.{◌≡◌, ◌-◌, length, map, drop}
 use Rattle.table_entries.specs.Tables.{entries_in, entry_from, first_none}
 use Rattle.table_entries.specs.Growing.{with_entries, IsEnd}
+use Rattle.table_entries.specs.KnownBytes.{ArePassed}
 use Rattle.table_entries.proofs.tables.places_in.Given as goal
 
 -- the entries at the places were read, and what is left to read
@@ -13,4 +14,5 @@ invariant-loop-index l =
       first_is : l.first ≡ first_none 0 (map (entry_from l.image l.bytes) l.places.items);
       long : length l.places.items ≡ l.index;
       is_end : IsEnd l.bytes l.rest;
+      passed : ArePassed (length l.image.maps) l.passing.frames.items;
     }

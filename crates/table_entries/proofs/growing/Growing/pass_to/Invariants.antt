@@ -1,6 +1,7 @@
-use Rattle.std.proofs.Common.{◌≡◌}
+use Rattle.std.proofs.Common.{◌≡◌, length}
 use Rattle.table_entries.specs.Tables.{count_of}
 use Rattle.table_entries.specs.Growing.{Grows}
+use Rattle.table_entries.specs.KnownBytes.{ArePassed}
 use Rattle.table_entries.proofs.growing.Growing.pass_to.Given as goal
 
 -- as many entries are placed as the counter of the loop says
@@ -8,4 +9,5 @@ abbrev pub invariant-loop : goal.invariant-loop
 invariant-loop l = record {
   grows : Grows l.image l.fn.self l.self;
   placed : count_of l.self.table ≡ l.counter;
+  passed : ArePassed (length l.image.maps) l.passing.frames.items;
 }

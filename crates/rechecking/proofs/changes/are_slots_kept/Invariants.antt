@@ -1,0 +1,6 @@
+use Rattle.std.proofs.Common.{◌≡◌, true}
+use Rattle.rechecking.specs.Changes.{is_slot_kept, FirstHave}
+use Rattle.rechecking.proofs.changes.are_slots_kept.Given as goal
+
+abbrev pub invariant-loop-index : goal.invariant-loop-index
+invariant-loop-index l = FirstHave (λ s. is_slot_kept l.change s ≡ true) l.index l.slots
