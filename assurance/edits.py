@@ -97,24 +97,40 @@ def is_in(name, file, text, line):
 
 
 def source_files(folder):
+    """The files of a crate's code, below its folder."""
     for at, _, names in os.walk(f"{folder}/src"):
         for name in sorted(names):
             if name.endswith(".rt"):
                 yield os.path.relpath(f"{at}/{name}", folder)
 
 
+def all_functions(folder):
+    """The names of the functions of a crate."""
+    texts = {file: text_of(f"{folder}/{file}") for file in source_files(folder)}
+    return {shown(file, *it) for file, text in texts.items() for _, _, *it in functions(file, text)}
+
+
+def calls_itself(text, first, last, name, kind):
+    """Whether a function of a file calls itself: its proof is then in a folder of another form."""
+    body = "\n".join(text.split("\n")[first + 1 : last + 1])
+    front = rf"(?:self\.|Self::|\b{kind}::)" if kind else r"(?<![\w.:])"
+    return re.search(rf"{front}{name}\(", body) is not None
+
+
 def proof_folders(folder):
-    """Where the proofs of a crate's functions are, below proofs/, but for those of a trait."""
+    """Where the proofs of a crate's functions are, below proofs/, but for those of a trait and those that call themselves."""
     texts = {file: text_of(f"{folder}/{file}") for file in source_files(folder)}
     homes = {}
     for file, text in texts.items():
         for kind in re.findall(rf"(?m)^{TYPE.pattern}", text):
             homes.setdefault(kind, []).append(module_of(file))
     for file, text in texts.items():
-        for _, _, name, kind, trait in functions(file, text):
+        for first, last, name, kind, trait in functions(file, text):
+            if trait or calls_itself(text, first, last, name, kind):
+                continue
             if kind is None:
                 yield "/".join(module_of(file) + [name])
-            elif not trait and len(homes.get(kind, ())) == 1:
+            elif len(homes.get(kind, ())) == 1:
                 yield "/".join(homes[kind][0] + [kind, name])
 
 

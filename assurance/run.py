@@ -114,8 +114,13 @@ def unfit(crate, paths):
     """The texts of the files that these edits change together, and why they cannot be made, or None."""
     folder = f"{TOP}/crates/{crate}"
     texts, why = edits.edited(folder, [it for path in paths for it in edits.changes(path)])
-    lost = [path for path in paths if not why and not edits.changed_functions(folder, path)[0]]
-    return texts, "it changes no function, and no line '# refused in: FUNCTION' names one" if lost else why
+    for path in () if why else paths:
+        names = edits.changed_functions(folder, path)[0]
+        if not names:
+            why = "it changes no function, and no line '# refused in: FUNCTION' names one"
+        elif not names <= edits.all_functions(folder):
+            why = f"there is no function {min(names - edits.all_functions(folder))}"
+    return texts, why
 
 
 def try_together(crate, listed, libraries, made):

@@ -221,6 +221,10 @@ impl From<Count> for u32 {
 fn most() -> u32 {
     MOST
 }
+
+fn down(n: u32) -> u32 {
+    if n == 0 { 0 } else { down(n - 1) }
+}
 """
 
 

@@ -66,7 +66,8 @@ with_version ps = record { version = Two; maps = ps.maps; insns = ps.insns }
 abbrev pub is_start : Parts → Bool
 is_start ps = is_one ps.version && (length ps.maps == 0 && (length ps.insns == 0))
 
--- whether there is room for the instruction, and the maps that it loads are there
+-- whether there is room for the instruction, and no objection to the map or map value that it
+-- loads
 abbrev pub takes : Parts → Insn → Bool
 takes ps i = is_none (objection_to_load ps.maps i) && has_room (ps.insns ++ i ∷ [])
 

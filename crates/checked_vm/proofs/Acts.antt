@@ -52,7 +52,7 @@ stays_running old new kept running = record {
   clock_calls = kept.clock_calls;
 }
 
--- an instruction whose registers are set acts
+-- an instruction that reads only set registers, and does not write r10, acts
 pub performed_acts : (p : Program) (clock : ℕ → ℕ) (s : State) (i j : Insn) → i ≡ j
     → list_any (λ r. is_unset (reg s r)) (reads i) ≡ false → is_frame_pointer (writes i) ≡ false
     → performed p clock s i ≡ act p clock s j

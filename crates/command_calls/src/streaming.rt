@@ -15,7 +15,7 @@ use verdict_calls::statuses::{MEMORY, NotAccepted, OK, REFUSED};
 
 /// The result of a run over a stream: how many bytes the report and the frames out have, how many
 /// packet frames were found, and the number of the fault that ended the stream, with the offset of
-/// its record; both are 0 at the stream's end.
+/// its record, which is 0 for a fault in the magic; both are 0 at the stream's end.
 #[repr(C)]
 #[derive(Clone, Copy, Drop)]
 pub struct Streamed {

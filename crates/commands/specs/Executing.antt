@@ -53,7 +53,8 @@ ExecutesWords contents words old new before after status =
     (e : Ending) × (status ≡ status_of e.outcome) × Executes contents words old new e
     × AppendsPart before after (told_of e)
 
--- the arguments could not be read: standard error says why, and nothing is done
+-- the arguments could not be read: standard error got why, or a beginning of that, and nothing is
+-- done
 abbrev pub TellsWordsError : {W : Type 0} → WordsError → PromptWriter W → PromptWriter W
     → Option (List ℕ) → Option (List ℕ) → ℕ → Type 0
 TellsWordsError error old new before after status =

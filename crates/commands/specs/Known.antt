@@ -62,11 +62,11 @@ with_refusal outcome why = None
 
 -- ---- endings
 
--- the property holds of the task's outcome, and no lines come after its message
+-- the property holds of the task's outcome, and its message has no such lines at its end
 abbrev pub Plainly : (TaskOutcome → Type 0) → Ending → Type 0
 Plainly P ending = P ending.outcome × (ending.why ≡ None)
 
--- what standard error gets: the message, and then what is known
+-- what standard error gets, the whole message: that of the outcome, and then what is known
 abbrev pub outcome_text : TaskOutcome → Option (String Global) → List ℕ
 outcome_text outcome None = message_of outcome
 outcome_text outcome (Some text) = message_of outcome ++ string_bytes text

@@ -41,7 +41,7 @@ abbrev pub verdict_line : Refusal → ℕ → List ℕ
 verdict_line refusal slot =
     codes "refused " ++ (walks.code_of refusal ++ (codes " slot " ++ (decimal slot ++ codes "\n")))
 
--- a table is refused, at an entry or as a whole
+-- a table is refused, at an entry or as a whole, or the program's control flow is, at a slot
 abbrev pub table_line : TableError → List ℕ
 table_line (table.Flow error slot) = verdict_line (Flow error) slot
 table_line (table.Bytes (table_refusal.Entry index)) =

@@ -21,7 +21,7 @@ status_of (CannotWrite path cause) = 4
 status_of (CannotReplace path) = 4
 status_of NoMemory = 5
 
--- whether nothing was written to standard output
+-- whether it is known that nothing was written to standard output
 abbrev pub is_silent : TaskOutcome → Bool
 is_silent Done = false
 is_silent (WrongWords text) = true

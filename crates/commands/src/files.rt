@@ -1,4 +1,5 @@
-//! The files that the commands read and write.
+//! The files that the commands read and write. The parameter `out` is standard output; the field
+//! `out` of paths is the path of the frames out.
 
 ghost use Rattle.std.specs.Prelude.{◌≡◌, ◌⊎◌, OnOk, IfOk, IfErr};
 ghost use Rattle.image.specs.Images.{IsImage};

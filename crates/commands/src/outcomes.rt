@@ -85,7 +85,7 @@ impl<'a> TaskOutcome<'a> {
         }
     }
 
-    /// Whether nothing was written to standard output.
+    /// Whether it is known that nothing was written to standard output.
     pub(crate) fn is_silent(&self) -> bool
         ensures { result ≡ is_silent self.now }
     {

@@ -84,6 +84,7 @@ pub no_home : (h : Home) → HasHome no_homes h → ⊥
 no_home (InRegister r) h = none_has r h
 no_home (InSlot j) h = no_slot j h
 
+-- at every slot of the code, where no mask has a home
 pub mask_at-none : (n slot : ℕ) → mask_at (replicate n no_homes) slot ≡ no_homes
 mask_at-none n slot = elim (cases_lt slot n) [
   | inl inside ↦ get_or-replicate n slot no_homes no_homes inside

@@ -67,7 +67,7 @@ masks_apart a b apart same =
     let slots = eq-eqb a.slots.bits b.slots.bits (ap (λ (m : HomeMask). m.slots.bits) same) in
     absurd cc
 
--- a mask that grew has less room
+-- the mask with these bits
 abbrev made : ℕ → ℕ → HomeMask
 made registers slots =
     record { registers = record { bits = registers }; slots = record { bits = slots } }
@@ -77,6 +77,7 @@ same_mask : (a b : HomeMask) → a.registers.bits ≡ b.registers.bits → a.slo
 same_mask a b rs js =
     ap (λ (x : ℕ). made x b.slots.bits) (sym rs) ∙ ap (λ (y : ℕ). made a.registers.bits y) (sym js)
 
+-- a mask that grew has less room
 less_room : (a b : HomeMask) → b.registers.bits < 2 ^ 16 → b.slots.bits < 2 ^ 64
     → a.registers.bits ≤ b.registers.bits → a.slots.bits ≤ b.slots.bits
     → (b ≡ a → ⊥) → room_in b < room_in a

@@ -10,7 +10,7 @@ ghost use Rattle.control_flow.specs.Masks.{HasRegister};
 use crate::masks::RegisterMask;
 use isa_model::{Insn, Reg};
 
-/// The registers that a call passes to the function.
+/// r1 to r5: what a local call passes to the function, and what every call leaves unset.
 fn arguments() -> RegisterMask
     ensures { (r : TheReg) → HasRegister result r ↔ IsOneOf (R1 ∷ R2 ∷ R3 ∷ R4 ∷ R5 ∷ []) r }
 {

@@ -77,7 +77,7 @@ IsIndexOf (Step k r) index = k ≡ index
 IsIndexOf (Successor k) index = k ≡ index
 IsIndexOf error index = ⊥
 
--- the entry is at this slot, where this instruction begins, and the text says that
+-- the entry is at this slot, where this instruction begins, and the text is what is said of it
 pub record IsReasonAt (p : Program) (t : EntryAt) (error : TableError) (slot : ℕ) (i : Insn)
     (text : List ℕ) : Type 0 where
   pub index : ℕ

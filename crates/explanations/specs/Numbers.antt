@@ -34,6 +34,7 @@ low_greatest numbers =
     min (min (greatest_of numbers.bits % 2 ^ 32) numbers.range.low.greatest)
     numbers.range.wide.greatest
 
+-- the low half, or its limits, as text
 abbrev pub half_words : Scalar → List ℕ
 half_words numbers =
     if low_least numbers == low_greatest numbers then decimal (low_least numbers)

@@ -1,7 +1,7 @@
 pub mod StoredStatesLaws
 pub mod GroupLaws
 pub mod Paths
-pub mod Moves
+pub mod SearchMoves
 pub mod Starts
 pub mod Unfinished
 pub mod Walking

@@ -61,7 +61,7 @@ pub record GoesAside (old new : List Visit) (current : State) : Type 0 where
   pub is_pending : visit.pending ≡ Some current
   pub nothing : rest.pending ≡ None
 
--- the last visit ends, or continues with what was pending
+-- the search goes back: the last visit ends, or continues with what was pending
 abbrev pub ShowsReturn : List Visit → Move → List Visit → State → Type 0
 ShowsReturn old (Finished n) new current = (visit : Visit) × (old ≡ new ++ visit ∷ [])
 ShowsReturn old (New stored) new current = GoesAside old new current
@@ -73,8 +73,8 @@ IfReturns old (Some made) new current = ShowsReturn old made new current
 
 -- ---- why a search stops
 
--- why it stops in a state: its step is refused, the path has been in the state before, or the limit
--- of explored instructions is reached
+-- why it stops in a state: its step is refused, the path was in one before where each covers the
+-- other, or the limit of explored instructions is reached
 abbrev pub StopsIn : Program → State → Refusal → Type 0
 StopsIn p s (Flow e) = ⊥
 StopsIn p s (Step e) = (i : Insn) × (fetch p s.slot ≡ Some i) × RefusesStep p s i e
@@ -109,6 +109,7 @@ pub record BackAside (old : List Visit) (current : State) (slot : ℕ) : Type 0 
   pub is_pending : visit.pending ≡ Some current
   pub slot_is : current.slot ≡ slot
 
+-- why a search stops where it goes back to the last visit
 abbrev pub ReturnFails : List Visit → State → Refusal → ℕ → Type 0
 ReturnFails old current Repeats slot = BackAside old current slot
 ReturnFails old current Memory slot = Unit {0}

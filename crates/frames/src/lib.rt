@@ -1,5 +1,5 @@
 //! Reads and writes streams of packet frames: the magic `XPF1` or `XPF2`, and then records of a
-//! head and a body. In `XPF2` a head has a reason too, and a body may be longer. No call takes
+//! head and a body. In `XPF2` a reason is between them, and a body may be longer. No call takes
 //! memory.
 //!
 //! `isa_model`'s `specs/Reporting/Streams.antt` defines which frames a stream has and how it ends,

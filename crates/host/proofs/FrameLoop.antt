@@ -160,7 +160,7 @@ module _ (limit : ℕ) (program : Version) (rows : List MapDef) (rule : Rule) (s
   abbrev report_form_on : Version → ReportForm
   report_form_on v = record { limit = limit; program = program; stream = v }
 
-  -- the magic failed
+  -- writing the magic failed
   pub magic_failed : (v : Version) (known : Option (List ℕ)) (p : Position)
       (r f g : Option (List ℕ)) → HasBegun v [] source known p
       → AppendsBeginning f g (stream_magic v)

@@ -15,9 +15,9 @@ use Rattle.host.specs.Writing.{Outputs, WritesEach, WroteBefore}
 
 -- The stream was read to its end, or to a fault: it is the stream of the source's bytes, where they
 -- are known. The heads, the lengths of the bodies and the reasons fit, and the bodies are bytes.
--- The report of that stream was written, whole or up to a piece that failed: in the run of each
--- packet frame without a reason the meaning of the program meets no trap, and it exits within the
--- bound. The tally is what the last line shows.
+-- The report of that stream, with the frames out among its pieces, was written, whole or up to a
+-- piece that failed: in the run of each packet frame without a reason the meaning of the program
+-- meets no trap, and it exits within the bound. The tally is what the last line shows.
 pub record RunsWhole (a : Bounded) (source : Option (List ℕ)) (old new : Outputs)
     (result : Result Tally HostError) : Type 0 where
   pub found : Stream

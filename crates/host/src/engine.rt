@@ -30,7 +30,7 @@ struct Arrival {
     reason: u32,
 }
 
-// Runs a frame, and writes its line and then its record, if it has one.
+// Runs a frame, and writes its line and then its record, if it is sent on.
 fn run_frame<M: Runner, W1: Write, W2: Write>(
     machine: &mut M,
     form: ReportForm,
@@ -172,8 +172,9 @@ fn end_report<M: Runner + Drop, W1: Write>(
 }
 
 /// Runs a program of this version on the frames of the stream that a source returns. The report is
-/// written to one writer, and the frames out to the other, after the stream's magic. Returns what
-/// the machine noted of the frames.
+/// written to one writer, and the frames out to the other, with the magic of the stream that is
+/// read. Returns the tally, and what the machine noted of the frames, which is nothing if it does
+/// not trace.
 pub fn run_frames<M: Runner + Drop, R: Read + Drop, W1: Write, W2: Write>(
     mut machine: M,
     limit: u32,

@@ -48,8 +48,8 @@ record Passed (a m b c d e f : Bool) : Type 0 where
   maps : b ≡ false
   some : c ≡ false
   few : d ≡ false
-  most : e ≡ false
-  least : f ≡ false
+  least : e ≡ false
+  most : f ≡ false
 
 passed : (a m b c d e f : Bool) → tests a m b c d e f ≡ None → Passed a m b c d e f
 passed true m b c d e f h = absurd cc
@@ -66,8 +66,8 @@ passed false false false false false false false h =
       maps = refl;
       some = refl;
       few = refl;
-      most = refl;
       least = refl;
+      most = refl;
     }
 
 -- what is known of bytes that pass the tests
@@ -108,9 +108,9 @@ sizes bytes h =
     (nat_lt MAX_SLOTS (slot_count bytes)) (nat_lt (length bytes) size)
     (nat_lt size (length bytes)) h in
     let most : length bytes ≤ size_of (map_count bytes) (slot_count bytes) =
-    ltb-false _ _ p.least in
-    let least : size_of (map_count bytes) (slot_count bytes) ≤ length bytes =
     ltb-false _ _ p.most in
+    let least : size_of (map_count bytes) (slot_count bytes) ≤ length bytes =
+    ltb-false _ _ p.least in
     record {
       long = ltb-false _ _ p.long;
       front = magic_read bytes p.front;

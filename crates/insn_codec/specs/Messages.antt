@@ -30,4 +30,4 @@ hint_of UnusedField =
 hint_of UnknownSelector =
     codes "no form has this offset, imm or src_reg; a call has src_reg 0 or 1"
 hint_of SecondSlot =
-    codes "a wide load has a second slot: 4 bytes 0, then the upper half, 0 for a map"
+    codes "a wide load has a second slot: 4 bytes 0, then the upper half, 0 for a map, or the offset"

@@ -69,7 +69,7 @@ impl CodecError {
             CodecError::UnknownSelector =>
                 "no form has this offset, imm or src_reg; a call has src_reg 0 or 1",
             CodecError::SecondSlot =>
-                "a wide load has a second slot: 4 bytes 0, then the upper half, 0 for a map",
+                "a wide load has a second slot: 4 bytes 0, then the upper half, 0 for a map, or the offset",
         }
     }
 }

@@ -327,7 +327,7 @@ step-clock p clock other s h = performed_at-clock p clock other s (fetch p s.slo
 
 -- ---- runs
 
--- a run of n steps asked the clock at most n times
+-- a run that goes on after n steps has asked the clock at most n times more than c
 abbrev pub AskedBelow : ℕ → ℕ → Progress → Type 0
 AskedBelow c n (GoesOn t) = t.clock_calls ≤ c + n
 AskedBelow c n (Ended e t) = Unit {0}
@@ -356,7 +356,8 @@ advanced-clock p clock other c n m (Ended e t) same within h = refl
 advanced-clock p clock other c n m (GoesOn t) same within h =
     ap (after_step n t) (step-clock p clock other t (same t.clock_calls (omega arith)))
 
--- a run of at most m steps is the same with two clocks whose first m answers are the same
+-- n steps are the same with two clocks whose first m answers are the same, where n and how often
+-- the clock was asked before are together at most m
 pub progress-clock : (p : Program) (clock other : ℕ → ℕ) (n m : ℕ) (s : State)
     → ((k : ℕ) → k < m → clock k ≡ other k) → s.clock_calls + n ≤ m
     → progress p clock n s ≡ progress p other n s
@@ -390,7 +391,8 @@ pub clock_of-answers_of : (clock : ℕ → ℕ) (n k : ℕ) → k < n
     → clock_of (answers_of clock n) k ≡ clock k
 clock_of-answers_of clock n k h = get_or-map-range_with_len clock 0 n k k 0 h (omega arith)
 
--- a turn of at most n steps ends alike with a clock and with the list of its first n answers
+-- the turn within a limit of at most n steps is the same with a clock and with the list of its
+-- first n answers
 pub turn-answers_of : (p : Program) (limit n : ℕ) (clock : ℕ → ℕ) (head : FrameHead)
     (packet : List ℕ) (contents : List KeyValues) → limit ≤ n
     → turn p limit (clock_of (answers_of clock n)) head packet contents

@@ -76,6 +76,7 @@ no_trap p clock s steps a k t e runs reached trapped =
 
 -- ---- the tests of registers
 
+-- where no register of a list passes a test, each of them fails it: if none is unset, each is set
 pub is_set : (rs : List Reg) (test : Reg → Bool) (r : Reg) → list_any test rs ≡ false → IsOneOf rs r
     → test r ≡ false
 is_set [] test r none among = absurd among

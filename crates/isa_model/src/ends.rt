@@ -3,7 +3,7 @@
 ghost use Rattle.std.specs.Prelude.{◌≡◌, ◌≤◌, length};
 ghost use Rattle.isa_model.specs.Reporting.Reports.{trap_reason_name};
 
-/// Why a run stopped at an instruction. A trap changes nothing.
+/// Why a step is not defined. A trap changes nothing.
 #[derive(Clone, Copy, PartialEq, Eq, Debug)]
 pub enum TrapReason {
     /// No instruction begins at the slot.

@@ -26,7 +26,7 @@ unknown_at-digits base skip bs some =
     number_end-within skip (prefix_len (λ c. is_digit c base) (drop skip bs)) (length bs) some
     (omega (arith, count, long))
 
--- the first byte that begins no token is inside the text
+-- where a text begins with no lexeme, the offset that is named is at most the text's length
 pub unknown_at-within : (bs : List ℕ) → 1 ≤ length bs → unknown_at bs ≤ length bs
 unknown_at-within bs some =
     either (is_digit (slice_index bs 0) 10) (number_end_from bs) 0 (length bs)

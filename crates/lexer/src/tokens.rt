@@ -2,7 +2,7 @@
 
 use isa_model::{AtomicOp, ByteOrder, MapType, Reg, SignedSize, Size, SwapWidth, Width};
 
-/// What a word stands for in an instruction. In a label only its bytes count.
+/// What a word stands for in a statement. In a label or a name only its bytes count.
 #[derive(Clone, Copy)]
 pub enum Word {
     /// `r0` to `r10`, `w0` to `w10`.

@@ -117,7 +117,7 @@ module _ (p : Program) (a : Layout) (s : State) (w : Words) (R : Related p a s w
 
   -- ---- numbers swapped
 
-  -- the words after a swap, with the old number kept or not
+  -- the words after a swap, with the old number put into a register or not
   abbrev pub swapped : Width → Place → (ℕ → ℕ) → Bool → Reg → Words
   swapped width place new keeps r =
       record (swaps w width place new)

@@ -62,7 +62,7 @@ module _ (b : List ℕ) (i : ℕ) (v : List ℕ) (inside : i + length v ≤ leng
   part_written =
       sym (drop-take i (length v) spliced) ∙ ap (drop i) take_past ∙ drop_at front v i length-front
 
--- a row ends where the next begins, or before
+-- a row ends where a later one begins, or before
 pub row_end : (p n size : ℕ) → p < n → p * size + size ≤ n * size
 row_end p n size h =
     let e = suc-mul p size in

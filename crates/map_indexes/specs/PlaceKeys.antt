@@ -64,7 +64,7 @@ key_count [] = 0
 key_count (None ∷ keys) = key_count keys
 key_count (Some key ∷ keys) = key_count keys + 1
 
--- no key has two places, and this is how many places have one
+-- no key has two places, and this is how many places have a key
 pub record IsScan (keys : PlaceKeys) (count : ℕ) : Type 0 where
   pub distinct : IsDistinct keys
   pub counted : count ≡ key_count keys

@@ -1,4 +1,4 @@
--- Joint limits: the low halves of the numbers between two limits at 64 bits.
+-- For joint limits: the low halves of the numbers between two limits at 64 bits.
 use Rattle.std.specs.Prelude.{ℕ, ◌≡◌, ◌≤◌, ◌%◌, ◌^◌}
 
 -- the number of 32 bits is the low half of a number between the two

@@ -79,7 +79,7 @@ Enters-grows p g h number index a grows s = record {
   covers = s.covers;
 }
 
--- an entry whose bytes spell the state
+-- an entry with this very state and a smaller number is entered
 pub Enters-spelled : (p : Program) (t : EntryAt) (number index : ℕ) (a : State) (head : EntryHead)
     → IsAllowed p head.number a.slot → t index ≡ Some (entry_of head a)
     → head.number < number → Enters t number index a

@@ -49,7 +49,7 @@ pub nothing_kept : (a b : State) → KeepsParts none_kept a b
 nothing_kept a b =
     record { frames = λ j f less at. absurd (omega arith); slots = λ no. absurd (cc) }
 
--- any parts are kept where outer frames and stack slots are as they were
+-- any parts are kept where outer call frames and stack slots are as they were
 pub all_kept : (parts : UntouchedParts) (a b : State) → b.callers ≡ a.callers
     → b.innermost.stack ≡ a.innermost.stack → KeepsParts parts a b
 all_kept parts a b same stack = record {
@@ -68,7 +68,7 @@ mapped_some g None y h = absurd (cc)
 
 -- ---- changes of kinds
 
--- outer frames and slots after a change of kinds that leaves them
+-- outer frames and stack slots after a change of kinds that leaves them
 pub changed_kept : (change : KindChange) (g : AbstractFrame → AbstractFrame)
     → ((f : AbstractFrame) → IsFrameUnchanged change f → g f ≡ f)
     → ((f : AbstractFrame) → AreSlotsUnchanged change f.stack.slots
@@ -101,7 +101,7 @@ set_later (x ∷ xs) zero j y less = absurd (omega arith)
 set_later (x ∷ xs) (suc i) zero y less = refl
 set_later (x ∷ xs) (suc i) (suc j) y less = set_later xs i j y (omega arith)
 
--- other slots in a frame
+-- what is kept where a call frame gets other stack slots
 frame_written : (a b : State) (frame : ℕ) (offset : ℤ) (slots : List StackSlot)
     → b ≡ with_frame_slots a frame slots → KeepsParts (kept_by_write a (Stack frame offset)) a b
 frame_written a b frame offset slots is = of (frame == length a.callers.items) refl where

@@ -29,7 +29,8 @@ fn serve<R: Files + Clock + AllocGlobal + Clone + Drop, W1: Write, W2: Write>(
     }
 }
 
-/// Flushes standard output after a task. If the flush fails, that is how the task ended.
+/// Flushes standard output after a task that has not failed. If the flush fails, that is how the
+/// task ended.
 fn flushed<R: AllocGlobal, W: Write + Drop>(
     rt: &R,
     ended: Result<u8, SurveyError>,

@@ -31,8 +31,8 @@ fn judged_unread<W: Write>(
     Ok(Judgement::Unreadable)
 }
 
-/// The row of what was not judged.
-fn row_unjudged(alloc: Global, path: &str, verdict: Judgement) -> Result<Row, AllocError> {
+/// A row with a verdict and no counts.
+fn row_uncounted(alloc: Global, path: &str, verdict: Judgement) -> Result<Row, AllocError> {
     let file = String::from_str(alloc, path)?;
     Ok(Row {
         file,
@@ -49,7 +49,7 @@ fn row_unread<W: Write>(
     err: &mut W,
 ) -> Result<Row, AllocError> {
     let verdict = judged_unread(alloc, path, kind, err)?;
-    row_unjudged(alloc, path, verdict)
+    row_uncounted(alloc, path, verdict)
 }
 
 /// The row of a folder that cannot be read, or only in part.
@@ -64,7 +64,7 @@ fn row_of_folder<W: Write>(
         FolderFailure::Unnamed => {
             let line = unnamed_line(alloc, path)?;
             let _ = write_bytes(err, line.as_bytes());
-            row_unjudged(alloc, path, Judgement::Unreadable)
+            row_uncounted(alloc, path, Judgement::Unreadable)
         }
     }
 }
@@ -225,8 +225,8 @@ fn judge_all<R: Files + Clock + AllocGlobal, W1: Write, W2: Write>(
 
 /// Judges images. Standard output gets a row for each image as it is judged, or at the end all rows
 /// in their order, or the differences from an earlier survey. Standard error gets a line for each
-/// file that cannot be read, and the progress if that is wanted. Returns how many images got
-/// which verdict.
+/// file or folder that cannot be read, or only in part, and the progress if that is wanted. Returns
+/// how many images got which verdict.
 fn survey_named<R: Files + Clock + AllocGlobal, W1: Write, W2: Write>(
     rt: &R,
     survey: &Survey<'_>,
@@ -246,8 +246,8 @@ fn survey_named<R: Files + Clock + AllocGlobal, W1: Write, W2: Write>(
 
 /// Surveys images. Standard output gets a row for each image as it is judged, or at the end all
 /// rows in their order, or the differences from an earlier survey. Standard error gets a line for
-/// each file that cannot be read, the progress if that is wanted, and at the end how many images
-/// got which verdict. Returns the status that says so.
+/// each file or folder that cannot be read, or only in part, the progress if that is wanted, and at
+/// the end how many images got which verdict. Returns the status that says so.
 pub fn survey<R: Files + Clock + AllocGlobal + Clone + Drop, W1: Write, W2: Write>(
     rt: &R,
     survey: &Survey<'_>,

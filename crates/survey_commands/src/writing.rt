@@ -94,7 +94,7 @@ fn write_grid<W: Write>(
     }
 }
 
-/// Writes the names of the columns, if rows need not wait.
+/// Writes the names of the columns if they are asked for, unless rows have to wait.
 pub fn write_head<W: Write>(
     alloc: Global,
     sheet: &Sheet<'_>,

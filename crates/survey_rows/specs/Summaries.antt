@@ -4,7 +4,8 @@ use Rattle.survey_rows.specs.declared.rows.Judgement.{Judgement}
 use Rattle.survey_rows.specs.declared.rows.Judgement.TheVariants as verdict
 use Rattle.survey_rows.specs.declared.summaries.Summary.{Summary}
 
--- 5 if memory ran out, else 4 if a file was not read, else 2 if an image is refused, else 0
+-- 5 if memory ran out, else 4 if a file or a folder was not read in full, else 2 if an image is
+-- refused, else 0
 abbrev pub status_of : Summary → ℕ
 status_of s = if s.unjudged == 0
     then (if s.unreadable == 0 then (if s.refused == 0 then 0 else 2) else 4) else 5

@@ -16,9 +16,9 @@ pub enum RowCell {
 #[derive(Clone, Copy, Drop)]
 pub struct ColumnHead {
     pub name: &'static str,
-    /// Whether its cells are aligned at the left in a grid for people, as texts are.
+    /// Whether its cells are aligned at the left in the text for people, as texts are.
     pub is_left: bool,
-    /// The least width of its cells in a grid for people, in characters.
+    /// The least width of its cells in the text for people, in characters.
     pub width: usize,
 }
 

@@ -105,7 +105,7 @@ fn add_column(
     Ok(())
 }
 
-/// Adds what changed for an image, in the columns that a second survey repeats.
+/// Adds what changed for an image, in all columns but its file and the times.
 fn add_changes(
     alloc: Global,
     earlier: &Earlier,

@@ -6,7 +6,7 @@ ghost use Rattle.survey_rows.specs.Columns.{name_of};
 /// A column of a survey.
 #[derive(Clone, Copy, PartialEq, Eq, Drop)]
 pub enum Column {
-    /// The path of the image's file.
+    /// The path of the image's file, or of the folder.
     File,
     /// `ok`, the code of the refusal, `unreadable` or `memory`.
     Verdict,
@@ -16,7 +16,7 @@ pub enum Column {
     Slots,
     /// How many map rows the image has.
     Maps,
-    /// The most steps of a run.
+    /// The most steps of any run.
     Bound,
     /// How many instructions were explored.
     Explored,
@@ -105,7 +105,7 @@ impl Column {
         )
     }
 
-    /// Its width in a grid for people, in characters: enough for its name, and for all its cells
+    /// Its width in the text for people, in characters: enough for its name, and for all its cells
     /// except the path of a file.
     pub fn width(self) -> usize {
         match self {

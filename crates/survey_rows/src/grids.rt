@@ -13,8 +13,8 @@ fn show(alloc: Global, shown: &mut String, character: char) -> Result<(), AllocE
     shown.push_str(escape.as_str())
 }
 
-/// A text as grids for people and messages show it: `\x1b` for each control character, the
-/// others unchanged.
+/// A text as it is shown to people and in messages: an escape such as `\x1b` for each control
+/// character, the others unchanged.
 pub fn shown(alloc: Global, text: &str) -> Result<String, AllocError> {
     let mut shown = String::new(alloc);
     for character in text.chars() {
@@ -35,7 +35,7 @@ pub fn shown_width(text: &str) -> usize {
     })
 }
 
-/// Makes each width at least that of the text under it.
+/// Makes each width at least that of the text in its column.
 fn widen(widths: &mut [usize], texts: &[String]) {
     for index in 0..widths.len() {
         if let Some(text) = texts.get(index) {

@@ -12,9 +12,9 @@ pub enum Judgement {
     Accepted,
     /// With the code of the refusal.
     Refused(&'static str),
-    /// Its file cannot be read.
+    /// Its file or folder cannot be read, or only in part.
     Unreadable,
-    /// Memory ran out, and nothing is known.
+    /// Memory ran out before there was a verdict, or the proof table that is wanted.
     NoMemory,
 }
 

@@ -5,7 +5,7 @@ ghost use Rattle.survey_rows.specs.Summaries.{status_of, with_image};
 
 use crate::rows::Judgement;
 
-/// How many images got which verdict.
+/// How many images got which verdict. A folder that has a row counts as one.
 #[derive(Clone, Copy, Default, Drop)]
 pub struct Summary {
     pub accepted: u64,
@@ -15,8 +15,8 @@ pub struct Summary {
 }
 
 impl Summary {
-    /// The status: 5 if memory ran out, else 4 if a file was not read, else 2 if an image is
-    /// refused, else 0.
+    /// The status: 5 if memory ran out, else 4 if a file or a folder was not read in full, else 2
+    /// if an image is refused, else 0.
     pub fn status(&self) -> u8
         ensures says { result ≡ status_of self.now }
         ensures most { result ≤ 5 }

@@ -24,7 +24,7 @@ fn wrong(alloc: Global, text: &str) -> WordsError {
     }
 }
 
-// The format that a word names.
+// The format that a word names; without a word, `table`.
 fn format_of(word: Option<&str>) -> Option<Format> {
     match word {
         None | Some("table") => Some(Format::Table),

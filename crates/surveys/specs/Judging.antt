@@ -32,7 +32,8 @@ pub record RefusesWith (p : Program) (code : List ℕ) (slot : Option ℕ) : Typ
   pub is_code : code ≡ code_of refusal
   pub is_slot : slot ≡ Some at
 
--- what a row says of a program: accepted with a bound, or refused with a code at a slot
+-- what a row says of a program: accepted with a bound, or refused with a code at a slot; or that
+-- memory ran out
 abbrev pub SaysVerdict : Program → Judgement → Counts → Type 0
 SaysVerdict p verdict.Accepted counts = IfBound p counts.bound
 SaysVerdict p (verdict.Refused code) counts = RefusesWith p code.now counts.slot

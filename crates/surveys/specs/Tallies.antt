@@ -22,8 +22,8 @@ pub record GrowsByWords (old new : ℕ) : Type 0 where
   pub are_words : AreWords bytes
   pub grown : new ≡ saturated (old + bytes)
 
--- the bytes of stored states after an instruction: they grow only by a state that is stored and
--- kept
+-- the bytes of stored states after an instruction: they grow only if its state is stored, and the
+-- stored state comes with its index
 abbrev pub CountsBytes : ℕ → Bool → ℕ → Type 0
 CountsBytes old false new = new ≡ old
 CountsBytes old true new = GrowsByWords old new

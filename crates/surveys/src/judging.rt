@@ -61,7 +61,7 @@ fn slot_of(error: ImageError) -> Option<u64>
     }
 }
 
-/// The result for bytes that are not an image.
+/// The result for bytes that are not an image, or if memory ran out before that was known.
 fn malformed(error: ImageError) -> Judged
     ensures memory { error ≡ ImageError.Memory → result.verdict ≡ Judgement.NoMemory }
     ensures says { SaysMalformed error result.verdict result.counts }

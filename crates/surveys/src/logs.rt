@@ -18,7 +18,7 @@ use transfer::Ways;
 struct Log<'a, W: Write + Drop> {
     alloc: Global,
     image: &'a Image,
-    /// The slot at which explored instructions are written, if not all are.
+    /// The slot at which the log is written, if not at all slots.
     only: Option<usize>,
     out: W,
     tally: SearchTally,
@@ -55,7 +55,7 @@ impl<W: Write + Drop> Log<'_, W> {
         Ok(text)
     }
 
-    /// The line for a state that a stored one covers, with the instruction whose state that is.
+    /// The line for a state that a stored one covers, with the log's number of the stored one.
     fn covered_text(&self, index: usize, steps: u32) -> Result<String, AllocError> {
         let slot = self.arrived;
         let from = from_text(self.alloc, self.path.as_slice(), self.tally.explored)?;

@@ -19,7 +19,7 @@ const REGISTERS: [Reg; 10] = [
     Reg::R9,
 ];
 
-/// Adds a line for each register about which something is known.
+/// Adds a line for each of r0 to r9 that is set.
 fn put_registers(alloc: Global, state: &State, text: &mut String) -> Result<(), AllocError> {
     let innermost = state.callers.len();
     for register in REGISTERS {
@@ -57,7 +57,8 @@ fn put_frame(alloc: Global, state: &State, frame: u8, text: &mut String) -> Resu
     Ok(())
 }
 
-/// Adds the lines of a state: its registers, and the stacks of its call frames, innermost first.
+/// Adds the lines of a state: the registers of its innermost call frame, and the stacks of all of
+/// them, innermost first.
 pub fn put_state(alloc: Global, state: &State, text: &mut String) -> Result<(), AllocError> {
     put_registers(alloc, state, text)?;
     let innermost = state.callers.len();

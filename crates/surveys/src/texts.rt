@@ -4,7 +4,7 @@ use disassembler::write_insn;
 use image::Image;
 use std::alloc::{AllocError, Global};
 
-/// An instruction's canonical text, with the end of its line.
+/// An instruction's canonical text, with the end of its line; empty where none begins.
 pub fn insn_text(alloc: Global, image: &Image, slot: usize) -> Result<String, AllocError> {
     let mut bytes = Vec::new(alloc);
     if let Some(insn) = image.at(slot) {

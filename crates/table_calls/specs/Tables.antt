@@ -25,7 +25,8 @@ pub record ReturnsShownBound (bytes table : List ℕ) (out : Rechecked) : Type 0
   pub shows : ShowsBound accepts.program table out.bound
   pub alone : out ≡ only_bound out.bound
 
--- a rule that is broken, at an entry; `said` is how many bytes the text has
+-- a rule that is broken, or 0 for the image or its control flow, at an entry; `said` is how many
+-- bytes the text has
 abbrev pub breaks : ℕ → ℕ → ℕ → Rechecked
 breaks said rule entry = record { said = said; bound = 0; rule = rule; entry = entry }
 
@@ -52,7 +53,7 @@ is_table_memory (Step index refusal) = false
 is_table_memory (Successor index) = false
 
 -- the table of a program is refused, and a buffer has the text that says why
-pub record FillsRefusedTable (p : Program) (table old new : List ℕ) (out : Rechecked) : Type 0 where
+pub record FillsTableError (p : Program) (table old new : List ℕ) (out : Rechecked) : Type 0 where
   pub error : TableError
   pub refused : TableIsRefused p table error
   pub not_memory : is_table_memory error ≡ false
@@ -67,9 +68,9 @@ FillsTableRefusal bytes table old new out =
     ((error : ImageError) × (refusal_of bytes ≡ Some error) × (out ≡ breaks out.said 0 0)
     × FillsBuffer old new out.said (image_text error))
     ⊎ ((program : Program) × (bytes ≡ image_bytes program)
-    × FillsRefusedTable program table old new out)
+    × FillsTableError program table old new out)
 
--- the same without the text
+-- the bytes are no image, or the table is refused: the same without the text
 abbrev pub IsRefusedTable : List ℕ → List ℕ → Type 0
 IsRefusedTable bytes table =
     IsNoImage bytes

@@ -6,7 +6,7 @@ ghost use Rattle.bounds.specs.Bounds.{IsVerified};
 ghost use Rattle.rechecking.specs.Refusing.{ShowsBound};
 ghost use Rattle.verdict_calls.specs.Crossing.{IsVerdictStatus};
 ghost use Rattle.verdict_calls.specs.declared.statuses.NotAccepted.TheVariants as NotAccepted;
-ghost use Rattle.table_calls.specs.Tables.{ReturnsShownBound, only_bound, FillsTableRefusal, FillsRefusedTable, IsRefusedTable, broken, is_table_memory};
+ghost use Rattle.table_calls.specs.Tables.{ReturnsShownBound, only_bound, FillsTableRefusal, FillsTableError, IsRefusedTable, broken, is_table_memory};
 
 use bounds::Verified;
 use control_flow::FlowError;
@@ -100,7 +100,7 @@ fn test(alloc: Global, program: Image, table: &[u8], why: &mut [u8], out: &mut R
     }) }
     ensures shows { result ≡ 0 → ShowsBound program table.now out.new.bound }
     ensures alone { result ≡ 0 → out.new ≡ only_bound out.new.bound }
-    ensures refused { result ≡ 2 → FillsRefusedTable program table.now why.old why.new out.new }
+    ensures refused { result ≡ 2 → FillsTableError program table.now why.old why.new out.new }
     ensures why_kept { result ≢ 2 → why.new ≡ why.old }
     ensures memory { result ≡ 5 → out.new ≡ out.old }
     ensures status { IsVerdictStatus result }

@@ -8,7 +8,7 @@ use Rattle.table_entries.specs.Forgetting.{IsWeakerList}
 pub IsWeakerList-same : {X : Type 0} (d : X) (xs : List X) → IsWeakerList d xs xs
 IsWeakerList-same d xs = λ k. inl refl
 
--- one more element is as it was, or is d
+-- where an element is set to what it was, or to d
 pub IsWeakerList-set : {X : Type 0} (d : X) (xs ys : List X) (i : ℕ) (x y : X) → i < length ys
     → (y ≡ get_or ys i x) ⊎ (y ≡ d) → IsWeakerList d xs ys → IsWeakerList d xs (slice_set ys i y)
 IsWeakerList-set d xs ys i x y inside one each = λ k. elim (cases_eq k i) [

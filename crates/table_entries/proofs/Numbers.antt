@@ -140,7 +140,7 @@ short-at p t k place e there less h =
     let none : entry_from p t.bytes place ≡ None = short-from p (drop place t.bytes) less in
     grind arith
 
--- what an index finds
+-- what is at an index of a list
 pub found-at : (xs ys : List ℕ) (i x : ℕ) → ys ≡ xs → i < length ys → x ≡ get_or ys i x
     → slice_get xs i ≡ Some x
 found-at xs ys i x same less is = rw (← same) (slice_get-get_or ys i x less ∙ ap Some (sym is))

@@ -50,7 +50,7 @@ read_needed (CallLocal by) none r among = absurd none
 read_needed Exit none r among = absurd among
 read_needed i none r among = among
 
--- and write the one register of their form
+-- and write the one register of their form, if it has one
 one_written : (i : Insn) → CallsNothing i → written_registers i ≡ option_to_list (writes i)
 one_written (CallHelper number) none = absurd none
 one_written (CallLocal by) none = absurd none
@@ -163,7 +163,8 @@ KnowsNumbers-forgets p a b known f h =
       none = rest.none;
     }
 
--- what is written and live is known, one instruction further
+-- a register that an instruction writes, or that was known before if it was written, is known
+-- after it if it is written
 pub known_further : (o : Option Reg) (written known : List Reg) (r : Reg)
     → (o ≡ Some r) ⊎ (IsOneOf written r → IsOneOf known r)
     → IsOneOf (written_too o written) r → IsOneOf (written_too o known) r

@@ -159,7 +159,7 @@ walked-plain : (rules : List Rule) (h : Held) (p c : ℕ) (cs : List ℕ) → (c
 unfolding walked
 walked-plain rules h p c cs apart = simp apart
 
--- it is an error if no positional is left, or if what was pending is one
+-- it is an error if no positional is left, or if what was pending is an error
 turn_fault-plain : (s : Shape) (h : Held) (p c : ℕ) (cs : List ℕ) → (c == 45) ≡ false
     → turn_fault s [] (walk_at h p) (c ∷ cs)
     ≡ option_map_or (λ a. positional_fault s.rules s.args_override_self a h)
@@ -184,7 +184,7 @@ reads-plain s h p (c ∷ cs) rest a end plain found quiet reads =
 
 -- ---- an option
 
--- clap's walk is at a positional, after an option with this name
+-- clap's walk is at a positional, after the option with this id
 abbrev pub option_at : Text → Held → ℕ → Walk
 option_at id h p = record {
   held = h;

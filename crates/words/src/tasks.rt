@@ -1,4 +1,4 @@
-//! What the program is to do, and why arguments ask for nothing, however a command line is written.
+//! What is to be done, and why arguments ask for nothing, however a command line is written.
 
 ghost use Rattle.std.specs.Prelude.{◌≤◌};
 ghost use Rattle.isa_model.specs.Code.Limits.{max_steps};

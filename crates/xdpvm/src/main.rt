@@ -1,8 +1,8 @@
 //! xdpvm: runs BPF programs of type XDP on streams of packet frames.
 //!
-//! The program calls one function, `execute`, whose contract says what each command does and with
-//! which status it ends. Those of `execute_given` and `buffered` say what can be said of the calls
-//! around it.
+//! One function does the work, `execute`, whose contract says what each command does and with which
+//! status it ends. Those of `execute_given` and `buffered` say what can be said of the calls around
+//! it.
 #![tactic(auto)]
 
 pub use commands::execute;

@@ -1,7 +1,6 @@
 //! xdpvm_survey: judges many BPF programs at once, and shows one.
 //!
-//! The program calls one function, `execute_given`, which does what is asked for and returns the
-//! status.
+//! One function, `execute_given`, does what is asked for and returns the status.
 #![tactic(auto)]
 
 use commands::buffered;

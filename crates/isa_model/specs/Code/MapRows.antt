@@ -8,7 +8,7 @@ use Rattle.isa_model.specs.declared.map_defs.MapType.TheVariants.{Hash, Array}
 use Rattle.isa_model.specs.declared.map_defs.MapDef.{MapDef}
 use Rattle.isa_model.specs.Code.Limits.{max_key_size, max_value_size, max_map_entries}
 
--- an array's key is its index
+-- keys of a hash map have 1 to max_key_size bytes; a key of an array is an index, in 4 bytes
 abbrev pub KeyFits : MapType → ℕ → Type 0
 KeyFits Hash n = (1 ≤ n) × (n ≤ max_key_size)
 KeyFits Array n = n ≡ 4

@@ -89,7 +89,8 @@ pub reads_of_an_unset_register : map past_one
 unfolding turn progress start_state new_call_frame step act alu holds sign_extended reordered
 reads_of_an_unset_register = refl
 
--- MOV, wide loads and loads do not read their destination register
+-- MOV, wide loads and loads do not read their destination register; this load reads unwritten
+-- bytes
 pub destinations_that_are_not_read : map past_one
     (insn.Alu Full64 Mov R3 (Register R1) ∷ insn.Alu Low32 Mov R3 (Constant (pos 1))
     ∷ insn.LoadNumber R3 1 ∷ insn.Load U64 R3 (below R10 8) ∷ [])
@@ -201,7 +202,7 @@ deep n =
     end_on (set R1 n ∷ if_constant Equal R1 (pos 0) (pos 2) ∷ add R1 (negsuc 0)
     ∷ insn.CallLocal (negsuc 2) ∷ set R0 (pos 4) ∷ insn.Exit ∷ []) [] 100
 
--- seven calls in one another make eight call frames, and the eighth call a ninth
+-- seven calls in one another make eight call frames, and the eighth call, for a ninth, traps
 pub eight_call_frames : map deep (pos 7 ∷ pos 8 ∷ []) ≡ Exit 4 39 ∷ Trap TooManyCallFrames 24 ∷ []
 unfolding turn progress start_state new_call_frame step act alu holds sign_extended reordered
 eight_call_frames = refl

@@ -56,8 +56,8 @@ abbrev pub map_and_key : ℕ → List Insn
 map_and_key n = insn.LoadMap R1 0 ∷ stack R2 n
 
 -- *(u8 *)(r10 - n) = k
-abbrev pub put_byte : ℕ → ℕ → Insn
-put_byte n k = insn.StoreConstant U8 (below R10 n) (pos k)
+abbrev pub store_byte : ℕ → ℕ → Insn
+store_byte n k = insn.StoreConstant U8 (below R10 n) (pos k)
 
 -- r1 = map_by_idx(0); r2 = r10; r2 += -1; r3 = r10; r3 += -2; r4 = 0; call 2
 abbrev pub update_bytes : List Insn
@@ -90,7 +90,7 @@ two_key_row = record one_key { entries = 2 }
 
 -- key 9 is put with 7, and key 3 with 7; the keys are in order
 pub two_keys : turn_with two_key_row []
-    (put_byte 1 9 ∷ put_byte 2 7 ∷ update_bytes ++ put_byte 1 3 ∷ update_bytes
+    (store_byte 1 9 ∷ store_byte 2 7 ∷ update_bytes ++ store_byte 1 3 ∷ update_bytes
     ++ set R0 (pos 2) ∷ insn.Exit ∷ [])
     ≡ turn_leaving (Exit 2 19) ((3 ∷ [], 7 ∷ []) ∷ (9 ∷ [], 7 ∷ []) ∷ [])
 unfolding turn progress start_state new_call_frame step act alu
@@ -101,7 +101,7 @@ two_keys = refl
 abbrev pub put_again_after : List Insn → Turn
 put_again_after is =
     turn_with one_key []
-    (put_byte 1 9 ∷ put_byte 2 7 ∷ update_bytes ++ map_and_key 1 ++ lookup ∷ copy R6 R0 ∷ is
+    (store_byte 1 9 ∷ store_byte 2 7 ∷ update_bytes ++ map_and_key 1 ++ lookup ∷ copy R6 R0 ∷ is
     ++ update_bytes
     ++ insn.Load U8 R0 (above R6 0) ∷ insn.Exit ∷ [])
 
@@ -112,7 +112,7 @@ unfolding turn progress start_state new_call_frame step act alu
 pointer_to_a_deleted_map_value = refl
 
 -- and with no delete: the key's value is written over, and r6 points to it still
-pub pointer_to_a_kept_map_value : put_again_after (put_byte 2 8 ∷ [])
+pub pointer_to_a_kept_map_value : put_again_after (store_byte 2 8 ∷ [])
     ≡ turn_leaving (Exit 8 24) ((9 ∷ [], 8 ∷ []) ∷ [])
 unfolding turn progress start_state new_call_frame step act alu
 pointer_to_a_kept_map_value = refl
@@ -120,7 +120,7 @@ pointer_to_a_kept_map_value = refl
 -- *(u8 *)(r10 - 1) = 9; r1 = map_by_idx(0); r2 = r10; r2 += -1; i; r0 += 2; exit
 abbrev pub on_an_absent_key : Insn → End
 on_an_absent_key i =
-    end_with one_key [] (put_byte 1 9 ∷ map_and_key 1 ++ i ∷ add R0 (pos 2) ∷ insn.Exit ∷ [])
+    end_with one_key [] (store_byte 1 9 ∷ map_and_key 1 ++ i ∷ add R0 (pos 2) ∷ insn.Exit ∷ [])
 
 -- a look-up gives 0, and a delete -2
 pub absent_key : map on_an_absent_key (lookup ∷ delete ∷ [])
@@ -164,8 +164,8 @@ key_before_value = refl
 
 -- the key is there. The value is past the call frame, and it is unwritten where the flags are over
 -- 2: the value comes first
-pub value_before_flags : update_by (put_byte 1 9) (copy R3 R10)
-    ∷ update_by (put_byte 1 9) (set R4 (pos 3)) ∷ []
+pub value_before_flags : update_by (store_byte 1 9) (copy R3 R10)
+    ∷ update_by (store_byte 1 9) (set R4 (pos 3)) ∷ []
     ≡ Trap BadAccess 8 ∷ Trap UnsetRead 8 ∷ []
 unfolding turn progress start_state new_call_frame step act alu
 value_before_flags = refl

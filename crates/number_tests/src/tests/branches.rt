@@ -113,7 +113,7 @@ fn registers_narrow(rt: HostRuntime) -> Result<(), Fail> {
     Ok(())
 }
 
-// What is left of r1 at the start where it is 0.
+// The kind of r1 after the jump `if r1 == 0` is taken at the start, if it may be.
 fn context_left() -> Option<Kind> {
     let cond = condition(Comparison::Equal, FULL, Reg::R1, Operand::Constant(0));
     match refine(cond, true, &State::start()) {

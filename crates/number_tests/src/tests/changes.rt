@@ -1,6 +1,6 @@
 //! Rows of a test: a set, what is done to it, and what is then known. No function here has a
-//! contract, so a row costs little; and none has a type parameter, since a call of a function over
-//! any domain costs as much as the whole trait.
+//! contract, so a row costs little; and none is over any domain, since a call of such a function
+//! costs as much as the whole trait.
 
 use super::operations::Unary;
 use isa_model::{AluOp, Comparison, Width};

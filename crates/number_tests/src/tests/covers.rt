@@ -99,7 +99,7 @@ const CALLS: &[Row] = &[
     (BACK_TO_7, BACK_TO_7, true),
     (BACK_TO_7, BACK_TO_8, false),
     (BACK_TO_7, NOTHING, false),
-    // Identities are the same in all call frames.
+    // An identity has one counterpart in all call frames.
     (SAME_IN_BOTH, SAME_IN_BOTH, true),
     (SAME_IN_BOTH, OTHER_IN_BOTH, false),
     (OTHER_IN_BOTH, SAME_IN_BOTH, true),
@@ -173,7 +173,7 @@ const STACKS: &[Row] = &[
     (POINTER_IN_5, POINTER_IN_5, true),
     (POINTER_IN_5, SEVEN_IN_5, false),
     (SEVEN_IN_5, POINTER_IN_5, false),
-    // Written bytes cover a number.
+    // Fewer written bytes cover more, and written bytes cover a number, but no pointer.
     (NOTHING, HALF_WRITTEN, true),
     (HALF_WRITTEN, NOTHING, false),
     (HALF_WRITTEN, ALL_WRITTEN, true),
@@ -182,12 +182,13 @@ const STACKS: &[Row] = &[
     (SEVEN_IN_63, ALL_WRITTEN, false),
     (SEVEN_IN_63, EIGHT_IN_63, false),
     (ALL_WRITTEN, POINTER_IN_63, false),
-    // Identities are the same in all stack slots.
+    // An identity has one counterpart in all stack slots.
     (ONE_IN_STACK, SAME_IN_STACK, true),
     (ONE_IN_STACK, TWO_IN_STACK, false),
     (TWO_IN_STACK, ONE_IN_STACK, true),
+    // A pointer with more proved bytes does not cover one with fewer.
     (PROVED_14_IN_0, PROVED_10_IN_0, false),
-    // Identities are the same in registers and stack slots.
+    // An identity has one counterpart in registers and stack slots.
     (SAME_SPILL_AND_REGISTER, SAME_SPILL_AND_REGISTER, true),
     (SAME_SPILL_AND_REGISTER, OTHER_SPILL_AND_REGISTER, false),
     (OTHER_SPILL_AND_REGISTER, SAME_SPILL_AND_REGISTER, true),

@@ -40,14 +40,14 @@ fn kind_of(held: &Held) -> Kind {
     }
 }
 
-/// Two kinds, the identity that has to be the second's, and whether the first covers the second.
+/// Two kinds, the counterpart of the first one's identity, and whether the first covers the second.
 const COVERED: &[(Held, Held, u32, bool)] = &[
     // A number covers no pointer, and a pointer no number.
     (Held::AnyNumber, Held::Packet(0), OWN, false),
     (Held::Packet(0), Held::AnyNumber, OWN, false),
     (Held::Unset, Held::Packet(0), OWN, true),
     (Held::Unset, Held::AnyNumber, OWN, true),
-    // A pointer with fewer proved bytes covers one with more.
+    // A pointer with fewer proved bytes covers one with more, if that has the counterpart.
     (Held::Packet(14), Held::Packet(10), OWN, false),
     (Held::Packet(10), Held::Packet(14), OWN, true),
     (Held::Packet(14), Held::Packet(14), OWN, true),

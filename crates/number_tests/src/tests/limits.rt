@@ -116,7 +116,7 @@ const RESULTS: &[(AluOp, Width, Set, Set, Set)] = &[
         Set::Between(14, 74),
     ),
     (AluOp::Mul, FULL, BYTE, Set::One(6), Set::Between(0, 1530)),
-    // A difference below 0 keeps its signed limits only.
+    // A result that may be below 0 has signed limits only.
     (AluOp::Sub, FULL, BYTE, Set::One(10), Set::Signed(-10, 245)),
     (AluOp::Sub, LOW, BYTE, Set::One(10), Set::Signed32(-10, 245)),
     (
@@ -126,7 +126,7 @@ const RESULTS: &[(AluOp, Width, Set, Set, Set)] = &[
         Set::One(3),
         Set::Signed(-7, 8),
     ),
-    // A sum that wraps as a signed number has no signed limits.
+    // A sum that may wrap as a signed number has no signed limits.
     (
         AluOp::Add,
         FULL,
@@ -307,7 +307,7 @@ const BIT: Set = Set::Between(0, 1);
 
 const MINUS_TWO: Set = Set::One(u64::MAX - 1);
 
-/// A relation, two sets, and what it leaves of both.
+/// A relation of two numbers (disjoint: no bit is 1 in both), two sets, and what it leaves of both.
 const RELATIONS: &[(Relation, Set, Set, Option<(Set, Set)>)] = &[
     (Relation::Below, BYTE, TEN, Some((Set::Between(0, 9), TEN))),
     (

@@ -1,4 +1,4 @@
-//! How tight limits of low halves are, for numbers whose upper halves are not known: examples
+//! How tight limits of low halves are, for numbers with any upper half or a known one: examples
 //! worked out by hand.
 
 use super::changes::{Change, Look, Row, Set, are_seen, refined, set_of};
@@ -42,7 +42,8 @@ const SIGNED_ABOVE: Limits = (11, 0x7fff_ffff, 11, i32::MAX);
 
 const SIGNED_AT_LEAST: Limits = (10, 0x7fff_ffff, 10, i32::MAX);
 
-/// A comparison with 10, and what it leaves of all numbers if it holds and if it does not.
+/// A comparison of the low half with 10, and the limits of the low half if it holds and if it does
+/// not.
 const COMPARISONS: &[(Comparison, Limits, Limits)] = &[
     (Comparison::Equal, (10, 10, 10, 10), ALL),
     (Comparison::NotEqual, ALL, (10, 10, 10, 10)),
@@ -92,7 +93,7 @@ fn each_comparison_narrows(rt: HostRuntime) -> Result<(), Fail> {
 
 const EVERY: Set = Set::Any(FULL);
 
-// Of all numbers, those with a low half from 3 to 9.
+// This leaves the numbers with a low half below 10, and the next one those from 3 on.
 const BELOW_TEN: Change = Change::Compare(Comparison::Less, LOW, true, 10);
 
 const FROM_THREE: Change = Change::Compare(Comparison::GreaterEqual, LOW, true, 3);
@@ -151,7 +152,7 @@ const CASTS: &[Row] = &[
         &[BELOW_TEN, FROM_THREE, MINUS_FIVE, RAISED, Change::Alu(AluOp::Arsh, FULL, 32)],
         &[Look::Signed(-2, 4)],
     ),
-    // Known bits are narrowed by the limits of the whole number that these leave.
+    // The limits of the result narrow its known bits.
     (
         EVERY,
         &[BELOW_TEN, FROM_THREE, Change::Unary(Unary::SignExtend(Extension::Low16))],

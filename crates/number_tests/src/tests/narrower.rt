@@ -15,7 +15,7 @@ const LOW: Width = Width::Low32;
 #[derive(Clone, Copy)]
 enum Operation {
     Reorder(ByteOrder, SwapWidth),
-    /// Some bits, from one bit on.
+    /// The first bit of a part, and how many bits it has.
     Part(u64, u32),
 }
 
@@ -85,7 +85,7 @@ fn bits_of_results(operation: Operation, value: u64, mask: u64) -> (u64, u64) {
         let number = of_number(operation, value | choice);
         all &= number;
         some |= number;
-        // The next smaller or equal choice of unknown bits; after 0 comes the mask again.
+        // The next smaller choice of unknown bits; after 0 comes the mask, which is all of them.
         choice = choice.wrapping_sub(1) & mask;
     }
     (all, some)
@@ -278,7 +278,7 @@ fn contains_all(op: AluOp, width: Width, limits: (i64, i64), by: i64) -> bool {
     true
 }
 
-/// For each small dividend, and each small divisor.
+/// For sets of small dividends, and each small divisor.
 #[test]
 fn no_result_is_lost(rt: HostRuntime) -> Result<(), Fail> {
     for op in [AluOp::SignedDiv, AluOp::SignedMod] {
@@ -309,8 +309,8 @@ fn of_unsigned(op: AluOp, width: Width) -> (u64, u64) {
     (wide.least, wide.greatest)
 }
 
-/// For numbers without a sign bit the limits are the unsigned ones, even if the divisor is not
-/// known.
+/// For numbers whose sign bit is 0 the limits are those of the unsigned operation, even if there
+/// are several divisors.
 #[test]
 fn numbers_without_a_sign(rt: HostRuntime) -> Result<(), Fail> {
     for width in [FULL, LOW] {

@@ -103,7 +103,7 @@ fn copies_after(cond: Cond, taken: bool, state: &State) -> Option<[Kind; 4]> {
     }
 }
 
-/// What a register or a stack slot holds.
+/// The kind of a register or a stack slot.
 enum Held {
     /// A packet pointer: its fixed part, its identity and how many bytes are proved.
     Packet(i32, u32, u32),
@@ -129,7 +129,7 @@ fn kind_of(held: &Held) -> Kind {
     }
 }
 
-/// What four copies hold.
+/// The kinds of four copies.
 type Copies = (Held, Held, Held, Held);
 
 fn kinds_of(held: &Copies) -> [Kind; 4] {
@@ -200,7 +200,8 @@ const FAR: Held = Held::Packet(0, 3, 0x8000_0000);
 /// A test of a pointer with this fixed part, the copies before it, and those after it.
 const COPIES: &[(Test, i32, Copies, Copies)] = &[
     (IS_BEFORE, 14, OTHERS, OTHERS),
-    // A test of a pointer that is not after its variable part proves nothing.
+    // A test that a pointer is at or before the packet end proves as many bytes as its fixed part
+    // says, and one that it is before the packet end proves one more; none, if that is not above 0.
     (
         AT_OR_BEFORE,
         0,
@@ -260,7 +261,7 @@ const SOME_NOT_NULL: Copies = (
     Held::MapValue,
 );
 
-/// What r2 holds, the copies, a comparison of r2 with 0 and whether it holds, and the copies after
+/// The kind of r2, the copies, a comparison of r2 with 0 and whether it holds, and the copies after
 /// it. Null tests decide every copy; a pointer to a map value is not null.
 const NULL_TESTS: &[(Held, Copies, Comparison, bool, Option<Copies>)] = &[
     (
@@ -345,7 +346,7 @@ const POINTER: Held = Held::Packet(14, 3, 0);
 
 const LOOKED_UP: Held = Held::LookedUp(5);
 
-/// Comparisons that are not defined for their pointers.
+/// Comparisons of r2 with r3 or a number, and what both registers hold: none of them is defined.
 const UNDEFINED: &[(Comparison, Width, Operand, Held, Held)] = &[
     (Comparison::Equal, FULL, R3, POINTER, Held::PacketEnd),
     (Comparison::SignedLess, FULL, R3, POINTER, Held::PacketEnd),
@@ -373,8 +374,8 @@ const UNDEFINED: &[(Comparison, Width, Operand, Held, Held)] = &[
     (Comparison::Equal, FULL, ZERO, Held::Unset, Held::Unset),
 ];
 
-/// Whether the comparison of r2 with r3 is not defined, and all copies stay whether it holds or
-/// not.
+/// Whether a comparison is not defined if r2 and r3 hold this, and whether all copies stay if it
+/// holds and if it does not.
 fn is_undefined(cond: Cond, left: &Held, right: &Held) -> [bool; 3] {
     let (left, right) = (kind_of(left), kind_of(right));
     let copies = [left, right, right, left];

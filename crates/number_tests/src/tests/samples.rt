@@ -59,7 +59,7 @@ fn frame_with(frame: AbstractFrame, put: &Put) -> AbstractFrame {
     frame
 }
 
-/// A frame in which only these registers and bytes are set.
+/// A frame into which only this was put.
 fn frame_of(return_slot: usize, puts: &[Put]) -> AbstractFrame {
     let mut frame = AbstractFrame::default();
     frame.return_slot = return_slot;

@@ -41,7 +41,7 @@ const SUMS_AND_PRODUCTS: &[Row] = &[
 ];
 
 #[rattlefmt::skip]
-const UNARY_OPERATIONS: &[Row] = &[
+const OTHER_OPERATIONS: &[Row] = &[
     (ALL, &[Change::Alu(AluOp::And, FULL, 15)], &[Look::Wide(0, 15)]),
     (ALL, &[Change::Itself(AluOp::Mov, LOW)], &[Look::Wide(0, 0xffff_ffff)]),
     (
@@ -143,7 +143,7 @@ const LOW_HALVES: &[Row] = &[
 #[test]
 fn operations(rt: HostRuntime) {
     are_seen(&rt, SUMS_AND_PRODUCTS);
-    are_seen(&rt, UNARY_OPERATIONS);
+    are_seen(&rt, OTHER_OPERATIONS);
 }
 
 #[test]

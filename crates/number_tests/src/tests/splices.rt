@@ -77,7 +77,7 @@ fn contains_all(old: Limits, part: (u64, u32), new: Limits) -> bool {
     true
 }
 
-/// For each two small sets and each small part, whether the new numbers fit into it or not.
+/// For some small sets and some parts, whether the new numbers fit into the part or not.
 #[test]
 fn no_number_is_lost(rt: HostRuntime) -> Result<(), Fail> {
     for part in [

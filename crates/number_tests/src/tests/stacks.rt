@@ -227,7 +227,7 @@ fn a_number_is_read_in_part(rt: HostRuntime) {
 
 const MOST: Held = Held::Numbers(Numbers::One(u64::MAX));
 
-/// A number is spilled, and then some of its bytes are overwritten.
+/// A number is spilled, and then some or all of its bytes are overwritten.
 #[rattlefmt::skip]
 const CHANGES: &[Row] = &[
     (

@@ -3,7 +3,8 @@
 use insn_codec::{CodecError, decode};
 use std::process::Abort;
 
-/// A wide load of r1: 0x18, the register byte, the low half, the reserved bits and the upper half.
+/// A wide load of r1: 0x18, the register byte, the offset, the low half, the reserved bits and the
+/// upper half.
 const WIDE: [u8; 16] = [
     0x18, 0x01, 0, 0, 0x08, 0x07, 0x06, 0x05, 0, 0, 0, 0, 0x04, 0x03, 0x02, 0x01,
 ];

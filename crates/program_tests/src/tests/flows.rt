@@ -60,7 +60,7 @@ fn is_live(live: RegisterMask, number: u8) -> bool {
     }
 }
 
-/// Adds the numbers from r1 down to 1, and sets one more register that is not used again.
+/// Adds the numbers from r1 down to 1, and copies r3 into r2, which is not used.
 const COUNTS: &str = "r0 = 0; r3 = 7; r2 = r3; r0 += r1; r1 -= 1; if r1 != 0 goto -3; exit";
 
 /// A function that is called with r1, and r6 over the call.

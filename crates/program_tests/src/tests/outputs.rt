@@ -1,4 +1,4 @@
-//! Images and texts that are written into outputs with too little room.
+//! Images and texts that are written into outputs with too little room, and with just enough.
 
 use super::programs::image_of;
 use disassembler::disassemble;

@@ -55,7 +55,7 @@ fn reached(
 /// A 32-bit result has an upper half of zeros.
 const REMAINDER: &str = "r0 = -1; r1 = 0; w0 %= w1; r0 >>= 31; exit";
 
-/// A jump narrows both branches.
+/// Where the jump is taken, r0 is 7.
 const JUMP: &str = "r0 = *(u32 *)(r1 + 12); if r0 == 7 goto +1; r0 = 0; exit";
 
 /// A text, whether each step goes to the second successor, the slot, and what is known of r0.

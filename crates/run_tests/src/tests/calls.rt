@@ -1,4 +1,4 @@
-//! Each call from C and Rust, on a few small images and with each argument that can be invalid.
+//! Each call from C and Rust, on a few small images and with arguments that are not allowed.
 
 mod buffers;
 mod images;

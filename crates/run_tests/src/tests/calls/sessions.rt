@@ -31,9 +31,9 @@ enum Call {
     Next(usize, usize, usize, usize),
 }
 
-/// The status, a number, and the steps of a run. The number is r0 of a run, or the answer of an
-/// update or a delete; or a value, or a key with its value above it, the lowest byte first; or 9 if
-/// nothing was written.
+/// The status, a number, and the steps of a run, or 0 for another call. The number is r0 of a run,
+/// or the answer of an update or a delete; or a map value, or a key with its value above it, the
+/// lowest byte first. It is 9 if nothing was written, and so are the steps of a run.
 type Returned = (u32, u64, u32);
 
 fn ran(alloc: Global, session: &mut Session, length: usize) -> Returned {
@@ -121,7 +121,7 @@ const CALLS: &[(Call, Returned)] = &[
     (Call::Close, (0, 9, 0)),
     (Call::Run(64), (1, 9, 9)),
     (Call::Close, (0, 9, 0)),
-    // what opens no session
+    // what opens no session, and calls while none is open
     (Call::Open(&UNGUARDED), (2, 9, 0)),
     (Call::Open(&ENDLESS), (2, 9, 0)),
     (Call::Open(&OTHER), (2, 9, 0)),

@@ -8,7 +8,7 @@ use command_calls::naming::{number_of_action, write_version};
 use std::alloc::Global;
 use verdict_calls::judging::{Verdict, verify_image};
 
-/// The status, and the size of the image, the line and the column.
+/// The status, the size of the image, or of the message if there is none, the line and the column.
 type Made = (u32, usize, usize, usize);
 
 fn assembled(alloc: Global, text: &[u8], image: &mut [u8], why: &mut [u8]) -> Made {
@@ -127,7 +127,7 @@ fn verifies(rt: HostRuntime) {
     }
 }
 
-/// r0 of a run, and the number of the action that its low 32 bits name.
+/// r0 of a run, and the number of the action that its low 32 bits name, or 5 if they name none.
 const ACTIONS: &[(u64, u32)] = &[
     (0, 0),
     (1, 1),

@@ -32,7 +32,7 @@ fn ends_with(
 }
 
 // For streams from this length on, up to two records: on how many packet frames the program is run,
-// where the read fails, the report and the frames out.
+// the offset of the fault, the report and the frames out.
 type Stop = (usize, u32, u64, &'static [u8], &'static [u8]);
 
 #[rattlefmt::skip]
@@ -43,7 +43,7 @@ const BROKEN: &[Stop] = &[
     (44, 2, 44, b"0 PASS 0 2\n1 PASS 0 2\nfault F5 at 44\n", TWO),
 ];
 
-// The magic and an empty record, with reasons.
+// The magic and the record of one packet frame of 0 bytes in an `XPF2` stream, with reason 0.
 const ONE_WITH_REASON: &[u8] = b"XPF2\0\0\0\0\0\0\0\0\0\0\0\0\0\0\0\0\0\0\0\0\0\0\0\0";
 
 #[rattlefmt::skip]

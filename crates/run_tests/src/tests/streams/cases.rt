@@ -13,22 +13,22 @@ use std::test::Fail;
 /// Passes each packet frame.
 pub const PASSES: &str = "r0 = 2; exit";
 
-/// The magic and two empty records.
+/// The magic and the records of two packet frames of 0 bytes.
 pub const TWO: &[u8] = b"XPF1\
     \0\0\0\0\0\0\0\0\0\0\0\0\0\0\0\0\0\0\0\0\
     \0\0\0\0\0\0\0\0\0\0\0\0\0\0\0\0\0\0\0\0";
 
-/// The magic and one empty record.
+/// The magic and the record of one packet frame of 0 bytes.
 pub const ONE: &[u8] = b"XPF1\0\0\0\0\0\0\0\0\0\0\0\0\0\0\0\0\0\0\0\0";
 
-/// The magic and two empty records with reasons.
+/// The magic and the records of two packet frames of 0 bytes in an `XPF2` stream, with reason 0.
 pub const TWO_WITH_REASONS: &[u8] = b"XPF2\
     \0\0\0\0\0\0\0\0\0\0\0\0\0\0\0\0\0\0\0\0\0\0\0\0\
     \0\0\0\0\0\0\0\0\0\0\0\0\0\0\0\0\0\0\0\0\0\0\0\0";
 
 pub const MAGIC: &[u8] = b"XPF1";
 
-/// An output: how many bytes it takes, and how it fails then, if it does.
+/// An output: after how many bytes it fails, and how, if it does.
 pub type Output = (usize, Option<Failure>);
 
 /// An output that takes all.
@@ -43,6 +43,7 @@ pub struct Case<'a> {
     pub given: &'a [u8],
     /// Whether a read fails after the last byte.
     pub is_broken: bool,
+    /// How the outputs fail to which the report and the frames out are written.
     pub report: Output,
     pub out: Output,
     pub ended: Result<Tally, HostError>,

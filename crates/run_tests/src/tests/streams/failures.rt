@@ -1,4 +1,5 @@
-//! Programs that are run on streams, while one output fails after each of its bytes.
+//! Programs that are run on streams, tried with a failure of one output after each count of its
+//! bytes.
 
 use super::cases::{Case, MAGIC, ONE, PASSES, TAKES_ALL, TWO, TWO_WITH_REASONS, ends_so};
 use failing_io::{FAILURES, Failure};
@@ -162,6 +163,7 @@ fn frames_out_fail(
     ends_so(rt, &case)
 }
 
+// In the last turn of each loop the output has room for all bytes, and does not fail.
 fn outputs_fail(
     rt: &(impl AllocGlobal + Abort),
     whole: &Whole,
@@ -176,7 +178,6 @@ fn outputs_fail(
     Ok(())
 }
 
-// In the last turn of each loop the output has room for all bytes, and does not fail.
 #[test]
 fn outputs_that_fail(rt: HostRuntime) -> Result<(), Fail> {
     for whole in WHOLES.iter() {

@@ -6,7 +6,7 @@ use isa_model::{Fault, FrameHead};
 use std::io::ErrorKind;
 use std::process::Abort;
 
-// The magic and two empty records.
+// The magic and the records of two packet frames of 0 bytes.
 const TWO: &[u8] = &[
     88, 80, 70, 49, 0, 0, 0, 0, 0, 0, 0, 0, 0, 0, 0, 0, 0, 0, 0, 0, 0, 0, 0, 0, 0, 0, 0, 0, 0, 0,
     0, 0, 0, 0, 0, 0, 0, 0, 0, 0, 0, 0, 0, 0,
@@ -38,7 +38,7 @@ fn stop_of(source: Reader<'_>) -> (u32, Next, Next) {
 // How many bytes move at a call.
 const CHUNKS: &[usize] = &[1, 2, 3, 7];
 
-// From which length or room on: how many records are read, and how the stream stops.
+// If a read fails after so many bytes or more: how many records are read, and how the stream stops.
 type Stop = (usize, u32, Next);
 
 // The last stop that is not past what was reached.
@@ -188,7 +188,8 @@ const BEGUN: &[(&[u8], Begun, Next, Begun)] = &[
     ),
 ];
 
-// The results of `begin` that many times, of `next`, and of `begin` twice more.
+// The result of the last of that many calls of `begin`, or 0; then those of `next`, and of `begin`
+// twice more.
 fn calls_of(given: &[u8], times: u32) -> (Begun, Next, Begun, Begun) {
     let mut reader = FrameReader::new(given);
     let mut buffer = [0; 9216];

@@ -2,7 +2,7 @@ use Rattle.std.proofs.Common.{◌≡◌, ◌*◌, drop}
 use Rattle.table_entries.specs.Blanks.{AreZeros}
 use Rattle.table_entries.proofs.blanks.blank_sixteens.Given as goal
 
--- the groups of sixteen stack slots before it are zeros
+-- the table's bytes of all stack slots before this group of sixteen are zeros
 abbrev pub invariant-loop-group : goal.invariant-loop-group
 invariant-loop-group l =
     record {

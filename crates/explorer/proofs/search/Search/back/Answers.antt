@@ -5,7 +5,7 @@ use Rattle.explorer.proofs.StoredStatesLaws.{Settles-start}
 use Rattle.explorer.proofs.Paths.{LastVisit, Path-pop, Path-none}
 use Rattle.explorer.proofs.Unfinished.{OnPath-pop}
 use Rattle.explorer.proofs.Counting.{spent_back}
-use Rattle.explorer.proofs.Moves.{goes_back, comes_aside}
+use Rattle.explorer.proofs.SearchMoves.{goes_back, comes_aside}
 use Rattle.explorer.proofs.search.Search.back.Goals as goal
 use Rattle.explorer.proofs.search.Search.back.Goals.{In-Some}
 

@@ -1,7 +1,7 @@
 use Rattle.std.proofs.lemmas.Result.{IfOk-weaker, IfErr-weaker}
 use Rattle.walks.specs.Refused.{StopsAt}
 use Rattle.explorer.specs.Search.{Arrives, RefusesArrival, AfterMove}
-use Rattle.explorer.proofs.Moves.{comes_to}
+use Rattle.explorer.proofs.SearchMoves.{comes_to}
 use Rattle.explorer.proofs.Walking.{arrival_refused}
 use Rattle.explorer.proofs.search.Search.come.Goals as goal
 

@@ -13,7 +13,7 @@ use Rattle.walks.proofs.Forgotten.{Forgets-forgotten}
 use Rattle.walks.specs.Counts.{ItsOwn}
 use Rattle.explorer.proofs.Counting.{spent_here}
 use Rattle.explorer.proofs.Walking.{Path-walks, into_by}
-use Rattle.explorer.proofs.Moves.{Entered, fetched, one_way, two_ways, comes_into, step_ends}
+use Rattle.explorer.proofs.SearchMoves.{Entered, fetched, one_way, two_ways, comes_into, step_ends}
 use Rattle.explorer.proofs.Telling.{steps_by_arrival, step_fails}
 use Rattle.explorer.proofs.search.Search.step.Goals as goal
 use Rattle.explorer.proofs.search.Search.step.Goals.{After-push, in-One, in-Two+in-Ok-of_forgotten}

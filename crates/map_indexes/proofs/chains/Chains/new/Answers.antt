@@ -5,7 +5,7 @@ use Rattle.map_indexes.specs.Chains.{IsChained, link_with, link_in}
 use Rattle.map_indexes.proofs.ChainLaws.{chained_none, heads-none}
 use Rattle.map_indexes.proofs.chains.Chains.new.Goals as goal
 
--- no place has a link
+-- no place has a link where `chains`, the chain of the link at each place, has none
 none : (chains nexts : List (Option ℕ)) (n : ℕ) → chains ≡ replicate n None → (k : ℕ)
     → link_in chains nexts k ≡ None
 none chains nexts n e k =
