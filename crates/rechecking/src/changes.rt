@@ -7,10 +7,10 @@ ghost use Rattle.rechecking.specs.Changes.{AreKindsUnchanged, AreSlotsUnchanged,
 use reg_state::Kind;
 use stack_state::{AbstractFrame, StackSlot};
 
-/// What a step changes in all frames.
+/// What a step changes in all call frames.
 #[derive(Clone, Copy)]
 pub enum KindChange {
-    /// So many bytes after the variable part of a packet identity are proved.
+    /// This many bytes after the variable part of a packet identity are proved.
     Proves(u32, u32),
     /// It becomes known whether values of an identity are null.
     Tests(u32),

@@ -26,8 +26,8 @@ use stack_state::{MAX_CALLERS, State};
 use std::alloc::Global;
 use std::marker::Model;
 
-/// A table whose bytes have the format, with every field allowed. Beside these, 8 bytes of memory for
-/// each entry say where it begins: no entry is kept.
+/// A table whose bytes have the format, with every field allowed. Beside these, 8 bytes of memory
+/// for each entry say where it begins: no entry is kept.
 ///
 /// Contracts see the bytes and the places.
 #[derive(Drop)]

@@ -38,7 +38,7 @@ fn stop_of(source: Reader<'_>) -> (u32, Next, Next) {
 // How many bytes move at a call.
 const CHUNKS: &[usize] = &[1, 2, 3, 7];
 
-// If a read fails after so many bytes or more: how many records are read, and how the stream stops.
+// If a read fails after this many bytes or more: how many records are read, and how it ends.
 type Stop = (usize, u32, Next);
 
 // The last stop that is not past what was reached.
