@@ -9,7 +9,10 @@ import re
 import sys
 
 FUNCTION = re.compile(r'(\s*)(?:pub(?:\([a-z ]+\))? )?(?:const )?(?:unsafe )?(?:extern "C" )?fn (\w+)')
-BLOCK = re.compile(r"(?:unsafe )?impl(?:<[^{]*?>)? (?:(?P<trait>[\w:<>, '&]+) for )?&?(?P<type>\w+)")
+BLOCK = re.compile(
+    r"(?:unsafe )?impl(?:<[^{]*?>)? (?:(?P<trait>[\w:<>, '&]+) for )?&?(?P<type>\w+)"
+    r"|(?:pub(?:\([a-z ]+\))? )?(?:unsafe )?trait (?P<own>\w+)"
+)
 TYPE = re.compile(r"(?:pub(?:\([a-z ]+\))? )?(?:struct|enum|union) (\w+)")
 ROOTS = ("src/lib.rt", "src/main.rt")
 # A proof file that names what an edit removed, or that rests on such a file.
@@ -59,7 +62,7 @@ def is_end(line, indent):
 
 def functions(file, text):
     """The functions of a file: (first line, last line, name, type, trait). Lines begin at 0; outside a block `impl` there is no
-    type and no trait."""
+    type and no trait; in the block of a trait this is the type."""
     lines, block = text.split("\n"), None
     for at, line in enumerate(lines):
         if line.startswith("}"):
@@ -71,7 +74,7 @@ def functions(file, text):
             end = next((it for it in range(at, len(lines)) if is_end(lines[it], header[1])), at)
             own = block if header[1] else None
             trait = re.sub(r"<.*", "", own["trait"] or "").split("::")[-1].strip() if own else None
-            yield at, end, header[2], own and own["type"], trait
+            yield at, end, header[2], own and (own["type"] or own["own"]), trait
 
 
 def shown(file, name, kind, trait):
@@ -117,8 +120,9 @@ def calls_itself(text, first, last, name, kind):
     return re.search(rf"{front}{name}\(", body) is not None
 
 
-def proof_folders(folder):
-    """Where the proofs of a crate's functions are, below proofs/, but for those of a trait and those that call themselves."""
+def open_functions(folder):
+    """The functions of a crate whose proofs can be left open: (file, first line, last line, folder below proofs/). Those of a trait
+    and those that call themselves cannot."""
     texts = {file: text_of(f"{folder}/{file}") for file in source_files(folder)}
     homes = {}
     for file, text in texts.items():
@@ -129,9 +133,20 @@ def proof_folders(folder):
             if trait or calls_itself(text, first, last, name, kind):
                 continue
             if kind is None:
-                yield "/".join(module_of(file) + [name])
+                yield file, first, last, "/".join(module_of(file) + [name])
             elif len(homes.get(kind, ())) == 1:
-                yield "/".join(homes[kind][0] + [kind, name])
+                yield file, first, last, "/".join(homes[kind][0] + [kind, name])
+
+
+def emptied(text, first, last):
+    """The text of a file in which the body of a function, at these lines, is one that is never run. The others keep their lines."""
+    lines = text.split("\n")
+    indent = re.match(r"\s*", lines[first])[0]
+    begins = [at for at in range(first, last) if lines[at] == indent + "{"]
+    begins += [at for at in range(first, last) if lines[at].endswith(" {")]
+    if begins and begins[0] + 1 < last and "const fn" not in lines[first]:
+        lines[begins[0] + 1 : last] = ["unreachable!()"] + [""] * (last - begins[0] - 2)
+    return "\n".join(lines)
 
 
 def refusal(crate, name, said, texts):

@@ -78,11 +78,14 @@ def words(crate, libraries):
 
 
 def leave_open(room, crate, tried):
-    """Leaves the proofs of all functions but those that are tried open: each is taken by its contract."""
-    for folder in edits.proof_folders(room):
+    """Takes all functions but those that are tried by their contracts: their proofs are left open, and their bodies are emptied."""
+    for file, first, last, folder in list(edits.open_functions(room)):
         name = folder.replace("/", "::")
         if any(name == it or name.endswith("::" + it) for it in tried):
             continue
+        text = edits.emptied(edits.text_of(f"{room}/{file}"), first, last)
+        with open(f"{room}/{file}", "w", encoding="utf-8") as code:
+            code.write(text)
         at = f"{room}/proofs/{folder}"
         os.makedirs(at, exist_ok=True)
         for file in ("Answers.antt", "Invariants.antt"):
@@ -100,10 +103,10 @@ def check(crate, texts, tried, libraries, made):
         for part in PARTS:
             if os.path.isdir(f"{TOP}/crates/{crate}/{part}"):
                 shutil.copytree(f"{TOP}/crates/{crate}/{part}", f"{room}/{part}")
-        leave_open(room, crate, tried)
         for file, text in texts.items():
             with open(f"{room}/{file}", "w", encoding="utf-8") as code:
                 code.write(text)
+        leave_open(room, crate, tried)
         only = [word for name in sorted(tried) for word in ("--only", name)]
         command = [f"{KIT}/bin/rattle", "check", *words(crate, libraries), *only, "--allow-holes", "--incremental", made]
         how = {"stdin": subprocess.DEVNULL, "stdout": subprocess.PIPE, "stderr": subprocess.STDOUT}

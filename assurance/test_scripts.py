@@ -225,6 +225,12 @@ fn most() -> u32 {
 fn down(n: u32) -> u32 {
     if n == 0 { 0 } else { down(n - 1) }
 }
+
+pub trait Counted {
+    fn count(&self) -> u32 {
+        0
+    }
+}
 """
 
 
@@ -250,7 +256,16 @@ class Edits(Tree):
         self.assertEqual(changed, [({"Count::next"}, True), ({"u32From::from"}, True), (set(), False), ({"counts::most"}, False)])
         rounds = [[names for _, names in listed] for listed in edits.in_rounds(self.folder, [more, named, other, more])]
         self.assertEqual(rounds, [[{"Count::next"}, {"u32From::from"}], [{"counts::most"}], [{"Count::next"}]])
-        self.assertEqual(sorted(edits.proof_folders(self.folder)), ["Count/next", "counts/most", "three"])
+
+    def test_functions_that_are_left_open(self):
+        found = {folder: (file, first, last) for file, first, last, folder in edits.open_functions(self.folder)}
+        self.assertEqual(sorted(found), ["Count/next", "counts/most", "three"])
+        for folder, was in (("Count/next", "        self.0 + 1\n"), ("counts/most", "    MOST\n")):
+            _, first, last = found[folder]
+            self.assertEqual(edits.emptied(COUNTS, first, last), COUNTS.replace(was, "unreachable!()\n"))
+        header = "fn one(\n    n: u32,\n) -> u32 {\n    if n == 0 {\n        return 1;\n    }\n    n\n}"
+        self.assertEqual(edits.emptied(header, 0, 7), header[: header.index("    if")] + "unreachable!()\n\n\n\n}")
+        self.assertEqual(edits.emptied("fn none() {}", 0, 0), "fn none() {}")
 
     def test_edits_that_cannot_be_made(self):
         lost = self.edit("lost", "old: self.1", "new: self.0")

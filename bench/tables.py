@@ -1,21 +1,25 @@
 #!/usr/bin/env python3
-"""Measures proof tables: `recheck` beside `verify` in turn, how long `prove` takes, and the reading of a table.
+"""Measures proof tables: `recheck` beside `verify` in turn, and how long `prove` takes.
 
-usage: python3 bench/tables.py [PROGRAM]
+usage: python3 bench/tables.py [PROGRAM [LIBRARY]]
 
-PROGRAM is the program that `rt run` leaves in crates/xdpvm (the default: crates/xdpvm/out/xdpvm). All seconds are
-processor seconds of one process, start included, and each figure is the least of TIMES runs (the default is 5), which
-take turns. An entry is an instruction that `verify` explores. The reading is that of a table which is refused for its
-first byte; the last column is `recheck` without it beside `verify`. Files are made in a folder of its own, which is
-removed at the end.
+PROGRAM is the program that `rt run` leaves in crates/xdpvm (the default: crates/xdpvm/out/xdpvm), and LIBRARY the
+archive that `rt lib` leaves in crates/xdpvm_c (the default: crates/xdpvm_c/out/libxdpvm_c.a). An entry is an
+instruction that `verify` explores. All seconds are processor seconds, and each figure is the least of TIMES runs (the
+default is 5), which take turns. Those of the commands are of one process, start and the reading of files included;
+*a call* is of the library, with the table in memory (bench/rechecks.c): without LIBRARY or a C compiler it is left out.
+Files are made in a folder of its own, which is removed at the end.
 """
 import os
+import shutil
 import subprocess
 import sys
 import tempfile
 
 HERE = os.path.dirname(os.path.abspath(__file__))
 PROGRAM = os.path.abspath(sys.argv[1] if len(sys.argv) > 1 else os.path.join(HERE, "../crates/xdpvm/out/xdpvm"))
+LIBRARY = os.path.abspath(sys.argv[2] if len(sys.argv) > 2 else os.path.join(HERE, "../crates/xdpvm_c/out/libxdpvm_c.a"))
+COMPILER = shutil.which(os.environ.get("CC", "cc"))
 TIMES = int(os.environ.get("TIMES", "5"))
 
 
@@ -106,17 +110,26 @@ ROWS = [
 ]
 
 
-def measured(words, succeeds=True):
-    """Runs a command that is to succeed, or not to: its standard output, and its processor seconds."""
+def measured(words):
+    """Runs a command that is to succeed: its standard output, and its processor seconds."""
     with tempfile.TemporaryFile() as out:
         child = subprocess.Popen(words, stdout=out)
         _, status, used = os.wait4(child.pid, 0)
         child.returncode = os.waitstatus_to_exitcode(status)
         out.seek(0)
         said = out.read().decode()
-    if succeeds != (child.returncode == 0):
+    if child.returncode:
         sys.exit(f"{' '.join(words)}: status {child.returncode}, {said!r}")
     return said, used.ru_utime + used.ru_stime
+
+
+def build_calls():
+    """Builds bench/rechecks.c in the current folder, if there is a library and a compiler; the command, or None."""
+    if not COMPILER or not os.path.isfile(LIBRARY):
+        return None
+    heap = os.path.join(os.path.dirname(os.path.dirname(os.path.realpath(shutil.which("rt")))), "c", "liblibc_c.a")
+    subprocess.run([COMPILER, "-std=gnu11", "-O2", "-o", "rechecks", os.path.join(HERE, "rechecks.c"), LIBRARY, heap], check=True)
+    return os.path.abspath("rechecks")
 
 
 def peak(words):
@@ -128,9 +141,10 @@ def peak(words):
 def main():
     with tempfile.TemporaryDirectory() as folder:
         os.chdir(folder)
+        calls = build_calls()
         head = f"{'program':<46}{'entries':>9}{'MB':>7}{'an entry':>9}"
-        head += "".join(f"{name:>9}{'MB':>5}" for name in ("verify", "prove", "recheck"))
-        print(head + f"{'reading':>9}{'ratio':>7}{'without':>8}")
+        head += "".join(f"{name:>9}{'MB':>5}" for name in ("verify", "prove", "recheck")) + f"{'ratio':>7}"
+        print(head + (f"{'a call':>10}{'recheck':>9}{'ratio':>7}" if calls else ""))
         for name, text in ROWS:
             with open("p.text", "w") as file:
                 file.write(text)
@@ -138,22 +152,19 @@ def main():
             measured([PROGRAM, "prove", "p.image", "p.table"])
             size = os.path.getsize("p.table")
             with open("p.table", "rb") as file:
-                table = file.read()
-            entries = int.from_bytes(table[4:8], "little")
-            with open("r.table", "wb") as file:
-                file.write(b"Y" + table[1:])
+                entries = int.from_bytes(file.read(8)[4:], "little")
             commands = [[PROGRAM, *words.split()] for words in ("verify p.image", "prove p.image q.table", "recheck p.image p.table")]
-            taken, reading = [], []
-            for _ in range(TIMES):
-                taken.append([measured(words) for words in commands])
-                reading.append(measured([PROGRAM, "recheck", "p.image", "r.table"], False)[1])
+            taken = [[measured(words) for words in commands] for _ in range(TIMES)]
             if len({said for runs in taken for said, _ in runs}) > 1:
                 sys.exit(f"{name}: other bounds")
             least = [min(runs[place][1] for runs in taken) for place in range(3)]
             line = f"{name:<46}{entries:>9}{size / 1e6:>7.1f}{size / entries:>9.0f}"
             line += "".join(f"{seconds:>9.3f}{peak(words):>5.0f}" for seconds, words in zip(least, commands))
-            line += f"{min(reading):>9.3f}{least[2] / least[0]:>7.2f}"
-            print(line + f"{(least[2] - min(reading)) / least[0]:>8.2f}", flush=True)
+            line += f"{least[2] / least[0]:>7.2f}"
+            if calls:
+                verify, recheck = map(float, measured([calls, str(TIMES), "p.image", "p.table"])[0].split())
+                line += f"{verify:>10.4f}{recheck:>9.4f}{recheck / verify:>7.2f}"
+            print(line, flush=True)
         os.chdir("/")
 
 
