@@ -1,5 +1,5 @@
 /* xdpvm_recheck beside xdpvm_verify, on an image and a proof table that are in memory: the processor seconds of a call of
-   each, the least of RUNS calls, which take turns, and their ratio.
+   each, the least of RUNS calls, which take turns.
 
    usage: rechecks RUNS IMAGE TABLE        (built as examples/embed/build.sh builds embed.c) */
 #include "../examples/embed/xdpvm.h"
@@ -43,6 +43,6 @@ int main(int count, char **words) {
         if (middle - start < verify) verify = middle - start;
         if (end - middle < recheck) recheck = end - middle;
     }
-    printf("%.4f %.4f\n", verify, recheck);
+    printf("%.7f %.7f\n", verify, recheck);
     return 0;
 }

@@ -7,8 +7,8 @@ PROGRAM is the program that `rt run` leaves in crates/xdpvm (the default: crates
 archive that `rt lib` leaves in crates/xdpvm_c (the default: crates/xdpvm_c/out/libxdpvm_c.a). An entry is an
 instruction that `verify` explores. All seconds are processor seconds, and each figure is the least of TIMES runs (the
 default is 5), which take turns. Those of the commands are of one process, start and the reading of files included;
-*a call* is of the library, with the table in memory (bench/rechecks.c): without LIBRARY or a C compiler it is left out.
-Files are made in a folder of its own, which is removed at the end.
+*a call* is of the library, with the table in memory (bench/rechecks.c), in milliseconds; short ones have more runs.
+Without LIBRARY, a C compiler or rt it is left out. Files are made in a folder of its own, which is removed at the end.
 """
 import os
 import shutil
@@ -125,9 +125,10 @@ def measured(words):
 
 def build_calls():
     """Builds bench/rechecks.c in the current folder, if there is a library and a compiler; the command, or None."""
-    if not COMPILER or not os.path.isfile(LIBRARY):
+    rt = shutil.which("rt")
+    if not rt or not COMPILER or not os.path.isfile(LIBRARY):
         return None
-    heap = os.path.join(os.path.dirname(os.path.dirname(os.path.realpath(shutil.which("rt")))), "c", "liblibc_c.a")
+    heap = os.path.join(os.path.dirname(os.path.dirname(os.path.realpath(rt))), "c", "liblibc_c.a")
     subprocess.run([COMPILER, "-std=gnu11", "-O2", "-o", "rechecks", os.path.join(HERE, "rechecks.c"), LIBRARY, heap], check=True)
     return os.path.abspath("rechecks")
 
@@ -158,12 +159,13 @@ def main():
             if len({said for runs in taken for said, _ in runs}) > 1:
                 sys.exit(f"{name}: other bounds")
             least = [min(runs[place][1] for runs in taken) for place in range(3)]
-            line = f"{name:<46}{entries:>9}{size / 1e6:>7.1f}{size / entries:>9.0f}"
+            line = f"{name:<46}{entries:>9}{size / 1e6:>7.{1 if size > 100_000 else 2}f}{size / entries:>9.0f}"
             line += "".join(f"{seconds:>9.3f}{peak(words):>5.0f}" for seconds, words in zip(least, commands))
             line += f"{least[2] / least[0]:>7.2f}"
             if calls:
-                verify, recheck = map(float, measured([calls, str(TIMES), "p.image", "p.table"])[0].split())
-                line += f"{verify:>10.4f}{recheck:>9.4f}{recheck / verify:>7.2f}"
+                runs = max(TIMES, 1_000_000 // entries)
+                verify, recheck = map(float, measured([calls, str(runs), "p.image", "p.table"])[0].split())
+                line += f"{1e3 * verify:>10.2f}{1e3 * recheck:>9.2f}{recheck / verify:>7.2f}"
             print(line, flush=True)
         os.chdir("/")
 
