@@ -5,8 +5,8 @@ usage: python3 assurance/run.py [--gate] [--fit] [--libraries FOLDER [--told FIL
 
 The edits of the gate are crates/CRATE/must-fail/NAME.edit; without --gate those are tried that the gate has no time for,
 assurance/CRATE/NAME.edit; of each named crate, or of all. Edits of different functions share a check: a copy of the crate has
-all of their changes, and only the changed functions are checked, over the contracts of the others, whose proofs are left
-open; rt ci proves those. An edit is refused if a goal of its own function is not proved. It does not count that a proof
+all of their changes, and only the changed functions are checked, over the contracts of the others, whose bodies and proofs
+are left out; rt ci proves those. An edit is refused if a goal of its own function is not proved. It does not count that a proof
 file names what the edit removed. What is not seen to be refused is tried once more by itself.
 
 The libraries below a crate are those in crates/*/out/rlib of FOLDER, in which `rt ci` ran. Where it still runs, FILE has what

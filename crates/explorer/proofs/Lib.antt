@@ -3,6 +3,7 @@ pub mod GroupLaws
 pub mod Paths
 pub mod SearchMoves
 pub mod Starts
+pub mod Stopping
 pub mod Unfinished
 pub mod Walking
 pub mod LastJumps

@@ -1,6 +1,6 @@
 -- What stays true of the stored states.
-use Rattle.std.proofs.Common.{◌≡◌, ◌≤◌, ◌∷◌, ◌++◌, [], ℕ, zero, suc, Some, None, Option, List, length, arith, refl, sym, ap, subst, set, slice_get}
-use Rattle.std.proofs.lemmas.Option.{slice_get_within, get_or_from_slice_get}
+use Rattle.std.proofs.Common.{◌≡◌, ◌≤◌, ◌<◌, ◌∷◌, ◌++◌, [], ℕ, zero, suc, Some, None, Option, List, length, get_or, arith, refl, sym, ap, ◌∙◌, subst, set, slice_get}
+use Rattle.std.proofs.lemmas.Option.{slice_get_within, slice_get_read, get_or_from_slice_get}
 use Rattle.std.proofs.lemmas.List.Elements.{All-push, All-set, All-weaker}
 use Rattle.isa_model.specs.Code.Instructions.{Program}
 use Rattle.stack_state.specs.declared.states.State.{State}
@@ -8,7 +8,7 @@ use Rattle.stack_state.specs.Meaning.{Within, Covers}
 use Rattle.explorer.specs.declared.stored_states.StoredState.{StoredState}
 use Rattle.explorer.specs.declared.moves.Move.{Move}
 use Rattle.explorer.specs.declared.moves.Move.TheVariants.{New, Covered, Finished}
-use Rattle.explorer.specs.StoredStates.{IsCovered, StoredAt, GetsNumber}
+use Rattle.explorer.specs.StoredStates.{IsStored, IsCovered, StoredAt, GetsNumber}
 use Rattle.stack_state.specs.Starts.{start}
 use Rattle.walks.specs.Forgetting.{Forgets}
 use Rattle.walks.specs.Walks.{WalksTo}
@@ -178,3 +178,15 @@ pub GetsNumber-keeps : (old : List StoredState) (stored : Option ℕ) (s : State
 GetsNumber-keeps old None s n new h at = KeepsStates-same old new h
 GetsNumber-keeps old (Some k) s n new h at =
     subst (λ x. KeepsStates old x) (sym (h s at)) (KeepsStates-set old k s at.0 n at.1)
+
+-- ---- a stored state that is read
+
+pub found_at : (states read : List StoredState) (i : ℕ) (x : StoredState) → read ≡ states
+    → i < length read → x ≡ get_or read i x → slice_get states i ≡ Some x
+found_at states read i x same inside there =
+    subst (λ l. slice_get l i ≡ Some x) same
+    (slice_get_read read (length read) i x refl inside there)
+
+pub read_at : (states : List StoredState) (i : ℕ) (x : StoredState) (s : State) (n : ℕ)
+    → slice_get states i ≡ Some x → IsStored states i s n → x ≡ record { state = s; number = n }
+read_at states i x s n found is = cc (sym found ∙ is)

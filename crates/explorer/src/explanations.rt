@@ -10,6 +10,7 @@ ghost use Rattle.explorer.specs.Explained.{IsLed, IsTurnBefore, ComesThrough, Ex
 ghost use Rattle.explorer.specs.Followed.{HasFollowed};
 ghost use Rattle.explorer.specs.Search.{IsNew};
 
+use crate::listened::prepared;
 use crate::listening::Listener;
 use crate::moves::Halt;
 use crate::search::Search;
@@ -222,10 +223,8 @@ pub fn explain(alloc: Global, image: &Image, refusal: Refusal, slot: usize) -> O
     if let Refusal::Flow(_) | Refusal::Memory = refusal {
         return None;
     }
-    let slot_count = image.slots();
-    let Ok(flow) = Flow::of(alloc, image) else {
-        return None;
-    };
-    let mut search = Search::new(alloc, slot_count).ok()?;
-    explained(alloc, image, &flow, &mut search, refusal, slot)
+    match prepared(alloc, image) {
+        Ok((flow, mut search)) => explained(alloc, image, &flow, &mut search, refusal, slot),
+        Err(_) => None,
+    }
 }

@@ -27,15 +27,17 @@ fn keep_callers(
 ) -> Result<Rc<Vec<KeptFrame>>, AllocError>
     ensures { IfOk result (λ kept. kept.value.items ≡ frames.now) }
 {
-    let kept = match other {
+    let others = match other {
         Some(other) => {
-            if are_frames(other.callers.as_ref().as_slice(), frames) {
+            let others = other.callers.as_ref().as_slice();
+            if are_frames(others, frames) {
                 return other.callers.clone();
             }
-            keep_all(alloc, frames, parts, other.callers.as_ref().as_slice())?
+            others
         }
-        None => keep_all(alloc, frames, parts, &[])?,
+        None => &[],
     };
+    let kept = keep_all(alloc, frames, parts, others)?;
     match Rc::new(alloc, kept) {
         Ok(kept) => Ok(kept),
         Err(_) => Err(AllocError),

@@ -32,7 +32,7 @@ pub enum NoBound {
 }
 
 /// The limit is reached.
-#[derive(Clone, Copy, Drop)]
+#[derive(Drop)]
 struct Reached;
 
 /// Counts down the instructions that may still be explored.

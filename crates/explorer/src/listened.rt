@@ -8,11 +8,14 @@ ghost use Rattle.walks.specs.Accepting.{AcceptsAll, BoundsAll};
 ghost use Rattle.walks.specs.Counts.{HasNumber};
 ghost use Rattle.stack_state.specs.declared.states.State.{State as TheState};
 ghost use Rattle.stack_state.specs.Starts.{start};
+ghost use Rattle.image.specs.Images.{IsImage};
+ghost use Rattle.control_flow.specs.Flows.{IsFlow};
+ghost use Rattle.explorer.specs.Search.{IsNew};
 ghost use Rattle.explorer.specs.Listening.{IfRefused};
 
 use crate::kept::Kept;
 use crate::listening::Listener;
-use crate::moves::Halt;
+use crate::moves::{Halt, NO_MEMORY, Refused};
 use crate::search::Search;
 use bounds::Verified;
 use control_flow::Flow;
@@ -20,6 +23,26 @@ use image::Image;
 use isa_model::MAX_EXPLORED;
 use std::alloc::Global;
 use walks::Refusal;
+
+/// The control flow of a program, and a search that is at its start; or why there is no search, and
+/// the slot.
+pub fn prepared(alloc: Global, image: &Image) -> Result<(Flow<'_>, Search), Refused>
+    ensures whole { IfOk result (λ _. IsImage image.now) }
+    ensures good { IfOk result (λ _. IsFlow image.now) }
+    ensures image { IfOk result (λ made. made.0 ≡ image.now) }
+    ensures new { IfOk result (λ made. IsNew made.1) }
+    ensures refused { IfErr result (λ r. IsRefused image.now r.0 r.1) }
+{
+    let slots = image.slots();
+    let flow = match Flow::of(alloc, image) {
+        Ok(flow) => flow,
+        Err((error, slot)) => return Err((Refusal::Flow(error), slot)),
+    };
+    match Search::new(alloc, slots) {
+        Ok(search) => Ok((flow, search)),
+        Err(_) => Err(NO_MEMORY),
+    }
+}
 
 // The bound of a program's runs; a listener is called during the search for it.
 fn bound_with<L: Listener>(
@@ -34,17 +57,9 @@ fn bound_with<L: Listener>(
     ensures most { IfOk result (λ n. n ≤ MAX_EXPLORED) }
     ensures refused { IfErr result (λ h. IfRefused h (IsRefused image.now)) }
 {
-    let slots = image.slots();
-    let flow = match Flow::of(alloc, image) {
-        Ok(flow) => flow,
-        Err((error, slot)) => return Err(Halt::Refused(Refusal::Flow(error), slot)),
-    };
-    let Ok(mut search) = Search::new(alloc, slots) else {
-        return Err(Halt::Refused(Refusal::Memory, 0));
-    };
-    match search.explore(alloc, image, &flow, listener) {
-        Ok(bound) => Ok(bound),
-        Err(halt) => Err(halt),
+    match prepared(alloc, image) {
+        Ok((flow, mut search)) => search.explore(alloc, image, &flow, listener),
+        Err((refusal, slot)) => Err(Halt::Refused(refusal, slot)),
     }
 }
 

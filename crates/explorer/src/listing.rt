@@ -9,6 +9,7 @@ ghost use Rattle.explorer.specs.Search.{IsNew};
 
 use crate::blanks::clear_frame;
 use crate::kept::Kept;
+use crate::listened::prepared;
 use crate::listening::Listener;
 use crate::moves::Halt;
 use crate::search::Search;
@@ -241,13 +242,6 @@ fn listed(
 pub fn explore(alloc: Global, image: &Image) -> Result<Explored, (Refusal, usize)>
     ensures { IfErr result (λ r. IsRefused image.now r.0 r.1) }
 {
-    let slots = image.slots();
-    let flow = match Flow::of(alloc, image) {
-        Ok(flow) => flow,
-        Err((error, slot)) => return Err((Refusal::Flow(error), slot)),
-    };
-    let Ok(mut search) = Search::new(alloc, slots) else {
-        return Err((Refusal::Memory, 0));
-    };
+    let (flow, mut search) = prepared(alloc, image)?;
     listed(alloc, image, &flow, &mut search)
 }

@@ -29,7 +29,7 @@ pub enum NextMove {
 }
 
 /// Why a search finds no number.
-#[derive(Clone, Copy, Drop)]
+#[derive(Drop)]
 pub enum Halt<S> {
     /// The program gets this refusal, at this slot.
     Refused(Refusal, usize),

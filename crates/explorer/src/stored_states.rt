@@ -57,8 +57,10 @@ pub struct StoredStates {
 
 /// The state that was stored last.
 fn last_of(states: &[StoredState]) -> Option<&Kept> {
-    let last = states.last()?;
-    Some(&last.state)
+    match states.last() {
+        Some(last) => Some(&last.state),
+        None => None,
+    }
 }
 
 impl StoredStates {
@@ -100,8 +102,8 @@ impl StoredStates {
         if self.effort.is_over() {
             return Ok(());
         }
-        let rows = self.rows_of(alloc, &indexes)?;
-        self.index.add_tree(known, left, Tree::of(alloc, rows)?)
+        let tree = self.tree_of(alloc, &indexes)?;
+        self.index.add_tree(known, left, tree)
     }
 
     /// How far the limits of stored states lie apart.
@@ -137,13 +139,13 @@ impl StoredStates {
         Ok(())
     }
 
-    /// The rows of stored states for a tree.
-    fn rows_of(&self, alloc: Global, indexes: &[u32]) -> Result<Rows, AllocError> {
+    /// A tree of stored states.
+    fn tree_of(&self, alloc: Global, indexes: &[u32]) -> Result<Tree, AllocError> {
         let mut limits = Vec::new(alloc);
         let spread = self.spread_of(alloc, indexes, &mut limits)?;
         let mut rows = Rows::of(alloc, &spread)?;
         self.add_rows(indexes, &mut limits, &mut rows)?;
-        Ok(rows)
+        Tree::of(alloc, rows)
     }
 
     /// Takes a state to be looked up and stored next. It may have been kept already; if not,

@@ -1,3 +1,7 @@
+use Rattle.std.proofs.Common.{subst}
+use Rattle.walks.specs.Refused.{IsRefused}
+use Rattle.walks.specs.Accepting.{AcceptsAll}
+use Rattle.explorer.specs.Listening.{IfRefused}
 use Rattle.stack_state.specs.Starts.{start}
 use Rattle.explorer.proofs.verified.verify.Goals as goal
 
@@ -21,3 +25,15 @@ returns-in-Ok-clause-accepts c = tt
 
 pub returns-in-Ok-clause-bounds : goal.returns-in-Ok-clause-bounds
 returns-in-Ok-clause-bounds c = c.in-Ok.ensures.bounds
+
+pub returns-in-Err-Refused : goal.returns-in-Err-Refused
+returns-in-Err-Refused c = let p = c.args.image in record {
+  program = tt;
+  verified = tt;
+  refused = subst (λ h. IfRefused h (IsRefused p)) c.in-Err-Refused.field-0-is
+      c.in-Err-Refused.ensures.refused;
+  number = tt;
+  accepts = subst (λ h. IfRefused h (λ e _. AcceptsAll p e)) c.in-Err-Refused.field-0-is
+      c.in-Err-Refused.ensures.accepts;
+  bounds = tt;
+}

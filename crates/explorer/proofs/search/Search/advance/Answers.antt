@@ -1,4 +1,8 @@
-use Rattle.std.proofs.Common.{◌∷◌}
+use Rattle.std.proofs.Common.{◌≢◌, ◌∷◌, subst}
+use Rattle.walks.specs.Refused.{StopsAt}
+use Rattle.walks.specs.declared.refusals.Refusal.TheVariants.{TooLong}
+use Rattle.explorer.specs.Listening.{StepFails}
+use Rattle.explorer.proofs.Stopping.{halted}
 use Rattle.explorer.proofs.Telling.{refused_step, told_step}
 use Rattle.explorer.proofs.search.Search.advance.Goals as goal
 
@@ -25,3 +29,15 @@ settle-requires-clause-untold g c =
       visited = h.visited;
       told = c.in_default.ensures p (search.current ∷ h.states) search.current h.told;
     }) c.in-Ok.ensures.steps
+
+pub returns-in-Err-clause-stops : goal.returns-in-Err-clause-stops
+returns-in-Err-clause-stops g c =
+    halted c.halt.result c.in-Err.refused.0 c.in-Err.refused.1 (StopsAt c.args.flow.now)
+    c.halt.ensures.same c.in-Err.ensures.stops
+
+pub returns-in-Err-clause-not_long : goal.returns-in-Err-clause-not_long
+returns-in-Err-clause-not_long g c =
+    let refused = c.in-Err.refused in
+    halted c.halt.result refused.0 refused.1 (λ e slot. e ≢ TooLong) c.halt.ensures.same
+    (λ is. subst (λ e. StepFails c.args.flow.now c.args.self.now.current
+    c.step.new.self.current e refused.1) is c.in-Err.ensures.fails)

@@ -1,4 +1,10 @@
-use Rattle.std.proofs.Common.{◌+◌, length, arith, refl, subst}
+use Rattle.std.proofs.Common.{◌≡◌, ◌+◌, length, arith, refl, sym, subst}
+use Rattle.image.specs.Images.{IsImage}
+use Rattle.walks.specs.Refused.{StopsAt}
+use Rattle.walks.specs.declared.refusals.Refusal.TheVariants.{TooLong}
+use Rattle.explorer.specs.Search.{IsNext, IsTooLong}
+use Rattle.explorer.specs.Listening.{BeginFails, FollowsNext}
+use Rattle.explorer.proofs.Stopping.{halted}
 use Rattle.walks.specs.Counts.{Takes, ItsOwn}
 use Rattle.explorer.proofs.Counting.{CountsTo-takes}
 use Rattle.explorer.proofs.Walking.{Path-walks}
@@ -44,3 +50,71 @@ returns-in-Err-clause-ends g c =
     c.halt.ensures.ends p
     (refused_begin p (g.L.Listener.follows c.args.listener.now p) c.begin.new.self.current last
     c.in-Err.refused.0 c.in-Err.refused.1 c.in-Err.ensures.fails told)
+
+-- ---- the calls
+
+pub begin-requires : goal.begin-requires
+begin-requires g c =
+    record { whole = subst IsImage (sym c.requires.image) c.requires.whole; new = c.requires.new }
+
+pub settle-requires-clause-moves : goal.settle-requires-clause-moves
+settle-requires-clause-moves g c = c.in-Ok.ensures.moves
+
+pub settle-requires-clause-room : goal.settle-requires-clause-room
+settle-requires-clause-room g c = omega (arith, c.begin.ensures.explored)
+
+pub advance-requires : goal.advance-requires
+advance-requires g c =
+    let p = c.args.flow.now in
+    let search = c.loop-explored.self in
+    record {
+      image = c.requires.image;
+      good = c.requires.good;
+      at = subst (IsNext p search) c.in-Explore.is c.loop-explored.invariant.goes;
+      room = omega (arith, c.loop-explored.invariant.explored, c.loop-explored-test.true);
+      told = subst (FollowsNext p (g.L.Listener.follows c.loop-explored.listener p)
+          search.path.items search.current) c.in-Explore.is c.loop-explored.invariant.told;
+    }
+
+-- ---- the loop
+
+pub loop-explored-init : goal.loop-explored-init
+loop-explored-init g c = record {
+  goes = c.in_ok-next_move.ensures.goes;
+  told = c.in_ok-next_move.ensures.told;
+  explored = omega (arith, c.begin.ensures.explored, c.in_ok-next_move.ensures.explored);
+}
+
+pub loop-explored-preserved : goal.loop-explored-preserved
+loop-explored-preserved g c = record {
+  goes = c.in_ok-next_move-in-Explore.ensures.goes;
+  told = c.in_ok-next_move-in-Explore.ensures.told;
+  explored = omega (
+    arith,
+    c.loop-explored.invariant.explored,
+    c.in_ok-next_move-in-Explore.ensures.explored,
+  );
+}
+
+-- ---- where the path does not begin
+
+pub returns-in-Err-clause-stops : goal.returns-in-Err-clause-stops
+returns-in-Err-clause-stops g c =
+    halted c.halt.result c.in-Err.refused.0 c.in-Err.refused.1 (StopsAt c.args.flow.now)
+    c.halt.ensures.same c.in-Err.ensures.stops
+
+pub returns-in-Err-clause-too_long : goal.returns-in-Err-clause-too_long
+returns-in-Err-clause-too_long g c =
+    let refused = c.in-Err.refused in
+    let search = c.begin.new.self in
+    halted c.halt.result refused.0 refused.1
+    (λ e slot. e ≡ TooLong → IsTooLong search slot) c.halt.ensures.same
+    (λ is. absurd (subst (λ e. BeginFails c.args.flow.now search.current e refused.1) is
+    c.in-Err.ensures.fails))
+
+-- ---- where the start has its number
+
+pub returns-in-Done-clause-settles : goal.returns-in-Done-clause-settles
+returns-in-Done-clause-settles g c =
+    subst (IsNext c.args.flow.now c.loop-explored.self) c.in-Done.is
+    c.loop-explored.invariant.goes

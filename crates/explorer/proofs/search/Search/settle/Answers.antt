@@ -1,6 +1,9 @@
-use Rattle.std.proofs.Common.{arith, subst}
+use Rattle.std.proofs.Common.{◌≢◌, arith, subst}
+use Rattle.walks.specs.Refused.{StopsAt}
+use Rattle.walks.specs.declared.refusals.Refusal.TheVariants.{TooLong}
 use Rattle.explorer.specs.Search.{AfterMoveOrEnd}
-use Rattle.explorer.specs.Listening.{IfReturns, HeardPath, HearsMove}
+use Rattle.explorer.specs.Listening.{IfReturns, ReturnFails, HeardPath, HearsMove}
+use Rattle.explorer.proofs.Stopping.{halted}
 use Rattle.explorer.proofs.Telling.{returns_less, has_ended, follows_end, told_back, refused_back}
 use Rattle.explorer.proofs.search.Search.settle.Goals as goal
 use Rattle.explorer.proofs.search.Search.settle.Goals.{in-Covered, in-Covered-2}
@@ -83,3 +86,16 @@ returns-in-Err-back-clause-ends g c =
     c.halt.ensures.ends p
     (refused_back p tale old c.back.new.self.current c.in-Err-back.refused.0
     c.in-Err-back.refused.1 follows c.in-Err-back.ensures.fails)
+
+pub returns-in-Err-back-clause-stops : goal.returns-in-Err-back-clause-stops
+returns-in-Err-back-clause-stops g c =
+    let refused = c.in-Err-back.refused in
+    halted c.halt.result refused.0 refused.1 (StopsAt c.args.flow.now)
+    c.halt.ensures.same c.in-Err-back.ensures.stops
+
+pub returns-in-Err-back-clause-not_long : goal.returns-in-Err-back-clause-not_long
+returns-in-Err-back-clause-not_long g c =
+    let refused = c.in-Err-back.refused in
+    halted c.halt.result refused.0 refused.1 (λ e slot. e ≢ TooLong) c.halt.ensures.same
+    (λ is. subst (λ e. ReturnFails c.moves.self.path.items c.back.new.self.current e refused.1)
+    is c.in-Err-back.ensures.fails)

@@ -1,0 +1,33 @@
+use Rattle.std.proofs.Common.{◌≡◌, subst}
+use Rattle.walks.specs.Refused.{StopsAt}
+use Rattle.walks.specs.declared.refusals.Refusal.TheVariants.{TooLong}
+use Rattle.explorer.specs.Search.{IsTooLong}
+use Rattle.explorer.specs.Listening.{IfRefused}
+use Rattle.explorer.proofs.search.Search.explore.Goals as goal
+
+pub explore_all-requires : goal.explore_all-requires
+explore_all-requires g c = record {
+  image = c.requires.image;
+  whole = c.requires.whole;
+  good = c.requires.good;
+  new = c.requires.new;
+  untold = c.requires.untold;
+}
+
+pub returns-in-Ok : goal.returns-in-Ok
+returns-in-Ok g c =
+    let settled = c.in-Ok.ensures.settles in
+    record {
+      within = settled.0.within;
+      number = settled.0.number;
+      some = settled.1;
+      most = c.in-Ok.ensures.most;
+      stops = tt;
+      too_long = tt;
+      ends = tt;
+    }
+
+pub returns-in-Err-Refused-clause-stops : goal.returns-in-Err-Refused-clause-stops
+returns-in-Err-Refused-clause-stops g c =
+    subst (λ h. IfRefused h (StopsAt c.args.flow.now)) c.in-Err-Refused.field-0-is
+    c.in-Err-Refused.ensures.stops
