@@ -282,7 +282,25 @@ def many_slots():
                "if r8 < 60000 goto loop", "out: r0 = 2", "exit"])
 
 
+def with_a_call(lines):
+    """The program with a call of a function that does nothing: then no numbers are forgotten. None: it calls one already,
+    or has no first line that keeps the context."""
+    if START[0] not in lines or any(" call " in f" {line} " and not line.split()[-1].isdigit() for line in lines):
+        return None
+    first = lines.index(START[0]) + 1
+    return lines[:first] + ["call nothing"] + lines[first:] + ["nothing: r0 = 0", "exit"]
+
+
 FAMILIES = [bits, limits, signed_limits, low_halves, stack_slots, frames, identities, null_identities, calls, many_slots]
+
+
+def of_both_sorts(images):
+    """The images, and those with a call."""
+    for name, lines in images:
+        yield name, lines
+        called = with_a_call(lines)
+        if called:
+            yield f"{name}, with a call", called
 
 
 # ---- measuring
@@ -313,7 +331,7 @@ def main():
         for family in FAMILIES:
             if CHOSEN and family.__name__ not in CHOSEN:
                 continue
-            for name, lines in family():
+            for name, lines in of_both_sorts(family()):
                 with open(text, "w") as file:
                     file.write("\n".join(lines) + "\n")
                 made = subprocess.run([PROGRAM, "asm", text, image], stdout=subprocess.PIPE, text=True)

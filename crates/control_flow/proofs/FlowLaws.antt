@@ -102,6 +102,14 @@ from_none p slot to e (Calls h) =
     e in absurd cc
 
 -- it leads on from instructions only
+pub HasEdge-insn : (p : Program) (slot to : ℕ) → HasEdge p slot to
+    → (i : Insn) × (fetch p slot ≡ Some i)
+HasEdge-insn p slot to h = of (fetch p slot) refl where
+  of : (o : Option Insn) → fetch p slot ≡ o → (i : Insn) × (fetch p slot ≡ Some i)
+  of (Some i) e = (i, e)
+  of None e = absurd (from_none p slot to e h)
+
+-- so it leads on from inside the code
 pub HasEdge-inside : (p : Program) (slot to : ℕ) → HasEdge p slot to → slot < length p.insns
 HasEdge-inside p slot to h =
     elim (cases_lt slot (length p.insns)) [

@@ -8,10 +8,13 @@ mod MaskLemmas
 mod StackPlaces
 mod StackUses
 mod LiveMasks
+mod InputLaws
+mod EndingMarks
 mod Graphs
 mod Chains
 mod MaskUpdates
 mod Working
+mod WantedPaths
 pub mod FlowLaws
 pub mod LivenessLaws
 pub mod RegisterLaws

@@ -1,29 +1,66 @@
--- What is live at a slot of the code, by the masks of all slots.
-use Rattle.std.proofs.Common.{◌≡◌, ℕ, List, sym, ap, ◌∙◌, subst}
-use Rattle.std.specs.Prelude.{◌↔◌}
+-- What a `Flow` says of a slot of the code, by what it knows of all slots.
+use Rattle.std.proofs.Common.{◌≡◌, ℕ, Bool, List, sym, ap, ◌∙◌, subst}
+use Rattle.std.specs.Prelude.{◌↔◌, IsTrue}
 use Rattle.isa_model.specs.declared.registers.Reg.{Reg}
 use Rattle.isa_model.specs.Code.Instructions.{Program}
 use Rattle.control_flow.specs.declared.homes.HomeMask.{HomeMask}
+use Rattle.control_flow.specs.Endings.{EndsPlainly}
 use Rattle.control_flow.specs.Liveness.{Home, InRegister, InSlot, IsLive, IsSlotLive, IsHomeLive}
+use Rattle.control_flow.specs.TestedNumbers.{MayForgetNumbers, IsNumberTested}
 use Rattle.control_flow.specs.Masks.{HasRegister, HasSlot, HasHome, mask_at}
-use Rattle.control_flow.specs.Flows.{AreLiveMasks}
+use Rattle.control_flow.specs.Flows.{AreLiveMasks, IsMarked, MarksEndings, AreTestedMasks}
 
-home_live : (p q : Program) (masks items : List HomeMask) (m : HomeMask) (slot : ℕ) → p ≡ q
-    → masks ≡ items → m ≡ mask_at masks slot → AreLiveMasks q items
-    → (h : Home) → HasHome m h ↔ IsHomeLive p h slot
-home_live p q masks items m slot same list is live h =
-    subst (λ (x : Program). HasHome m h ↔ IsHomeLive x h slot) (sym same)
-    (subst (λ (x : HomeMask). HasHome x h ↔ IsHomeLive q h slot)
-    (sym (is ∙ ap (λ (l : List HomeMask). mask_at l slot) list)) (live h slot))
+-- the mask of a slot has the homes of which it holds there, if the masks of all slots do
+home_has : (Holds : Program → Home → ℕ → Type 0) (p q : Program) (masks items : List HomeMask)
+    (m : HomeMask) (slot : ℕ) → p ≡ q → masks ≡ items → m ≡ mask_at masks slot
+    → ((h : Home) (k : ℕ) → HasHome (mask_at items k) h ↔ Holds q h k)
+    → (h : Home) → HasHome m h ↔ Holds p h slot
+home_has Holds p q masks items m slot same list is all h =
+    subst (λ (x : Program). HasHome m h ↔ Holds x h slot) (sym same)
+    (subst (λ (x : HomeMask). HasHome x h ↔ Holds q h slot)
+    (sym (is ∙ ap (λ (l : List HomeMask). mask_at l slot) list)) (all h slot))
+
+-- ---- what is live
 
 pub register_live : (p q : Program) (masks items : List HomeMask) (m : HomeMask) (slot : ℕ) → p ≡ q
     → masks ≡ items → m ≡ mask_at masks slot → AreLiveMasks q items
     → (r : Reg) → HasRegister m.registers r ↔ IsLive p r slot
 register_live p q masks items m slot same list is live r =
-    home_live p q masks items m slot same list is live (InRegister r)
+    home_has IsHomeLive p q masks items m slot same list is live (InRegister r)
 
 pub slot_live : (p q : Program) (masks items : List HomeMask) (m : HomeMask) (slot : ℕ) → p ≡ q
     → masks ≡ items → m ≡ mask_at masks slot → AreLiveMasks q items
     → (j : ℕ) → HasSlot m.slots j ↔ IsSlotLive p j slot
 slot_live p q masks items m slot same list is live j =
-    home_live p q masks items m slot same list is live (InSlot j)
+    home_has IsHomeLive p q masks items m slot same list is live (InSlot j)
+
+-- ---- where numbers matter
+
+pub register_tested : (p q : Program) (masks items : List HomeMask) (m : HomeMask) (slot : ℕ)
+    → p ≡ q → masks ≡ items → m ≡ mask_at masks slot
+    → (MayForgetNumbers q → AreTestedMasks q items) → MayForgetNumbers p
+    → (r : Reg) → HasRegister m.registers r ↔ IsNumberTested p (InRegister r) slot
+register_tested p q masks items m slot same list is tested may r =
+    home_has IsNumberTested p q masks items m slot same list is
+    (tested (subst (λ x. MayForgetNumbers x) same may)) (InRegister r)
+
+pub slot_tested : (p q : Program) (masks items : List HomeMask) (m : HomeMask) (slot : ℕ)
+    → p ≡ q → masks ≡ items → m ≡ mask_at masks slot
+    → (MayForgetNumbers q → AreTestedMasks q items) → MayForgetNumbers p
+    → (j : ℕ) → HasSlot m.slots j ↔ IsNumberTested p (InSlot j) slot
+slot_tested p q masks items m slot same list is tested may j =
+    home_has IsNumberTested p q masks items m slot same list is
+    (tested (subst (λ x. MayForgetNumbers x) same may)) (InSlot j)
+
+-- ---- plain code
+
+pub slot_ends : (p q : Program) (marks items : List Bool) (b : Bool) (slot : ℕ) → p ≡ q
+    → marks ≡ items → IsTrue b ↔ IsMarked marks slot → (MayForgetNumbers q → MarksEndings q items)
+    → MayForgetNumbers p → IsTrue b ↔ EndsPlainly p slot
+slot_ends p q marks items b slot same list is ends may =
+    let there = ends (subst (λ x. MayForgetNumbers x) same may) slot in (
+      λ h. subst (λ x. EndsPlainly x slot) (sym same)
+          (there.0 (subst (λ l. IsMarked l slot) list (is.0 h))),
+      λ e. is.1 (subst (λ l. IsMarked l slot) (sym list)
+          (there.1 (subst (λ x. EndsPlainly x slot) same e))),
+    )

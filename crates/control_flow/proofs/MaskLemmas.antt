@@ -1,17 +1,18 @@
 -- Masks: what each of their methods does, register by register and stack slot by stack slot.
-use Rattle.std.proofs.Common.{◌≡◌, ℕ, Option, Some, ◌+◌, ◌-◌, ◌*◌, ◌/◌, ◌^◌, ◌%◌, ◌<◌, ◌≤◌, replicate, sym, ap, ◌∙◌, arith, inl, inr, bit_or, bit_and, bit_xor, w16, w64}
-use Rattle.std.specs.Prelude.{◌↔◌, ◌⊎◌, max, min}
-use Rattle.std.specs.Int.{bit_at}
-use Rattle.std.proofs.lemmas.Bool.{cases_lt, cases_eq}
-use Rattle.std.proofs.lemmas.Nat.{shr-shr}
-use Rattle.std.proofs.lemmas.Nat.Bits.{bit_at-zero, bit_at_ones, bit_at_ones_above, bit_at-lt, bit_at_or, bit_at_and, bit_at_xor, bit_at_set_same, bit_at_set_other}
+use Rattle.std.proofs.Common.{◌≡◌, ℕ, Bool, true, false, not, nat_eq, Option, Some, ◌+◌, ◌-◌, ◌*◌, ◌/◌, ◌^◌, ◌%◌, ◌<◌, ◌≤◌, replicate, sym, ap, ◌∙◌, arith, inl, inr, bit_or, bit_and, bit_xor, w16, w64}
+use Rattle.std.specs.Prelude.{◌↔◌, ◌⊎◌, ◌≢◌, IsTrue, max, min}
+use Rattle.std.specs.Int.{bit_at, trailing_zeros}
+use Rattle.std.proofs.lemmas.Bool.{cases_lt, cases_eq, eqb-false, ne_eqb, not-true, not_from_false, iff_false}
+use Rattle.std.proofs.lemmas.Nat.{shr-shr, and_le_r}
+use Rattle.std.proofs.lemmas.Nat.Bits.{bit_at-zero, bit_at_ones, bit_at_ones_above, bit_at_above, bit_at-lt, bit_at_or, bit_at_and, bit_at_xor, bit_at_set_same, bit_at_set_other, bit_at-trailing_zeros}
 use Rattle.std.proofs.lemmas.Option.{same_Some}
 use Rattle.std.proofs.lemmas.List.{length-replicate, get_or-replicate, get_or_past}
 use Rattle.isa_model.specs.declared.registers.Reg.{Reg}
 use Rattle.isa_model.specs.Code.Registers.{reg_number}
 use Rattle.isa_model.proofs.RegisterLaws.{same_number}
 use Rattle.control_flow.specs.declared.masks.RegisterMask.{RegisterMask}
-use Rattle.control_flow.proofs.RegisterLaws.{number_below}
+use Rattle.control_flow.specs.declared.slot_masks.SlotMask.{SlotMask}
+use Rattle.control_flow.proofs.RegisterLaws.{number_below, numbered}
 use Rattle.control_flow.specs.declared.homes.HomeMask.{HomeMask}
 use Rattle.control_flow.specs.Liveness.{Home, InRegister, InSlot}
 use Rattle.control_flow.specs.Masks.{no_registers, HasRegister, no_slots, HasSlot, no_homes, HasHome, mask_at}
@@ -71,6 +72,74 @@ without_has a b i =
     let is = bit_at_and a (bit_xor a b) i ∙ ap (min (bit_at a i)) (bit_at_xor a b i) in
     let only = min_one (bit_at a i) (bit_at b i) (bit_at-lt a i) (bit_at-lt b i) in
     (λ h. only.0 (sym is ∙ h), λ w. is ∙ only.1 w)
+
+-- ---- what two masks have in common
+
+-- a bit that both have
+common_bit : (a b : ℕ) → bit_and a b ≢ 0 → bit_and a b < 2 ^ 64
+    → (j : ℕ) × (j < 64) × (bit_at a j ≡ 1) × (bit_at b j ≡ 1)
+common_bit a b some fits =
+    let j : ℕ = trailing_zeros w64 (bit_and a b) in
+    let found = bit_at-trailing_zeros w64 (bit_and a b) (omega arith) fits in
+    let least : min (bit_at a j) (bit_at b j) ≡ 1 = sym (bit_at_and a b j) ∙ found.1 in (
+      j,
+      found.0,
+      omega (arith, least, bit_at-lt a j, bit_at-lt b j),
+      omega (arith, least, bit_at-lt a j, bit_at-lt b j),
+    )
+
+-- the bits of both are a bit of what they have in common
+both_bit : (a b j : ℕ) → bit_at a j ≡ 1 → bit_at b j ≡ 1 → bit_at (bit_and a b) j ≡ 1
+both_bit a b j x y = omega (arith, bit_at_and a b j, x, y)
+
+no_bit : (n j : ℕ) → bit_at n j ≡ 1 → n ≢ 0
+no_bit n j has none =
+    let zero : bit_at n j ≡ 0 = ap (λ (x : ℕ). bit_at x j) none ∙ bit_at-zero j in
+    omega (arith, zero, has)
+
+pub slots_meet : (a b : SlotMask) → bit_and a.bits b.bits < 2 ^ 64
+    → IsTrue (not (nat_eq (bit_and a.bits b.bits) 0))
+    ↔ ((j : ℕ) × (j < 64) × HasSlot a j × HasSlot b j)
+slots_meet a b fits =
+    let both : ℕ = bit_and a.bits b.bits in (
+      λ h. common_bit a.bits b.bits (eqb-false both 0 (not-true (nat_eq both 0) h)) fits,
+      λ (j, below, x, y).
+          not_from_false (nat_eq both 0)
+          (ne_eqb both 0 (no_bit both j (both_bit a.bits b.bits j x y))),
+    )
+
+-- a bit of the lowest eleven is a register's
+pub registers_meet : (a b : RegisterMask)
+    → IsTrue (not (nat_eq (bit_and (bit_and a.bits b.bits) 0x7ff) 0))
+    ↔ ((r : Reg) × HasRegister a r × HasRegister b r)
+registers_meet a b =
+    let both : ℕ = bit_and a.bits b.bits in
+    let low : ℕ = bit_and both 0x7ff in
+    let fits = and_le_r both 0x7ff in (
+      λ h.
+          let (j, below, x, y) =
+          common_bit both 0x7ff (eqb-false low 0 (not-true (nat_eq low 0) h)) (omega arith) in
+          let within : j < 11 = elim (cases_lt j 11) [
+            | inl lt ↦ lt
+            | inr past ↦ let none = bit_at_ones_above 11 j past in absurd cc
+          ] in
+          let (r, named, is) = numbered j within in
+          let least : min (bit_at a.bits j) (bit_at b.bits j) ≡ 1 = sym (bit_at_and a.bits b.bits j)
+          ∙ x in (
+            r,
+            ap (bit_at a.bits) is
+                ∙ omega (arith, least, bit_at-lt a.bits j, bit_at-lt b.bits j),
+            ap (bit_at b.bits) is
+                ∙ omega (arith, least, bit_at-lt a.bits j, bit_at-lt b.bits j),
+          ),
+      λ (r, x, y).
+          let j : ℕ = reg_number r in
+          not_from_false (nat_eq low 0)
+          (ne_eqb low 0
+          (no_bit low j
+          (both_bit both 0x7ff j (both_bit a.bits b.bits j x y)
+          (bit_at_ones 11 j (number_below r))))),
+    )
 
 -- ---- no home
 
@@ -156,3 +225,24 @@ pub both_without : (a b m : HomeMask)
     → HasHome m h ↔ (HasHome a h × (HasHome b h → ⊥))
 both_without a b m rs js (InRegister r) = rs r
 both_without a b m rs js (InSlot j) = js j
+
+-- two masks with a register in common
+pub registers_in_common : (a b : HomeMask) (x : Bool) → x ≡ true
+    → IsTrue x ↔ ((r : Reg) × HasRegister a.registers r × HasRegister b.registers r)
+    → IsTrue x ↔ ((h : Home) × HasHome a h × HasHome b h)
+registers_in_common a b x is rs =
+    let (r, p, q) = rs.0 is in (λ h. (InRegister r, p, q), λ w. is)
+
+-- with none, stack slots are left
+pub slots_in_common : (a b : HomeMask) (x y : Bool) → x ≡ false → a.slots.bits < 2 ^ 64
+    → IsTrue x ↔ ((r : Reg) × HasRegister a.registers r × HasRegister b.registers r)
+    → IsTrue y ↔ ((j : ℕ) × (j < 64) × HasSlot a.slots j × HasSlot b.slots j)
+    → IsTrue y ↔ ((h : Home) × HasHome a h × HasHome b h)
+slots_in_common a b x y none fits rs js =
+    (λ h. let (j, below, p, q) = js.0 h in (InSlot j, p, q), λ (h, p, q). back h p q) where
+      back : (h : Home) → HasHome a h → HasHome b h → IsTrue y
+      back (InRegister r) p q = absurd (iff_false rs none (r, p, q))
+      back (InSlot j) p q = elim (cases_lt j 64) [
+        | inl below ↦ js.1 (j, below, p, q)
+        | inr past ↦ let zero = bit_at_above a.slots.bits 64 j fits past in absurd cc
+      ]

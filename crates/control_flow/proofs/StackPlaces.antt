@@ -1,5 +1,5 @@
 -- The byte and the stack slot of a call frame at a place, by what `byte_of` returns of it.
-use Rattle.std.proofs.Common.{◌≡◌, ℕ, ◌*◌, ◌/◌, ◌%◌, ◌<◌, Option, Some, None, sym, ap, ◌∙◌, arith}
+use Rattle.std.proofs.Common.{◌≡◌, ℕ, ◌*◌, ◌/◌, ◌%◌, ◌<◌, Option, Some, None, sym, ap, ◌∙◌, arith, inl, inr}
 use Rattle.std.specs.Prelude.{◌↔◌, ◌≢◌, ℤ, pos, ◌-ℤ◌}
 use Rattle.std.proofs.lemmas.Option.{same_Some}
 use Rattle.isa_model.specs.declared.registers.Reg.{Reg}
@@ -8,6 +8,7 @@ use Rattle.isa_model.specs.declared.instructions.Place.{Place}
 use Rattle.isa_model.specs.Code.Limits.{stack_size}
 use Rattle.isa_model.specs.MustAccept.Determined.{stack_slot_offset}
 use Rattle.control_flow.specs.StackUse.{IsByte, IsWithinSlot, IsWholeSlot}
+use Rattle.control_flow.specs.TestedNumbers.{MayBeInSlot}
 
 abbrev some_number : ℕ → Option ℕ
 some_number n = Some n
@@ -37,6 +38,23 @@ within_none place o is only j = (
   λ e. absurd cc,
   λ (n, there, low, high). let some : o ≡ Some n = (only n).1 there in absurd cc,
 )
+
+pub within_below : (place : Place) (j : ℕ) → IsWithinSlot place j → j < 64
+within_below place j (n, is, low, high) = let inside = is.0 in omega arith
+
+-- ---- places that may be in a stack slot
+
+-- with the base r10 it is where its offset says
+pub based_slots : (A : Type 0) (place : Place) (o : Option ℕ) (Has : ℕ → Type 0) → place.base ≡ R10
+    → ((j : ℕ) → Has j ↔ (o ≡ Some j)) → ((j : ℕ) → (o ≡ Some j) ↔ IsWithinSlot place j) → (j : ℕ)
+    → Has j ↔ MayBeInSlot A place j
+based_slots A place o Has base has within j = (
+  λ h. inl ((within j).0 ((has j).0 h)),
+  λ may. (has j).1 ((within j).1 (based may)),
+) where
+  based : MayBeInSlot A place j → IsWithinSlot place j
+  based (inl within) = within
+  based (inr (other, below, taken)) = absurd (other base)
 
 -- ---- whole stack slots
 

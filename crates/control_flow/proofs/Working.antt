@@ -1,4 +1,5 @@
--- The loop of the work list: what the list keeps, that it ends, and what is live when it is empty.
+-- The loop of the work list: what the list keeps, that it ends, and what the masks have when it is
+-- empty.
 use Rattle.std.proofs.Common.{◌≡◌, ◌≢◌, ℕ, zero, suc, ◌+◌, ◌*◌, ◌<◌, ◌≤◌, Bool, true, false, not, cond, List, [], ◌∷◌, ◌++◌, length, take, drop, replicate, get_or, set, sum_by, Option, Some, None, refl, sym, ap, ◌∙◌, subst, arith, inl, inr}
 use Rattle.std.specs.Prelude.{◌⊎◌, slice_get, count_by, Contains}
 use Rattle.std.proofs.Math.Nat.{mul-le-mul_left}
@@ -8,34 +9,31 @@ use Rattle.std.proofs.lemmas.List.{get_or-set_same, get_or-set_other, length-set
 use Rattle.std.proofs.Math.ListN.{drop_of_length-le}
 use Rattle.std.proofs.lemmas.List.Sums.{sum_by-set, sum_by-cons}
 use Rattle.std.proofs.lemmas.List.Elements.{Contains-append_left, Contains-append_cases}
-use Rattle.isa_model.specs.Code.Instructions.{Program}
 use Rattle.control_flow.specs.declared.homes.HomeMask.{HomeMask}
 use Rattle.control_flow.specs.declared.nodes.Node.{Node}
-use Rattle.control_flow.specs.Graph.{Falls, Jumps}
-use Rattle.control_flow.proofs.FlowLaws.{BeginsInsn-inside, fetch-BeginsInsn, HasEdge-inside}
-use Rattle.control_flow.specs.Flows.{IsMarked, AreLiveMasks}
+use Rattle.control_flow.specs.Flows.{IsMarked}
 use Rattle.control_flow.specs.Masks.{HasHome, no_homes, mask_at}
-use Rattle.control_flow.specs.Liveness.{Home, IsReadAfter}
-use Rattle.control_flow.specs.Nodes.{AreNodes, ComesFrom, HasBehind, IsLiveBefore, AreSound, HasLiveBefore, room_left, AddsAt}
+use Rattle.control_flow.specs.Liveness.{Home}
+use Rattle.control_flow.specs.Nodes.{IsWantedAfter, AreWantedMasks, ComesFrom, HasBehind, IsWantedBefore, AreSound, HasWantedBefore, room_left, AddsAt}
 use Rattle.control_flow.specs.Searches.{Extends, HasAll}
 use Rattle.control_flow.proofs.MarkLemmas.{IsMarked-inside}
 use Rattle.control_flow.proofs.MaskLemmas.{no_home, mask_at-none}
 use Rattle.control_flow.proofs.SlotSearch.{Contains-one, no-Contains, on_top}
-use Rattle.control_flow.proofs.Graphs.{node_at, node-fall_from, node-jump_from}
+use Rattle.control_flow.proofs.Graphs.{node-fall_from, node-jump_from}
 
 -- ---- the loop
 
--- the masks have nothing that is not live, and all that is live before each instruction whose slot
--- is not on the list
-pub record IsWorking (p : Program) (nodes : List Node) (masks : List HomeMask) (found : List Bool)
+-- the masks have nothing that is not wanted, and all that is wanted before each instruction whose
+-- slot is not on the list
+pub record IsWorking (nodes : List Node) (masks : List HomeMask) (found : List Bool)
     (frontier : List ℕ) : Type 0 where
   pub same : length masks ≡ length nodes
   pub same_found : length found ≡ length nodes
-  pub sound : AreSound p masks
+  pub sound : AreSound nodes masks
   pub inside : (k : ℕ) → Contains frontier k → k < length nodes
   pub waits : (k : ℕ) → IsMarked found k → Contains frontier k
   pub complete : (k : ℕ) (node : Node) → slice_get nodes k ≡ Some node
-      → IsMarked found k ⊎ HasLiveBefore masks k node
+      → IsMarked found k ⊎ HasWantedBefore masks k node
   pub few : count_by not found + length frontier ≤ length nodes
 
 -- no slot is left to be found
@@ -46,11 +44,11 @@ none_left (suc n) =
     let rest = none_left n in
     omega (arith, counted, rest)
 
-pub working_start : (p : Program) (nodes : List Node) (n size : ℕ) (found : List Bool)
+pub working_start : (nodes : List Node) (n size : ℕ) (found : List Bool)
     (frontier : List ℕ)
     → n ≡ length nodes → size ≡ length nodes → HasAll size found frontier
-    → IsWorking p nodes (replicate n no_homes) found frontier
-working_start p nodes n size found frontier all all_found x =
+    → IsWorking nodes (replicate n no_homes) found frontier
+working_start nodes n size found frontier all all_found x =
     let same : length found ≡ size = ap length x.found_all ∙ length-replicate size true in
     let none : count_by not found ≡ 0 = ap (count_by not) x.found_all ∙ none_left size in
     record {
@@ -68,27 +66,27 @@ working_start p nodes n size found frontier all all_found x =
     }
 
 -- the slot on top is inside the code
-pub working_inside : (p : Program) (nodes : List Node) (masks : List HomeMask) (found : List Bool)
+pub working_inside : (nodes : List Node) (masks : List HomeMask) (found : List Bool)
     (frontier rest : List ℕ) (slot : ℕ)
-    → frontier ≡ rest ++ slot ∷ [] → IsWorking p nodes masks found frontier → slot < length nodes
-working_inside p nodes masks found frontier rest slot popped m =
+    → frontier ≡ rest ++ slot ∷ [] → IsWorking nodes masks found frontier → slot < length nodes
+working_inside nodes masks found frontier rest slot popped m =
     m.inside slot (on_top slot frontier rest popped)
 
--- what is live after it, by masks that are the same there
-behind_same : (old new : List HomeMask) (o : Option ℕ) (r : Home)
-    → ((to : ℕ) → o ≡ Some to → mask_at new to ≡ mask_at old to) → HasBehind new o r
-    → HasBehind old o r
-behind_same old new None r same h = h
-behind_same old new (Some to) r same h = subst (λ x. HasHome x r) (same to refl) h
+-- what the mask of a successor has, by masks that are the same there
+behind_same : (old new : List HomeMask) (o : Option ℕ) (h : Home)
+    → ((to : ℕ) → o ≡ Some to → mask_at new to ≡ mask_at old to) → HasBehind new o h
+    → HasBehind old o h
+behind_same old new None h same has = has
+behind_same old new (Some to) h same has = subst (λ x. HasHome x h) (same to refl) has
 
-before_same : (old new : List HomeMask) (node : Node) (r : Home)
+before_same : (old new : List HomeMask) (node : Node) (h : Home)
     → ((to : ℕ) → (node.falls_to ≡ Some to) ⊎ (node.jumps_to ≡ Some to)
-    → mask_at new to ≡ mask_at old to) → IsLiveBefore new node r → IsLiveBefore old node r
-before_same old new node r same (inl reads) = inl reads
-before_same old new node r same (inr (inl falls, keeps)) =
-    inr (inl (behind_same old new node.falls_to r (λ to e. same to (inl e)) falls), keeps)
-before_same old new node r same (inr (inr jumps, keeps)) =
-    inr (inr (behind_same old new node.jumps_to r (λ to e. same to (inr e)) jumps), keeps)
+    → mask_at new to ≡ mask_at old to) → IsWantedBefore new node h → IsWantedBefore old node h
+before_same old new node h same (inl wants) = inl wants
+before_same old new node h same (inr (g, turns, inl falls)) =
+    inr (g, turns, inl (behind_same old new node.falls_to g (λ to e. same to (inl e)) falls))
+before_same old new node h same (inr (g, turns, inr jumps)) =
+    inr (g, turns, inr (behind_same old new node.jumps_to g (λ to e. same to (inr e)) jumps))
 
 -- an edge leads to a slot or not
 leads_there : (o : Option ℕ) (slot : ℕ) → (o ≡ Some slot) ⊎ ((to : ℕ) → o ≡ Some to → to ≢ slot)
@@ -114,20 +112,20 @@ comes_from : (nodes : List Node) (k slot : ℕ) (node : Node) → slice_get node
 comes_from nodes k slot node here (inl falls) = inl (node-fall_from nodes k node here ∙ falls)
 comes_from nodes k slot node here (inr jumps) = inr (node-jump_from nodes k node here ∙ jumps)
 
--- a slot that was not on the list, or was on its top, has what is live before it by the old masks
-live_before_old : (nodes : List Node) (slot k : ℕ) (node : Node) (old new : List HomeMask)
+-- a slot that was not on the list, or was on its top, has what is wanted before it by the old masks
+wanted_before_old : (nodes : List Node) (slot k : ℕ) (node : Node) (old new : List HomeMask)
     (grown : Bool)
     (r : Home) → slice_get nodes k ≡ Some node
-    → AddsAt nodes slot old new grown → (k ≡ slot) ⊎ HasLiveBefore old k node
-    → IsLiveBefore old node r → HasHome (mask_at new k) r
-live_before_old nodes slot k node old new grown r here x complete live = elim (cases_eq k slot) [
+    → AddsAt nodes slot old new grown → (k ≡ slot) ⊎ HasWantedBefore old k node
+    → IsWantedBefore old node r → HasHome (mask_at new k) r
+wanted_before_old nodes slot k node old new grown r here x complete wants = elim (cases_eq k slot) [
   | inl e ↦
       let there : slice_get nodes slot ≡ Some node =
       subst (λ (i : ℕ). slice_get nodes i ≡ Some node) e here in
-      subst (λ (i : ℕ). HasHome (mask_at new i) r) (sym e) (x.added node there r live)
+      subst (λ (i : ℕ). HasHome (mask_at new i) r) (sym e) (x.added node there r wants)
   | inr apart ↦ elim complete [
     | inl e ↦ absurd (apart e)
-    | inr was ↦ subst (λ y. HasHome y r) (sym (x.others k apart)) (was r live)
+    | inr was ↦ subst (λ y. HasHome y r) (sym (x.others k apart)) (was r wants)
   ]
 ]
 
@@ -158,21 +156,21 @@ count-unmarked found slot inside =
 
 -- a slot is taken from the list; if its mask grows, the slots from which control comes there go on
 -- it
-pub working_next : (p : Program) (nodes : List Node) (W : ℕ → Type 0) (slot : ℕ)
+pub working_next : (nodes : List Node) (W : ℕ → Type 0) (slot : ℕ)
     (old new : List HomeMask) (grown : Bool) (f : List Bool) (s rest : List ℕ) (g : List Bool)
     (t : List ℕ)
-    → AreNodes p nodes → s ≡ rest ++ slot ∷ [] → AddsAt nodes slot old new grown
+    → s ≡ rest ++ slot ∷ [] → AddsAt nodes slot old new grown
     → Extends W (set f slot false) rest g t
     → (grown ≡ false) ⊎ ((k : ℕ) → ComesFrom nodes slot k → W k)
-    → IsWorking p nodes old f s → IsWorking p nodes new g t
-working_next p nodes W slot old new grown f s rest g t are popped x y wants m =
+    → IsWorking nodes old f s → IsWorking nodes new g t
+working_next nodes W slot old new grown f s rest g t popped x y wants m =
     let low : slot < length f = let first = m.inside slot (on_top slot s rest popped) in
     omega (arith, first, m.same_found) in
     let same_found : length g ≡ length nodes = y.same ∙ length-set f slot false ∙ m.same_found in
     record {
       same = x.same ∙ m.same;
       same_found = same_found;
-      sound = x.sound p are m.sound;
+      sound = x.sound m.sound;
       inside = λ k c. elim (y.adds k c) [
         | inl below ↦
             m.inside k
@@ -193,14 +191,15 @@ working_next p nodes W slot old new grown f s rest g t are popped x y wants m =
       complete = λ k node here. elim (before k node here) [
         | inl marked ↦ inl (y.kept k marked)
         | inr was ↦ elim wants [
-          | inl still ↦ inr (λ r live. live_before_old nodes slot k node old new grown r here x was
+          | inl still ↦
+              inr (λ r h. wanted_before_old nodes slot k node old new grown r here x was
               (before_same old new node r
-              (λ to edge. ap (λ (l : List HomeMask). mask_at l to) (x.still still)) live))
+              (λ to edge. ap (λ (l : List HomeMask). mask_at l to) (x.still still)) h))
           | inr all ↦ elim (node_there node slot) [
             | inl edge ↦ inl (y.all k (all k (comes_from nodes k slot node here edge)))
             | inr other ↦
-                inr (λ r live. live_before_old nodes slot k node old new grown r here x was
-                (before_same old new node r (λ to edge. x.others to (other to edge)) live))
+                inr (λ r h. wanted_before_old nodes slot k node old new grown r here x was
+                (before_same old new node r (λ to edge. x.others to (other to edge)) h))
           ]
         ]
       ];
@@ -209,7 +208,7 @@ working_next p nodes W slot old new grown f s rest g t are popped x y wants m =
           omega (arith, more, y.even, m.few, ap length popped, length-append rest (slot ∷ []));
     } where
       before : (k : ℕ) (node : Node) → slice_get nodes k ≡ Some node
-          → IsMarked (set f slot false) k ⊎ ((k ≡ slot) ⊎ HasLiveBefore old k node)
+          → IsMarked (set f slot false) k ⊎ ((k ≡ slot) ⊎ HasWantedBefore old k node)
       before k node here = elim (cases_eq k slot) [
         | inl e ↦ inr (inl e)
         | inr apart ↦ elim (m.complete k node here) [
@@ -225,10 +224,10 @@ abbrev pub work_left : List Node → List HomeMask → List ℕ → ℕ
 work_left nodes masks frontier = (length nodes + 1) * room_left masks + length frontier
 
 -- a mask has grown
-pub work_less : (p : Program) (nodes : List Node) (old new : List HomeMask) (g : List Bool)
+pub work_less : (nodes : List Node) (old new : List HomeMask) (g : List Bool)
     (s t : List ℕ) → room_left new < room_left old
-    → IsWorking p nodes new g t → work_left nodes new t < work_left nodes old s
-work_less p nodes old new g s t less m =
+    → IsWorking nodes new g t → work_left nodes new t < work_left nodes old s
+work_less nodes old new g s t less m =
     let product =
     mul-le-mul_left {m = room_left new + 1} {n = room_left old} (length nodes + 1)
     (omega arith) in
@@ -240,44 +239,33 @@ behind : (masks : List HomeMask) (o : Option ℕ) (to : ℕ) (r : Home) → o �
     → HasHome (mask_at masks to) r → HasBehind masks o r
 behind masks o to r e h = subst (λ (x : Option ℕ). HasBehind masks x r) (sym e) h
 
-live_has : (p : Program) (nodes : List Node) (masks : List HomeMask) → AreNodes p nodes
-    → ((k : ℕ) (node : Node) → slice_get nodes k ≡ Some node → HasLiveBefore masks k node)
-    → (r : Home) (n slot : ℕ) → IsReadAfter p r n slot → HasHome (mask_at masks slot) r
-live_has p nodes masks are complete r zero slot reads =
-    let inside : slot < length p.insns =
-    BeginsInsn-inside p slot (fetch-BeginsInsn p slot reads.0 reads.1) in
-    let found = node_at p nodes slot are inside in
-    complete slot found.0 found.1 r (inl (((are.each slot found.0 found.1).reads r).1 reads))
-live_has p nodes masks are complete r (suc n) slot (next, inl falls, keeps, path) =
-    let found = node_at p nodes slot are (HasEdge-inside p slot next (Falls falls)) in
-    let is = are.each slot found.0 found.1 in
-    let has = live_has p nodes masks are complete r n next path in
-    complete slot found.0 found.1 r
-    (inr (
-      inl (behind masks found.0.falls_to next r (is.falls ∙ falls) has),
-      λ w. keeps ((is.writes r).0 w),
-    ))
-live_has p nodes masks are complete r (suc n) slot (next, inr jumps, keeps, path) =
-    let found = node_at p nodes slot are (HasEdge-inside p slot next (Jumps jumps)) in
-    let is = are.each slot found.0 found.1 in
-    let has = live_has p nodes masks are complete r n next path in
-    complete slot found.0 found.1 r
-    (inr (
-      inr (behind masks found.0.jumps_to next r (is.jumps ∙ jumps) has),
-      λ w. keeps ((is.writes r).0 w),
-    ))
+-- if each mask has what is wanted before its instruction, the masks have all that is wanted: they
+-- follow the path, from home to home, from its end on back
+wanted_has : (nodes : List Node) (masks : List HomeMask)
+    → ((k : ℕ) (node : Node) → slice_get nodes k ≡ Some node → HasWantedBefore masks k node)
+    → (h : Home) (n slot : ℕ) → IsWantedAfter nodes h n slot → HasHome (mask_at masks slot) h
+wanted_has nodes masks complete h zero slot (node, here, wants) =
+    complete slot node here h (inl wants)
+wanted_has nodes masks complete h (suc n) slot (node, here, next, inl falls, g, turns, path) =
+    let has = wanted_has nodes masks complete g n next path in
+    complete slot node here h
+    (inr (g, turns, inl (behind masks node.falls_to next g falls has)))
+wanted_has nodes masks complete h (suc n) slot (node, here, next, inr jumps, g, turns, path) =
+    let has = wanted_has nodes masks complete g n next path in
+    complete slot node here h
+    (inr (g, turns, inr (behind masks node.jumps_to next g jumps has)))
 
-pub working_end : (p : Program) (nodes : List Node) (masks : List HomeMask) (found : List Bool)
-    (frontier : List ℕ) → length frontier ≡ 0 → AreNodes p nodes
-    → IsWorking p nodes masks found frontier → AreLiveMasks p masks
-working_end p nodes masks found [] over are m r slot = (
-  λ h. m.sound r slot h,
-  λ (n, path). live_has p nodes masks are (λ k node here. elim (m.complete k node here) [
+pub working_end : (nodes : List Node) (masks : List HomeMask) (found : List Bool)
+    (frontier : List ℕ) → length frontier ≡ 0 → IsWorking nodes masks found frontier
+    → AreWantedMasks nodes masks
+working_end nodes masks found [] over m h slot = (
+  λ has. m.sound h slot has,
+  λ (n, path). wanted_has nodes masks (λ k node here. elim (m.complete k node here) [
     | inl marked ↦ absurd (no-Contains k (m.waits k marked))
     | inr complete ↦ complete
-  ]) r n slot path,
+  ]) h n slot path,
 )
-working_end p nodes masks found (x ∷ xs) over are m r slot = absurd (omega (arith, over))
+working_end nodes masks found (x ∷ xs) over m h slot = absurd (omega (arith, over))
 
 -- a slice of all masks is written back
 pub written_back : (n : ℕ) (new old : List HomeMask) → n ≡ length old → length new ≡ length old

@@ -8,6 +8,8 @@ use Rattle.control_flow.specs.Graph.{BeginsInsn, IsSecondHalf, jump_to, call_to,
 use Rattle.control_flow.specs.Functions.{SameFunction, EndsFunction}
 use Rattle.control_flow.specs.Masks.{HasHome, mask_at}
 use Rattle.control_flow.specs.Liveness.{Home, IsHomeLive}
+use Rattle.control_flow.specs.TestedNumbers.{MayForgetNumbers, IsNumberTested}
+use Rattle.control_flow.specs.Endings.{EndsPlainly}
 
 -- ---- good programs
 
@@ -81,7 +83,20 @@ MarksJoins p marks = (slot : ℕ) → IsMarked marks slot ↔ IsJoin p slot
 abbrev pub AreLiveMasks : Program → List HomeMask → Type 0
 AreLiveMasks p masks = (h : Home) (slot : ℕ) → HasHome (mask_at masks slot) h ↔ IsHomeLive p h slot
 
-pub record DescribesFlow (p : Program) (joins : List Bool) (masks : List HomeMask) : Type 0 where
+-- the mask of each slot has the homes whose numbers are tested from there on, and nothing else
+abbrev pub AreTestedMasks : Program → List HomeMask → Type 0
+AreTestedMasks p masks = (h : Home) (slot : ℕ) → HasHome (mask_at masks slot) h ↔ IsNumberTested p h slot
+
+-- the slots from which only plain code follows are marked, and no other slots
+abbrev pub MarksEndings : Program → List Bool → Type 0
+MarksEndings p marks = (slot : ℕ) → IsMarked marks slot ↔ EndsPlainly p slot
+
+pub record DescribesFlow (p : Program) (joins : List Bool) (masks : List HomeMask)
+    (forgets : Bool) (tested : List HomeMask) (endings : List Bool) : Type 0 where
   pub flow : IsFlow p
   pub marked : MarksJoins p joins
   pub live : AreLiveMasks p masks
+  pub may_forget : IsTrue forgets ↔ MayForgetNumbers p
+  -- these are empty where no number may be forgotten
+  pub tests : MayForgetNumbers p → AreTestedMasks p tested
+  pub ends : MayForgetNumbers p → MarksEndings p endings

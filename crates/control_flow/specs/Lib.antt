@@ -6,6 +6,8 @@ pub mod Sources
 pub mod Accesses
 pub mod StackUse
 pub mod Liveness
+pub mod TestedNumbers
+pub mod Endings
 pub mod Masks
 pub mod Flows
 pub mod Messages

@@ -2,21 +2,27 @@
 
 ghost use Rattle.std.specs.Prelude.{◌≡◌, ◌↔◌, ℕ, IsTrue, IfOk, IfErr};
 ghost use Rattle.isa_model.specs.declared.registers.Reg.{Reg as TheReg};
-ghost use Rattle.control_flow.specs.Flows.{IsFlow, IsJoin, IsRefusal};
-ghost use Rattle.control_flow.specs.Liveness.{IsLive, IsSlotLive};
+ghost use Rattle.control_flow.specs.Endings.{EndsPlainly};
+ghost use Rattle.control_flow.specs.Flows.{IsFlow, IsJoin, IsRefusal, Fails, AreTestedMasks, MarksEndings};
+ghost use Rattle.control_flow.specs.Liveness.{InRegister, InSlot, IsLive, IsSlotLive};
+ghost use Rattle.control_flow.specs.StackUse.{FrameAddressIsTaken};
+ghost use Rattle.control_flow.specs.TestedNumbers.{MayForgetNumbers, IsNumberTested};
 ghost use Rattle.control_flow.specs.Masks.{HasRegister, HasSlot};
 
+use crate::endings::endings_of;
 use crate::errors::FlowError;
 use crate::functions::{first_falling_off, first_leaving, functions_of};
 use crate::homes::{HomeMask, mask_of};
-use crate::liveness::live_homes;
+use crate::liveness::{live_homes, tested_homes};
 use crate::marks::is_marked;
 use crate::masks::RegisterMask;
+use crate::number_passes::may_forget_numbers;
 use crate::reachability::{first_unreached, reached};
 use crate::slot_masks::SlotMask;
+use crate::stack_accesses::takes_frame_address;
 use crate::targets::{first_into_half, first_outside, joins_of};
 use image::Image;
-use std::alloc::Global;
+use std::alloc::{AllocError, Global};
 use std::marker::Model;
 
 /// An image whose control flow is good: jumps stay in their functions, calls go to instructions,
@@ -27,7 +33,14 @@ use std::marker::Model;
 pub struct Flow<'a> {
     image: &'a Image,
     joins: Vec<bool>,
+    /// What is live at each slot.
     masks: Vec<HomeMask>,
+    /// Whether numbers may be forgotten. If not, the fields below are empty.
+    forgets: bool,
+    /// Of what the numbers are tested.
+    tested: Vec<HomeMask>,
+    /// From which slots only plain code follows.
+    endings: Vec<bool>,
 }
 
 impl<'a> Model for Flow<'a> {
@@ -38,7 +51,8 @@ impl<'a> Model for Flow<'a> {
 
     ghost view = { λ flow. flow.image.now };
 
-    ghost invariant = { λ flow. DescribesFlow flow.image.now flow.joins.items flow.masks.items };
+    ghost invariant = { λ flow. DescribesFlow flow.image.now flow.joins.items flow.masks.items
+        flow.forgets flow.tested.items flow.endings.items };
 }
 
 /// Makes the tests in their order; each looks at the whole code.
@@ -71,6 +85,27 @@ fn test_all(alloc: Global, image: &Image) -> Result<(), (FlowError, usize)>
     Ok(())
 }
 
+/// Of what the numbers are tested from each slot on, and from which slots only plain code follows;
+/// nothing if no numbers may be forgotten.
+fn numbers_of(
+    alloc: Global,
+    image: &Image,
+    forgets: bool,
+    taken: bool,
+) -> Result<(Vec<HomeMask>, Vec<bool>), AllocError>
+    requires inside { (slot : ℕ) → ¬ Fails image.now FlowError.TargetOutside slot }
+    requires taken { IsTrue taken ↔ FrameAddressIsTaken image.now }
+    ensures tested { IsTrue forgets → IfOk result (λ made. AreTestedMasks image.now made.0.items) }
+    ensures endings { IsTrue forgets → IfOk result (λ made. MarksEndings image.now made.1.items) }
+{
+    if !forgets {
+        return Ok((Vec::new(alloc), Vec::new(alloc)));
+    }
+    let tested = tested_homes(alloc, image, taken)?;
+    let endings = endings_of(alloc, image)?;
+    Ok((tested, endings))
+}
+
 impl<'a> Flow<'a> {
     /// The control flow of an image, or why it is refused and at which slot.
     pub fn of(alloc: Global, image: &'a Image) -> Result<Self, (FlowError, usize)>
@@ -86,13 +121,21 @@ impl<'a> Flow<'a> {
         let Ok(joins) = joins_of(alloc, image) else {
             return Err((FlowError::Memory, 0));
         };
-        let Ok(masks) = live_homes(alloc, image) else {
+        let taken = takes_frame_address(image);
+        let Ok(masks) = live_homes(alloc, image, taken) else {
+            return Err((FlowError::Memory, 0));
+        };
+        let forgets = may_forget_numbers(image);
+        let Ok((tested, endings)) = numbers_of(alloc, image, forgets, taken) else {
             return Err((FlowError::Memory, 0));
         };
         Ok(Flow {
             image,
             joins,
             masks,
+            forgets,
+            tested,
+            endings,
         })
     }
 
@@ -120,5 +163,38 @@ impl<'a> Flow<'a> {
         ensures { (j : ℕ) → HasSlot result j ↔ IsSlotLive self.now j slot }
     {
         mask_of(&self.masks, slot).slots
+    }
+
+    /// Whether a verifier may forget numbers that do not matter: the program takes input, and calls
+    /// no function of its own. For other programs `tested` and `ends_plainly` say nothing.
+    pub fn forgets_numbers(&self) -> bool
+        ensures { IsTrue result ↔ MayForgetNumbers self.now }
+    {
+        self.forgets
+    }
+
+    /// The registers whose numbers matter from this slot on: some path tests them, or makes of them
+    /// a number that it tests.
+    pub fn tested(&self, slot: usize) -> RegisterMask
+        ensures { MayForgetNumbers self.now → (r : TheReg) → HasRegister result r
+            ↔ IsNumberTested self.now (InRegister r) slot }
+    {
+        mask_of(&self.tested, slot).registers
+    }
+
+    /// The stack slots of the call frame whose numbers matter.
+    pub fn tested_slots(&self, slot: usize) -> SlotMask
+        ensures { MayForgetNumbers self.now → (j : ℕ) → HasSlot result j
+            ↔ IsNumberTested self.now (InSlot j) slot }
+    {
+        mask_of(&self.tested, slot).slots
+    }
+
+    /// Whether only plain code follows from a slot: arithmetic, forward jumps and exits of a program
+    /// of version 1. None of it is refused if each live register is a number.
+    pub fn ends_plainly(&self, slot: usize) -> bool
+        ensures { MayForgetNumbers self.now → (IsTrue result ↔ EndsPlainly self.now slot) }
+    {
+        is_marked(&self.endings, slot)
     }
 }

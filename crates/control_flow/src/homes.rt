@@ -39,6 +39,13 @@ impl HomeMask {
         }
     }
 
+    /// Whether one of these is one of the others.
+    pub fn meets(self, other: Self) -> bool
+        ensures { IsTrue result ↔ ((h : Home) × HasHome self h × HasHome other h) }
+    {
+        self.registers.meets(other.registers) || self.slots.meets(other.slots)
+    }
+
     /// These without the others.
     pub fn without(self, other: Self) -> Self
         ensures { (h : Home) → HasHome result h ↔ (HasHome self h × (¬ HasHome other h)) }

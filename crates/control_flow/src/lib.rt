@@ -2,10 +2,12 @@
 //! what is live at each slot.
 //!
 //! `specs/Graph.antt` has the graph, `specs/Functions.antt` the functions, `specs/Liveness.antt`
-//! what is live, and `specs/Flows.antt` which programs are good.
+//! what is live, `specs/TestedNumbers.antt` which numbers matter, and `specs/Flows.antt` which
+//! programs are good.
 #![tactic(auto)]
 
 mod accesses;
+mod endings;
 pub mod errors;
 pub mod flows;
 mod functions;
@@ -14,12 +16,14 @@ mod liveness;
 mod marks;
 pub mod masks;
 mod nodes;
+mod number_passes;
 mod reachability;
 mod searches;
 pub mod slot_masks;
 mod sources;
 mod stack_accesses;
 mod targets;
+mod wanted;
 
 pub use errors::FlowError;
 pub use flows::Flow;

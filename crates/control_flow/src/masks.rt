@@ -48,6 +48,14 @@ impl RegisterMask {
         }
     }
 
+    /// Whether one of these is one of the others.
+    pub(crate) fn meets(self, other: Self) -> bool
+        ensures { IsTrue result ↔ ((r : TheReg) × HasRegister self r × HasRegister other r) }
+    {
+        // No register has one of the upper five bits.
+        self.bits & other.bits & 0x7ff != 0
+    }
+
     /// These without the others.
     pub(crate) fn without(self, other: Self) -> Self
         ensures { (r : TheReg) → HasRegister result r

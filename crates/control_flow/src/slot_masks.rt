@@ -81,8 +81,15 @@ impl SlotMask {
         }
     }
 
+    /// Whether one of these is one of the others.
+    pub(crate) fn meets(self, other: Self) -> bool
+        ensures { IsTrue result ↔ ((j : ℕ) × (j < 64) × HasSlot self j × HasSlot other j) }
+    {
+        self.bits & other.bits != 0
+    }
+
     /// These without the others.
-    pub(crate) fn without(self, other: Self) -> Self
+    pub fn without(self, other: Self) -> Self
         ensures { (j : ℕ) → HasSlot result j ↔ (HasSlot self j × (¬ HasSlot other j)) }
     {
         SlotMask {

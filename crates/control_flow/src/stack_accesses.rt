@@ -1,12 +1,12 @@
 //! Which stack slots of its call frame an instruction reads and writes through r10, and which
 //! instructions take the address of the frame.
 
-ghost use Rattle.std.specs.Prelude.{◌≡◌, ℕ, ◌<◌, ◌^◌, ◌↔◌, ◌⊎◌, IsTrue, Some};
+ghost use Rattle.std.specs.Prelude.{◌≡◌, ℕ, ◌<◌, ◌↔◌, ◌⊎◌, IsTrue, Some};
 ghost use Rattle.isa_model.specs.declared.registers.Reg.{Reg as TheReg};
 ghost use Rattle.isa_model.specs.MustAccept.Paths.{IsOneOf};
 ghost use Rattle.control_flow.specs.Accesses.{read_registers};
-ghost use Rattle.control_flow.specs.StackUse.{IsByte, IsWithinSlot, IsWholeSlot, ReadsSlot, WritesSlot, TakesFrameAddress, TakesFrameAddressAt};
-ghost use Rattle.control_flow.specs.Liveness.{Home, InRegister, ReadsHome, IsReadBy, IsWrittenBy};
+ghost use Rattle.control_flow.specs.StackUse.{IsByte, IsWithinSlot, IsWholeSlot, ReadsSlot, WritesSlot, TakesFrameAddress, TakesFrameAddressAt, FrameAddressIsTaken};
+ghost use Rattle.control_flow.specs.Liveness.{Home, IsReadBy, IsWrittenBy};
 ghost use Rattle.control_flow.specs.Masks.{HasRegister, HasSlot, HasHome};
 
 use crate::accesses::{registers_read, registers_written};
@@ -30,7 +30,7 @@ fn byte_of(place: Place) -> Option<usize>
 }
 
 /// The stack slot that a place with the base r10 is in.
-fn slot_of(place: Place) -> Option<u8>
+pub fn slot_of(place: Place) -> Option<u8>
     ensures { (j : ℕ) → (result ≡ Some j) ↔ IsWithinSlot place j }
 {
     match byte_of(place) {
@@ -90,18 +90,26 @@ fn takes_address(insn: &Insn, read: RegisterMask) -> bool
     }
 }
 
-/// The same of the instruction at a slot of the code, which reads these registers.
-pub fn takes_address_at(image: &Image, slot: usize, read: RegisterMask) -> bool
-    requires { HasRegister read TheReg.R10 ↔ ReadsHome image.now (InRegister TheReg.R10) slot }
+/// Whether the instruction at a slot of the code takes the address of its frame.
+fn takes_address_at(image: &Image, slot: usize) -> bool
     ensures { IsTrue result ↔ TakesFrameAddressAt image.now slot }
 {
-    if !read.has(Reg::R10) {
-        return false;
-    }
     match image.at(slot) {
-        Some(insn) => takes_address(insn, read),
+        Some(insn) => takes_address(insn, registers_read(insn)),
         None => false,
     }
+}
+
+/// Whether a program takes the address of a call frame.
+pub fn takes_frame_address(image: &Image) -> bool
+    ensures { IsTrue result ↔ FrameAddressIsTaken image.now }
+{
+    for slot in 0..image.slots() {
+        if takes_address_at(image, slot) {
+            return true;
+        }
+    }
+    false
 }
 
 /// The stack slots that an instruction reads: all, if `taken` says that the program takes a frame's

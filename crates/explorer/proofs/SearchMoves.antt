@@ -299,38 +299,38 @@ two_ways p q m all stored s a b first other w left eq good on at leads by goes l
 
 -- the path goes on from the state to the first of those that are left to explore
 pub comes_into : (p : Program) (old x : Search) (stored : Option ℕ) (pending : Option State)
-    (whole : Visits) (a o next : State) → x ≡ record old { current = a; scratch = o }
-    → Explores p old stored
+    (next : State) → x.states.states.items ≡ old.states.states.items → x.finished ≡ old.finished
+    → x.path.items ≡ old.path.items ++ record { pending = pending; best = 0; stored = stored } ∷ []
+    → x.current ≡ next → Explores p old stored
     → Entered p old.finished old.states.states.items
     (record { pending = pending; best = 0; stored = stored }) old.current next
-    → whole.items ≡ x.path.items ++ record { pending = pending; best = 0; stored = stored } ∷ []
-    → Comes p (record x { current = next; path = whole })
-comes_into p old x stored pending whole a o next is at entered pushed =
+    → Comes p x
+comes_into p old x stored pending next items finished pushed current at entered =
     let visit : Visit = record { pending = pending; best = 0; stored = stored } in
     let states = old.states.states.items in
     let path = old.path.items in
     let root = at.at.first in
-    let again : whole.items ≡ path ++ visit ∷ [] =
-    pushed ∙ ap (λ (y : Search). y.path.items ++ visit ∷ []) is in
-    let more : length whole.items ≡ length path + 1 =
-    ap (λ (xs : List Visit). length xs) again ∙ length-append path (visit ∷ []) in
-    subst (λ (y : Search). Comes p (record y { current = next; path = whole })) (sym is) (record {
+    let more : length x.path.items ≡ length path + 1 =
+    ap (λ (xs : List Visit). length xs) pushed ∙ length-append path (visit ∷ []) in
+    record {
       at = record {
-        fine = at.at.fine;
+        fine = rw (items, finished) at.at.fine;
         first = root;
         begins = at.at.begins;
         path =
-            subst (λ (y : List Visit). Path p old.finished states root y next) (sym again)
+            rw (items, finished, current)
+            (subst (λ (y : List Visit). Path p old.finished states root y next) (sym pushed)
             (Path-push p old.finished states path visit root old.current next at.at.path
-            entered.waiting);
+            entered.waiting));
       };
-      on_path = OnPath-push states path whole.items visit again at.on_path;
+      on_path = rw items (OnPath-push states path x.path.items visit pushed at.on_path);
       counts =
-          spent_into p root path whole.items visit old.current next (old.finished + length path)
-          (old.finished + length whole.items) again at.counts entered.spends
-          (omega (arith, more));
-      ready = entered.ready;
-    })
+          rw (finished, current)
+          (spent_into p root path x.path.items visit old.current next (old.finished + length path)
+          (old.finished + length x.path.items) pushed at.counts entered.spends
+          (omega (arith, more)));
+      ready = rw current entered.ready;
+    }
 
 -- the step has no successor, and the state gets the number 1
 pub step_ends : (p q : Program) (m : ℕ) (old new : List StoredState) (a : State) (path : List Visit)

@@ -83,6 +83,13 @@ impl Model for Kept {
 }
 
 impl Kept {
+    /// The slot of the code.
+    pub(crate) fn slot(&self) -> usize
+        ensures { result ≡ self.now.slot }
+    {
+        self.slot as usize
+    }
+
     /// Keeps a state. The parts of its frames are computed in scratch space, and it shares what it
     /// can with another state.
     pub(crate) fn of(

@@ -5,6 +5,7 @@
 //! `specs/Search.antt` says what a search knows.
 #![tactic(auto)]
 
+mod arrivals;
 mod blanks;
 pub mod explanations;
 mod groups;

@@ -13,6 +13,7 @@ ghost use Rattle.walks.specs.Refused.{StopsAt};
 ghost use Rattle.explorer.specs.Search.{Arrives, IsArrival, RefusesArrival, IsNew, Comes, HasEnded, AfterMove, AfterMoveOrEnd, IsNext, IsTooLong};
 ghost use Rattle.explorer.specs.Listening.{BeginsPath, BeginFails, ShowsStep, StepFails, ComesBackAt, IfReturns, ReturnFails, IfRefused, IsToTell, FollowsTo, FollowsNext, EndsIn};
 
+use crate::arrivals::{arrive, forget_at};
 use crate::kept::Kept;
 use crate::listening::{Listener, halt, tell};
 use crate::moves::{Halt, Move, NO_MEMORY, NextMove, Refused};
@@ -25,7 +26,7 @@ use stack_state::State;
 use state_index::Part;
 use std::alloc::{AllocError, Global};
 use transfer::{Ways, step_in_place};
-use walks::{Refusal, forget_dead, kept_slots};
+use walks::{Refusal, forget, kept_slots};
 
 /// A search: the path from the start to the current state, and the states that were stored.
 #[derive(Drop)]
@@ -37,47 +38,6 @@ pub struct Search {
     pub current: State,
     /// Scratch space for a state.
     pub scratch: State,
-}
-
-/// A path arrives at a state. If the state was kept already and is to be stored, the kept one is
-/// taken.
-fn arrive(
-    alloc: Global,
-    flow: &Flow<'_>,
-    states: &mut StoredStates,
-    state: &State,
-    kept: &mut Option<Kept>,
-    scratch: &mut State,
-) -> Result<Move, Refused>
-    requires kept { IfSome kept.old (λ s. s ≡ state.now) }
-    requires forgotten { kept.old ≡ None → IsForgotten flow.now state.now }
-    ensures arrives { IfOk result (λ made. Arrives flow.now states.old.states.items
-        state.now made states.new.states.items) }
-    ensures limits { IfOk result (λ made. made ≡ Move.New None → IsJoin flow.now state.now.slot
-        → IsTrue states.new.is_over ⊎ IsTrue states.new.is_full) }
-    ensures refused { IfErr result (λ r. RefusesArrival flow.now states.old.states.items
-        state.now r.0 r.1) }
-{
-    if !flow.is_join(state.slot) || states.is_over {
-        return Ok(Move::New(None));
-    }
-    let mask = kept_slots(flow, state.slot);
-    let Ok(()) = states.take_up(alloc, state, kept, mask) else {
-        return Err(NO_MEMORY);
-    };
-    if let Some((index, number)) = states.cover_of(state, scratch) {
-        return Ok(Move::Covered(index, number));
-    }
-    if states.repeats(state, scratch) {
-        return Err((Refusal::Repeats, state.slot));
-    }
-    if states.is_full {
-        return Ok(Move::New(None));
-    }
-    match states.store(alloc, state, kept) {
-        Ok(index) => Ok(Move::New(Some(index))),
-        Err(_) => Err(NO_MEMORY),
-    }
 }
 
 impl Search {
@@ -136,7 +96,7 @@ impl Search {
         ensures fails { IfErr result (λ r. BeginFails flow.now self.new.current r.0 r.1) }
         ensures explored { self.new.finished + length self.new.path.items ≡ 0 }
     {
-        forget_dead(flow, false, &mut self.current);
+        forget(flow, false, &mut self.current);
         self.come(alloc, flow, None)
     }
 
@@ -179,7 +139,7 @@ impl Search {
             }
             Ways::One => None,
             Ways::Two => {
-                forget_dead(flow, false, &mut self.scratch);
+                forget(flow, false, &mut self.scratch);
                 let mask = kept_slots(flow, self.scratch.slot);
                 match Kept::of_forgotten(alloc, &self.scratch, mask, parts, self.states.last()) {
                     Ok(other) => Some(other),
@@ -188,7 +148,16 @@ impl Search {
             }
         };
         let has_called = self.current.callers.len() > caller_count;
-        forget_dead(flow, has_called, &mut self.current);
+        let Ok(()) = forget_at(
+            alloc,
+            flow,
+            &mut self.states,
+            has_called,
+            &mut self.current,
+            &mut self.scratch,
+        ) else {
+            return Err(NO_MEMORY);
+        };
         let visit = Visit {
             pending,
             best: 0,

@@ -33,6 +33,9 @@ const MOST_WORDS: u64 = 15_000_000;
 /// How many words a state takes in a tree.
 const TREE_WORDS: u32 = 43;
 
+/// After how many finished states of a slot more are likely to come.
+const SETTLED: u8 = 2;
+
 /// How often the parts of callers are read where a state is looked up and stored.
 const CALLER_READINGS: usize = 3;
 
@@ -53,6 +56,8 @@ pub struct StoredStates {
     words: u64,
     /// Whether the limit of these words is reached: then no other state is stored.
     pub is_full: bool,
+    /// How many states of each slot are finished, up to `SETTLED`.
+    finished_at: Vec<u8>,
 }
 
 /// The state that was stored last.
@@ -80,7 +85,16 @@ impl StoredStates {
             is_over: false,
             words: 0,
             is_full: false,
+            finished_at: vec![in alloc; 0u8; slots]?,
         })
+    }
+
+    /// Whether so many states of a slot are finished that others are likely to come.
+    pub fn is_settled(&self, slot: usize) -> bool {
+        match self.finished_at.get(slot) {
+            Some(count) => *count == SETTLED,
+            None => false,
+        }
     }
 
     /// Whether some states are no longer looked up, or no longer stored.
@@ -385,6 +399,9 @@ impl StoredStates {
             let state = &mut self.states[index];
             state.number = number;
             self.index.finish(index);
+            if let Some(count) = self.finished_at.get_mut(state.state.slot()) {
+                *count = SETTLED.min(count.saturating_add(1));
+            }
         }
     }
 }

@@ -1,5 +1,5 @@
 -- A walk stays beside a run, step by step.
-use Rattle.std.proofs.Common.{◌≡◌, ◌+◌, ℕ, zero, suc, arith, refl, sym, ◌∙◌, subst, inl, inr, ◌⊎◌}
+use Rattle.std.proofs.Common.{◌≡◌, ◌+◌, ℕ, zero, suc, arith, refl, sym, ap, ◌∙◌, subst, inl, inr, ◌⊎◌}
 use Rattle.std.specs.Prelude.{◌≢◌}
 use Rattle.stack_state.specs.declared.slots.StackSlot.TheVariants.{Written}
 use Rattle.std.proofs.lemmas.List.{length-replicate}
@@ -8,11 +8,15 @@ use Rattle.isa_model.specs.declared.registers.Reg.TheVariants.{R1, R10}
 use Rattle.isa_model.specs.Code.Registers.{reg_number}
 use Rattle.isa_model.specs.Code.Instructions.{Program}
 use Rattle.isa_model.specs.Machine.States as Machine
-use Rattle.isa_model.specs.Machine.States.{reg, set_reg, value_at, new_call_frame}
+use Rattle.isa_model.specs.Machine.States.{reg, value_at, new_call_frame}
 use Rattle.isa_model.specs.Machine.Steps.{step}
 use Rattle.isa_model.specs.Running.Runs.{start_state, start_regs, count_map_values}
 use Rattle.isa_model.proofs.RunLaws.{progress-zero}
-use Rattle.isa_model.specs.MustAccept.Determined.{IsDetermined}
+use Rattle.isa_model.specs.declared.sizes.Size.TheVariants.{U64}
+use Rattle.isa_model.specs.declared.instructions.Place.{Place}
+use Rattle.isa_model.specs.declared.instructions.Insn.{Insn}
+use Rattle.isa_model.specs.declared.instructions.Insn.TheVariants.{Load, CallHelper}
+use Rattle.isa_model.specs.MustAccept.Determined.{IsDeterminedForm, IsDetermined}
 use Rattle.isa_model.proofs.StackSlotLaws.{HasKnownStackSlots, HasKnownStackSlots-start}
 use Rattle.stack_state.specs.declared.states.State.{State}
 use Rattle.stack_state.specs.Places.{kind_of}
@@ -23,15 +27,32 @@ use Rattle.transfer.specs.declared.Ways.{Ways}
 use Rattle.transfer.specs.declared.Ways.TheVariants as ways
 use Rattle.walks.specs.Walks.{IsAmong, StepsTo, HasSteps}
 use Rattle.control_flow.specs.Liveness.{IsLive, IsSlotLive, IsHomeLive}
-use Rattle.walks.specs.Forgetting.{Forgets}
+use Rattle.control_flow.specs.TestedNumbers.{MayForgetNumbers, TakesInput}
+use Rattle.walks.specs.Forgetting.{DeadForgotten, Forgets}
 use Rattle.walks.specs.Counts.{AreForgotten, StepsInto}
-use Rattle.walks.proofs.Forgotten.{Forgets-slot, Forgets-depth, Forgets-live, Forgets-stack_slot_live}
+use Rattle.walks.proofs.DeadForgottenLaws.{DeadForgotten-slot, DeadForgotten-depth, DeadForgotten-live, DeadForgotten-stack_slot_live}
+use Rattle.walks.proofs.Forgotten.{Forgets-dead}
 use Rattle.walks.proofs.Beside.{HoldsIf, Mirrored, IsNoPointer, first, Along}
 use Rattle.walks.proofs.StillBeside.{NextAlong}
 use Rattle.walks.proofs.Along.{step_along}
 
+-- ---- determined programs take no input
+
+takes_none : (i : Insn) → IsDeterminedForm i → TakesInput i → ⊥
+takes_none (Load U64 d place) form takes = takes (ap (λ (x : Place). x.base) form.2)
+takes_none (Load size d place) form takes = absurd form
+takes_none (CallHelper number) form takes = absurd form
+takes_none i form takes = absurd takes
+
+-- so none of their numbers is forgotten
+numbers_known : (p : Program) (steps : ℕ) → IsDetermined p steps → MayForgetNumbers p → ⊥
+numbers_known p steps d may =
+    let at = may.takes.1 in takes_none at.0 (d.forms may.takes.0 at.0 at.1) at.2
+
+-- ---- beside the run
+
 -- stack slots that are live are known as before
-known_stack_slots : (p : Program) (a b : State) (t : Machine.State) → Forgets p a b
+known_stack_slots : (p : Program) (a b : State) (t : Machine.State) → DeadForgotten p a b
     → HasKnownStackSlots (HoldsIf (λ h. IsHomeLive p h a.slot) a) t
     → HasKnownStackSlots (HoldsIf (λ h. IsHomeLive p h b.slot) b) t
 known_stack_slots p a b t f h = record {
@@ -47,9 +68,9 @@ known_stack_slots p a b t f h = record {
       number.2,
       λ live.
           let before : IsSlotLive p j a.slot =
-          subst (λ n. IsSlotLive p j n) (Forgets-slot p a b f) live in
+          subst (λ n. IsSlotLive p j n) (DeadForgotten-slot p a b f) live in
           subst (λ x. IsJust (kind_in x) number.0)
-          (sym (Forgets-stack_slot_live p a b j f below before)) (number.3 before),
+          (sym (DeadForgotten-stack_slot_live p a b j f below before)) (number.3 before),
     )
   ];
 }
@@ -58,19 +79,20 @@ known_stack_slots p a b t f h = record {
 pub Along-forgets : (p : Program) (steps : ℕ) (d : IsDetermined p steps) (k : ℕ) (a b : State)
     (t : Machine.State) → Forgets p a b
     → Along p steps d k a t → Along p steps d k b t
-Along-forgets p steps d k a b t f along =
+Along-forgets p steps d k a b t forgets along =
+    let f = Forgets-dead p a b (numbers_known p steps d) forgets in
     let m = along.mirrors in
     record {
       reached = along.reached;
       mirrors = record {
-        slot = m.slot ∙ sym (Forgets-slot p a b f);
-        one = Forgets-depth p a b f ∙ m.one;
+        slot = m.slot ∙ sym (DeadForgotten-slot p a b f);
+        one = DeadForgotten-depth p a b f ∙ m.one;
         room = f.registers.ten;
         wide = m.wide;
         regs = λ r own live.
             let before : IsLive p r a.slot =
-            subst (λ n. IsLive p r n) (Forgets-slot p a b f) live in
-            subst (Mirrored (reg t r)) (sym (Forgets-live p a b r f own before))
+            subst (λ n. IsLive p r n) (DeadForgotten-slot p a b f) live in
+            subst (Mirrored (reg t r)) (sym (DeadForgotten-live p a b r f own before))
             (m.regs r own before);
         all_slots = f.slots.all;
         stack = known_stack_slots p a b t f m.stack;

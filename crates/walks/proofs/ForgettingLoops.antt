@@ -19,7 +19,7 @@ use Rattle.stack_state.proofs.MeaningLaws.{abstract_frame_at-caller, abstract_fr
 use Rattle.isa_model.proofs.RegisterLaws.{same_number}
 use Rattle.control_flow.specs.Flows.{IsJoin}
 use Rattle.control_flow.specs.Liveness.{IsLive, IsSlotLive}
-use Rattle.walks.specs.Forgetting.{IsKept, AreKept, IsSlotLeft, AreSlotsLeft, AreSlotsKept, IsCallerKept, AreCallersKept, CallersForgotten, Forgets}
+use Rattle.walks.specs.Forgetting.{IsKept, AreKept, IsSlotLeft, AreSlotsLeft, AreSlotsKept, IsCallerKept, AreCallersKept, CallersForgotten, DeadForgotten}
 use Rattle.walks.proofs.OnNumbers.{below_ten}
 
 -- ---- the loop
@@ -238,12 +238,12 @@ caller_left p a b n f g last there is rest left = record {
 }
 
 -- what is forgotten of callers first, and of the innermost frame then
-pub Forgets-both : (p : Program) (a m b : State) (ks : List Kind) (slots : List StackSlot)
+pub DeadForgotten-both : (p : Program) (a m b : State) (ks : List Kind) (slots : List StackSlot)
     → CallersForgotten p a m → b ≡ record m
     { innermost = record m.innermost { registers = ks; stack = record { slots = slots } } }
     → AreKept p m.slot m.innermost.registers ks
-    → AreSlotsKept p m.slot m.innermost.stack.slots slots → Forgets p a b
-Forgets-both p a m b ks slots callers is registers own =
+    → AreSlotsKept p m.slot m.innermost.stack.slots slots → DeadForgotten p a b
+DeadForgotten-both p a m b ks slots callers is registers own =
     let whole : State = record a {
       callers = m.callers;
       innermost = record a.innermost { registers = ks; stack = record { slots = slots } };
@@ -253,7 +253,7 @@ Forgets-both p a m b ks slots callers is registers own =
     record x
     { innermost = record x.innermost { registers = ks; stack = record { slots = slots } } })
     callers.rest in
-    let forgets : Forgets p a whole = record {
+    let forgets : DeadForgotten p a whole = record {
       rest = refl;
       callers = record {
         as_many = callers.callers.as_many;
@@ -272,4 +272,4 @@ Forgets-both p a m b ks slots callers is registers own =
           subst (λ (x : State). AreSlotsKept p x.slot x.innermost.stack.slots slots) callers.rest
           own;
     } in
-    subst (Forgets p a) (sym same) forgets
+    subst (DeadForgotten p a) (sym same) forgets

@@ -1,209 +1,146 @@
--- What forgetting dead registers and stack slots does to a state: it means more, and all
--- else stays.
-use Rattle.std.proofs.Common.{◌≡◌, ◌≢◌, ◌<◌, ◌+◌, ◌∷◌, ◌++◌, [], ℕ, zero, suc, List, length, map, get_or, refl, sym, ap, ◌∙◌, subst, arith, inl, inr}
-use Rattle.std.proofs.lemmas.Bool.{cases_lt, cases_eq}
-use Rattle.std.proofs.lemmas.Nat.Bits.{bit_at-zero}
-use Rattle.std.proofs.lemmas.List.{get_or_past}
+-- What forgetting does to a state, of what is dead and of numbers that do not matter: it means
+-- more, and all else stays.
+use Rattle.std.proofs.Common.{◌≡◌, ◌≢◌, ◌<◌, ◌∷◌, ◌++◌, [], ℕ, List, length, sym, ap, ◌∙◌, subst, arith, inl, inr, ◌⊎◌, ◌+◌}
 use Rattle.isa_model.specs.declared.registers.Reg.{Reg}
 use Rattle.isa_model.specs.declared.registers.Reg.TheVariants.{R10}
-use Rattle.isa_model.specs.declared.values.Value.{Value}
-use Rattle.isa_model.specs.declared.values.Cell.{Cell}
 use Rattle.isa_model.specs.Code.Registers.{reg_number}
 use Rattle.isa_model.specs.Code.Instructions.{Program}
 use Rattle.isa_model.specs.Machine.States as Machine
 use Rattle.isa_model.specs.Machine.Steps.{step}
 use Rattle.isa_model.specs.Machine.Successors.{Follows}
 use Rattle.isa_model.proofs.EndsLaws.{After-weaker}
-use Rattle.reg_state.specs.declared.kinds.Kind.{Kind}
-use Rattle.reg_state.specs.declared.kinds.Kind.TheVariants.{Unset}
-use Rattle.reg_state.specs.Kinds.{Assigned, Allows}
-use Rattle.stack_state.specs.declared.slots.StackSlot.{StackSlot}
-use Rattle.stack_state.specs.declared.slots.StackSlot.TheVariants.{Written}
 use Rattle.stack_state.specs.Slots.{slot_at}
-use Rattle.stack_state.specs.StackMeaning.{SlotMeans}
 use Rattle.stack_state.specs.declared.states.AbstractFrame.{AbstractFrame}
 use Rattle.stack_state.specs.declared.states.State.{State}
-use Rattle.stack_state.specs.Meaning.{frames_of, abstract_frame_at, depth, registers_of, kind_at, no_frame, Means, Covers}
-use Rattle.stack_state.proofs.MeaningLaws.{abstract_frame_at-innermost, length-frames_of, FrameKeeps, MeansBy-change}
+use Rattle.stack_state.specs.Meaning.{abstract_frame_at, depth, registers_of, kind_at, Means, Covers}
 use Rattle.stack_state.specs.Places.{kind_of}
-use Rattle.stack_state.proofs.PlaceLaws.{kind_of-registers}
+use Rattle.branch_refine.specs.Refining.{IsNumberKind}
 use Rattle.control_flow.specs.Flows.{IsJoin}
-use Rattle.control_flow.specs.Liveness.{IsLive, IsSlotLive}
-use Rattle.control_flow.proofs.RegisterLaws.{numbered}
+use Rattle.control_flow.specs.Liveness.{IsLive}
+use Rattle.control_flow.specs.TestedNumbers.{MayForgetNumbers}
 use Rattle.transfer.specs.declared.Ways.{Ways}
 use Rattle.transfer.specs.declared.Ways.TheVariants as ways
 use Rattle.transfer.specs.Leading.{LeadsTo, InSome}
 use Rattle.transfer.specs.Following.{returns_of, GoesOnTo}
-use Rattle.walks.specs.Forgetting.{IsKept, IsSlotDeadAt, IsSlotKept, IsCallerSlotKept, slots_in, Forgets, IsForgotten}
+use Rattle.walks.specs.Forgetting.{IsDeadAt, IsKept, IsSlotDeadAt, IsSlotKept, IsCallerKept, slots_in, DeadForgotten, NumbersForgotten, Forgets, IsForgotten}
 use Rattle.walks.specs.Counts.{AreForgotten}
+use Rattle.walks.proofs.DeadForgottenLaws.{DeadForgotten-slot, DeadForgotten-callers, DeadForgotten-depth, DeadForgotten-returns, DeadForgotten-each, DeadForgotten-live, DeadForgotten-alone, DeadForgotten-forgotten, Means-dead}
+use Rattle.walks.proofs.NumbersForgottenLaws.{NumbersForgotten-slot, NumbersForgotten-callers, NumbersForgotten-depth, NumbersForgotten-caller, NumbersForgotten-returns, NumbersForgotten-number, NumbersForgotten-other, NumbersForgotten-alone, AreNumbersKept-none, AreSpilledNumbersKept-none, NumbersForgotten-written, NumbersForgotten-twice, Means-numbers}
 
 -- ---- what stays
 
 pub Forgets-slot : (p : Program) (a b : State) → Forgets p a b → b.slot ≡ a.slot
-Forgets-slot p a b f = ap (λ (x : State). x.slot) f.rest
+Forgets-slot p a b f =
+    NumbersForgotten-slot p f.middle b f.numbers ∙ DeadForgotten-slot p a f.middle f.dead
 
 pub Forgets-callers : (p : Program) (a b : State) → Forgets p a b
     → length b.callers.items ≡ length a.callers.items
-Forgets-callers p a b f = f.callers.as_many
+Forgets-callers p a b f =
+    ap (λ (x : State). length x.callers.items) f.numbers.rest
+    ∙ DeadForgotten-callers p a f.middle f.dead
 
 pub Forgets-depth : (p : Program) (a b : State) → Forgets p a b → depth b ≡ depth a
-Forgets-depth p a b f = ap (λ (n : ℕ). n + 1) (Forgets-callers p a b f)
-
-maps_same : {X : Type 0} (f : X → ℕ) (d : X) (xs ys : List X) → length xs ≡ length ys
-    → ((k : ℕ) → k < length xs → f (get_or xs k d) ≡ f (get_or ys k d)) → map f xs ≡ map f ys
-maps_same f d [] [] long same = refl
-maps_same f d [] (y ∷ ys) long same = absurd (omega arith)
-maps_same f d (x ∷ xs) [] long same = absurd (omega arith)
-maps_same f d (x ∷ xs) (y ∷ ys) long same =
-    ap (λ (n : ℕ). n ∷ map f xs) (same zero (omega arith))
-    ∙ ap (λ (l : List ℕ). f y ∷ l)
-    (maps_same f d xs ys (omega arith) (λ k below. same (suc k) (omega arith)))
-
--- each call frame returns to where it returned
-frame_returns : (p : Program) (a b : State) (k : ℕ) → Forgets p a b → k < depth a
-    → (abstract_frame_at b k).return_slot ≡ (abstract_frame_at a k).return_slot
-frame_returns p a b k f below = elim (cases_eq k (length a.callers.items)) [
-  | inl last ↦
-      let here : abstract_frame_at a k
-      ≡ a.innermost = ap (abstract_frame_at a) last ∙ abstract_frame_at-innermost a in
-      let there : abstract_frame_at b k ≡ b.innermost =
-      ap (abstract_frame_at b) (last ∙ sym (Forgets-callers p a b f))
-      ∙ abstract_frame_at-innermost b in
-      ap (λ (x : AbstractFrame). x.return_slot) there
-      ∙ ap (λ (x : State). x.innermost.return_slot) f.rest
-      ∙ ap (λ (x : AbstractFrame). x.return_slot) (sym here)
-  | inr apart ↦ ap (λ (x : AbstractFrame). x.return_slot) (f.callers.each k (omega arith)).rest
-]
+Forgets-depth p a b f =
+    NumbersForgotten-depth p f.middle b f.numbers ∙ DeadForgotten-depth p a f.middle f.dead
 
 pub Forgets-returns : (p : Program) (a b : State) → Forgets p a b → returns_of b ≡ returns_of a
 Forgets-returns p a b f =
-    maps_same (λ (x : AbstractFrame). x.return_slot) no_frame (frames_of b) (frames_of a)
-    (length-frames_of b ∙ Forgets-depth p a b f ∙ sym (length-frames_of a))
-    (λ k below. frame_returns p a b k f
-    (omega (arith, below, length-frames_of b, Forgets-depth p a b f)))
+    NumbersForgotten-returns p f.middle b f.numbers ∙ DeadForgotten-returns p a f.middle f.dead
 
 -- ---- what is known of registers
-
-pub Forgets-each : (p : Program) (a b : State) (r : Reg) → Forgets p a b → r ≢ R10
-    → IsKept p a.slot r (kind_of a r) (kind_of b r)
-Forgets-each p a b r f own =
-    subst (λ k. IsKept p a.slot r k (kind_of b r)) (sym (kind_of-registers a r own))
-    (subst (λ k. IsKept p a.slot r (kind_at (registers_of a) (reg_number r)) k)
-    (sym (kind_of-registers b r own)) (f.registers.each r own))
-
--- a register that is live is known as before
-pub Forgets-live : (p : Program) (a b : State) (r : Reg) → Forgets p a b → r ≢ R10
-    → IsLive p r a.slot → kind_of b r ≡ kind_of a r
-Forgets-live p a b r f own live = elim (Forgets-each p a b r f own) [
-  | inl same ↦ same.1
-  | inr gone ↦ absurd (gone.0.1 live)
-]
 
 -- where no paths meet, every register is known as before
 pub Forgets-alone : (p : Program) (a b : State) (r : Reg) → Forgets p a b → r ≢ R10
     → (IsJoin p a.slot → ⊥) → kind_of b r ≡ kind_of a r
-Forgets-alone p a b r f own alone = elim (Forgets-each p a b r f own) [
-  | inl same ↦ same.1
-  | inr gone ↦ absurd (alone gone.0.0)
+Forgets-alone p a b r f own alone =
+    let slot = DeadForgotten-slot p a f.middle f.dead in
+    NumbersForgotten-alone p f.middle b r f.numbers own (λ join. alone (subst (IsJoin p) slot join))
+    ∙ DeadForgotten-alone p a f.middle r f.dead own alone
+
+-- a number stays a number, or its register is dead
+pub Forgets-number : (p : Program) (a b : State) (r : Reg) → Forgets p a b → r ≢ R10
+    → IsNumberKind (kind_of a r) → IsDeadAt p a.slot r ⊎ IsNumberKind (kind_of b r)
+Forgets-number p a b r f own number = elim (DeadForgotten-each p a f.middle r f.dead own) [
+  | inl same ↦
+      inr (NumbersForgotten-number p f.middle b r f.numbers own
+      (subst IsNumberKind (sym same.1) number))
+  | inr gone ↦ inl gone.0
 ]
 
--- ---- what is known of stack slots
+-- a register that is live, and no number, is known as before
+pub Forgets-pointer : (p : Program) (a b : State) (r : Reg) → Forgets p a b → r ≢ R10
+    → IsLive p r a.slot → (IsNumberKind (kind_of a r) → ⊥) → kind_of b r ≡ kind_of a r
+Forgets-pointer p a b r f own live pointer =
+    let same = DeadForgotten-live p a f.middle r f.dead own live in
+    NumbersForgotten-other p f.middle b r f.numbers own
+    (λ number. pointer (subst IsNumberKind same number))
+    ∙ same
 
--- a stack slot that is live is known as before
-pub Forgets-stack_slot_live : (p : Program) (a b : State) (j : ℕ) → Forgets p a b → j < 64
-    → IsSlotLive p j a.slot → slot_at (slots_in b) j ≡ slot_at (slots_in a) j
-Forgets-stack_slot_live p a b j f below live = elim (f.slots.each j below) [
-  | inl same ↦ same.1
-  | inr gone ↦ absurd (gone.0.1 live)
-]
+-- ---- programs whose numbers stay known
+
+callers_forgotten : (p : Program) (a b : State) (k : ℕ) → (f : Forgets p a b)
+    → k < length a.callers.items
+    → IsCallerKept p (abstract_frame_at a (k + 1)).return_slot (abstract_frame_at a k)
+    (abstract_frame_at b k)
+callers_forgotten p a b k f below =
+    let inside : k < length f.middle.callers.items =
+    let as_many = f.dead.callers.as_many in omega (arith, below, as_many) in
+    subst (λ (x : AbstractFrame).
+    IsCallerKept p (abstract_frame_at a (k + 1)).return_slot (abstract_frame_at a k) x)
+    (sym (NumbersForgotten-caller p f.middle b k f.numbers inside))
+    (f.dead.callers.each k below)
+
+-- only what is dead is forgotten
+pub Forgets-dead : (p : Program) (a b : State) → (MayForgetNumbers p → ⊥) → Forgets p a b
+    → DeadForgotten p a b
+Forgets-dead p a b none f =
+    let over : State → State = λ x. record x {
+      innermost =
+          record x.innermost { registers = registers_of b; stack = record { slots = slots_in b } };
+    } in
+    record {
+      rest =
+          f.numbers.rest ∙ ap over f.dead.rest
+          ∙ ap (λ cs. record (over a) { callers = cs })
+          (sym (NumbersForgotten-callers p f.middle b f.numbers));
+      callers = record {
+        as_many = Forgets-callers p a b f;
+        each = λ k below. callers_forgotten p a b k f below;
+      };
+      registers = record {
+        ten = f.numbers.registers.ten;
+        each = λ r own.
+            subst (IsKept p a.slot r (kind_at (registers_of a) (reg_number r)))
+            (sym (AreNumbersKept-none p f.middle b r f.numbers none own))
+            (f.dead.registers.each r own);
+      };
+      slots = record {
+        all = f.numbers.slots.all;
+        each = λ j below.
+            subst (IsSlotKept p a.slot j (slot_at (slots_in a) j))
+            (sym (AreSpilledNumbersKept-none p f.middle b j f.numbers none below))
+            (f.dead.slots.each j below);
+      };
+    }
+
+-- ---- further numbers
+
+-- more numbers are forgotten afterwards
+pub Forgets-further : (p : Program) (a b c : State) → Forgets p a b → NumbersForgotten p b c
+    → Forgets p a c
+Forgets-further p a b c f more = record {
+  middle = f.middle;
+  dead = f.dead;
+  numbers = NumbersForgotten-twice p f.middle b c f.numbers more;
+}
 
 -- ---- meanings
 
-stack_slot_kept_means : (p : Program) (slot j : ℕ) (e : Assigned) (before after : StackSlot)
-    (cs : List Cell)
-    → IsSlotKept p slot j before after → SlotMeans e before cs → SlotMeans e after cs
-stack_slot_kept_means p slot j e before after cs (inl same) h =
-    subst (λ s. SlotMeans e s cs) (sym same.1) h
-stack_slot_kept_means p slot j e before after cs (inr gone) h =
-    let nothing : SlotMeans e (Written 0) cs = λ i below marked. let none = bit_at-zero i in
-    absurd cc in
-    subst (λ s. SlotMeans e s cs) (sym gone.1) nothing
-
-caller_stack_slot_means : (p : Program) (slot j : ℕ) (e : Assigned) (before after : StackSlot)
-    (cs : List Cell)
-    → IsCallerSlotKept p slot j before after → SlotMeans e before cs → SlotMeans e after cs
-caller_stack_slot_means p slot j e before after cs (inl same) h =
-    subst (λ s. SlotMeans e s cs) (sym same) h
-caller_stack_slot_means p slot j e before after cs (inr gone) h =
-    let nothing : SlotMeans e (Written 0) cs = λ i below marked. let none = bit_at-zero i in
-    absurd cc in
-    subst (λ s. SlotMeans e s cs) (sym gone.1) nothing
-
-kept_allows : (p : Program) (slot : ℕ) (r : Reg) (e : Assigned) (before after : Kind) (v : Value)
-    → IsKept p slot r before after → Allows e before v → Allows e after v
-kept_allows p slot r e before after v (inl same) h = subst (λ k. Allows e k v) (sym same.1) h
-kept_allows p slot r e before after v (inr gone) h = subst (λ k. Allows e k v) (sym gone.1) tt
-
-not_last : (r : Reg) (k : ℕ) → reg_number r ≡ k → k < 10 → r ≢ R10
-not_last r k is below same =
-    let ten : reg_number r ≡ 10 = ap reg_number same in absurd (omega arith)
-
-registers_allow : (p : Program) (a b : State) (e : Assigned) (k : ℕ) (v : Value) → Forgets p a b
-    → Allows e (kind_at (registers_of a) k) v → Allows e (kind_at (registers_of b) k) v
-registers_allow p a b e k v f h = elim (cases_lt k 10) [
-  | inl below ↦
-      let (r, named, is) = numbered k (omega arith) in
-      let own = not_last r k is below in
-      subst (λ n. Allows e (kind_at (registers_of b) n) v) is
-      (kept_allows p a.slot r e (kind_at (registers_of a) (reg_number r))
-      (kind_at (registers_of b) (reg_number r)) v (f.registers.each r own)
-      (subst (λ n. Allows e (kind_at (registers_of a) n) v) (sym is) h))
-  | inr past ↦
-      let none : kind_at (registers_of b) k ≡ Unset =
-      get_or_past (registers_of b) k Unset (let ten = f.registers.ten in omega arith) in
-      subst (λ x. Allows e x v) (sym none) tt
-]
-
-frames_keep : (p : Program) (a b : State) (e : Assigned) (j : ℕ) → Forgets p a b → j < depth a
-    → FrameKeeps e e (abstract_frame_at a j) (abstract_frame_at b j)
-frames_keep p a b e j f below = elim (cases_eq j (length a.callers.items)) [
-  | inl last ↦
-      let here : abstract_frame_at a j
-      ≡ a.innermost = ap (abstract_frame_at a) last ∙ abstract_frame_at-innermost a in
-      let there : abstract_frame_at b j ≡ b.innermost =
-      ap (abstract_frame_at b) (last ∙ sym (Forgets-callers p a b f))
-      ∙ abstract_frame_at-innermost b in
-      let own : FrameKeeps e e a.innermost b.innermost = record {
-        registers = λ k v h. registers_allow p a b e k v f h;
-        slots =
-            λ k cs within h.
-            stack_slot_kept_means p a.slot k e (slot_at (slots_in a) k) (slot_at (slots_in b) k) cs
-            (f.slots.each k within) h;
-      } in
-      subst (λ x. FrameKeeps e e x (abstract_frame_at b j)) (sym here)
-      (subst (λ x. FrameKeeps e e a.innermost x) (sym there) own)
-  | inr apart ↦
-      let kept = f.callers.each j (omega arith) in
-      record {
-        registers =
-            λ k v h.
-            subst (λ (x : AbstractFrame). Allows e (kind_at x.registers k) v) (sym kept.rest) h;
-        slots = λ k cs within h.
-            caller_stack_slot_means p (abstract_frame_at a (j + 1)).return_slot k e
-            (slot_at (abstract_frame_at a j).stack.slots k)
-            (slot_at (abstract_frame_at b j).stack.slots k) cs (kept.slots k within) h;
-      }
-]
-
--- whatever the state means, it means once dead registers and stack slots are forgotten
+-- whatever the state means, it means once what is dead and some numbers are forgotten
 pub Means-forgets : (p : Program) (a b : State) (w : Machine.State) → Forgets p a b → Means p a w
     → Means p b w
-unfolding Means
-Means-forgets p a b w f (e, m) = (
-  e,
-  MeansBy-change p e e a b w m.assigned (Forgets-slot p a b f) (Forgets-returns p a b f)
-      (λ j below. frames_keep p a b e j f below) m,
-)
+Means-forgets p a b w f means =
+    Means-numbers p f.middle b w f.numbers (Means-dead p a f.middle w f.dead means)
 
 pub Forgets-covers : (p : Program) (a b : State) → Forgets p a b → Covers p b a
 unfolding Covers
@@ -244,12 +181,15 @@ GoesOnTo-forgets p s a b f (inr (inr h)) = inr (inr (record {
       ∙ ap (λ (n : ℕ). returns_of b ++ n ∷ []) (sym (Forgets-slot p a b f));
 }))
 
+-- ---- stack slots that are dead
+
 -- nothing is known of dead stack slots
 pub Forgets-forgotten : (p : Program) (a b : State) → Forgets p a b → IsForgotten p b
-Forgets-forgotten p a b f = (
-  f.slots.all,
-  λ j below dead. elim (f.slots.each j below) [
-    | inl kept ↦ absurd (kept.0 (subst (λ (n : ℕ). IsSlotDeadAt p n j) (Forgets-slot p a b f) dead))
-    | inr gone ↦ gone.1
-  ],
-)
+Forgets-forgotten p a b f =
+    let slot = NumbersForgotten-slot p f.middle b f.numbers in (
+      f.numbers.slots.all,
+      λ j below dead.
+          NumbersForgotten-written p f.middle b j 0 f.numbers below
+          ((DeadForgotten-forgotten p a f.middle f.dead).1 j below
+          (subst (λ (n : ℕ). IsSlotDeadAt p n j) slot dead)),
+    )

@@ -74,7 +74,7 @@ pub StepsToWays-follows : (p : Program) (s t : State) (i : Insn) (w : Ways) (a b
 StepsToWays-follows p s t i w a b free one here makes among =
     (GoesOnTo-alone p s t free one (StepsToWays-goes p s t i w a b here makes among)).follows
 
--- and each after what is dead is forgotten
+-- and each after what does not matter is forgotten
 pub StepsTo-goes : (p : Program) (a c : State) → StepsTo p a c → GoesOnTo p a c
 StepsTo-goes p a c step =
     GoesOnTo-forgets p a step.next c step.forgets

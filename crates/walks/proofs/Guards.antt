@@ -19,7 +19,7 @@ use Rattle.transfer.specs.declared.Ways.{Ways}
 use Rattle.control_flow.specs.Liveness.{IsLive}
 use Rattle.walks.specs.Forgetting.{Forgets}
 use Rattle.walks.specs.Walks.{IsAmong}
-use Rattle.walks.proofs.Forgotten.{Forgets-slot, Forgets-live, Forgets-alone}
+use Rattle.walks.proofs.Forgotten.{Forgets-slot, Forgets-pointer, Forgets-alone}
 use Rattle.walks.proofs.Living.{live_before, KnowsNumbers-forgets}
 use Rattle.walks.proofs.OnNumbers.{kind_of-go_to, kind_of-with_own, room-with, one_among}
 use Rattle.walks.proofs.KnowsNumbers.{KnowsNumbers, KnowsNumbers-with, KnowsNumbers-go_to}
@@ -159,10 +159,10 @@ prologue p len g s t d i h below here written falls slot not_free knows pointers
   proved = λ k m live. absurd (omega (arith, k, slot, below));
 }
 
--- ---- dead registers forgotten
+-- ---- what is forgotten
 
--- in the first five slots nothing is forgotten, since they are no joins; after them what is live is
--- known as before
+-- in the first five slots nothing is forgotten, since they are no joins; after them numbers that
+-- are live stay numbers, and the pointer is known as before
 pub Guards-forgets : (p : Program) (len : ℕ) (g : IsGuarded p len) (a b : State) → Forgets p a b
     → Guards p len g a → Guards p len g b
 Guards-forgets p len g a b f h =
@@ -198,5 +198,8 @@ Guards-forgets p len g a b f h =
       proved = λ k m live.
           let before : IsLive p R2 a.slot = subst (IsLive p R2) slot live in
           let (n, is, most) = h.proved (omega (arith, k, slot)) (omega (arith, m, slot)) before in
-          (n, Forgets-live p a b R2 f (λ e. absurd (cc e)) before ∙ is, most);
+          let pointer : IsNumberKind (kind_of a R2) → ⊥ = λ number.
+          let wrong : IsNumberKind (packet_from 0 n) = subst IsNumberKind is number in
+          absurd wrong in
+          (n, Forgets-pointer p a b R2 f (λ e. absurd (cc e)) before pointer ∙ is, most);
     }

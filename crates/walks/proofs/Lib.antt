@@ -1,6 +1,9 @@
 pub mod Accepted
+pub mod DeadForgottenLaws
+pub mod NumbersForgottenLaws
 pub mod Forgotten
 pub mod ForgettingLoops
+pub mod NumberLoops
 pub mod Living
 pub mod Exits
 pub mod OnNumbers

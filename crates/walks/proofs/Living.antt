@@ -10,13 +10,12 @@ use Rattle.isa_model.specs.Machine.Successors.{Follows}
 use Rattle.isa_model.specs.MustAccept.Paths.{IsPlainForm, IsOneOf, needs, written_too}
 use Rattle.stack_state.specs.declared.states.State.{State}
 use Rattle.stack_state.proofs.PlaceLaws.{same_or_other}
-use Rattle.branch_refine.specs.Refining.{IsNumberKind}
 use Rattle.control_flow.specs.Graph.{call_distance}
 use Rattle.control_flow.specs.Accesses.{read_registers, written_registers}
 use Rattle.control_flow.specs.Liveness.{IsLive}
 use Rattle.control_flow.proofs.LivenessLaws.{IsLive-read, IsLive-back}
 use Rattle.walks.specs.Forgetting.{Forgets}
-use Rattle.walks.proofs.Forgotten.{Forgets-depth, Forgets-each}
+use Rattle.walks.proofs.Forgotten.{Forgets-depth, Forgets-number}
 use Rattle.walks.proofs.OnNumbers.{NumbersIn}
 use Rattle.walks.proofs.KnowsNumbers.{KnowsNumbers}
 
@@ -87,7 +86,7 @@ live_before p slot next i r here none follows live = elim (written_or_not (write
 
 -- ---- numbers in live registers
 
--- of the registers that hold numbers these still do
+-- of the registers that hold numbers these still do, maybe any number
 pub record Remaining (p : Program) (a b : State) (known : List Reg) : Type 0 where
   pub left : List Reg
   pub numbers : (r : Reg) → IsOneOf left r → NumbersIn b r
@@ -135,13 +134,13 @@ remaining p a b (q ∷ known) f numbers =
     let own : NumbersIn a q = numbers q (inl refl) in
     elim (same_or_other q R10) [
       | inl last ↦ let wrong : NumbersIn a R10 = subst (NumbersIn a) last own in absurd wrong
-      | inr apart ↦ elim (Forgets-each p a b q f apart) [
-        | inl same ↦ one_kept p a b q known (subst IsNumberKind (sym same.1) own) rest
-        | inr gone ↦ one_dropped p a b q known gone.0.1 rest
+      | inr apart ↦ elim (Forgets-number p a b q f apart own) [
+        | inl dead ↦ one_dropped p a b q known dead.1 rest
+        | inr number ↦ one_kept p a b q known number rest
       ]
     ]
 
--- what is known once dead registers are forgotten
+-- what is known once dead registers and some numbers are forgotten
 pub record KnowsLeft (p : Program) (a b : State) (known : List Reg) : Type 0 where
   pub left : List Reg
   pub knows : KnowsNumbers b left
@@ -156,7 +155,7 @@ KnowsNumbers-forgets p a b known f h =
       knows =
           record {
             one = Forgets-depth p a b f ∙ h.one;
-            room = f.registers.ten;
+            room = f.numbers.registers.ten;
             numbers = rest.numbers;
           };
       live = rest.live;

@@ -61,7 +61,7 @@ pub PathTo-more : (p : Program) (n from slot : ℕ) (written : List Reg) (i : In
 unfolding PathTo
 PathTo-more p n from slot written i path here on = (from, written, i, path, here, on, refl)
 
--- also once dead registers are forgotten
+-- also once dead registers and some numbers are forgotten
 known_forgets : (p : Program) (a b : State) → Forgets p a b → KnowsWritten p a → KnowsWritten p b
 known_forgets p a b f h =
     let rest = KnowsNumbers-forgets p a b h.known f h.knows in

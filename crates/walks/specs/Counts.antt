@@ -11,14 +11,14 @@ use Rattle.transfer.specs.Exact.{StepsToWays}
 use Rattle.walks.specs.Forgetting.{Forgets}
 use Rattle.walks.specs.Walks.{WalksTo}
 
--- the successors are these states, after what is dead was forgotten
+-- the successors are these states, after what does not matter was forgotten
 abbrev pub AreForgotten : Program → Ways → State → State → State → State → Type 0
 AreForgotten p ways.None a b first other = Unit {0}
 AreForgotten p ways.One a b first other = Forgets p a first
 AreForgotten p ways.Two a b first other = Forgets p a first × Forgets p b other
 
 -- the instruction at a state's slot has this number of successors, and they are these states after
--- what is dead was forgotten
+-- what does not matter was forgotten
 pub record StepsInto (p : Program) (s : State) (taken : Ways) (first other : State) : Type 0 where
   pub insn : Insn
   pub here : fetch p s.slot ≡ Some insn

@@ -1,6 +1,7 @@
 -- What is forgotten of a state when a path reaches it: at joins, the registers and stack slots of
--- the innermost call frame that no path reads before it writes them. What is known of a stack slot
--- of a caller may be forgotten too, if no path reads it from where the caller goes on.
+-- the innermost call frame that no path reads before it writes them, and there may also be
+-- forgotten numbers that do not matter. What is known of a stack slot of a caller may be forgotten
+-- too, if no path reads it from where the caller goes on.
 use Rattle.std.specs.Prelude.{◌≡◌, ◌≢◌, ◌⊎◌, ℕ, ◌+◌, ◌<◌, List, length}
 use Rattle.isa_model.specs.declared.registers.Reg.{Reg}
 use Rattle.isa_model.specs.declared.registers.Reg.TheVariants.{R10}
@@ -12,10 +13,15 @@ use Rattle.stack_state.specs.declared.slots.StackSlot.{StackSlot}
 use Rattle.stack_state.specs.declared.slots.StackSlot.TheVariants.{Written}
 use Rattle.stack_state.specs.declared.states.AbstractFrame.{AbstractFrame}
 use Rattle.stack_state.specs.declared.states.State.{State}
-use Rattle.stack_state.specs.Slots.{slot_at}
+use Rattle.stack_state.specs.Slots.{slot_at, kind_in, IsAnyNumber}
 use Rattle.stack_state.specs.Meaning.{abstract_frame_at, registers_of, kind_at}
+use Rattle.branch_refine.specs.Refining.{IsNumberKind}
+use Rattle.control_flow.specs.declared.masks.RegisterMask.{RegisterMask}
+use Rattle.control_flow.specs.Masks.{HasRegister}
 use Rattle.control_flow.specs.Flows.{IsJoin}
-use Rattle.control_flow.specs.Liveness.{IsLive, IsSlotLive}
+use Rattle.control_flow.specs.Liveness.{Home, InRegister, InSlot, IsLive, IsSlotLive}
+use Rattle.control_flow.specs.TestedNumbers.{MayForgetNumbers, IsNumberTested}
+use Rattle.control_flow.specs.Endings.{EndsPlainly}
 
 -- the slot is a join at which the register is dead
 abbrev pub IsDeadAt : Program → ℕ → Reg → Type 0
@@ -84,7 +90,7 @@ pub record CallersForgotten (p : Program) (a b : State) : Type 0 where
 
 -- b is a without what is known of dead registers and of dead stack slots, and of some dead stack
 -- slots of callers
-pub record Forgets (p : Program) (a b : State) : Type 0 where
+pub record DeadForgotten (p : Program) (a b : State) : Type 0 where
   pub rest : b ≡ record a {
     callers = b.callers;
     innermost =
@@ -93,6 +99,121 @@ pub record Forgets (p : Program) (a b : State) : Type 0 where
   pub callers : AreCallersKept p a b
   pub registers : AreKept p a.slot (registers_of a) (registers_of b)
   pub slots : AreSlotsKept p a.slot (slots_in a) (slots_in b)
+
+-- ---- numbers
+
+-- the slot is a join, from which no path tests the number that is there, or only plain code follows
+abbrev pub MayForgetNumber : Program → ℕ → Home → Type 0
+MayForgetNumber p slot h =
+    MayForgetNumbers p × IsJoin p slot × ((¬ IsNumberTested p h slot) ⊎ EndsPlainly p slot)
+
+-- what is known of a register stays known; or it is a number, and may be any number
+abbrev pub IsNumberKept : Program → ℕ → Reg → Kind → Kind → Type 0
+IsNumberKept p slot r before after =
+    (after ≡ before)
+    ⊎ (MayForgetNumber p slot (InRegister r) × IsNumberKind before × IsAnyNumber after)
+
+-- what is known of a stack slot stays known; or a number was spilled there, and it is eight bytes
+-- of any number
+abbrev pub IsSpilledNumberKept : Program → ℕ → ℕ → StackSlot → StackSlot → Type 0
+IsSpilledNumberKept p slot j before after =
+    (after ≡ before)
+    ⊎ (MayForgetNumber p slot (InSlot j) × IsNumberKind (kind_in before) × (after ≡ Written 255))
+
+pub record AreNumbersKept (p : Program) (slot : ℕ) (old new : List Kind) : Type 0 where
+  pub ten : length new ≡ 10
+  pub each : (r : Reg) → r ≢ R10
+      → IsNumberKept p slot r (kind_at old (reg_number r)) (kind_at new (reg_number r))
+
+pub record AreSpilledNumbersKept (p : Program) (slot : ℕ) (old new : List StackSlot) : Type 0 where
+  pub all : length new ≡ 64
+  pub each : (j : ℕ) → j < 64 → IsSpilledNumberKept p slot j (slot_at old j) (slot_at new j)
+
+-- b is a without some numbers of the innermost call frame that do not matter
+pub record NumbersForgotten (p : Program) (a b : State) : Type 0 where
+  pub rest : b ≡ record a {
+    innermost =
+        record a.innermost { registers = registers_of b; stack = record { slots = slots_in b } };
+  }
+  pub registers : AreNumbersKept p a.slot (registers_of a) (registers_of b)
+  pub slots : AreSpilledNumbersKept p a.slot (slots_in a) (slots_in b)
+
+-- ---- both
+
+-- b is a without what is dead, and without some numbers that do not matter
+pub record Forgets (p : Program) (a b : State) : Type 0 where
+  pub middle : State
+  pub dead : DeadForgotten p a middle
+  pub numbers : NumbersForgotten p middle b
+
+-- no number is known there that no path tests
+abbrev pub KnowsTestedNumbers : Program → State → Type 0
+KnowsTestedNumbers p s =
+    MayForgetNumbers p → IsJoin p s.slot
+    → ((r : Reg) → r ≢ R10 → (¬ IsNumberTested p (InRegister r) s.slot)
+    → IsNumberKind (kind_at (registers_of s) (reg_number r))
+    → IsAnyNumber (kind_at (registers_of s) (reg_number r)))
+    × ((j : ℕ) → j < 64 → (¬ IsNumberTested p (InSlot j) s.slot)
+    → ¬ IsNumberKind (kind_in (slot_at (slots_in s) j)))
+
+-- ---- all numbers
+
+-- all numbers may be forgotten, and nothing that follows is refused for it: only plain code
+-- follows, and each register that is live is a number
+pub record MayForgetAll (p : Program) (s : State) : Type 0 where
+  pub may : MayForgetNumbers p
+  pub join : IsJoin p s.slot
+  pub ends : EndsPlainly p s.slot
+  pub numbers : (r : Reg) → IsLive p r s.slot
+      → (r ≢ R10) × IsNumberKind (kind_at (registers_of s) (reg_number r))
+
+-- no number is known in the innermost call frame
+abbrev pub KnowsNoNumber : State → Type 0
+KnowsNoNumber s =
+    ((r : Reg) → r ≢ R10 → IsNumberKind (kind_at (registers_of s) (reg_number r))
+    → IsAnyNumber (kind_at (registers_of s) (reg_number r)))
+    × ((j : ℕ) → j < 64 → ¬ IsNumberKind (kind_in (slot_at (slots_in s) j)))
+
+-- ---- how numbers are forgotten
+
+-- a number may be any number now, and all else is as before
+abbrev pub ForgetsNumber : Kind → Kind → Type 0
+ForgetsNumber before after =
+    (IsNumberKind before × IsAnyNumber after) ⊎ ((¬ IsNumberKind before) × (after ≡ before))
+
+-- a number that was spilled is eight bytes of any number now, and all else is as before
+abbrev pub ForgetsSpilled : StackSlot → StackSlot → Type 0
+ForgetsSpilled before after =
+    (IsNumberKind (kind_in before) × (after ≡ Written 255))
+    ⊎ ((¬ IsNumberKind (kind_in before)) × (after ≡ before))
+
+-- what is known stays known if it is kept, and else a number is forgotten
+abbrev pub ForgetsUnless : Type 0 → Kind → Kind → Type 0
+ForgetsUnless kept before after =
+    (kept × (after ≡ before)) ⊎ ((¬ kept) × ForgetsNumber before after)
+
+-- if the stack slot is chosen a number is forgotten, and else what is known of it stays known
+abbrev pub ForgetsIf : Type 0 → StackSlot → StackSlot → Type 0
+ForgetsIf chosen before after =
+    (chosen × ForgetsSpilled before after) ⊎ ((¬ chosen) × (after ≡ before))
+
+-- the numbers in all registers but those that are kept
+pub record ForgetsNumbersBeside (Kept : Reg → Type 0) (old new : List Kind) : Type 0 where
+  pub ten : length new ≡ 10
+  pub each : (r : Reg) → r ≢ R10
+      → ForgetsUnless (Kept r) (kind_at old (reg_number r)) (kind_at new (reg_number r))
+
+-- those in the stack slots that are chosen
+pub record ForgetsNumbersIn (Chosen : ℕ → Type 0) (old new : List StackSlot) : Type 0 where
+  pub all : length new ≡ 64
+  pub each : (j : ℕ) → j < 64 → ForgetsIf (Chosen j) (slot_at old j) (slot_at new j)
+
+-- each of these registers is a number; r10 is none
+abbrev pub AreNumberRegisters : RegisterMask → List Kind → Type 0
+AreNumberRegisters mask kinds =
+    (r : Reg) → HasRegister mask r → (r ≢ R10) × IsNumberKind (kind_at kinds (reg_number r))
+
+-- ---- stack slots that are dead
 
 -- the state is as when a path reaches it: nothing is known of stack slots that are dead there
 abbrev pub IsForgotten : Program → State → Type 0

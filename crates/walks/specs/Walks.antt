@@ -18,7 +18,7 @@ IsAmong ways.None a b s = ⊥
 IsAmong ways.One a b s = s ≡ a
 IsAmong ways.Two a b s = (s ≡ a) ⊎ (s ≡ b)
 
--- b is one of a's successors, after what is dead was forgotten
+-- b is one of a's successors, after what does not matter was forgotten
 pub record StepsTo (p : Program) (a b : State) : Type 0 where
   pub insn : Insn
   pub here : fetch p a.slot ≡ Some insn

@@ -1,11 +1,15 @@
 //! What is forgotten of a state when a path reaches it.
 
-ghost use Rattle.std.specs.Prelude.{◌≡◌, ℕ, ◌<◌, replicate};
+ghost use Rattle.std.specs.Prelude.{◌≡◌, ◌↔◌, ℕ, ◌<◌, IsTrue, replicate};
 ghost use Rattle.stack_state.specs.Slots.{frame_slots};
+ghost use Rattle.control_flow.specs.Endings.{EndsPlainly};
+ghost use Rattle.control_flow.specs.Flows.{IsJoin};
 ghost use Rattle.control_flow.specs.Masks.{HasSlot};
-ghost use Rattle.walks.specs.Forgetting.{AreKept, AreSlotsLeft, AreSlotsKept, CallersForgotten, Forgets, IsSlotDeadAt};
+ghost use Rattle.control_flow.specs.TestedNumbers.{MayForgetNumbers};
+ghost use Rattle.walks.specs.Forgetting.{AreKept, AreSlotsLeft, AreSlotsKept, CallersForgotten, DeadForgotten, Forgets, IsSlotDeadAt, KnowsNoNumber, KnowsTestedNumbers, MayForgetAll, NumbersForgotten};
 
-use control_flow::{Flow, SlotMask};
+use crate::numbers::{are_numbers, forget_registers_beside, forget_slots_of, forget_untested};
+use control_flow::{Flow, RegisterMask, SlotMask};
 use isa_model::Reg;
 use reg_state::Kind;
 use stack_state::{FRAME_SLOTS, StackSlot, State};
@@ -129,8 +133,8 @@ fn forget_caller(flow: &Flow<'_>, has_called: bool, state: &mut State)
 /// dead at a state's slot, if it is a join: no path from there reads them before it writes them,
 /// and states that differ only in them become one. After a call it forgets dead stack slots of the
 /// caller too; until the return they stay as they are.
-pub fn forget_dead(flow: &Flow<'_>, has_called: bool, state: &mut State)
-    ensures { Forgets flow.now state.old state.new }
+fn forget_dead(flow: &Flow<'_>, has_called: bool, state: &mut State)
+    ensures { DeadForgotten flow.now state.old state.new }
 {
     forget_caller(flow, has_called, state);
     let frame = &mut state.innermost;
@@ -140,6 +144,49 @@ pub fn forget_dead(flow: &Flow<'_>, has_called: bool, state: &mut State)
         &mut frame.registers,
         &mut frame.stack.slots,
     );
+}
+
+/// Forgets what does not matter at a state's slot: what is dead there, and numbers that no path
+/// tests. States that differ only in that become one. `has_called`: the step to the state called a
+/// function, and dead stack slots of the caller are forgotten too.
+pub fn forget(flow: &Flow<'_>, has_called: bool, state: &mut State)
+    ensures forgets { Forgets flow.now state.old state.new }
+    ensures all { KnowsTestedNumbers flow.now state.new }
+{
+    forget_dead(flow, has_called, state);
+    if flow.forgets_numbers() && flow.is_join(state.slot) {
+        let frame = &mut state.innermost;
+        forget_untested(
+            flow,
+            state.slot,
+            &mut frame.registers,
+            &mut frame.stack.slots,
+        );
+    }
+}
+
+/// Whether all numbers of a state may be forgotten without a refusal: only plain code follows, and
+/// each live register is a number.
+pub fn may_forget_all(flow: &Flow<'_>, state: &State) -> bool
+    ensures { IsTrue result ↔ MayForgetAll flow.now state.now }
+{
+    flow.forgets_numbers()
+        && flow.is_join(state.slot)
+        && flow.ends_plainly(state.slot)
+        && are_numbers(flow.live(state.slot), &state.innermost.registers)
+}
+
+/// Forgets all numbers of a state's innermost call frame.
+pub fn forget_all(flow: &Flow<'_>, state: &mut State)
+    requires forgets { MayForgetNumbers flow.now }
+    requires join { IsJoin flow.now state.old.slot }
+    requires ends { EndsPlainly flow.now state.old.slot }
+    ensures forgets { NumbersForgotten flow.now state.old state.new }
+    ensures all { KnowsNoNumber state.new }
+{
+    let frame = &mut state.innermost;
+    forget_registers_beside(RegisterMask::none(), &mut frame.registers);
+    forget_slots_of(SlotMask::all(), &mut frame.stack.slots);
 }
 
 /// The stack slots of the innermost frame about which something may be known where a path reaches a

@@ -7,7 +7,8 @@
 #![tactic(auto)]
 
 pub mod forgetting;
+mod numbers;
 pub mod refusals;
 
-pub use forgetting::{clear_slots, forget_dead, kept_slots};
+pub use forgetting::{clear_slots, forget, forget_all, kept_slots, may_forget_all};
 pub use refusals::Refusal;

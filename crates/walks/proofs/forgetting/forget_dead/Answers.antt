@@ -1,9 +1,9 @@
 use Rattle.std.proofs.Common.{refl}
-use Rattle.walks.proofs.ForgettingLoops.{Forgets-both}
+use Rattle.walks.proofs.ForgettingLoops.{DeadForgotten-both}
 use Rattle.walks.proofs.forgetting.forget_dead.Goals as goal
 
 pub returns : goal.returns
 returns c =
-    Forgets-both c.args.flow.now c.args.state.now c.forget_caller.new.state _
+    DeadForgotten-both c.args.flow.now c.args.state.now c.forget_caller.new.state _
     c.forget_places.new.registers c.forget_places.new.slots
     c.forget_caller.ensures refl c.forget_places.ensures.registers c.forget_places.ensures.slots

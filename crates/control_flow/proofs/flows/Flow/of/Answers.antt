@@ -15,6 +15,10 @@ pub joins_of-requires : goal.joins_of-requires
 joins_of-requires c =
     λ slot h. IsFlow-Fails c.args.image.now TargetOutside slot c.in_ok-test_all.ensures.good h
 
-pub live_homes-requires : goal.live_homes-requires
-live_homes-requires c =
+pub live_homes-requires-clause-inside : goal.live_homes-requires-clause-inside
+live_homes-requires-clause-inside c =
+    λ slot h. IsFlow-Fails c.args.image.now TargetOutside slot c.in_ok-test_all.ensures.good h
+
+pub numbers_of-requires-clause-inside : goal.numbers_of-requires-clause-inside
+numbers_of-requires-clause-inside c =
     λ slot h. IsFlow-Fails c.args.image.now TargetOutside slot c.in_ok-test_all.ensures.good h

@@ -14,9 +14,9 @@ come-requires-clause-comes c =
     let search = c.args.self.now in
     let states = search.states.states.items in
     let path = search.path.items in
-    let s = c.forget_dead.new.state in
+    let s = c.forget.new.state in
     let new = c.requires.new in
-    let begins = subst (λ x. Forgets p x s) new.current c.forget_dead.ensures in
+    let begins = subst (λ x. Forgets p x s) new.current c.forget.ensures.forgets in
     record {
       at =
           record {
@@ -34,5 +34,5 @@ come-requires-clause-comes c =
 
 pub come-requires-clause-forgotten : goal.come-requires-clause-forgotten
 come-requires-clause-forgotten c = λ none.
-    Forgets-forgotten c.args.flow.now c.args.self.now.current c.forget_dead.new.state
-    c.forget_dead.ensures
+    Forgets-forgotten c.args.flow.now c.args.self.now.current c.forget.new.state
+    c.forget.ensures.forgets

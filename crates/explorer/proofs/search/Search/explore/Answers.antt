@@ -1,7 +1,5 @@
-use Rattle.std.proofs.Common.{◌≡◌, subst}
+use Rattle.std.proofs.Common.{subst}
 use Rattle.walks.specs.Refused.{StopsAt}
-use Rattle.walks.specs.declared.refusals.Refusal.TheVariants.{TooLong}
-use Rattle.explorer.specs.Search.{IsTooLong}
 use Rattle.explorer.specs.Listening.{IfRefused}
 use Rattle.explorer.proofs.search.Search.explore.Goals as goal
 

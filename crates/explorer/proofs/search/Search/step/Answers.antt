@@ -84,7 +84,7 @@ returns-in-None-clause-moves c =
 entered_of : (c : After-push)
     → Entered c.args.flow.now c.args.self.now.finished c.args.self.now.states.states.items
     (record { pending = c.match-ways.pending; best = 0; stored = c.args.stored })
-    c.args.self.now.current c.forget_dead-2.new.state
+    c.args.self.now.current c.forget_at.new.state
 entered_of c =
     let p = c.args.flow.now in
     let q = c.args.image.now in
@@ -93,23 +93,23 @@ entered_of c =
     let s = c.args.self.now.current in
     let a = c.step_in_place.new.state in
     let b = c.step_in_place.new.other in
-    let first = c.forget_dead-2.new.state in
+    let first = c.forget_at.new.state in
     let at = c.requires.at in
     let pending = c.match-ways.pending in
     elim c.match-ways.branch [
       | in-One w ↦
           let forgets : Forgets p a first =
-          subst (λ (x : Search). Forgets p x.current first) w.self-is c.forget_dead-2.ensures in
+          subst (λ (x : Search). Forgets p x.current first) w.self-is c.in-Ok-forget_at.ensures.forgets in
           one_way p q m states c.args.stored s a b first c.in-Ok.ways pending
           c.requires.image c.requires.good at.ready at.stored_at c.in-Ok.ensures.leads
           c.in-Ok.ensures.steps c.in-Ok.ensures.follows forgets w.in-One.is w.pending-is
       | in-Two+in-Ok-of_forgotten w ↦
-          let other = w.forget_dead.new.state in
+          let other = w.forget.new.state in
           let forgets : Forgets p a first =
-          subst (λ (x : Search). Forgets p x.current first) w.self-is c.forget_dead-2.ensures in
+          subst (λ (x : Search). Forgets p x.current first) w.self-is c.in-Ok-forget_at.ensures.forgets in
           two_ways p q m states c.args.stored s a b first other c.in-Ok.ways pending
           c.requires.image c.requires.good at.ready at.stored_at c.in-Ok.ensures.leads
-          c.in-Ok.ensures.steps c.in-Ok.ensures.follows forgets w.forget_dead.ensures
+          c.in-Ok.ensures.steps c.in-Ok.ensures.follows forgets w.forget.ensures.forgets
           w.in-Two.is (w.pending-is ∙ ap Some w.in-Ok-of_forgotten.ensures)
     ]
 
@@ -119,29 +119,34 @@ search_of : (c : After-push)
     ≡ record c.args.self.now { current = c.step_in_place.new.state; scratch = scratch })
 search_of c = elim c.match-ways.branch [
   | in-One w ↦ (c.step_in_place.new.other, w.self-is)
-  | in-Two+in-Ok-of_forgotten w ↦ (w.forget_dead.new.state, w.self-is)
+  | in-Two+in-Ok-of_forgotten w ↦ (w.forget.new.state, w.self-is)
 ]
 
 pub come-requires-clause-comes : goal.come-requires-clause-comes
 come-requires-clause-comes c =
     let w = (goal.at.come-requires-clause-comes c).After-push in
     let (scratch, same) = search_of w in
-    comes_into c.args.flow.now c.args.self.now c.match-ways.self c.args.stored c.match-ways.pending
-    c.push.new.self c.step_in_place.new.state scratch c.forget_dead-2.new.state same
+    let visit : Visit =
+    record { pending = c.match-ways.pending; best = 0; stored = c.args.stored } in
+    comes_into c.args.flow.now c.args.self.now _ c.args.stored c.match-ways.pending
+    c.forget_at.new.state
+    (c.forget_at.ensures.same ∙ ap (λ (x : Search). x.states.states.items) same)
+    (ap (λ (x : Search). x.finished) same)
+    (c.in-Ok-push.ensures.items ∙ ap (λ (x : Search). x.path.items ++ visit ∷ []) same) refl
     c.requires.at
-    (entered_of w) c.in-Ok-push.ensures.items
+    (entered_of w)
 
 pub of_forgotten-requires : goal.of_forgotten-requires
 of_forgotten-requires c = λ j below none.
     let forgotten =
-    Forgets-forgotten c.args.flow.now c.step_in_place.new.other c.forget_dead.new.state
-    c.forget_dead.ensures in
+    Forgets-forgotten c.args.flow.now c.step_in_place.new.other c.forget.new.state
+    c.forget.ensures.forgets in
     forgotten.1 j below (c.kept_slots-mask.ensures j below none)
 
 pub come-requires-clause-forgotten : goal.come-requires-clause-forgotten
 come-requires-clause-forgotten c = λ new.
-    Forgets-forgotten c.args.flow.now c.match-ways.self.current c.forget_dead-2.new.state
-    c.forget_dead-2.ensures
+    Forgets-forgotten c.args.flow.now c.match-ways.self.current c.forget_at.new.state
+    c.in-Ok-forget_at.ensures.forgets
 
 pub returns-in_err-made-clause-fails : goal.returns-in_err-made-clause-fails
 returns-in_err-made-clause-fails c =
@@ -149,7 +154,7 @@ returns-in_err-made-clause-fails c =
     let refusal = c.in_err-made.field-0.0 in
     let given = err_from_is_err_and c.from_residual.result c.from_residual.ensures.1 in
     rw (given.1, given.2)
-    (step_fails c.args.flow.now c.args.self.now.current c.forget_dead-2.new.state
+    (step_fails c.args.flow.now c.args.self.now.current c.forget_at.new.state
     c.come.new.self.current refusal.0 refusal.1 c.come.ensures.current
     (entered_of w).waiting.steps c.in_err-made.ensures.fails)
 

@@ -1,0 +1,199 @@
+-- What a loop from the last slot to the first marks: the slots from which only plain code follows.
+use Rattle.std.proofs.Common.{◌≡◌, ℕ, ◌+◌, ◌<◌, ◌≤◌, Bool, true, false, not, nat_lt, List, length, get_or, set, replicate, Option, Some, None, refl, sym, ap, ◌∙◌, subst, arith, inl, inr}
+use Rattle.std.specs.Prelude.{◌↔◌, ◌≢◌, IsTrue}
+use Rattle.std.proofs.lemmas.Bool.{cases_lt, cases_eq, not-true, not_from_false, ltb-true, lt-ltb}
+use Rattle.std.proofs.lemmas.Option.{same_Some}
+use Rattle.std.proofs.lemmas.List.{get_or-set_same, get_or-set_other, length-set, length-replicate, get_or-replicate, get_or_past}
+use Rattle.isa_model.specs.declared.registers.Reg.{Reg}
+use Rattle.isa_model.specs.declared.registers.Reg.TheVariants.{R10}
+use Rattle.isa_model.specs.declared.versions.Version.TheVariants.{One}
+use Rattle.isa_model.specs.declared.instructions.Insn.{Insn}
+use Rattle.isa_model.specs.Code.Instructions.{Program, fetch, writes, is_frame_pointer}
+use Rattle.isa_model.specs.Code.Versions.{version_number}
+use Rattle.isa_model.specs.MustAccept.Paths.{IsPlainForm}
+use Rattle.control_flow.specs.Graph.{fall_to, jump_to}
+use Rattle.control_flow.specs.Liveness.{GoesTo}
+use Rattle.control_flow.specs.Endings.{EndsPlainly, Ends}
+use Rattle.control_flow.specs.Flows.{IsMarked, MarksEndings}
+use Rattle.control_flow.proofs.FlowLaws.{BeginsInsn-inside, fetch-BeginsInsn}
+
+-- ---- one slot
+
+-- the marks of the slots after a slot are right
+abbrev pub IsRightAfter : Program → List Bool → ℕ → Type 0
+IsRightAfter p marks slot = (k : ℕ) → slot < k → IsMarked marks k ↔ EndsPlainly p k
+
+-- a successor, if there is one, comes later and is marked
+abbrev pub GoesOnPlainly : List Bool → ℕ → Option ℕ → Type 0
+GoesOnPlainly marks slot to = (next : ℕ) → to ≡ Some next → (slot < next) × IsMarked marks next
+
+-- a slot that is marked comes later or does not
+pub on_marked : (marks : List Bool) (slot to : ℕ) (o : Option ℕ) (b : Bool) → o ≡ Some to
+    → b ≡ true → IsTrue b ↔ IsMarked marks to
+    → IsTrue (nat_lt slot to) ↔ GoesOnPlainly marks slot o
+on_marked marks slot to o b is so test = (
+  λ h next e.
+      let same : to ≡ next = same_Some to next (sym is ∙ e) in
+      subst (λ (k : ℕ). (slot < k) × IsMarked marks k) same (ltb-true slot to h, test.0 so),
+  λ on. lt-ltb slot to (on to is).0,
+)
+
+pub on_unmarked : (marks : List Bool) (slot to : ℕ) (o : Option ℕ) (b : Bool) → o ≡ Some to
+    → b ≡ false → IsTrue b ↔ IsMarked marks to → IsTrue b ↔ GoesOnPlainly marks slot o
+on_unmarked marks slot to o b is fails test = (λ h. absurd cc, λ on. test.1 (on to is).1)
+
+-- all successors do
+abbrev pub LeadsOnPlainly : Program → List Bool → ℕ → Type 0
+LeadsOnPlainly p marks slot =
+    (next : ℕ) → GoesTo p slot next → (slot < next) × IsMarked marks next
+
+-- where it falls through it does, and where it jumps
+pub both_on : (p : Program) (marks : List Bool) (slot : ℕ) (falls jumps : Bool) (o q : Option ℕ)
+    → falls ≡ true → o ≡ fall_to p slot → IsTrue falls ↔ GoesOnPlainly marks slot o
+    → q ≡ jump_to p slot → IsTrue jumps ↔ GoesOnPlainly marks slot q
+    → IsTrue jumps ↔ LeadsOnPlainly p marks slot
+both_on p marks slot falls jumps o q so x a y b =
+    (λ h next goes. on h next goes, λ all. b.1 (λ next e. all next (inr (sym y ∙ e)))) where
+      on : IsTrue jumps → (next : ℕ) → GoesTo p slot next → (slot < next) × IsMarked marks next
+      on h next (inl e) = a.0 so next (x ∙ e)
+      on h next (inr e) = b.0 h next (y ∙ e)
+
+pub not_on : (p : Program) (marks : List Bool) (slot : ℕ) (falls : Bool) (o : Option ℕ)
+    → falls ≡ false → o ≡ fall_to p slot → IsTrue falls ↔ GoesOnPlainly marks slot o
+    → IsTrue falls ↔ LeadsOnPlainly p marks slot
+not_on p marks slot falls o fails x a = (
+  λ h. absurd cc,
+  λ all. a.1 (λ next e. all next (inl (sym x ∙ e))),
+)
+
+-- ---- its instruction
+
+-- the instruction is plain and does not write r10
+abbrev pub IsPlainStep : Insn → Type 0
+IsPlainStep i = IsPlainForm i × (writes i ≢ Some R10)
+
+keeps_frame : (o : Option Reg) → is_frame_pointer o ≡ false → o ≢ Some R10
+keeps_frame (Some R10) e h = absurd cc
+keeps_frame (Some r) e h = absurd cc
+keeps_frame None e h = absurd cc
+
+frame_kept : (o : Option Reg) → o ≢ Some R10 → is_frame_pointer o ≡ false
+frame_kept (Some R10) keeps = absurd (keeps refl)
+frame_kept (Some r) keeps = refl
+frame_kept None keeps = refl
+
+pub plain_step : (i : Insn) (form frame : Bool) → form ≡ true → IsTrue form ↔ IsPlainForm i
+    → frame ≡ is_frame_pointer (writes i) → IsTrue (not frame) ↔ IsPlainStep i
+plain_step i form frame so f w = (
+  λ h. (f.0 so, keeps_frame (writes i) (sym w ∙ not-true frame h)),
+  λ step. not_from_false frame (w ∙ frame_kept (writes i) step.1),
+)
+
+pub other_step : (i : Insn) (form : Bool) → form ≡ false → IsTrue form ↔ IsPlainForm i
+    → IsTrue form ↔ IsPlainStep i
+other_step i form fails f = (λ h. absurd cc, λ step. f.1 step.0)
+
+-- ---- both
+
+ends_step : (p : Program) (marks : List Bool) (slot : ℕ) (i : Insn) → fetch p slot ≡ Some i
+    → IsRightAfter p marks slot → EndsPlainly p slot → IsPlainStep i × LeadsOnPlainly p marks slot
+ends_step p marks slot i here right (Ends _ j one there form keeps later on) =
+    let same : j ≡ i = same_Some j i (sym there ∙ here) in (
+      subst IsPlainStep same (form, keeps),
+      λ next goes. (
+        later next goes,
+        (right next (later next goes)).1 (on next goes),
+      ),
+    )
+
+pub plain_ends : (p : Program) (marks : List Bool) (slot : ℕ) (i : Insn) (step leads : Bool)
+    → step ≡ true → p.version ≡ One → fetch p slot ≡ Some i → IsRightAfter p marks slot
+    → IsTrue step ↔ IsPlainStep i → IsTrue leads ↔ LeadsOnPlainly p marks slot
+    → IsTrue leads ↔ EndsPlainly p slot
+plain_ends p marks slot i step leads so one here right f g = (
+  λ h.
+      let (form, keeps) = f.0 so in
+      let on = g.0 h in
+      Ends slot i one here form keeps (λ next goes. (on next goes).0)
+      (λ next goes. (right next (on next goes).0).0 (on next goes).1),
+  λ e. g.1 (ends_step p marks slot i here right e).1,
+)
+
+pub other_ends : (p : Program) (marks : List Bool) (slot : ℕ) (i : Insn) (step : Bool)
+    → step ≡ false → fetch p slot ≡ Some i → IsRightAfter p marks slot
+    → IsTrue step ↔ IsPlainStep i → IsTrue step ↔ EndsPlainly p slot
+other_ends p marks slot i step fails here right f = (
+  λ h. absurd cc,
+  λ e. f.1 (ends_step p marks slot i here right e).0,
+)
+
+end_inside : (p : Program) (slot : ℕ) → EndsPlainly p slot → slot < length p.insns
+end_inside p slot (Ends _ i one here form keeps later on) =
+    BeginsInsn-inside p slot (fetch-BeginsInsn p slot i here)
+
+-- ---- all slots
+
+-- the marks of the last slots of the code are right, and of all slots after it
+pub record MarksLast (p : Program) (count : ℕ) (marks : List Bool) : Type 0 where
+  pub same : length marks ≡ length p.insns
+  pub right : (k : ℕ) → length p.insns ≤ k + count → IsMarked marks k ↔ EndsPlainly p k
+
+unmarked : (n k : ℕ) → IsMarked (replicate n false) k → ⊥
+unmarked n k h = elim (cases_lt k n) [
+  | inl inside ↦
+      let e : get_or (replicate n false) k false ≡ false =
+      get_or-replicate n k false false inside in absurd cc
+  | inr past ↦
+      let e : get_or (replicate n false) k false ≡ false =
+      get_or_past (replicate n false) k false (omega (arith, length-replicate n false)) in
+      absurd cc
+]
+
+pub last_none : (p : Program) (n : ℕ) → n ≡ length p.insns → MarksLast p 0 (replicate n false)
+last_none p n is = record {
+  same = length-replicate n false ∙ is;
+  right = λ k past. (
+    λ h. absurd (unmarked n k h),
+    λ e. let inside = end_inside p k e in absurd (omega arith),
+  );
+}
+
+-- the slot before them
+pub last_more : (p : Program) (count slot : ℕ) (marks : List Bool) (b : Bool)
+    → slot + 1 + count ≡ length p.insns → IsTrue b ↔ EndsPlainly p slot → MarksLast p count marks
+    → MarksLast p (count + 1) (set marks slot b)
+last_more p count slot marks b at here last =
+    let inside : slot < length marks = omega (arith, at, last.same) in
+    record {
+      same = length-set marks slot b ∙ last.same;
+      right = λ k within. elim (cases_eq k slot) [
+        | inl e ↦
+            let is : get_or (set marks slot b) slot false ≡ b =
+            get_or-set_same marks slot b false inside in
+            subst (λ (n : ℕ). IsMarked (set marks slot b) n ↔ EndsPlainly p n) (sym e)
+            (λ h. here.0 (sym is ∙ h), λ h. is ∙ here.1 h)
+        | inr other ↦
+            let is : get_or (set marks slot b) k false ≡ get_or marks k false =
+            get_or-set_other marks slot k b false other in
+            let old = last.right k (omega (arith, at, within)) in
+            (λ h. old.0 (sym is ∙ h), λ h. is ∙ old.1 h)
+      ];
+    }
+
+pub last_after : (p : Program) (count slot : ℕ) (marks : List Bool)
+    → slot + 1 + count ≡ length p.insns → MarksLast p count marks → IsRightAfter p marks slot
+last_after p count slot marks at last = λ k later. last.right k (omega (arith, at, later))
+
+pub last_all : (p : Program) (count : ℕ) (marks : List Bool) → length p.insns ≤ count
+    → MarksLast p count marks → MarksEndings p marks
+last_all p count marks all last = λ slot. last.right slot (omega (arith, all))
+
+-- a program of version 2 has none
+pub last_version : (p : Program) (n : ℕ) → version_number p.version ≢ 1
+    → MarksEndings p (replicate n false)
+last_version p n other = λ slot. (
+  λ h. absurd (unmarked n slot h),
+  λ e. absurd (of slot e),
+) where
+  of : (slot : ℕ) → EndsPlainly p slot → ⊥
+  of slot (Ends _ i one here form keeps later on) = other (ap version_number one)

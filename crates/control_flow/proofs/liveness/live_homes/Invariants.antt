@@ -1,9 +1,0 @@
-use Rattle.control_flow.proofs.Working.{IsWorking, work_left}
-use Rattle.control_flow.proofs.liveness.live_homes.Given as goal
-
-abbrev pub invariant-loop-slot : goal.invariant-loop-slot
-invariant-loop-slot l =
-    IsWorking l.image l.nodes.items l.masks.items l.work.found.items l.work.frontier.items
-
-abbrev pub decreases-loop-slot : goal.decreases-loop-slot
-decreases-loop-slot l = work_left l.nodes.items l.masks.items l.work.frontier.items

@@ -1,0 +1,15 @@
+use Rattle.std.proofs.Common.{arith}
+use Rattle.control_flow.specs.Nodes.{ShowsTests}
+use Rattle.control_flow.proofs.Graphs.{nodes_more, nodes_all}
+use Rattle.control_flow.proofs.nodes.testing_nodes.Goals as goal
+
+pub loop-slot-preserved : goal.loop-slot-preserved
+loop-slot-preserved c =
+    rw c.in_ok-push.ensures.items
+    (nodes_more (ShowsTests c.args.image.now) c.loop-slot.slot c.loop-slot.nodes.items
+    c.testing_node.result c.testing_node.ensures c.loop-slot.invariant)
+
+pub returns : goal.returns
+returns c =
+    nodes_all (ShowsTests c.args.image.now) c.args.image.now c.loop-slot.slot
+    c.loop-slot.nodes.items (omega arith) c.loop-slot.invariant

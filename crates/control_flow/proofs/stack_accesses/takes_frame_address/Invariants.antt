@@ -1,0 +1,6 @@
+use Rattle.std.proofs.Common.{ℕ, ◌<◌}
+use Rattle.control_flow.specs.StackUse.{TakesFrameAddressAt}
+use Rattle.control_flow.proofs.stack_accesses.takes_frame_address.Given as goal
+
+abbrev pub invariant-loop-slot : goal.invariant-loop-slot
+invariant-loop-slot l = (k : ℕ) → k < l.slot → ¬ TakesFrameAddressAt l.image k

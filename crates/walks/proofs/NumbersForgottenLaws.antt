@@ -1,0 +1,253 @@
+-- What forgetting numbers that do not matter does to a state: it means more, and all else stays.
+use Rattle.std.proofs.Common.{◌≡◌, ◌≢◌, ◌<◌, ◌∷◌, [], ℕ, List, length, get_or, refl, sym, ap, ◌∙◌, subst, arith, inl, inr}
+use Rattle.std.proofs.lemmas.Bool.{cases_eq}
+use Rattle.std.proofs.lemmas.List.{map-append}
+use Rattle.isa_model.specs.declared.registers.Reg.{Reg}
+use Rattle.isa_model.specs.declared.registers.Reg.TheVariants.{R10}
+use Rattle.isa_model.specs.declared.values.Value.{Value}
+use Rattle.isa_model.specs.declared.values.Cell.{Cell}
+use Rattle.isa_model.specs.Code.Registers.{reg_number}
+use Rattle.isa_model.specs.Code.Instructions.{Program}
+use Rattle.isa_model.specs.Machine.States as Machine
+use Rattle.reg_state.specs.declared.kinds.Kind.{Kind}
+use Rattle.reg_state.specs.declared.kinds.Kind.TheVariants.{Number}
+use Rattle.reg_state.specs.Kinds.{Assigned, Allows}
+use Rattle.stack_state.specs.declared.slots.StackSlot.{StackSlot}
+use Rattle.stack_state.specs.declared.slots.StackSlot.TheVariants.{Written, Spilled}
+use Rattle.stack_state.specs.Slots.{slot_at, kind_in, IsAnyNumber}
+use Rattle.stack_state.specs.StackMeaning.{SlotMeans, stored_cells}
+use Rattle.stack_state.specs.declared.states.AbstractFrame.{AbstractFrame}
+use Rattle.stack_state.specs.declared.states.State.{State}
+use Rattle.stack_state.specs.Meaning.{abstract_frame_at, depth, registers_of, kind_at, no_frame, Means}
+use Rattle.stack_state.specs.Places.{kind_of}
+use Rattle.stack_state.proofs.CellLaws.{marked_number}
+use Rattle.stack_state.proofs.MeaningLaws.{abstract_frame_at-caller, abstract_frame_at-innermost, FrameKeeps, MeansBy-change}
+use Rattle.stack_state.proofs.PlaceLaws.{kind_of-registers}
+use Rattle.branch_refine.specs.Refining.{IsNumberKind}
+use Rattle.control_flow.specs.Flows.{IsJoin}
+use Rattle.control_flow.specs.TestedNumbers.{MayForgetNumbers}
+use Rattle.transfer.specs.Following.{returns_of}
+use Rattle.walks.specs.Forgetting.{IsNumberKept, IsSpilledNumberKept, slots_in, NumbersForgotten}
+use Rattle.walks.proofs.DeadForgottenLaws.{registers_allow}
+
+-- ---- what stays
+
+pub NumbersForgotten-slot : (p : Program) (a b : State) → NumbersForgotten p a b → b.slot ≡ a.slot
+NumbersForgotten-slot p a b f = ap (λ (x : State). x.slot) f.rest
+
+pub NumbersForgotten-callers : (p : Program) (a b : State) → NumbersForgotten p a b
+    → b.callers ≡ a.callers
+NumbersForgotten-callers p a b f = ap (λ (x : State). x.callers) f.rest
+
+pub NumbersForgotten-depth : (p : Program) (a b : State) → NumbersForgotten p a b
+    → depth b ≡ depth a
+NumbersForgotten-depth p a b f = ap depth f.rest
+
+-- each caller stays as it is
+pub NumbersForgotten-caller : (p : Program) (a b : State) (k : ℕ) → NumbersForgotten p a b
+    → k < length a.callers.items → abstract_frame_at b k ≡ abstract_frame_at a k
+NumbersForgotten-caller p a b k f below =
+    abstract_frame_at-caller b k (omega (arith, below, NumbersForgotten-depth p a b f))
+    ∙ ap (λ (x : State). get_or x.callers.items k no_frame) f.rest
+    ∙ sym (abstract_frame_at-caller a k (omega (arith, below)))
+
+pub NumbersForgotten-returns : (p : Program) (a b : State) → NumbersForgotten p a b
+    → returns_of b ≡ returns_of a
+NumbersForgotten-returns p a b f =
+    let slot : AbstractFrame → ℕ = λ x. x.return_slot in
+    ap returns_of f.rest ∙ map-append slot a.callers.items _
+    ∙ sym (map-append slot a.callers.items (a.innermost ∷ []))
+
+-- ---- what is known of registers
+
+pub NumbersForgotten-each : (p : Program) (a b : State) (r : Reg) → NumbersForgotten p a b
+    → r ≢ R10 → IsNumberKept p a.slot r (kind_of a r) (kind_of b r)
+NumbersForgotten-each p a b r f own =
+    subst (λ k. IsNumberKept p a.slot r k (kind_of b r)) (sym (kind_of-registers a r own))
+    (subst (λ k. IsNumberKept p a.slot r (kind_at (registers_of a) (reg_number r)) k)
+    (sym (kind_of-registers b r own)) (f.registers.each r own))
+
+any_number : (k : Kind) → IsAnyNumber k → IsNumberKind k
+any_number (Number numbers) any = tt
+any_number k any = absurd any
+
+-- a number stays a number
+pub NumbersForgotten-number : (p : Program) (a b : State) (r : Reg) → NumbersForgotten p a b
+    → r ≢ R10 → IsNumberKind (kind_of a r) → IsNumberKind (kind_of b r)
+NumbersForgotten-number p a b r f own number = elim (NumbersForgotten-each p a b r f own) [
+  | inl same ↦ subst IsNumberKind (sym same) number
+  | inr gone ↦ any_number (kind_of b r) gone.2
+]
+
+-- and all else is known as before
+pub NumbersForgotten-other : (p : Program) (a b : State) (r : Reg) → NumbersForgotten p a b
+    → r ≢ R10 → (IsNumberKind (kind_of a r) → ⊥) → kind_of b r ≡ kind_of a r
+NumbersForgotten-other p a b r f own other = elim (NumbersForgotten-each p a b r f own) [
+  | inl same ↦ same
+  | inr gone ↦ absurd (other gone.1)
+]
+
+-- where no paths meet, every register is known as before
+pub NumbersForgotten-alone : (p : Program) (a b : State) (r : Reg) → NumbersForgotten p a b
+    → r ≢ R10 → (IsJoin p a.slot → ⊥) → kind_of b r ≡ kind_of a r
+NumbersForgotten-alone p a b r f own alone = elim (NumbersForgotten-each p a b r f own) [
+  | inl same ↦ same
+  | inr gone ↦ absurd (alone gone.0.1)
+]
+
+-- and so it is in a program whose numbers may not be forgotten
+pub AreNumbersKept-none : (p : Program) (a b : State) (r : Reg) → NumbersForgotten p a b
+    → (MayForgetNumbers p → ⊥) → r ≢ R10
+    → kind_at (registers_of b) (reg_number r) ≡ kind_at (registers_of a) (reg_number r)
+AreNumbersKept-none p a b r f none own = elim (f.registers.each r own) [
+  | inl same ↦ same
+  | inr gone ↦ absurd (none gone.0.0)
+]
+
+-- ---- what is known of stack slots
+
+pub AreSpilledNumbersKept-none : (p : Program) (a b : State) (j : ℕ) → NumbersForgotten p a b
+    → (MayForgetNumbers p → ⊥) → j < 64 → slot_at (slots_in b) j ≡ slot_at (slots_in a) j
+AreSpilledNumbersKept-none p a b j f none below = elim (f.slots.each j below) [
+  | inl same ↦ same
+  | inr gone ↦ absurd (none gone.0.0)
+]
+
+-- where no value was spilled, the stack slot stays as it is
+pub NumbersForgotten-written : (p : Program) (a b : State) (j marks : ℕ) → NumbersForgotten p a b
+    → j < 64 → slot_at (slots_in a) j ≡ Written marks → slot_at (slots_in b) j ≡ Written marks
+NumbersForgotten-written p a b j marks f below written = elim (f.slots.each j below) [
+  | inl same ↦ same ∙ written
+  | inr gone ↦
+      let none : IsNumberKind (kind_in (Written marks)) =
+      subst (λ (x : StackSlot). IsNumberKind (kind_in x)) written gone.1 in absurd none
+]
+
+-- ---- meanings
+
+-- any number allows what a number does
+number_allows : (e : Assigned) (before after : Kind) (v : Value) → IsNumberKind before
+    → IsAnyNumber after → Allows e before v → Allows e after v
+number_allows e (Number old) (Number new) v number any h = (h.0, h.1, any h.0 h.2.0.below)
+number_allows e (Number old) after v number any h = absurd any
+number_allows e before after v number any h = absurd number
+
+kept_allows : (p : Program) (slot : ℕ) (r : Reg) (e : Assigned) (before after : Kind) (v : Value)
+    → IsNumberKept p slot r before after → Allows e before v → Allows e after v
+kept_allows p slot r e before after v (inl same) h = subst (λ k. Allows e k v) (sym same) h
+kept_allows p slot r e before after v (inr gone) h =
+    number_allows e before after v gone.1 gone.2 h
+
+-- the cells of a spilled number are number bytes
+spilled_means : (e : Assigned) (before : StackSlot) (cs : List Cell)
+    → IsNumberKind (kind_in before) → SlotMeans e before cs → SlotMeans e (Written 255) cs
+spilled_means e (Spilled (Number numbers)) cs number h =
+    marked_number h.1.0 cs (h.2 ∙ ap stored_cells h.1.1)
+spilled_means e (Spilled k) cs number h = absurd number
+spilled_means e (Written marks) cs number h = absurd number
+
+stack_slot_kept_means : (p : Program) (slot j : ℕ) (e : Assigned) (before after : StackSlot)
+    (cs : List Cell)
+    → IsSpilledNumberKept p slot j before after → SlotMeans e before cs → SlotMeans e after cs
+stack_slot_kept_means p slot j e before after cs (inl same) h =
+    subst (λ s. SlotMeans e s cs) (sym same) h
+stack_slot_kept_means p slot j e before after cs (inr gone) h =
+    subst (λ s. SlotMeans e s cs) (sym gone.2) (spilled_means e before cs gone.1 h)
+
+frames_keep : (p : Program) (a b : State) (e : Assigned) (j : ℕ) → NumbersForgotten p a b
+    → j < depth a → FrameKeeps e e (abstract_frame_at a j) (abstract_frame_at b j)
+frames_keep p a b e j f below = elim (cases_eq j (length a.callers.items)) [
+  | inl last ↦
+      let here : abstract_frame_at a j ≡ a.innermost =
+      ap (abstract_frame_at a) last ∙ abstract_frame_at-innermost a in
+      let there : abstract_frame_at b j ≡ b.innermost =
+      ap (abstract_frame_at b)
+      (last ∙ sym (ap (λ (x : State). length x.callers.items) f.rest))
+      ∙ abstract_frame_at-innermost b in
+      let own : FrameKeeps e e a.innermost b.innermost = record {
+        registers =
+            λ k v h. registers_allow (registers_of a) (registers_of b) e f.registers.ten
+            (λ r v own h. kept_allows p a.slot r e (kind_at (registers_of a) (reg_number r))
+            (kind_at (registers_of b) (reg_number r)) v (f.registers.each r own) h) k v h;
+        slots =
+            λ k cs within h.
+            stack_slot_kept_means p a.slot k e (slot_at (slots_in a) k) (slot_at (slots_in b) k) cs
+            (f.slots.each k within) h;
+      } in
+      subst (λ x. FrameKeeps e e x (abstract_frame_at b j)) (sym here)
+      (subst (λ x. FrameKeeps e e a.innermost x) (sym there) own)
+  | inr apart ↦
+      subst (λ x. FrameKeeps e e (abstract_frame_at a j) x)
+      (sym (NumbersForgotten-caller p a b j f (omega arith)))
+      (record { registers = λ k v h. h; slots = λ k cs within h. h })
+]
+
+-- whatever the state means, it means once numbers are forgotten
+pub Means-numbers : (p : Program) (a b : State) (w : Machine.State) → NumbersForgotten p a b
+    → Means p a w → Means p b w
+unfolding Means
+Means-numbers p a b w f (e, m) = (
+  e,
+  MeansBy-change p e e a b w m.assigned (NumbersForgotten-slot p a b f)
+      (NumbersForgotten-returns p a b f) (λ j below. frames_keep p a b e j f below) m,
+)
+
+-- where nothing is forgotten
+pub numbers_stay : (p : Program) (a : State) → length (registers_of a) ≡ 10
+    → length (slots_in a) ≡ 64 → NumbersForgotten p a a
+numbers_stay p a ten all = record {
+  rest = refl;
+  registers = record { ten = ten; each = λ r own. inl refl };
+  slots = record { all = all; each = λ j below. inl refl };
+}
+
+-- ---- twice
+
+number_kept_twice : (p : Program) (slot : ℕ) (r : Reg) (a b c : Kind)
+    → IsNumberKept p slot r a b → IsNumberKept p slot r b c → IsNumberKept p slot r a c
+number_kept_twice p slot r a b c (inl same) (inl again) = inl (again ∙ same)
+number_kept_twice p slot r a b c (inl same) (inr gone) =
+    inr (gone.0, subst IsNumberKind same gone.1, gone.2)
+number_kept_twice p slot r a b c (inr gone) (inl again) =
+    inr (gone.0, gone.1, subst IsAnyNumber (sym again) gone.2)
+number_kept_twice p slot r a b c (inr gone) (inr more) = inr (gone.0, gone.1, more.2)
+
+spilled_kept_twice : (p : Program) (slot j : ℕ) (a b c : StackSlot)
+    → IsSpilledNumberKept p slot j a b → IsSpilledNumberKept p slot j b c
+    → IsSpilledNumberKept p slot j a c
+spilled_kept_twice p slot j a b c (inl same) (inl again) = inl (again ∙ same)
+spilled_kept_twice p slot j a b c (inl same) (inr gone) =
+    inr (gone.0, subst (λ (x : StackSlot). IsNumberKind (kind_in x)) same gone.1, gone.2)
+spilled_kept_twice p slot j a b c (inr gone) (inl again) = inr (gone.0, gone.1, again ∙ gone.2)
+spilled_kept_twice p slot j a b c (inr gone) (inr more) = inr (gone.0, gone.1, more.2)
+
+-- what is forgotten in two steps
+pub NumbersForgotten-twice : (p : Program) (a b c : State) → NumbersForgotten p a b
+    → NumbersForgotten p b c → NumbersForgotten p a c
+NumbersForgotten-twice p a b c f g =
+    let slot = NumbersForgotten-slot p a b f in record {
+      rest =
+          g.rest ∙ ap (λ (x : State). record x {
+            innermost = record x.innermost {
+              registers = registers_of c;
+              stack = record { slots = slots_in c };
+            };
+          }) f.rest;
+      registers = record {
+        ten = g.registers.ten;
+        each = λ r own.
+            number_kept_twice p a.slot r (kind_at (registers_of a) (reg_number r))
+            (kind_at (registers_of b) (reg_number r)) (kind_at (registers_of c) (reg_number r))
+            (f.registers.each r own)
+            (subst (λ (n : ℕ). IsNumberKept p n r (kind_at (registers_of b) (reg_number r))
+            (kind_at (registers_of c) (reg_number r))) slot (g.registers.each r own));
+      };
+      slots = record {
+        all = g.slots.all;
+        each = λ j below.
+            spilled_kept_twice p a.slot j (slot_at (slots_in a) j) (slot_at (slots_in b) j)
+            (slot_at (slots_in c) j) (f.slots.each j below)
+            (subst (λ (n : ℕ). IsSpilledNumberKept p n j (slot_at (slots_in b) j)
+            (slot_at (slots_in c) j)) slot (g.slots.each j below));
+      };
+    }

@@ -1,0 +1,9 @@
+use Rattle.std.proofs.Common.{sym, subst, inl}
+use Rattle.reg_state.specs.declared.kinds.Kind.TheVariants.{Number}
+use Rattle.walks.specs.Forgetting.{ForgetsNumber}
+use Rattle.walks.proofs.numbers.forget_number.Goals as goal
+
+pub returns-in-Number : goal.returns-in-Number
+returns-in-Number c =
+    subst (λ k. ForgetsNumber k (Number c.any.result)) (sym c.in-Number.is)
+    (inl (tt, λ x below. (c.any.ensures x).1 below))
