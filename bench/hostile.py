@@ -283,9 +283,10 @@ def many_slots():
 
 
 def with_a_call(lines):
-    """The program with a call of a function that does nothing: then no numbers are forgotten. None: it calls one already,
-    or has no first line that keeps the context."""
-    if START[0] not in lines or any(" call " in f" {line} " and not line.split()[-1].isdigit() for line in lines):
+    """The program with a call of a function that does nothing: then no numbers are forgotten. None:
+    it calls one already, or has no first line that keeps the context."""
+    calls = [line for line in lines if " call " in f" {line} " and not line.split()[-1].isdigit()]
+    if calls or START[0] not in lines:
         return None
     first = lines.index(START[0]) + 1
     return lines[:first] + ["call nothing"] + lines[first:] + ["nothing: r0 = 0", "exit"]

@@ -67,9 +67,9 @@ def stored(name):
 
 
 def branches(count):
-    """count tests of the unknown bits of one number, one after the other. Each path leaves another number in r0, which
-    is not forgotten, since the program calls a function. So no state covers another: 3 * 2^count + 2 instructions have
-    to be explored in all."""
+    """count tests of the unknown bits of one number, one after the other. Each path leaves another
+    number in r0, which is not forgotten, since the program calls a function. So no state covers
+    another: 3 * 2^count + 2 instructions have to be explored in all."""
     lines = ["r6 = *(u32 *)(r1 + 12)", "call zero"]
     for bit in range(count):
         lines += [f"if r6 & {1 << bit} goto +1", f"r0 += {1 << bit}"]

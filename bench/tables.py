@@ -81,7 +81,7 @@ STORE = "r2 = 1\n*(u64 *)(r6 - 8) = r2"
 
 
 def branches(count):
-    """Each path leaves another number in r0, which is not forgotten, since the program calls a function."""
+    """Each path leaves another number in r0, which is kept, since the program calls a function."""
     lines = ["r6 = *(u32 *)(r1 + 12)", "call zero"]
     for bit in range(count):
         lines += [f"if r6 & {1 << bit} goto +1", f"r0 += {1 << bit}"]
