@@ -112,8 +112,9 @@ impl Range {
         both.tightened()
     }
 
-    // The numbers within these limits at 64 bits.
-    pub(crate) fn limited(self, wide: Wide) -> Option<Self>
+    /// The numbers of this within limits at 64 bits. Each limit is one of them, or the low half of
+    /// one.
+    pub fn limited(self, wide: Wide) -> Option<Self>
         ensures common { (x : ℕ) → Has self x → W.Has wide x → IsSomeAnd result (λ m. Has m x) }
         ensures left { IfSome result (λ m. (x : ℕ) → Has m x → Has self x) }
         ensures right { IfSome result (λ m. (x : ℕ) → Has m x → W.Has wide x) }

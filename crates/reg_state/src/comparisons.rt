@@ -1,6 +1,6 @@
 //! What a conditional jump shows of the numbers that it compares.
 
-ghost use Rattle.std.specs.Prelude.{◌≡◌, ◌≢◌, ℕ, ◌^◌, ◌<◌, None, IsSome, IsSomeAnd, IfSome, IsTrue, Bool, false, bit_and};
+ghost use Rattle.std.specs.Prelude.{◌≡◌, ◌≢◌, ℕ, ◌^◌, ◌<◌, None, Some, IsSome, IsSomeAnd, IfSome, IsTrue, Bool, false, bit_and};
 ghost use Rattle.isa_model.specs.Code.Numbers.{holds, low};
 ghost use Rattle.isa_model.specs.declared.sizes.Width.TheVariants.{Low32, Full64};
 ghost use Rattle.reg_state.specs.Relations.{ComparesTo, reads_signed, low_half, low_half_limit};
@@ -30,28 +30,28 @@ pub fn refine<D: Domain>(
         → holds comparison width u v ≢ taken
         → result ≡ None }
 {
-    if never_goes(comparison, width, taken, a, b) {
+    if let Some(outcome) = decided(comparison, width, a, b) {
+        if outcome == taken {
+            return Some((a, b));
+        }
         return None;
     }
     let (left, right) = narrowed(comparison, width, taken, a, b)?;
     Some((kept(a, left), kept(b, right)))
 }
 
-// Whether each set has only one number, and the comparison of the two has the other outcome.
-fn never_goes<D: Domain>(comparison: Comparison, width: Width, taken: bool, a: D, b: D) -> bool
-    ensures sound { IsTrue result → (x y : ℕ) → D.has a x → D.has b y
-        → holds comparison width x y ≢ taken }
+// The outcome of the comparison, where each set is seen to have only one number.
+fn decided<D: Domain>(comparison: Comparison, width: Width, a: D, b: D) -> Option<bool>
+    ensures outcome { IfSome result (λ outcome. (x y : ℕ) → D.has a x → D.has b y
+        → holds comparison width x y ≡ outcome) }
+    ensures left { IfSome result (λ _. (x y : ℕ) → D.has a x → D.has a y → x ≡ y) }
+    ensures right { IfSome result (λ _. (x y : ℕ) → D.has b x → D.has b y → x ≡ y) }
     ensures exact { (u v : ℕ) → D.is_constant a u → D.is_constant b v
-        → holds comparison width u v ≢ taken
-        → IsTrue result }
+        → result ≡ Some (holds comparison width u v) }
 {
-    let Some(x) = a.number() else {
-        return false;
-    };
-    let Some(y) = b.number() else {
-        return false;
-    };
-    numbers::compare(comparison, width, x, y) != taken
+    let x = a.number()?;
+    let y = b.number()?;
+    Some(numbers::compare(comparison, width, x, y))
 }
 
 // The new set, or the old one if that is a constant.

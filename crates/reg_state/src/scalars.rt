@@ -3,7 +3,9 @@
 ghost use Rattle.std.specs.Prelude.{◌≡◌, ℕ, ◌+◌, ◌*◌, ◌%◌, ◌^◌, ◌<◌, ◌≤◌, pos, ◌-ℤ◌, ◌*ℤ◌, FitsSigned, ◌↔◌, Some, IsSomeAnd, IfSome, IsTrue};
 ghost use Rattle.std.specs.Int.{w32, w64, cast_signed, bit_at};
 ghost use Rattle.isa_model.specs.Code.Sizes.{width_bits};
+ghost use Rattle.known_bits.specs.Bits as B;
 ghost use Rattle.ranges.specs.Ranges as R;
+ghost use Rattle.ranges.specs.Wides as W;
 
 use crate::domains::Domain;
 use isa_model::{AluOp, ByteOrder, Extension, SwapWidth, Width};
@@ -18,7 +20,6 @@ pub struct Scalar {
 }
 
 impl Scalar {
-    ghost use Rattle.known_bits.specs.Bits as B;
     ghost use Rattle.reg_state.specs.Scalars.{Has, IsConstant};
 
     // Bits and limits narrow each other; if one number is left, it is known as a constant.
@@ -39,13 +40,7 @@ impl Scalar {
         ensures narrower { IfSome result (λ s. (x : ℕ) → Has s x → Has self x) }
     {
         let bits = self.bits.meet(Bits::between(self.range.wide.least, self.range.wide.greatest))?;
-        let unsigned = self
-            .range
-            .meet(Range::between(bits.least(), bits.greatest()))?;
-        let range = unsigned.meet(Range::signed_between(
-            bits.signed_least(),
-            bits.signed_greatest(),
-        ))?;
+        let range = self.range.limited(limits_of(bits))?;
         let both = Scalar { bits, range };
         match range.number() {
             Some(number) => both.alone(number),
@@ -109,6 +104,18 @@ impl Scalar {
     }
 }
 
+// The least and the greatest number with these bits, read without and with a sign.
+fn limits_of(bits: Bits) -> Wide
+    ensures { (x : ℕ) → B.Has bits x → W.Has result x }
+{
+    Wide {
+        least: bits.least(),
+        greatest: bits.greatest(),
+        signed_least: bits.signed_least(),
+        signed_greatest: bits.signed_greatest(),
+    }
+}
+
 // The numbers between two limits. Those of 32 bits are their own low halves, which makes it quick.
 pub(crate) fn between(least: u64, greatest: u64) -> Range
     requires { least ≤ greatest }
@@ -126,7 +133,6 @@ pub(crate) fn between(least: u64, greatest: u64) -> Range
 
 impl Domain for Scalar {
     ghost use Rattle.isa_model.specs.Code.Numbers.{alu, shift};
-    ghost use Rattle.ranges.specs.Wides as W;
     ghost use Rattle.ranges.specs.Lows as L;
     ghost use Rattle.reg_state.specs.Scalars.{Has, IsConstant, IsNumber, Encloses, allows};
     ghost use Rattle.reg_state.specs.Arithmetic.{IsFromTo, IsSignedFromTo, IsSharp};
