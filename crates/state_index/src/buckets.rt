@@ -1,7 +1,10 @@
 //! Buckets of stored states, which link them by their indexes.
 
+/// A link to nothing. No list has so many elements that this is the index of one.
+pub const NO_LINK: u32 = u32::MAX;
+
 /// Where a stored state is found.
-#[derive(Clone, Copy, PartialEq, Eq, Drop)]
+#[derive(Clone, Copy, Drop)]
 pub enum Stage {
     /// In a bucket of unfinished ones.
     Unfinished,
@@ -19,40 +22,45 @@ pub struct StateLink {
     /// A fingerprint of the state's shape, and of what is known in it.
     pub known: u64,
     /// The one after it in its bucket, or of those that wait for a tree.
-    pub next: Option<u32>,
+    pub next: u32,
     /// The last finished stored state of its bucket when it was stored; none if the bucket could
     /// not contain one in which the same is known (its mark bit was clear).
-    pub before: Option<u32>,
+    pub before: u32,
     pub stage: Stage,
 }
 
 /// A bucket of finished states, in the order in which they were stored.
 #[derive(Clone, Copy, Drop)]
 pub struct FinishedBucket {
-    pub first: Option<u32>,
-    pub last: Option<u32>,
+    pub first: u32,
+    pub last: u32,
     pub marks: u32,
 }
 
 /// A bucket of unfinished states, the newest first.
 #[derive(Clone, Copy, Drop)]
 pub struct UnfinishedBucket {
-    pub first: Option<u32>,
+    pub first: u32,
     pub marks: u32,
 }
 
 /// An empty bucket of finished states.
 pub const NO_FINISHED: FinishedBucket = FinishedBucket {
-    first: None,
-    last: None,
+    first: NO_LINK,
+    last: NO_LINK,
     marks: 0,
 };
 
 /// An empty bucket of unfinished states.
 pub const NO_UNFINISHED: UnfinishedBucket = UnfinishedBucket {
-    first: None,
+    first: NO_LINK,
     marks: 0,
 };
+
+/// The link to what has this index.
+pub fn link_to(index: usize) -> u32 {
+    u32::try_from(index).unwrap_or(NO_LINK)
+}
 
 /// The bucket of a fingerprint, where there are this many buckets.
 pub fn bucket_of(fingerprint: u64, buckets: usize) -> usize {
@@ -63,4 +71,22 @@ pub fn bucket_of(fingerprint: u64, buckets: usize) -> usize {
 /// bucket has no state with the fingerprint.
 pub fn mark_of(fingerprint: u64) -> u32 {
     1 << (fingerprint >> 59)
+}
+
+/// The bucket of finished states in which this is known, or an empty one if it has no such state.
+pub fn bucket_with(buckets: &[FinishedBucket], known: u64) -> FinishedBucket {
+    match buckets.get(bucket_of(known, buckets.len())) {
+        Some(bucket) if bucket.marks & mark_of(known) != 0 => *bucket,
+        _ => NO_FINISHED,
+    }
+}
+
+/// Replaces the stored state after another one, and returns the one that was there.
+pub fn replace_next(links: &mut [StateLink], index: u32, next: u32) -> u32 {
+    let Some(link) = links.get_mut(index as usize) else {
+        return NO_LINK;
+    };
+    let replaced = link.next;
+    link.next = next;
+    replaced
 }

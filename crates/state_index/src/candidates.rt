@@ -12,7 +12,7 @@ use crate::trees::{Sought, Tree};
 #[derive(Drop)]
 pub struct ShapesAt<'a> {
     pub shapes: &'a [ShapeLink],
-    pub next: Option<u32>,
+    pub next: u32,
     pub left: usize,
 }
 
@@ -25,7 +25,7 @@ impl<'a> Iterator for ShapesAt<'a> {
         if self.left == 0 {
             return None;
         }
-        let index = self.next? as usize;
+        let index = self.next as usize;
         self.next = self.shapes.get(index)?.next;
         self.left -= 1;
         Some(index)
@@ -37,7 +37,7 @@ impl<'a> Iterator for ShapesAt<'a> {
 #[derive(Drop)]
 pub struct UnfinishedCandidates<'a> {
     pub links: &'a [StateLink],
-    pub next: Option<u32>,
+    pub next: u32,
     pub left: usize,
 }
 
@@ -50,7 +50,7 @@ impl<'a> Iterator for UnfinishedCandidates<'a> {
         if self.left == 0 {
             return None;
         }
-        let index = self.next? as usize;
+        let index = self.next as usize;
         self.next = self.links.get(index)?.next;
         self.left -= 1;
         Some(index)
@@ -69,7 +69,7 @@ pub struct FinishedCandidates<'a> {
     pub row_index: usize,
     pub sought: Option<Sought>,
     /// The stored state to look at after the trees: of a bucket, or of those that are in no tree.
-    pub next: Option<u32>,
+    pub next: u32,
     /// Whether the states of the bucket are in the order in which they were stored.
     pub is_ordered: bool,
 }
@@ -95,23 +95,22 @@ impl<'a> FinishedCandidates<'a> {
 
     /// The next stored state of the first tree.
     fn next_in(&mut self, tree: &Tree, before: usize, effort: &mut Effort) -> Option<usize> {
-        let mut sought = match self.sought {
-            Some(sought) => sought,
-            None => tree.sought(self.limits)?,
-        };
+        if self.sought.is_none() {
+            self.sought = tree.sought(self.limits);
+        }
+        let sought = self.sought.as_mut()?;
         sought[0] = !(before.checked_sub(1)? as u64);
-        let row_index = tree.next_from(self.row_index, &sought, effort)?;
+        let row_index = tree.next_from(self.row_index, sought, effort)?;
         self.row_index = row_index.saturating_add(1);
-        self.sought = Some(sought);
         tree.index_at(row_index)
     }
 
     /// The next stored state of the bucket.
-    fn next_in_bucket(&mut self, before: usize, effort: &mut Effort) -> Option<usize> {
+    pub(crate) fn next_in_bucket(&mut self, before: usize, effort: &mut Effort) -> Option<usize> {
         for _tried in 0..self.links.len() {
-            let index = self.next? as usize;
+            let index = self.next as usize;
             if self.is_ordered && index >= before {
-                return None;
+                break;
             }
             effort.spend_test();
             let link = self.links.get(index)?;

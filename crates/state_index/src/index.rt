@@ -4,19 +4,18 @@ ghost use Rattle.std.specs.Prelude.{IfOk};
 ghost use Rattle.state_index.specs.Rooms.{HasShapeRoom};
 
 use crate::buckets::{
-    FinishedBucket, NO_FINISHED, NO_UNFINISHED, Stage, StateLink, UnfinishedBucket, bucket_of,
-    mark_of,
+    FinishedBucket, NO_FINISHED, NO_LINK, NO_UNFINISHED, Stage, StateLink, UnfinishedBucket,
+    bucket_of, bucket_with, link_to, mark_of, replace_next,
 };
 use crate::candidates::{FinishedCandidates, ShapesAt, UnfinishedCandidates};
 use crate::efforts::Effort;
-use crate::fingerprints::mixed;
 use crate::keys::Key;
 use crate::limits::PartLimits;
+use crate::parts::Part;
 use crate::shapes::{Shape, ShapeLink};
 use crate::tree_sets::TreeSets;
 use crate::trees::Tree;
 use std::alloc::{AllocError, Global};
-use std::mem;
 
 /// How many buckets there are at first, for the finished states and for the unfinished ones:
 /// always a power of two, and at least half as many as the states in them.
@@ -32,7 +31,7 @@ pub struct StateIndex {
     links: Vec<StateLink>,
     shapes: Vec<ShapeLink>,
     /// By slot, the first of its shapes.
-    first_shapes: Vec<Option<u32>>,
+    first_shapes: Vec<u32>,
     /// By shape and what is known in it.
     finished: Vec<FinishedBucket>,
     finished_count: usize,
@@ -47,13 +46,16 @@ impl StateIndex {
     pub fn new(alloc: Global, slots: usize) -> Result<Self, AllocError>
         ensures room { IfOk result (λ index. HasShapeRoom index slots) }
     {
+        let first_shapes = vec![in alloc; NO_LINK; slots]?;
+        let finished = vec![in alloc; NO_FINISHED; BUCKETS]?;
+        let unfinished = vec![in alloc; NO_UNFINISHED; BUCKETS]?;
         Ok(StateIndex {
             links: Vec::new(alloc),
             shapes: Vec::new(alloc),
-            first_shapes: vec![in alloc; None; slots]?,
-            finished: vec![in alloc; NO_FINISHED; BUCKETS]?,
+            first_shapes,
+            finished,
             finished_count: 0,
-            unfinished: vec![in alloc; NO_UNFINISHED; BUCKETS]?,
+            unfinished,
             unfinished_count: 0,
             tree_sets: TreeSets::new(alloc),
         })
@@ -63,7 +65,7 @@ impl StateIndex {
     pub fn shapes_at(&self, slot: usize) -> ShapesAt<'_> {
         ShapesAt {
             shapes: &self.shapes,
-            next: self.first_shapes.get(slot).copied().flatten(),
+            next: self.first_shape(slot),
             left: self.shapes.len(),
         }
     }
@@ -71,18 +73,8 @@ impl StateIndex {
     /// A fingerprint of what is known of a state in a shape, if that is all that the shape knows.
     pub fn known_in(&self, shape: usize, key: &Key, effort: &mut Effort) -> Option<u64> {
         effort.spend_look_up(key.parts.len());
-        let known = self.shapes.get(shape)?.shape.known_of(key)?;
-        Some(mixed(known, shape as u64))
-    }
-
-    /// The first stored state in the bucket of finished states in which this is known, if they have
-    /// no trees.
-    fn first_finished(&self, known: u64) -> Option<u32> {
-        let bucket = bucket_of(known, self.finished.len());
-        match self.finished.get(bucket) {
-            Some(bucket) if bucket.marks & mark_of(known) != 0 => bucket.first,
-            _ => None,
-        }
+        let link = self.shapes.get(shape)?;
+        link.shape.known_of(shape, key)
     }
 
     /// The finished states in which this is known that may cover a state with these limits.
@@ -94,7 +86,7 @@ impl StateIndex {
         let (trees, unplaced) = self.tree_sets.trees(known);
         let is_ordered = trees.is_empty();
         let next = match is_ordered {
-            true => self.first_finished(known),
+            true => bucket_with(&self.finished, known).first,
             false => unplaced,
         };
         FinishedCandidates {
@@ -133,28 +125,40 @@ impl StateIndex {
         effort: &mut Effort,
     ) -> Result<(Vec<u32>, usize), AllocError> {
         let mut indexes = Vec::new(alloc);
-        let mut candidates = self.finished_candidates(known, &[]);
-        candidates.trees = &[];
-        for _state in 0..self.links.len() {
-            let Some(index) = candidates.next_before(usize::MAX, effort) else {
-                break;
-            };
-            if let Ok(index) = u32::try_from(index) {
-                indexes.push(index)?;
-            }
-        }
+        self.add_unplaced(known, &mut indexes, effort)?;
         let left = self.tree_sets.gather(known, &mut indexes)?;
         Ok((indexes, left))
     }
 
+    /// Appends the finished states in which this is known that are in no tree.
+    fn add_unplaced(
+        &self,
+        known: u64,
+        indexes: &mut Vec<u32>,
+        effort: &mut Effort,
+    ) -> Result<(), AllocError> {
+        let mut candidates = self.finished_candidates(known, &[]);
+        for _state in 0..self.links.len() {
+            let Some(index) = candidates.next_in_bucket(usize::MAX, effort) else {
+                break;
+            };
+            indexes.push(link_to(index))?;
+        }
+        Ok(())
+    }
+
     /// Adds a tree to a set after the first `left` others: its stored states are found there now.
     pub fn add_tree(&mut self, known: u64, left: usize, tree: Tree) -> Result<(), AllocError> {
-        for index in tree.indexes() {
+        self.note_in_tree(tree.indexes());
+        self.tree_sets.add_tree(known, left, tree)
+    }
+
+    fn note_in_tree(&mut self, indexes: &[u32]) {
+        for index in indexes {
             if let Some(link) = self.links.get_mut(*index as usize) {
                 link.stage = Stage::InTree;
             }
         }
-        self.tree_sets.add_tree(known, left, tree)
     }
 
     /// Unfinished states, all of the fingerprint among them.
@@ -162,7 +166,7 @@ impl StateIndex {
         let bucket = bucket_of(fingerprint, self.unfinished.len());
         let next = match self.unfinished.get(bucket) {
             Some(bucket) if bucket.marks & mark_of(fingerprint) != 0 => bucket.first,
-            _ => None,
+            _ => NO_LINK,
         };
         UnfinishedCandidates {
             links: &self.links,
@@ -190,33 +194,41 @@ impl StateIndex {
         let mut shape_count = 0usize;
         for index in self.shapes_at(slot) {
             effort.spend_look_up(key.parts.len());
-            if self.has_shape(index, key) {
-                return Ok(index);
+            match self.shapes.get(index) {
+                Some(link) if link.shape.is_of(key) => return Ok(index),
+                _ => shape_count = shape_count.wrapping_add(1),
             }
-            shape_count = shape_count.wrapping_add(1);
         }
-        if shape_count > SHAPES {
+        if shape_count < SHAPES {
+            self.add_shape(alloc, slot, &key.parts)
+        } else if shape_count == SHAPES {
+            self.add_shape(alloc, slot, &[])
+        } else {
             // the newest one, which knows nothing
-            return Ok(self.shapes_at(slot).next().unwrap_or(0));
+            Ok(self.first_shape(slot) as usize)
         }
-        let index = self.shapes.len();
-        let mut next = None;
-        if let Some(first) = self.first_shapes.get_mut(slot) {
-            next = mem::replace(first, u32::try_from(index).ok());
-        }
-        let shape = match shape_count < SHAPES {
-            true => Shape::of(alloc, key)?,
-            false => Shape::blank(alloc),
-        };
-        self.shapes.push(ShapeLink { shape, next })?;
-        Ok(index)
     }
 
-    fn has_shape(&self, index: usize, key: &Key) -> bool {
-        match self.shapes.get(index) {
-            Some(link) => link.shape.is_of(key),
-            None => false,
+    fn first_shape(&self, slot: usize) -> u32 {
+        self.first_shapes.get(slot).copied().unwrap_or(NO_LINK)
+    }
+
+    /// Adds the shape of these parts, and returns its index.
+    fn add_shape(
+        &mut self,
+        alloc: Global,
+        slot: usize,
+        parts: &[Part],
+    ) -> Result<usize, AllocError> {
+        let index = self.shapes.len();
+        let mut next = NO_LINK;
+        if let Some(first) = self.first_shapes.get_mut(slot) {
+            next = *first;
+            *first = link_to(index);
         }
+        let shape = Shape::of(alloc, parts)?;
+        self.shapes.push(ShapeLink { shape, next })?;
+        Ok(index)
     }
 
     /// Adds a stored state that is unfinished.
@@ -227,16 +239,15 @@ impl StateIndex {
         key: &Key,
         effort: &mut Effort,
     ) -> Result<(), AllocError> {
-        self.add_finished_buckets(alloc)?;
-        self.add_unfinished_buckets(alloc)?;
+        self.add_buckets(alloc)?;
         let shape = self.shape_of(alloc, slot, key, effort)?;
         let known = self.known_in(shape, key, effort).unwrap_or(0);
         let index = self.links.len();
         self.links.push(StateLink {
             fingerprint: key.fingerprints.whole,
             known,
-            next: None,
-            before: None,
+            next: NO_LINK,
+            before: NO_LINK,
             stage: Stage::Unfinished,
         })?;
         self.unfinished_count = self.unfinished_count.wrapping_add(1);
@@ -245,29 +256,23 @@ impl StateIndex {
         Ok(())
     }
 
-    /// Puts the finished states into more buckets, if there are too many for these.
-    fn add_finished_buckets(&mut self, alloc: Global) -> Result<(), AllocError> {
+    /// Puts the finished states into more buckets, if there are too many for these, and so the
+    /// unfinished ones.
+    fn add_buckets(&mut self, alloc: Global) -> Result<(), AllocError> {
         let buckets = self.finished.len().saturating_mul(2);
-        if self.finished_count < buckets {
-            return Ok(());
+        if self.finished_count >= buckets {
+            let buckets = buckets.max(self.unfinished.len());
+            self.finished = vec![in alloc; NO_FINISHED; buckets]?;
+            for index in 0..self.links.len() {
+                self.file_by_known(index);
+            }
         }
-        let buckets = buckets.max(self.unfinished.len());
-        self.finished = vec![in alloc; NO_FINISHED; buckets]?;
-        for index in 0..self.links.len() {
-            self.file_by_known(index);
-        }
-        Ok(())
-    }
-
-    /// The same, of the unfinished ones.
-    fn add_unfinished_buckets(&mut self, alloc: Global) -> Result<(), AllocError> {
         let buckets = self.unfinished.len().saturating_mul(2);
-        if self.unfinished_count < buckets {
-            return Ok(());
-        }
-        self.unfinished = vec![in alloc; NO_UNFINISHED; buckets]?;
-        for index in 0..self.links.len() {
-            self.file_by_fingerprint(index);
+        if self.unfinished_count >= buckets {
+            self.unfinished = vec![in alloc; NO_UNFINISHED; buckets]?;
+            for index in 0..self.links.len() {
+                self.file_by_fingerprint(index);
+            }
         }
         Ok(())
     }
@@ -279,14 +284,11 @@ impl StateIndex {
         let Some(link) = self.links.get_mut(index) else {
             return;
         };
-        let bucket = bucket_of(link.known, self.finished.len());
-        link.before = match self.finished.get(bucket) {
-            Some(bucket) if bucket.marks & mark_of(link.known) != 0 => bucket.last,
-            _ => None,
-        };
-        let link = *link;
-        if link.stage == Stage::Finished {
-            self.put_after(link.known, link.before, u32::try_from(index).ok());
+        let known = link.known;
+        let before = bucket_with(&self.finished, known).last;
+        link.before = before;
+        if matches!(link.stage, Stage::Finished) {
+            self.put_after(known, before, link_to(index));
         }
     }
 
@@ -296,12 +298,13 @@ impl StateIndex {
         let Some(link) = self.links.get_mut(index) else {
             return;
         };
-        if link.stage != Stage::Unfinished {
+        if !matches!(link.stage, Stage::Unfinished) {
             return;
         }
         let bucket = bucket_of(link.fingerprint, self.unfinished.len());
         if let Some(bucket) = self.unfinished.get_mut(bucket) {
-            link.next = mem::replace(&mut bucket.first, u32::try_from(index).ok());
+            link.next = bucket.first;
+            bucket.first = link_to(index);
             bucket.marks |= mark_of(link.fingerprint);
         }
     }
@@ -311,34 +314,30 @@ impl StateIndex {
         let Some(link) = self.links.get_mut(index) else {
             return;
         };
-        let link = *link;
         let bucket = bucket_of(link.fingerprint, self.unfinished.len());
         if let Some(bucket) = self.unfinished.get_mut(bucket) {
             bucket.first = link.next;
-            if bucket.first.is_none() {
+            if bucket.first == NO_LINK {
                 bucket.marks = 0;
             }
         }
         self.unfinished_count = self.unfinished_count.wrapping_sub(1);
         self.finished_count = self.finished_count.wrapping_add(1);
-        match self.tree_sets.add_unplaced(link.known, index) {
-            Some(next) => self.move_to(index, Stage::InTree, next),
+        let (known, before) = (link.known, link.before);
+        match self.tree_sets.add_unplaced(known, index) {
+            Some(next) => {
+                link.stage = Stage::InTree;
+                link.next = next;
+            }
             None => {
-                self.move_to(index, Stage::Finished, None);
-                self.put_after(link.known, link.before, u32::try_from(index).ok());
+                link.stage = Stage::Finished;
+                self.put_after(known, before, link_to(index));
             }
         }
     }
 
-    fn move_to(&mut self, index: usize, stage: Stage, next: Option<u32>) {
-        if let Some(link) = self.links.get_mut(index) {
-            link.stage = stage;
-            link.next = next;
-        }
-    }
-
     /// Makes the stored state the one after another finished one of its bucket, or the first.
-    fn put_after(&mut self, known: u64, before: Option<u32>, index: Option<u32>) {
+    fn put_after(&mut self, known: u64, before: u32, index: u32) {
         let bucket = bucket_of(known, self.finished.len());
         let Some(bucket) = self.finished.get_mut(bucket) else {
             return;
@@ -347,18 +346,12 @@ impl StateIndex {
         if bucket.last == before {
             bucket.last = index;
         }
-        let next = match before {
-            None => mem::replace(&mut bucket.first, index),
-            Some(before) => match self.links.get_mut(before as usize) {
-                Some(link) => mem::replace(&mut link.next, index),
-                None => None,
-            },
-        };
-        let Some(index) = index else {
-            return;
-        };
-        if let Some(link) = self.links.get_mut(index as usize) {
-            link.next = next;
+        let mut next = bucket.first;
+        if before == NO_LINK {
+            bucket.first = index;
+        } else {
+            next = replace_next(&mut self.links, before, index);
         }
+        replace_next(&mut self.links, index, next);
     }
 }

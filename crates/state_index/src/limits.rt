@@ -13,7 +13,7 @@ use std::alloc::AllocError;
 pub const MEASURES: usize = 9;
 
 /// Which variant of what is known a part has.
-#[derive(Clone, Copy, PartialEq, Eq, Drop)]
+#[derive(Clone, Copy, Drop)]
 enum Variant {
     Number,
     Context,
@@ -89,8 +89,9 @@ fn of_number(numbers: &Scalar) -> [u64; MEASURES] {
     ]
 }
 
-fn of_kind(kind: &Kind) -> Option<(Variant, [u64; MEASURES])> {
-    let found = match kind {
+/// The measures of a part of which this is known.
+fn of_kind(part_index: u32, kind: &Kind) -> Option<PartLimits> {
+    let (variant, measures) = match kind {
         Kind::Unset => return None,
         Kind::Number(numbers) => (Variant::Number, of_number(numbers)),
         Kind::Context => (Variant::Context, [0; MEASURES]),
@@ -126,23 +127,31 @@ fn of_kind(kind: &Kind) -> Option<(Variant, [u64; MEASURES])> {
             (Variant::MapValueOrNull, of_two(map, [0; 2]))
         }
     };
-    Some(found)
+    Some(PartLimits {
+        part_index,
+        variant,
+        measures,
+    })
 }
 
 /// A measure for each byte: 1 where it need not be written.
-fn of_marks(marks: u8) -> [u64; MEASURES] {
+fn of_marks(part_index: u32, marks: u8) -> PartLimits {
     let free = u64::from(!marks);
-    [
-        free & 1,
-        free >> 1 & 1,
-        free >> 2 & 1,
-        free >> 3 & 1,
-        free >> 4 & 1,
-        free >> 5 & 1,
-        free >> 6 & 1,
-        free >> 7 & 1,
-        1,
-    ]
+    PartLimits {
+        part_index,
+        variant: Variant::Written,
+        measures: [
+            free & 1,
+            free >> 1 & 1,
+            free >> 2 & 1,
+            free >> 3 & 1,
+            free >> 4 & 1,
+            free >> 5 & 1,
+            free >> 6 & 1,
+            free >> 7 & 1,
+            1,
+        ],
+    }
 }
 
 /// How many indexes there are for the parts of a frame.
@@ -152,29 +161,24 @@ impl PartLimits {
     /// The measures of a part of the frame with this index, from 0 for the outermost one. A part
     /// that allows all has none.
     fn of(frame_index: u32, part: &Part) -> Option<Self> {
-        let (index_in_frame, (variant, measures)) = match part {
-            Part::InRegister(number, kind) => (u32::from(*number), of_kind(kind)?),
-            Part::InSlot(index, StackSlot::Written(marks)) => {
-                (16 + u32::from(*index), (Variant::Written, of_marks(*marks)))
+        let first = frame_index.wrapping_mul(FRAME_INDEXES);
+        match part {
+            Part::InRegister(number, kind) => of_kind(first.wrapping_add(u32::from(*number)), kind),
+            Part::InSlot(index, stack_slot) => {
+                let part_index = first.wrapping_add(16 + u32::from(*index));
+                match stack_slot {
+                    StackSlot::Written(marks) => Some(of_marks(part_index, *marks)),
+                    StackSlot::Spilled(kind) => of_kind(part_index, kind),
+                }
             }
-            Part::InSlot(index, StackSlot::Spilled(kind)) => {
-                (16 + u32::from(*index), of_kind(kind)?)
-            }
-        };
-        Some(PartLimits {
-            part_index: frame_index
-                .wrapping_mul(FRAME_INDEXES)
-                .wrapping_add(index_in_frame),
-            variant,
-            measures,
-        })
+        }
     }
 
     /// Whether a state with this part may cover one with the other part: `false` says that it does
     /// not.
     fn may_enclose(&self, other: &PartLimits) -> bool {
-        if self.variant != other.variant {
-            return self.variant == Variant::Written;
+        if self.variant as u8 != other.variant as u8 {
+            return matches!(self.variant, Variant::Written);
         }
         for index in 0..MEASURES {
             if self.measures[index] < other.measures[index] {
@@ -197,7 +201,7 @@ impl PartSpan {
     /// Takes in the limits of one more state, and says whether those of all still say anything.
     fn widen(&mut self, other: &PartLimits) -> bool {
         let variant = self.limits.variant;
-        if variant != other.variant {
+        if variant as u8 != other.variant as u8 {
             return false;
         }
         for index in 0..MEASURES {
@@ -205,7 +209,7 @@ impl PartSpan {
             self.least[index] = self.least[index].min(number);
             self.limits.measures[index] = self.limits.measures[index].max(number);
         }
-        variant != Variant::Written || self.limits.measures != [1; MEASURES]
+        !matches!(variant, Variant::Written) || self.limits.measures != [1; MEASURES]
     }
 
     /// Whether the states differ in a measure.
@@ -240,10 +244,12 @@ pub fn from_part(limits: &[PartLimits], part_index: u32) -> &[PartLimits] {
     rest
 }
 
-/// Whether a state with these limits may cover one with the others: `false` says that it does not.
-pub fn may_enclose(limits: &[PartLimits], others: &[PartLimits]) -> bool {
+/// Whether one of the states of the spans may cover one with the others as its limits: `false` says
+/// that none does.
+pub fn may_enclose(spans: &[PartSpan], others: &[PartLimits]) -> bool {
     let mut rest = others;
-    for own in limits {
+    for span in spans {
+        let own = &span.limits;
         rest = from_part(rest, own.part_index);
         match rest.first() {
             Some(other) if other.part_index == own.part_index && own.may_enclose(other) => {}

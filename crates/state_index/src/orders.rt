@@ -6,20 +6,20 @@ use std::alloc::{AllocError, Global};
 /// How many rows are looked at to see whether they differ in a column.
 const SAMPLE: usize = 16;
 
-/// How often a size is doubled or halved at most: once for each bit of a number of 64 bits.
+/// How often a size is halved at most: once for each bit of a number of 64 bits.
 const BITS: usize = 64;
 
 /// A row by its index, and its word by which it is put into order.
 #[derive(Clone, Copy, Drop)]
-struct Row {
-    index: usize,
+pub struct OrderedRow {
+    pub index: usize,
     word: u64,
 }
 
 /// Rows in an order, by their indexes.
 #[derive(Drop)]
 pub struct RowOrder {
-    order: Vec<Row>,
+    order: Vec<OrderedRow>,
 }
 
 /// The word of a row in a column.
@@ -29,7 +29,7 @@ fn word_at(rows: &[u64], width: usize, row_index: usize, column: usize) -> u64 {
 }
 
 /// Whether a sample of the rows differs in a column.
-fn differ(order: &[Row], rows: &[u64], width: usize, column: usize) -> bool {
+fn differ(order: &[OrderedRow], rows: &[u64], width: usize, column: usize) -> bool {
     let Some(first) = order.first() else {
         return false;
     };
@@ -44,7 +44,12 @@ fn differ(order: &[Row], rows: &[u64], width: usize, column: usize) -> bool {
 
 /// How many columns there are in which the rows differ, up to the one after this many of them, and
 /// that one.
-fn differing(order: &[Row], rows: &[u64], width: usize, skipped: usize) -> (usize, Option<usize>) {
+fn differing(
+    order: &[OrderedRow],
+    rows: &[u64],
+    width: usize,
+    skipped: usize,
+) -> (usize, Option<usize>) {
     let mut count: usize = 0;
     for column in 1..width {
         if differ(order, rows, width, column) {
@@ -59,7 +64,7 @@ fn differing(order: &[Row], rows: &[u64], width: usize, skipped: usize) -> (usiz
 
 /// Puts half of the rows before the others, by a column in which they differ: by the next one each
 /// time.
-fn split(order: &mut [Row], half: usize, halvings: usize, rows: &[u64], width: usize) {
+fn split(order: &mut [OrderedRow], half: usize, halvings: usize, rows: &[u64], width: usize) {
     if order.len() <= half {
         return;
     }
@@ -81,19 +86,15 @@ impl RowOrder {
     pub fn of(alloc: Global, count: usize) -> Result<Self, AllocError> {
         let mut order = Vec::with_capacity(alloc, count)?;
         for index in 0..count {
-            order.push(Row { index, word: 0 })?;
+            order.push(OrderedRow { index, word: 0 })?;
         }
         Ok(RowOrder { order })
     }
 
     /// Puts rows of this width into order.
     pub fn arrange(&mut self, rows: &[u64], width: usize) {
-        let mut size = FAN;
-        for _doubled in 0..BITS {
-            if size < self.order.len() {
-                size = size.saturating_mul(2);
-            }
-        }
+        let count = self.order.len();
+        let mut size = FAN.max(count.checked_next_power_of_two().unwrap_or(usize::MAX));
         for halvings in 0..BITS {
             if size <= FAN {
                 return;
@@ -105,9 +106,8 @@ impl RowOrder {
         }
     }
 
-    /// The index of the row that has this many rows before it in the order.
-    pub fn row_index(&self, before: usize) -> Option<usize> {
-        let row = self.order.get(before)?;
-        Some(row.index)
+    /// The rows in their order.
+    pub fn rows(&self) -> &[OrderedRow] {
+        &self.order
     }
 }

@@ -18,8 +18,8 @@ pub struct Spread {
 /// where it was stored earlier, and one for each measure in which states differ.
 #[derive(Drop)]
 pub struct Rows {
-    /// Limits that enclose those of all states.
-    pub common: Vec<PartLimits>,
+    /// What is known of each part in all states together.
+    pub common: Vec<PartSpan>,
     /// The measures in which states differ, in the order of their parts.
     pub measures: Vec<Measure>,
     pub stored: Vec<u32>,
@@ -91,15 +91,10 @@ impl Rows {
     /// No rows yet.
     pub fn of(alloc: Global, spread: &Spread) -> Result<Self, AllocError> {
         let measures = spread.measures(alloc)?;
-        let mut common = Vec::with_capacity(alloc, spread.spans.len())?;
-        for span in &spread.spans {
-            common.push(span.limits)?;
-        }
-        let word_count = spread
-            .count
-            .saturating_mul(measures.len().saturating_add(1));
+        let width = measures.len().saturating_add(1);
+        let word_count = spread.count.saturating_mul(width);
         Ok(Rows {
-            common,
+            common: Vec::from_slice(alloc, &spread.spans)?,
             measures,
             stored: Vec::with_capacity(alloc, spread.count)?,
             words: Vec::with_capacity(alloc, word_count)?,

@@ -7,7 +7,7 @@
 use crate::fingerprints::mixed;
 use crate::keys::Key;
 use crate::parts::Part;
-use reg_state::{Kind, Scalar};
+use reg_state::Kind;
 use stack_state::StackSlot;
 use std::alloc::{AllocError, Global};
 
@@ -20,89 +20,95 @@ struct KnownNumber {
     unknown: u64,
 }
 
+impl KnownNumber {
+    fn is_same(&self, other: KnownNumber) -> bool {
+        self.part_index == other.part_index && self.unknown == other.unknown
+    }
+}
+
 /// The numbers in the innermost call frame of a state, in the order of their parts.
 #[derive(Drop)]
 pub struct Shape {
     known_numbers: Vec<KnownNumber>,
 }
 
-/// The index of the part, and what it is known to hold, if that is known to be a number.
-fn number_in(part: &Part) -> Option<(u64, &Scalar)> {
-    match part {
-        Part::InRegister(number, Kind::Number(numbers)) => Some((u64::from(*number), numbers)),
-        Part::InSlot(index, StackSlot::Spilled(Kind::Number(numbers))) => {
-            Some((16 + u64::from(*index), numbers))
-        }
-        _ => None,
-    }
+/// What a part is known to hold, if that is known to be a number, and its known bits.
+fn number_in(part: &Part) -> Option<(KnownNumber, u64)> {
+    let (part_index, kind) = match part {
+        Part::InRegister(number, kind) => (u64::from(*number), kind),
+        Part::InSlot(index, StackSlot::Spilled(kind)) => (16 + u64::from(*index), kind),
+        Part::InSlot(_, StackSlot::Written(_)) => return None,
+    };
+    let Kind::Number(numbers) = kind else {
+        return None;
+    };
+    let unknown = numbers.bits.mask;
+    Some((
+        KnownNumber {
+            part_index,
+            unknown,
+        },
+        numbers.bits.value,
+    ))
 }
 
 /// A shape that stored states have, and the next one of its slot.
 #[derive(Drop)]
 pub struct ShapeLink {
     pub shape: Shape,
-    pub next: Option<u32>,
+    pub next: u32,
 }
 
 impl Shape {
-    /// The shape of a state.
-    pub fn of(alloc: Global, key: &Key) -> Result<Self, AllocError> {
+    /// The shape of a state that has these parts. Every state has the shape of no parts, in which
+    /// nothing is known.
+    pub fn of(alloc: Global, parts: &[Part]) -> Result<Self, AllocError> {
         let mut known_numbers = Vec::new(alloc);
-        for part in &key.parts {
-            if let Some((part_index, numbers)) = number_in(part) {
-                let unknown = numbers.bits.mask;
-                known_numbers.push(KnownNumber {
-                    part_index,
-                    unknown,
-                })?;
+        for part in parts {
+            if let Some((number, _)) = number_in(part) {
+                known_numbers.push(number)?;
             }
         }
         Ok(Shape { known_numbers })
-    }
-
-    /// The shape in which nothing is known, which every state has.
-    pub fn blank(alloc: Global) -> Self {
-        Shape {
-            known_numbers: Vec::new(alloc),
-        }
     }
 
     /// Whether it is the shape of a state.
     pub fn is_of(&self, key: &Key) -> bool {
         let mut rest = self.known_numbers.as_slice();
         for part in &key.parts {
-            if let Some((part_index, numbers)) = number_in(part) {
-                let [first, others @ ..] = rest else {
-                    return false;
-                };
-                if first.part_index != part_index || first.unknown != numbers.bits.mask {
-                    return false;
+            if let Some((number, _)) = number_in(part) {
+                match rest {
+                    [first, others @ ..] if first.is_same(number) => rest = others,
+                    _ => return false,
                 }
-                rest = others;
             }
         }
         rest.is_empty()
     }
 
-    /// A fingerprint of the shape's known bits as they are in a state, and of the slots of the code
-    /// to which its frames return. None if the state does not know all of these bits.
-    pub fn known_of(&self, key: &Key) -> Option<u64> {
+    /// A fingerprint of the shape, which has this index, of its known bits as they are in a state,
+    /// and of the slots of the code to which the state's frames return. None if the state does not
+    /// know all of these bits.
+    pub fn known_of(&self, index: usize, key: &Key) -> Option<u64> {
         let mut rest = self.known_numbers.as_slice();
         let mut print = key.fingerprints.returns;
         for part in &key.parts {
             let [first, others @ ..] = rest else {
-                return Some(print);
+                break;
             };
-            if let Some((part_index, numbers)) = number_in(part) {
-                if first.part_index == part_index {
-                    if numbers.bits.mask & !first.unknown != 0 {
-                        return None;
+            if let Some((number, bits)) = number_in(part) {
+                if first.part_index == number.part_index {
+                    if number.unknown & !first.unknown != 0 {
+                        break;
                     }
-                    print = mixed(print, numbers.bits.value & !first.unknown);
+                    print = mixed(print, bits & !first.unknown);
                     rest = others;
                 }
             }
         }
-        if rest.is_empty() { Some(print) } else { None }
+        match rest.is_empty() {
+            true => Some(mixed(print, index as u64)),
+            false => None,
+        }
     }
 }

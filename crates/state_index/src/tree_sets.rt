@@ -3,10 +3,9 @@
 //!
 //! A set is made where many states were scanned in vain.
 
-use crate::buckets::bucket_of;
+use crate::buckets::{NO_LINK, bucket_of, link_to};
 use crate::trees::Tree;
 use std::alloc::{AllocError, Global};
-use std::mem;
 
 /// Stored states scanned one by one before they are put into a tree.
 pub const LONG_SCAN: usize = 32;
@@ -22,14 +21,26 @@ const BUCKETS: usize = 16;
 struct TreeSet {
     known: u64,
     /// The next one of its bucket.
-    next: Option<u32>,
+    next: u32,
     /// The larger trees first. While there are no trees, the states are in a bucket of the index.
     trees: Vec<Tree>,
     /// The states that are in no tree yet, once there is one, and how many they are.
-    unplaced: Option<u32>,
+    unplaced: u32,
     unplaced_count: usize,
     /// How many states were scanned since the last tree was made.
     scanned: usize,
+}
+
+impl TreeSet {
+    /// Puts a tree after the first `left` of the others: no stored state is without one then.
+    fn add(&mut self, left: usize, tree: Tree) -> Result<(), AllocError> {
+        self.unplaced = NO_LINK;
+        self.unplaced_count = 0;
+        self.scanned = 0;
+        self.trees.truncate(left);
+        self.trees.push(tree)?;
+        Ok(())
+    }
 }
 
 /// All sets of trees.
@@ -37,7 +48,7 @@ struct TreeSet {
 pub struct TreeSets {
     sets: Vec<TreeSet>,
     /// By what is known; their number is a power of two.
-    buckets: Vec<Option<u32>>,
+    buckets: Vec<u32>,
 }
 
 impl TreeSets {
@@ -54,46 +65,48 @@ impl TreeSets {
         self.sets.is_empty()
     }
 
+    /// The index of the set in which this is known.
     fn find(&self, known: u64) -> Option<usize> {
-        let mut next = self.buckets.get(bucket_of(known, self.buckets.len()))?;
+        let mut next = *self.buckets.get(bucket_of(known, self.buckets.len()))?;
         for _tried in 0..self.sets.len() {
-            let index = (*next)? as usize;
+            let index = next as usize;
             let set = self.sets.get(index)?;
             if set.known == known {
                 return Some(index);
             }
-            next = &set.next;
+            next = set.next;
         }
         None
     }
 
+    fn set_mut(&mut self, known: u64) -> Option<&mut TreeSet> {
+        let index = self.find(known)?;
+        self.sets.get_mut(index)
+    }
+
     /// The trees of what is known, and the states that are in none of them.
-    pub fn trees(&self, known: u64) -> (&[Tree], Option<u32>) {
-        if self.sets.is_empty() {
-            return (&[], None);
-        }
-        match self.find(known) {
-            Some(index) => match self.sets.get(index) {
-                Some(set) => (&set.trees, set.unplaced),
-                None => (&[], None),
-            },
-            None => (&[], None),
+    pub fn trees(&self, known: u64) -> (&[Tree], u32) {
+        let set = match self.find(known) {
+            Some(index) => self.sets.get(index),
+            None => None,
+        };
+        match set {
+            Some(set) => (&set.trees, set.unplaced),
+            None => (&[], NO_LINK),
         }
     }
 
     /// Adds a finished stored state in which this is known to its set, if that has trees; returns
     /// the unplaced stored state after it.
-    pub fn add_unplaced(&mut self, known: u64, index: usize) -> Option<Option<u32>> {
-        if self.sets.is_empty() {
-            return None;
-        }
-        let set_index = self.find(known)?;
-        let set = self.sets.get_mut(set_index)?;
+    pub fn add_unplaced(&mut self, known: u64, index: usize) -> Option<u32> {
+        let set = self.set_mut(known)?;
         if set.trees.is_empty() {
             return None;
         }
+        let next = set.unplaced;
+        set.unplaced = link_to(index);
         set.unplaced_count = set.unplaced_count.saturating_add(1);
-        Some(mem::replace(&mut set.unplaced, u32::try_from(index).ok()))
+        Some(next)
     }
 
     /// Notes that states were scanned, and returns whether a tree is to be made.
@@ -103,11 +116,10 @@ impl TreeSets {
         known: u64,
         count: usize,
     ) -> Result<bool, AllocError> {
-        let set_index = match self.find(known) {
-            Some(set_index) => set_index,
-            None => self.add(alloc, known)?,
-        };
-        let Some(set) = self.sets.get_mut(set_index) else {
+        if self.find(known).is_none() {
+            self.add(alloc, known)?;
+        }
+        let Some(set) = self.set_mut(known) else {
             return Ok(false);
         };
         set.scanned = set.scanned.saturating_add(count);
@@ -118,23 +130,30 @@ impl TreeSets {
         Ok(unplaced_count >= LONG_SCAN && set.scanned / SCANS >= unplaced_count)
     }
 
-    fn add(&mut self, alloc: Global, known: u64) -> Result<usize, AllocError> {
+    fn add(&mut self, alloc: Global, known: u64) -> Result<(), AllocError> {
         self.add_buckets(alloc)?;
         let set_index = self.sets.len();
-        let bucket = bucket_of(known, self.buckets.len());
-        let next = match self.buckets.get_mut(bucket) {
-            Some(first) => mem::replace(first, u32::try_from(set_index).ok()),
-            None => None,
-        };
         self.sets.push(TreeSet {
             known,
-            next,
+            next: NO_LINK,
             trees: Vec::new(alloc),
-            unplaced: None,
+            unplaced: NO_LINK,
             unplaced_count: 0,
             scanned: 0,
         })?;
-        Ok(set_index)
+        self.file(set_index);
+        Ok(())
+    }
+
+    /// Puts a set into its bucket.
+    fn file(&mut self, set_index: usize) {
+        if let Some(set) = self.sets.get_mut(set_index) {
+            let bucket = bucket_of(set.known, self.buckets.len());
+            if let Some(first) = self.buckets.get_mut(bucket) {
+                set.next = *first;
+                *first = link_to(set_index);
+            }
+        }
     }
 
     /// Puts the sets into more buckets, if there are too many for these.
@@ -143,13 +162,9 @@ impl TreeSets {
             return Ok(());
         }
         let bucket_count = self.buckets.len().saturating_mul(2).max(BUCKETS);
-        self.buckets = vec![in alloc; None; bucket_count]?;
+        self.buckets = vec![in alloc; NO_LINK; bucket_count]?;
         for set_index in 0..self.sets.len() {
-            if let Some(set) = self.sets.get_mut(set_index) {
-                if let Some(first) = self.buckets.get_mut(bucket_of(set.known, bucket_count)) {
-                    set.next = mem::replace(first, u32::try_from(set_index).ok());
-                }
-            }
+            self.file(set_index);
         }
         Ok(())
     }
@@ -159,11 +174,7 @@ impl TreeSets {
     pub fn gather(&self, known: u64, indexes: &mut Vec<u32>) -> Result<usize, AllocError> {
         let (trees, _) = self.trees(known);
         let mut left = trees.len();
-        for _merged in 0..trees.len() {
-            let Some(start) = left.checked_sub(3) else {
-                break;
-            };
-            let three = trees.get(start..left).unwrap_or(&[]);
+        for three in trees.rchunks_exact(3) {
             match three.first() {
                 Some(tree) if tree.indexes().len() / 2 <= indexes.len() => {}
                 _ => break,
@@ -171,24 +182,16 @@ impl TreeSets {
             for tree in three {
                 indexes.extend_from_slice(tree.indexes())?;
             }
-            left = start;
+            left = left.saturating_sub(3);
         }
         Ok(left)
     }
 
     /// Puts a tree after the first `left` of the others: no stored state is without one then.
     pub fn add_tree(&mut self, known: u64, left: usize, tree: Tree) -> Result<(), AllocError> {
-        let Some(set_index) = self.find(known) else {
-            return Ok(());
-        };
-        let Some(set) = self.sets.get_mut(set_index) else {
-            return Ok(());
-        };
-        set.trees.truncate(left);
-        set.trees.push(tree)?;
-        set.unplaced = None;
-        set.unplaced_count = 0;
-        set.scanned = 0;
-        Ok(())
+        match self.set_mut(known) {
+            Some(set) => set.add(left, tree),
+            None => Ok(()),
+        }
     }
 }

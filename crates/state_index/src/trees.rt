@@ -3,7 +3,7 @@
 //! No contract rests on them: they propose states, and `covers` decides.
 
 use crate::efforts::Effort;
-use crate::limits::{Measure, PartLimits, may_enclose};
+use crate::limits::{Measure, PartLimits, PartSpan, may_enclose};
 use crate::orders::RowOrder;
 use crate::rows::{Rows, WIDTH, put_measured};
 use std::alloc::{AllocError, Global};
@@ -24,8 +24,8 @@ pub type Sought = [u64; WIDTH];
 /// of its words is at least as great as the state's.
 #[derive(Drop)]
 pub struct Tree {
-    /// Limits that enclose those of all states.
-    common: Vec<PartLimits>,
+    /// What is known of each part in all states together.
+    common: Vec<PartSpan>,
     measures: Vec<Measure>,
     indexes: Vec<u32>,
     /// The lowest level has a row for each stored state. A row of a higher level has the greatest
@@ -38,20 +38,10 @@ fn width(measures: &[Measure]) -> usize {
     measures.len().saturating_add(1)
 }
 
-/// A row of a level.
-fn row(level: &[u64], width: usize, index: usize) -> Option<&[u64]> {
-    let rest = level.get(index.saturating_mul(width)..)?;
-    rest.get(..width)
-}
-
-/// Whether each word of a row is at least as great as the one that is sought.
-fn reaches(row: &[u64], sought: &[u64]) -> bool {
-    for (word, least) in row.iter().zip(sought) {
-        if word < least {
-            return false;
-        }
-    }
-    true
+/// A row of a level, or no words if it has no such row.
+fn row(level: &[u64], width: usize, index: usize) -> &[u64] {
+    let rest = level.get(index.saturating_mul(width)..).unwrap_or(&[]);
+    rest.get(..width).unwrap_or(&[])
 }
 
 /// The greatest words of up to `FAN` rows each.
@@ -89,22 +79,26 @@ fn levels_over(alloc: Global, lowest: Vec<u64>, width: usize) -> Result<Vec<Vec<
     Ok(levels)
 }
 
+/// The indexes of stored states and the words of their rows, those with like words beside one
+/// another.
+fn arranged(alloc: Global, rows: &Rows, width: usize) -> Result<(Vec<u32>, Vec<u64>), AllocError> {
+    let count = rows.stored.len();
+    let mut order = RowOrder::of(alloc, count)?;
+    order.arrange(&rows.words, width);
+    let mut indexes = Vec::with_capacity(alloc, count)?;
+    let mut words = Vec::with_capacity(alloc, rows.words.len())?;
+    for ordered in order.rows() {
+        indexes.push(rows.stored.get(ordered.index).copied().unwrap_or(0))?;
+        words.extend_from_slice(row(&rows.words, width, ordered.index))?;
+    }
+    Ok((indexes, words))
+}
+
 impl Tree {
     /// A tree of the states that have these rows.
     pub fn of(alloc: Global, rows: Rows) -> Result<Self, AllocError> {
         let width = width(&rows.measures);
-        let count = rows.stored.len();
-        let mut order = RowOrder::of(alloc, count)?;
-        order.arrange(&rows.words, width);
-        let mut indexes = Vec::with_capacity(alloc, count)?;
-        let mut words = Vec::with_capacity(alloc, rows.words.len())?;
-        for before in 0..count {
-            let row_index = order.row_index(before).unwrap_or(0);
-            if let Some(index) = rows.stored.get(row_index) {
-                indexes.push(*index)?;
-                words.extend_from_slice(row(&rows.words, width, row_index).unwrap_or(&[]))?;
-            }
-        }
+        let (indexes, words) = arranged(alloc, &rows, width)?;
         let levels = levels_over(alloc, words, width)?;
         Ok(Tree {
             common: rows.common,
@@ -164,13 +158,26 @@ impl Tree {
             let shift = FAN_BITS.wrapping_mul(u32::try_from(level).unwrap_or(0));
             let above_index = row_index.wrapping_shr(shift);
             if above_index.wrapping_shl(shift) == row_index {
-                let row = row(self.levels.get(level)?, width(&self.measures), above_index)?;
                 effort.spend_test();
-                if !reaches(row, sought) {
+                if !self.reaches(level, above_index, sought) {
                     return Some(above_index.wrapping_add(1).wrapping_shl(shift));
                 }
             }
         }
         None
+    }
+
+    /// Whether each word of a row of a level is at least as great as the one that is sought.
+    fn reaches(&self, level: usize, row_index: usize, sought: &Sought) -> bool {
+        let Some(level) = self.levels.get(level) else {
+            return true;
+        };
+        let row = row(level, width(&self.measures), row_index);
+        for (word, least) in row.iter().zip(sought) {
+            if word < least {
+                return false;
+            }
+        }
+        true
     }
 }
