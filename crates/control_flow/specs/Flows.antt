@@ -85,7 +85,8 @@ AreLiveMasks p masks = (h : Home) (slot : ℕ) → HasHome (mask_at masks slot) 
 
 -- the mask of each slot has the homes whose numbers are tested from there on, and nothing else
 abbrev pub AreTestedMasks : Program → List HomeMask → Type 0
-AreTestedMasks p masks = (h : Home) (slot : ℕ) → HasHome (mask_at masks slot) h ↔ IsNumberTested p h slot
+AreTestedMasks p masks =
+    (h : Home) (slot : ℕ) → HasHome (mask_at masks slot) h ↔ IsNumberTested p h slot
 
 -- the slots from which only plain code follows are marked, and no other slots
 abbrev pub MarksEndings : Program → List Bool → Type 0

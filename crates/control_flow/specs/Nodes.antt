@@ -48,7 +48,8 @@ pub record AreNodes (Shows : ℕ → Node → Type 0) (p : Program) (nodes : Lis
 
 -- what is in h before the instruction may be in g after it
 abbrev pub PassesOn : Node → Home → Home → Type 0
-PassesOn node h g = ((g ≡ h) × (¬ HasHome node.writes h)) ⊎ (HasHome node.from h × HasHome node.into g)
+PassesOn node h g =
+    ((g ≡ h) × (¬ HasHome node.writes h)) ⊎ (HasHome node.from h × HasHome node.into g)
 
 -- a path of n edges goes from a slot to one that wants what is in the home, wherever it went until
 -- then

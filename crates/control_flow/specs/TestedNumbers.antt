@@ -82,8 +82,8 @@ abbrev pub MayWrite : Type 0 → Insn → Home → Type 0
 MayWrite taken i (InRegister r) = IsOneOf (written_registers i) r
 MayWrite taken i (InSlot j) = MayWriteSlot taken i j
 
--- the number that was in h may be in g after the instruction, or be part of the one there: it stays,
--- or it is read
+-- the number that was in h may be in g after the instruction, or be part of the one there: it
+-- stays, or it is read
 abbrev pub Passes : Type 0 → Insn → Home → Home → Type 0
 Passes taken i h g = ((g ≡ h) × (¬ IsWrittenBy i h)) ⊎ (MayRead taken i h × MayWrite taken i g)
 

@@ -190,8 +190,8 @@ impl<'a> Flow<'a> {
         mask_of(&self.tested, slot).slots
     }
 
-    /// Whether only plain code follows from a slot: arithmetic, forward jumps and exits of a program
-    /// of version 1. None of it is refused if each live register is a number.
+    /// Whether only plain code follows from a slot: arithmetic, forward jumps and exits of a
+    /// program of version 1. None of it is refused if each live register is a number.
     pub fn ends_plainly(&self, slot: usize) -> bool
         ensures { MayForgetNumbers self.now → (IsTrue result ↔ EndsPlainly self.now slot) }
     {

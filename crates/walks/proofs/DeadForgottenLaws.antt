@@ -16,7 +16,7 @@ use Rattle.reg_state.specs.declared.kinds.Kind.TheVariants.{Unset}
 use Rattle.reg_state.specs.Kinds.{Assigned, Allows}
 use Rattle.stack_state.specs.declared.slots.StackSlot.{StackSlot}
 use Rattle.stack_state.specs.declared.slots.StackSlot.TheVariants.{Written}
-use Rattle.stack_state.specs.Slots.{slot_at}
+use Rattle.stack_state.specs.Slots.{slot_at, frame_slots}
 use Rattle.stack_state.specs.StackMeaning.{SlotMeans}
 use Rattle.stack_state.specs.declared.states.AbstractFrame.{AbstractFrame}
 use Rattle.stack_state.specs.declared.states.State.{State}
@@ -143,7 +143,7 @@ not_last r k is below same =
     let ten : reg_number r ≡ 10 = ap reg_number same in absurd (omega arith)
 
 -- what each register but r10 allows is allowed for each in the list
-pub registers_allow : (old new : List Kind) (e : Assigned) → length new ≡ 10
+registers_allow : (old new : List Kind) (e : Assigned) → length new ≡ 10
     → ((r : Reg) (v : Value) → r ≢ R10 → Allows e (kind_at old (reg_number r)) v
     → Allows e (kind_at new (reg_number r)) v)
     → (k : ℕ) (v : Value) → Allows e (kind_at old k) v → Allows e (kind_at new k) v
@@ -157,39 +157,57 @@ registers_allow old new e ten each k v h = elim (cases_lt k 10) [
       subst (λ x. Allows e x v) (sym none) tt
 ]
 
-frames_keep : (p : Program) (a b : State) (e : Assigned) (j : ℕ) → DeadForgotten p a b → j < depth a
-    → FrameKeeps e e (abstract_frame_at a j) (abstract_frame_at b j)
-frames_keep p a b e j f below = elim (cases_eq j (length a.callers.items)) [
+-- a call frame keeps what it means, if each register but r10 and each stack slot does
+pub frame_keeps : (g h : AbstractFrame) (e : Assigned) → length h.registers ≡ 10
+    → ((r : Reg) (v : Value) → r ≢ R10 → Allows e (kind_at g.registers (reg_number r)) v
+    → Allows e (kind_at h.registers (reg_number r)) v)
+    → ((k : ℕ) (cs : List Cell) → k < frame_slots → SlotMeans e (slot_at g.stack.slots k) cs
+    → SlotMeans e (slot_at h.stack.slots k) cs)
+    → FrameKeeps e e g h
+frame_keeps g h e ten registers slots =
+    record { registers = registers_allow g.registers h.registers e ten registers; slots = slots }
+
+-- as many call frames as before: each keeps what it means, if the innermost one and the callers do
+pub frames_keep : (a b : State) (e : Assigned)
+    → length b.callers.items ≡ length a.callers.items
+    → FrameKeeps e e a.innermost b.innermost
+    → ((j : ℕ) → j < length a.callers.items
+    → FrameKeeps e e (abstract_frame_at a j) (abstract_frame_at b j))
+    → (j : ℕ) → j < depth a → FrameKeeps e e (abstract_frame_at a j) (abstract_frame_at b j)
+frames_keep a b e as_many own callers j below = elim (cases_eq j (length a.callers.items)) [
   | inl last ↦
-      let here : abstract_frame_at a j
-      ≡ a.innermost = ap (abstract_frame_at a) last ∙ abstract_frame_at-innermost a in
+      let here : abstract_frame_at a j ≡ a.innermost =
+      ap (abstract_frame_at a) last ∙ abstract_frame_at-innermost a in
       let there : abstract_frame_at b j ≡ b.innermost =
-      ap (abstract_frame_at b) (last ∙ sym (DeadForgotten-callers p a b f))
-      ∙ abstract_frame_at-innermost b in
-      let own : FrameKeeps e e a.innermost b.innermost = record {
-        registers =
-            λ k v h. registers_allow (registers_of a) (registers_of b) e f.registers.ten
-            (λ r v own h. kept_allows p a.slot r e (kind_at (registers_of a) (reg_number r))
-            (kind_at (registers_of b) (reg_number r)) v (f.registers.each r own) h) k v h;
-        slots =
-            λ k cs within h.
-            stack_slot_kept_means p a.slot k e (slot_at (slots_in a) k) (slot_at (slots_in b) k) cs
-            (f.slots.each k within) h;
-      } in
+      ap (abstract_frame_at b) (last ∙ sym as_many) ∙ abstract_frame_at-innermost b in
       subst (λ x. FrameKeeps e e x (abstract_frame_at b j)) (sym here)
       (subst (λ x. FrameKeeps e e a.innermost x) (sym there) own)
-  | inr apart ↦
-      let kept = f.callers.each j (omega arith) in
-      record {
-        registers =
-            λ k v h.
-            subst (λ (x : AbstractFrame). Allows e (kind_at x.registers k) v) (sym kept.rest) h;
-        slots = λ k cs within h.
-            caller_stack_slot_means p (abstract_frame_at a (j + 1)).return_slot k e
-            (slot_at (abstract_frame_at a j).stack.slots k)
-            (slot_at (abstract_frame_at b j).stack.slots k) cs (kept.slots k within) h;
-      }
+  | inr apart ↦ callers j (omega arith)
 ]
+
+innermost_keeps : (p : Program) (a b : State) (e : Assigned) → DeadForgotten p a b
+    → FrameKeeps e e a.innermost b.innermost
+innermost_keeps p a b e f =
+    frame_keeps a.innermost b.innermost e f.registers.ten
+    (λ r v own. kept_allows p a.slot r e (kind_at (registers_of a) (reg_number r))
+    (kind_at (registers_of b) (reg_number r)) v (f.registers.each r own))
+    (λ k cs within. stack_slot_kept_means p a.slot k e (slot_at (slots_in a) k)
+    (slot_at (slots_in b) k) cs (f.slots.each k within))
+
+caller_keeps : (p : Program) (a b : State) (e : Assigned) → DeadForgotten p a b
+    → (j : ℕ) → j < length a.callers.items
+    → FrameKeeps e e (abstract_frame_at a j) (abstract_frame_at b j)
+caller_keeps p a b e f j below =
+    let kept = f.callers.each j below in
+    record {
+      registers =
+          λ k v h.
+          subst (λ (x : AbstractFrame). Allows e (kind_at x.registers k) v) (sym kept.rest) h;
+      slots = λ k cs within h.
+          caller_stack_slot_means p (abstract_frame_at a (j + 1)).return_slot k e
+          (slot_at (abstract_frame_at a j).stack.slots k)
+          (slot_at (abstract_frame_at b j).stack.slots k) cs (kept.slots k within) h;
+    }
 
 -- whatever the state means, it means once dead registers and stack slots are forgotten
 pub Means-dead : (p : Program) (a b : State) (w : Machine.State) → DeadForgotten p a b → Means p a w
@@ -198,7 +216,8 @@ unfolding Means
 Means-dead p a b w f (e, m) = (
   e,
   MeansBy-change p e e a b w m.assigned (DeadForgotten-slot p a b f) (DeadForgotten-returns p a b f)
-      (λ j below. frames_keep p a b e j f below) m,
+      (frames_keep a b e (DeadForgotten-callers p a b f) (innermost_keeps p a b e f)
+      (caller_keeps p a b e f)) m,
 )
 
 -- nothing is known of dead stack slots

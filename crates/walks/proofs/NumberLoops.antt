@@ -327,8 +327,8 @@ forgets_both p a m ks slots may join dead registers own = record {
   numbers = record {
     rest = refl;
     registers =
-        AreNumbersKept-beside p m.slot (λ r. IsNumberTested p (InRegister r) m.slot) (registers_of m) ks
-        (λ r free. (may, join, inl free)) registers;
+        AreNumbersKept-beside p m.slot (λ r. IsNumberTested p (InRegister r) m.slot)
+        (registers_of m) ks (λ r free. (may, join, inl free)) registers;
     slots =
         AreSpilledNumbersKept-in p m.slot
         (λ j. IsSlotLive p j m.slot × (IsNumberTested p (InSlot j) m.slot → ⊥)) (slots_in m) slots

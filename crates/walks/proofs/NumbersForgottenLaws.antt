@@ -1,6 +1,5 @@
 -- What forgetting numbers that do not matter does to a state: it means more, and all else stays.
 use Rattle.std.proofs.Common.{◌≡◌, ◌≢◌, ◌<◌, ◌∷◌, [], ℕ, List, length, get_or, refl, sym, ap, ◌∙◌, subst, arith, inl, inr}
-use Rattle.std.proofs.lemmas.Bool.{cases_eq}
 use Rattle.std.proofs.lemmas.List.{map-append}
 use Rattle.isa_model.specs.declared.registers.Reg.{Reg}
 use Rattle.isa_model.specs.declared.registers.Reg.TheVariants.{R10}
@@ -21,14 +20,14 @@ use Rattle.stack_state.specs.declared.states.State.{State}
 use Rattle.stack_state.specs.Meaning.{abstract_frame_at, depth, registers_of, kind_at, no_frame, Means}
 use Rattle.stack_state.specs.Places.{kind_of}
 use Rattle.stack_state.proofs.CellLaws.{marked_number}
-use Rattle.stack_state.proofs.MeaningLaws.{abstract_frame_at-caller, abstract_frame_at-innermost, FrameKeeps, MeansBy-change}
+use Rattle.stack_state.proofs.MeaningLaws.{abstract_frame_at-caller, FrameKeeps, MeansBy-change}
 use Rattle.stack_state.proofs.PlaceLaws.{kind_of-registers}
 use Rattle.branch_refine.specs.Refining.{IsNumberKind}
 use Rattle.control_flow.specs.Flows.{IsJoin}
 use Rattle.control_flow.specs.TestedNumbers.{MayForgetNumbers}
 use Rattle.transfer.specs.Following.{returns_of}
 use Rattle.walks.specs.Forgetting.{IsNumberKept, IsSpilledNumberKept, slots_in, NumbersForgotten}
-use Rattle.walks.proofs.DeadForgottenLaws.{registers_allow}
+use Rattle.walks.proofs.DeadForgottenLaws.{frame_keeps, frames_keep}
 
 -- ---- what stays
 
@@ -154,33 +153,22 @@ stack_slot_kept_means p slot j e before after cs (inl same) h =
 stack_slot_kept_means p slot j e before after cs (inr gone) h =
     subst (λ s. SlotMeans e s cs) (sym gone.2) (spilled_means e before cs gone.1 h)
 
-frames_keep : (p : Program) (a b : State) (e : Assigned) (j : ℕ) → NumbersForgotten p a b
-    → j < depth a → FrameKeeps e e (abstract_frame_at a j) (abstract_frame_at b j)
-frames_keep p a b e j f below = elim (cases_eq j (length a.callers.items)) [
-  | inl last ↦
-      let here : abstract_frame_at a j ≡ a.innermost =
-      ap (abstract_frame_at a) last ∙ abstract_frame_at-innermost a in
-      let there : abstract_frame_at b j ≡ b.innermost =
-      ap (abstract_frame_at b)
-      (last ∙ sym (ap (λ (x : State). length x.callers.items) f.rest))
-      ∙ abstract_frame_at-innermost b in
-      let own : FrameKeeps e e a.innermost b.innermost = record {
-        registers =
-            λ k v h. registers_allow (registers_of a) (registers_of b) e f.registers.ten
-            (λ r v own h. kept_allows p a.slot r e (kind_at (registers_of a) (reg_number r))
-            (kind_at (registers_of b) (reg_number r)) v (f.registers.each r own) h) k v h;
-        slots =
-            λ k cs within h.
-            stack_slot_kept_means p a.slot k e (slot_at (slots_in a) k) (slot_at (slots_in b) k) cs
-            (f.slots.each k within) h;
-      } in
-      subst (λ x. FrameKeeps e e x (abstract_frame_at b j)) (sym here)
-      (subst (λ x. FrameKeeps e e a.innermost x) (sym there) own)
-  | inr apart ↦
-      subst (λ x. FrameKeeps e e (abstract_frame_at a j) x)
-      (sym (NumbersForgotten-caller p a b j f (omega arith)))
-      (record { registers = λ k v h. h; slots = λ k cs within h. h })
-]
+innermost_keeps : (p : Program) (a b : State) (e : Assigned) → NumbersForgotten p a b
+    → FrameKeeps e e a.innermost b.innermost
+innermost_keeps p a b e f =
+    frame_keeps a.innermost b.innermost e f.registers.ten
+    (λ r v own. kept_allows p a.slot r e (kind_at (registers_of a) (reg_number r))
+    (kind_at (registers_of b) (reg_number r)) v (f.registers.each r own))
+    (λ k cs within. stack_slot_kept_means p a.slot k e (slot_at (slots_in a) k)
+    (slot_at (slots_in b) k) cs (f.slots.each k within))
+
+caller_keeps : (p : Program) (a b : State) (e : Assigned) → NumbersForgotten p a b
+    → (j : ℕ) → j < length a.callers.items
+    → FrameKeeps e e (abstract_frame_at a j) (abstract_frame_at b j)
+caller_keeps p a b e f j below =
+    subst (λ x. FrameKeeps e e (abstract_frame_at a j) x)
+    (sym (NumbersForgotten-caller p a b j f below))
+    (record { registers = λ k v h. h; slots = λ k cs within h. h })
 
 -- whatever the state means, it means once numbers are forgotten
 pub Means-numbers : (p : Program) (a b : State) (w : Machine.State) → NumbersForgotten p a b
@@ -189,7 +177,9 @@ unfolding Means
 Means-numbers p a b w f (e, m) = (
   e,
   MeansBy-change p e e a b w m.assigned (NumbersForgotten-slot p a b f)
-      (NumbersForgotten-returns p a b f) (λ j below. frames_keep p a b e j f below) m,
+      (NumbersForgotten-returns p a b f)
+      (frames_keep a b e (ap (λ (x : State). length x.callers.items) f.rest)
+      (innermost_keeps p a b e f) (caller_keeps p a b e f)) m,
 )
 
 -- where nothing is forgotten
