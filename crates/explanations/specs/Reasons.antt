@@ -5,8 +5,8 @@ use Rattle.isa_model.specs.Code.Instructions.{Program, fetch}
 use Rattle.control_flow.specs.declared.errors.FlowError.{FlowError}
 use Rattle.walks.specs.declared.refusals.Refusal.{Refusal}
 use Rattle.walks.specs.declared.refusals.Refusal.TheVariants.{Flow}
-use Rattle.explorer.specs.declared.explanations.Explanation.{Explanation}
-use Rattle.explorer.specs.Explained.{Explains}
+use Rattle.listeners.specs.declared.explaining.Explanation.{Explanation}
+use Rattle.listeners.specs.Explained.{Explains}
 use Rattle.explanations.specs.Cases.{case_line}
 use Rattle.explanations.specs.Flows.{flow_line}
 use Rattle.explanations.specs.Loops.{loop_line}

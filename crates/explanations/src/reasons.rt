@@ -9,9 +9,10 @@ use crate::flows::flow_line;
 use crate::lines::{answer_line, register_lines, stack_lines, way_line};
 use crate::loops::loop_line;
 use crate::turns::turn_lines;
-use explorer::{Explanation, Refusal, explain};
+use explorer::Refusal;
 use image::Image;
 use isa_model::{Insn, MAX_SLOTS};
+use listeners::{Explanation, explain};
 use std::alloc::{AllocError, Global};
 
 /// If states were no longer compared, the line that says so.

@@ -6,9 +6,6 @@ pub mod Starts
 pub mod Stopping
 pub mod Unfinished
 pub mod Walking
-pub mod LastJumps
 pub mod Counting
 pub mod Telling
-pub mod Following
 pub mod Trails
-pub mod Turning

@@ -23,6 +23,11 @@ abbrev pub IfRefused : {S : Type 0} → Halt S → (Refusal → ℕ → Type 0) 
 IfRefused (Refused e slot) fact = fact e slot
 IfRefused (Stopped stop) fact = Unit {0}
 
+-- the fact holds, if the listener stopped the search
+abbrev pub IfStopped : {S : Type 0} → Halt S → Type 0 → Type 0
+IfStopped (Refused e slot) fact = Unit {0}
+IfStopped (Stopped stop) fact = fact
+
 -- ---- what a search does, as its path and its current state show it
 
 -- a path with these states, the last one first, continues with the state
@@ -201,7 +206,15 @@ IsToRefuse p tale current Memory slot = Unit {0}
 IsToRefuse p tale current Repeats slot = IsToComeBack p tale current slot
 IsToRefuse p tale current e slot = IsToStop p tale e slot
 
--- in the end: but for memory, the last state of the path is that in which the program is refused
+-- control flow is refused before a search, and memory may run out at any time
+abbrev pub IsOutsideSearch : Refusal → Type 0
+IsOutsideSearch (Flow e) = Unit {0}
+IsOutsideSearch Memory = Unit {0}
+IsOutsideSearch e = ⊥
+
+-- in the end: the last state of the path is that in which the program is refused, if the search
+-- found the refusal
 abbrev pub EndsIn : Program → (List State → State → Type 0) → Refusal → ℕ → Type 0
+EndsIn p tale (Flow e) slot = Unit {0}
 EndsIn p tale Memory slot = Unit {0}
 EndsIn p tale e slot = IsToStop p tale e slot

@@ -14,8 +14,8 @@ use std::alloc::{AllocError, Global};
 use walks::{Refusal, forget, forget_all, kept_slots, may_forget_all};
 
 /// Forgets what does not matter of a state at which a path arrives next. If several states of its
-/// slot are finished, and none covers it, that may be all numbers: what arrives later is then likely
-/// to be covered.
+/// slot are finished, and none covers it, that may be all numbers: what arrives later is then
+/// likely to be covered.
 pub fn forget_at(
     alloc: Global,
     flow: &Flow<'_>,

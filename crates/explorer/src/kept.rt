@@ -92,7 +92,7 @@ impl Kept {
 
     /// Keeps a state. The parts of its frames are computed in scratch space, and it shares what it
     /// can with another state.
-    pub(crate) fn of(
+    pub fn of(
         alloc: Global,
         state: &State,
         parts: &mut Vec<Part>,

@@ -7,28 +7,23 @@
 
 mod arrivals;
 mod blanks;
-pub mod explanations;
 mod groups;
 mod kept;
 mod kept_frames;
-pub mod limited;
 pub mod listened;
 mod listening;
-mod listing;
 mod moves;
 mod search;
+mod state_trees;
 mod stored_states;
 mod trail;
-mod turns;
 pub mod verified;
 
 pub use bounds::Verified;
-pub use explanations::{Explanation, Jump, explain};
 pub use kept::Kept;
-pub use limited::{NoBound, verify_within};
-pub use listened::{own_words, verify_with};
+pub use listened::{Searched, own_words, search_with, verify_with};
 pub use listening::Listener;
-pub use listing::{Explored, ExploredInsn, explore};
 pub use moves::Halt;
+pub use stored_states::StoredState;
 pub use verified::verify;
 pub use walks::Refusal;

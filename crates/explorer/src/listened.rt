@@ -11,27 +11,30 @@ ghost use Rattle.stack_state.specs.Starts.{start};
 ghost use Rattle.image.specs.Images.{IsImage};
 ghost use Rattle.control_flow.specs.Flows.{IsFlow};
 ghost use Rattle.explorer.specs.Search.{IsNew};
-ghost use Rattle.explorer.specs.Listening.{IfRefused};
+ghost use Rattle.explorer.specs.Listening.{IfRefused, IfStopped, IsOutsideSearch, EndsIn};
 
 use crate::kept::Kept;
 use crate::listening::Listener;
 use crate::moves::{Halt, NO_MEMORY, Refused};
 use crate::search::Search;
+use crate::stored_states::StoredState;
 use bounds::Verified;
 use control_flow::Flow;
 use image::Image;
 use isa_model::MAX_EXPLORED;
 use std::alloc::Global;
+use std::mem;
 use walks::Refusal;
 
 /// The control flow of a program, and a search that is at its start; or why there is no search, and
 /// the slot.
-pub fn prepared(alloc: Global, image: &Image) -> Result<(Flow<'_>, Search), Refused>
+fn prepared(alloc: Global, image: &Image) -> Result<(Flow<'_>, Search), Refused>
     ensures whole { IfOk result (λ _. IsImage image.now) }
     ensures good { IfOk result (λ _. IsFlow image.now) }
     ensures image { IfOk result (λ made. made.0 ≡ image.now) }
     ensures new { IfOk result (λ made. IsNew made.1) }
     ensures refused { IfErr result (λ r. IsRefused image.now r.0 r.1) }
+    ensures early { IfErr result (λ r. IsOutsideSearch r.0) }
 {
     let slots = image.slots();
     let flow = match Flow::of(alloc, image) {
@@ -44,22 +47,44 @@ pub fn prepared(alloc: Global, image: &Image) -> Result<(Flow<'_>, Search), Refu
     }
 }
 
-// The bound of a program's runs; a listener is called during the search for it.
-fn bound_with<L: Listener>(
-    alloc: Global,
-    image: &Image,
-    listener: &mut L,
-) -> Result<u32, Halt<L::Stop>>
+/// A search that has ended.
+#[derive(Drop)]
+pub struct Searched<S> {
+    /// The number of the start, which bounds all runs, or why there is none.
+    pub result: Result<u32, Halt<S>>,
+    /// The states that were stored, by the indexes that the listener was given.
+    pub stored: Vec<StoredState>,
+    /// Whether the limit of look-ups or of stored states was reached: from then on states were not
+    /// compared, and each was explored as a new one.
+    pub is_cut_off: bool,
+}
+
+/// Searches for a bound on a program's runs, and calls a listener for each move. There is no search
+/// if the program is refused for its control flow, or if memory runs out before it.
+pub fn search_with<L: Listener>(alloc: Global, image: &Image, listener: &mut L) -> Searched<L::Stop>
     requires untold { (last : TheState) × L.follows listener.old image.now [] last }
-    ensures ends { IfOk result (StartsEnd image.now) }
-    ensures number { IfOk result (λ n. HasNumber image.now start n) }
-    ensures some { IfOk result (λ n. 1 ≤ n) }
-    ensures most { IfOk result (λ n. n ≤ MAX_EXPLORED) }
-    ensures refused { IfErr result (λ h. IfRefused h (IsRefused image.now)) }
+    ensures ends { IfOk result.result (StartsEnd image.now) }
+    ensures number { IfOk result.result (λ n. HasNumber image.now start n) }
+    ensures some { IfOk result.result (λ n. 1 ≤ n) }
+    ensures most { IfOk result.result (λ n. n ≤ MAX_EXPLORED) }
+    ensures refused { IfErr result.result (λ h. IfRefused h (IsRefused image.now)) }
+    ensures stopped { IfErr result.result (λ h. IfStopped h (IsFlow image.now)) }
+
+    // A listener has followed the path to the state in which the program is refused.
+    ensures follows { IfErr result.result (λ h. IfRefused h
+        (EndsIn image.now (L.follows listener.new image.now))) }
 {
     match prepared(alloc, image) {
-        Ok((flow, mut search)) => search.explore(alloc, image, &flow, listener),
-        Err((refusal, slot)) => Err(Halt::Refused(refusal, slot)),
+        Ok((flow, mut search)) => Searched {
+            result: search.explore(alloc, image, &flow, listener),
+            stored: mem::replace(&mut search.states.states, Vec::new(alloc)),
+            is_cut_off: search.states.is_cut_off(),
+        },
+        Err((refusal, slot)) => Searched {
+            result: Err(Halt::Refused(refusal, slot)),
+            stored: Vec::new(alloc),
+            is_cut_off: false,
+        },
     }
 }
 
@@ -80,7 +105,8 @@ pub fn verify_with<L: Listener>(
     ensures bounds { IfOk result (λ verified. BoundsAll image verified.bound) }
 {
     image.recall();
-    match bound_with(alloc, &image, listener) {
+    let result = search_with(alloc, &image, listener).result;
+    match result {
         Ok(bound) => Ok(Verified::from_within(image, bound)),
         Err(halt) => Err(halt),
     }

@@ -7,10 +7,11 @@ ghost use Rattle.state_index.specs.Rooms.{HasShapeRoom};
 ghost use Rattle.explorer.specs.StoredStates.{IsStored, IsCovered, IsRepeated, StoredAt, GetsNumber};
 
 use crate::kept::{Kept, PLACES};
+use crate::state_trees::tree_of;
 use control_flow::SlotMask;
 use stack_state::State;
 use state_cover::covers;
-use state_index::{Effort, Key, LONG_SCAN, PartLimits, Rows, Spread, StateIndex, Tree};
+use state_index::{Effort, Key, LONG_SCAN, StateIndex};
 use std::alloc::{AllocError, Global};
 
 /// A state that was met at a join, with its number: 0 until it is finished.
@@ -36,8 +37,9 @@ const TREE_WORDS: u32 = 43;
 /// After how many finished states of a slot more are likely to come.
 const SETTLED: u8 = 2;
 
-/// How often the parts of callers are read where a state is looked up and stored.
-const CALLER_READINGS: usize = 3;
+/// How often the parts of callers are read where a path arrives at a state: they are looked up,
+/// compared with those that were kept last, twice if a jump leads there, and restored.
+const CALLER_READINGS: usize = 4;
 
 /// The stored states, in the order in which they were met.
 #[derive(Drop)]
@@ -116,50 +118,8 @@ impl StoredStates {
         if self.effort.is_over() {
             return Ok(());
         }
-        let tree = self.tree_of(alloc, &indexes)?;
+        let tree = tree_of(alloc, &self.states, &indexes)?;
         self.index.add_tree(known, left, tree)
-    }
-
-    /// How far the limits of stored states lie apart.
-    fn spread_of(
-        &self,
-        alloc: Global,
-        indexes: &[u32],
-        limits: &mut Vec<PartLimits>,
-    ) -> Result<Spread, AllocError> {
-        let mut spread = Spread::new(alloc);
-        for index in indexes {
-            if let Some(stored) = self.states.get(*index as usize) {
-                stored.state.take_limits(limits)?;
-                spread.add(limits.as_slice())?;
-            }
-        }
-        Ok(spread)
-    }
-
-    /// Adds the rows of stored states.
-    fn add_rows(
-        &self,
-        indexes: &[u32],
-        limits: &mut Vec<PartLimits>,
-        rows: &mut Rows,
-    ) -> Result<(), AllocError> {
-        for index in indexes {
-            if let Some(stored) = self.states.get(*index as usize) {
-                stored.state.take_limits(limits)?;
-                rows.add(*index, limits.as_slice())?;
-            }
-        }
-        Ok(())
-    }
-
-    /// A tree of stored states.
-    fn tree_of(&self, alloc: Global, indexes: &[u32]) -> Result<Tree, AllocError> {
-        let mut limits = Vec::new(alloc);
-        let spread = self.spread_of(alloc, indexes, &mut limits)?;
-        let mut rows = Rows::of(alloc, &spread)?;
-        self.add_rows(indexes, &mut limits, &mut rows)?;
-        Tree::of(alloc, rows)
     }
 
     /// Takes a state to be looked up and stored next. It may have been kept already; if not,

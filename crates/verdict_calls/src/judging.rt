@@ -15,9 +15,10 @@ ghost use Rattle.verdict_calls.specs.declared.statuses.NotAccepted.TheVariants a
 use crate::filling::fill;
 use crate::statuses::{MEMORY, NotAccepted, OK, REFUSED, UNDECIDED, WRONG};
 use control_flow::FlowError;
-use explorer::{NoBound, Refusal, Verified, verify, verify_within};
+use explorer::{Refusal, Verified, verify};
 use image::{Image, ImageError};
 use isa_model::MAX_EXPLORED;
+use listeners::{NoBound, verify_within};
 use refusal_texts::{image_text, program_text};
 use std::alloc::Global;
 

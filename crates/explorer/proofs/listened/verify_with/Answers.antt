@@ -18,9 +18,11 @@ pub returns-in-Ok-clause-bounds : goal.returns-in-Ok-clause-bounds
 returns-in-Ok-clause-bounds g c =
     let program = IsProgram-IsImage c.args.image c.recall.ensures in
     rw c.from_within.ensures
-    (BoundsAll-number c.args.image c.in-Ok.bound program c.in-Ok.ensures.number)
+    (BoundsAll-number c.args.image c.in-Ok.bound program
+    (rw c.in-Ok.is at c.search_with-result.ensures.number))
 
 pub returns-in-Err-clause-accepts : goal.returns-in-Err-clause-accepts
 returns-in-Err-clause-accepts g c =
     let program = IsProgram-IsImage c.args.image c.recall.ensures in
-    accepting c.args.image c.in-Err.halt program c.in-Err.ensures.refused
+    accepting c.args.image c.in-Err.halt program
+    (rw c.in-Err.is at c.search_with-result.ensures.refused)

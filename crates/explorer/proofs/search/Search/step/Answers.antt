@@ -99,14 +99,16 @@ entered_of c =
     elim c.match-ways.branch [
       | in-One w ↦
           let forgets : Forgets p a first =
-          subst (λ (x : Search). Forgets p x.current first) w.self-is c.in-Ok-forget_at.ensures.forgets in
+          subst (λ (x : Search). Forgets p x.current first) w.self-is
+          c.in-Ok-forget_at.ensures.forgets in
           one_way p q m states c.args.stored s a b first c.in-Ok.ways pending
           c.requires.image c.requires.good at.ready at.stored_at c.in-Ok.ensures.leads
           c.in-Ok.ensures.steps c.in-Ok.ensures.follows forgets w.in-One.is w.pending-is
       | in-Two+in-Ok-of_forgotten w ↦
           let other = w.forget.new.state in
           let forgets : Forgets p a first =
-          subst (λ (x : Search). Forgets p x.current first) w.self-is c.in-Ok-forget_at.ensures.forgets in
+          subst (λ (x : Search). Forgets p x.current first) w.self-is
+          c.in-Ok-forget_at.ensures.forgets in
           two_ways p q m states c.args.stored s a b first other c.in-Ok.ways pending
           c.requires.image c.requires.good at.ready at.stored_at c.in-Ok.ensures.leads
           c.in-Ok.ensures.steps c.in-Ok.ensures.follows forgets w.forget.ensures.forgets

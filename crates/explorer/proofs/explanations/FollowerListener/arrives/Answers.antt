@@ -1,9 +1,0 @@
-use Rattle.std.proofs.Common.{rules}
-use Rattle.explorer.proofs.Following.{arrived, count_of}
-use Rattle.explorer.proofs.explanations.FollowerListener.arrives.Goals as goal
-
-pub returns : goal.returns
-returns c = λ p path last comes h.
-    let count = count_of _ p _ _ _ path last h in
-    arrived _ p _ _ _ _ _ path last c.args.state.now (search rules) c.arrive.ensures.last
-    (c.arrive.ensures.on path (search rules)) comes h

@@ -1,6 +1,0 @@
-use Rattle.explorer.proofs.Turning.{AreOn_longer}
-use Rattle.explorer.proofs.turns.Turns.arrive.Goals as goal
-
-pub returns-else-state-slot-clause-on : goal.returns-else-state-slot-clause-on
-returns-else-state-slot-clause-on c =
-    λ path e h. AreOn_longer path c.args.state.now c.args.self.now h

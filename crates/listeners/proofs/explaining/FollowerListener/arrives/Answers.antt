@@ -1,0 +1,9 @@
+use Rattle.std.proofs.Common.{rules}
+use Rattle.listeners.proofs.Following.{arrived, count_of}
+use Rattle.listeners.proofs.explaining.FollowerListener.arrives.Goals as goal
+
+pub returns : goal.returns
+returns c = λ p path last comes h.
+    let count = count_of _ p _ _ _ path last h in
+    arrived _ p _ _ _ _ _ path last c.args.state.now (search rules) c.arrive.ensures.last
+    (c.arrive.ensures.on path (search rules)) comes h

@@ -1,0 +1,38 @@
+use Rattle.std.proofs.Common.{◌≡◌, Option, Some, None, List, rules}
+use Rattle.std.specs.Prelude.{IfSome}
+use Rattle.stack_state.specs.declared.states.State.{State}
+use Rattle.isa_model.specs.Code.Instructions.{Program}
+use Rattle.listeners.specs.declared.explaining.Explanation.{Explanation}
+use Rattle.walks.specs.Refused.{IsRefused}
+use Rattle.listeners.specs.Explained.{Explains}
+use Rattle.listeners.specs.Followed.{HasFollowed}
+use Rattle.explorer.specs.Listening.{EndsIn}
+use Rattle.listeners.proofs.Following.{explains_by}
+use Rattle.listeners.proofs.Stops.{refused_with}
+use Rattle.listeners.proofs.explaining.explain.Goals as goal
+
+if_some : (o : Option Explanation) (P Q : Explanation → Type 0) → ((x : Explanation) → P x → Q x)
+    → IfSome o P → IfSome o Q
+if_some None P Q weaker h = h
+if_some (Some x) P Q weaker h = weaker x h
+
+pub returns-in-Some : goal.returns-in-Some
+returns-in-Some c =
+    let p = c.args.image.now in
+    let searched = c.search_with-searched in
+    let f = searched.new.listener in
+    let tale : Program → List State → State
+    → Type 0 = λ r path last. HasFollowed f.image.now f.slots.items f.slot f.turns r path
+    last in
+    let e = c.in-Some.found in
+    let at = c.in-Some.at in
+    let refused = refused_with searched.result.result e at (IsRefused p) c.in-Some.ensures
+    searched.ensures.refused in
+    let ends = refused_with searched.result.result e at (EndsIn p (tale p)) c.in-Some.ensures
+    searched.ensures.follows in
+    let is : e ≡ c.args.refusal = search rules in
+    let here : at ≡ c.args.slot = search rules in
+    if_some c.into_explanation.result _ (Explains p c.args.refusal c.args.slot)
+    (λ x shown. explains_by p tale e c.args.refusal at c.args.slot x
+    is here (c.is_found_by_search.ensures (search rules)) refused ends shown)
+    c.into_explanation.ensures

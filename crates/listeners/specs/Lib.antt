@@ -1,0 +1,4 @@
+pub mod Explained
+pub mod Followed
+pub mod Limited
+pub mod Turns
