@@ -3,7 +3,7 @@ use Rattle.std.proofs.Common.{ℕ, ◌%◌, ◌^◌, arith}
 use Rattle.std.proofs.lemmas.Int.{ints}
 use Rattle.ranges.specs.Wides as W
 use Rattle.ranges.specs.Lows as L
-use Rattle.ranges.specs.Ranges.{Has, Encloses}
+use Rattle.ranges.specs.Ranges.{Has, IsConstant, Encloses}
 use Rattle.ranges.specs.declared.wide.Wide.{Wide}
 use Rattle.ranges.specs.declared.low.Low.{Low}
 use Rattle.ranges.specs.declared.range.Range.{Range}
@@ -32,3 +32,24 @@ enclosed_low a b e h within = record {
 pub enclosed_has : (a b : Range) (x : ℕ) → Encloses a b → Has b x → Has a x
 enclosed_has a b x h within =
     (enclosed_wide a.wide b.wide x h.0 within.0, enclosed_low a.low b.low (x % 2 ^ 32) h.1 within.1)
+
+-- limits that a number is within are as wide as its own
+pub constant_enclosed : (r d : Range) (n : ℕ) → IsConstant d n → Has r n → Encloses r d
+constant_enclosed r d n c h =
+    let from = h.0.from in
+    let to = h.0.to in
+    let low_from = h.1.from in
+    let low_to = h.1.to in (
+      (
+        omega (arith, c.0.0),
+        omega (arith, c.0.1),
+        rw c.0.2 h.0.signed_from,
+        rw c.0.3 h.0.signed_to,
+      ),
+      (
+        omega (arith, c.1.0),
+        omega (arith, c.1.1),
+        rw c.1.2 h.1.signed_from,
+        rw c.1.3 h.1.signed_to,
+      ),
+    )

@@ -152,6 +152,57 @@ impl Range {
         ensures enclosed { IfSome result (Encloses self) }
         ensures tight { IfSome result IsTight }
     {
+        if let Some(number) = self.number() {
+            let alone = Range::constant(number);
+            return if self.covers(alone) {
+                Some(alone)
+            } else {
+                None
+            };
+        }
+        if self.wide.greatest <= u64::from(u32::MAX) {
+            self.tightened_small()
+        } else {
+            self.tightened_parts()
+        }
+    }
+
+    // The same where all numbers are their own low halves.
+    fn tightened_small(self) -> Option<Self>
+        requires { self.wide.greatest < 2 ^ 32 }
+        ensures common { (x : ℕ) → Has self x → IsSomeAnd result (λ m. Has m x) }
+        ensures enclosed { IfSome result (Encloses self) }
+        ensures tight { IfSome result IsTight }
+    {
+        let part = self.wide.plain_part()?;
+        let least = self.low.least.max(part.least as u32);
+        let greatest = self.low.greatest.min(part.greatest as u32);
+        if least > greatest {
+            return None;
+        }
+        let both = Low {
+            least,
+            greatest,
+            signed_least: self.low.signed_least,
+            signed_greatest: self.low.signed_greatest,
+        };
+        let low = both.tightened()?;
+        Some(Range {
+            wide: Wide::between(u64::from(low.least), u64::from(low.greatest)),
+            low,
+        })
+    }
+
+    // The same, of the numbers without a sign bit and of those with it.
+    fn tightened_parts(self) -> Option<Self>
+        ensures common { (x : ℕ) → Has self x → IsSomeAnd result (λ m. Has m x) }
+        ensures enclosed { IfSome result (Encloses self) }
+        ensures tight { IfSome result IsTight }
+    {
+        let all = Range::any(Width::Full64);
+        if self.covers(all) {
+            return Some(all);
+        }
         let low = self.low.tightened()?;
         let Some(signed) = self.signed_part(low) else {
             return self.plain_part(low);

@@ -11,27 +11,6 @@ use Rattle.reg_state.specs.declared.scalars.Scalar.{Scalar}
 use Rattle.reg_state.specs.Scalars.{Has, IsNumber}
 use Rattle.reg_state.specs.Constants.{bits_constant_only}
 
--- limits that a number is within are as wide as its own
-pub range_constant_enclosed : (r d : Range) (n : ℕ) → R.IsConstant d n → R.Has r n → R.Encloses r d
-range_constant_enclosed r d n c h =
-    let from = h.0.from in
-    let to = h.0.to in
-    let low_from = h.1.from in
-    let low_to = h.1.to in (
-      (
-        omega (arith, c.0.0),
-        omega (arith, c.0.1),
-        rw c.0.2 h.0.signed_from,
-        rw c.0.3 h.0.signed_to,
-      ),
-      (
-        omega (arith, c.1.0),
-        omega (arith, c.1.1),
-        rw c.1.2 h.1.signed_from,
-        rw c.1.3 h.1.signed_to,
-      ),
-    )
-
 -- a Scalar that leaves one number has no other
 pub IsNumber-only : (s : Scalar) (n x : ℕ) → IsNumber s n → Has s x → x ≡ n
 IsNumber-only s n x (inl constant) h = bits_constant_only s.bits n x constant h.0

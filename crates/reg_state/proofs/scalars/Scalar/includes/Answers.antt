@@ -1,4 +1,4 @@
-use Rattle.reg_state.proofs.ConstantsLaws.{range_constant_enclosed}
+use Rattle.ranges.proofs.EnclosesLaws.{constant_enclosed}
 use Rattle.reg_state.proofs.scalars.Scalar.includes.Goals as goal
 
 pub returns-then-covers : goal.returns-then-covers
@@ -8,7 +8,7 @@ returns-then-covers c = (
     c.covers-then-covers.ensures.yes yes c.args.number c.constant-then-covers.ensures.contains,
   ),
   λ h. c.covers-then-covers.ensures.limits.1 (
-      range_constant_enclosed c.args.self.range c.constant-then-covers.result c.args.number
+      constant_enclosed c.args.self.range c.constant-then-covers.result c.args.number
       c.constant-then-covers.ensures.constant h.1
       ),
 )
