@@ -1,14 +1,14 @@
 -- Laws of low halves: their signed readings, limits that are reached, and which halves the numbers
 -- between two limits have.
-use Rattle.std.proofs.Common.{◌≡◌, ℕ, ℤ, ◌+◌, ◌*◌, ◌/◌, ◌%◌, ◌^◌, ◌<◌, ◌≤◌, inl, inr, sym, subst, arith, w64}
-use Rattle.std.specs.Prelude.{◌⊎◌, ◌≤ℤ◌, FitsSigned}
+use Rattle.std.proofs.Common.{◌≡◌, ℕ, ℤ, ◌+◌, ◌-◌, ◌*◌, ◌/◌, ◌%◌, ◌^◌, ◌<◌, ◌≤◌, ◌∙◌, inl, inr, ap, sym, subst, arith, w64}
+use Rattle.std.specs.Prelude.{◌⊎◌, ◌↔◌, ◌≤ℤ◌, FitsSigned}
 use Rattle.std.specs.Int.{w32, cast_signed, cast_unsigned}
 use borrow.Author.Differences.{up, down}
-use Rattle.std.proofs.lemmas.Int.{ints}
+use Rattle.std.proofs.lemmas.Int.{ints, of_z-to_z}
 use Rattle.std.proofs.lemmas.Bool.{cases_lt, lt-ltb, le-ltb}
 use Rattle.isa_model.specs.Code.NumberLaws.{signed_equation}
 use Rattle.ranges.specs.Joint.{IsHalfBetween}
-use Rattle.ranges.specs.Lows.{IsOfEither, AreReached}
+use Rattle.ranges.specs.Lows.{Has, IsOfEither, IsTight, AreReached}
 use Rattle.ranges.specs.declared.low.Low.{Low}
 use Rattle.ranges.proofs.Limits.{fits_32}
 
@@ -42,6 +42,50 @@ either_reached l a b P is left right = (
   one_of (λ z. P (cast_unsigned w32 z)) l.signed_greatest a.signed_greatest b.signed_greatest is.3
       left.3 right.3,
 )
+
+-- a signed limit that is one of the low halves
+signed_has : (l : Low) (e : ℕ) (z : ℤ) → Has l e → z ≡ cast_signed w32 e
+    → Has l (cast_unsigned w32 z)
+signed_has l e z h same =
+    subst (Has l) (sym (ap (cast_unsigned w32) same ∙ of_z-to_z w32 e h.below)) h
+
+-- those between two, where the signed limits are those of the type if they cross the sign bit
+pub low_between_tight : (l : Low) (least greatest : ℕ) → least ≤ greatest → greatest < 2 ^ 32
+    → FitsSigned w32 l.signed_least → FitsSigned w32 l.signed_greatest
+    → ((e : ℕ) → (Has l e ↔ ((least ≤ e) × (e ≤ greatest))))
+    → (l.least ≡ least) × (l.greatest ≡ greatest)
+    → (cast_signed w32 least ≤ℤ cast_signed w32 greatest
+    → (l.signed_least ≡ cast_signed w32 least) × (l.signed_greatest ≡ cast_signed w32 greatest))
+    → IsTight l
+low_between_tight l least greatest ordered below fl fg members limits signed =
+    let e = low_signed_equation least (omega arith) in
+    let f = low_signed_equation greatest below in
+    let first = (members least).1 (omega arith, ordered) in
+    let last = (members greatest).1 (ordered, omega arith) in
+    let alike : cast_signed w32 least ≤ℤ cast_signed w32 greatest
+    → Has l (cast_unsigned w32 l.signed_least) × Has l (cast_unsigned w32 l.signed_greatest) =
+    λ order. (
+      signed_has l least l.signed_least first (signed order).0,
+      signed_has l greatest l.signed_greatest last (signed order).1,
+    ) in
+    let both : Has l (cast_unsigned w32 l.signed_least)
+    × Has l (cast_unsigned w32 l.signed_greatest) =
+    elim (cases_lt greatest (2 ^ 31)) [
+      | inl plain ↦ alike (omega (arith, ints))
+      | inr over ↦ elim (cases_lt least (2 ^ 31)) [
+        | inl under ↦
+            let a = (members (2 ^ 31)).1 (omega arith, omega arith) in
+            let b = (members (2 ^ 31 - 1)).1 (omega arith, omega arith) in
+            let ea = low_signed_equation (2 ^ 31) (omega arith) in
+            let eb = low_signed_equation (2 ^ 31 - 1) (omega arith) in (
+              signed_has l (2 ^ 31) l.signed_least a (omega (arith, ints, a.signed_from, fl.sfits)),
+              signed_has l (2 ^ 31 - 1) l.signed_greatest b
+                  (omega (arith, ints, b.signed_to, fg.sfits)),
+            )
+        | inr signed_all ↦ alike (omega (arith, ints))
+      ]
+    ] in
+    (subst (Has l) (sym limits.0) first, subst (Has l) (sym limits.1) last, both.0, both.1)
 
 -- ---- low halves of the numbers between two limits
 

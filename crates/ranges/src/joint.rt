@@ -107,6 +107,9 @@ impl Wide {
             → L.IsSignedBetween result self.signed_least self.signed_greatest }
         ensures reached { L.AreReached result (IsHalfBetween self.least self.greatest) }
     {
+        if self.greatest <= u64::from(u32::MAX) {
+            return Low::between(self.least as u32, self.greatest as u32);
+        }
         Low::any().among(self.least, self.greatest)
     }
 }
