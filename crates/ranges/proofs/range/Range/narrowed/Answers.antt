@@ -1,5 +1,6 @@
 use Rattle.std.proofs.Common.{ℕ, ◌≡◌, ◌≤◌, ◌%◌, ◌^◌, ◌∙◌, sym, subst, ap, inl, inr, w64, arith}
-use Rattle.std.specs.Int.{cast_unsigned}
+use Rattle.std.specs.Prelude.{◌≤ℤ◌}
+use Rattle.std.specs.Int.{cast_signed, cast_unsigned}
 use Rattle.std.proofs.lemmas.Int.{ints, of_z-to_z}
 use Rattle.isa_model.specs.Code.NumberLaws.{signed_equation}
 use Rattle.ranges.specs.Joint.{IsHalfBetween}
@@ -30,6 +31,45 @@ returns-clause-common c = λ x hx h.
     c.in_ok-least.ensures.first x (omega arith) (omega arith) h in
     let to : x ≤ c.in_ok-greatest.greatest = c.in_ok-greatest.ensures.last x (omega arith) h in
     ((c.between.ensures.members x).1 (from, to), c.among.ensures.contains x from to h)
+
+pub returns-clause-enclosed : goal.returns-clause-enclosed
+returns-clause-enclosed c =
+    let lim = c.between.ensures.limits in
+    let first = c.in_ok-least.ensures.some in
+    let last = c.in_ok-greatest.ensures.some in
+    let alike = c.requires.alike in
+    let e = signed_equation c.in_ok-least.least (omega arith) in
+    let f = signed_equation c.in_ok-greatest.greatest (omega arith) in
+    let g = signed_equation c.args.part.least (omega arith) in
+    let h = signed_equation c.args.part.greatest (omega arith) in
+    let order : (cast_signed w64 c.args.part.least ≤ℤ cast_signed w64 c.in_ok-least.least)
+    × (cast_signed w64 c.in_ok-greatest.greatest ≤ℤ cast_signed w64 c.args.part.greatest)
+    × (cast_signed w64 c.in_ok-least.least ≤ℤ cast_signed w64 c.in_ok-greatest.greatest) =
+    elim c.requires.side [
+      | inl plain ↦ (omega (arith, ints), omega (arith, ints), omega (arith, ints))
+      | inr signed ↦ (omega (arith, ints), omega (arith, ints), omega (arith, ints))
+    ] in
+    let s = c.between.ensures.signed order.2 in (
+      (
+        omega (arith, lim, first),
+        omega (arith, lim, last),
+        rw (alike.0, s.0) order.0,
+        rw (alike.1, s.1) order.1,
+      ),
+      c.among.ensures.enclosed,
+    )
+
+pub returns-clause-alike : goal.returns-clause-alike
+returns-clause-alike c =
+    let lim = c.between.ensures.limits in
+    let first = c.in_ok-least.ensures.some in
+    let last = c.in_ok-greatest.ensures.some in
+    let e = signed_equation c.in_ok-least.least (omega arith) in
+    let f = signed_equation c.in_ok-greatest.greatest (omega arith) in
+    let s = c.between.ensures.signed
+    (elim c.requires.side
+    [ inl plain ↦ omega (arith, ints) | inr signed ↦ omega (arith, ints) ]) in
+    rw (lim.0, lim.1) s
 
 pub returns-clause-tight : goal.returns-clause-tight
 returns-clause-tight c =
