@@ -11,7 +11,7 @@ use crate::state_trees::tree_of;
 use control_flow::SlotMask;
 use stack_state::State;
 use state_cover::covers;
-use state_index::{Effort, Key, LONG_SCAN, StateIndex};
+use state_index::{Effort, Key, LONG_SCAN, OwnShape, StateIndex};
 use std::alloc::{AllocError, Global};
 
 /// A state that was met at a join, with its number: 0 until it is finished.
@@ -26,6 +26,17 @@ pub struct StoredState {
 struct Scan {
     known: u64,
     count: usize,
+}
+
+/// What a look-up found.
+#[derive(Clone, Copy, Drop)]
+struct Found {
+    /// The first finished state that covers the one that is looked up: its index and its number.
+    first: Option<(usize, u32)>,
+    /// The longest scan before it was found.
+    longest: Scan,
+    /// The shape of the state that is looked up, if another one of its slot has it.
+    own: Option<OwnShape>,
 }
 
 /// How many words of 8 bytes the stored states may take, shared ones not counted.
@@ -50,6 +61,8 @@ pub struct StoredStates {
     key: Key,
     /// The longest scan when a state was looked for last.
     longest: Scan,
+    /// The shape of the state that was looked for last, if it was met.
+    own: Option<OwnShape>,
     /// What looking up has cost.
     effort: Effort,
     /// Whether the limit of that cost is reached: then no state is looked up or stored any more.
@@ -83,6 +96,7 @@ impl StoredStates {
             index,
             key,
             longest: Scan { known: 0, count: 0 },
+            own: None,
             effort: Effort::new(),
             is_over: false,
             words: 0,
@@ -143,6 +157,7 @@ impl StoredStates {
         {
             self.add_tree(alloc, longest.known)?;
         }
+        self.own = None;
         self.is_over = self.effort.is_over();
         self.key.is_sought = !self.is_over;
         let caller_parts = state.callers.as_slice().len().saturating_mul(PLACES);
@@ -214,29 +229,36 @@ impl StoredStates {
         (found, self.states.len())
     }
 
-    /// The first finished state that covers this one, and the longest scan before it was found.
-    fn first_covering(
-        &self,
-        state: &State,
-        scratch: &mut State,
-        effort: &mut Effort,
-    ) -> (Option<(usize, u32)>, Scan)
-        ensures { IfSome result.0 (λ r. IsCovered self.now.states.items r.0 state.now r.1) }
+    /// Looks for the first finished state that covers this one.
+    fn first_covering(&self, state: &State, scratch: &mut State, effort: &mut Effort) -> Found
+        ensures { IfSome result.first
+            (λ r. IsCovered self.now.states.items r.0 state.now r.1) }
     {
         let mut first = None;
         let mut longest = Scan { known: 0, count: 0 };
+        let mut own = None;
+        let mut tried: usize = 1;
         for shape in self.index.shapes_at(state.slot) {
+            tried = tried.saturating_add(1);
             if let Some(known) = self.index.known_in(shape, &self.key, effort) {
-                let (found, count) = self.first_known(known, first, state, scratch, effort);
+                let (found, count) = self.first_known(known.print, first, state, scratch, effort);
                 if let Some(found) = found {
                     first = Some(found);
                 }
                 if count > longest.count {
-                    longest = Scan { known, count };
+                    longest = Scan {
+                        known: known.print,
+                        count,
+                    };
                 }
+                own = known.own_after(own, tried);
             }
         }
-        (first, longest)
+        Found {
+            first,
+            longest,
+            own,
+        }
     }
 
     /// The first finished state that covers this one: its index and its number.
@@ -250,10 +272,11 @@ impl StoredStates {
         if effort.is_over() {
             return None;
         }
-        let (first, longest) = self.first_covering(state, scratch, &mut effort);
-        self.longest = longest;
+        let found = self.first_covering(state, scratch, &mut effort);
+        self.longest = found.longest;
+        self.own = found.own;
         self.effort = effort;
-        first
+        found.first
     }
 
     /// Whether a stored state is unfinished and equal to the state.
@@ -331,7 +354,7 @@ impl StoredStates {
         let index = self.states.len();
         if self.key.is_sought {
             self.index
-                .add(alloc, state.slot, &self.key, &mut self.effort)?;
+                .add(alloc, state.slot, &self.key, self.own, &mut self.effort)?;
         }
         let state = match kept.take() {
             Some(kept) => kept,

@@ -44,6 +44,11 @@ impl Effort {
         self.spend(parts.saturating_add(TEST));
     }
 
+    /// Notes the cost of this many look-ups, each of which compares this many parts.
+    pub fn spend_look_ups(&mut self, count: usize, parts: usize) {
+        self.spend(parts.saturating_add(TEST).saturating_mul(count));
+    }
+
     /// Notes the cost of making a tree of states with this many parts each.
     pub fn spend_tree(&mut self, states: usize, parts: usize) {
         let each = parts.saturating_mul(TREE_PART).saturating_add(TREE);

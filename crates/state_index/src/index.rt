@@ -12,7 +12,7 @@ use crate::efforts::Effort;
 use crate::keys::Key;
 use crate::limits::PartLimits;
 use crate::parts::Part;
-use crate::shapes::{Shape, ShapeLink};
+use crate::shapes::{KnownIn, OwnShape, Shape, ShapeLink};
 use crate::tree_sets::TreeSets;
 use crate::trees::Tree;
 use std::alloc::{AllocError, Global};
@@ -70,8 +70,8 @@ impl StateIndex {
         }
     }
 
-    /// A fingerprint of what is known of a state in a shape, if that is all that the shape knows.
-    pub fn known_in(&self, shape: usize, key: &Key, effort: &mut Effort) -> Option<u64> {
+    /// What is known of a state in a shape, if that is all that the shape knows.
+    pub fn known_in(&self, shape: usize, key: &Key, effort: &mut Effort) -> Option<KnownIn> {
         effort.spend_look_up(key.parts.len());
         let link = self.shapes.get(shape)?;
         link.shape.known_of(shape, key)
@@ -231,17 +231,38 @@ impl StateIndex {
         Ok(index)
     }
 
-    /// Adds a stored state that is unfinished.
+    /// A fingerprint of what a state knows in its own shape, which was met or is sought.
+    fn own_known(
+        &mut self,
+        alloc: Global,
+        slot: usize,
+        key: &Key,
+        own: Option<OwnShape>,
+        effort: &mut Effort,
+    ) -> Result<u64, AllocError> {
+        if let Some(own) = own {
+            effort.spend_look_ups(own.tried, key.parts.len());
+            return Ok(own.known);
+        }
+        let shape = self.shape_of(alloc, slot, key, effort)?;
+        match self.known_in(shape, key, effort) {
+            Some(known) => Ok(known.print),
+            None => Ok(0),
+        }
+    }
+
+    /// Adds a stored state that is unfinished. Its own shape may have been met where it was looked
+    /// up.
     pub fn add(
         &mut self,
         alloc: Global,
         slot: usize,
         key: &Key,
+        own: Option<OwnShape>,
         effort: &mut Effort,
     ) -> Result<(), AllocError> {
         self.add_buckets(alloc)?;
-        let shape = self.shape_of(alloc, slot, key, effort)?;
-        let known = self.known_in(shape, key, effort).unwrap_or(0);
+        let known = self.own_known(alloc, slot, key, own, effort)?;
         let index = self.links.len();
         self.links.push(StateLink {
             fingerprint: key.fingerprints.whole,

@@ -29,5 +29,6 @@ pub use keys::Key;
 pub use limits::{PartLimits, add_limits};
 pub use parts::{Part, may_cover_part, take_parts, take_parts_in, write};
 pub use rows::{Rows, Spread};
+pub use shapes::{KnownIn, OwnShape};
 pub use tree_sets::LONG_SCAN;
 pub use trees::Tree;

@@ -59,6 +59,40 @@ pub struct ShapeLink {
     pub next: u32,
 }
 
+/// What a state knows in a shape.
+#[derive(Clone, Copy, Drop)]
+pub struct KnownIn {
+    /// A fingerprint of the shape, of its known bits as they are in the state, and of the slots of
+    /// the code to which the state's frames return.
+    pub print: u64,
+    /// Whether the shape is that of the state, which knows no other bits.
+    pub is_own: bool,
+}
+
+/// A state's own shape, where it was met among those of its slot.
+#[derive(Clone, Copy, Drop)]
+pub struct OwnShape {
+    /// A fingerprint of what the state knows in it.
+    pub known: u64,
+    /// How many look-ups it takes to find it again, and what is known in it.
+    pub tried: usize,
+}
+
+impl KnownIn {
+    /// The state's own shape: the one that was met before, or this one, which it takes so many
+    /// look-ups to find again.
+    #[inline(always)]
+    pub fn own_after(&self, before: Option<OwnShape>, tried: usize) -> Option<OwnShape> {
+        match before {
+            None if self.is_own => Some(OwnShape {
+                known: self.print,
+                tried,
+            }),
+            before => before,
+        }
+    }
+}
+
 impl Shape {
     /// The shape of a state that has these parts. Every state has the shape of no parts, in which
     /// nothing is known.
@@ -86,28 +120,35 @@ impl Shape {
         rest.is_empty()
     }
 
-    /// A fingerprint of the shape, which has this index, of its known bits as they are in a state,
-    /// and of the slots of the code to which the state's frames return. None if the state does not
-    /// know all of these bits.
-    pub fn known_of(&self, index: usize, key: &Key) -> Option<u64> {
+    /// What a state knows in the shape, which has this index. None if it does not know all bits that
+    /// the shape knows.
+    pub fn known_of(&self, index: usize, key: &Key) -> Option<KnownIn> {
         let mut rest = self.known_numbers.as_slice();
         let mut print = key.fingerprints.returns;
+        let mut is_own = true;
         for part in &key.parts {
-            let [first, others @ ..] = rest else {
-                break;
-            };
             if let Some((number, bits)) = number_in(part) {
+                let [first, others @ ..] = rest else {
+                    is_own = false;
+                    break;
+                };
                 if first.part_index == number.part_index {
                     if number.unknown & !first.unknown != 0 {
                         break;
                     }
+                    is_own = is_own && number.unknown == first.unknown;
                     print = mixed(print, bits & !first.unknown);
                     rest = others;
+                } else {
+                    is_own = false;
                 }
             }
         }
         match rest.is_empty() {
-            true => Some(mixed(print, index as u64)),
+            true => Some(KnownIn {
+                print: mixed(print, index as u64),
+                is_own,
+            }),
             false => None,
         }
     }
