@@ -9,7 +9,7 @@ use Rattle.assembler.specs.declared.errors.AsmError.{AsmError}
 use Rattle.assembler.specs.Shown.{shown}
 use Rattle.walks.specs.declared.refusals.Refusal.{Refusal}
 use Rattle.rechecking.specs.declared.errors.TableError.{TableError}
-use Rattle.explanations.specs.Reasons.{IsReason}
+use Rattle.listeners.specs.Reasons.{IsReason}
 use Rattle.explanations.specs.Entries.{IsEntryReason}
 use Rattle.words.specs.declared.tasks.WordsError.{WordsError}
 use Rattle.words.specs.Requests.{TaskRequest, RunFiles, Trace}

@@ -6,7 +6,7 @@ use Rattle.std.specs.String.{string_bytes}
 use Rattle.isa_model.specs.declared.instructions.Insn.{Insn}
 use Rattle.isa_model.specs.{Program}
 use Rattle.assembler.specs.Shown.{shown}
-use Rattle.explanations.specs.Reasons.{IsReason}
+use Rattle.listeners.specs.Reasons.{IsReason}
 use Rattle.explanations.specs.declared.entries.EntryReason.{EntryReason}
 use Rattle.explanations.specs.Entries.{IsEntryReason}
 use Rattle.commands.specs.declared.rejections.Rejection.TheVariants as rejection

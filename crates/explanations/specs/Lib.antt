@@ -6,7 +6,7 @@ pub mod Loops
 pub mod Cases
 pub mod Flows
 pub mod Values
-pub mod Reasons
 pub mod Mismatches
 pub mod Turns
 pub mod Entries
+pub mod States

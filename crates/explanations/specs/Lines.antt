@@ -21,7 +21,7 @@ use Rattle.stack_state.specs.Slots.{frame_slots}
 use Rattle.transfer.specs.declared.refusals.Refusal.TheVariants.{NoAction}
 use Rattle.walks.specs.declared.refusals.Refusal.{Refusal}
 use Rattle.walks.specs.declared.refusals.Refusal.TheVariants.{Step}
-use Rattle.listeners.specs.declared.explaining.Jump.{Jump}
+use Rattle.walks.specs.declared.explained.Jump.{Jump}
 use Rattle.explanations.specs.Numbers.{half_words}
 use Rattle.explanations.specs.Kinds.{kind_words}
 use Rattle.explanations.specs.Slots.{byte_at, byte_line, slot_line, first_open}

@@ -5,7 +5,7 @@ use Rattle.isa_model.specs.declared.instructions.Insn.TheVariants.{Jump, JumpLon
 use Rattle.isa_model.specs.Code.Instructions.{Program, fetch}
 use Rattle.walks.specs.declared.refusals.Refusal.{Refusal}
 use Rattle.walks.specs.declared.refusals.Refusal.TheVariants.{TooLong}
-use Rattle.listeners.specs.declared.explaining.Jump.{Jump as TheJump}
+use Rattle.walks.specs.declared.explained.Jump.{Jump as TheJump}
 
 abbrev pub is_jump : Option Insn → Bool
 is_jump (Some (Jump by)) = true

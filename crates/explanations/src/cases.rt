@@ -9,12 +9,12 @@ ghost use Rattle.transfer.specs.HelperCalls.{points_to_bytes};
 ghost use Rattle.explanations.specs.Cases as spec;
 ghost use Rattle.explanations.specs.Cases.{access, needs_words, last_byte, span_words, behind_words, frame_line, packet_line, map_value_line, is_map, key_line, update_line, argument_line, value_size, exit_line, hint_line};
 
-use explorer::Refusal;
 use isa_model::{Helper, Insn, MapDef, Place, Reg, SignedSize, Size};
 use reg_state::Kind;
 use stack_state::State;
 use std::alloc::{AllocError, Global};
 use transfer::Refusal as StepRefusal;
+use walks::Refusal;
 
 // What a sign-extending load reads.
 fn unsigned_size(signed_size: SignedSize) -> Size

@@ -10,7 +10,6 @@ ghost use Rattle.explanations.specs.Entries.{step_lines, count_line, states_of, 
 use crate::differences::mismatch_lines;
 use crate::lines::{answer_line, register_lines, stack_lines};
 use crate::mismatches::mismatch_of;
-use explorer::Refusal;
 use image::Image;
 use isa_model::Insn;
 use rechecking::TableError;
@@ -18,6 +17,7 @@ use stack_state::State;
 use std::alloc::{AllocError, Global};
 use table_entries::{EntryHead, NamedEntries, Table};
 use transfer::{Ways, step_in_place};
+use walks::Refusal;
 
 /// What is known of an entry of a table that is refused.
 #[derive(Drop)]

@@ -10,13 +10,14 @@ mod lines;
 mod loops;
 mod mismatches;
 mod numbers;
-mod reasons;
 mod slots;
+mod states;
 mod turns;
 mod values;
 
 pub use entries::{EntryReason, entry_reason};
+pub use flows::flow_line;
 pub use kinds::kind_words;
-pub use reasons::reason;
 pub use slots::slot_line;
+pub use states::lines_of;
 pub use values::value_lines;

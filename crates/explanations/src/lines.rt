@@ -12,13 +12,12 @@ ghost use Rattle.explanations.specs.Lines.{concerned, register_lines, called_row
 use crate::kinds::kind_words;
 use crate::numbers::half_words;
 use crate::slots::{byte_at, first_open, slot_line};
-use explorer::Refusal;
 use isa_model::{Helper, Insn, MapDef, Place, Reg};
-use listeners::Jump;
 use reg_state::Kind;
 use stack_state::{FRAME_SLOTS, State};
 use std::alloc::{AllocError, Global};
 use transfer::Refusal as StepRefusal;
+use walks::{Jump, Refusal};
 
 // ---- registers
 

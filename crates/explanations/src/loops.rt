@@ -6,11 +6,10 @@ ghost use Rattle.isa_model.specs.Code.Instructions.{fetch};
 ghost use Rattle.explanations.specs.Loops as spec;
 ghost use Rattle.explanations.specs.Loops.{is_jump, back_jump, or_earlier, last_back, times, again_line, no_loop_line, taken_line};
 
-use explorer::Refusal;
 use image::Image;
 use isa_model::Insn;
-use listeners::Jump;
 use std::alloc::{AllocError, Global};
+use walks::{Jump, Refusal};
 
 // Whether a jump begins at a slot.
 fn is_jump(image: &Image, slot: usize) -> bool

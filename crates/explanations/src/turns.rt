@@ -8,9 +8,9 @@ ghost use Rattle.explanations.specs.Turns.{turn_line, register_turn, register_tu
 
 use crate::differences::{register_words, stack_words};
 use crate::slots::offset_of;
-use explorer::Refusal;
 use stack_state::State;
 use std::alloc::{AllocError, Global};
+use walks::Refusal;
 
 fn is_same(before: &str, now: &str) -> bool
     ensures { result ≡ bytes_eq before.now now.now }

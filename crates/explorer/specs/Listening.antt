@@ -1,11 +1,10 @@
 -- The calls that a search makes to a listener, and what a listener then knows of it.
 use Rattle.std.specs.Prelude.{◌≡◌, ℕ, List, [], ◌∷◌, ◌++◌, reverse, Option, Some, None}
-use Rattle.isa_model.specs.declared.instructions.Insn.{Insn}
-use Rattle.isa_model.specs.Code.Instructions.{Program, fetch}
+use Rattle.isa_model.specs.Code.Instructions.{Program}
 use Rattle.stack_state.specs.declared.states.State.{State}
 use Rattle.stack_state.specs.Starts.{start}
-use Rattle.transfer.specs.Exact.{RefusesStep}
 use Rattle.walks.specs.Forgetting.{Forgets}
+use Rattle.walks.specs.Refused.{StopsIn}
 use Rattle.walks.specs.Walks.{StepsTo}
 use Rattle.explorer.specs.Search.{IfStepsTo}
 use Rattle.walks.specs.declared.refusals.Refusal.{Refusal}
@@ -77,15 +76,6 @@ IfReturns old None new current = Unit {0}
 IfReturns old (Some made) new current = ShowsReturn old made new current
 
 -- ---- why a search stops
-
--- why it stops in a state: its step is refused, the path was in one before where each covers the
--- other, or the limit of explored instructions is reached
-abbrev pub StopsIn : Program → State → Refusal → Type 0
-StopsIn p s (Flow e) = ⊥
-StopsIn p s (Step e) = (i : Insn) × (fetch p s.slot ≡ Some i) × RefusesStep p s i e
-StopsIn p s Repeats = Unit {0}
-StopsIn p s TooLong = Unit {0}
-StopsIn p s Memory = ⊥
 
 -- the path comes back to the state, or memory ran out
 abbrev pub ComesBackAt : State → Refusal → ℕ → Type 0

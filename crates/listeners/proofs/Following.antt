@@ -4,20 +4,20 @@ use Rattle.std.specs.Prelude.{slice_get, option_to_list, IsSome}
 use Rattle.std.proofs.lemmas.List.{same_from_push}
 use Rattle.isa_model.specs.Code.Instructions.{Program}
 use Rattle.stack_state.specs.declared.states.State.{State}
-use Rattle.listeners.specs.declared.explaining.Jump.{Jump}
-use Rattle.listeners.specs.declared.explaining.Explanation.{Explanation}
+use Rattle.walks.specs.declared.explained.Jump.{Jump}
+use Rattle.walks.specs.declared.explained.Explanation.{Explanation}
 use Rattle.walks.specs.declared.refusals.Refusal.{Refusal}
 use Rattle.walks.specs.declared.refusals.Refusal.TheVariants.{Flow, Step, Repeats, TooLong, Memory}
 use Rattle.walks.specs.Walks.{StepsTo}
-use Rattle.walks.specs.Refused.{StopsAt, IsRefused}
-use Rattle.listeners.specs.Explained.{IsLed, IsTurnBefore, ComesThrough, Explains}
-use Rattle.listeners.specs.Explained.ComesThrough.{AtStart, AfterOne}
-use Rattle.explorer.specs.Listening.{ComesTo, StopsIn, IsToStop, IsOutsideSearch, EndsIn}
+use Rattle.walks.specs.Refused.{StopsAt, StopsIn, IsRefused}
+use Rattle.walks.specs.Explained.{IsLed, IsTurnBefore, ComesThrough, Explains}
+use Rattle.walks.specs.Explained.ComesThrough.{AtStart, AfterOne}
+use Rattle.explorer.specs.Listening.{ComesTo, IsToStop, IsOutsideSearch, EndsIn}
 use Rattle.listeners.specs.declared.turns.Turns.{Turns}
 use Rattle.listeners.specs.Turns.{AreOn}
 use Rattle.listeners.specs.Followed.{HasFollowed, IsWalk, slots_along}
 use Rattle.explorer.proofs.StoredStatesLaws.{slice_get-push, slice_get-seam}
-use Rattle.listeners.proofs.LastJumps.{led_start}
+use Rattle.walks.proofs.LastJumps.{led_start}
 
 -- ---- the last jumps of the path
 

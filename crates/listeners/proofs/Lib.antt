@@ -1,4 +1,4 @@
 pub mod Stops
-pub mod LastJumps
 pub mod Turning
 pub mod Following
+pub mod ReasonLaws

@@ -5,7 +5,7 @@ use Rattle.isa_model.specs.Code.Instructions.{Program}
 use Rattle.stack_state.specs.declared.states.State.{State}
 use Rattle.walks.specs.Walks.{StepsTo, HasSteps}
 use Rattle.listeners.specs.declared.turns.Turns.{Turns}
-use Rattle.listeners.specs.Explained.{IsTurnBefore}
+use Rattle.walks.specs.Explained.{IsTurnBefore}
 use Rattle.listeners.specs.Followed.{IsWalk}
 use Rattle.listeners.specs.Turns.{IsAtIndex, AreOn, IsFurtherBack}
 

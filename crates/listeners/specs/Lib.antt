@@ -1,4 +1,4 @@
-pub mod Explained
 pub mod Followed
 pub mod Limited
+pub mod Reasons
 pub mod Turns

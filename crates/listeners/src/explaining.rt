@@ -4,7 +4,7 @@ ghost use Rattle.std.specs.Prelude.{◌≡◌, ◌<◌, [], ◌∷◌, ◌++◌,
 ghost use Rattle.isa_model.specs.Code.Instructions.{Program};
 ghost use Rattle.stack_state.specs.declared.states.State.{State as TheState};
 ghost use Rattle.walks.specs.Walks.{StepsTo};
-ghost use Rattle.listeners.specs.Explained.{IsLed, IsTurnBefore, ComesThrough, Explains};
+ghost use Rattle.walks.specs.Explained.{IsLed, IsTurnBefore, ComesThrough, Explains};
 ghost use Rattle.explorer.specs.declared.moves.Halt.TheVariants.{Refused};
 ghost use Rattle.explorer.specs.Listening.{IsOutsideSearch};
 ghost use Rattle.listeners.specs.Followed.{HasFollowed};
@@ -15,34 +15,7 @@ use explorer::{Halt, Listener, search_with};
 use image::Image;
 use stack_state::State;
 use std::alloc::{AllocError, Global};
-use walks::Refusal;
-
-/// How many jumps of a path are kept at most: the last ones.
-pub const MOST_JUMPS: usize = 8;
-
-/// A step that does not go to the next instruction: its slot and its target.
-#[derive(Clone, Copy, Default, Drop)]
-pub struct Jump {
-    pub from: usize,
-    pub to: usize,
-}
-
-/// What is known where a program is refused.
-#[derive(Drop)]
-pub struct Explanation {
-    /// The abstract state in which it is.
-    pub state: State,
-    /// The state of the previous turn of the loop: the last one on the path there that came to the
-    /// same slot.
-    pub earlier: Option<State>,
-    /// The last jumps on the path there.
-    pub way: ArrayVec<Jump, 8>,
-    /// The slots of all states on the path there, the first one first.
-    pub slots: Vec<usize>,
-    /// Whether the limit of look-ups or of stored states was reached: from then on states were not
-    /// compared, and each was explored as a new one.
-    pub is_cut_off: bool,
-}
+use walks::{Explanation, Jump, MOST_JUMPS, Refusal};
 
 /// Adds a jump at the end; a full list loses its first one.
 fn note(way: &mut ArrayVec<Jump, 8>, jump: Jump)

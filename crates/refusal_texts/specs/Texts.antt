@@ -11,7 +11,7 @@ use Rattle.image.specs.Messages as image
 use Rattle.walks.specs.declared.refusals.Refusal.{Refusal}
 use Rattle.walks.specs.declared.refusals.Refusal.TheVariants as program_refusal
 use Rattle.walks.specs.Messages as walks
-use Rattle.explanations.specs.Reasons.{IsReason}
+use Rattle.listeners.specs.Reasons.{IsReason}
 use Rattle.assembler.specs.declared.errors.AsmError.{AsmError}
 use Rattle.assembler.specs.Messages as assembler
 use Rattle.transfer.specs.Messages as transfer

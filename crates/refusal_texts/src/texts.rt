@@ -4,15 +4,15 @@ ghost use Rattle.std.specs.Prelude.{◌≡◌, ◌++◌, false, None, codes, dec
 ghost use Rattle.std.specs.Option.{option_copied};
 ghost use Rattle.std.specs.String.{string_bytes};
 ghost use Rattle.isa_model.specs.Code.Instructions.{fetch};
-ghost use Rattle.explanations.specs.Reasons.{IsReason};
+ghost use Rattle.listeners.specs.Reasons.{IsReason};
 ghost use Rattle.refusal_texts.specs.Texts.{refused_at, slot_position, image_front, image_text, text_position, source_text, program_front, insn_end, IsProgramText};
 
 use assembler::AsmError;
 use disassembler::write_insn;
 use exact_io::write_bytes;
-use explanations::reason;
 use image::{Image, ImageError};
 use isa_model::Insn;
+use listeners::reason;
 use std::alloc::{AllocError, Global};
 use std::io;
 use walks::Refusal;

@@ -24,3 +24,4 @@ pub mod GuardedBody
 pub mod GuardedWalks
 pub mod Guarded
 pub mod AcceptingLaws
+pub mod LastJumps

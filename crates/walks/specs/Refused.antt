@@ -1,10 +1,12 @@
 -- What a refusal says of a program.
-use Rattle.std.specs.Prelude.{◌≡◌, ℕ, ◌+◌}
-use Rattle.isa_model.specs.Code.Instructions.{Program}
+use Rattle.std.specs.Prelude.{◌≡◌, ℕ, ◌+◌, Some}
+use Rattle.isa_model.specs.declared.instructions.Insn.{Insn}
+use Rattle.isa_model.specs.Code.Instructions.{Program, fetch}
 use Rattle.stack_state.specs.Starts.{start}
 use Rattle.control_flow.specs.Flows.{IsFlow}
 use Rattle.control_flow.specs.Flows as flow
 use Rattle.stack_state.specs.declared.states.State.{State}
+use Rattle.transfer.specs.Exact.{RefusesStep}
 use Rattle.walks.specs.Forgetting.{Forgets}
 use Rattle.walks.specs.Walks.{IsReached, IsStuck, ComesBack}
 use Rattle.walks.specs.Counts.{Takes}
@@ -24,6 +26,15 @@ StopsAt p (Step e) slot = IsStuck p e slot
 StopsAt p Repeats slot = ComesBack p slot
 StopsAt p TooLong slot = IsReached p slot × StartTakes p (MAX_EXPLORED + 1)
 StopsAt p Memory slot = slot ≡ 0
+
+-- why the search stops in a state: its step is refused, the path was in one before where each covers the
+-- other, or the limit of explored instructions is reached
+abbrev pub StopsIn : Program → State → Refusal → Type 0
+StopsIn p s (Flow e) = ⊥
+StopsIn p s (Step e) = (i : Insn) × (fetch p s.slot ≡ Some i) × RefusesStep p s i e
+StopsIn p s Repeats = Unit {0}
+StopsIn p s TooLong = Unit {0}
+StopsIn p s Memory = ⊥
 
 -- control flow comes first, and all other refusals are of programs whose control flow is good
 abbrev pub IsRefused : Program → Refusal → ℕ → Type 0

@@ -2,9 +2,9 @@ use Rattle.std.proofs.Common.{◌≡◌, Option, Some, None, List, rules}
 use Rattle.std.specs.Prelude.{IfSome}
 use Rattle.stack_state.specs.declared.states.State.{State}
 use Rattle.isa_model.specs.Code.Instructions.{Program}
-use Rattle.listeners.specs.declared.explaining.Explanation.{Explanation}
+use Rattle.walks.specs.declared.explained.Explanation.{Explanation}
 use Rattle.walks.specs.Refused.{IsRefused}
-use Rattle.listeners.specs.Explained.{Explains}
+use Rattle.walks.specs.Explained.{Explains}
 use Rattle.listeners.specs.Followed.{HasFollowed}
 use Rattle.explorer.specs.Listening.{EndsIn}
 use Rattle.listeners.proofs.Following.{explains_by}

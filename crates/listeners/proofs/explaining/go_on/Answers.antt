@@ -1,5 +1,5 @@
 use Rattle.std.proofs.Common.{rules, sym}
-use Rattle.listeners.proofs.LastJumps.{led_by_jump, led_by_next}
+use Rattle.walks.proofs.LastJumps.{led_by_jump, led_by_next}
 use Rattle.listeners.proofs.explaining.go_on.Goals as goal
 
 pub returns-then-to-next : goal.returns-then-to-next

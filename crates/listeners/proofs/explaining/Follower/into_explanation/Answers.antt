@@ -1,7 +1,7 @@
 use Rattle.std.proofs.Common.{◌≡◌, ◌∙◌, ◌-◌, ◌<◌, ◌≤◌, ◌∷◌, Some, length, arith, rules, sym, ap, subst}
 use Rattle.std.specs.Prelude.{slice_get}
 use Rattle.std.proofs.lemmas.Option.{slice_get-get_or}
-use Rattle.listeners.specs.Explained.{IsLed, ComesThrough}
+use Rattle.walks.specs.Explained.{IsLed, ComesThrough}
 use Rattle.listeners.specs.Followed.{HasFollowed}
 use Rattle.listeners.proofs.Following.{slots_some, LedAt-first, LedAt-next, LedAt-last, count_of, came_through}
 use Rattle.listeners.proofs.Turning.{earlier_found, turn_before}

@@ -1,19 +1,17 @@
-//! What is said of a refusal besides its sentence and its slot.
+//! What is said of the state in which a program is refused.
 
-ghost use Rattle.std.specs.Prelude.{◌≡◌, IfOk, IfSome};
+ghost use Rattle.std.specs.Prelude.{◌≡◌, IfOk};
 ghost use Rattle.std.specs.String.{string_bytes};
-ghost use Rattle.explanations.specs.Reasons.{cut_line, lines_of, IsReason};
+ghost use Rattle.explanations.specs.States.{cut_line, lines_of};
 
 use crate::cases::case_line;
-use crate::flows::flow_line;
 use crate::lines::{answer_line, register_lines, stack_lines, way_line};
 use crate::loops::loop_line;
 use crate::turns::turn_lines;
-use explorer::Refusal;
 use image::Image;
-use isa_model::{Insn, MAX_SLOTS};
-use listeners::{Explanation, explain};
+use isa_model::Insn;
 use std::alloc::{AllocError, Global};
+use walks::{Explanation, Refusal};
 
 /// If states were no longer compared, the line that says so.
 fn cut_line(is_cut_off: bool) -> &'static str
@@ -27,7 +25,7 @@ fn cut_line(is_cut_off: bool) -> &'static str
 }
 
 /// The lines of an explanation.
-fn lines_of(
+pub fn lines_of(
     alloc: Global,
     image: &Image,
     insn: &Insn,
@@ -47,23 +45,4 @@ fn lines_of(
     let way = way_line(alloc, way)?;
     let cut = cut_line(found.is_cut_off);
     format!(in alloc; "{registers}{case}{taken}{turns}{answer}{stack}{way}{cut}")
-}
-
-/// What is known where a program gets this refusal, at this slot: the registers and the stack
-/// slots that concern its instruction, what it needs, the loop that is not explored to its
-/// end, with how often it was taken and what differs from turn to turn, the low half of an answer
-/// that has to name an action, the last jumps on the path there, and whether states were no longer
-/// compared. If control flow is refused: where a jump leads, and what helps. None: memory ran out.
-pub fn reason(alloc: Global, image: &Image, refusal: Refusal, slot: usize) -> Option<String>
-    ensures { IfSome result (λ text. IsReason image.now refusal slot (string_bytes text)) }
-{
-    if slot >= usize::from(MAX_SLOTS) {
-        return None;
-    }
-    let insn = image.at(slot)?;
-    if let Refusal::Flow(error) = refusal {
-        return flow_line(alloc, image, error, slot, insn).ok();
-    }
-    let found = explain(alloc, image, refusal, slot)?;
-    lines_of(alloc, image, insn, refusal, &found).ok()
 }

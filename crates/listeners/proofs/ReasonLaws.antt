@@ -10,11 +10,12 @@ use Rattle.isa_model.specs.Code.Instructions.{Program, fetch}
 use Rattle.control_flow.specs.declared.errors.FlowError.{FlowError}
 use Rattle.walks.specs.declared.refusals.Refusal.{Refusal}
 use Rattle.walks.specs.declared.refusals.Refusal.TheVariants.{Flow}
-use Rattle.listeners.specs.declared.explaining.Explanation.{Explanation}
-use Rattle.listeners.specs.Explained.{Explains}
+use Rattle.walks.specs.declared.explained.Explanation.{Explanation}
+use Rattle.walks.specs.Explained.{Explains}
 use Rattle.explanations.specs.Flows.{flow_line}
-use Rattle.explanations.specs.Reasons.{lines_of, IsReason}
-use Rattle.explanations.specs.Reasons.IsReason.{OfState, OfFlow}
+use Rattle.explanations.specs.States.{lines_of}
+use Rattle.listeners.specs.Reasons.{IsReason}
+use Rattle.listeners.specs.Reasons.IsReason.{OfState, OfFlow}
 
 -- the text of a refusal of control flow, unless memory ran out
 pub of_flow : (p : Program) (e : Refusal) (slot : ℕ) (error : FlowError) (i : Insn)

@@ -6,12 +6,13 @@ use Rattle.isa_model.specs.declared.instructions.Insn.{Insn}
 use Rattle.isa_model.specs.Code.Instructions.{Program, fetch, slots_filled}
 use Rattle.stack_state.specs.declared.states.State.{State}
 use Rattle.stack_state.specs.Starts.{start}
-use Rattle.listeners.specs.declared.explaining.Jump.{Jump}
-use Rattle.listeners.specs.declared.explaining.TheConstants.{MOST_JUMPS}
+use Rattle.walks.specs.declared.explained.Jump.{Jump}
+use Rattle.walks.specs.declared.explained.TheConstants.{MOST_JUMPS}
 use Rattle.walks.specs.Forgetting.{Forgets}
 use Rattle.walks.specs.Walks.{StepsTo}
-use Rattle.listeners.specs.Explained.{jump_of, IsStart, OneMore, last, IsLed}
+use Rattle.walks.specs.Explained.{jump_of, IsStart, OneMore, last, IsLed}
 
+-- no jump leads to a state with which a walk begins
 pub led_start : (p : Program) (s : State) (way : List Jump) → Forgets p start s → way ≡ []
     → IsLed p s way
 unfolding last

@@ -1,6 +1,6 @@
 use Rattle.std.proofs.Common.{sym}
-use Rattle.explanations.proofs.ReasonLaws.{of_flow, of_state}
-use Rattle.explanations.proofs.reasons.reason.Goals as goal
+use Rattle.listeners.proofs.ReasonLaws.{of_flow, of_state}
+use Rattle.listeners.proofs.reasons.reason.Goals as goal
 
 pub returns-in-Flow : goal.returns-in-Flow
 returns-in-Flow c =

@@ -1,14 +1,10 @@
--- What is said of a refusal besides its sentence and its slot.
-use Rattle.std.specs.Prelude.{◌≡◌, ℕ, Bool, if◌then◌else◌, List, ◌++◌, Some, codes}
+-- What is said of the state in which a program is refused.
+use Rattle.std.specs.Prelude.{ℕ, Bool, if◌then◌else◌, List, ◌++◌, codes}
 use Rattle.isa_model.specs.declared.instructions.Insn.{Insn}
-use Rattle.isa_model.specs.Code.Instructions.{Program, fetch}
-use Rattle.control_flow.specs.declared.errors.FlowError.{FlowError}
+use Rattle.isa_model.specs.Code.Instructions.{Program}
 use Rattle.walks.specs.declared.refusals.Refusal.{Refusal}
-use Rattle.walks.specs.declared.refusals.Refusal.TheVariants.{Flow}
-use Rattle.listeners.specs.declared.explaining.Explanation.{Explanation}
-use Rattle.listeners.specs.Explained.{Explains}
+use Rattle.walks.specs.declared.explained.Explanation.{Explanation}
 use Rattle.explanations.specs.Cases.{case_line}
-use Rattle.explanations.specs.Flows.{flow_line}
 use Rattle.explanations.specs.Loops.{loop_line}
 use Rattle.explanations.specs.Turns.{turn_lines}
 use Rattle.explanations.specs.Lines.{register_lines, answer_line, stack_lines, way_line}
@@ -29,11 +25,3 @@ lines_of p i e x =
     ++ (loop_line p x.slots.items e ++ (turn_lines x.earlier x.state e
     ++ (answer_line x.state e ++ (stack_lines p.maps x.state i
     ++ (way_line x.way.items ++ cut_line x.is_cut_off))))))
-
--- the lines of a state in which the program gets this refusal, at the slot; or the line of
--- the instruction there, where control flow is refused
-pub data IsReason (p : Program) (e : Refusal) (slot : ℕ) (text : List ℕ) : Type 0 where
-  OfState : (found : Explanation) (insn : Insn) → Explains p e slot found
-      → fetch p slot ≡ Some insn → text ≡ lines_of p insn e found → IsReason p e slot text
-  OfFlow : (error : FlowError) (insn : Insn) → e ≡ Flow error → fetch p slot ≡ Some insn
-      → text ≡ flow_line p error slot insn → IsReason p e slot text

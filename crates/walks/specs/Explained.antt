@@ -5,13 +5,12 @@ use Rattle.isa_model.specs.Code.Instructions.{Program, fetch, slots_filled}
 use Rattle.stack_state.specs.declared.states.State.{State}
 use Rattle.stack_state.specs.Starts.{start}
 use Rattle.walks.specs.Forgetting.{Forgets}
-use Rattle.explorer.specs.Listening.{StopsIn}
-use Rattle.walks.specs.Refused.{StopsAt}
+use Rattle.walks.specs.Refused.{StopsAt, StopsIn}
 use Rattle.walks.specs.Walks.{StepsTo, HasSteps}
 use Rattle.walks.specs.declared.refusals.Refusal.{Refusal}
-use Rattle.listeners.specs.declared.explaining.Jump.{Jump}
-use Rattle.listeners.specs.declared.explaining.Explanation.{Explanation}
-use Rattle.listeners.specs.declared.explaining.TheConstants.{MOST_JUMPS}
+use Rattle.walks.specs.declared.explained.Jump.{Jump}
+use Rattle.walks.specs.declared.explained.Explanation.{Explanation}
+use Rattle.walks.specs.declared.explained.TheConstants.{MOST_JUMPS}
 
 -- the jump of a step, if it does not go to the next instruction
 abbrev pub jump_of : State → Insn → State → List Jump

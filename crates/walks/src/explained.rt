@@ -1,0 +1,31 @@
+//! What is known where a program is refused.
+
+use arrayvec::ArrayVec;
+use stack_state::State;
+
+/// How many jumps of a path are kept at most: the last ones.
+pub const MOST_JUMPS: usize = 8;
+
+/// A step that does not go to the next instruction: its slot and its target.
+#[derive(Clone, Copy, Default, Drop)]
+pub struct Jump {
+    pub from: usize,
+    pub to: usize,
+}
+
+/// What is known where a program is refused.
+#[derive(Drop)]
+pub struct Explanation {
+    /// The abstract state in which it is.
+    pub state: State,
+    /// The state of the previous turn of the loop: the last one on the path there that came to the
+    /// same slot.
+    pub earlier: Option<State>,
+    /// The last jumps on the path there.
+    pub way: ArrayVec<Jump, 8>,
+    /// The slots of all states on the path there, the first one first.
+    pub slots: Vec<usize>,
+    /// Whether the limit of look-ups or of stored states was reached: from then on states were not
+    /// compared, and each was explored as a new one.
+    pub is_cut_off: bool,
+}
