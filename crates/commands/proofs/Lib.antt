@@ -1,9 +1,6 @@
 mod Loading
-mod Written
 mod Refusing
-mod Delivered
-mod FirstBytes
 mod Knowing
-mod StatusesLaws
+mod ExecutingLaws
 mod Silence
 mod Served

@@ -1,9 +1,8 @@
--- What a task did is what its command does, by how far it came: with an image, a table, a text.
+-- What a task did is what its command does, by how far it came: with an image, with a table.
 use Rattle.std.proofs.Common.{◌≡◌, ℕ, List, Option, None, String, Result, Ok, Err, refl, subst, sym, inl, inr, ◌⊎◌, ◌∙◌}
 use Rattle.std.specs.Prelude.{IfOk, IfErr}
 use Rattle.std.specs.declared.alloc.Global.{Global}
 use Rattle.std.specs.declared.io.ErrorKind.{ErrorKind}
-use Rattle.assembler.specs.Assembling.{assembled}
 use Rattle.isa_model.specs.{Program}
 use Rattle.image.specs.Images.{IsImage}
 use Rattle.bounds.specs.Bounds.{Bounded, IsVerified}
@@ -11,25 +10,23 @@ use Rattle.rechecking.specs.Refusing.{ShowsBound}
 use Rattle.stack_state.specs.Starts.{start}
 use Rattle.walks.specs.Accepting.{BoundsAll}
 use Rattle.walks.specs.Counts.{HasNumber}
-use Rattle.commands.specs.declared.rejections.Rejection.TheVariants as rejection
-use Rattle.commands.specs.declared.forms.FileForm.{FileForm}
-use Rattle.commands.specs.declared.outcomes.TaskOutcome.{TaskOutcome}
-use Rattle.commands.specs.declared.outcomes.TaskOutcome.TheVariants.{Done, WrongWords, Refused, Faulted, CannotRead, CannotWrite, CannotReplace, NoMemory}
-use Rattle.commands.specs.declared.endings.Ending.{Ending}
-use Rattle.commands.specs.Known.{IsKnownOfProgram, IsKnownOfTable, IsKnownOfText, Tells, Plainly}
-use Rattle.commands.specs.Statuses.{IsReadFailure, IsMakeFailure}
-use Rattle.commands.specs.Lines.{bound_line, size_line}
-use Rattle.commands.specs.Judging.{Accepts, IsBoundOf, RefusesProgram, RefusesTable, Verifies, StoresImage}
-use Rattle.commands.specs.Streams.{RunsAccepted, Traces}
-use Rattle.commands.specs.Proving.{StoresTable}
+use Rattle.task_outcomes.specs.declared.rejections.Rejection.TheVariants as rejection
+use Rattle.task_outcomes.specs.declared.forms.FileForm.{FileForm}
+use Rattle.task_outcomes.specs.declared.outcomes.TaskOutcome.{TaskOutcome}
+use Rattle.task_outcomes.specs.declared.outcomes.TaskOutcome.TheVariants.{Done, WrongWords, Refused, Faulted, CannotRead, CannotWrite, CannotReplace, NoMemory}
+use Rattle.task_outcomes.specs.declared.endings.Ending.{Ending}
+use Rattle.task_outcomes.specs.Statuses.{IsReadFailure, IsMakeFailure}
+use Rattle.task_outcomes.specs.Lines.{bound_line}
+use Rattle.task_outcomes.specs.Judging.{Accepts}
+use Rattle.task_outcomes.specs.Known.{Plainly}
+use Rattle.task_outcomes.specs.Files.{LoadsNone, RunsOn}
+use Rattle.task_outcomes.proofs.FilesLaws.{OpensNone-failed}
 use Rattle.words.specs.Requests.{RunFiles, TableFiles}
-use Rattle.commands.specs.Commands.{LoadsNone, ShowsNone, TracesFile, TracesSome, IsShown, VerifiesFile, RechecksFile, ProvesFile, ProvesSome, RunsFile, RunsOn, RunsShown, RunsSome, OpensNone, Assembles, AssemblesFile, StoresSome}
-
--- the streams were not opened
-opens-none : (files : RunFiles) (old new : Option (List ℕ)) (r : TaskOutcome) → new ≡ old
-    → IsReadFailure files.frames r ⊎ IsMakeFailure files.out r → OpensNone files old new r
-opens-none files old new r e (inl h) = inl (h, e)
-opens-none files old new r e (inr h) = inr (h, e)
+use Rattle.commands.specs.Known.{IsKnownOfProgram, IsKnownOfTable, Tells}
+use Rattle.commands.specs.Judging.{IsBoundOf, RefusesProgram, RefusesTable, Verifies}
+use Rattle.commands.specs.Streams.{Traces}
+use Rattle.commands.specs.Proving.{StoresTable}
+use Rattle.commands.specs.Commands.{ShowsNone, TracesFile, TracesSome, IsShown, VerifiesFile, RechecksFile, ProvesFile, ProvesSome, RunsFile, RunsShown}
 
 -- a message without lines at its end says nothing of a program
 pub tells-none : (p : Program) (o : TaskOutcome) (why : Option (String Global)) → why ≡ None
@@ -79,7 +76,7 @@ pub trace_unopened : (files : RunFiles) (limit : ℕ) (old new : Option (List �
     → IsReadFailure files.frames o ⊎ IsMakeFailure files.out o
     → r.outcome ≡ o → r.why ≡ None → TracesFile files limit old new r
 trace_unopened files limit old new p o r e h failed same none =
-    inr (p, h, inl ((rw same (opens-none files old new o e failed)), none))
+    inr (p, h, inl ((rw same (OpensNone-failed files old new o e failed)), none))
 
 -- in the outputs, `sent` is the frames out, whose file is `files.out`; `files.frames` is read
 pub image_traced : (files : RunFiles) (limit : ℕ)
@@ -114,26 +111,6 @@ pub image_refused : (files : RunFiles) (old mid new : Option (List ℕ)) (p : Pr
     → RunsFile files old new r
 image_refused files old mid new p r e h v known =
     inr (p, h, (inl (subst (λ (o : Option (List ℕ)). RefusesProgram p o new r.outcome) e v), known))
-
--- standard output got the report of the runs
-pub runs_on : (files : RunFiles) (old new before after source : Option (List ℕ)) (form : FileForm)
-    (cause : Option ErrorKind) (v : Bounded) (r : TaskOutcome)
-    → RunsAccepted v source form files.out cause (record { report = old; sent = before })
-    (record { report = new; sent = after }) r → RunsOn files v old new r
-runs_on files old new before after source form cause v r runs =
-    let some : RunsSome v files.out old new r = record {
-      source = source;
-      form = form;
-      before = before;
-      after = after;
-      cause = cause;
-      runs = runs;
-    } in
-    inr some
-
-pub opens_on : (files : RunFiles) (old : Option (List ℕ)) (v : Bounded) (r : TaskOutcome)
-    → IsReadFailure files.frames r ⊎ IsMakeFailure files.out r → RunsOn files v old old r
-opens_on files old v r failed = inl (opens-none files old old r refl failed)
 
 -- nothing was written before
 runs-first : (files : RunFiles) (old mid new : Option (List ℕ)) (v : Bounded) (o r : TaskOutcome)
@@ -257,35 +234,3 @@ table_stored files old mid now new before after v line o r e f h is stores same 
       h.verified.image,
       (inr (v.bound, h, inr some), tells-none v.program r.outcome r.why none),
     )
-
--- ---- texts
-
--- the image of a text that was read is written, and then the line with its size
-pub text_stored : (old mid new before after : Option (List ℕ)) (source line path : List ℕ)
-    (p : Program) (r : TaskOutcome) → mid ≡ old → assembled source ≡ Ok p → line ≡ size_line p
-    → StoresImage p line path before after mid new r → Assembles source path old new r
-text_stored old mid new before after source line path p r e found same s =
-    let some : StoresSome p path old new r = record {
-      before = before;
-      after = after;
-      stores =
-          subst (λ (o : Option (List ℕ)). StoresImage p (size_line p) path before after o new r) e
-          (subst (λ (l : List ℕ). StoresImage p l path before after mid new r) same s);
-    } in
-    inr (p, found, inr some)
-
-pub text_unmade : (old new : Option (List ℕ)) (source path : List ℕ) (p : Program) (r : TaskOutcome)
-    → new ≡ old → assembled source ≡ Ok p → IsMakeFailure path r → Assembles source path old new r
-text_unmade old new source path p r e found h = inr (p, found, inl (h, e))
-
--- the text could not be read
-pub text_unread : (text image : List ℕ) (old new : Option (List ℕ)) (o : TaskOutcome) (r : Ending)
-    → new ≡ old → IsReadFailure text o → r.outcome ≡ o → r.why ≡ None
-    → AssemblesFile text image old new r
-text_unread text image old new o r e failed same none = inl ((rw same failed, e), none)
-
--- a text was read, and if it is refused, what is shown of it is known
-pub text_assembled : (source text image : List ℕ) (old new : Option (List ℕ)) (o : TaskOutcome)
-    (r : Ending) → Assembles source image old new o → r.outcome ≡ o → IsKnownOfText source r
-    → AssemblesFile text image old new r
-text_assembled source text image old new o r h same known = inr (source, rw same h, known)

@@ -9,12 +9,12 @@ use Rattle.words.specs.declared.tasks.WordsError.{WordsError}
 use Rattle.words.specs.declared.tasks.WordsError.TheVariants.{Wrong, Memory}
 use Rattle.words.specs.Requests.{TaskRequest}
 use Rattle.words.specs.Asked.{AsksFor, asked}
-use Rattle.commands.specs.declared.outcomes.TaskOutcome.{TaskOutcome}
-use Rattle.commands.specs.declared.outcomes.TaskOutcome.TheVariants.{Done, WrongWords, Refused, Faulted, CannotRead, CannotWrite, CannotReplace, NoMemory}
-use Rattle.commands.specs.declared.endings.Ending.{Ending}
-use Rattle.commands.specs.Statuses.{IsWordsEnd, SaysWrongWords, IsWrongWords, is_silent}
+use Rattle.task_outcomes.specs.declared.outcomes.TaskOutcome.{TaskOutcome}
+use Rattle.task_outcomes.specs.declared.endings.Ending.{Ending}
+use Rattle.task_outcomes.specs.Statuses.{IsWordsEnd, is_silent}
+use Rattle.task_outcomes.proofs.StatusesLaws.{says_wrong, wrong_silent}
+use Rattle.task_outcomes.specs.Flushing.{Flushes}
 use Rattle.commands.specs.Commands.{Serves}
-use Rattle.commands.specs.Flushing.{Flushes}
 use Rattle.commands.specs.Executing.{Executes}
 
 -- standard output to which nothing was written is left unchanged
@@ -44,27 +44,6 @@ asked-served contents words request old given new ended r is h on =
       hands_on = on;
     })
 
--- arguments that are wrong for some reason are wrong
-wrong : (text : List ℕ) (o : TaskOutcome) → SaysWrongWords text o → IsWrongWords o
-wrong text (WrongWords said) h = tt
-wrong text Done h = absurd h
-wrong text (Refused rejection) h = absurd h
-wrong text (Faulted fault form) h = absurd h
-wrong text (CannotRead path kind) h = absurd h
-wrong text (CannotWrite path cause) h = absurd h
-wrong text (CannotReplace path) h = absurd h
-wrong text NoMemory h = absurd h
-
-wrong_silent : (text : List ℕ) (o : TaskOutcome) → SaysWrongWords text o → is_silent o ≡ true
-wrong_silent text (WrongWords said) h = refl
-wrong_silent text Done h = absurd h
-wrong_silent text (Refused rejection) h = absurd h
-wrong_silent text (Faulted fault form) h = absurd h
-wrong_silent text (CannotRead path kind) h = absurd h
-wrong_silent text (CannotWrite path cause) h = absurd h
-wrong_silent text (CannotReplace path) h = absurd h
-wrong_silent text NoMemory h = absurd h
-
 -- arguments that ask for nothing
 pub unasked : {W : Type 0} (contents : W → Option (List ℕ)) (words : List (List ℕ))
     (error : WordsError) (out : PromptWriter W) (o : TaskOutcome) → AsksFor words (Err error)
@@ -73,7 +52,7 @@ pub unasked : {W : Type 0} (contents : W → Option (List ℕ)) (words : List (L
 unasked contents words (Wrong text) out o none is =
     let ending : Ending = record { outcome = o; why = None } in
     let serves : Serves None (held contents out)
-    (held contents out) ending = ((wrong (string_bytes text) o is, refl), refl) in
+    (held contents out) ending = ((says_wrong (string_bytes text) o is, refl), refl) in
     inr (record {
       given = out;
       ended = ending;

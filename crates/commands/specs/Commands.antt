@@ -1,42 +1,23 @@
 -- What each command does to standard output. No contract can say what the files hold.
-use Rattle.std.specs.Prelude.{◌≡◌, ℕ, List, Option, Some, None, Ok, ◌⊎◌}
+use Rattle.std.specs.Prelude.{◌≡◌, ℕ, List, Option, Some, None, ◌⊎◌}
 use Rattle.std.specs.declared.io.ErrorKind.{ErrorKind}
 use Rattle.isa_model.specs.{Program}
-use Rattle.isa_model.specs.Text.CanonicalText.{canonical_text}
-use Rattle.image.specs.Images.{IsImage}
-use Rattle.assembler.specs.Assembling.{assembled}
 use Rattle.bounds.specs.Bounds.{Bounded}
-use Rattle.commands.specs.declared.forms.FileForm.{FileForm}
-use Rattle.commands.specs.declared.outcomes.TaskOutcome.{TaskOutcome}
-use Rattle.commands.specs.declared.outcomes.TaskOutcome.TheVariants as outcome
-use Rattle.commands.specs.declared.endings.Ending.{Ending}
-use Rattle.commands.specs.Known.{IsKnownOfProgram, IsKnownOfTable, IsKnownOfText, Plainly}
-use Rattle.commands.specs.Lines.{bound_line, size_line}
-use Rattle.commands.specs.Statuses.{IsMakeFailure, IsReadFailure, IsWrongWords}
-use Rattle.commands.specs.Saying.{Says}
-use Rattle.commands.specs.Judging.{Accepts, IsBoundOf, IsBoundShown, RefusesImage, RefusesProgram, RefusesTable, RefusesText, StoresImage, Verifies}
-use Rattle.commands.specs.Streams.{RunsAccepted, Traces}
-use Rattle.commands.specs.Proving.{StoresTable}
+use Rattle.task_outcomes.specs.declared.forms.FileForm.{FileForm}
+use Rattle.task_outcomes.specs.declared.outcomes.TaskOutcome.{TaskOutcome}
+use Rattle.task_outcomes.specs.declared.endings.Ending.{Ending}
+use Rattle.task_outcomes.specs.Lines.{bound_line}
+use Rattle.task_outcomes.specs.Statuses.{IsWrongWords}
+use Rattle.task_outcomes.specs.Judging.{Accepts}
+use Rattle.task_outcomes.specs.Known.{Plainly}
+use Rattle.task_outcomes.specs.Files.{ReadsNone, MakesNone, LoadsNone, ReadsImage, OpensNone, RunsOn, DisassemblesFile, AssemblesFile}
 use Rattle.words.specs.Requests.{TaskRequest, RunFiles, TableFiles, Trace, Run, Verify, Prove, Recheck, Assemble, Disassemble}
+use Rattle.commands.specs.Known.{IsKnownOfProgram, IsKnownOfTable}
+use Rattle.commands.specs.Judging.{IsBoundOf, IsBoundShown, RefusesProgram, RefusesTable, Verifies}
+use Rattle.commands.specs.Streams.{Traces}
+use Rattle.commands.specs.Proving.{StoresTable}
 
--- ---- files
-
--- the file at the path could not be read, or memory ran out, and standard output got nothing
-abbrev pub ReadsNone : List ℕ → Option (List ℕ) → Option (List ℕ) → TaskOutcome → Type 0
-ReadsNone path old new result = IsReadFailure path result × (new ≡ old)
-
--- the file at the path could not be made, or memory ran out, and standard output got nothing
-abbrev pub MakesNone : List ℕ → Option (List ℕ) → Option (List ℕ) → TaskOutcome → Type 0
-MakesNone path old new result = IsMakeFailure path result × (new ≡ old)
-
--- the image could not be read, or its bytes are refused
-abbrev pub LoadsNone : List ℕ → Option (List ℕ) → Option (List ℕ) → TaskOutcome → Type 0
-LoadsNone path old new result =
-    ReadsNone path old new result ⊎ ((bytes : List ℕ) × RefusesImage bytes old new result)
-
--- an image was read, and P holds of its program
-abbrev pub ReadsImage : (Program → Type 0) → Type 0
-ReadsImage P = (p : Program) × IsImage p × P p
+-- ---- files and tables
 
 -- the image could not be read, or after it the table; or one of the two is refused, and the lines
 -- at the end of the message say what is known
@@ -55,11 +36,6 @@ IsShown v = (bytes : List ℕ) × IsBoundShown v.program bytes v.bound
 abbrev pub ShowsSome : (Bounded → Type 0) → Type 0
 ShowsSome P = (v : Bounded) × IsShown v × P v
 
--- the frame stream could not be opened, or the file for the frames out could not be made
-abbrev pub OpensNone : RunFiles → Option (List ℕ) → Option (List ℕ) → TaskOutcome → Type 0
-OpensNone files old new result =
-    ReadsNone files.frames old new result ⊎ MakesNone files.out old new result
-
 -- a program is traced on some source, whose first bytes have some file form; the frames out are
 -- written to the file at the path
 pub record TracesSome (p : Program) (limit : ℕ) (out : List ℕ) (old new : Option (List ℕ))
@@ -71,24 +47,6 @@ pub record TracesSome (p : Program) (limit : ℕ) (out : List ℕ) (old new : Op
   pub cause : Option ErrorKind
   pub traces : Traces p limit source form out cause (record { report = old; sent = before })
       (record { report = new; sent = after }) result
-
--- the same for a program with its bound that is run
-pub record RunsSome (v : Bounded) (out : List ℕ) (old new : Option (List ℕ))
-    (result : TaskOutcome) : Type 0 where
-  pub source : Option (List ℕ)
-  pub form : FileForm
-  pub before : Option (List ℕ)
-  pub after : Option (List ℕ)
-  pub cause : Option ErrorKind
-  pub runs : RunsAccepted v source form out cause (record { report = old; sent = before })
-      (record { report = new; sent = after }) result
-
--- the image of a program was written to the file at the path, and then the line with its size
-pub record StoresSome (p : Program) (path : List ℕ) (old new : Option (List ℕ))
-    (result : TaskOutcome) : Type 0 where
-  pub before : Option (List ℕ)
-  pub after : Option (List ℕ)
-  pub stores : StoresImage p (size_line p) path before after old new result
 
 -- a proof table was written to the file at the path, and then the line with the bound
 pub record ProvesSome (p : Program) (bound : ℕ) (path : List ℕ) (old new : Option (List ℕ))
@@ -105,10 +63,6 @@ TracesFile files limit old new result =
     Plainly (LoadsNone files.image old new) result
     ⊎ ReadsImage
     (λ p. Plainly (OpensNone files old new) result ⊎ TracesSome p limit files.out old new result)
-
--- a program with its bound is run
-abbrev pub RunsOn : RunFiles → Bounded → Option (List ℕ) → Option (List ℕ) → TaskOutcome → Type 0
-RunsOn files v old new result = OpensNone files old new result ⊎ RunsSome v files.out old new result
 
 -- a program is accepted, with its bound, and run
 abbrev pub AcceptsAndRuns : RunFiles → Program → Option (List ℕ) → Option (List ℕ) → TaskOutcome
@@ -156,28 +110,6 @@ ProvesFile files old new result =
     ⊎ ReadsImage
     (λ p. (RefusesProgram p old new result.outcome
     ⊎ AcceptsAndProves files.table p old new result.outcome) × IsKnownOfProgram p result)
-
--- `dis`: standard output gets the text of the image's program
-abbrev pub DisassemblesFile : List ℕ → Option (List ℕ) → Option (List ℕ) → TaskOutcome → Type 0
-DisassemblesFile path old new result = LoadsNone path old new result
-    ⊎ ReadsImage (λ p. Says old new (canonical_text p) outcome.Done result)
-
--- a text was read, and it spells a program with the property P
-abbrev pub ReadsText : List ℕ → (Program → Type 0) → Type 0
-ReadsText text P = (p : Program) × (assembled text ≡ Ok p) × P p
-
--- a text that was read is refused, or its image is written to the file at the path
-abbrev pub Assembles : List ℕ → List ℕ → Option (List ℕ) → Option (List ℕ) → TaskOutcome → Type 0
-Assembles text image old new result =
-    RefusesText text old new result
-    ⊎ ReadsText text (λ p. MakesNone image old new result ⊎ StoresSome p image old new result)
-
--- `asm`: if the text is refused, the lines at the end of the message show its line
-abbrev pub AssemblesFile : List ℕ → List ℕ → Option (List ℕ) → Option (List ℕ) → Ending → Type 0
-AssemblesFile path image old new result =
-    Plainly (ReadsNone path old new) result
-    ⊎ ((text : List ℕ) × Assembles text image old new result.outcome
-    × IsKnownOfText text result)
 
 -- ---- the program
 

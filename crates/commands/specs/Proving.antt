@@ -1,27 +1,14 @@
 -- What is written where a proof table of an accepted program is made, and how the task ends then.
-use Rattle.std.specs.Prelude.{◌≡◌, ℕ, List, Option, Some, ◌⊎◌}
+use Rattle.std.specs.Prelude.{◌≡◌, ℕ, List, Option, ◌⊎◌}
 use Rattle.std.specs.Io.KnownBytes.{Keeps}
 use Rattle.isa_model.specs.{Program}
-use Rattle.proof_table.specs.declared.errors.WriteTableError.{WriteTableError}
-use Rattle.proof_table.specs.declared.errors.WriteTableError.TheVariants.{Memory, Explored, Writer}
+use Rattle.table_entries.specs.declared.errors.WriteTableError.{WriteTableError}
 use Rattle.proof_table.specs.Writing.{GainsTable, BeginsTable}
-use Rattle.commands.specs.declared.rejections.Rejection.TheVariants as rejection
-use Rattle.commands.specs.declared.outcomes.TaskOutcome.{TaskOutcome}
-use Rattle.commands.specs.declared.outcomes.TaskOutcome.TheVariants.{Done, Refused}
-use Rattle.commands.specs.Statuses.{IsWriteFailureBy}
-use Rattle.commands.specs.Lines.{explored_line}
-use Rattle.commands.specs.Saying.{LacksMemory, Says}
-use Rattle.commands.specs.Judging.{IsStoreFailure}
-use Rattle.commands.specs.Streams.{IsBeginningOf}
-
--- how the task ends if the table was not written to the file at this path, with this error
-abbrev pub EndsUnwritten : List ℕ → WriteTableError → Option (List ℕ) → Option (List ℕ)
-    → TaskOutcome → Type 0
-EndsUnwritten path Memory old new result = LacksMemory old new result
-EndsUnwritten path Explored old new result =
-    LacksMemory old new result ⊎ Says old new explored_line (Refused rejection.Explored) result
-EndsUnwritten path (Writer kind) old new result =
-    IsWriteFailureBy path (Some kind) result × (new ≡ old)
+use Rattle.task_outcomes.specs.declared.outcomes.TaskOutcome.{TaskOutcome}
+use Rattle.task_outcomes.specs.declared.outcomes.TaskOutcome.TheVariants.{Done}
+use Rattle.task_outcomes.specs.Saying.{Says}
+use Rattle.task_outcomes.specs.Judging.{EndsUnwritten, IsStoreFailure}
+use Rattle.task_outcomes.specs.Streams.{IsBeginningOf}
 
 -- `handed` is what was written to the buffer of the file at this path: a table of the program, or
 -- a beginning of one. Either the file got the whole table, and then standard output says the line;

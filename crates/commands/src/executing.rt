@@ -3,14 +3,14 @@
 ghost use Rattle.std.specs.Prelude.{◌≡◌, ◌≢◌, ◌≤◌, map, MatchResult};
 ghost use Rattle.std.specs.String.{string_bytes};
 ghost use Rattle.exact_io.specs.Waiting.{held};
-ghost use Rattle.commands.specs.Flushing.{IsFlushed};
+ghost use Rattle.task_outcomes.specs.Flushing.{IsFlushed};
 ghost use Rattle.commands.specs.Executing.{ExecutesWords, TellsWordsError, IsTold, TellsDone, TellsFault};
 
-use super::outcomes::TaskOutcome;
 use super::requests::serve;
 use exact_io::PromptWriter;
 use std::io::Write;
 use std::rt::{Clock, Files};
+use task_outcomes::TaskOutcome;
 use words::{WordsError, read_words};
 
 /// Does what the arguments ask for, and returns the program's status: 0 done, 1 invalid arguments,
@@ -28,7 +28,7 @@ use words::{WordsError, read_words};
 /// error says what was refused, why and where; for a program and for an entry of a proof table also
 /// what is known there, for a text also the line and a hint. At 3 it says why the frame stream
 /// ended early.
-#[tactic(auto, using(crate::proofs::StatusesLaws::statuses))]
+#[tactic(auto, using(crate::proofs::ExecutingLaws::statuses))]
 pub fn execute<R: Files + Clock + AllocGlobal, W1: Write + Drop, W2: Write>(
     rt: &R,
     words: &[String],

@@ -1,38 +1,14 @@
 //! Writing a proof table, and how the task ends then.
 
-ghost use Rattle.std.specs.Prelude.{◌≡◌};
 ghost use Rattle.exact_io.specs.Waiting.{behind, held};
-ghost use Rattle.commands.specs.Proving.{EndsUnwritten, StoresTable};
+ghost use Rattle.commands.specs.Proving.{StoresTable};
 
-use super::outcomes::TaskOutcome;
-use super::rejections::Rejection;
-use super::verdicts::say_line;
+use bounds::Verified;
 use exact_io::PromptWriter;
-use explorer::Verified;
-use proof_table::{WriteTableError, write_table};
+use proof_table::write_table;
 use std::alloc::Global;
 use std::io::Write;
-
-// How the task ends if a table was not written to the file at the path.
-fn say_unwritten<'a, W: Write>(
-    path: &'a str,
-    error: WriteTableError,
-    out: &mut W,
-) -> TaskOutcome<'a>
-    ensures { EndsUnwritten path.now error (W.contents out.old) (W.contents out.new) result }
-{
-    match error {
-        WriteTableError::Memory => TaskOutcome::NoMemory,
-        WriteTableError::Explored => {
-            say_line(
-                "refused P10\n",
-                TaskOutcome::Refused(Rejection::Explored),
-                out,
-            )
-        }
-        WriteTableError::Writer(kind) => TaskOutcome::CannotWrite(path, Some(kind)),
-    }
-}
+use task_outcomes::{TaskOutcome, say_line, say_unwritten};
 
 /// Writes a proof table through a buffer to a file that was opened by this path, and then a line to
 /// standard output.

@@ -4,20 +4,17 @@ ghost use Rattle.std.specs.Prelude.{◌≡◌, IfOk, IfErr, OnOk};
 ghost use Rattle.bounds.specs.Bounds.{IsVerified};
 ghost use Rattle.words.specs.Requests.{files_of, table_files_of};
 ghost use Rattle.commands.specs.Commands.{ShowsNone, IsShown, RechecksFile, RunsShown, ProvesFile};
-ghost use Rattle.commands.specs.Statuses.{IsMakeFailure};
 
-use super::endings::Ending;
-use super::files::{BUFFER, create_file, load_image, run_on};
-use super::outcomes::TaskOutcome;
 use super::proving::store_table;
-use super::reading::read_file;
 use super::rechecks::shown;
-use super::verdicts::{accepted, bound_line, judge};
-use exact_io::PromptWriter;
-use explorer::Verified;
+use super::verdicts::judge;
+use bounds::Verified;
 use std::alloc::Global;
 use std::io::Write;
 use std::rt::{Clock, Files};
+use task_outcomes::{
+    Ending, TaskOutcome, accepted, bound_line, create_table, load_image, read_file, run_on,
+};
 use words::{RunPaths, TablePaths};
 
 // The program of an image with the bound that a table shows, or how the task ends without one: the
@@ -80,21 +77,6 @@ pub fn run_shown<'a, R: Files + Clock, W: Write>(
             Ending::plain(run_on(rt, alloc, verified, paths, &read, out))
         }
         Err(ending) => ending,
-    }
-}
-
-// Makes the file of a table, with a buffer in front of it.
-fn create_table<'a, R: Files>(
-    rt: &R,
-    alloc: Global,
-    paths: TablePaths<'a>,
-) -> Result<PromptWriter<R::File>, TaskOutcome<'a>>
-    ensures { IfErr result (IsMakeFailure paths.entry.table.now) }
-{
-    let file = create_file(rt, paths.table, &[paths.image])?;
-    match PromptWriter::new(alloc, BUFFER, 0, file) {
-        Ok(file) => Ok(file),
-        Err(_) => Err(TaskOutcome::NoMemory),
     }
 }
 

@@ -1,4 +1,3 @@
 pub mod Spelling
 pub mod Fitting
-pub mod Messages
 pub mod Writing

@@ -7,10 +7,10 @@ use Rattle.exact_io.specs.Transfers.{AppendsBeginning}
 use Rattle.control_flow.specs.declared.errors.FlowError.TheVariants as flow
 use Rattle.walks.specs.declared.refusals.Refusal.{Refusal}
 use Rattle.walks.specs.declared.refusals.Refusal.TheVariants as refusal
+use Rattle.table_entries.specs.declared.errors.WriteTableError.{WriteTableError}
+use Rattle.table_entries.specs.declared.errors.WriteTableError.TheVariants.{Memory, Explored, Writer}
 use Rattle.table_entries.specs.Entries.{Entry}
 use Rattle.table_entries.specs.Tables.{table_read}
-use Rattle.proof_table.specs.declared.errors.WriteTableError.{WriteTableError}
-use Rattle.proof_table.specs.declared.errors.WriteTableError.TheVariants.{Memory, Explored, Writer}
 use Rattle.proof_table.specs.Spelling.{entry_bytes, table_bytes}
 use Rattle.proof_table.specs.Fitting.{EntryFits}
 

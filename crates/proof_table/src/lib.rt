@@ -8,12 +8,11 @@
 #![tactic(auto)]
 
 pub mod entries;
-pub mod errors;
 pub mod fitting;
 pub mod frames;
 pub mod kinds;
 pub mod tables;
 
-pub use errors::WriteTableError;
 pub use rechecking::{TableError, recheck};
+pub use table_entries::WriteTableError;
 pub use tables::write_table;

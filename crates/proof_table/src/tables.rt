@@ -8,7 +8,6 @@ ghost use Rattle.proof_table.specs.Writing.{GainsTable, BeginsTable, GainsEntrie
 ghost use Rattle.proof_table.specs.Fitting.{entry_said};
 
 use crate::entries::spell_entry;
-use crate::errors::WriteTableError;
 use crate::fitting::entry_fits;
 use bounds::Verified;
 use byteorder::{ByteOrder, LittleEndian};
@@ -21,6 +20,7 @@ use listeners::{Explored, ExploredInsn, explore};
 use stack_state::State;
 use std::alloc::Global;
 use std::io::Write;
+use table_entries::WriteTableError;
 
 /// The bytes of the longest entry: one of 8 call frames, in which each register and each stack slot
 /// is a number.

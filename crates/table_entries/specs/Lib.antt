@@ -8,3 +8,4 @@ pub mod Forgetting
 pub mod Entries
 pub mod Tables
 pub mod Growing
+pub mod Messages

@@ -1,4 +1,4 @@
-//! Proof tables as bytes, read entry by entry.
+//! Proof tables as bytes, read entry by entry; and why a table was not written.
 //!
 //! A table says of each abstract state that the verifier reached how many more steps a run makes
 //! from it at most, and which entries cover its successors. Whether that is true is not judged
@@ -7,6 +7,7 @@
 
 pub mod blanks;
 pub mod entries;
+pub mod errors;
 pub mod forgetting;
 pub mod frames;
 pub mod growing;
@@ -22,6 +23,7 @@ pub mod stops;
 pub mod tables;
 
 pub use entries::{EntryHead, NamedEntries};
+pub use errors::WriteTableError;
 pub use growing::Growing;
 pub use known_bytes::KnownBytes;
 pub use refusals::TableRefusal;

@@ -3,13 +3,13 @@
 //! One function, `execute_given`, does what is asked for and returns the status.
 #![tactic(auto)]
 
-use commands::buffered;
 use exact_io::write_bytes;
 use std::fs;
 use std::os::unix::fs::FileTypeExt;
 use std::process::ExitCode;
 use std::rt::Files;
 use survey_commands::execute_given;
+use task_outcomes::buffered;
 use words::given_words;
 
 // Whether standard output is a file on a disk. If the system does not have this path, standard

@@ -1,9 +1,11 @@
 use Rattle.std.proofs.Common.{◌∙◌, ◌≤◌, None, subst, sym}
 use Rattle.words.specs.Requests.{request_of}
-use Rattle.commands.specs.declared.endings.Ending.{Ending}
+use Rattle.task_outcomes.specs.declared.endings.Ending.{Ending}
+use Rattle.task_outcomes.proofs.StatusesLaws.{silent_words, silent_memory, unasked_status}
+use Rattle.task_outcomes.proofs.Silence.{whole_handed_on}
 use Rattle.commands.proofs.Knowing.{whole_knows}
-use Rattle.commands.proofs.StatusesLaws.{silent_words, silent_memory, done_by, done_plain, faulted_by, refused_by}
-use Rattle.commands.proofs.Silence.{unasked_status, whole_handed_on, whole_silent}
+use Rattle.commands.proofs.ExecutingLaws.{done_by, done_plain, faulted_by, refused_by}
+use Rattle.commands.proofs.Silence.{whole_silent}
 use Rattle.commands.proofs.Served.{asked-served, unasked}
 use Rattle.commands.proofs.executing.execute.Goals as goal
 

@@ -8,7 +8,7 @@ returns-clause-refused g c =
     program_refused _ _ _ _ _ _ _ _ c.in-Err.ensures.refused
     (c.copied-insn.ensures
     ∙ (c.at.ensures ∙ ap (λ (p : Program). fetch p c.in-Err.slot) c.in-Ok.ensures))
-    c.of_program.ensures.outcome c.say_refused-outcome.ensures
+    c.program_ending.ensures.outcome c.say_refused-outcome.ensures
 
 pub returns-in-Ok-verify_watched-clause-program : goal.returns-in-Ok-verify_watched-clause-program
 returns-in-Ok-verify_watched-clause-program g c = search rules

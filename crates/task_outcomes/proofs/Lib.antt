@@ -1,0 +1,7 @@
+mod Written
+mod Delivered
+mod FirstBytes
+pub mod StatusesLaws
+pub mod MessagesLaws
+pub mod FilesLaws
+pub mod Silence

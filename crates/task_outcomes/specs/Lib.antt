@@ -1,0 +1,12 @@
+pub mod Causes
+pub mod Faults
+pub mod Forms
+pub mod Messages
+pub mod Statuses
+pub mod Known
+pub mod Flushing
+pub mod Lines
+pub mod Saying
+pub mod Judging
+pub mod Streams
+pub mod Files

@@ -1,0 +1,36 @@
+//! How a task ends, and what is said of it: the files that are read and written, the lines on
+//! standard output, the messages on standard error, and the program's status.
+//!
+//! A text, a disassembly and a run with a bound are here as a whole. What looks for a bound, tests
+//! a proof table or explains a refusal is in `commands`.
+#![tactic(auto)]
+
+mod buffering;
+mod causes;
+mod endings;
+mod faults;
+mod files;
+mod forms;
+mod fronts;
+mod lines;
+mod outcomes;
+mod reading;
+mod rejections;
+mod same;
+mod screens;
+mod streams;
+mod texts;
+mod verdicts;
+
+pub use buffering::buffered;
+pub use endings::Ending;
+pub use files::{assemble_file, create_table, disassemble_file, load_image, open_streams, run_on};
+pub use forms::FileForm;
+pub use fronts::{Ahead, Watched};
+pub use lines::table_line;
+pub use outcomes::TaskOutcome;
+pub use reading::read_file;
+pub use rejections::Rejection;
+pub use screens::Screen;
+pub use streams::outcome_of;
+pub use verdicts::{accepted, bound_line, say_line, say_made, say_refused, say_unwritten};
