@@ -11,6 +11,7 @@ mod narrower;
 mod numbers;
 mod operations;
 mod pointers;
+mod rows;
 mod samples;
 mod scalars;
 mod splices;

@@ -1,10 +1,10 @@
 //! How sharp known bits are, on examples worked out by hand that are like what programs compute.
 
 use super::operations::{Relation, Unary};
+use super::rows::{Holds, hold_all};
 use isa_model::{AluOp, ByteOrder, Extension, SwapWidth, Width};
 use known_bits::Bits;
 use reg_state::Domain;
-use std::test::Fail;
 
 const FULL: Width = Width::Full64;
 
@@ -35,7 +35,9 @@ fn pair_of(bits: Bits) -> Pair {
 }
 
 /// An operation, its width, both operands and the result.
-const RESULTS: &[(AluOp, Width, Pair, Pair, Pair)] = &[
+type Operation = (AluOp, Width, Pair, Pair, Pair);
+
+const RESULTS: &[Operation] = &[
     (AluOp::And, FULL, BYTE, (15, 0), (0, 15)),
     // A header length: 0, 4, .. 60, and 14 more: each is 2 above a multiple of 4, and at most 126.
     (AluOp::Lsh, FULL, (0, 15), (2, 0), (0, 60)),
@@ -64,20 +66,17 @@ const RESULTS: &[(AluOp, Width, Pair, Pair, Pair)] = &[
     (AluOp::And, FULL, ANY, (u64::MAX - 1, 0), (0, u64::MAX - 1)),
 ];
 
-fn result_of(op: AluOp, width: Width, a: Pair, b: Pair) -> Pair {
-    pair_of(alu(op, width, bits_of(a), bits_of(b)))
-}
-
-#[test]
-fn sums_products_logic_and_shifts(rt: HostRuntime) -> Result<(), Fail> {
-    for (op, width, a, b, wanted) in RESULTS.iter() {
-        assert_eq!(rt; result_of(*op, *width, *a, *b), *wanted, "{op:?}");
+impl Holds for Operation {
+    fn holds(&self) -> bool {
+        let (op, width, a, b, wanted) = self;
+        pair_of(alu(*op, *width, bits_of(*a), bits_of(*b))) == *wanted
     }
-    Ok(())
 }
 
 /// An operation, its operand and the result.
-const UNARY_OPERATIONS: &[(Unary, Pair, Pair)] = &[
+type UnaryOperation = (Unary, Pair, Pair);
+
+const UNARY_OPERATIONS: &[UnaryOperation] = &[
     (
         Unary::SignExtend(Extension::Full8),
         (0x80, 0x7f),
@@ -115,22 +114,19 @@ fn unary_of(operation: &Unary, a: Bits) -> Bits {
     }
 }
 
-fn pair_of_unary(operation: &Unary, a: Pair) -> Pair {
-    pair_of(unary_of(operation, bits_of(a)))
-}
-
-#[test]
-fn unary_operations(rt: HostRuntime) -> Result<(), Fail> {
-    for (operation, a, wanted) in UNARY_OPERATIONS.iter() {
-        assert_eq!(rt; pair_of_unary(operation, *a), *wanted);
+impl Holds for UnaryOperation {
+    fn holds(&self) -> bool {
+        let (operation, a, wanted) = self;
+        pair_of(unary_of(operation, bits_of(*a))) == *wanted
     }
-    Ok(())
 }
 
 /// The four limits of a set, and its number if it has only one.
 type Limits = (u64, u64, i64, i64, Option<u64>);
 
-const LIMITS: &[(Pair, Limits)] = &[
+type Limited = (Pair, Limits);
+
+const LIMITS: &[Limited] = &[
     (BYTE, (0, 255, 0, 255, None)),
     ((7, 0), (7, 7, 7, 7, Some(7))),
     (TOP, (0xffff_ffff_ffff_ff00, u64::MAX, -256, -1, None)),
@@ -148,18 +144,19 @@ fn limits_of(pair: Pair) -> Limits {
     )
 }
 
-#[test]
-fn limits(rt: HostRuntime) -> Result<(), Fail> {
-    for (pair, wanted) in LIMITS.iter() {
-        assert_eq!(rt; limits_of(*pair), *wanted);
+impl Holds for Limited {
+    fn holds(&self) -> bool {
+        let (pair, wanted) = self;
+        limits_of(*pair) == *wanted
     }
-    Ok(())
 }
 
 const EVEN: Pair = (0, u64::MAX - 1);
 
 /// Two sets, their common members, and whether the first covers the second.
-const COMMON: &[(Pair, Pair, Option<Pair>, bool)] = &[
+type Common = (Pair, Pair, Option<Pair>, bool);
+
+const COMMON: &[Common] = &[
     (BYTE, EVEN, Some((0, 0xfe)), false),
     (EVEN, BYTE, Some((0, 0xfe)), false),
     ((1, 0), EVEN, None, false),
@@ -167,24 +164,24 @@ const COMMON: &[(Pair, Pair, Option<Pair>, bool)] = &[
     (BYTE, BYTE, Some(BYTE), true),
 ];
 
-fn common_pair(a: Pair, b: Pair) -> (Option<Pair>, bool) {
-    let (a, b) = (bits_of(a), bits_of(b));
-    match Domain::meet(a, b) {
-        Some(both) => (Some(pair_of(both)), Domain::covers(a, b)),
-        None => (None, Domain::covers(a, b)),
+fn common_pair(a: Pair, b: Pair) -> Option<Pair> {
+    match Domain::meet(bits_of(a), bits_of(b)) {
+        Some(both) => Some(pair_of(both)),
+        None => None,
     }
 }
 
-#[test]
-fn common_numbers(rt: HostRuntime) -> Result<(), Fail> {
-    for (a, b, wanted, is_covered) in COMMON.iter() {
-        assert_eq!(rt; common_pair(*a, *b), (*wanted, *is_covered));
+impl Holds for Common {
+    fn holds(&self) -> bool {
+        let (a, b, wanted, is_covered) = self;
+        common_pair(*a, *b) == *wanted && Domain::covers(bits_of(*a), bits_of(*b)) == *is_covered
     }
-    Ok(())
 }
 
 /// The numbers from one to another, as bits.
-const BETWEEN: &[(u64, u64, Pair)] = &[
+type Between = (u64, u64, Pair);
+
+const BETWEEN: &[Between] = &[
     (0, 7, (0, 7)),
     (0, 0xff, BYTE),
     (0x80, 0xff, (0x80, 0x7f)),
@@ -192,25 +189,15 @@ const BETWEEN: &[(u64, u64, Pair)] = &[
     (0xffff_ffff_ffff_ff00, u64::MAX, TOP),
 ];
 
-fn between(least: u64, greatest: u64) -> Option<Pair> {
-    if least <= greatest {
-        Some(pair_of(Bits::between(least, greatest)))
-    } else {
-        None
+impl Holds for Between {
+    fn holds(&self) -> bool {
+        let (least, greatest, wanted) = self;
+        *least <= *greatest && pair_of(Bits::between(*least, *greatest)) == *wanted
     }
 }
 
-fn pairs_of_widths() -> (Pair, Pair) {
-    (pair_of(Bits::any(FULL)), pair_of(Bits::any(LOW)))
-}
-
-#[test]
-fn sets(rt: HostRuntime) -> Result<(), Fail> {
-    for (least, greatest, wanted) in BETWEEN.iter() {
-        assert_eq!(rt; between(*least, *greatest), Some(*wanted));
-    }
-    assert_eq!(rt; pairs_of_widths(), (ANY, (0, 0xffff_ffff)));
-    Ok(())
+fn are_widths() -> bool {
+    pair_of(Bits::any(FULL)) == ANY && pair_of(Bits::any(LOW)) == (0, 0xffff_ffff)
 }
 
 const TEN: Pair = (10, 0);
@@ -226,46 +213,50 @@ const BIT: Pair = (0, 1);
 
 const GREAT: Pair = (0xffff_ffff_ffff_ff00, 0);
 
-/// A relation, two sets, and what it leaves of both.
-const RELATIONS: &[(Relation, Pair, Pair, Option<(Pair, Pair)>)] = &[
-    (Relation::Below, BYTE, TEN, Some(((0, 15), TEN))),
-    (Relation::Below, TEN, (0, 7), None),
+const UNSIGNED_32: Pair = (0, 0xffff_ffff);
+
+/// A number whose low half is 7, and one whose low half is 8.
+const SEVEN: Pair = (0x5_0000_0007, 0);
+
+const EIGHT: Pair = (0x5_0000_0008, 0);
+
+/// A relation, the width at which members are read, two sets, and what it leaves of both. A set
+/// with a number of 2^32 or more stays as it is if only low halves are read.
+type Related = (Relation, Width, Pair, Pair, Option<(Pair, Pair)>);
+
+#[rattlefmt::skip]
+const RELATIONS: &[Related] = &[
+    (Relation::Below, FULL, BYTE, TEN, Some(((0, 15), TEN))),
+    (Relation::Below, FULL, TEN, (0, 7), None),
     // The numbers above a number with leading ones have these too.
-    (Relation::Below, GREAT, ANY, Some((GREAT, TOP))),
-    (Relation::AtMost, GREAT, ANY, Some((GREAT, TOP))),
-    (Relation::AtMost, BYTE, (7, 0), Some(((0, 7), (7, 0)))),
-    (
-        Relation::SignedBelow,
-        MINUS_ONE,
-        BYTE,
-        Some((MINUS_ONE, BYTE)),
-    ),
-    (Relation::SignedBelow, BYTE, MINUS_ONE, None),
-    (Relation::SignedAtMost, TEN, MINUS_ONE, None),
-    (Relation::SignedAtMost, TEN, TEN, Some((TEN, TEN))),
-    (Relation::Unequal, TEN, TEN, None),
-    (Relation::Unequal, TEN, BYTE, Some((TEN, BYTE))),
-    (
-        Relation::Disjoint,
-        BYTE,
-        (16, 0),
-        Some(((0, 0xef), (16, 0))),
-    ),
-    (
-        Relation::Overlapping,
-        BYTE,
-        (16, 0),
-        Some(((16, 0xef), (16, 0))),
-    ),
-    (Relation::Overlapping, TEN, (5, 0), None),
-    (Relation::Disjoint, TEN, TEN, None),
-    (Relation::Below, BIT, ONE, Some((ZERO, ONE))),
-    (Relation::AtMost, BIT, ZERO, Some((ZERO, ZERO))),
-    (Relation::Overlapping, BIT, ONE, Some((ONE, ONE))),
-    (Relation::Disjoint, BIT, ONE, Some((ZERO, ONE))),
-    (Relation::SignedBelow, BIT, ZERO, None),
-    (Relation::SignedBelow, ONE, BIT, None),
-    (Relation::AtMost, ANY, (9, 0), Some(((0, 15), (9, 0)))),
+    (Relation::Below, FULL, GREAT, ANY, Some((GREAT, TOP))),
+    (Relation::AtMost, FULL, GREAT, ANY, Some((GREAT, TOP))),
+    (Relation::AtMost, FULL, BYTE, (7, 0), Some(((0, 7), (7, 0)))),
+    (Relation::SignedBelow, FULL, MINUS_ONE, BYTE, Some((MINUS_ONE, BYTE))),
+    (Relation::SignedBelow, FULL, BYTE, MINUS_ONE, None),
+    (Relation::SignedAtMost, FULL, TEN, MINUS_ONE, None),
+    (Relation::SignedAtMost, FULL, TEN, TEN, Some((TEN, TEN))),
+    (Relation::Unequal, FULL, TEN, TEN, None),
+    (Relation::Unequal, FULL, TEN, BYTE, Some((TEN, BYTE))),
+    (Relation::Disjoint, FULL, BYTE, (16, 0), Some(((0, 0xef), (16, 0)))),
+    (Relation::Overlapping, FULL, BYTE, (16, 0), Some(((16, 0xef), (16, 0)))),
+    (Relation::Overlapping, FULL, TEN, (5, 0), None),
+    (Relation::Disjoint, FULL, TEN, TEN, None),
+    (Relation::Below, FULL, BIT, ONE, Some((ZERO, ONE))),
+    (Relation::AtMost, FULL, BIT, ZERO, Some((ZERO, ZERO))),
+    (Relation::Overlapping, FULL, BIT, ONE, Some((ONE, ONE))),
+    (Relation::Disjoint, FULL, BIT, ONE, Some((ZERO, ONE))),
+    (Relation::SignedBelow, FULL, BIT, ZERO, None),
+    (Relation::SignedBelow, FULL, ONE, BIT, None),
+    (Relation::AtMost, FULL, ANY, (9, 0), Some(((0, 15), (9, 0)))),
+    (Relation::Equal, LOW, UNSIGNED_32, SEVEN, Some(((7, 0), SEVEN))),
+    (Relation::Equal, LOW, SEVEN, UNSIGNED_32, Some((SEVEN, (7, 0)))),
+    (Relation::Equal, LOW, SEVEN, EIGHT, None),
+    (Relation::Equal, LOW, ANY, SEVEN, Some((ANY, SEVEN))),
+    (Relation::Below, LOW, UNSIGNED_32, EIGHT, Some(((0, 7), EIGHT))),
+    (Relation::AtMost, LOW, UNSIGNED_32, SEVEN, Some(((0, 7), SEVEN))),
+    (Relation::Disjoint, LOW, SEVEN, UNSIGNED_32, Some((SEVEN, (0, 0xffff_fff8)))),
+    (Relation::Overlapping, LOW, UNSIGNED_32, EIGHT, Some(((8, 0xffff_fff7), EIGHT))),
 ];
 
 /// What a relation leaves of two sets, where members are read at a width.
@@ -282,55 +273,23 @@ fn related(relation: &Relation, width: Width, a: Bits, b: Bits) -> Option<(Bits,
     }
 }
 
-fn left_of(relation: &Relation, width: Width, a: Pair, b: Pair) -> Option<(Pair, Pair)> {
-    match related(relation, width, bits_of(a), bits_of(b)) {
-        Some((a, b)) => Some((pair_of(a), pair_of(b))),
-        None => None,
+impl Holds for Related {
+    fn holds(&self) -> bool {
+        let (relation, width, a, b, wanted) = self;
+        match related(relation, *width, bits_of(*a), bits_of(*b)) {
+            Some((a, b)) => *wanted == Some((pair_of(a), pair_of(b))),
+            None => wanted.is_none(),
+        }
     }
 }
 
 #[test]
-fn relations(rt: HostRuntime) -> Result<(), Fail> {
-    for (relation, a, b, wanted) in RELATIONS.iter() {
-        assert_eq!(rt; left_of(relation, FULL, *a, *b), *wanted);
-    }
-    Ok(())
-}
-
-const UNSIGNED_32: Pair = (0, 0xffff_ffff);
-
-/// A number whose low half is 7, and one whose low half is 8.
-const SEVEN: Pair = (0x5_0000_0007, 0);
-
-const EIGHT: Pair = (0x5_0000_0008, 0);
-
-/// A relation of low halves, two sets, and what it leaves of both. A set with a number of 2^32 or
-/// more stays as it is.
-const LOW_RELATIONS: &[(Relation, Pair, Pair, Option<(Pair, Pair)>)] = &[
-    (Relation::Equal, UNSIGNED_32, SEVEN, Some(((7, 0), SEVEN))),
-    (Relation::Equal, SEVEN, UNSIGNED_32, Some((SEVEN, (7, 0)))),
-    (Relation::Equal, SEVEN, EIGHT, None),
-    (Relation::Equal, ANY, SEVEN, Some((ANY, SEVEN))),
-    (Relation::Below, UNSIGNED_32, EIGHT, Some(((0, 7), EIGHT))),
-    (Relation::AtMost, UNSIGNED_32, SEVEN, Some(((0, 7), SEVEN))),
-    (
-        Relation::Disjoint,
-        SEVEN,
-        UNSIGNED_32,
-        Some((SEVEN, (0, 0xffff_fff8))),
-    ),
-    (
-        Relation::Overlapping,
-        UNSIGNED_32,
-        EIGHT,
-        Some(((8, 0xffff_fff7), EIGHT)),
-    ),
-];
-
-#[test]
-fn relations_of_low_halves(rt: HostRuntime) -> Result<(), Fail> {
-    for (relation, a, b, wanted) in LOW_RELATIONS.iter() {
-        assert_eq!(rt; left_of(relation, LOW, *a, *b), *wanted);
-    }
-    Ok(())
+fn known_bits(rt: HostRuntime) {
+    hold_all(&rt, "results", RESULTS);
+    hold_all(&rt, "unary operations", UNARY_OPERATIONS);
+    hold_all(&rt, "limits", LIMITS);
+    hold_all(&rt, "common numbers", COMMON);
+    hold_all(&rt, "numbers between", BETWEEN);
+    hold_all(&rt, "relations", RELATIONS);
+    assert!(rt; are_widths());
 }

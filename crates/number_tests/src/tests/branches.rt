@@ -1,10 +1,10 @@
 //! How sharp the sets are that a conditional jump leaves.
 
+use super::rows::{Holds, hold_all};
 use branch_refine::{Branch, refine};
 use isa_model::{Comparison, Cond, Operand, Reg, Width};
 use reg_state::{Domain, Kind, Scalar};
 use stack_state::State;
-use std::test::Fail;
 
 const FULL: Width = Width::Full64;
 
@@ -95,35 +95,37 @@ fn narrowed(cond: Cond, taken: bool, before: &(Limits, Limits)) -> Option<(Limit
     }
 }
 
-fn condition(comparison: Comparison, width: Width, register: Reg, operand: Operand) -> Cond {
-    Cond {
-        width,
-        comparison,
-        register,
-        operand,
+impl Holds for Row {
+    fn holds(&self) -> bool {
+        let (comparison, width, operand, taken, before, wanted) = self;
+        let cond = Cond {
+            width: *width,
+            comparison: *comparison,
+            register: Reg::R2,
+            operand: *operand,
+        };
+        narrowed(cond, *taken, before) == *wanted
+    }
+}
+
+/// `if r1 == 0`.
+const IS_NULL: Cond = Cond {
+    width: FULL,
+    comparison: Comparison::Equal,
+    register: Reg::R1,
+    operand: Operand::Constant(0),
+};
+
+// Whether r1 is the context after the jump is taken at the start.
+fn is_context_left() -> bool {
+    match refine(IS_NULL, true, &State::start()) {
+        Branch::Never => false,
+        Branch::Goes(left) => left.kind_of(Reg::R1) == Kind::Context,
     }
 }
 
 #[test]
-fn registers_narrow(rt: HostRuntime) -> Result<(), Fail> {
-    for (comparison, width, operand, taken, before, wanted) in ROWS.iter() {
-        let cond = condition(*comparison, *width, Reg::R2, *operand);
-        assert_eq!(rt; narrowed(cond, *taken, before), *wanted, "{comparison:?}");
-    }
-    Ok(())
-}
-
-// The kind of r1 after the jump `if r1 == 0` is taken at the start, if it may be.
-fn context_left() -> Option<Kind> {
-    let cond = condition(Comparison::Equal, FULL, Reg::R1, Operand::Constant(0));
-    match refine(cond, true, &State::start()) {
-        Branch::Never => None,
-        Branch::Goes(left) => Some(left.kind_of(Reg::R1)),
-    }
-}
-
-#[test]
-fn pointers_stay(rt: HostRuntime) -> Result<(), Fail> {
-    assert_eq!(rt; context_left(), Some(Kind::Context));
-    Ok(())
+fn branches(rt: HostRuntime) {
+    hold_all(&rt, "registers", ROWS);
+    assert!(rt; is_context_left());
 }

@@ -3,9 +3,9 @@
 //! costs as much as the whole trait.
 
 use super::operations::Unary;
+use super::rows::Holds;
 use isa_model::{AluOp, Comparison, Width};
 use reg_state::{Domain, Scalar, refine};
-use std::process::Abort;
 
 /// A set of numbers.
 #[derive(Drop)]
@@ -159,16 +159,15 @@ fn is_seen(left: Option<Scalar>, look: &Look) -> bool {
 /// A set, what is done to it, and what is known of what is left.
 pub type Row = (Set, &'static [Change], &'static [Look]);
 
-fn is_row_seen(rt: &impl Abort, index: usize, row: &Row) {
-    let (set, changes, looks) = row;
-    let left = after(set, *changes);
-    for (at, look) in looks.iter().enumerate() {
-        assert!(rt; is_seen(left, look), "row {index}, look {at}");
-    }
-}
-
-pub fn are_seen(rt: &impl Abort, rows: &[Row]) {
-    for (index, row) in rows.iter().enumerate() {
-        is_row_seen(rt, index, row);
+impl Holds for Row {
+    fn holds(&self) -> bool {
+        let (set, changes, looks) = self;
+        let left = after(set, *changes);
+        for look in *looks {
+            if !is_seen(left, look) {
+                return false;
+            }
+        }
+        true
     }
 }

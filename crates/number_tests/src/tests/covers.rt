@@ -1,19 +1,16 @@
 //! Which states cover which, on examples.
 
+use super::rows::{Holds, hold_all};
 use super::samples::{Held, Put, Sample, state_of};
 use state_cover::covers;
-use std::process::Abort;
-
-fn is_covering(a: &Sample, b: &Sample) -> bool {
-    covers(&state_of(a), &state_of(b))
-}
 
 /// Two states, and whether the first covers the second.
 type Row = (Sample, Sample, bool);
 
-fn are_covering(rt: &impl Abort, rows: &[Row]) {
-    for (index, (a, b, wanted)) in rows.iter().enumerate() {
-        assert_eq!(rt; is_covering(a, b), *wanted, "row {index}");
+impl Holds for Row {
+    fn holds(&self) -> bool {
+        let (a, b, wanted) = self;
+        covers(&state_of(a), &state_of(b)) == *wanted
     }
 }
 
@@ -73,11 +70,6 @@ const REGISTERS: &[Row] = &[
     (SEVEN, ANY_NUMBER, false),
 ];
 
-#[test]
-fn registers(rt: HostRuntime) {
-    are_covering(&rt, REGISTERS);
-}
-
 const BACK_TO_7: Sample = Sample::InCall(7, &[], &[]);
 
 const BACK_TO_8: Sample = Sample::InCall(8, &[], &[]);
@@ -104,11 +96,6 @@ const CALLS: &[Row] = &[
     (SAME_IN_BOTH, OTHER_IN_BOTH, false),
     (OTHER_IN_BOTH, SAME_IN_BOTH, true),
 ];
-
-#[test]
-fn calls(rt: HostRuntime) {
-    are_covering(&rt, CALLS);
-}
 
 const POINTER_IN_5: Sample = Sample::Outer(3, &[Put::Spill(5, Held::Context)]);
 
@@ -194,11 +181,6 @@ const STACKS: &[Row] = &[
     (OTHER_SPILL_AND_REGISTER, SAME_SPILL_AND_REGISTER, true),
 ];
 
-#[test]
-fn stacks(rt: HostRuntime) {
-    are_covering(&rt, STACKS);
-}
-
 const CALLED: Sample = Sample::InCall(0, &[], &[]);
 
 const SEVEN_OF_CALLER: Sample = Sample::InCall(0, &[Put::Spill(2, Held::Number(7))], &[]);
@@ -214,6 +196,9 @@ const STACKS_OF_CALLERS: &[Row] = &[
 ];
 
 #[test]
-fn stacks_of_callers(rt: HostRuntime) {
-    are_covering(&rt, STACKS_OF_CALLERS);
+fn covering(rt: HostRuntime) {
+    hold_all(&rt, "registers", REGISTERS);
+    hold_all(&rt, "calls", CALLS);
+    hold_all(&rt, "stacks", STACKS);
+    hold_all(&rt, "stacks of callers", STACKS_OF_CALLERS);
 }

@@ -1,8 +1,8 @@
 //! Which kinds cover which, on examples.
 
+use super::rows::{Holds, hold_all};
 use isa_model::Width;
 use reg_state::{Domain, Kind, Scalar};
-use std::test::Fail;
 
 const OWN: u32 = 7;
 
@@ -41,7 +41,9 @@ fn kind_of(held: &Held) -> Kind {
 }
 
 /// Two kinds, the counterpart of the first one's identity, and whether the first covers the second.
-const COVERED: &[(Held, Held, u32, bool)] = &[
+type Covered = (Held, Held, u32, bool);
+
+const COVERED: &[Covered] = &[
     // A number covers no pointer, and a pointer no number.
     (Held::AnyNumber, Held::Packet(0), OWN, false),
     (Held::Packet(0), Held::AnyNumber, OWN, false),
@@ -58,21 +60,31 @@ const COVERED: &[(Held, Held, u32, bool)] = &[
     (Held::Untested, Held::Untested, OWN, true),
 ];
 
-fn is_covering(a: &Held, b: &Held, identity: u32) -> bool {
-    kind_of(a).covers(kind_of(b), identity)
+impl Holds for Covered {
+    fn holds(&self) -> bool {
+        let (a, b, identity, wanted) = self;
+        kind_of(a).covers(kind_of(b), *identity) == *wanted
+    }
 }
 
-fn identities_of(held: &Held) -> (Option<u32>, Option<u32>) {
-    let kind = kind_of(held);
-    (kind.null_identity(), kind.packet_identity())
+/// A kind, and its identity as what a look-up gave, and as a packet pointer.
+type Identified = (Held, Option<u32>, Option<u32>);
+
+const IDENTITIES: &[Identified] = &[
+    (Held::Untested, Some(OWN), None),
+    (Held::Packet(0), None, Some(OWN)),
+];
+
+impl Holds for Identified {
+    fn holds(&self) -> bool {
+        let (held, null, packet) = self;
+        let kind = kind_of(held);
+        kind.null_identity() == *null && kind.packet_identity() == *packet
+    }
 }
 
 #[test]
-fn covered(rt: HostRuntime) -> Result<(), Fail> {
-    for (index, (a, b, identity, wanted)) in COVERED.iter().enumerate() {
-        assert_eq!(rt; is_covering(a, b, *identity), *wanted, "row {index}");
-    }
-    assert_eq!(rt; identities_of(&Held::Untested), (Some(OWN), None));
-    assert_eq!(rt; identities_of(&Held::Packet(0)), (None, Some(OWN)));
-    Ok(())
+fn kinds(rt: HostRuntime) {
+    hold_all(&rt, "covered", COVERED);
+    hold_all(&rt, "identities", IDENTITIES);
 }

@@ -1,10 +1,10 @@
 //! How tight limits are, on examples worked out by hand that are like what programs compute.
 
 use super::operations::{Relation, Unary};
+use super::rows::{Holds, hold_all};
 use isa_model::{AluOp, ByteOrder, Extension, SwapWidth, Width};
 use ranges::{Low, Range};
 use reg_state::Domain;
-use std::test::Fail;
 
 const FULL: Width = Width::Full64;
 
@@ -52,7 +52,9 @@ fn range_of(set: Set) -> Range {
 /// Limits, unsigned and then signed, and the number if there is only one.
 type Limits = (u64, u64, i64, i64, Option<u64>);
 
-const LIMITS: &[(Set, Limits)] = &[
+type Limited = (Set, Limits);
+
+const LIMITS: &[Limited] = &[
     (Set::Any, (0, u64::MAX, i64::MIN, i64::MAX, None)),
     (UNSIGNED_32, (0, 0xffff_ffff, 0, 0xffff_ffff, None)),
     (Set::One(7), (7, 7, 7, 7, Some(7))),
@@ -88,17 +90,17 @@ fn limits_of(range: Range) -> Limits {
     )
 }
 
-#[test]
-fn sets(rt: HostRuntime) -> Result<(), Fail> {
-    for (set, wanted) in LIMITS.iter() {
-        assert_eq!(rt; limits_of(range_of(*set)), *wanted);
+impl Holds for Limited {
+    fn holds(&self) -> bool {
+        let (set, wanted) = self;
+        limits_of(range_of(*set)) == *wanted
     }
-    assert_eq!(rt; Range::any(LOW), range_of(UNSIGNED_32));
-    Ok(())
 }
 
 /// An operation, its width, both operands and the result.
-const RESULTS: &[(AluOp, Width, Set, Set, Set)] = &[
+type Operation = (AluOp, Width, Set, Set, Set);
+
+const RESULTS: &[Operation] = &[
     // A header length of 0 to 60 bytes after 14 others.
     (AluOp::And, FULL, BYTE, Set::One(15), Set::Between(0, 15)),
     (
@@ -185,21 +187,17 @@ const RESULTS: &[(AluOp, Width, Set, Set, Set)] = &[
     (AluOp::Xor, FULL, Set::One(6), Set::One(5), Set::One(3)),
 ];
 
-fn result_of(op: AluOp, width: Width, a: Set, b: Set) -> Range {
-    Range::alu(op, width, range_of(a), range_of(b))
-}
-
-#[test]
-fn sums_products_logic_and_shifts(rt: HostRuntime) -> Result<(), Fail> {
-    for (op, width, a, b, wanted) in RESULTS.iter() {
-        let (found, wanted) = (result_of(*op, *width, *a, *b), range_of(*wanted));
-        assert_eq!(rt; found, wanted, "{op:?}");
+impl Holds for Operation {
+    fn holds(&self) -> bool {
+        let (op, width, a, b, wanted) = self;
+        Range::alu(*op, *width, range_of(*a), range_of(*b)) == range_of(*wanted)
     }
-    Ok(())
 }
 
 /// An operation, its operand and the result.
-const UNARY_OPERATIONS: &[(Unary, Set, Set)] = &[
+type UnaryOperation = (Unary, Set, Set);
+
+const UNARY_OPERATIONS: &[UnaryOperation] = &[
     (Unary::Negate(FULL), BYTE, Set::Signed(-255, 0)),
     (
         Unary::Reorder(ByteOrder::Big, SwapWidth::B16),
@@ -246,17 +244,17 @@ fn unary_of(operation: &Unary, a: Range) -> Range {
     }
 }
 
-#[test]
-fn unary_operations(rt: HostRuntime) -> Result<(), Fail> {
-    for (operation, a, wanted) in UNARY_OPERATIONS.iter() {
-        let (found, wanted) = (unary_of(operation, range_of(*a)), range_of(*wanted));
-        assert_eq!(rt; found, wanted);
+impl Holds for UnaryOperation {
+    fn holds(&self) -> bool {
+        let (operation, a, wanted) = self;
+        unary_of(operation, range_of(*a)) == range_of(*wanted)
     }
-    Ok(())
 }
 
 /// Two sets, their common members, and whether the first covers the second.
-const COMMON: &[(Set, Set, Option<Set>, bool)] = &[
+type Common = (Set, Set, Option<Set>, bool);
+
+const COMMON: &[Common] = &[
     (
         BYTE,
         Set::Between(200, 1000),
@@ -284,17 +282,12 @@ fn range_if(set: Option<Set>) -> Option<Range> {
     }
 }
 
-fn common(a: Set, b: Set) -> (Option<Range>, bool) {
-    let (a, b) = (range_of(a), range_of(b));
-    (Domain::meet(a, b), Domain::covers(a, b))
-}
-
-#[test]
-fn common_numbers(rt: HostRuntime) -> Result<(), Fail> {
-    for (a, b, wanted, is_covered) in COMMON.iter() {
-        assert_eq!(rt; common(*a, *b), (range_if(*wanted), *is_covered));
+impl Holds for Common {
+    fn holds(&self) -> bool {
+        let (a, b, wanted, is_covered) = self;
+        let (a, b) = (range_of(*a), range_of(*b));
+        Domain::meet(a, b) == range_if(*wanted) && Domain::covers(a, b) == *is_covered
     }
-    Ok(())
 }
 
 const TEN: Set = Set::One(10);
@@ -308,50 +301,23 @@ const BIT: Set = Set::Between(0, 1);
 const MINUS_TWO: Set = Set::One(u64::MAX - 1);
 
 /// A relation of two numbers (disjoint: no bit is 1 in both), two sets, and what it leaves of both.
-const RELATIONS: &[(Relation, Set, Set, Option<(Set, Set)>)] = &[
+type Related = (Relation, Set, Set, Option<(Set, Set)>);
+
+#[rattlefmt::skip]
+const RELATIONS: &[Related] = &[
     (Relation::Below, BYTE, TEN, Some((Set::Between(0, 9), TEN))),
-    (
-        Relation::Below,
-        TEN,
-        BYTE,
-        Some((TEN, Set::Between(11, 255))),
-    ),
+    (Relation::Below, TEN, BYTE, Some((TEN, Set::Between(11, 255)))),
     (Relation::Below, TEN, TEN, None),
     (Relation::AtMost, TEN, TEN, Some((TEN, TEN))),
-    (
-        Relation::AtMost,
-        BYTE,
-        TEN,
-        Some((Set::Between(0, 10), TEN)),
-    ),
-    (
-        Relation::SignedBelow,
-        MINUS_ONE,
-        BYTE,
-        Some((MINUS_ONE, BYTE)),
-    ),
+    (Relation::AtMost, BYTE, TEN, Some((Set::Between(0, 10), TEN))),
+    (Relation::SignedBelow, MINUS_ONE, BYTE, Some((MINUS_ONE, BYTE))),
     (Relation::SignedBelow, BYTE, MINUS_ONE, None),
     (Relation::SignedAtMost, BYTE, MINUS_ONE, None),
     (Relation::SignedAtMost, TEN, TEN, Some((TEN, TEN))),
-    (
-        Relation::Unequal,
-        BYTE,
-        ZERO,
-        Some((Set::Between(1, 255), ZERO)),
-    ),
-    (
-        Relation::Unequal,
-        Set::Signed(-2, 5),
-        MINUS_TWO,
-        Some((Set::Signed(-1, 5), MINUS_TWO)),
-    ),
+    (Relation::Unequal, BYTE, ZERO, Some((Set::Between(1, 255), ZERO))),
+    (Relation::Unequal, Set::Signed(-2, 5), MINUS_TWO, Some((Set::Signed(-1, 5), MINUS_TWO))),
     (Relation::Unequal, TEN, TEN, None),
-    (
-        Relation::Overlapping,
-        BYTE,
-        TEN,
-        Some((Set::Between(1, 255), TEN)),
-    ),
+    (Relation::Overlapping, BYTE, TEN, Some((Set::Between(1, 255), TEN))),
     (Relation::Disjoint, TEN, TEN, None),
     (Relation::Disjoint, BYTE, TEN, Some((BYTE, TEN))),
     (Relation::Below, BIT, ONE, Some((ZERO, ONE))),
@@ -360,12 +326,7 @@ const RELATIONS: &[(Relation, Set, Set, Option<(Set, Set)>)] = &[
     (Relation::SignedAtMost, BIT, ZERO, Some((ZERO, ZERO))),
     (Relation::Unequal, BIT, ZERO, Some((ONE, ZERO))),
     (Relation::Overlapping, BIT, ONE, Some((ONE, ONE))),
-    (
-        Relation::AtMost,
-        Set::Any,
-        Set::One(9),
-        Some((Set::Between(0, 9), Set::One(9))),
-    ),
+    (Relation::AtMost, Set::Any, Set::One(9), Some((Set::Between(0, 9), Set::One(9)))),
 ];
 
 fn ranges_if(sets: Option<(Set, Set)>) -> Option<(Range, Range)> {
@@ -375,25 +336,37 @@ fn ranges_if(sets: Option<(Set, Set)>) -> Option<(Range, Range)> {
     }
 }
 
-/// What a relation leaves of two sets, where members are read at a width.
-fn related(relation: &Relation, width: Width, a: Range, b: Range) -> Option<(Range, Range)> {
+/// What a relation leaves of two sets.
+fn related(relation: &Relation, a: Range, b: Range) -> Option<(Range, Range)> {
     match relation {
-        Relation::Equal => Domain::equal(a, width, b),
-        Relation::Below => Domain::below(a, width, b),
-        Relation::AtMost => Domain::at_most(a, width, b),
-        Relation::SignedBelow => Domain::signed_below(a, width, b),
-        Relation::SignedAtMost => Domain::signed_at_most(a, width, b),
-        Relation::Unequal => Domain::unequal(a, width, b),
-        Relation::Disjoint => Domain::disjoint(a, width, b),
-        Relation::Overlapping => Domain::overlapping(a, width, b),
+        Relation::Equal => Domain::equal(a, FULL, b),
+        Relation::Below => Domain::below(a, FULL, b),
+        Relation::AtMost => Domain::at_most(a, FULL, b),
+        Relation::SignedBelow => Domain::signed_below(a, FULL, b),
+        Relation::SignedAtMost => Domain::signed_at_most(a, FULL, b),
+        Relation::Unequal => Domain::unequal(a, FULL, b),
+        Relation::Disjoint => Domain::disjoint(a, FULL, b),
+        Relation::Overlapping => Domain::overlapping(a, FULL, b),
     }
 }
 
-#[test]
-fn relations(rt: HostRuntime) -> Result<(), Fail> {
-    for (relation, a, b, wanted) in RELATIONS.iter() {
-        let found = related(relation, FULL, range_of(*a), range_of(*b));
-        assert_eq!(rt; found, ranges_if(*wanted));
+impl Holds for Related {
+    fn holds(&self) -> bool {
+        let (relation, a, b, wanted) = self;
+        related(relation, range_of(*a), range_of(*b)) == ranges_if(*wanted)
     }
-    Ok(())
+}
+
+fn are_widths() -> bool {
+    Range::any(LOW) == range_of(UNSIGNED_32)
+}
+
+#[test]
+fn limits(rt: HostRuntime) {
+    hold_all(&rt, "sets", LIMITS);
+    hold_all(&rt, "results", RESULTS);
+    hold_all(&rt, "unary operations", UNARY_OPERATIONS);
+    hold_all(&rt, "common numbers", COMMON);
+    hold_all(&rt, "relations", RELATIONS);
+    assert!(rt; are_widths());
 }

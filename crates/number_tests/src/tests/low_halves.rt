@@ -1,11 +1,11 @@
 //! How tight limits of low halves are, for numbers with any upper half or a known one: examples
 //! worked out by hand.
 
-use super::changes::{Change, Look, Row, Set, are_seen, refined, set_of};
+use super::changes::{Change, Look, Row, Set, refined, set_of};
 use super::operations::Unary;
+use super::rows::{Holds, hold_all};
 use isa_model::{AluOp, ByteOrder, Comparison, Extension, SwapWidth, Width};
 use reg_state::Scalar;
-use std::test::Fail;
 
 const FULL: Width = Width::Full64;
 
@@ -44,7 +44,9 @@ const SIGNED_AT_LEAST: Limits = (10, 0x7fff_ffff, 10, i32::MAX);
 
 /// A comparison of the low half with 10, and the limits of the low half if it holds and if it does
 /// not.
-const COMPARISONS: &[(Comparison, Limits, Limits)] = &[
+type Compared = (Comparison, Limits, Limits);
+
+const COMPARISONS: &[Compared] = &[
     (Comparison::Equal, (10, 10, 10, 10), ALL),
     (Comparison::NotEqual, ALL, (10, 10, 10, 10)),
     (Comparison::Less, BELOW, AT_LEAST),
@@ -62,33 +64,23 @@ const COMPARISONS: &[(Comparison, Limits, Limits)] = &[
     (Comparison::AnyBit, (1, u32::MAX, i32::MIN, i32::MAX), ALL),
 ];
 
-/// The least and the greatest upper half.
-type Uppers = (u64, u64);
-
-fn uppers_of(scalar: Scalar) -> Uppers {
-    let wide = scalar.range.wide;
-    (wide.least >> 32, wide.greatest >> 32)
-}
-
-// What a comparison with 10 at 32 bits leaves of all numbers.
-fn left_of(comparison: Comparison, taken: bool) -> Option<(Limits, Uppers)> {
+// Whether a comparison with 10 at 32 bits leaves these limits of all numbers, and nothing is known
+// of the upper half.
+fn leaves(comparison: Comparison, taken: bool, wanted: Limits) -> bool {
     match refined(comparison, LOW, taken, set_of(&EVERY), 10) {
-        Some(set) => Some((limits_of(set), uppers_of(set))),
-        None => None,
+        Some(set) => {
+            let wide = set.range.wide;
+            limits_of(set) == wanted && wide.least >> 32 == 0 && wide.greatest >> 32 == 0xffff_ffff
+        }
+        None => false,
     }
 }
 
-/// Nothing is known of the upper half.
-const OPEN: Uppers = (0, 0xffff_ffff);
-
-#[test]
-fn each_comparison_narrows(rt: HostRuntime) -> Result<(), Fail> {
-    for (comparison, yes, no) in COMPARISONS.iter() {
-        let left = (left_of(*comparison, true), left_of(*comparison, false));
-        let wanted = (Some((*yes, OPEN)), Some((*no, OPEN)));
-        assert_eq!(rt; left, wanted, "{comparison:?}");
+impl Holds for Compared {
+    fn holds(&self) -> bool {
+        let (comparison, yes, no) = self;
+        leaves(*comparison, true, *yes) && leaves(*comparison, false, *no)
     }
-    Ok(())
 }
 
 const EVERY: Set = Set::Any(FULL);
@@ -132,10 +124,6 @@ const OPERATIONS: &[Row] = &[
         &[BELOW_TEN, FROM_THREE, Change::Alu(AluOp::Rsh, FULL, 4)],
         &[Look::Low(0, u32::MAX, i32::MIN, i32::MAX)],
     ),
-];
-
-#[rattlefmt::skip]
-const CASTS: &[Row] = &[
     (EVERY, &[BELOW_TEN, FROM_THREE, Change::Itself(AluOp::Mov, LOW)], &[Look::Wide(3, 9)]),
     (
         EVERY,
@@ -180,19 +168,10 @@ const ONE_UPPER_HALF: &[Row] = &[
     (Set::One(0x5_0000_000a), &[BELOW_TEN], &[Look::Never]),
 ];
 
-#[test]
-fn operations_keep_them(rt: HostRuntime) {
-    are_seen(&rt, OPERATIONS);
-    are_seen(&rt, CASTS);
-}
-
-#[test]
-fn the_upper_half_shows_whole_limits(rt: HostRuntime) {
-    are_seen(&rt, ONE_UPPER_HALF);
-}
-
 /// A comparison, the result that it never has for a low half of 5, and the number to compare with.
-const NEVER: &[(Comparison, bool, u64)] = &[
+type Never = (Comparison, bool, u64);
+
+const NEVER: &[Never] = &[
     (Comparison::Equal, true, 6),
     (Comparison::NotEqual, true, 5),
     (Comparison::Less, true, 5),
@@ -215,10 +194,17 @@ fn goes(comparison: Comparison, taken: bool, number: u64) -> bool {
     }
 }
 
-#[test]
-fn a_known_low_half_has_one_result(rt: HostRuntime) {
-    for (comparison, never, number) in NEVER.iter() {
-        assert!(rt; !goes(*comparison, *never, *number), "{comparison:?}");
-        assert!(rt; goes(*comparison, !*never, *number), "{comparison:?}");
+impl Holds for Never {
+    fn holds(&self) -> bool {
+        let (comparison, never, number) = self;
+        !goes(*comparison, *never, *number) && goes(*comparison, !*never, *number)
     }
+}
+
+#[test]
+fn low_halves(rt: HostRuntime) {
+    hold_all(&rt, "comparisons", COMPARISONS);
+    hold_all(&rt, "operations", OPERATIONS);
+    hold_all(&rt, "one upper half", ONE_UPPER_HALF);
+    hold_all(&rt, "one result", NEVER);
 }

@@ -1,11 +1,10 @@
 //! How much narrower results become: reversed bytes, parts of numbers, and signed quotients and
 //! remainders, worked out by hand at the ends, and from all members of small sets.
 
+use super::rows::{Holds, hold_all};
 use isa_model::{AluOp, ByteOrder, SwapWidth, Width, numbers};
 use ranges::Range;
 use reg_state::{Domain, Scalar};
-use std::process::Abort;
-use std::test::Fail;
 
 const FULL: Width = Width::Full64;
 
@@ -97,21 +96,23 @@ fn bits_of_set(operation: Operation, value: u64, mask: u64) -> (u64, u64) {
     (bits.value, bits.value | bits.mask)
 }
 
-/// As many bits are known as in the results of all members together.
-#[test]
-fn bits_are_those_of_all_members(rt: HostRuntime) -> Result<(), Fail> {
-    for (index, operation) in OPERATIONS.iter().enumerate() {
-        for (value, mask) in BITS.iter() {
-            let wanted = bits_of_results(*operation, *value, *mask);
-            let found = bits_of_set(*operation, *value, *mask);
-            assert_eq!(rt; found, wanted, "operation {index} of {value:x} {mask:x}");
+impl Holds for Operation {
+    /// Whether as many bits are known as in the results of all members together.
+    fn holds(&self) -> bool {
+        for (value, mask) in BITS {
+            let wanted = bits_of_results(*self, *value, *mask);
+            if bits_of_set(*self, *value, *mask) != wanted {
+                return false;
+            }
         }
+        true
     }
-    Ok(())
 }
 
 /// The limits of numbers; where a part of them begins, and how long it is; the limits of the part.
-const LIMITS: &[((u64, u64), (u64, u32), (u64, u64))] = &[
+type Part = ((u64, u64), (u64, u32), (u64, u64));
+
+const LIMITS: &[Part] = &[
     ((5, 20), (0, 8), (5, 20)),
     ((5, 255), (0, 8), (5, 255)),
     ((5, 256), (0, 8), (0, 255)),
@@ -130,93 +131,48 @@ fn between(limits: (u64, u64)) -> Scalar {
     }
 }
 
-fn limits_of_part(limits: (u64, u64), from: u64, count: u32) -> (u64, u64) {
-    let wide = of_set(Operation::Part(from, count), between(limits))
-        .range
-        .wide;
-    (wide.least, wide.greatest)
-}
-
-#[test]
-fn limits_of_parts(rt: HostRuntime) -> Result<(), Fail> {
-    for (limits, (from, count), wanted) in LIMITS.iter() {
-        let found = limits_of_part(*limits, *from, *count);
-        assert_eq!(rt; found, *wanted, "{limits:?} from {from}");
+impl Holds for Part {
+    fn holds(&self) -> bool {
+        let (limits, (from, count), wanted) = self;
+        let part = of_set(Operation::Part(*from, *count), between(*limits));
+        let wide = part.range.wide;
+        wide.least == wanted.0 && wide.greatest == wanted.1
     }
-    Ok(())
 }
 
-/// The dividend's signed limits, the divisor, and the signed limits of quotient and remainder.
-type Row = (i64, i64, i64, (i64, i64), (i64, i64));
+const BOTH: &[Width] = &[FULL, LOW];
 
-const DIVIDED: &[Row] = &[
-    (-7, 7, 2, (-3, 3), (-1, 1)),
-    (-8, 7, -2, (-3, 4), (-1, 1)),
-    (-8, 7, 1, (-8, 7), (0, 0)),
-    (-8, 7, -1, (-7, 8), (0, 0)),
-    (-8, 7, 0, (0, 0), (-8, 7)),
-    (3, 100, 8, (0, 12), (0, 7)),
-    (-100, -3, 8, (-12, 0), (-7, 0)),
-    (-3, 5, 8, (0, 0), (-3, 5)),
-    (-100, 5, -8, (0, 12), (-7, 5)),
-    (-16, -16, 8, (-2, -2), (0, 0)),
-    (-128, 127, 16, (-8, 7), (-15, 15)),
-    (-60000, 60000, 65536, (0, 0), (-60000, 60000)),
-    (0, 0, -5, (0, 0), (0, 0)),
-    (-1, 0, 100, (0, 0), (-1, 0)),
-];
+/// The widths, the dividend's signed limits, the divisor, and the signed limits of quotient and
+/// remainder.
+type Divided = (&'static [Width], i64, i64, i64, (i64, i64), (i64, i64));
 
-/// At the ends of 64 bits. The least number divided by -1 is itself.
-const DIVIDED_AT_THE_ENDS: &[Row] = &[
-    (i64::MIN, i64::MAX, -1, (i64::MIN, i64::MAX), (0, 0)),
-    (-i64::MAX, i64::MAX, -1, (-i64::MAX, i64::MAX), (0, 0)),
-    (
-        i64::MIN,
-        i64::MAX,
-        2,
-        (-0x4000_0000_0000_0000, 0x3fff_ffff_ffff_ffff),
-        (-1, 1),
-    ),
-    (i64::MIN, i64::MAX, i64::MIN, (0, 1), (-i64::MAX, i64::MAX)),
-    (
-        i64::MIN,
-        i64::MAX,
-        i64::MAX,
-        (-1, 1),
-        (1 - i64::MAX, i64::MAX - 1),
-    ),
-    (
-        i64::MIN,
-        i64::MIN,
-        3,
-        (-0x2aaa_aaaa_aaaa_aaaa, -0x2aaa_aaaa_aaaa_aaaa),
-        (-2, -2),
-    ),
-];
-
-/// At the ends of 32 bits.
-const DIVIDED_AT_THE_ENDS_OF_32_BITS: &[Row] = &[
-    (
-        -0x8000_0000,
-        0x7fff_ffff,
-        -1,
-        (-0x8000_0000, 0x7fff_ffff),
-        (0, 0),
-    ),
-    (
-        -0x7fff_ffff,
-        0x7fff_ffff,
-        -1,
-        (-0x7fff_ffff, 0x7fff_ffff),
-        (0, 0),
-    ),
-    (
-        -0x8000_0000,
-        0x7fff_ffff,
-        -0x8000_0000,
-        (0, 1),
-        (-0x7fff_ffff, 0x7fff_ffff),
-    ),
+#[rattlefmt::skip]
+const DIVIDED: &[Divided] = &[
+    (BOTH, -7, 7, 2, (-3, 3), (-1, 1)),
+    (BOTH, -8, 7, -2, (-3, 4), (-1, 1)),
+    (BOTH, -8, 7, 1, (-8, 7), (0, 0)),
+    (BOTH, -8, 7, -1, (-7, 8), (0, 0)),
+    (BOTH, -8, 7, 0, (0, 0), (-8, 7)),
+    (BOTH, 3, 100, 8, (0, 12), (0, 7)),
+    (BOTH, -100, -3, 8, (-12, 0), (-7, 0)),
+    (BOTH, -3, 5, 8, (0, 0), (-3, 5)),
+    (BOTH, -100, 5, -8, (0, 12), (-7, 5)),
+    (BOTH, -16, -16, 8, (-2, -2), (0, 0)),
+    (BOTH, -128, 127, 16, (-8, 7), (-15, 15)),
+    (BOTH, -60000, 60000, 65536, (0, 0), (-60000, 60000)),
+    (BOTH, 0, 0, -5, (0, 0), (0, 0)),
+    (BOTH, -1, 0, 100, (0, 0), (-1, 0)),
+    // At the ends of 64 bits. The least number divided by -1 is itself.
+    (&[FULL], i64::MIN, i64::MAX, -1, (i64::MIN, i64::MAX), (0, 0)),
+    (&[FULL], -i64::MAX, i64::MAX, -1, (-i64::MAX, i64::MAX), (0, 0)),
+    (&[FULL], i64::MIN, i64::MAX, 2, (-0x4000_0000_0000_0000, 0x3fff_ffff_ffff_ffff), (-1, 1)),
+    (&[FULL], i64::MIN, i64::MAX, i64::MIN, (0, 1), (-i64::MAX, i64::MAX)),
+    (&[FULL], i64::MIN, i64::MAX, i64::MAX, (-1, 1), (1 - i64::MAX, i64::MAX - 1)),
+    (&[FULL], i64::MIN, i64::MIN, 3, (-0x2aaa_aaaa_aaaa_aaaa, -0x2aaa_aaaa_aaaa_aaaa), (-2, -2)),
+    // At the ends of 32 bits.
+    (&[LOW], -0x8000_0000, 0x7fff_ffff, -1, (-0x8000_0000, 0x7fff_ffff), (0, 0)),
+    (&[LOW], -0x7fff_ffff, 0x7fff_ffff, -1, (-0x7fff_ffff, 0x7fff_ffff), (0, 0)),
+    (&[LOW], -0x8000_0000, 0x7fff_ffff, -0x8000_0000, (0, 1), (-0x7fff_ffff, 0x7fff_ffff)),
 ];
 
 /// The numbers between signed limits.
@@ -246,23 +202,19 @@ fn divided(op: AluOp, width: Width, limits: (i64, i64), by: i64) -> (i64, i64) {
     }
 }
 
-fn are_divided(rt: &impl Abort, width: Width, rows: &[Row]) {
-    for (least, greatest, by, quotients, remainders) in rows {
+impl Holds for Divided {
+    fn holds(&self) -> bool {
+        let (widths, least, greatest, by, quotients, remainders) = self;
         let limits = (*least, *greatest);
-        let found = divided(AluOp::SignedDiv, width, limits, *by);
-        assert_eq!(rt; found, *quotients, "{limits:?} by {by}");
-        let found = divided(AluOp::SignedMod, width, limits, *by);
-        assert_eq!(rt; found, *remainders, "{limits:?} by {by}");
+        for width in *widths {
+            if divided(AluOp::SignedDiv, *width, limits, *by) != *quotients
+                || divided(AluOp::SignedMod, *width, limits, *by) != *remainders
+            {
+                return false;
+            }
+        }
+        true
     }
-}
-
-#[test]
-fn signed_quotients_and_remainders(rt: HostRuntime) -> Result<(), Fail> {
-    are_divided(&rt, FULL, DIVIDED);
-    are_divided(&rt, LOW, DIVIDED);
-    are_divided(&rt, FULL, DIVIDED_AT_THE_ENDS);
-    are_divided(&rt, LOW, DIVIDED_AT_THE_ENDS_OF_32_BITS);
-    Ok(())
 }
 
 /// Whether the result for each member is a member of the result for the set.
@@ -278,44 +230,49 @@ fn contains_all(op: AluOp, width: Width, limits: (i64, i64), by: i64) -> bool {
     true
 }
 
-/// For sets of small dividends, and each small divisor.
-#[test]
-fn no_result_is_lost(rt: HostRuntime) -> Result<(), Fail> {
-    for op in [AluOp::SignedDiv, AluOp::SignedMod] {
-        for width in [FULL, LOW] {
-            for least in -9..10 {
-                for by in -5..6 {
-                    assert!(rt;
-                        contains_all(op, width, (least, 9), by),
-                        "{op:?} {least} {by}"
-                    );
-                    assert!(rt;
-                        contains_all(op, width, (-9, least), by),
-                        "{op:?} {least} {by}"
-                    );
-                }
+/// Whether that is so for sets of small dividends, and each small divisor.
+fn loses_none(op: AluOp, width: Width) -> bool {
+    for least in -9..10 {
+        for by in -5..6 {
+            if !contains_all(op, width, (least, 9), by)
+                || !contains_all(op, width, (-9, least), by)
+            {
+                return false;
             }
         }
     }
-    Ok(())
+    true
 }
 
-// The limits of the result for 40 to 100 by 4 to 20.
-fn of_unsigned(op: AluOp, width: Width) -> (u64, u64) {
-    let divisors = Scalar::between(4, 20);
-    let wide = Scalar::alu(op, width, Scalar::between(40, 100), divisors)
-        .range
-        .wide;
-    (wide.least, wide.greatest)
+/// Signed operations and widths, and the limits of the result for 40 to 100 by 4 to 20. For numbers
+/// whose sign bit is 0 the limits are those of the unsigned operation, even if there are several
+/// divisors.
+type Signed = (AluOp, Width, (u64, u64));
+
+const SIGNED: &[Signed] = &[
+    (AluOp::SignedDiv, FULL, (2, 25)),
+    (AluOp::SignedDiv, LOW, (2, 25)),
+    (AluOp::SignedMod, FULL, (0, 19)),
+    (AluOp::SignedMod, LOW, (0, 19)),
+];
+
+fn has_limits_of_unsigned(op: AluOp, width: Width, wanted: (u64, u64)) -> bool {
+    let (numbers, divisors) = (Scalar::between(40, 100), Scalar::between(4, 20));
+    let wide = Scalar::alu(op, width, numbers, divisors).range.wide;
+    wide.least == wanted.0 && wide.greatest == wanted.1
 }
 
-/// For numbers whose sign bit is 0 the limits are those of the unsigned operation, even if there
-/// are several divisors.
-#[test]
-fn numbers_without_a_sign(rt: HostRuntime) -> Result<(), Fail> {
-    for width in [FULL, LOW] {
-        assert_eq!(rt; of_unsigned(AluOp::SignedDiv, width), (2, 25));
-        assert_eq!(rt; of_unsigned(AluOp::SignedMod, width), (0, 19));
+impl Holds for Signed {
+    fn holds(&self) -> bool {
+        let (op, width, wanted) = self;
+        loses_none(*op, *width) && has_limits_of_unsigned(*op, *width, *wanted)
     }
-    Ok(())
+}
+
+#[test]
+fn narrower_results(rt: HostRuntime) {
+    hold_all(&rt, "bits of all members", OPERATIONS);
+    hold_all(&rt, "limits of parts", LIMITS);
+    hold_all(&rt, "quotients and remainders", DIVIDED);
+    hold_all(&rt, "signed operations", SIGNED);
 }

@@ -2,9 +2,9 @@
 //! 4.1 to 4.3.
 
 use super::operations::Unary;
+use super::rows::{Holds, hold_all};
 use isa_model::numbers::{compare, compute, negate, reorder, sign_extend};
 use isa_model::{AluOp, ByteOrder, Comparison, Extension, SwapWidth, Width};
-use std::test::Fail;
 
 const MINUS_ONE: u64 = 0xffff_ffff_ffff_ffff;
 
@@ -15,8 +15,10 @@ const TWO_31: u64 = 0x8000_0000;
 const TWO_32: u64 = 0x1_0000_0000;
 
 // Operation, operands, and the results at 64 and at 32 bits.
+type Computed = (AluOp, u64, u64, u64, u64);
+
 #[rattlefmt::skip]
-const ARITHMETIC: &[(AluOp, u64, u64, u64, u64)] = &[
+const ARITHMETIC: &[Computed] = &[
     (AluOp::Add, 0, 0, 0, 0),
     (AluOp::Add, 1, MINUS_ONE, 0, 0),
     (AluOp::Add, LEAST, LEAST, 0, 0),
@@ -107,8 +109,10 @@ const ARITHMETIC: &[(AluOp, u64, u64, u64, u64)] = &[
 ];
 
 // Comparison, operands, and whether it holds at 64 and at 32 bits.
+type Compared = (Comparison, u64, u64, bool, bool);
+
 #[rattlefmt::skip]
-const COMPARISONS: &[(Comparison, u64, u64, bool, bool)] = &[
+const COMPARISONS: &[Compared] = &[
     (Comparison::Equal, 0, 0, true, true),
     (Comparison::Equal, TWO_32, 0, false, true),
     (Comparison::Equal, MINUS_ONE, 1, false, false),
@@ -163,8 +167,10 @@ const COMPARISONS: &[(Comparison, u64, u64, bool, bool)] = &[
 const DIGITS: u64 = 0x0102_0304_0506_0708;
 
 // Operation, operand and result.
+type UnaryComputed = (Unary, u64, u64);
+
 #[rattlefmt::skip]
-const UNARY_OPERATIONS: &[(Unary, u64, u64)] = &[
+const UNARY_OPERATIONS: &[UnaryComputed] = &[
     (Unary::Negate(Width::Full64), 1, MINUS_ONE),
     (Unary::Negate(Width::Full64), LEAST, LEAST),
     (Unary::Negate(Width::Low32), 1, 0xffff_ffff),
@@ -192,50 +198,36 @@ const UNARY_OPERATIONS: &[(Unary, u64, u64)] = &[
     (Unary::Reorder(ByteOrder::Swap, SwapWidth::B64), DIGITS, 0x0807_0605_0403_0201),
 ];
 
-// At 64 and at 32 bits.
-fn computed(op: AluOp, a: u64, b: u64) -> (u64, u64) {
-    (
-        compute(op, Width::Full64, a, b),
-        compute(op, Width::Low32, a, b),
-    )
-}
-
-#[test]
-fn arithmetic_at_the_ends(rt: HostRuntime) -> Result<(), Fail> {
-    for (op, a, b, full, low) in ARITHMETIC.iter() {
-        assert_eq!(rt; computed(*op, *a, *b), (*full, *low), "{op:?} of {a:x}");
+impl Holds for Computed {
+    fn holds(&self) -> bool {
+        let (op, a, b, full, low) = self;
+        compute(*op, Width::Full64, *a, *b) == *full && compute(*op, Width::Low32, *a, *b) == *low
     }
-    Ok(())
 }
 
-fn compared(comparison: Comparison, a: u64, b: u64) -> (bool, bool) {
-    (
-        compare(comparison, Width::Full64, a, b),
-        compare(comparison, Width::Low32, a, b),
-    )
-}
-
-#[test]
-fn comparisons_at_the_ends(rt: HostRuntime) -> Result<(), Fail> {
-    for (comparison, a, b, full, low) in COMPARISONS.iter() {
-        let found = compared(*comparison, *a, *b);
-        assert_eq!(rt; found, (*full, *low), "{comparison:?} of {a:x}");
+impl Holds for Compared {
+    fn holds(&self) -> bool {
+        let (comparison, a, b, full, low) = self;
+        compare(*comparison, Width::Full64, *a, *b) == *full
+            && compare(*comparison, Width::Low32, *a, *b) == *low
     }
-    Ok(())
 }
 
-fn unary_of(operation: &Unary, a: u64) -> u64 {
-    match operation {
-        Unary::Negate(width) => negate(*width, a),
-        Unary::SignExtend(extension) => sign_extend(*extension, a),
-        Unary::Reorder(order, span) => reorder(*order, *span, a),
+impl Holds for UnaryComputed {
+    fn holds(&self) -> bool {
+        let (operation, a, wanted) = self;
+        let found = match operation {
+            Unary::Negate(width) => negate(*width, *a),
+            Unary::SignExtend(extension) => sign_extend(*extension, *a),
+            Unary::Reorder(order, span) => reorder(*order, *span, *a),
+        };
+        found == *wanted
     }
 }
 
 #[test]
-fn unary_operations(rt: HostRuntime) -> Result<(), Fail> {
-    for (operation, a, wanted) in UNARY_OPERATIONS.iter() {
-        assert_eq!(rt; unary_of(operation, *a), *wanted, "of {a:x}");
-    }
-    Ok(())
+fn numbers_at_the_ends(rt: HostRuntime) {
+    hold_all(&rt, "arithmetic", ARITHMETIC);
+    hold_all(&rt, "comparisons", COMPARISONS);
+    hold_all(&rt, "unary operations", UNARY_OPERATIONS);
 }

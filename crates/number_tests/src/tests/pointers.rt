@@ -1,11 +1,11 @@
 //! What packet tests and null tests show, at every copy of an identity.
 
+use super::rows::{Holds, hold_all};
 use arrayvec::ArrayVec;
 use branch_refine::{Branch, Compared, compared_by, refine};
 use isa_model::{Comparison, Cond, Operand, Reg, Width};
 use reg_state::{Domain, Kind, Scalar};
 use stack_state::{AbstractFrame, StackSlot, State};
-use std::test::Fail;
 
 const FULL: Width = Width::Full64;
 
@@ -17,7 +17,9 @@ const ZERO: Operand = Operand::Constant(0);
 type Test = (Comparison, bool, bool);
 
 /// How many bytes each test proves, if the pointer is 14 bytes after its variable part.
-const PACKET_TESTS: &[(Test, u32)] = &[
+type Proved = (Test, u32);
+
+const PACKET_TESTS: &[Proved] = &[
     ((Comparison::Greater, false, true), 0),
     ((Comparison::Greater, false, false), 14),
     ((Comparison::GreaterEqual, false, true), 0),
@@ -169,13 +171,11 @@ fn proved(bytes: u32) -> [Kind; 4] {
     ]
 }
 
-#[test]
-fn packet_tests_prove_bytes(rt: HostRuntime) -> Result<(), Fail> {
-    for (test, bytes) in PACKET_TESTS.iter() {
-        let found = packet_test(*test, 14, &UNPROVED);
-        assert_eq!(rt; found, Some(proved(*bytes)), "{test:?}");
+impl Holds for Proved {
+    fn holds(&self) -> bool {
+        let (test, bytes) = self;
+        packet_test(*test, 14, &UNPROVED) == Some(proved(*bytes))
     }
-    Ok(())
 }
 
 const IS_BEFORE: Test = (Comparison::Less, false, true);
@@ -198,7 +198,9 @@ const ONE: Held = Held::Packet(0, 3, 1);
 const FAR: Held = Held::Packet(0, 3, 0x8000_0000);
 
 /// A test of a pointer with this fixed part, the copies before it, and those after it.
-const COPIES: &[(Test, i32, Copies, Copies)] = &[
+type PacketTest = (Test, i32, Copies, Copies);
+
+const COPIES: &[PacketTest] = &[
     (IS_BEFORE, 14, OTHERS, OTHERS),
     // A test that a pointer is at or before the packet end proves as many bytes as its fixed part
     // says, and one that it is before the packet end proves one more; none, if that is not above 0.
@@ -229,13 +231,11 @@ const COPIES: &[(Test, i32, Copies, Copies)] = &[
     ),
 ];
 
-#[test]
-fn copies_of_packet_pointers(rt: HostRuntime) -> Result<(), Fail> {
-    for (test, fixed, before, after) in COPIES.iter() {
-        let found = packet_test(*test, *fixed, before);
-        assert_eq!(rt; found, Some(kinds_of(after)), "{test:?} {fixed}");
+impl Holds for PacketTest {
+    fn holds(&self) -> bool {
+        let (test, fixed, before, after) = self;
+        packet_test(*test, *fixed, before) == Some(kinds_of(after))
     }
-    Ok(())
 }
 
 const UNTESTED: Copies = (
@@ -263,7 +263,9 @@ const SOME_NOT_NULL: Copies = (
 
 /// The kind of r2, the copies, a comparison of r2 with 0 and whether it holds, and the copies after
 /// it. Null tests decide every copy; a pointer to a map value is not null.
-const NULL_TESTS: &[(Held, Copies, Comparison, bool, Option<Copies>)] = &[
+type NullTest = (Held, Copies, Comparison, bool, Option<Copies>);
+
+const NULL_TESTS: &[NullTest] = &[
     (
         Held::LookedUp(5),
         UNTESTED,
@@ -316,16 +318,6 @@ const NULL_TESTS: &[(Held, Copies, Comparison, bool, Option<Copies>)] = &[
     ),
 ];
 
-fn null_test(
-    tested: &Held,
-    copies: &Copies,
-    comparison: Comparison,
-    taken: bool,
-) -> Option<[Kind; 4]> {
-    let state = in_call(kind_of(tested), Kind::Unset, kinds_of(copies));
-    copies_after(condition(comparison, FULL, Reg::R2, ZERO), taken, &state)
-}
-
 fn kinds_if(held: &Option<Copies>) -> Option<[Kind; 4]> {
     match held {
         Some(held) => Some(kinds_of(held)),
@@ -333,13 +325,13 @@ fn kinds_if(held: &Option<Copies>) -> Option<[Kind; 4]> {
     }
 }
 
-#[test]
-fn null_tests(rt: HostRuntime) -> Result<(), Fail> {
-    for (tested, before, comparison, taken, after) in NULL_TESTS.iter() {
-        let found = null_test(tested, before, *comparison, *taken);
-        assert_eq!(rt; found, kinds_if(after), "{comparison:?} {taken}");
+impl Holds for NullTest {
+    fn holds(&self) -> bool {
+        let (tested, copies, comparison, taken, after) = self;
+        let state = in_call(kind_of(tested), Kind::Unset, kinds_of(copies));
+        let cond = condition(*comparison, FULL, Reg::R2, ZERO);
+        copies_after(cond, *taken, &state) == kinds_if(after)
     }
-    Ok(())
 }
 
 const POINTER: Held = Held::Packet(14, 3, 0);
@@ -347,7 +339,9 @@ const POINTER: Held = Held::Packet(14, 3, 0);
 const LOOKED_UP: Held = Held::LookedUp(5);
 
 /// Comparisons of r2 with r3 or a number, and what both registers hold: none of them is defined.
-const UNDEFINED: &[(Comparison, Width, Operand, Held, Held)] = &[
+type Undefined = (Comparison, Width, Operand, Held, Held);
+
+const UNDEFINED: &[Undefined] = &[
     (Comparison::Equal, FULL, R3, POINTER, Held::PacketEnd),
     (Comparison::SignedLess, FULL, R3, POINTER, Held::PacketEnd),
     (Comparison::AnyBit, FULL, R3, Held::PacketEnd, POINTER),
@@ -374,28 +368,25 @@ const UNDEFINED: &[(Comparison, Width, Operand, Held, Held)] = &[
     (Comparison::Equal, FULL, ZERO, Held::Unset, Held::Unset),
 ];
 
-/// Whether a comparison is not defined if r2 and r3 hold this, and whether all copies stay if it
-/// holds and if it does not.
-fn is_undefined(cond: Cond, left: &Held, right: &Held) -> [bool; 3] {
-    let (left, right) = (kind_of(left), kind_of(right));
-    let copies = [left, right, right, left];
-    let state = in_call(left, right, copies);
-    [
-        compared_by(cond, &state) == Compared::Undefined,
-        copies_after(cond, true, &state) == Some(copies),
-        copies_after(cond, false, &state) == Some(copies),
-    ]
+/// Whether a comparison is not defined if r2 and r3 hold this, and all copies stay if it holds and
+/// if it does not.
+impl Holds for Undefined {
+    fn holds(&self) -> bool {
+        let (comparison, width, operand, left, right) = self;
+        let cond = condition(*comparison, *width, Reg::R2, *operand);
+        let (left, right) = (kind_of(left), kind_of(right));
+        let copies = [left, right, right, left];
+        let state = in_call(left, right, copies);
+        compared_by(cond, &state) == Compared::Undefined
+            && copies_after(cond, true, &state) == Some(copies)
+            && copies_after(cond, false, &state) == Some(copies)
+    }
 }
 
 #[test]
-fn other_comparisons_are_undefined(rt: HostRuntime) -> Result<(), Fail> {
-    for (comparison, width, operand, left, right) in UNDEFINED.iter() {
-        let cond = condition(*comparison, *width, Reg::R2, *operand);
-        assert_eq!(rt;
-            is_undefined(cond, left, right),
-            [true; 3],
-            "{comparison:?}"
-        );
-    }
-    Ok(())
+fn pointers(rt: HostRuntime) {
+    hold_all(&rt, "proved bytes", PACKET_TESTS);
+    hold_all(&rt, "copies", COPIES);
+    hold_all(&rt, "null tests", NULL_TESTS);
+    hold_all(&rt, "not defined", UNDEFINED);
 }

@@ -1,10 +1,10 @@
 //! How sharp both domains together are: examples worked out by hand.
 
-use super::changes::{Change, Look, Row, Set, are_seen, refined, set_of};
+use super::changes::{Change, Look, Row, Set, refined, set_of};
 use super::operations::Unary;
+use super::rows::{Holds, hold_all};
 use isa_model::{AluOp, ByteOrder, Comparison, Extension, SwapWidth, Width};
 use reg_state::{Domain, Scalar};
-use std::test::Fail;
 
 const FULL: Width = Width::Full64;
 
@@ -16,10 +16,12 @@ const ALL: Set = Set::Any(FULL);
 
 const UNSIGNED_32: Set = Set::Any(LOW);
 
+const FIVE: Set = Set::One(5);
+
 const EVEN: Change = Change::Alu(AluOp::Lsh, FULL, 1);
 
 #[rattlefmt::skip]
-const SUMS_AND_PRODUCTS: &[Row] = &[
+const OPERATIONS: &[Row] = &[
     // A header length of 0 to 60 bytes after 14 others.
     (
         BYTE,
@@ -38,10 +40,6 @@ const SUMS_AND_PRODUCTS: &[Row] = &[
     (BYTE, &[Change::Alu(AluOp::Mul, FULL, 6)], &[Look::GreatestAtMost(1530), Look::Even]),
     (BYTE, &[Change::Alu(AluOp::Sub, FULL, 10)], &[Look::Signed(-10, 245)]),
     (BYTE, &[Change::Unary(Unary::Negate(FULL))], &[Look::Signed(-255, 0)]),
-];
-
-#[rattlefmt::skip]
-const OTHER_OPERATIONS: &[Row] = &[
     (ALL, &[Change::Alu(AluOp::And, FULL, 15)], &[Look::Wide(0, 15)]),
     (ALL, &[Change::Itself(AluOp::Mov, LOW)], &[Look::Wide(0, 0xffff_ffff)]),
     (
@@ -99,21 +97,11 @@ const JUMPS: &[Row] = &[
         &[Look::Ones(0), Look::Mask(u64::MAX - 1)],
     ),
     (ALL, &[Change::Compare(Comparison::Equal, FULL, true, 5)], &[Look::Is(Set::One(5))]),
-];
-
-const FIVE: Set = Set::One(5);
-
-#[rattlefmt::skip]
-const CONSTANTS: &[Row] = &[
     (FIVE, &[Change::Compare(Comparison::Less, FULL, true, 5)], &[Look::Never]),
     (FIVE, &[Change::Compare(Comparison::Less, FULL, false, 5)], &[Look::Is(FIVE)]),
     // The low half of 2^32 + 5 is 5.
     (FIVE, &[Change::Compare(Comparison::NotEqual, LOW, true, 0x1_0000_0005)], &[Look::Never]),
     (FIVE, &[Change::Compare(Comparison::NotEqual, FULL, true, 0x1_0000_0005)], &[Look::Is(FIVE)]),
-];
-
-#[rattlefmt::skip]
-const LOW_HALVES: &[Row] = &[
     // For a number whose upper half is not known, a comparison of low halves narrows the low half.
     (
         ALL,
@@ -140,44 +128,28 @@ const LOW_HALVES: &[Row] = &[
     (BYTE, &[Change::Compare(Comparison::SignedGreater, LOW, true, u64::MAX)], &[Look::Is(BYTE)]),
 ];
 
-#[test]
-fn operations(rt: HostRuntime) {
-    are_seen(&rt, SUMS_AND_PRODUCTS);
-    are_seen(&rt, OTHER_OPERATIONS);
+/// A set, its number, if it has only one, and its greatest member.
+type Single = (Set, Option<u64>, u64);
+
+const SINGLE: &[Single] = &[
+    (Set::One(8), Some(8), 8),
+    (Set::Between(8, 8), Some(8), 8),
+    (BYTE, None, 255),
+];
+
+impl Holds for Single {
+    fn holds(&self) -> bool {
+        let (set, number, greatest) = self;
+        let set = set_of(set);
+        set.number() == *number && set.greatest() == *greatest
+    }
 }
 
-#[test]
-fn common_members(rt: HostRuntime) {
-    are_seen(&rt, COMMON_MEMBERS);
-}
-
-#[test]
-fn jumps(rt: HostRuntime) {
-    are_seen(&rt, JUMPS);
-    are_seen(&rt, CONSTANTS);
-    are_seen(&rt, LOW_HALVES);
-}
-
-// The number of a set, if it has only one, and its greatest member.
-fn numbers_of(set: &Set) -> (Option<u64>, u64) {
-    let set = set_of(set);
-    (set.number(), set.greatest())
-}
-
-// Whether a byte covers 7, and whether the even numbers cover a byte.
-fn covered() -> (bool, bool) {
+// A byte covers 7, and the even numbers do not cover a byte.
+fn are_covered() -> bool {
     let byte = set_of(&BYTE);
     let even = Scalar::alu(AluOp::Lsh, FULL, Scalar::any(FULL), Scalar::constant(1));
-    (byte.covers(Scalar::constant(7)), even.covers(byte))
-}
-
-#[test]
-fn single_numbers(rt: HostRuntime) -> Result<(), Fail> {
-    assert_eq!(rt; numbers_of(&Set::One(8)), (Some(8), 8));
-    assert_eq!(rt; numbers_of(&Set::Between(8, 8)), (Some(8), 8));
-    assert_eq!(rt; numbers_of(&BYTE), (None, 255));
-    assert_eq!(rt; covered(), (true, false));
-    Ok(())
+    byte.covers(Scalar::constant(7)) && !even.covers(byte)
 }
 
 // What the comparison of a byte with a number leaves of the byte, by its limits.
@@ -197,7 +169,9 @@ const AT_LEAST: Option<Limits> = Some((10, 255));
 const ABOVE: Option<Limits> = Some((11, 255));
 
 /// A comparison and a number, and what it leaves of a byte if it holds and if it does not.
-const COMPARISONS: &[(Comparison, u64, Option<Limits>, Option<Limits>)] = &[
+type Compared = (Comparison, u64, Option<Limits>, Option<Limits>);
+
+const COMPARISONS: &[Compared] = &[
     (Comparison::Equal, 10, Some((10, 10)), Some((0, 255))),
     (Comparison::NotEqual, 10, Some((0, 255)), Some((10, 10))),
     (Comparison::Greater, 10, ABOVE, AT_MOST),
@@ -214,16 +188,12 @@ const COMPARISONS: &[(Comparison, u64, Option<Limits>, Option<Limits>)] = &[
     (Comparison::NotEqual, 0, Some((1, 255)), ZERO),
 ];
 
-#[test]
-fn each_comparison_narrows(rt: HostRuntime) -> Result<(), Fail> {
-    for (comparison, number, goes, stays) in COMPARISONS.iter() {
-        let left = (
-            left_of_byte(*comparison, true, *number),
-            left_of_byte(*comparison, false, *number),
-        );
-        assert_eq!(rt; left, (*goes, *stays), "{comparison:?}");
+impl Holds for Compared {
+    fn holds(&self) -> bool {
+        let (comparison, number, goes, stays) = self;
+        left_of_byte(*comparison, true, *number) == *goes
+            && left_of_byte(*comparison, false, *number) == *stays
     }
-    Ok(())
 }
 
 /// The least and the greatest number.
@@ -259,20 +229,26 @@ fn between(limits: Limits) -> Scalar {
     set_of(&Set::Between(limits.0, limits.1))
 }
 
-fn narrows(row: &Narrowing) -> bool {
-    let (comparison, taken, limits, number, wanted) = row;
-    match refined(*comparison, FULL, *taken, between(*limits), *number) {
-        Some(left) => match wanted {
-            Some(wanted) => left == between(*wanted),
-            None => false,
-        },
-        None => wanted.is_none(),
+impl Holds for Narrowing {
+    fn holds(&self) -> bool {
+        let (comparison, taken, limits, number, wanted) = self;
+        match refined(*comparison, FULL, *taken, between(*limits), *number) {
+            Some(left) => match wanted {
+                Some(wanted) => left == between(*wanted),
+                None => false,
+            },
+            None => wanted.is_none(),
+        }
     }
 }
 
 #[test]
-fn both_domains_narrow(rt: HostRuntime) {
-    for row in NARROWINGS.iter() {
-        assert!(rt; narrows(row), "{row:?}");
-    }
+fn scalars(rt: HostRuntime) {
+    hold_all(&rt, "operations", OPERATIONS);
+    hold_all(&rt, "common members", COMMON_MEMBERS);
+    hold_all(&rt, "jumps", JUMPS);
+    hold_all(&rt, "single numbers", SINGLE);
+    hold_all(&rt, "comparisons", COMPARISONS);
+    hold_all(&rt, "both domains", NARROWINGS);
+    assert!(rt; are_covered());
 }

@@ -1,18 +1,21 @@
 //! Numbers some of whose bits were overwritten: worked out by hand at the ends, and from all
 //! members of small sets.
 
+use super::rows::{Holds, hold_all};
 use isa_model::Width;
 use known_bits::spliced;
 use reg_state::{Domain, Scalar};
-use std::process::Abort;
-use std::test::Fail;
 
 /// The least and the greatest number.
 type Limits = (u64, u64);
 
-/// The old numbers, the first bit and the number of bits that are overwritten, the new numbers, and
-/// the result.
-const WRITTEN: &[(Limits, (u64, u32), Limits, Limits)] = &[
+/// The first bit and the number of bits that are overwritten.
+type Part = (u64, u32);
+
+/// The old numbers, the part that is overwritten, the new numbers, and the result.
+type Written = (Limits, Part, Limits, Limits);
+
+const WRITTEN: &[Written] = &[
     ((0, 0), (0, 32), (20, 51), (20, 51)),
     ((0, 0), (32, 32), (1, 3), (0x1_0000_0000, 0x3_0000_0000)),
     ((0, 31), (32, 32), (0, 0), (0, 31)),
@@ -43,7 +46,7 @@ fn between(limits: Limits) -> Scalar {
     }
 }
 
-fn written(old: Scalar, (from, count): (u64, u32), new: Scalar) -> Scalar {
+fn written(old: Scalar, (from, count): Part, new: Scalar) -> Scalar {
     if from < 64 && 0 < count && count <= 64 && from + u64::from(count) <= 64 {
         old.spliced(from, count, new)
     } else {
@@ -51,17 +54,16 @@ fn written(old: Scalar, (from, count): (u64, u32), new: Scalar) -> Scalar {
     }
 }
 
-#[test]
-fn limits_of_written_numbers(rt: HostRuntime) -> Result<(), Fail> {
-    for (old, part, new, wanted) in WRITTEN.iter() {
+impl Holds for Written {
+    fn holds(&self) -> bool {
+        let (old, part, new, wanted) = self;
         let wide = written(between(*old), *part, between(*new)).range.wide;
-        assert_eq!(rt; (wide.least, wide.greatest), *wanted, "{old:?} at {part:?}");
+        wide.least == wanted.0 && wide.greatest == wanted.1
     }
-    Ok(())
 }
 
 /// Whether each old number with the bits of each new one is a member of the result.
-fn contains_all(old: Limits, part: (u64, u32), new: Limits) -> bool {
+fn contains_all(old: Limits, part: Part, new: Limits) -> bool {
     let found = written(between(old), part, between(new));
     for number in old.0..=old.1 {
         for other in new.0..=new.1 {
@@ -77,25 +79,35 @@ fn contains_all(old: Limits, part: (u64, u32), new: Limits) -> bool {
     true
 }
 
-/// For some small sets and some parts, whether the new numbers fit into the part or not.
-#[test]
-fn no_number_is_lost(rt: HostRuntime) -> Result<(), Fail> {
-    for part in [
-        (0, 1),
-        (0, 3),
-        (1, 2),
-        (2, 8),
-        (3, 1),
-        (30, 4),
-        (32, 32),
-        (56, 8),
-    ] {
+const PARTS: &[Part] = &[
+    (0, 1),
+    (0, 3),
+    (1, 2),
+    (2, 8),
+    (3, 1),
+    (30, 4),
+    (32, 32),
+    (56, 8),
+];
+
+const GREATEST: &[u64] = &[12, 15, 17];
+
+impl Holds for Part {
+    /// For some small sets, whether the new numbers fit into the part or not, no number is lost.
+    fn holds(&self) -> bool {
         for least in 0..12 {
-            for greatest in [12, 15, 17] {
-                let (old, new) = ((least, greatest), (12 - least, greatest));
-                assert!(rt; contains_all(old, part, new), "{old:?} at {part:?} {new:?}");
+            for greatest in GREATEST {
+                if !contains_all((least, *greatest), *self, (12 - least, *greatest)) {
+                    return false;
+                }
             }
         }
+        true
     }
-    Ok(())
+}
+
+#[test]
+fn written_numbers(rt: HostRuntime) {
+    hold_all(&rt, "limits", WRITTEN);
+    hold_all(&rt, "parts", PARTS);
 }

@@ -1,9 +1,9 @@
 //! What is known of the bytes of a call frame, on frames written by hand.
 
+use super::rows::{Holds, hold_all};
 use isa_model::{Size, Width};
 use reg_state::{Domain, Kind, Scalar};
 use stack_state::{StackSlot, StackState};
-use std::process::Abort;
 
 /// A set of numbers.
 enum Numbers {
@@ -125,17 +125,16 @@ fn is_shown(stack: &StackState, look: &Look) -> bool {
 /// What is done to a call frame, and what is then known of it.
 type Row = (&'static [Act], &'static [Look]);
 
-fn is_row_shown(rt: &impl Abort, index: usize, row: &Row) {
-    let (acts, looks) = row;
-    let stack = after(*acts);
-    for (look_index, look) in looks.iter().enumerate() {
-        assert!(rt; is_shown(&stack, look), "row {index}, look {look_index}");
-    }
-}
-
-fn are_shown(rt: &impl Abort, rows: &[Row]) {
-    for (index, row) in rows.iter().enumerate() {
-        is_row_shown(rt, index, row);
+impl Holds for Row {
+    fn holds(&self) -> bool {
+        let (acts, looks) = self;
+        let stack = after(*acts);
+        for look in *looks {
+            if !is_shown(&stack, look) {
+                return false;
+            }
+        }
+        true
     }
 }
 
@@ -161,11 +160,6 @@ const STORES: &[Row] = &[
     (&[Act::Store(24, Size::U64)], &[Look::Written(2, 0)]),
 ];
 
-#[test]
-fn each_size_at_each_offset(rt: HostRuntime) {
-    are_shown(&rt, STORES);
-}
-
 const POINTERS: &[Row] = &[
     (
         &[Act::Spill(3, Held::Context)],
@@ -186,11 +180,6 @@ const POINTERS: &[Row] = &[
         ],
     ),
 ];
-
-#[test]
-fn a_pointer_is_read_whole(rt: HostRuntime) {
-    are_shown(&rt, POINTERS);
-}
 
 const SEVEN: Held = Held::Numbers(Numbers::One(7));
 
@@ -219,11 +208,6 @@ const NUMBERS: &[Row] = &[
         &[Look::Written(3, 255)],
     ),
 ];
-
-#[test]
-fn a_number_is_read_in_part(rt: HostRuntime) {
-    are_shown(&rt, NUMBERS);
-}
 
 const MOST: Held = Held::Numbers(Numbers::One(u64::MAX));
 
@@ -263,11 +247,6 @@ const CHANGES: &[Row] = &[
     ),
 ];
 
-#[test]
-fn a_number_changes_in_part(rt: HostRuntime) {
-    are_shown(&rt, CHANGES);
-}
-
 #[rattlefmt::skip]
 const HALVES: &[Row] = &[
     (&[Act::StoreNumber(24, Size::U32, Numbers::One(1))], &[Look::Written(3, 0x0f)]),
@@ -289,11 +268,6 @@ const HALVES: &[Row] = &[
     ),
 ];
 
-#[test]
-fn a_half_beside_any_half(rt: HostRuntime) {
-    are_shown(&rt, HALVES);
-}
-
 const ANY: Held = Held::Numbers(Numbers::Any);
 
 const UNKNOWN: &[Row] = &[(
@@ -304,11 +278,6 @@ const UNKNOWN: &[Row] = &[(
         Look::Written(63, 0),
     ],
 )];
-
-#[test]
-fn an_unknown_number_is_written_bytes(rt: HostRuntime) {
-    are_shown(&rt, UNKNOWN);
-}
 
 const FORGOTTEN: &[Row] = &[(
     &[
@@ -329,6 +298,12 @@ const FORGOTTEN: &[Row] = &[(
 )];
 
 #[test]
-fn a_map_is_forgotten(rt: HostRuntime) {
-    are_shown(&rt, FORGOTTEN);
+fn stacks(rt: HostRuntime) {
+    hold_all(&rt, "each size at each offset", STORES);
+    hold_all(&rt, "a pointer is read whole", POINTERS);
+    hold_all(&rt, "a number is read in part", NUMBERS);
+    hold_all(&rt, "a number changes in part", CHANGES);
+    hold_all(&rt, "a half beside any half", HALVES);
+    hold_all(&rt, "an unknown number is written bytes", UNKNOWN);
+    hold_all(&rt, "a map is forgotten", FORGOTTEN);
 }
