@@ -6,7 +6,6 @@ use super::programs::image_of;
 use checked_vm::Checked;
 use isa_model::{Clock, End, FrameHead};
 use std::alloc::Global;
-use std::test::Fail;
 
 #[derive(Drop)]
 struct GreatestTime;
@@ -27,15 +26,18 @@ const HEAD: FrameHead = FrameHead {
     queue: 0,
 };
 
-/// How a run of a program on an empty packet ends with that clock.
-fn end_of(alloc: Global, text: &str) -> Result<End, Fail> {
-    let mut checked = Checked::new(alloc, image_of(alloc, text)?)?;
-    Ok(checked.run(HEAD, &mut [], &mut GreatestTime, 100))
+/// Whether a run of a program on an empty packet ends so with that clock.
+fn ends_so(alloc: Global, text: &str, wanted: End) -> bool {
+    let Some(image) = image_of(alloc, text) else {
+        return false;
+    };
+    match Checked::new(alloc, image) {
+        Ok(mut checked) => checked.run(HEAD, &mut [], &mut GreatestTime, 100) == wanted,
+        Err(_) => false,
+    }
 }
 
 #[test]
-fn the_clock_answers_in_64_bits(rt: HostRuntime) -> Result<(), Fail> {
-    let end = end_of(rt.alloc(), "call 5; r0 &= 3; exit")?;
-    assert_eq!(rt; end, End::Exit(3, 3));
-    Ok(())
+fn the_clock_answers_in_64_bits(rt: HostRuntime) {
+    assert!(rt; ends_so(rt.alloc(), "call 5; r0 &= 3; exit", End::Exit(3, 3)));
 }

@@ -1,9 +1,9 @@
 //! Each map store by itself, and compared with another.
 
 use super::answers::{E2BIG, answer, value_of};
+use crate::tests::rows::holds_at;
 use maps::{ArrayMap, HashMapChain, HashMapScan, MapStore};
-use std::process::Abort;
-use std::test::Fail;
+use std::alloc::Global;
 
 /// The answer to an update with a number as the key and as the value.
 fn put(chained: &mut HashMapChain, number: u32) -> u64 {
@@ -11,33 +11,60 @@ fn put(chained: &mut HashMapChain, number: u32) -> u64 {
     answer(chained, &number.to_be_bytes(), &value, Some(0))
 }
 
-/// Whether a number is a key with itself as the value, the answer to its delete, and whether it has
-/// no value then.
-fn deleted(chained: &mut HashMapChain, number: u32) -> (bool, u64, bool) {
+/// Whether a number is a key with itself as the value, its delete is done, and it is gone then.
+fn is_deleted(chained: &mut HashMapChain, number: u32) -> bool {
     let key = number.to_be_bytes();
     let value = u64::from(number).to_le_bytes();
-    let is_there = value_of(chained, &key) == Some(value.as_slice());
-    let found = answer(chained, &key, &value, None);
-    (is_there, found, value_of(chained, &key).is_none())
+    value_of(chained, &key) == Some(value.as_slice())
+        && answer(chained, &key, &value, None) == 0
+        && value_of(chained, &key).is_none()
 }
 
-fn puts_and_deletes(rt: &impl Abort, chained: &mut HashMapChain) {
+/// How many of the numbers below 65,536 are added, one after another.
+fn count_added(chained: &mut HashMapChain) -> usize {
     for number in 0..65_536u32 {
-        assert_eq!(rt; put(chained, number), 0, "{number}");
+        if put(chained, number) != 0 {
+            return number as usize;
+        }
     }
-    assert_eq!(rt; put(chained, 65_536), E2BIG);
+    65_536
+}
+
+/// How many of them are deleted.
+fn count_deleted(chained: &mut HashMapChain) -> usize {
     for number in 0..65_536u32 {
-        assert_eq!(rt; deleted(chained, number), (true, 0, true), "{number}");
+        if !is_deleted(chained, number) {
+            return number as usize;
+        }
     }
-    let late = (put(chained, 65_536), deleted(chained, 65_536));
-    assert_eq!(rt; late, (0, (true, 0, true)));
+    65_536
+}
+
+/// What is counted, and whether one more key finds no room before, and is added and deleted after.
+fn filled_and_emptied(chained: &mut HashMapChain) -> (usize, usize, bool) {
+    let added = count_added(chained);
+    let is_full = put(chained, 65_536) == E2BIG;
+    let deleted = count_deleted(chained);
+    let is_late = put(chained, 65_536) == 0 && is_deleted(chained, 65_536);
+    (added, deleted, is_full && is_late)
+}
+
+fn of_full_map(alloc: Global) -> (usize, usize, bool) {
+    match HashMapChain::new(alloc, 4, 8, 65_536) {
+        Ok(mut chained) => filled_and_emptied(&mut chained),
+        Err(_) => (0, 0, false),
+    }
 }
 
 #[test]
-fn full_map_takes_a_key_once_all_are_gone(rt: HostRuntime) -> Result<(), Fail> {
-    let mut chained = HashMapChain::new(rt.alloc(), 4, 8, 65_536)?;
-    puts_and_deletes(&rt, &mut chained);
-    Ok(())
+fn full_map_takes_a_key_once_all_are_gone(rt: HostRuntime) {
+    let (added, deleted, is_so) = of_full_map(rt.alloc());
+    holds_at(
+        &rt,
+        added == 65_536 && deleted == 65_536 && is_so,
+        added,
+        deleted,
+    );
 }
 
 /// The next number of a sequence that repeats late.
@@ -67,24 +94,35 @@ fn flags_of(number: u64) -> Option<u64> {
     if part < 5 { Some(part & 3) } else { None }
 }
 
-/// Both stores answer the same over a long list of updates and deletes.
-fn agree(rt: &impl Abort, chained: &mut HashMapChain, scanned: &mut HashMapScan) {
+/// In how many turns of a long list of updates and deletes both stores answer the same.
+fn count_alike(chained: &mut HashMapChain, scanned: &mut HashMapScan) -> usize {
     let mut number = 1;
     for round in 0..20_000u32 {
         number = next(number);
         let key = [(number >> 58) as u8, 5];
         let flags = flags_of(number);
-        let wanted = done(scanned, &key, round, flags);
-        assert_eq!(rt; done(chained, &key, round, flags), wanted, "{round}");
+        if done(chained, &key, round, flags) != done(scanned, &key, round, flags) {
+            return round as usize;
+        }
+    }
+    20_000
+}
+
+fn of_two_stores(alloc: Global) -> usize {
+    let (chained, scanned) = (
+        HashMapChain::new(alloc, 2, 4, 40),
+        HashMapScan::new(alloc, 2, 4, 40),
+    );
+    match (chained, scanned) {
+        (Ok(mut chained), Ok(mut scanned)) => count_alike(&mut chained, &mut scanned),
+        _ => 0,
     }
 }
 
 #[test]
-fn stores_agree_over_a_long_list(rt: HostRuntime) -> Result<(), Fail> {
-    let mut chained = HashMapChain::new(rt.alloc(), 2, 4, 40)?;
-    let mut scanned = HashMapScan::new(rt.alloc(), 2, 4, 40)?;
-    agree(&rt, &mut chained, &mut scanned);
-    Ok(())
+fn stores_agree_over_a_long_list(rt: HostRuntime) {
+    let count = of_two_stores(rt.alloc());
+    holds_at(&rt, count == 20_000, 0, count);
 }
 
 /// Updates the keys 0 to 39, and returns whether each update was done.
@@ -97,23 +135,37 @@ fn has_put_all(chained: &mut HashMapChain) -> bool {
     is_taken
 }
 
-/// An array and a hash map that has all its keys answer the same over a list of updates.
-fn array_agrees(rt: &impl Abort, array: &mut ArrayMap, chained: &mut HashMapChain) {
-    assert!(rt; has_put_all(chained));
+/// In how many turns of a list of updates an array and a hash map that gets all its keys answer the
+/// same.
+fn count_alike_of_array(array: &mut ArrayMap, chained: &mut HashMapChain) -> usize {
+    if !has_put_all(chained) {
+        return 0;
+    }
     let mut number = 1;
     for round in 0..2_000u32 {
         number = next(number);
         let key = [(number >> 58) as u8, 0, 0, 0];
         let flags = Some(number >> 40 & 1);
-        let wanted = done(chained, &key, round, flags);
-        assert_eq!(rt; done(array, &key, round, flags), wanted, "{round}");
+        if done(array, &key, round, flags) != done(chained, &key, round, flags) {
+            return round as usize;
+        }
+    }
+    2_000
+}
+
+fn of_array(alloc: Global) -> usize {
+    let (array, chained) = (
+        ArrayMap::new(alloc, 4, 40),
+        HashMapChain::new(alloc, 4, 4, 40),
+    );
+    match (array, chained) {
+        (Ok(mut array), Ok(mut chained)) => count_alike_of_array(&mut array, &mut chained),
+        _ => 0,
     }
 }
 
 #[test]
-fn array_agrees_with_a_full_hash_map(rt: HostRuntime) -> Result<(), Fail> {
-    let mut array = ArrayMap::new(rt.alloc(), 4, 40)?;
-    let mut chained = HashMapChain::new(rt.alloc(), 4, 4, 40)?;
-    array_agrees(&rt, &mut array, &mut chained);
-    Ok(())
+fn array_agrees_with_a_full_hash_map(rt: HostRuntime) {
+    let count = of_array(rt.alloc());
+    holds_at(&rt, count == 2_000, 0, count);
 }

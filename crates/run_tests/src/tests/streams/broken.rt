@@ -2,24 +2,24 @@
 //! magic.
 
 use super::cases::{Case, MAGIC, ONE, Output, PASSES, TAKES_ALL, TWO, TWO_WITH_REASONS, ends_so};
+use crate::tests::rows::holds_at;
 use failing_io::FAILURES;
 use host::{HostError, Tally};
 use isa_model::Fault;
-use std::process::Abort;
-use std::test::Fail;
+use std::alloc::Global;
 
 // A stream, whether a read fails after its last byte, and the output for the frames out; then the
-// result, and what both outputs got.
+// result, and what both outputs get.
 fn ends_with(
-    rt: &(impl AllocGlobal + Abort),
+    alloc: Global,
     (given, is_broken, out): (&[u8], bool, Output),
     ended: Result<Tally, HostError>,
     lines: &[u8],
     sent: &[u8],
-) -> Result<(), Fail> {
+) -> bool {
     let case = Case {
         text: PASSES,
-        limit: Some(100),
+        is_checked: true,
         given,
         is_broken,
         report: TAKES_ALL,
@@ -28,7 +28,7 @@ fn ends_with(
         lines,
         sent,
     };
-    ends_so(rt, &case)
+    ends_so(alloc, &case)
 }
 
 // For streams from this length on, up to two records: on how many packet frames the program is run,
@@ -67,36 +67,27 @@ fn stop_at(stops: &[Stop], length: usize) -> Option<Stop> {
     found
 }
 
-fn breaks_at(
-    rt: &(impl AllocGlobal + Abort),
-    given: &'static [u8],
-    stops: &[Stop],
-) -> Result<(), Fail> {
-    let Some((_, frames, offset, lines, sent)) = stop_at(stops, given.len()) else {
-        return Err("no such stop".into());
-    };
-    let fault = Some((Fault::ReadFailed, offset));
-    let ended = Ok(Tally { frames, fault });
-    ends_with(rt, (given, true, TAKES_ALL), ended, lines, sent)
-}
-
-fn each_front_breaks(
-    rt: &(impl AllocGlobal + Abort),
-    stream: &'static [u8],
-    stops: &[Stop],
-) -> Result<(), Fail> {
-    for length in 0..=stream.len() {
-        breaks_at(rt, stream.get(..length).unwrap_or(stream), stops)?;
+// Whether the stream's first bytes break so after the last of them.
+fn breaks_at(alloc: Global, stream: &[u8], stops: &[Stop], length: usize) -> bool {
+    let given = stream.get(..length).unwrap_or(stream);
+    match stop_at(stops, length) {
+        Some((_, frames, offset, lines, sent)) => {
+            let fault = Some((Fault::ReadFailed, offset));
+            let ended = Ok(Tally { frames, fault });
+            ends_with(alloc, (given, true, TAKES_ALL), ended, lines, sent)
+        }
+        None => false,
     }
-    Ok(())
 }
 
 #[test]
-fn broken_streams(rt: HostRuntime) -> Result<(), Fail> {
-    for (stream, stops) in STREAMS.iter() {
-        each_front_breaks(&rt, *stream, *stops)?;
+fn broken_streams(rt: HostRuntime) {
+    for (index, (stream, stops)) in STREAMS.iter().enumerate() {
+        for length in 0..=stream.len() {
+            let is_so = breaks_at(rt.alloc(), *stream, *stops, length);
+            holds_at(&rt, is_so, index, length);
+        }
     }
-    Ok(())
 }
 
 // A stream without records, and the magic of the frames out, which is there even if the stream's is
@@ -108,23 +99,28 @@ const MAGICS: &[(&[u8], &[u8])] = &[
     (b"xPF2", b"XPF1"),
 ];
 
-fn magic_fails(
-    rt: &(impl AllocGlobal + Abort),
-    given: &[u8],
-    magic: &[u8],
-    room: usize,
-) -> Result<(), Fail> {
+fn magic_fails(alloc: Global, given: &[u8], magic: &[u8], room: usize) -> bool {
     let out = (room, Some(FAILURES[0]));
     let sent = magic.get(..room).unwrap_or(b"");
-    ends_with(rt, (given, false, out), Err(HostError::Frames), b"", sent)
+    ends_with(
+        alloc,
+        (given, false, out),
+        Err(HostError::Frames),
+        b"",
+        sent,
+    )
 }
 
 #[test]
-fn magics_fail(rt: HostRuntime) -> Result<(), Fail> {
-    for (given, magic) in MAGICS.iter() {
+fn magics_fail(rt: HostRuntime) {
+    for (index, (given, magic)) in MAGICS.iter().enumerate() {
         for room in 0..4usize {
-            magic_fails(&rt, *given, *magic, room)?;
+            holds_at(
+                &rt,
+                magic_fails(rt.alloc(), *given, *magic, room),
+                index,
+                room,
+            );
         }
     }
-    Ok(())
 }

@@ -1,14 +1,12 @@
 //! Small programs that are run on streams: the result, the report and the frames out.
 
 use crate::tests::programs::image_of;
-use explorer::verify;
+use explorer::{Verified, verify};
 use failing_io::{Failure, Reader, Writer};
 use host::{HostError, Tally, run, run_checked, tally_in};
 use image::Image;
 use std::alloc::Global;
 use std::io::ErrorKind;
-use std::process::Abort;
-use std::test::Fail;
 
 /// Passes each packet frame.
 pub const PASSES: &str = "r0 = 2; exit";
@@ -38,8 +36,8 @@ pub const TAKES_ALL: Output = (0, None);
 #[derive(Drop)]
 pub struct Case<'a> {
     pub text: &'a str,
-    /// The limit of steps of runs with checks. Without one the program is verified.
-    pub limit: Option<u32>,
+    /// Whether the program is run with checks, and at most 100 steps; or else it is verified.
+    pub is_checked: bool,
     pub given: &'a [u8],
     /// Whether a read fails after the last byte.
     pub is_broken: bool,
@@ -50,9 +48,6 @@ pub struct Case<'a> {
     pub lines: &'a [u8],
     pub sent: &'a [u8],
 }
-
-/// The result, the report and the frames out.
-type Written = (Result<Tally, HostError>, Vec<u8>, Vec<u8>);
 
 // A writer that takes at most 5 bytes at a call.
 fn writer_of(alloc: Global, output: Output) -> Writer {
@@ -73,40 +68,39 @@ fn reader_of<'a>(case: &Case<'a>) -> Reader<'a> {
     }
 }
 
-fn checked(alloc: Global, image: Image, limit: u32, case: &Case<'_>) -> Result<Written, Fail> {
-    if limit < 1 || limit > 1_000_000 {
-        return Err("no limit".into());
-    }
-    let mut report = writer_of(alloc, case.report);
-    let mut out = writer_of(alloc, case.out);
-    let ended = run_checked(alloc, image, limit, reader_of(case), &mut report, &mut out);
-    Ok((tally_in(ended), report.taken, out.taken))
+// Whether the result, the report and the frames out are those of the case.
+fn are_of(case: &Case<'_>, ended: Result<Tally, HostError>, report: &Writer, out: &Writer) -> bool {
+    ended == case.ended
+        && report.taken.as_slice() == case.lines
+        && out.taken.as_slice() == case.sent
 }
 
-fn verified(alloc: Global, image: Image, case: &Case<'_>) -> Result<Written, Fail> {
-    let program = verify(alloc, image)?;
+fn checks_so(alloc: Global, image: Image, case: &Case<'_>) -> bool {
+    let mut report = writer_of(alloc, case.report);
+    let mut out = writer_of(alloc, case.out);
+    let ended = run_checked(alloc, image, 100, reader_of(case), &mut report, &mut out);
+    are_of(case, tally_in(ended), &report, &out)
+}
+
+fn runs_so(alloc: Global, program: Verified, case: &Case<'_>) -> bool {
     let mut report = writer_of(alloc, case.report);
     let mut out = writer_of(alloc, case.out);
     let ended = run(alloc, program, reader_of(case), &mut report, &mut out);
-    Ok((ended, report.taken, out.taken))
+    are_of(case, ended, &report, &out)
 }
 
-fn written(alloc: Global, case: &Case<'_>) -> Result<Written, Fail> {
-    let image = image_of(alloc, case.text)?;
-    match case.limit {
-        Some(limit) => checked(alloc, image, limit, case),
-        None => verified(alloc, image, case),
+fn verifies_so(alloc: Global, image: Image, case: &Case<'_>) -> bool {
+    match verify(alloc, image) {
+        Ok(program) => runs_so(alloc, program, case),
+        Err(_) => false,
     }
 }
 
-/// Tests that the result, the report and the frames out are those of the case.
-pub fn ends_so(rt: &(impl AllocGlobal + Abort), case: &Case<'_>) -> Result<(), Fail> {
-    let (ended, lines, sent) = written(rt.alloc(), case)?;
-    let text = case.text;
-    assert_eq!(rt;
-        (ended, lines.as_slice(), sent.as_slice()),
-        (case.ended, case.lines, case.sent),
-        "{text}"
-    );
-    Ok(())
+/// Whether the result, the report and the frames out of a case's program are those of the case.
+pub fn ends_so(alloc: Global, case: &Case<'_>) -> bool {
+    match image_of(alloc, case.text) {
+        Some(image) if case.is_checked => checks_so(alloc, image, case),
+        Some(image) => verifies_so(alloc, image, case),
+        None => false,
+    }
 }

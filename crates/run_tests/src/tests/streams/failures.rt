@@ -2,15 +2,15 @@
 //! bytes.
 
 use super::cases::{Case, MAGIC, ONE, PASSES, TAKES_ALL, TWO, TWO_WITH_REASONS, ends_so};
+use crate::tests::rows::holds_at;
 use failing_io::{FAILURES, Failure};
 use host::{HostError, Tally};
-use std::process::Abort;
-use std::test::Fail;
+use std::alloc::Global;
 
 // A program on a stream, and what both outputs get if none fails.
 struct Whole {
     text: &'static str,
-    limit: Option<u32>,
+    is_checked: bool,
     given: &'static [u8],
     frames: u32,
     lines: &'static [u8],
@@ -46,7 +46,7 @@ const LINES_BEFORE_ONE: &[(usize, usize)] = &[(0, 0), (4, 11), (24, 17)];
 const WHOLES: &[Whole] = &[
     Whole {
         text: PASSES,
-        limit: Some(100),
+        is_checked: true,
         given: ONE,
         frames: 1,
         lines: ONE_LINE,
@@ -56,7 +56,7 @@ const WHOLES: &[Whole] = &[
     },
     Whole {
         text: PASSES,
-        limit: None,
+        is_checked: false,
         given: ONE,
         frames: 1,
         lines: ONE_LINE,
@@ -66,7 +66,7 @@ const WHOLES: &[Whole] = &[
     },
     Whole {
         text: PASSES,
-        limit: None,
+        is_checked: false,
         given: TWO,
         frames: 2,
         lines: b"0 PASS 0 2\n1 PASS 0 2\nend 2\n",
@@ -76,7 +76,7 @@ const WHOLES: &[Whole] = &[
     },
     Whole {
         text: PASSES,
-        limit: Some(100),
+        is_checked: true,
         given: TWO_WITH_REASONS,
         frames: 2,
         lines: b"0 PASS 0 2 0\n1 PASS 0 2 0\nend 2\n",
@@ -87,7 +87,7 @@ const WHOLES: &[Whole] = &[
     // a report that fails among the key-value pairs ends there
     Whole {
         text: COUNTS,
-        limit: Some(100),
+        is_checked: true,
         given: TWO,
         frames: 2,
         lines: COUNTED,
@@ -123,15 +123,10 @@ fn end_of(whole: &Whole, room: usize, size: usize, error: HostError) -> Result<T
     })
 }
 
-fn report_fails(
-    rt: &(impl AllocGlobal + Abort),
-    whole: &Whole,
-    failing: Failure,
-    room: usize,
-) -> Result<(), Fail> {
+fn report_fails(alloc: Global, whole: &Whole, failing: Failure, room: usize) -> bool {
     let case = Case {
         text: whole.text,
-        limit: whole.limit,
+        is_checked: whole.is_checked,
         given: whole.given,
         is_broken: false,
         report: (room, Some(failing)),
@@ -140,18 +135,13 @@ fn report_fails(
         lines: front(whole.lines, room),
         sent: front(whole.sent, count_at(whole.sent_before, room)),
     };
-    ends_so(rt, &case)
+    ends_so(alloc, &case)
 }
 
-fn frames_out_fail(
-    rt: &(impl AllocGlobal + Abort),
-    whole: &Whole,
-    failing: Failure,
-    room: usize,
-) -> Result<(), Fail> {
+fn frames_out_fail(alloc: Global, whole: &Whole, failing: Failure, room: usize) -> bool {
     let case = Case {
         text: whole.text,
-        limit: whole.limit,
+        is_checked: whole.is_checked,
         given: whole.given,
         is_broken: false,
         report: TAKES_ALL,
@@ -160,30 +150,28 @@ fn frames_out_fail(
         lines: front(whole.lines, count_at(whole.lines_before, room)),
         sent: front(whole.sent, room),
     };
-    ends_so(rt, &case)
+    ends_so(alloc, &case)
 }
 
-// In the last turn of each loop the output has room for all bytes, and does not fail.
-fn outputs_fail(
-    rt: &(impl AllocGlobal + Abort),
-    whole: &Whole,
-    failing: Failure,
-) -> Result<(), Fail> {
-    for room in 0..=whole.lines.len() {
-        report_fails(rt, whole, failing, room)?;
+// Whether both outputs fail so, each after that many bytes. An output that has room for all bytes
+// does not fail.
+fn each_fails(alloc: Global, whole: &Whole, room: usize) -> bool {
+    for failing in FAILURES.iter() {
+        if room <= whole.lines.len() && !report_fails(alloc, whole, *failing, room) {
+            return false;
+        }
+        if room <= whole.sent.len() && !frames_out_fail(alloc, whole, *failing, room) {
+            return false;
+        }
     }
-    for room in 0..=whole.sent.len() {
-        frames_out_fail(rt, whole, failing, room)?;
-    }
-    Ok(())
+    true
 }
 
 #[test]
-fn outputs_that_fail(rt: HostRuntime) -> Result<(), Fail> {
-    for whole in WHOLES.iter() {
-        for failing in FAILURES.iter() {
-            outputs_fail(&rt, whole, *failing)?;
+fn outputs_that_fail(rt: HostRuntime) {
+    for (index, whole) in WHOLES.iter().enumerate() {
+        for room in 0..=whole.lines.len().max(whole.sent.len()) {
+            holds_at(&rt, each_fails(rt.alloc(), whole, room), index, room);
         }
     }
-    Ok(())
 }

@@ -1,9 +1,10 @@
 //! Reads and writes of a few bytes at a call, tried with a failure after each count of bytes.
 
+use crate::tests::rows::holds_at;
 use exact_io::{Filled, fill, write_bytes};
 use failing_io::{FAILURES, Failure, Reader, Writer};
+use std::alloc::Global;
 use std::io::ErrorKind;
-use std::process::Abort;
 
 const TEXT: &[u8; 7] = b"letters";
 
@@ -27,23 +28,32 @@ fn reported(room: usize, failing: Failure) -> Option<ErrorKind> {
     }
 }
 
-fn fails_in_writing(rt: &(impl AllocGlobal + Abort), chunk: usize, room: usize, failing: Failure) {
-    let mut writer = Writer::new(rt.alloc(), chunk, room, Some(failing));
+/// Whether writing fails so, and the bytes before the failure are written.
+fn fails_in_writing(alloc: Global, chunk: usize, room: usize, failing: Failure) -> bool {
+    let mut writer = Writer::new(alloc, chunk, room, Some(failing));
     let failure = failure_of_writing(&mut writer, TEXT);
-    assert_eq!(rt;
-        (failure, Some(writer.taken.as_slice())),
-        (reported(room, failing), TEXT.get(..room)),
-        "at {room}"
-    );
+    failure == reported(room, failing) && Some(writer.taken.as_slice()) == TEXT.get(..room)
+}
+
+fn fail_in_writing(alloc: Global, room: usize, failing: Failure) -> bool {
+    for chunk in CHUNKS {
+        if !fails_in_writing(alloc, *chunk, room, failing) {
+            return false;
+        }
+    }
+    true
 }
 
 #[test]
 fn writes(rt: HostRuntime) {
-    for chunk in CHUNKS.iter() {
+    for (index, failing) in FAILURES.iter().enumerate() {
         for room in 0..8usize {
-            for failing in FAILURES.iter() {
-                fails_in_writing(&rt, *chunk, room, *failing);
-            }
+            holds_at(
+                &rt,
+                fail_in_writing(rt.alloc(), room, *failing),
+                index,
+                room,
+            );
         }
     }
 }
@@ -52,7 +62,7 @@ fn filled(reader: &mut Reader<'_>, buffer: &mut [u8]) -> Filled {
     fill(reader, buffer)
 }
 
-fn fails_in_filling(rt: &impl Abort, chunk: usize, room: usize, failing: Failure) {
+fn fails_in_filling(chunk: usize, room: usize, failing: Failure) -> bool {
     let mut reader = Reader {
         left: TEXT.as_slice(),
         chunk,
@@ -65,20 +75,25 @@ fn fails_in_filling(rt: &impl Abort, chunk: usize, room: usize, failing: Failure
         (_, Failure::Error(_)) => Filled::Failed(room),
         (_, Failure::Nothing) => Filled::Ended(room),
     };
-    let found = filled(&mut reader, &mut buffer);
-    assert_eq!(rt;
-        (found, buffer.get(..room), Some(reader.left)),
-        (wanted, TEXT.get(..room), TEXT.get(room..))
-    );
+    filled(&mut reader, &mut buffer) == wanted
+        && buffer.get(..room) == TEXT.get(..room)
+        && Some(reader.left) == TEXT.get(room..)
+}
+
+fn fail_in_filling(room: usize, failing: Failure) -> bool {
+    for chunk in CHUNKS {
+        if !fails_in_filling(*chunk, room, failing) {
+            return false;
+        }
+    }
+    true
 }
 
 #[test]
 fn fills(rt: HostRuntime) {
-    for chunk in CHUNKS.iter() {
+    for (index, failing) in FAILURES.iter().enumerate() {
         for room in 0..6usize {
-            for failing in FAILURES.iter() {
-                fails_in_filling(&rt, *chunk, room, *failing);
-            }
+            holds_at(&rt, fail_in_filling(room, *failing), index, room);
         }
     }
 }
@@ -100,14 +115,14 @@ fn filled_from(bytes: &[u8], buffer: &mut [u8]) -> (Filled, usize) {
     (found, left.len())
 }
 
+fn are_empty_so() -> bool {
+    filled_from(TEXT, &mut []) == (Filled::Whole, 7)
+        && filled_from(b"", &mut [0; 5]) == (Filled::Ended(0), 0)
+        && is_written_to_none(b"")
+        && !is_written_to_none(b"x")
+}
+
 #[test]
 fn empty(rt: HostRuntime) {
-    let found = (
-        filled_from(TEXT, &mut []),
-        filled_from(b"", &mut [0; 5]),
-        is_written_to_none(b""),
-        is_written_to_none(b"x"),
-    );
-    let wanted = ((Filled::Whole, 7), (Filled::Ended(0), 0), true, false);
-    assert_eq!(rt; found, wanted);
+    assert!(rt; are_empty_so());
 }

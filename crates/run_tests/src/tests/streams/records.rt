@@ -1,10 +1,11 @@
 //! Records from a reader and to a writer that fail after each byte, and the magic.
 
+use crate::tests::rows::holds_at;
 use failing_io::{FAILURES, Failure, Reader, Writer};
 use frames::{FrameReader, Next, write_frame};
 use isa_model::{Fault, FrameHead};
+use std::alloc::Global;
 use std::io::ErrorKind;
-use std::process::Abort;
 
 // The magic and the records of two packet frames of 0 bytes.
 const TWO: &[u8] = &[
@@ -52,23 +53,20 @@ fn stop_at(stops: &[Stop], reached: usize) -> (u32, Next) {
     found
 }
 
-// The stream stops so, however many bytes move at a call.
-fn stops_so(
-    rt: &impl Abort,
-    left: &[u8],
-    room: usize,
-    failing: Option<Failure>,
-    (count, stop): (u32, Next),
-) {
-    for chunk in CHUNKS.iter() {
+// Whether the stream stops so, however many bytes move at a call.
+fn stops_so(left: &[u8], room: usize, failing: Failure, (count, stop): (u32, Next)) -> bool {
+    for chunk in CHUNKS {
         let source = Reader {
             left,
             chunk: *chunk,
             room,
-            failing,
+            failing: Some(failing),
         };
-        assert_eq!(rt; stop_of(source), (count, stop, stop), "{room} bytes");
+        if stop_of(source) != (count, stop, stop) {
+            return false;
+        }
     }
+    true
 }
 
 #[rattlefmt::skip]
@@ -93,13 +91,21 @@ const ERRORS: &[Failure] = &[
     Failure::Error(ErrorKind::Interrupted),
 ];
 
+// Whether the stream stops so for each error.
+fn breaks_so(stream: &[u8], room: usize, stops: &[Stop]) -> bool {
+    for error in ERRORS {
+        if !stops_so(stream, room, *error, stop_at(stops, room)) {
+            return false;
+        }
+    }
+    true
+}
+
 #[test]
 fn broken(rt: HostRuntime) {
-    for (stream, from, to, stops) in FAILING.iter() {
+    for (index, (stream, from, to, stops)) in FAILING.iter().enumerate() {
         for room in *from..*to {
-            for error in ERRORS.iter() {
-                stops_so(&rt, *stream, room, Some(*error), stop_at(*stops, room));
-            }
+            holds_at(&rt, breaks_so(*stream, room, *stops), index, room);
         }
     }
 }
@@ -121,23 +127,35 @@ fn reported(room: usize, failing: Failure) -> Option<ErrorKind> {
     }
 }
 
-fn fails_in_writing(rt: &(impl AllocGlobal + Abort), chunk: usize, room: usize, failing: Failure) {
-    let mut writer = Writer::new(rt.alloc(), chunk, room, Some(failing));
+// Whether writing fails so, and the bytes before the failure are written.
+fn fails_in_writing(alloc: Global, chunk: usize, room: usize, failing: Failure) -> bool {
+    let mut writer = Writer::new(alloc, chunk, room, Some(failing));
     let failure = failure_of_writing(&mut writer);
-    assert_eq!(rt;
-        (failure, Some(writer.taken.as_slice())),
-        (reported(room, failing), RECORD[4..].get(..room)),
-        "{room} bytes"
-    );
+    failure == reported(room, failing) && Some(writer.taken.as_slice()) == RECORD[4..].get(..room)
+}
+
+// How many bytes move at a call of the writer.
+const WRITTEN_CHUNKS: &[usize] = &[1, 7, 25];
+
+fn fail_in_writing(alloc: Global, room: usize, failing: Failure) -> bool {
+    for chunk in WRITTEN_CHUNKS {
+        if !fails_in_writing(alloc, *chunk, room, failing) {
+            return false;
+        }
+    }
+    true
 }
 
 #[test]
 fn failing_writes(rt: HostRuntime) {
-    for failing in FAILURES.iter() {
-        for chunk in [1, 7, 25usize] {
-            for room in 0..26usize {
-                fails_in_writing(&rt, chunk, room, *failing);
-            }
+    for (index, failing) in FAILURES.iter().enumerate() {
+        for room in 0..26usize {
+            holds_at(
+                &rt,
+                fail_in_writing(rt.alloc(), room, *failing),
+                index,
+                room,
+            );
         }
     }
 }
@@ -158,7 +176,9 @@ const FRAME: Next = Next::Frame(
 type Begun = Result<u8, (Fault, u64)>;
 
 // A stream, the result for its magic, what follows it, and the results after that.
-const BEGUN: &[(&[u8], Begun, Next, Begun)] = &[
+type Beginning = (&'static [u8], Begun, Next, Begun);
+
+const BEGUN: &[Beginning] = &[
     (b"XPF1", Ok(1), Next::End, Ok(1)),
     (b"XPF2", Ok(2), Next::End, Ok(2)),
     (REASONED, Ok(2), FRAME, Ok(2)),
@@ -201,13 +221,20 @@ fn calls_of(given: &[u8], times: u32) -> (Begun, Next, Begun, Begun) {
     (begun, next, reader.begin(), reader.begin())
 }
 
+fn begins_so((given, first, next, after): &Beginning) -> bool {
+    for times in 0..3u32 {
+        let first = if times == 0 { Ok(0) } else { *first };
+        if calls_of(*given, times) != (first, *next, *after, *after) {
+            return false;
+        }
+    }
+    true
+}
+
 // The magic is read once, whether `begin` or `next` comes first.
 #[test]
 fn magic_is_read_once(rt: HostRuntime) {
-    for (given, first, next, after) in BEGUN.iter() {
-        for times in 0..3u32 {
-            let first = if times == 0 { Ok(0) } else { *first };
-            assert_eq!(rt; calls_of(*given, times), (first, *next, *after, *after));
-        }
+    for (index, row) in BEGUN.iter().enumerate() {
+        holds_at(&rt, begins_so(row), index, 0);
     }
 }

@@ -2,7 +2,7 @@
 
 use super::buffers::holds;
 use super::images::{ENDLESS, HEAD, INTERFACE, OTHER, PASS, UNGUARDED};
-use super::rows::holds_at;
+use super::rows::{Holds, hold_all};
 use command_calls::streaming::{Streamed, run_stream};
 use command_calls::tracing::{TracedEnd, trace_once};
 use run_calls::running::{Ended, run_once};
@@ -18,7 +18,9 @@ fn ran(alloc: Global, image: &[u8], length: usize) -> (u32, u64, u32) {
 }
 
 /// An image, the packet's length, and what is returned.
-const RUNS: &[(&[u8], usize, (u32, u64, u32))] = &[
+type Run = (&'static [u8], usize, (u32, u64, u32));
+
+const RUNS: &[Run] = &[
     (&PASS, 0, (0, 2, 2)),
     (&INTERFACE, 9216, (0, 7, 2)),
     (&PASS, 9217, (1, 9, 9)),
@@ -27,11 +29,10 @@ const RUNS: &[(&[u8], usize, (u32, u64, u32))] = &[
     (&[], 0, (2, 9, 9)),
 ];
 
-#[test]
-fn runs_once(rt: HostRuntime) {
-    for (image, length, wanted) in RUNS.iter() {
-        let found = ran(rt.alloc(), image, *length);
-        holds_at(&rt, found == *wanted, *length as u64, wanted.0);
+impl Holds for Run {
+    fn holds(&self, alloc: Global) -> bool {
+        let (image, length, wanted) = self;
+        ran(alloc, *image, *length) == *wanted
     }
 }
 
@@ -52,7 +53,9 @@ fn traced(alloc: Global, image: &[u8], length: usize, limit: u32) -> Traced {
 }
 
 /// An image, the packet's length and the limit, and what is returned.
-const TRACES: &[(&[u8], usize, u32, Traced)] = &[
+type Trace = (&'static [u8], usize, u32, Traced);
+
+const TRACES: &[Trace] = &[
     (&PASS, 64, 2, (0, 0, 2, 0, 2)),
     (&PASS, 64, 1, (0, 2, 0, 0, 1)),
     (&UNGUARDED, 13, 1_000_000, (0, 1, 0, 6, 1)),
@@ -63,11 +66,10 @@ const TRACES: &[(&[u8], usize, u32, Traced)] = &[
     (&OTHER, 64, 1, (2, 9, 9, 9, 9)),
 ];
 
-#[test]
-fn traces_once(rt: HostRuntime) {
-    for (image, length, limit, wanted) in TRACES.iter() {
-        let found = traced(rt.alloc(), image, *length, *limit);
-        holds_at(&rt, found == *wanted, *length as u64, *limit);
+impl Holds for Trace {
+    fn holds(&self, alloc: Global) -> bool {
+        let (image, length, limit, wanted) = self;
+        traced(alloc, *image, *length, *limit) == *wanted
     }
 }
 
@@ -101,31 +103,14 @@ fn streamed(
     )
 }
 
-/// Whether running a program over a stream returns this, with that much room for each of the two
-/// outputs.
-fn streams_so(
-    alloc: Global,
-    image: &[u8],
-    stream: &[u8],
-    room: usize,
-    wanted: &(Returned, &[u8], &[u8]),
-) -> bool {
-    let mut report_buffer = [7; 40];
-    let mut sent_buffer = [7; 40];
-    let room = room.min(40);
-    let found = streamed(
-        alloc,
-        image,
-        stream,
-        &mut report_buffer[..room],
-        &mut sent_buffer[..room],
-    );
-    found == wanted.0 && holds(&report_buffer, wanted.1) && holds(&sent_buffer, wanted.2)
-}
+/// What is returned, and what is written of the report and of the frames out.
+type Written = (Returned, &'static [u8], &'static [u8]);
 
 /// An image, a stream, the room for each output, and what is returned, with what is written of the
 /// report and of the frames out.
-const STREAMS: &[(&[u8], &[u8], usize, (Returned, &[u8], &[u8]))] = &[
+type StreamRun = (&'static [u8], &'static [u8], usize, Written);
+
+const STREAMS: &[StreamRun] = &[
     (
         &PASS,
         ONE_FRAME,
@@ -145,10 +130,26 @@ const STREAMS: &[(&[u8], &[u8], usize, (Returned, &[u8], &[u8]))] = &[
     (&ENDLESS, ONE_FRAME, 12, ((2, 9, 9, 9, 9, 9), b"", b"")),
 ];
 
-#[test]
-fn runs_streams(rt: HostRuntime) {
-    for (image, stream, room, wanted) in STREAMS.iter() {
-        let is_so = streams_so(rt.alloc(), image, stream, *room, wanted);
-        holds_at(&rt, is_so, *room as u64, wanted.0.0);
+impl Holds for StreamRun {
+    fn holds(&self, alloc: Global) -> bool {
+        let (image, stream, room, (wanted, report, sent)) = self;
+        let mut report_buffer = [7; 40];
+        let mut sent_buffer = [7; 40];
+        let room = (*room).min(40);
+        let found = streamed(
+            alloc,
+            *image,
+            *stream,
+            &mut report_buffer[..room],
+            &mut sent_buffer[..room],
+        );
+        found == *wanted && holds(&report_buffer, *report) && holds(&sent_buffer, *sent)
     }
+}
+
+#[test]
+fn runs(rt: HostRuntime) {
+    hold_all(&rt, "runs", RUNS);
+    hold_all(&rt, "traced runs", TRACES);
+    hold_all(&rt, "streams", STREAMS);
 }

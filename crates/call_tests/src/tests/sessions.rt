@@ -1,13 +1,13 @@
 //! Sessions: opened, run, looked into and closed.
 
 use super::images::{ENDLESS, HEAD, INTERFACE, OTHER, PASS, UNGUARDED};
-use super::rows::holds_at;
 use held_machines::Session;
 use held_machines::map_calls::{Changed, delete_key, key_at_rank, look_up_key, update_key};
 use held_machines::opening::{close_session, open_image, open_with_table};
 use run_calls::running::Ended;
 use session_calls::running::run_session;
 use std::alloc::Global;
+use std::process::Abort;
 
 /// `r0 = 2; exit`, with a hash map of at most two keys of 2 bytes, with values of 3, and an array
 /// of four values of 4 bytes.
@@ -181,8 +181,8 @@ const CALLS: &[(Call, Returned)] = &[
 #[test]
 fn calls_on_a_session(rt: HostRuntime) {
     let mut session = Session::closed();
-    for (call, wanted) in CALLS.iter() {
+    for (index, (call, wanted)) in CALLS.iter().enumerate() {
         let found = called(rt.alloc(), &mut session, call);
-        holds_at(&rt, found == *wanted, wanted.1, wanted.0);
+        assert!(rt; found == *wanted, "call {index}");
     }
 }

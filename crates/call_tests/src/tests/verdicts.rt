@@ -2,7 +2,7 @@
 
 use super::buffers::holds;
 use super::images::{ENDLESS, OTHER, PASS, UNGUARDED};
-use super::rows::holds_at;
+use super::rows::{Holds, hold_all};
 use command_calls::assembling::{Assembled, assemble_text};
 use command_calls::naming::{number_of_action, write_version};
 use std::alloc::Global;
@@ -21,17 +21,11 @@ fn assembled(alloc: Global, text: &[u8], image: &mut [u8], why: &mut [u8]) -> Ma
     (status, out.size, out.line, out.column)
 }
 
-/// Whether the call on a text returns this, with that much room for its image.
-fn assembles_so(alloc: Global, text: &[u8], room: usize, wanted: &(Made, &[u8], &[u8])) -> bool {
-    let mut image = [7; 26];
-    let mut why = [7; 80];
-    let found = assembled(alloc, text, &mut image[..room.min(26)], &mut why);
-    found == wanted.0 && holds(&image, wanted.1) && holds(&why, wanted.2)
-}
-
 /// A text, the room for its image, and what is returned, with what is written of the image and of
 /// why there is none.
-const TEXTS: &[(&[u8], usize, (Made, &[u8], &[u8]))] = &[
+type Text = (&'static [u8], usize, (Made, &'static [u8], &'static [u8]));
+
+const TEXTS: &[Text] = &[
     (b"r0 = 2\nexit\n", 26, ((0, 24, 0, 0), &PASS, b"")),
     (
         b"r0 = 2\nexit\n",
@@ -49,11 +43,13 @@ const TEXTS: &[(&[u8], usize, (Made, &[u8], &[u8]))] = &[
     ),
 ];
 
-#[test]
-fn assembles(rt: HostRuntime) {
-    for (text, room, wanted) in TEXTS.iter() {
-        let is_so = assembles_so(rt.alloc(), text, *room, wanted);
-        holds_at(&rt, is_so, *room as u64, wanted.0.0);
+impl Holds for Text {
+    fn holds(&self, alloc: Global) -> bool {
+        let (text, room, (wanted, written, message)) = self;
+        let mut image = [7; 26];
+        let mut why = [7; 80];
+        let found = assembled(alloc, *text, &mut image[..(*room).min(26)], &mut why);
+        found == *wanted && holds(&image, *written) && holds(&why, *message)
     }
 }
 
@@ -70,18 +66,12 @@ fn verdict(alloc: Global, image: &[u8], limit: u32, why: &mut [u8]) -> Judged {
     (status, out.bound, out.slot, out.said)
 }
 
-/// Whether the call on an image returns this, with room for a message if one is wanted.
-fn judges_so(alloc: Global, image: &[u8], limit: u32, wanted: &(Judged, &str)) -> bool {
-    let mut why = [7; 300];
-    let room = if wanted.1.is_empty() { 0 } else { 300 };
-    let found = verdict(alloc, image, limit, &mut why[..room]);
-    found == wanted.0 && holds(&why, wanted.1.as_bytes())
-}
-
 /// An image and a limit of explored instructions, and what is returned and said: `PASS` has two
 /// instructions, and each is explored once. Without room for a message, what is known at the
 /// instruction is not looked for.
-const IMAGES: &[(&[u8], u32, (Judged, &str))] = &[
+type Judging = (&'static [u8], u32, (Judged, &'static str));
+
+const IMAGES: &[Judging] = &[
     (&PASS, 1_000_000, ((0, 2, 0, 0), "")),
     (&PASS, 0, ((1, 9, 9, 9), "")),
     (&PASS, 1, ((6, 9, 9, 9), "")),
@@ -119,16 +109,21 @@ const IMAGES: &[(&[u8], u32, (Judged, &str))] = &[
     (&ENDLESS, 1_000_000, ((2, 0, 1, 100), "")),
 ];
 
-#[test]
-fn verifies(rt: HostRuntime) {
-    for (image, limit, wanted) in IMAGES.iter() {
-        let is_so = judges_so(rt.alloc(), image, *limit, wanted);
-        holds_at(&rt, is_so, image.len() as u64, *limit);
+impl Holds for Judging {
+    /// With room for a message if one is wanted.
+    fn holds(&self, alloc: Global) -> bool {
+        let (image, limit, (wanted, text)) = self;
+        let mut why = [7; 300];
+        let room = if text.is_empty() { 0 } else { 300 };
+        let found = verdict(alloc, *image, *limit, &mut why[..room]);
+        found == *wanted && holds(&why, text.as_bytes())
     }
 }
 
 /// r0 of a run, and the number of the action that its low 32 bits name, or 5 if they name none.
-const ACTIONS: &[(u64, u32)] = &[
+type Named = (u64, u32);
+
+const ACTIONS: &[Named] = &[
     (0, 0),
     (1, 1),
     (0x7_0000_0002, 2),
@@ -138,6 +133,12 @@ const ACTIONS: &[(u64, u32)] = &[
     (0xffff_ffff, 5),
 ];
 
+impl Holds for Named {
+    fn holds(&self, _alloc: Global) -> bool {
+        number_of_action(self.0) == self.1
+    }
+}
+
 /// Whether the version is written, and nothing after it.
 fn writes_version() -> bool {
     let mut version = [7; 6];
@@ -145,9 +146,9 @@ fn writes_version() -> bool {
 }
 
 #[test]
-fn names(rt: HostRuntime) {
-    for (answer, action) in ACTIONS.iter() {
-        holds_at(&rt, number_of_action(*answer) == *action, *answer, *action);
-    }
+fn judges(rt: HostRuntime) {
+    hold_all(&rt, "texts", TEXTS);
+    hold_all(&rt, "images", IMAGES);
+    hold_all(&rt, "actions", ACTIONS);
     assert!(rt; writes_version());
 }

@@ -2,7 +2,7 @@
 
 use super::buffers::holds;
 use super::images::{ENDLESS, OTHER, PASS};
-use super::rows::holds_at;
+use super::rows::{Holds, hold_all};
 use std::alloc::Global;
 use table_calls::rechecks::{Rechecked, recheck_table};
 
@@ -38,24 +38,11 @@ fn rechecked(alloc: Global, image: &[u8], table: &[u8], why: &mut [u8]) -> (Test
     ((status, out.bound, out.rule, out.entry), out.said)
 }
 
-/// Whether the call on the table with a byte changed returns this, with room for a text if one is
-/// wanted.
-fn rechecks_so(
-    alloc: Global,
-    image: &[u8],
-    index: usize,
-    byte: u8,
-    wanted: &(Tested, &str),
-) -> bool {
-    let mut why = [7; 200];
-    let room = if wanted.1.is_empty() { 0 } else { 200 };
-    let (found, said) = rechecked(alloc, image, &table(index, byte), &mut why[..room]);
-    found == wanted.0 && (room == 0 || said == wanted.1.len()) && holds(&why, wanted.1.as_bytes())
-}
-
 /// An image, an index in the table, the byte that is put there, and what is returned and said, as
 /// docs/REFUSALS.md shows it.
-const CHANGES: &[(&[u8], usize, u8, (Tested, &str))] = &[
+type Change = (&'static [u8], usize, u8, (Tested, &'static str));
+
+const CHANGES: &[Change] = &[
     (&PASS, 0, 0x58, ((0, 2, 0, 0), "")),
     (&PASS, 8, 5, ((0, 5, 0, 0), "")),
     (
@@ -95,10 +82,17 @@ const CHANGES: &[(&[u8], usize, u8, (Tested, &str))] = &[
     (&ENDLESS, 0, 0x58, ((2, 0, 8, 0), "")),
 ];
 
+impl Holds for Change {
+    fn holds(&self, alloc: Global) -> bool {
+        let (image, index, byte, (wanted, text)) = self;
+        let mut why = [7; 200];
+        let room = if text.is_empty() { 0 } else { 200 };
+        let (found, said) = rechecked(alloc, *image, &table(*index, *byte), &mut why[..room]);
+        found == *wanted && (room == 0 || said == text.len()) && holds(&why, text.as_bytes())
+    }
+}
+
 #[test]
 fn rechecks(rt: HostRuntime) {
-    for (image, index, byte, wanted) in CHANGES.iter() {
-        let is_so = rechecks_so(rt.alloc(), image, *index, *byte, wanted);
-        holds_at(&rt, is_so, *index as u64, wanted.0.2);
-    }
+    hold_all(&rt, "changed tables", CHANGES);
 }

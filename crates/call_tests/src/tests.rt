@@ -1,0 +1,9 @@
+//! The tests, by the crate whose calls they make, and what they share.
+
+mod buffers;
+mod images;
+mod rows;
+mod runs;
+mod sessions;
+mod tables;
+mod verdicts;
