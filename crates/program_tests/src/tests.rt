@@ -7,4 +7,5 @@ mod flows;
 mod lexemes;
 mod outputs;
 mod programs;
+mod rows;
 mod steps;

@@ -1,7 +1,7 @@
 //! Instructions that are cut off.
 
+use super::rows::holds_at;
 use insn_codec::{CodecError, decode};
-use std::process::Abort;
 
 /// A wide load of r1: 0x18, the register byte, the offset, the low half, the reserved bits and the
 /// upper half.
@@ -17,15 +17,19 @@ fn refusal_of(length: usize) -> Option<CodecError> {
     }
 }
 
-fn are_refused(rt: &impl Abort, from: usize, to: usize, error: Option<CodecError>) {
-    for length in from..to {
-        assert_eq!(rt; refusal_of(length), error, "{length} bytes");
-    }
-}
+/// The first number of bytes that are refused so, or are an instruction if there is no error, and
+/// the first number that are not.
+const REFUSALS: &[(usize, usize, Option<CodecError>)] = &[
+    (0, 8, Some(CodecError::Short)),
+    (8, 16, Some(CodecError::SecondSlot)),
+    (16, 17, None),
+];
 
 #[test]
 fn cut_instructions(rt: HostRuntime) {
-    are_refused(&rt, 0, 8, Some(CodecError::Short));
-    are_refused(&rt, 8, 16, Some(CodecError::SecondSlot));
-    are_refused(&rt, 16, 17, None);
+    for (index, (from, to, error)) in REFUSALS.iter().enumerate() {
+        for length in *from..*to {
+            holds_at(&rt, refusal_of(length) == *error, index, length);
+        }
+    }
 }

@@ -1,5 +1,6 @@
 //! The lexeme at the front of a text, and the byte at which no token begins.
 
+use super::rows::holds_at;
 use lexer::{Lexeme, Sign, Token, Word, lexeme_at};
 
 /// What the text begins with, and how long that is; or "none", and the offset of the byte at which
@@ -16,7 +17,9 @@ fn front_of(text: &[u8]) -> (&'static str, usize) {
     }
 }
 
-const FRONTS: &[(&[u8], &str, usize)] = &[
+type Front = (&'static [u8], &'static str, usize);
+
+const FRONTS: &[Front] = &[
     // the longest that fits
     (b"# ; ?\nexit", "blank", 5),
     (b";;", "end", 1),
@@ -32,9 +35,13 @@ const FRONTS: &[(&[u8], &str, usize)] = &[
     (b"12_", "none", 2),
 ];
 
+fn begins_so((text, wanted, at): &Front) -> bool {
+    front_of(*text) == (*wanted, *at)
+}
+
 #[test]
 fn finds_the_longest_or_no_token(rt: HostRuntime) {
-    for (text, wanted, at) in FRONTS.iter() {
-        assert_eq!(rt; front_of(*text), (*wanted, *at));
+    for (index, row) in FRONTS.iter().enumerate() {
+        holds_at(&rt, begins_so(row), index, 0);
     }
 }

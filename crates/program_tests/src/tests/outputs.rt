@@ -1,11 +1,11 @@
 //! Images and texts that are written into outputs with too little room, and with just enough.
 
 use super::programs::image_of;
+use super::rows::holds_at;
 use disassembler::disassemble;
 use image::Image;
+use std::alloc::Global;
 use std::io::ErrorKind;
-use std::process::Abort;
-use std::test::Fail;
 
 /// A text, whether the text of its image is written or the image's bytes, and what is written.
 const WRITTEN: &[(&str, bool, &[u8])] = &[
@@ -39,8 +39,8 @@ fn failure_of(image: &Image, is_text: bool, mut out: &mut [u8]) -> Option<ErrorK
     }
 }
 
-/// An output gets as many bytes as it has room for, and its failure is returned.
-fn is_front(rt: &impl Abort, image: &Image, is_text: bool, whole: &[u8], room: usize) {
+/// Whether an output gets as many bytes as it has room for, and its failure is returned.
+fn is_front(image: &Image, is_text: bool, whole: &[u8], room: usize) -> bool {
     let mut taken = [0; 99];
     let failure = match taken.get_mut(..room) {
         Some(out) => failure_of(image, is_text, out),
@@ -51,30 +51,22 @@ fn is_front(rt: &impl Abort, image: &Image, is_text: bool, whole: &[u8], room: u
     } else {
         None
     };
-    assert_eq!(rt;
-        (failure, taken.get(..room)),
-        (wanted, whole.get(..room)),
-        "{room} bytes"
-    );
+    failure == wanted && taken.get(..room) == whole.get(..room)
 }
 
-fn are_fronts(
-    rt: &(impl Abort + AllocGlobal),
-    text: &str,
-    is_text: bool,
-    whole: &[u8],
-) -> Result<(), Fail> {
-    let image = image_of(rt.alloc(), text)?;
-    for room in 0..=whole.len() {
-        is_front(rt, &image, is_text, whole, room);
+fn is_front_of_text(alloc: Global, text: &str, is_text: bool, whole: &[u8], room: usize) -> bool {
+    match image_of(alloc, text) {
+        Some(image) => is_front(&image, is_text, whole, room),
+        None => false,
     }
-    Ok(())
 }
 
 #[test]
-fn full_outputs(rt: HostRuntime) -> Result<(), Fail> {
-    for (text, is_text, whole) in WRITTEN.iter() {
-        are_fronts(&rt, *text, *is_text, *whole)?;
+fn full_outputs(rt: HostRuntime) {
+    for (index, (text, is_text, whole)) in WRITTEN.iter().enumerate() {
+        for room in 0..=whole.len() {
+            let is_so = is_front_of_text(rt.alloc(), *text, *is_text, *whole, room);
+            holds_at(&rt, is_so, index, room);
+        }
     }
-    Ok(())
 }
