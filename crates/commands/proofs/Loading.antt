@@ -1,5 +1,5 @@
 -- What a task did is what its command does, by how far it came: with an image, with a table.
-use Rattle.std.proofs.Common.{◌≡◌, ℕ, List, Option, None, String, Result, Ok, Err, refl, subst, sym, inl, inr, ◌⊎◌, ◌∙◌}
+use Rattle.std.proofs.Common.{◌≡◌, ℕ, List, Option, None, String, Result, Ok, Err, subst, sym, inl, inr, ◌⊎◌, ◌∙◌}
 use Rattle.std.specs.Prelude.{IfOk, IfErr}
 use Rattle.std.specs.declared.alloc.Global.{Global}
 use Rattle.std.specs.declared.io.ErrorKind.{ErrorKind}
