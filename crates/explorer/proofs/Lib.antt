@@ -1,3 +1,4 @@
+pub mod ConstantsLaws
 pub mod StoredStatesLaws
 pub mod GroupLaws
 pub mod Paths

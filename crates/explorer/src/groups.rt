@@ -3,8 +3,9 @@
 ghost use Rattle.std.specs.Prelude.{◌≡◌, ◌++◌, [], IfOk, IsTrue, OnOk, option_to_list};
 ghost use Rattle.std.specs.List.{All};
 ghost use Rattle.state_index.specs.Parts.{IsPartOf, all_written, register_part, slot_part};
-ghost use Rattle.explorer.specs.Groups.{whole, few_of, groups_of};
+ghost use Rattle.explorer.specs.Groups.{whole, constant_of, others_of, few_of, groups_of};
 
+use crate::constants::{constant_part, first_constant};
 use reg_state::Kind;
 use stack_state::{AbstractFrame, StackSlot};
 use state_index::{Part, are_same, may_cover_part, write};
@@ -26,7 +27,7 @@ const PART_WORDS: usize = 10;
 const GROUP_WORDS: usize = 9;
 
 /// How many words parts take.
-pub fn words_of(parts: &[Part]) -> usize {
+fn words_of(parts: &[Part]) -> usize {
     parts.len().saturating_mul(PART_WORDS)
 }
 
@@ -152,34 +153,57 @@ fn push_group(
 pub enum KeptParts {
     /// All of them, if they are few.
     Few(Vec<Part>),
+    /// Few as well: a constant, by the number of its register, which is the first of them, and the
+    /// others.
+    AfterConstant(u8, u64, Vec<Part>),
     /// All of them in groups, if they are more.
     Many(Vec<SharedParts>),
 }
 
 impl KeptParts {
     /// The parts, in groups if they are more than `most`. The groups of another state that have the
-    /// same parts are shared.
+    /// same parts are shared. Of an innermost frame, a constant that comes first is kept by itself.
     pub fn of(
         alloc: Global,
         parts: &[Part],
         others: &[SharedParts],
         most: usize,
+        is_innermost: bool,
     ) -> Result<Self, AllocError>
         ensures { IfOk result (λ kept. few_of kept ++ whole (groups_of kept) ≡ parts.now) }
     {
-        if parts.len() <= most {
-            return Ok(KeptParts::Few(Vec::from_slice(alloc, parts)?));
+        if parts.len() > most {
+            return Ok(KeptParts::Many(cut(alloc, parts, others)?));
         }
-        Ok(KeptParts::Many(cut(alloc, parts, others)?))
+        if is_innermost {
+            if let Some((number, value, after)) = first_constant(parts) {
+                let after = Vec::from_slice(alloc, after)?;
+                return Ok(KeptParts::AfterConstant(number, value, after));
+            }
+        }
+        Ok(KeptParts::Few(Vec::from_slice(alloc, parts)?))
     }
 
-    /// The parts that are in no group.
+    /// The constant that is kept by itself, if there is one: it is the first part.
     #[inline(always)]
-    pub fn few(&self) -> &[Part]
-        ensures { result.now ≡ few_of self.now }
+    pub fn constant(&self) -> Option<Part>
+        ensures { result ≡ constant_of self.now }
+    {
+        match self {
+            KeptParts::Few(_) => None,
+            KeptParts::AfterConstant(number, value, _) => Some(constant_part(*number, *value)),
+            KeptParts::Many(_) => None,
+        }
+    }
+
+    /// The other parts that are in no group.
+    #[inline(always)]
+    pub fn others(&self) -> &[Part]
+        ensures { result.now ≡ others_of self.now }
     {
         match self {
             KeptParts::Few(parts) => parts.as_slice(),
+            KeptParts::AfterConstant(_, _, parts) => parts.as_slice(),
             KeptParts::Many(_) => &[],
         }
     }
@@ -191,8 +215,45 @@ impl KeptParts {
     {
         match self {
             KeptParts::Few(_) => &[],
+            KeptParts::AfterConstant(..) => &[],
             KeptParts::Many(groups) => groups.as_slice(),
         }
+    }
+
+    /// How many words the parts that are in no group take. A constant that is kept by itself counts
+    /// as the part that it is: so how it is kept changes no verdict.
+    pub fn few_words(&self) -> usize {
+        let constant = match self {
+            KeptParts::AfterConstant(..) => PART_WORDS,
+            _ => 0,
+        };
+        words_of(self.others()).saturating_add(constant)
+    }
+
+    /// Writes the parts that are in no group where they belong.
+    #[inline(always)]
+    pub fn write_few(&self, frame: &mut AbstractFrame)
+        ensures { frame.new ≡ all_written frame.old (few_of self.now) }
+    {
+        match self.constant() {
+            Some(part) => write(frame, &part),
+            None => {}
+        }
+        write_all(frame, self.others());
+    }
+
+    /// Whether what is known of the parts that are in no group may cover what a frame knows of
+    /// them: false means that it does not.
+    #[inline(always)]
+    pub fn may_cover_few(&self, frame: &AbstractFrame) -> bool
+        ensures { All (IsPartOf frame.now) (few_of self.now) → IsTrue result }
+    {
+        if let Some(part) = self.constant() {
+            if !may_cover_part(&part, frame) {
+                return false;
+            }
+        }
+        may_cover_all(self.others(), frame)
     }
 }
 
@@ -238,12 +299,12 @@ impl<'a> Model for Rest<'a> {
 }
 
 impl<'a> Rest<'a> {
-    /// All parts.
+    /// All parts but a constant that is kept by itself.
     pub fn of(parts: &'a KeptParts) -> Self
-        ensures { result ≡ few_of parts.now ++ whole (groups_of parts.now) }
+        ensures { result ≡ others_of parts.now ++ whole (groups_of parts.now) }
     {
         Rest {
-            parts: parts.few(),
+            parts: parts.others(),
             groups: parts.groups(),
         }
     }

@@ -138,7 +138,13 @@ impl Kept {
             Some(other) => Some(&other.innermost),
             None => None,
         };
-        let innermost = KeptFrame::with_parts(alloc, &state.innermost, parts.as_slice(), like)?;
+        let innermost = KeptFrame::with_parts(
+            alloc,
+            &state.innermost,
+            parts.as_slice(),
+            like,
+            true,
+        )?;
         let callers = keep_callers(alloc, state.callers.as_slice(), parts, other)?;
         let words = own_words(&innermost, &callers);
         Ok(Kept {

@@ -5,7 +5,7 @@ ghost use Rattle.stack_state.specs.Slots.{frame_slots};
 ghost use Rattle.state_index.specs.Parts.{AreParts, register_parts, slot_parts};
 
 use crate::blanks::clear_frame;
-use crate::groups::{FEW, KeptParts, Rest, may_cover_all, words_of, write_all};
+use crate::groups::{FEW, KeptParts, Rest, may_cover_all, write_all};
 use arrayvec::ArrayVec;
 use reg_state::Kind;
 use stack_state::{AbstractFrame, FRAME_SLOTS, MAX_CALLERS, StackSlot};
@@ -45,6 +45,7 @@ impl KeptFrame {
         frame: &AbstractFrame,
         parts: &[Part],
         other: Option<&KeptFrame>,
+        is_innermost: bool,
     ) -> Result<Self, AllocError>
         requires { AreParts parts.now frame.now }
         ensures { IfOk result (λ kept. kept ≡ frame.now) }
@@ -53,20 +54,24 @@ impl KeptFrame {
             Some(other) => other.parts.groups(),
             None => &[],
         };
-        let parts = KeptParts::of(alloc, parts, others, FEW)?;
+        let parts = KeptParts::of(alloc, parts, others, FEW, is_innermost)?;
         Ok(KeptFrame {
             return_slot: frame.return_slot,
             parts,
         })
     }
 
-    /// Whether this is the frame; a wrong false is possible.
+    /// Whether this is the frame; a wrong false is possible, and certain where a constant is kept
+    /// by itself.
     pub fn is_frame(&self, frame: &AbstractFrame) -> bool
         ensures { IsTrue result → self.now ≡ frame.now }
     {
         if self.return_slot != frame.return_slot {
             return false;
         }
+        let None = self.parts.constant() else {
+            return false;
+        };
         let mut rest = Rest::of(&self.parts);
         if !are_registers(&mut rest, &frame.registers) {
             return false;
@@ -81,7 +86,7 @@ impl KeptFrame {
     pub fn may_cover(&self, frame: &AbstractFrame) -> bool
         ensures { self.now ≡ frame.now → IsTrue result }
     {
-        if !may_cover_all(self.parts.few(), frame) {
+        if !self.parts.may_cover_few(frame) {
             return false;
         }
         let groups = self.parts.groups();
@@ -100,7 +105,7 @@ impl KeptFrame {
         let groups = self.parts.groups();
         frame.return_slot = self.return_slot;
         clear_frame(frame);
-        write_all(frame, self.parts.few());
+        self.parts.write_few(frame);
         for index in 0..groups.len() {
             write_all(frame, groups[index].parts());
         }
@@ -108,7 +113,9 @@ impl KeptFrame {
 
     /// Puts its parts after others.
     pub fn put_parts(&self, parts: &mut Vec<Part>) -> Result<(), AllocError> {
-        parts.extend_from_slice(self.parts.few())?;
+        let constant = self.parts.constant();
+        parts.extend_from_slice(constant.as_slice())?;
+        parts.extend_from_slice(self.parts.others())?;
         for group in self.parts.groups() {
             parts.extend_from_slice(group.parts())?;
         }
@@ -117,9 +124,11 @@ impl KeptFrame {
 
     /// The fingerprints of frames, and of this one after them.
     pub fn with_fingerprints(&self, fingerprints: Fingerprints) -> Fingerprints {
+        let constant = self.parts.constant();
         let mut fingerprints = fingerprints
             .with_frame(self.return_slot)
-            .with_parts(self.parts.few());
+            .with_parts(constant.as_slice())
+            .with_parts(self.parts.others());
         for group in self.parts.groups() {
             fingerprints = fingerprints.with_parts(group.parts());
         }
@@ -132,7 +141,9 @@ impl KeptFrame {
         limits: &mut Vec<PartLimits>,
         frame_index: u32,
     ) -> Result<(), AllocError> {
-        add_limits(limits, frame_index, self.parts.few())?;
+        let constant = self.parts.constant();
+        add_limits(limits, frame_index, constant.as_slice())?;
+        add_limits(limits, frame_index, self.parts.others())?;
         for group in self.parts.groups() {
             add_limits(limits, frame_index, group.parts())?;
         }
@@ -141,16 +152,16 @@ impl KeptFrame {
 
     /// How many words it takes that no other state shares.
     pub fn own_words(&self) -> u32 {
-        let mut words = words_of(self.parts.few());
+        let mut words = self.parts.few_words();
         for group in self.parts.groups() {
             words = words.saturating_add(group.own_words());
         }
         u32::try_from(words).unwrap_or(u32::MAX)
     }
 
-    /// How many of its parts name an identity.
+    /// How many of its parts name an identity. A constant names none.
     pub fn named(&self) -> usize {
-        let mut count = named_in(self.parts.few());
+        let mut count = named_in(self.parts.others());
         for group in self.parts.groups() {
             count = count.saturating_add(named_in(group.parts()));
         }
@@ -212,7 +223,7 @@ pub fn keep_all(
     for index in 0..frames.len() {
         take_parts(scratch, &frames[index])?;
         let parts = scratch.as_slice();
-        let frame = KeptFrame::with_parts(alloc, &frames[index], parts, others.get(index))?;
+        let frame = KeptFrame::with_parts(alloc, &frames[index], parts, others.get(index), false)?;
         kept.push(frame)?;
     }
     Ok(kept)

@@ -7,6 +7,7 @@
 
 mod arrivals;
 mod blanks;
+mod constants;
 mod groups;
 mod kept;
 mod kept_frames;

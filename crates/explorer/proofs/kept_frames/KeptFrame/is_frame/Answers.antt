@@ -1,8 +1,9 @@
-use Rattle.std.proofs.Common.{rules, ◌≡◌, ◌++◌, ◌∙◌, ap, sym}
+use Rattle.std.proofs.Common.{rules, ◌≡◌, ◌++◌, ◌∙◌, Option, None, option_to_list, ap, sym}
 use Rattle.std.proofs.lemmas.List.{append-nil}
+use Rattle.state_index.specs.declared.parts.Part.{Part}
 use Rattle.state_index.specs.Parts.{unset_frame, all_written, parts_of, register_parts, slot_parts}
 use Rattle.state_index.proofs.PartLaws.{all_written-parts_of}
-use Rattle.explorer.specs.Groups.{whole, few_of, groups_of}
+use Rattle.explorer.specs.Groups.{whole, constant_of, others_of, few_of, groups_of}
 use Rattle.explorer.proofs.kept_frames.KeptFrame.is_frame.Goals as goal
 
 pub returns : goal.returns
@@ -10,8 +11,11 @@ unfolding parts_of
 returns c = λ yes.
     let frame = c.args.frame.now in
     let slot : c.self.inside.return_slot ≡ frame.return_slot = search rules in
+    let none : constant_of c.self.inside.parts ≡ None = sym c.constant.ensures ∙ c.in-None.is in
     let all : few_of c.self.inside.parts ++ whole (groups_of c.self.inside.parts) ≡ parts_of frame =
-    sym c.of-rest.ensures
+    ap (λ (o : Option Part). (option_to_list o ++ others_of c.self.inside.parts)
+    ++ whole (groups_of c.self.inside.parts)) none
+    ∙ sym c.of-rest.ensures
     ∙ c.are_registers.ensures.same c.if-not-are_registers.false
     ∙ ap (λ l. register_parts 0 frame.registers ++ l)
     (c.are_slots.ensures.same c.if-not-are_slots.false

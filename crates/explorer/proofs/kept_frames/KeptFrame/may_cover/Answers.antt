@@ -5,22 +5,19 @@ use Rattle.explorer.specs.Groups.{whole, few_of, groups_of}
 use Rattle.explorer.proofs.GroupLaws.{All-first, All-others, parts_all, group_all}
 use Rattle.explorer.proofs.kept_frames.KeptFrame.may_cover.Goals as goal
 
-pub returns-then-not-may_cover_all : goal.returns-then-not-may_cover_all
-returns-then-not-may_cover_all c = λ same.
+pub returns-then-not-may_cover_few : goal.returns-then-not-may_cover_few
+returns-then-not-may_cover_few c = λ same.
     let frame = c.args.frame.now in
     let few = (few_of c.self.inside.parts) in
     let groups = (groups_of c.self.inside.parts) in
     let all =
     parts_all frame (few ++ whole groups)
     (sym c.self.invariant ∙ ap parts_of (c.self.view_is ∙ same)) in
-    let yes =
-    c.may_cover_all.ensures
-    (subst (All (IsPartOf frame)) (sym c.few.ensures)
-    (All-first (IsPartOf frame) few (whole groups) all)) in
-    absurd (cc (yes, c.if-not-may_cover_all.true))
+    let yes = c.may_cover_few.ensures (All-first (IsPartOf frame) few (whole groups) all) in
+    absurd (cc (yes, c.if-not-may_cover_few.true))
 
-pub returns-then-not-may_cover_all-2 : goal.returns-then-not-may_cover_all-2
-returns-then-not-may_cover_all-2 c = λ same.
+pub returns-then-not-may_cover_all : goal.returns-then-not-may_cover_all
+returns-then-not-may_cover_all c = λ same.
     let frame = c.args.frame.now in
     let few = (few_of c.self.inside.parts) in
     let groups = c.groups-groups.result.now in
@@ -33,6 +30,6 @@ returns-then-not-may_cover_all-2 c = λ same.
     (All-others (IsPartOf frame) few (whole (groups_of c.self.inside.parts)) all) in
     let here = group_all (IsPartOf frame) groups c.loop-index.index at (omega arith) there in
     let yes =
-    c.may_cover_all-in-loop-index.ensures
+    c.may_cover_all.ensures
     (subst (All (IsPartOf frame)) (sym (c.parts.ensures ∙ c.index-groups-index.is)) here) in
-    absurd (cc (yes, c.if-not-may_cover_all-2.true))
+    absurd (cc (yes, c.if-not-may_cover_all.true))

@@ -12,8 +12,7 @@ loop-index-init c =
     let few = (few_of c.self.inside.parts) in
     let groups = c.groups-groups.result.now in
     ap (λ f. all_written f (whole groups))
-    (c.write_all.ensures ∙ ap (λ f. all_written f c.few.result.now) c.clear_frame.ensures
-    ∙ ap (all_written (unset_frame slot)) c.few.ensures)
+    (c.write_few.ensures ∙ ap (λ f. all_written f few) c.clear_frame.ensures)
     ∙ ap (λ ps. all_written (all_written (unset_frame slot) few) (whole ps)) c.groups-groups.ensures
     ∙ sym (all_written-append (unset_frame slot) few (whole (groups_of c.self.inside.parts)))
     ∙ c.self.view_is
@@ -23,7 +22,7 @@ loop-index-preserved c =
     let groups = c.groups-groups.result.now in
     let i : ℕ = c.loop-index.index in
     ap (λ f. all_written f (whole (drop (i + 1) groups)))
-    (c.write_all-in-loop-index.ensures ∙ ap (all_written c.loop-index.frame) c.parts.ensures)
+    (c.write_all.ensures ∙ ap (all_written c.loop-index.frame) c.parts.ensures)
     ∙ sym (all_written-next c.loop-index.frame groups i c.index-groups-index.result
     (omega arith) c.index-groups-index.is)
     ∙ c.loop-index.invariant

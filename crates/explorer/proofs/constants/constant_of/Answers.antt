@@ -1,0 +1,12 @@
+use Rattle.std.proofs.Common.{refl, ◌∙◌, ap}
+use Rattle.reg_state.specs.declared.scalars.Scalar.{Scalar}
+use Rattle.reg_state.specs.declared.kinds.Kind.TheVariants.{Number}
+use Rattle.explorer.proofs.ConstantsLaws.{constant_numbers-is}
+use Rattle.explorer.proofs.constants.constant_of.Goals as goal
+
+pub returns : goal.returns
+returns c =
+    let numbers = c.in-Number.numbers in
+    c.in-Number.is ∙ ap (λ (s : Scalar). Number s)
+    (constant_numbers-is numbers numbers.bits.value
+    ((refl, c.if-numbers-ne0.false), c.has_limits.ensures c.if-not-has_limits.false))

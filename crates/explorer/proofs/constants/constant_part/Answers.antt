@@ -1,0 +1,11 @@
+use Rattle.std.proofs.Common.{ap}
+use Rattle.reg_state.specs.declared.scalars.Scalar.{Scalar}
+use Rattle.reg_state.specs.declared.kinds.Kind.TheVariants.{Number}
+use Rattle.state_index.specs.declared.parts.Part.TheVariants.{InRegister}
+use Rattle.explorer.proofs.ConstantsLaws.{constant_numbers-is}
+use Rattle.explorer.proofs.constants.constant_part.Goals as goal
+
+pub returns : goal.returns
+returns c =
+    ap (λ (s : Scalar). InRegister c.args.number (Number s))
+    (constant_numbers-is c.constant.result c.args.value c.constant.ensures)

@@ -1,0 +1,14 @@
+use Rattle.std.proofs.Common.{option_to_list, sym, subst}
+use Rattle.std.specs.List.{All}
+use Rattle.state_index.specs.Parts.{IsPartOf}
+use Rattle.explorer.specs.Groups.{constant_of, others_of}
+use Rattle.explorer.proofs.GroupLaws.{All-others}
+use Rattle.explorer.proofs.groups.KeptParts.may_cover_few.Goals as goal
+
+pub returns : goal.returns
+returns c = λ parts.
+    let frame = c.args.frame.now in
+    let kept = c.args.self.now in
+    c.may_cover_all.ensures
+    (subst (All (IsPartOf frame)) (sym c.others.ensures)
+    (All-others (IsPartOf frame) (option_to_list (constant_of kept)) (others_of kept) parts))

@@ -1,0 +1,22 @@
+use Rattle.std.proofs.Common.{◌++◌, ◌∙◌, Option, option_to_list, ap, ap₂, sym}
+use Rattle.state_index.specs.declared.parts.Part.{Part}
+use Rattle.state_index.specs.Parts.{all_written}
+use Rattle.explorer.specs.Groups.{others_of}
+use Rattle.explorer.proofs.groups.KeptParts.write_few.Goals as goal
+use Rattle.explorer.proofs.groups.KeptParts.write_few.Goals.{in-Some, in-None}
+
+pub returns : goal.returns
+unfolding all_written
+returns c =
+    let frame = c.args.frame.now in
+    let kept = c.args.self.now in
+    elim c.match-constant.branch [
+      | in-Some w ↦
+          c.write_all.ensures ∙ ap₂ all_written (w.frame-is ∙ w.write.ensures) c.others.ensures
+          ∙ ap (λ (o : Option Part). all_written frame (option_to_list o ++ others_of kept))
+          (sym w.in-Some.is ∙ c.constant.ensures)
+      | in-None w ↦
+          c.write_all.ensures ∙ ap₂ all_written w.frame-is c.others.ensures
+          ∙ ap (λ (o : Option Part). all_written frame (option_to_list o ++ others_of kept))
+          (sym w.in-None.is ∙ c.constant.ensures)
+    ]
