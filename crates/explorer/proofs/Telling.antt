@@ -4,6 +4,8 @@ use Rattle.std.specs.Prelude.{reverse}
 use Rattle.std.proofs.lemmas.List.{reverse-append}
 use Rattle.isa_model.specs.Code.Instructions.{Program}
 use Rattle.stack_state.specs.declared.states.State.{State}
+use Rattle.stack_state.specs.Starts.{start}
+use Rattle.walks.specs.Forgetting.{Forgets}
 use Rattle.walks.specs.Walks.{StepsTo}
 use Rattle.explorer.specs.Search.{IfStepsTo, IsArrival, AfterMove, HasEnded}
 use Rattle.walks.specs.declared.refusals.Refusal.{Refusal}
@@ -59,6 +61,16 @@ pub steps_by_arrival : (p : Program) (s : State) (old new : List Visit) (current
 steps_by_arrival p s old new current (New stored) h into = into
 steps_by_arrival p s old new current (Covered k n) h into = into
 steps_by_arrival p s old new current (Finished n) h into = absurd h
+
+-- a search stops at its start only if the path comes back to it, or if memory runs out
+pub begin_fails : (p : Program) (current now : State) (e : Refusal) (slot : ℕ) → now ≡ current
+    → Forgets p start current → ComesBackAt current e slot → BeginFails p now e slot
+begin_fails p current now (Flow e) slot same begins h = absurd h
+begin_fails p current now (Step e) slot same begins h = absurd h
+begin_fails p current now Repeats slot same begins h =
+    (ap (λ (x : State). x.slot) same ∙ h, subst (Forgets p start) (sym same) begins)
+begin_fails p current now TooLong slot same begins h = absurd h
+begin_fails p current now Memory slot same begins h = tt
 
 pub step_fails : (p : Program) (s current now : State) (e : Refusal) (slot : ℕ) → now ≡ current
     → StepsTo p s current → ComesBackAt current e slot → StepFails p s now e slot

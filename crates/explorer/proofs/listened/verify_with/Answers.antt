@@ -26,3 +26,9 @@ returns-in-Err-clause-accepts g c =
     let program = IsProgram-IsImage c.args.image c.recall.ensures in
     accepting c.args.image c.in-Err.halt program
     (rw c.in-Err.is at c.search_with-result.ensures.refused)
+
+pub returns-in-Ok-clause-refused : goal.returns-in-Ok-clause-refused
+returns-in-Ok-clause-refused g c = tt
+
+pub returns-in-Ok-clause-accepts : goal.returns-in-Ok-clause-accepts
+returns-in-Ok-clause-accepts g c = tt

@@ -1,11 +1,14 @@
 use Rattle.std.proofs.Common.{◌+◌, List, arith, refl, length, ap, subst}
+use Rattle.std.proofs.lemmas.Result.{IfErr-weaker}
 use Rattle.explorer.specs.declared.trail.Visit.{Visit}
+use Rattle.explorer.specs.Listening.{ComesBackAt, BeginFails}
 use Rattle.walks.specs.Forgetting.{Forgets}
 use Rattle.walks.proofs.Forgotten.{Forgets-forgotten}
 use Rattle.explorer.proofs.Counting.{CountsTo-here}
 use Rattle.explorer.proofs.Paths.{Path-here}
 use Rattle.explorer.proofs.Unfinished.{OnPath-start}
 use Rattle.explorer.proofs.Starts.{empty_fine, starts_ready}
+use Rattle.explorer.proofs.Telling.{begin_fails}
 use Rattle.explorer.proofs.search.Search.begin.Goals as goal
 
 pub come-requires-clause-comes : goal.come-requires-clause-comes
@@ -36,3 +39,15 @@ pub come-requires-clause-forgotten : goal.come-requires-clause-forgotten
 come-requires-clause-forgotten c = λ none.
     Forgets-forgotten c.args.flow.now c.args.self.now.current c.forget.new.state
     c.forget.ensures.forgets
+
+pub returns-clause-stops : goal.returns-clause-stops
+returns-clause-stops c = c.come.ensures.stops
+
+pub returns-clause-fails : goal.returns-clause-fails
+returns-clause-fails c =
+    let p = c.args.flow.now in
+    let s = c.forget.new.state in
+    let now = c.come.new.self.current in
+    let begins = subst (λ x. Forgets p x s) c.requires.new.current c.forget.ensures.forgets in
+    IfErr-weaker c.come.result (λ r. ComesBackAt s r.0 r.1) (λ r. BeginFails p now r.0 r.1)
+    (λ r at. begin_fails p s now r.0 r.1 c.come.ensures.current begins at) c.come.ensures.fails

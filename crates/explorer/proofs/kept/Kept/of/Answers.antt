@@ -1,0 +1,5 @@
+use Rattle.std.proofs.Common.{rules}
+use Rattle.explorer.proofs.kept.Kept.of.Goals as goal
+
+pub of_parts-requires : goal.of_parts-requires
+of_parts-requires c = search rules
