@@ -98,9 +98,16 @@ impl<'a> FinishedCandidates<'a> {
         if self.sought.is_none() {
             self.sought = tree.sought(self.limits);
         }
-        let sought = self.sought.as_mut()?;
-        sought[0] = !(before.checked_sub(1)? as u64);
-        let row_index = tree.next_from(self.row_index, sought, effort)?;
+        let Some(sought) = &mut self.sought else {
+            return None;
+        };
+        let Some(last) = before.checked_sub(1) else {
+            return None;
+        };
+        sought[0] = !(last as u64);
+        let Some(row_index) = tree.next_from(self.row_index, sought, effort) else {
+            return None;
+        };
         self.row_index = row_index.saturating_add(1);
         tree.index_at(row_index)
     }

@@ -67,10 +67,15 @@ impl TreeSets {
 
     /// The index of the set in which this is known.
     fn find(&self, known: u64) -> Option<usize> {
-        let mut next = *self.buckets.get(bucket_of(known, self.buckets.len()))?;
+        let Some(first) = self.buckets.get(bucket_of(known, self.buckets.len())) else {
+            return None;
+        };
+        let mut next = *first;
         for _tried in 0..self.sets.len() {
             let index = next as usize;
-            let set = self.sets.get(index)?;
+            let Some(set) = self.sets.get(index) else {
+                return None;
+            };
             if set.known == known {
                 return Some(index);
             }
