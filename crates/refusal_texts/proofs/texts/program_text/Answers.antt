@@ -1,4 +1,5 @@
-use Rattle.std.proofs.Common.{◌∙◌, ◌++◌, ap, inr}
+use Rattle.std.proofs.Common.{◌∙◌, ◌++◌, ap, inr, subst, sym}
+use Rattle.std.specs.Prelude.{T, is_none}
 use Rattle.std.specs.String.{string_bytes}
 use Rattle.isa_model.specs.Code.Instructions.{fetch}
 use Rattle.refusal_texts.specs.Texts.{program_front, insn_end}
@@ -18,3 +19,8 @@ returns-in-Ok-extend_from_slice-clause-text c = record {
       ∙ ap (λ i. c.into_bytes-text.result.items ++ insn_end i) c.at.ensures)
       c.as_bytes.ensures.value c.in-Ok-extend_from_slice.ensures.items;
 }
+
+pub returns-in-Ok-extend_from_slice-clause-unasked : goal.returns-in-Ok-extend_from_slice-clause-unasked
+returns-in-Ok-extend_from_slice-clause-unasked c = λ no.
+    absurd (subst (λ r. T (is_none r)) (sym (c.known_of-known.ensures.unasked no) ∙ c.in-Some.is)
+    tt)

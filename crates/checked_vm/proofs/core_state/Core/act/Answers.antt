@@ -1,4 +1,4 @@
-use Rattle.std.proofs.Common.{◌≡◌, length, sym, ap, ◌∙◌, FitsSigned, w32, rules}
+use Rattle.std.proofs.Common.{◌≡◌, length, sym, ap, ◌∙◌, FitsSigned, w32, rules, arith}
 use Rattle.std.proofs.lemmas.Int.{to_z-of_z}
 use Rattle.isa_model.specs.Code.Limits.{max_call_frames}
 use Rattle.isa_model.specs.Machine.Steps.{Next, act}
@@ -130,3 +130,10 @@ returns-in-CompareExchange-clause-stays c =
 pub returns-in-JumpIf-clause-stays : goal.returns-in-JumpIf-clause-stays
 returns-in-JumpIf-clause-stays c =
     stays_running c.args.self.now c.do_jump_if.new.self c.do_jump_if.ensures.kept c.requires.running
+
+pub enter-requires-clause-few : goal.enter-requires-clause-few
+enter-requires-clause-few c =
+    let few = c.requires.running.few in
+    let count = c.depth.ensures.len in
+    let not_full = c.if-depth-eq-MAX_CALL_FRAMES.false in
+    omega arith

@@ -52,3 +52,6 @@ returns-clause-done c = λ p rows.
     ∙ ap Ok (updated core packet row index key bytes flags c.update-answer.result
     c.update-answer.new.self answer_is c.update-answer.ensures.updated))
     ∙ ap Next (sym (c.answer.ensures.state packet))
+
+pub returns-in_err-read_argument-clause-done : goal.returns-in_err-read_argument-clause-done
+returns-in_err-read_argument-clause-done c = search rules

@@ -1,4 +1,5 @@
-use Rattle.std.proofs.Common.{arith, ℕ, ◌/◌, ◌%◌, ◌+◌, Some, subst}
+use Rattle.std.proofs.Common.{arith, ℕ, ◌/◌, ◌%◌, ◌+◌, Some, subst, sym, ◌∙◌}
+use Rattle.std.specs.Prelude.{T}
 use Rattle.std.proofs.lemmas.List.{get_or_default}
 use Rattle.stack_state.specs.declared.slots.StackSlot.{StackSlot}
 use Rattle.stack_state.specs.declared.slots.StackSlot.TheVariants.{Written}
@@ -22,3 +23,22 @@ returns-then-is_bytes-clause-meant c =
 pub returns-else-is_bytes-clause-meant : goal.returns-else-is_bytes-clause-meant
 unfolding LoadsNumber
 returns-else-is_bytes-clause-meant c = tt
+
+pub returns-then-is_bytes-clause-exact : goal.returns-then-is_bytes-clause-exact
+returns-then-is_bytes-clause-exact c =
+    let slots = c.args.self.now.slots in
+    let at : ℕ = c.args.at in
+    let same = get_or_default slots (at / 8) c.index-self-at.result (Written 0) (omega arith) in (
+      subst (λ (n : ℕ). AreMarked slots at (at + n)) c.bytes.ensures.value
+          (c.is_bytes.ensures.exact.0 c.if-is_bytes.true),
+      subst (λ (s : StackSlot). AreNumbers s (at % 8) c.args.size c.numbers.result) same
+          c.numbers.ensures,
+    )
+
+pub returns-else-is_bytes-clause-exact : goal.returns-else-is_bytes-clause-exact
+returns-else-is_bytes-clause-exact c = λ marked.
+    let slots = c.args.self.now.slots in
+    let at : ℕ = c.args.at in
+    let counted = subst (λ (n : ℕ). AreMarked slots at (at + n)) (sym c.bytes.ensures.value)
+    marked in
+    absurd (subst T (sym (sym c.if-is_bytes.false ∙ c.is_bytes.ensures.exact.1 counted)) tt)

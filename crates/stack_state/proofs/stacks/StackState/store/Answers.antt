@@ -19,3 +19,17 @@ returns-clause-meant c =
     (ap (λ (m : ℕ). set slots (at / 8) (Written (bit_or m c.mask.result))) marks
     ∙ ap (λ (m : ℕ). set slots (at / 8) (Written (bit_or (marks_of (slot_at slots (at / 8))) m)))
     mask)
+
+pub returns-clause-exact : goal.returns-clause-exact
+returns-clause-exact c =
+    let slots = c.args.self.now.slots in
+    let at : ℕ = c.args.at in
+    let marks : c.marks.result ≡ marks_of (slot_at slots (at / 8)) =
+    c.marks.ensures
+    ∙ ap marks_of
+    (get_or_default slots (at / 8) c.index-self-at.result (Written 0) (omega arith)) in
+    let mask = c.mask.ensures
+    ∙ ap (λ (n : ℕ). mask_of (at % 8) (at % 8 + n)) c.bytes.ensures.value in
+    ap (λ (m : ℕ). set slots (at / 8) (Written (bit_or m c.mask.result))) marks
+    ∙ ap (λ (m : ℕ). set slots (at / 8) (Written (bit_or (marks_of (slot_at slots (at / 8))) m)))
+    mask
