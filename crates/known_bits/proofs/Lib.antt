@@ -16,3 +16,4 @@ pub mod Copies
 pub mod ProductZeros
 pub mod Reversed
 pub mod MemberLaws
+pub mod SameBits

@@ -2,25 +2,14 @@
 -- limits, and that they make nothing where the bits overlap or a least limit is over its greatest.
 use Rattle.std.specs.Prelude.{◌≡◌, ℕ, ◌^◌, ◌<◌, ◌≤◌, ℤ, ◌≤ℤ◌, ◌⊎◌, Some, None, bit_and, refl}
 use Rattle.std.proofs.Common.{inl, inr, ap, sym, ◌∙◌}
-use Rattle.std.proofs.Props.{props}
 use Rattle.std.proofs.lemmas.Bool.{cases_eq}
 use Rattle.known_bits.specs.declared.bits.Bits.{Bits}
+use Rattle.known_bits.proofs.SameBits.{one_proof, one_less}
 use Rattle.ranges.specs.declared.wide.Wide.{Wide}
 use Rattle.ranges.specs.declared.low.Low.{Low}
+use Rattle.ranges.proofs.SameLimits.{one_order, one_order_z}
 use Rattle.table_entries.specs.Deciding.{decide, decide_less, decide_z}
 use Rattle.table_entries.specs.Kinds.{bits_when, bits_of, ordered_when, wide_with, wide_of, low_with, low_of, limits_when, limits_of}
-
-one_proof : (n m : ℕ) (p q : n ≡ m) → p ≡ q
-one_proof n m p q = let prop : IsProp (n ≡ m) = hlevel props in prop p q
-
-one_order : (n m : ℕ) (p q : n ≤ m) → p ≡ q
-one_order n m p q = let prop : IsProp (n ≤ m) = hlevel props in prop p q
-
-one_order_z : (n m : ℤ) (p q : n ≤ℤ m) → p ≡ q
-one_order_z n m p q = let prop : IsProp (n ≤ℤ m) = hlevel props in prop p q
-
-one_less : (n m : ℕ) (p q : n < m) → p ≡ q
-one_less n m p q = let prop : IsProp (n < m) = hlevel props in prop p q
 
 pub bits_of-is : (b : Bits) → bits_of b.value b.mask ≡ Some b
 unfolding bits_of
