@@ -1,7 +1,10 @@
 -- A trail with one visit more, or one less.
-use Rattle.std.proofs.Common.{◌≡◌, ◌∙◌, ℕ, ◌+◌, ◌≤◌, List, [], ◌∷◌, ◌++◌, length, length-append, Bool, true, false, Option, Some, None, refl, sym, ap, arith}
+use Rattle.std.proofs.Common.{◌≡◌, ◌∙◌, ℕ, suc, ◌+◌, ◌≤◌, List, [], ◌∷◌, ◌++◌, take, set, get_or, length, length-append, Bool, true, false, Option, Some, None, refl, sym, ap, arith}
 use Rattle.std.specs.Prelude.{is_some, option_to_list}
+use Rattle.std.proofs.Math.Seq.{get_or-append_seam}
+use Rattle.std.proofs.lemmas.List.{set_split, set-get_or, drop_all}
 use Rattle.stack_state.specs.declared.states.State.{State}
+use Rattle.explorer.specs.declared.trail.Visit.{Visit}
 use Rattle.explorer.specs.declared.trail.KeptVisit.{KeptVisit}
 use Rattle.explorer.specs.Trail.{pending_of, states_left, visits_of, one_if, waiting_count}
 
@@ -135,3 +138,32 @@ unfolding visits_of
 length-visits_of [] states = refl
 length-visits_of (kept ∷ visits) states =
     let rest = length-visits_of visits (states_left kept.waits states) in omega (arith, rest)
+
+-- ---- the last visit
+
+-- it is written again
+pub last_set : (whole : List KeptVisit) (i : ℕ) (kept : KeptVisit) → i + 1 ≡ length whole
+    → set whole i kept ≡ take i whole ++ kept ∷ []
+last_set whole i kept last =
+    set_split whole i kept (omega (arith, last))
+    ∙ ap (λ l. take i whole ++ kept ∷ l) (drop_all (suc i) whole (omega (arith, last)))
+
+pub last_read : (whole : List KeptVisit) (i : ℕ) (d : KeptVisit) → i + 1 ≡ length whole
+    → whole ≡ take i whole ++ get_or whole i d ∷ []
+last_read whole i d last = sym (set-get_or whole i d) ∙ last_set whole i (get_or whole i d) last
+
+-- a path has one last visit
+pub last_visit : (path others : List Visit) (visit other : Visit)
+    → path ++ visit ∷ [] ≡ others ++ other ∷ [] → visit ≡ other
+last_visit path others visit other same =
+    let count : length path ≡ length others =
+    omega (
+      arith,
+      ap length same,
+      length-append path (visit ∷ []),
+      length-append others (other ∷ []),
+    ) in
+    sym (get_or-append_seam path visit [] visit)
+    ∙ ap (λ l. get_or l (length path) visit) same
+    ∙ ap (λ (n : ℕ). get_or (others ++ other ∷ []) n visit) count
+    ∙ get_or-append_seam others other [] visit

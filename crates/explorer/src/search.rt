@@ -185,32 +185,18 @@ impl Search {
         ensures explored { OnOk result (self.new.finished + length self.new.path.items
             ≡ self.old.finished + length self.old.path.items) }
     {
+        if let Some(other) = self.path.take_last_pending(ended) {
+            other.restore(&mut self.current);
+            let made = self.come(alloc, flow, Some(other))?;
+            return Ok(Some(made));
+        }
         let Some(visit) = self.path.pop() else {
             return Ok(None);
         };
-        let Visit {
-            pending,
-            best,
-            stored,
-        } = visit;
-        let best = best.max(ended);
-        let Some(other) = pending else {
-            let number = best + 1;
-            self.finished += 1;
-            self.states.finish(stored, number);
-            return Ok(Some(Move::Finished(number)));
-        };
-        other.restore(&mut self.current);
-        let rest = Visit {
-            pending: None,
-            best,
-            stored,
-        };
-        let Ok(()) = self.path.push(rest) else {
-            return Err(NO_MEMORY);
-        };
-        let made = self.come(alloc, flow, Some(other))?;
-        Ok(Some(made))
+        let number = visit.best.max(ended) + 1;
+        self.finished += 1;
+        self.states.finish(visit.stored, number);
+        Ok(Some(Move::Finished(number)))
     }
 
     /// Calls the listener for a move, and goes back along the path to what is next.

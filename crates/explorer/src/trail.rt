@@ -1,7 +1,7 @@
 //! The path from the start to the current state.
 
 ghost use Rattle.std.specs.Prelude.{◌≡◌, ◌≤◌, ◌+◌, ◌++◌, ◌∷◌, [], length, MatchOption, OnOk, OnErr, IfOk, option_to_list, is_some};
-ghost use Rattle.explorer.specs.Trail.{one_if};
+ghost use Rattle.explorer.specs.Trail.{one_if, TakesLastPending};
 
 use crate::kept::Kept;
 use std::alloc::{AllocError, Global};
@@ -152,6 +152,27 @@ impl Trail {
             return Err(AllocError);
         };
         Ok(())
+    }
+
+    /// Takes what is pending at the last visit, if anything is. The visit stays: a state after it
+    /// has this number.
+    #[inline(always)]
+    pub fn take_last_pending(&mut self, number: u32) -> Option<Kept>
+        ensures { TakesLastPending number self.old.items result self.new.items }
+    {
+        let Some(last) = self.visits.len().checked_sub(1) else {
+            return None;
+        };
+        let kept = self.visits[last];
+        if !kept.waits {
+            return None;
+        }
+        self.visits[last] = KeptVisit {
+            best: kept.best.max(number),
+            stored: kept.stored,
+            waits: false,
+        };
+        take_pending(&mut self.pending, &mut self.words, true)
     }
 
     /// Takes the last visit.

@@ -1,4 +1,4 @@
-use Rattle.std.proofs.Common.{◌≡◌, ◌∙◌, ℕ, ◌+◌, List, Some, None, arith, sym, ap, length, subst}
+use Rattle.std.proofs.Common.{◌≡◌, ◌∙◌, ◌++◌, ◌∷◌, [], ◌+◌, List, Some, refl, arith, sym, ap, length, subst}
 use Rattle.explorer.specs.declared.trail.Visit.{Visit}
 use Rattle.explorer.specs.Search.{Settles, HasSpent, Path}
 use Rattle.explorer.proofs.StoredStatesLaws.{Settles-start}
@@ -7,58 +7,73 @@ use Rattle.explorer.proofs.Unfinished.{OnPath-pop}
 use Rattle.explorer.proofs.Counting.{spent_back}
 use Rattle.explorer.proofs.SearchMoves.{goes_back, comes_aside}
 use Rattle.explorer.proofs.search.Search.back.Goals as goal
-use Rattle.explorer.proofs.search.Search.back.Goals.{In-Some}
+use Rattle.explorer.proofs.search.Search.back.Goals.{In-Some-pop}
 
-last_of : (c : In-Some)
+-- nothing is pending there: the last visit is taken
+taken : (c : In-Some-pop)
+    → c.args.self.now.path.items ≡ c.pop.new.self.items ++ c.in-Some-pop.visit ∷ []
+taken c = sym c.in_default.ensures.0 ∙ c.in-Some-pop.ensures.items
+
+last_of : (c : In-Some-pop)
     → LastVisit c.args.flow.now c.args.self.now.finished c.args.self.now.states.states.items
-    c.requires.at.at.first c.pop.new.self.items c.in-Some.visit c.requires.at.state
+    c.requires.at.at.first c.pop.new.self.items c.in-Some-pop.visit c.requires.at.state
 last_of c =
     let p = c.args.flow.now in
     let search = c.args.self.now in
     let at = c.requires.at in
-    Path-pop p search.finished search.states.states.items c.pop.new.self.items c.in-Some.visit
-    at.at.first at.state
+    Path-pop p search.finished search.states.states.items c.pop.new.self.items
+    c.in-Some-pop.visit at.at.first at.state
     (subst (λ (x : List Visit). Path p search.finished search.states.states.items at.at.first x
-    at.state) c.in-Some.ensures.items at.at.path)
+    at.state) (taken c) at.at.path)
 
-pub returns-in_default-clause-moves : goal.returns-in_default-clause-moves
-returns-in_default-clause-moves c =
+pub come-requires-clause-comes : goal.come-requires-clause-comes
+come-requires-clause-comes c =
+    let on = c.in-Some.ensures in
+    comes_aside c.args.flow.now c.args.self.now on.path on.visit _ c.take_last_pending.new.self
+    c.args.ended c.restore.new.state c.requires.at on.was
+    (on.pending ∙ ap Some (sym c.restore.ensures)) refl on.now
+
+pub returns-in_default-pop-clause-moves : goal.returns-in_default-pop-clause-moves
+returns-in_default-pop-clause-moves c =
     let p = c.args.flow.now in
     let search = c.args.self.now in
     let at = c.requires.at in
+    let none : length search.path.items ≡ 0 =
+    ap length (sym c.in_default.ensures.0) ∙ c.in_default-pop.ensures.cases.0 in
     let same =
     Path-none p search.finished search.states.states.items search.path.items at.at.first
-    at.state (omega (arith, c.in_default.ensures.cases.0)) at.at.path in
+    at.state none at.at.path in
     let settled = subst (λ x. Settles p x c.args.ended) same at.settled in
     (Settles-start p at.at.first c.args.ended at.at.begins settled, at.some, at.most)
 
 pub overflow_add-number : goal.overflow_add-number
 overflow_add-number c =
-    let last = last_of (goal.at.overflow_add-number c).In-Some in
-    omega (arith, last.waiting.best, c.requires.at.most, c.requires.room)
+    let last = last_of (goal.at.overflow_add-number c).In-Some-pop in
+    omega (arith, last.waiting.best, c.requires.at.most, c.requires.room, c.max-number.ensures)
 
 pub finish-requires : goal.finish-requires
 finish-requires c =
-    let last = last_of (goal.at.finish-requires c).In-Some in
+    let last = last_of (goal.at.finish-requires c).In-Some-pop in
     (last.state, last.waiting.stored)
 
-pub returns-in_default-pending-clause-moves : goal.returns-in_default-pending-clause-moves
-returns-in_default-pending-clause-moves c =
+pub returns-clause-moves : goal.returns-clause-moves
+returns-clause-moves c =
     let p = c.args.flow.now in
     let search = c.args.self.now in
     let states = search.states.states.items in
     let path = c.pop.new.self.items in
-    let visit = c.in-Some.visit in
+    let visit = c.in-Some-pop.visit in
     let at = c.requires.at in
-    let last = last_of (goal.at.returns-in_default-pending-clause-moves c).In-Some in
-    let on_path =
-    OnPath-pop states path search.path.items visit c.in-Some.ensures.items at.on_path in
+    let here = (goal.at.returns-clause-moves c).In-Some-pop in
+    let items = taken here in
+    let last = last_of here in
+    let on_path = OnPath-pop states path search.path.items visit items at.on_path in
     let back = goes_back p search.finished states c.finish.new.self.states.items at.at.first path
-    visit at.state c.args.ended c.max-best.result
-    at.at.begins at.at.fine last on_path at.settled at.most c.in_default-pending.is
-    c.max-best.ensures c.finish.ensures in
+    visit at.state c.args.ended c.max-number.result
+    at.at.begins at.at.fine last on_path at.settled at.most
+    (c.in_default.ensures.1 path visit items) c.max-number.ensures c.finish.ensures in
     let same : search.finished + length search.path.items ≡ search.finished + 1 + length path =
-    omega (arith, c.in-Some.ensures.cases) in
+    omega (arith, c.in-Some-pop.ensures.cases, ap length c.in_default.ensures.0) in
     record {
       state = back.state;
       at =
@@ -73,17 +88,7 @@ returns-in_default-pending-clause-moves c =
       spent =
           subst (λ n. HasSpent p at.at.first path n) same
           (spent_back p at.at.first path search.path.items visit
-          (search.finished + length search.path.items) c.in-Some.ensures.items at.spent);
+          (search.finished + length search.path.items) items at.spent);
       some = omega arith;
       most = back.most;
     }
-
-pub come-requires-clause-comes : goal.come-requires-clause-comes
-come-requires-clause-comes c =
-    let visit = c.in-Some.visit in
-    let rest : Visit = record { pending = None; best = c.max-best.result; stored = visit.stored } in
-    comes_aside c.args.flow.now c.args.self.now c.pop.new.self.items visit rest c.push.new.self
-    c.args.ended c.restore.new.state c.requires.at
-    c.in-Some.ensures.items (c.in-Some-pending.is ∙ ap Some (sym c.restore.ensures))
-    (ap (λ (b : ℕ). record { pending = None; best = b; stored = visit.stored }) c.max-best.ensures)
-    c.in-Ok.ensures.items
