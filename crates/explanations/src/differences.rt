@@ -51,7 +51,7 @@ pub fn stack_words(
 {
     let known = frame_of(state, frame)
         .stack
-        .slots
+        .slots()
         .get(slot)
         .copied()
         .unwrap_or(StackSlot::Written(0));

@@ -8,7 +8,7 @@ ghost use Rattle.explanations.specs.Mismatches.{IsInBoth, Differs, IsMismatch};
 
 use image::Image;
 use reg_state::Kind;
-use stack_state::{AbstractFrame, FRAME_SLOTS, StackSlot, StackState, State};
+use stack_state::{AbstractFrame, FRAME_SLOTS, StackState, State};
 use state_cover::covers;
 use table_entries::Table;
 
@@ -44,18 +44,20 @@ pub fn frame_of(state: &State, frame: usize) -> &AbstractFrame
 
 /// The front of a frame: as many registers and stack slots as these. Nothing is known of others.
 fn front_of(whole: &AbstractFrame, register_count: usize, slot_count: usize) -> AbstractFrame {
+    let registers = &whole.registers;
     let mut kinds = [Kind::Unset; 10];
     for index in 0..register_count.min(10) {
-        kinds[index] = whole.registers[index];
+        kinds[index] = registers[index];
     }
-    let mut stack = [StackSlot::Written(0); FRAME_SLOTS];
+    let slots = whole.stack.slots();
+    let mut stack = StackState::new();
     for index in 0..slot_count.min(FRAME_SLOTS) {
-        stack[index] = whole.stack.slots[index];
+        stack.set(index, slots[index]);
     }
     AbstractFrame {
         return_slot: whole.return_slot,
         registers: kinds,
-        stack: StackState { slots: stack },
+        stack,
     }
 }
 
@@ -68,7 +70,7 @@ fn part_of(state: &State, frame: usize, register_count: usize, slot_count: usize
     for index in 0..callers.len() {
         let caller = &callers[index];
         let front = if index < frame {
-            *caller
+            caller.copy()
         } else if index == frame {
             front_of(caller, register_count, slot_count)
         } else {

@@ -74,7 +74,7 @@ fn slot_of(state: &State, frame: u8, slot: usize) -> StackSlot
 {
     match state.stack_of(frame) {
         Some(stack) => stack
-            .slots
+            .slots()
             .get(slot)
             .copied()
             .unwrap_or(StackSlot::Written(0)),

@@ -5,12 +5,11 @@ ghost use Rattle.state_index.specs.Parts.{unset_frame};
 
 use reg_state::Kind;
 use stack_state::AbstractFrame;
-use walks::clear_slots;
 
 /// Forgets what is known of a call frame.
 pub fn clear_frame(frame: &mut AbstractFrame)
     ensures { frame.new ≡ unset_frame frame.old.return_slot }
 {
     frame.registers = [Kind::Unset; 10];
-    clear_slots(&mut frame.stack.slots);
+    frame.stack.clear();
 }

@@ -214,11 +214,7 @@ impl Kept {
         ensures { state.new ≡ self.now }
     {
         state.slot = self.slot as usize;
-        restore_all(
-            self.callers.as_ref().as_slice(),
-            &mut state.callers,
-            &state.innermost,
-        );
+        restore_all(self.callers.as_ref().as_slice(), &mut state.callers);
         self.innermost.restore(&mut state.innermost);
     }
 }

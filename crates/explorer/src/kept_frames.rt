@@ -76,7 +76,7 @@ impl KeptFrame {
         if !are_registers(&mut rest, &frame.registers) {
             return false;
         }
-        if !are_slots(&mut rest, &frame.stack.slots) {
+        if !are_slots(&mut rest, frame.stack.slots()) {
             return false;
         }
         rest.is_empty()
@@ -229,27 +229,23 @@ pub fn keep_all(
     Ok(kept)
 }
 
-/// Makes the list this long; new frames are copies of this one.
-fn resize(frames: &mut ArrayVec<AbstractFrame, MAX_CALLERS>, count: usize, frame: &AbstractFrame)
+/// Makes the list this long.
+fn resize(frames: &mut ArrayVec<AbstractFrame, MAX_CALLERS>, count: usize)
     requires { count ≤ 7 }
     ensures { length frames.new.items ≡ count }
 {
     frames.truncate(count);
     for _more in frames.len()..count {
-        frames.push(*frame);
+        frames.push(AbstractFrame::default());
     }
 }
 
 /// Makes each frame like the one of its index that was kept.
-pub fn restore_all(
-    kept: &[KeptFrame],
-    frames: &mut ArrayVec<AbstractFrame, MAX_CALLERS>,
-    filler: &AbstractFrame,
-)
+pub fn restore_all(kept: &[KeptFrame], frames: &mut ArrayVec<AbstractFrame, MAX_CALLERS>)
     requires { length kept.now ≤ 7 }
     ensures { frames.new.items ≡ kept.now }
 {
-    resize(frames, kept.len(), filler);
+    resize(frames, kept.len());
     for index in 0..kept.len() {
         kept[index].restore(&mut frames[index]);
     }

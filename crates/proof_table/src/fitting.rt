@@ -151,7 +151,7 @@ fn frame_fits(rows: usize, holder: usize, outer: bool, frame: &AbstractFrame) ->
     if !kinds_fit(rows, holder, &frame.registers) {
         return false;
     }
-    stack_slots_fit(rows, holder, &frame.stack.slots)
+    stack_slots_fit(rows, holder, frame.stack.slots())
 }
 
 // Whether a table can spell outer call frames.

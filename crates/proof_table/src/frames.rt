@@ -47,7 +47,7 @@ pub fn spell_frame(frame: &AbstractFrame, buffer: &mut Vec<u8>) -> Result<(), Al
 {
     spell_code_slot(frame.return_slot, buffer)?;
     spell_registers(&frame.registers, buffer)?;
-    spell_stack_slots(&frame.stack.slots, buffer)
+    spell_stack_slots(frame.stack.slots(), buffer)
 }
 
 /// Puts frames after what the buffer has, one after the other.

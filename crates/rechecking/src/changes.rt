@@ -98,7 +98,7 @@ pub fn are_slots_kept(change: KindChange, slots: &[StackSlot]) -> bool
 fn is_frame_kept(change: KindChange, frame: &AbstractFrame) -> bool
     ensures { IsTrue result → IsFrameUnchanged change frame.now }
 {
-    are_kinds_kept(change, &frame.registers) && are_slots_kept(change, &frame.stack.slots)
+    are_kinds_kept(change, &frame.registers) && are_slots_kept(change, frame.stack.slots())
 }
 
 /// How many frames come before the first one that does not stay as it is.

@@ -70,7 +70,7 @@ fn left_by(change: KindChange, state: &State) -> UntouchedParts
 {
     UntouchedParts {
         frames: frames_kept(change, state.callers.as_slice()),
-        slots: are_slots_kept(change, &state.innermost.stack.slots),
+        slots: are_slots_kept(change, state.innermost.stack.slots()),
     }
 }
 

@@ -1,3 +1,4 @@
+pub mod BlankLaws
 pub mod CallLaws
 pub mod CellLaws
 pub mod EffectLaws

@@ -1,5 +1,5 @@
 -- The slots of a call frame, and what the methods of `StackState` do with them.
-use Rattle.std.specs.Prelude.{◌≡◌, ◌≢◌, ℕ, ◌+◌, ◌-◌, ◌*◌, ◌/◌, ◌%◌, ◌^◌, ◌<◌, ◌≤◌, ◌==◌, ◌↔◌, List, map, slice_set, slice_index_or, Option, Some, None, bit_or, if◌then◌else◌}
+use Rattle.std.specs.Prelude.{◌≡◌, ◌≢◌, ℕ, ◌+◌, ◌-◌, ◌*◌, ◌/◌, ◌%◌, ◌^◌, ◌<◌, ◌≤◌, ◌==◌, ◌↔◌, List, length, map, slice_set, slice_index_or, Option, Some, None, bit_or, if◌then◌else◌}
 use Rattle.std.specs.Int.{bit_at}
 use Rattle.isa_model.specs.Code.Limits.{stack_size}
 use Rattle.isa_model.specs.declared.sizes.Size.{Size}
@@ -24,6 +24,20 @@ slot_at slots k = slice_index_or slots k (Written 0)
 abbrev pub kind_in : StackSlot → Kind
 kind_in (Written marks) = Unset
 kind_in (Spilled k) = k
+
+-- what is known of the bytes of a call frame
+pub record StackSlots : Type 0 where
+  pub slots : List StackSlot
+
+-- nothing is known of the slots before one
+abbrev pub AreBlankBefore : ℕ → List StackSlot → Type 0
+AreBlankBefore end slots = (k : ℕ) → k < end → slot_at slots k ≡ Written 0
+
+-- something may be known only of the slots from one on
+pub record AreKnownFrom (from : ℕ) (slots : List StackSlot) : Type 0 where
+  pub inside : from ≤ frame_slots
+  pub blank : AreBlankBefore from slots
+  pub wide : length slots ≡ frame_slots
 
 -- ---- marks
 

@@ -79,7 +79,7 @@ impl State {
         requires slot { self.old.slot + 1 < 2 ^ 63 }
         ensures { self.new ≡ entered self.old target }
     {
-        let mut caller = self.innermost;
+        let mut caller = self.innermost.copy();
         caller.become_caller();
         self.callers.push(caller);
         self.innermost.become_callee(self.slot + 1);

@@ -1,11 +1,13 @@
 //! What becomes known of values wherever they are: in registers and slots of all live call frames.
 
-ghost use Rattle.std.specs.Prelude.{◌≡◌, map};
+ghost use Rattle.std.specs.Prelude.{◌≡◌, ◌<◌, map, slice_set};
+ghost use Rattle.stack_state.specs.Slots.{frame_slots, slot_at};
 ghost use Rattle.stack_state.specs.Effects.{proved_kind, tested_kind, with_spilled, with_kinds, map_kinds};
 ghost use Rattle.stack_state.specs.Calls.{without_frame};
 ghost use Rattle.stack_state.specs.Facts.{learned, is_plain};
 
 use crate::slots::StackSlot;
+use crate::stacks::{FRAME_SLOTS, StackState};
 use crate::states::{AbstractFrame, State};
 use reg_state::{Kind, Scalar};
 
@@ -128,16 +130,6 @@ fn learn_kind(fact: Fact, kind: &mut Kind)
     *kind = learned_kind(fact, *kind);
 }
 
-#[inline(always)]
-fn learn_slot(fact: Fact, slot: &mut StackSlot)
-    ensures { slot.new ≡ with_spilled (learned fact) slot.old }
-{
-    match slot {
-        StackSlot::Spilled(kind) => learn_kind(fact, kind),
-        StackSlot::Written(_) => {}
-    }
-}
-
 fn learn_kinds(fact: Fact, kinds: &mut [Kind])
     ensures { kinds.new ≡ map (learned fact) kinds.old }
 {
@@ -146,11 +138,26 @@ fn learn_kinds(fact: Fact, kinds: &mut [Kind])
     }
 }
 
-fn learn_slots(fact: Fact, slots: &mut [StackSlot])
-    ensures { slots.new ≡ map (with_spilled (learned fact)) slots.old }
+fn learn_slot(fact: Fact, index: usize, stack: &mut StackState)
+    requires { index < frame_slots }
+    ensures { stack.new.slots ≡ slice_set stack.old.slots index
+        (with_spilled (learned fact) (slot_at stack.old.slots index)) }
 {
-    for index in 0..slots.len() {
-        learn_slot(fact, &mut slots[index]);
+    let StackSlot::Spilled(kind) = &stack.slots()[index] else {
+        return;
+    };
+    if is_plain(kind) {
+        return;
+    }
+    let kind = learned_kind(fact, *kind);
+    stack.set(index, StackSlot::Spilled(kind));
+}
+
+fn learn_slots(fact: Fact, stack: &mut StackState)
+    ensures { stack.new.slots ≡ map (with_spilled (learned fact)) stack.old.slots }
+{
+    for index in stack.known_from()..FRAME_SLOTS {
+        learn_slot(fact, index, stack);
     }
 }
 
@@ -158,7 +165,7 @@ fn learn_frame(fact: Fact, frame: &mut AbstractFrame)
     ensures { frame.new ≡ with_kinds (learned fact) frame.old }
 {
     learn_kinds(fact, &mut frame.registers);
-    learn_slots(fact, &mut frame.stack.slots);
+    learn_slots(fact, &mut frame.stack);
 }
 
 fn learn_frames(fact: Fact, frames: &mut [AbstractFrame])

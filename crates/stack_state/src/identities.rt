@@ -66,7 +66,7 @@ fn mark_frame(sort: IdentitySort, named: &mut NamedIdentities, frame: &AbstractF
     ensures { Marks (IsFreshIn sort frame.now) 74 named.old named.new }
 {
     mark_registers(sort, named, &frame.registers);
-    mark_slots(sort, named, &frame.stack.slots);
+    mark_slots(sort, named, frame.stack.slots());
 }
 
 fn mark_frames(sort: IdentitySort, named: &mut NamedIdentities, frames: &[AbstractFrame])

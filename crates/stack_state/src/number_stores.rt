@@ -85,7 +85,7 @@ impl StackState {
             ≡ slice_set self.old.slots (at / 8) (slot_at self.new.slots (at / 8)) }
         ensures meant { StoresNumber self.old.slots at size numbers self.new.slots }
     {
-        self.slots[at / 8] = stored(self.slots[at / 8], at % 8, size, numbers);
+        self.set(at / 8, stored(self.slots()[at / 8], at % 8, size, numbers));
     }
 }
 

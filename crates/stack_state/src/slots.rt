@@ -40,6 +40,17 @@ impl StackSlot {
     }
 }
 
+/// Marks only these bytes of a slot, which is written as a whole only if a value was spilled there.
+#[inline(always)]
+pub(crate) fn mark(slot: &mut StackSlot, marks: u8)
+    ensures { slot.new ≡ StackSlot.Written marks }
+{
+    match slot {
+        StackSlot::Written(old) => *old = marks,
+        StackSlot::Spilled(_) => *slot = StackSlot::Written(marks),
+    }
+}
+
 /// Marks for this many bytes of a slot, from byte `from` on.
 pub(crate) fn mask(from: usize, bytes: usize) -> u8
     requires { from + bytes ≤ 8 }

@@ -1,26 +1,42 @@
 //! What is known of the bytes of a call frame.
 
-ghost use Rattle.std.specs.Prelude.{◌≡◌, List, length, ◌+◌, ◌/◌, ◌%◌, ◌<◌, ◌≤◌, ◌↔◌, IsTrue, replicate, slice_set};
+ghost use Rattle.std.specs.Prelude.{◌≡◌, List, length, ◌+◌, ◌/◌, ◌%◌, ◌<◌, ◌≤◌, ◌↔◌, ◌++◌, IsTrue, drop, replicate, slice_set};
 ghost use Rattle.isa_model.specs.Code.Limits.{stack_size};
 ghost use Rattle.isa_model.specs.declared.values.Cell.{Cell};
 ghost use Rattle.isa_model.specs.Code.Sizes.{size_bytes};
 ghost use Rattle.reg_state.specs.Kinds.{Assigned};
 ghost use Rattle.stack_state.specs.Slots as slot_defs;
-ghost use Rattle.stack_state.specs.Slots.{slot_at, IsNumberByte, AreMarked, after_store, IsLoad, IsSpill, IsFill, frame_slots};
+ghost use Rattle.stack_state.specs.Slots.{AreKnownFrom, slot_at, IsNumberByte, AreMarked, after_store, IsLoad, IsSpill, IsFill, frame_slots};
 ghost use Rattle.stack_state.specs.StackMeaning.{StackMeans, StoresBytes, Spills, LoadsNumber, LoadsSlot, AreNumberBytes, ForgetsMap};
 
-use crate::slots::{StackSlot, filled, forgotten_slot, mask, numbers, spilled};
+use crate::slots::{StackSlot, filled, forgotten_slot, mark, mask, numbers, spilled};
 use isa_model::{STACK_SIZE, Size};
 use reg_state::{Kind, Scalar};
+use std::marker::Model;
 
 /// How many slots of 8 bytes a call frame has.
 pub const FRAME_SLOTS: usize = STACK_SIZE / 8;
 
 /// What is known of the bytes of a call frame: slot 0 is its first, the farthest from the frame's
-/// end.
-#[derive(Clone, Copy, Drop)]
+/// end. Programs use the last slots first, and most often nothing is known of the others, which are
+/// neither copied nor cleared.
+///
+/// Contracts see the slots.
+#[derive(Drop)]
 pub struct StackState {
-    pub slots: [StackSlot; FRAME_SLOTS],
+    slots: [StackSlot; FRAME_SLOTS],
+    /// Nothing is known of the slots before this one.
+    known_from: usize,
+}
+
+impl Model for StackState {
+    ghost use Rattle.stack_state.specs.Slots.{StackSlots, AreKnownFrom};
+
+    ghost Value = { StackSlots };
+
+    ghost view = { λ stack. record { slots = stack.slots } };
+
+    ghost invariant = { λ stack. AreKnownFrom stack.known_from stack.slots };
 }
 
 impl Default for StackState {
@@ -40,14 +56,86 @@ impl StackState {
     {
         StackState {
             slots: [StackSlot::Written(0); FRAME_SLOTS],
+            known_from: FRAME_SLOTS,
         }
+    }
+
+    /// A copy.
+    pub fn copy(&self) -> Self
+        ensures { result ≡ self.now }
+    {
+        let mut copy = StackState::new();
+        copy.copy_from(self);
+        copy
+    }
+
+    /// Becomes a copy of the other one.
+    pub fn copy_from(&mut self, other: &StackState)
+        ensures { self.new ≡ other.now }
+    {
+        self.forget_before(other.known_from);
+        for index in other.known_from..FRAME_SLOTS {
+            self.slots[index] = other.slots[index];
+        }
+        self.known_from = other.known_from;
+    }
+
+    /// The slots.
+    pub fn slots(&self) -> &[StackSlot; FRAME_SLOTS]
+        ensures { result.now ≡ self.now.slots }
+    {
+        &self.slots
+    }
+
+    /// A slot before which nothing is known of any, at most `FRAME_SLOTS`.
+    pub fn known_from(&self) -> usize
+        ensures { AreKnownFrom result self.now.slots }
+    {
+        self.known_from
+    }
+
+    /// Sets what is known of a slot.
+    pub fn set(&mut self, index: usize, slot: StackSlot)
+        requires { index < frame_slots }
+        ensures set { self.new.slots ≡ slice_set self.old.slots index slot }
+        ensures wide { length self.new.slots ≡ frame_slots }
+    {
+        self.slots[index] = slot;
+        self.known_from = self.known_from.min(index);
+    }
+
+    /// Of a slot no more is known than that these bytes are written number bytes.
+    pub fn mark(&mut self, index: usize, marks: u8)
+        requires { index < frame_slots }
+        ensures set { self.new.slots
+            ≡ slice_set self.old.slots index (StackSlot.Written marks) }
+        ensures wide { length self.new.slots ≡ frame_slots }
+    {
+        mark(&mut self.slots[index], marks);
+        self.known_from = self.known_from.min(index);
+    }
+
+    /// Forgets what is known of the slots before one.
+    pub fn forget_before(&mut self, end: usize)
+        requires { end ≤ frame_slots }
+        ensures before { self.new.slots
+            ≡ replicate end (StackSlot.Written 0) ++ drop end self.old.slots }
+        ensures wide { length self.new.slots ≡ frame_slots }
+    {
+        if end <= self.known_from {
+            return;
+        }
+        for index in self.known_from..end {
+            mark(&mut self.slots[index], 0);
+        }
+        self.known_from = end;
     }
 
     /// Forgets all that is known of it.
     pub fn clear(&mut self)
         ensures { self.new.slots ≡ replicate frame_slots (StackSlot.Written 0) }
     {
-        self.slots = [StackSlot::Written(0); FRAME_SLOTS];
+        self.forget_before(FRAME_SLOTS);
     }
 
     /// Bytes of a number are written.
@@ -59,7 +147,7 @@ impl StackState {
     {
         let slot = self.slots[at / 8];
         let written = slot.marks() | mask(at % 8, size.bytes());
-        self.slots[at / 8] = StackSlot::Written(written);
+        self.mark(at / 8, written);
     }
 
     /// The numbers that a load of the bytes may return. `None`: not all of them are written number
@@ -85,7 +173,7 @@ impl StackState {
             ≡ slice_set self.old.slots slot (slot_at self.new.slots slot) }
         ensures meant { Spills self.old.slots slot kind self.new.slots }
     {
-        self.slots[slot] = spilled(kind);
+        self.set(slot, spilled(kind));
     }
 
     /// The kind of the value that a load of the whole slot returns. `None`: some byte may be
@@ -125,7 +213,7 @@ impl StackState {
         ensures exact { self.new.slots ≡ slot_defs.forgotten map self.old.slots }
         ensures meant { ForgetsMap map self.old.slots self.new.slots }
     {
-        for slot in 0..FRAME_SLOTS {
+        for slot in self.known_from..FRAME_SLOTS {
             self.slots[slot] = forgotten_slot(self.slots[slot], map);
         }
     }

@@ -1,6 +1,6 @@
 //! Abstract states, and their registers.
 
-ghost use Rattle.std.specs.Prelude.{◌≡◌, ◌≢◌, ◌<◌};
+ghost use Rattle.std.specs.Prelude.{◌≡◌, ◌≢◌, ◌<◌, take};
 ghost use Rattle.isa_model.specs.Code.Registers.{reg_number};
 ghost use Rattle.stack_state.specs.Places.{kind_of, with_register};
 ghost use Rattle.stack_state.specs.Starts.{start};
@@ -14,13 +14,54 @@ use reg_state::Kind;
 pub const MAX_CALLERS: usize = MAX_CALL_FRAMES - 1;
 
 /// What is known of a call frame.
-#[derive(Clone, Copy, Default, Drop)]
+#[derive(Default, Drop)]
 pub struct AbstractFrame {
     /// The slot of the code to which its exit leads; 0 in the first frame.
     pub return_slot: usize,
     /// r0 to r9: of the innermost frame as they are, of a caller's r6 to r9 as its call kept them.
     pub registers: [Kind; 10],
     pub stack: StackState,
+}
+
+impl AbstractFrame {
+    /// A copy.
+    #[inline(never)]
+    pub fn copy(&self) -> Self
+        ensures { result ≡ self.now }
+    {
+        AbstractFrame {
+            return_slot: self.return_slot,
+            registers: self.registers,
+            stack: self.stack.copy(),
+        }
+    }
+
+    /// Becomes a copy of the other one.
+    pub fn copy_from(&mut self, other: &AbstractFrame)
+        ensures { self.new ≡ other.now }
+    {
+        self.return_slot = other.return_slot;
+        self.registers = other.registers;
+        self.stack.copy_from(&other.stack);
+    }
+}
+
+/// Keeps as many call frames. It is out of line, since it makes a blank frame of 5.9 kB.
+#[cold]
+#[inline(never)]
+fn drop_others(frames: &mut ArrayVec<AbstractFrame, MAX_CALLERS>, count: usize)
+    ensures { frames.new.items ≡ take count frames.old.items }
+{
+    frames.truncate(count);
+}
+
+/// The same, where there may be no more.
+fn keep_first(frames: &mut ArrayVec<AbstractFrame, MAX_CALLERS>, count: usize)
+    ensures { frames.new.items ≡ take count frames.old.items }
+{
+    if count < frames.len() {
+        drop_others(frames, count);
+    }
 }
 
 /// What is known of a run when it reaches an instruction.
@@ -72,7 +113,7 @@ impl State {
         let mut copy = State {
             slot: self.slot,
             callers: ArrayVec::new(),
-            innermost: self.innermost,
+            innermost: self.innermost.copy(),
         };
         copy.copy_callers(self);
         copy
@@ -84,16 +125,21 @@ impl State {
     {
         self.slot = other.slot;
         self.copy_callers(other);
-        self.innermost = other.innermost;
+        self.innermost.copy_from(&other.innermost);
     }
 
     fn copy_callers(&mut self, other: &State)
         ensures { self.new ≡ record self.old { callers = other.now.callers } }
     {
-        self.callers.clear();
-        let Ok(()) = self.callers.try_extend_from_slice(&other.callers) else {
-            unreachable!()
-        };
+        let count = other.callers.len();
+        keep_first(&mut self.callers, count);
+        let kept = self.callers.len();
+        for index in 0..kept {
+            self.callers[index].copy_from(&other.callers[index]);
+        }
+        for index in kept..count {
+            self.callers.push(other.callers[index].copy());
+        }
     }
 
     /// What is known of a register.

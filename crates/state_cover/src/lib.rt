@@ -60,7 +60,7 @@ fn frame_covers(left: &AbstractFrame, right: &AbstractFrame, a: &State, b: &Stat
     if !registers_cover(&left.registers, &right.registers, a, b) {
         return false;
     }
-    slots_cover(&left.stack.slots, &right.stack.slots, a, b)
+    slots_cover(left.stack.slots(), right.stack.slots(), a, b)
 }
 
 // All ten are compared in a caller's frame too: r0 to r5 are Unset there, which covers whatever b

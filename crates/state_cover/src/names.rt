@@ -85,7 +85,7 @@ impl NameSort {
         if let Some(kinds) = self.find_in_registers(identity, &left.registers, &right.registers) {
             return Some(kinds);
         }
-        self.find_in_slots(identity, &left.stack.slots, &right.stack.slots)
+        self.find_in_slots(identity, left.stack.slots(), right.stack.slots())
     }
 
     fn find_in_frames(

@@ -37,14 +37,15 @@ impl Fingerprints {
     /// With all parts of the last frame.
     pub fn with_parts_of(self, frame: &AbstractFrame) -> Self {
         let mut whole = self.whole;
+        let registers = &frame.registers;
         for index in 0..10 {
-            let kind = &frame.registers[index];
+            let kind = &registers[index];
             if !matches!(kind, Kind::Unset) {
                 whole = with_register(whole, index as u8, kind);
             }
         }
         for index in 0..FRAME_SLOTS {
-            let stack_slot = &frame.stack.slots[index];
+            let stack_slot = &frame.stack.slots()[index];
             if !matches!(stack_slot, StackSlot::Written(0)) {
                 whole = with_stack_slot(whole, index as u8, stack_slot);
             }

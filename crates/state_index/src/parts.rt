@@ -6,7 +6,7 @@ ghost use Rattle.state_index.specs.Parts.{register_part, slot_part, register_par
 
 use control_flow::SlotMask;
 use reg_state::{Domain, Kind};
-use stack_state::{AbstractFrame, FRAME_SLOTS, StackSlot};
+use stack_state::{AbstractFrame, FRAME_SLOTS, StackSlot, StackState};
 use std::alloc::AllocError;
 
 /// What is known of one part of a call frame.
@@ -115,7 +115,7 @@ pub fn take_parts_in(
 {
     parts.clear();
     push_registers(parts, &frame.registers)?;
-    push_slots(parts, &frame.stack.slots, kept)?;
+    push_slots(parts, frame.stack.slots(), kept)?;
     Ok(())
 }
 
@@ -138,14 +138,13 @@ fn set_register(registers: &mut [Kind; 10], number: u8, kind: Kind)
     registers[number] = kind;
 }
 
-fn set_slot(slots: &mut [StackSlot; FRAME_SLOTS], index: u8, slot: StackSlot)
-    ensures { slots.new ≡ slice_set slots.old index slot }
+fn set_slot(stack: &mut StackState, index: u8, slot: StackSlot)
+    ensures { stack.new.slots ≡ slice_set stack.old.slots index slot }
 {
     let index = usize::from(index);
-    if index >= FRAME_SLOTS {
-        return;
+    if stack.slots().get(index).is_some() {
+        stack.set(index, slot);
     }
-    slots[index] = slot;
 }
 
 /// Writes a part where it belongs.
@@ -154,7 +153,7 @@ pub fn write(frame: &mut AbstractFrame, part: &Part)
 {
     match *part {
         Part::InRegister(number, kind) => set_register(&mut frame.registers, number, kind),
-        Part::InSlot(index, slot) => set_slot(&mut frame.stack.slots, index, slot),
+        Part::InSlot(index, slot) => set_slot(&mut frame.stack, index, slot),
     }
 }
 
@@ -198,14 +197,15 @@ pub fn may_cover_part(part: &Part, frame: &AbstractFrame) -> bool
             if number >= 10 {
                 return true;
             }
-            may_allow(&kind, &frame.registers[number])
+            let registers = &frame.registers;
+            may_allow(&kind, &registers[number])
         }
         Part::InSlot(index, slot) => {
             let index = usize::from(index);
             if index >= FRAME_SLOTS {
                 return true;
             }
-            may_hold(&slot, &frame.stack.slots[index])
+            may_hold(&slot, &frame.stack.slots()[index])
         }
     }
 }

@@ -120,8 +120,8 @@ impl Shape {
         rest.is_empty()
     }
 
-    /// What a state knows in the shape, which has this index. None if it does not know all bits that
-    /// the shape knows.
+    /// What a state knows in the shape, which has this index. None if it does not know all bits
+    /// that the shape knows.
     pub fn known_of(&self, index: usize, key: &Key) -> Option<KnownIn> {
         let mut rest = self.known_numbers.as_slice();
         let mut print = key.fingerprints.returns;

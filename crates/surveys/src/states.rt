@@ -37,7 +37,7 @@ fn put_registers(alloc: Global, state: &State, text: &mut String) -> Result<(), 
 /// Whether something is known about a stack slot.
 fn is_known(state: &State, frame: u8, stack_slot: usize) -> bool {
     match state.stack_of(frame) {
-        Some(stack) => match stack.slots.get(stack_slot) {
+        Some(stack) => match stack.slots().get(stack_slot) {
             Some(known) => *known != StackSlot::Written(0),
             None => false,
         },

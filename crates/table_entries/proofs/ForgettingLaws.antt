@@ -1,8 +1,8 @@
 -- Lists of which some is forgotten.
-use Rattle.std.specs.Prelude.{◌≡◌, ℕ, ◌<◌, ◌⊎◌, List, length, get_or, slice_set, refl}
-use Rattle.std.proofs.Common.{inl, inr, sym, ◌∙◌, subst}
-use Rattle.std.proofs.lemmas.Bool.{cases_eq}
-use Rattle.std.proofs.lemmas.List.{get_or-set_same, get_or-set_other, get_or_default}
+use Rattle.std.specs.Prelude.{◌≡◌, ℕ, ◌-◌, ◌<◌, ◌⊎◌, List, ◌++◌, length, drop, replicate, get_or, slice_set, refl}
+use Rattle.std.proofs.Common.{inl, inr, ap, sym, ◌∙◌, subst, arith}
+use Rattle.std.proofs.lemmas.Bool.{cases_eq, cases_lt}
+use Rattle.std.proofs.lemmas.List.{get_or-set_same, get_or-set_other, get_or_default, get_or_append_left, get_or-append_right, get_or-replicate, get_or-drop, length-replicate}
 use Rattle.table_entries.specs.Forgetting.{IsWeakerList}
 
 pub IsWeakerList-same : {X : Type 0} (d : X) (xs : List X) → IsWeakerList d xs xs
@@ -28,3 +28,15 @@ IsWeakerList-set d xs ys i x y inside one each = λ k. elim (cases_eq k i) [
   at_index (inr gone) before = inr (set ∙ gone)
   at_index (inl same) (inl before) = inl (set ∙ same ∙ get_or_default ys i x d inside ∙ before)
   at_index (inl same) (inr before) = inr (set ∙ same ∙ get_or_default ys i x d inside ∙ before)
+
+-- where the first elements are d
+pub IsWeakerList-front : {X : Type 0} (d : X) (n : ℕ) (xs : List X)
+    → IsWeakerList d xs (replicate n d ++ drop n xs)
+IsWeakerList-front d n xs = λ k. elim (cases_lt k n) [
+  | inl below ↦ inr (get_or_append_left (replicate n d) (drop n xs) d k (omega (arith, count))
+      ∙ get_or-replicate n k d d below)
+  | inr above ↦ inl (get_or-append_right (replicate n d) (drop n xs) n k d count above
+      ∙ get_or-drop n xs (k - n) d ∙ ap (λ (j : ℕ). get_or xs j d) (omega arith))
+] where
+  count : length (replicate n d) ≡ n
+  count = length-replicate n d

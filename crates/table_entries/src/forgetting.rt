@@ -2,12 +2,13 @@
 //! where paths meet. Where the bytes of the entry are looked at is advice.
 
 ghost use Rattle.std.specs.Prelude.{◌≡◌, ◌⊎◌};
+ghost use Rattle.stack_state.specs.declared.slots.StackSlot.TheVariants.{Written};
 ghost use Rattle.table_entries.specs.Forgetting.{IsWeakerList, IsWeakerFrame};
 
-use crate::loops::mark;
+use crate::blanks::blank_stack_slots;
 use crate::slices::skip;
 use reg_state::Kind;
-use stack_state::{AbstractFrame, FRAME_SLOTS, StackSlot};
+use stack_state::{AbstractFrame, FRAME_SLOTS, StackState};
 
 /// What follows the first bytes, if there are as many.
 pub fn after(bytes: &[u8], count: usize) -> &[u8] {
@@ -45,19 +46,13 @@ fn forget_register<'a>(bytes: &'a [u8], register: &mut Kind) -> &'a [u8]
     }
 }
 
-/// A stack slot is forgotten if the bytes begin with one of which nothing is known. Returns the
-/// bytes after it.
-fn forget_slot<'a>(bytes: &'a [u8], slot: &mut StackSlot) -> &'a [u8]
-    ensures { (slot.new ≡ slot.old) ⊎ (slot.new ≡ StackSlot.Written 0) }
-{
+/// Whether the bytes begin with a stack slot of which nothing is known, and the bytes after it.
+#[inline(always)]
+fn next_slot(bytes: &[u8]) -> (bool, &[u8]) {
     match bytes {
-        [0, 0, rest @ ..] => {
-            mark(slot, 0);
-            rest
-        }
-        [0, _, rest @ ..] => rest,
-        [_, kind, rest @ ..] => after_fields(*kind, rest),
-        _ => bytes,
+        [0, marks, rest @ ..] => (*marks == 0, rest),
+        [_, kind, rest @ ..] => (false, after_fields(*kind, rest)),
+        _ => (false, bytes),
     }
 }
 
@@ -71,12 +66,19 @@ fn forget_registers<'a>(bytes: &'a [u8], registers: &mut [Kind; 10]) -> &'a [u8]
     rest
 }
 
-fn forget_slots(bytes: &[u8], slots: &mut [StackSlot; FRAME_SLOTS])
-    ensures { IsWeakerList (StackSlot.Written 0) slots.old slots.new }
+fn forget_slots(bytes: &[u8], stack: &mut StackState)
+    ensures { IsWeakerList (Written 0) stack.old.slots stack.new.slots }
 {
-    let mut rest = bytes;
-    for index in 0..FRAME_SLOTS {
-        rest = forget_slot(rest, &mut slots[index]);
+    let blank = blank_stack_slots(bytes);
+    stack.forget_before(blank);
+    let known_from = stack.known_from();
+    let mut rest = skip(bytes, 2 * blank);
+    for index in blank..FRAME_SLOTS {
+        let (is_blank, after) = next_slot(rest);
+        if is_blank && index >= known_from {
+            stack.mark(index, 0);
+        }
+        rest = after;
     }
 }
 
@@ -85,5 +87,5 @@ pub fn forget_unsaid(bytes: &[u8], frame: &mut AbstractFrame)
     ensures { IsWeakerFrame frame.old frame.new }
 {
     let rest = forget_registers(after(bytes, 2), &mut frame.registers);
-    forget_slots(rest, &mut frame.stack.slots);
+    forget_slots(rest, &mut frame.stack);
 }

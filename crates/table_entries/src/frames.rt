@@ -54,7 +54,7 @@ pub fn read_frame<'a>(
     }
     frame.return_slot = usize::from(u16_at(bytes, 0));
     let (kinds, rest) = read_registers(rows, holder, skip(bytes, 2), &mut frame.registers)?;
-    let (stack_slots, rest) = read_stack_slots(rows, holder, rest, &mut frame.stack.slots)?;
+    let (stack_slots, rest) = read_stack_slots(rows, holder, rest, &mut frame.stack)?;
     let fits = frame_allowed(holder, outer, frame.return_slot, &frame.registers);
     Ok((both(both(kinds, stack_slots), fits), rest))
 }
@@ -77,7 +77,7 @@ pub fn read_callers<'a>(
     let mut allowed = true;
     for holder in 0..count {
         let (fits, after) = read_frame(rows, holder, true, rest, free)?;
-        callers.push(*free);
+        callers.push(free.copy());
         allowed = both(allowed, fits);
         rest = after;
     }

@@ -219,7 +219,7 @@ impl<'a> Growing<'a> {
         if index != self.table.len() {
             return None;
         }
-        let innermost = state.innermost;
+        let innermost = state.innermost.copy();
         known.keep(MAX_CALLERS, false);
         forget_unsaid(known.inner_bytes(self.rest), &mut state.innermost);
         if let Some(head) = self.take(image, index, state, known) {

@@ -118,7 +118,7 @@ fn after_innermost<'a>(
         return None;
     }
     let rest = after_registers(rows, holder, skip(bytes, 2), &frame.registers)?;
-    let rest = after_known_slots(rows, holder, rest, &frame.stack.slots, known)?;
+    let rest = after_known_slots(rows, holder, rest, frame.stack.slots(), known)?;
     if frame_allowed(holder, false, frame.return_slot, &frame.registers) {
         Some(rest)
     } else {

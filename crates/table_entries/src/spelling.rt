@@ -312,7 +312,7 @@ pub fn after_frame<'a>(
         return None;
     }
     let rest = after_registers(rows, holder, skip(bytes, 2), &frame.registers)?;
-    let rest = after_stack_slots(rows, holder, rest, &frame.stack.slots)?;
+    let rest = after_stack_slots(rows, holder, rest, frame.stack.slots())?;
     if frame_allowed(holder, outer, frame.return_slot, &frame.registers) {
         Some(rest)
     } else {

@@ -276,7 +276,7 @@ impl<'a> Table<'a> {
             (λ head. entry_at image.now self.now index ≡ Some (entry_of head state.new)) }
     {
         let place = *self.places.get(index)?;
-        let whole = state.innermost;
+        let whole = state.innermost.copy();
         known.keep(MAX_CALLERS, false);
         let entry = bytes_from(self.bytes, place);
         forget_unsaid(known.inner_bytes(entry), &mut state.innermost);

@@ -1,6 +1,7 @@
 -- The loops that forget dead registers and dead stack slots: what is forgotten after some of them,
 -- and after all; what is forgotten of callers.
-use Rattle.std.proofs.Common.{◌≡◌, ◌≢◌, ◌<◌, ◌≤◌, ◌+◌, ℕ, List, length, replicate, get_or, set, refl, sym, ap, ◌∙◌, subst, arith, inl, inr}
+use Rattle.std.proofs.Common.{◌≡◌, ◌≢◌, ◌<◌, ◌≤◌, ◌+◌, ◌↔◌, ℕ, List, length, replicate, get_or, set, refl, sym, ap, ◌∙◌, subst, arith, inl, inr}
+use Rattle.std.specs.Int.{bit_at}
 use Rattle.std.proofs.lemmas.Bool.{cases_eq}
 use Rattle.std.proofs.lemmas.List.{length-replicate, get_or-replicate, length-set, get_or-set_same, get_or-set_other}
 use Rattle.isa_model.specs.declared.registers.Reg.{Reg}
@@ -11,12 +12,14 @@ use Rattle.reg_state.specs.declared.kinds.Kind.{Kind}
 use Rattle.reg_state.specs.declared.kinds.Kind.TheVariants.{Unset}
 use Rattle.stack_state.specs.declared.slots.StackSlot.{StackSlot}
 use Rattle.stack_state.specs.declared.slots.StackSlot.TheVariants.{Written}
-use Rattle.stack_state.specs.Slots.{slot_at, frame_slots}
+use Rattle.stack_state.specs.Slots.{AreKnownFrom, slot_at, frame_slots}
 use Rattle.stack_state.specs.declared.states.AbstractFrame.{AbstractFrame}
 use Rattle.stack_state.specs.declared.states.State.{State}
 use Rattle.stack_state.specs.Meaning.{abstract_frame_at, kind_at, no_frame}
 use Rattle.stack_state.proofs.MeaningLaws.{abstract_frame_at-caller, abstract_frame_at-innermost}
 use Rattle.isa_model.proofs.RegisterLaws.{same_number}
+use Rattle.control_flow.specs.declared.slot_masks.SlotMask.{SlotMask}
+use Rattle.control_flow.specs.Masks.{HasSlot}
 use Rattle.control_flow.specs.Flows.{IsJoin}
 use Rattle.control_flow.specs.Liveness.{IsLive, IsSlotLive}
 use Rattle.walks.specs.Forgetting.{IsKept, AreKept, IsSlotLeft, AreSlotsLeft, AreSlotsKept, IsCallerKept, AreCallersKept, CallersForgotten, DeadForgotten}
@@ -95,10 +98,18 @@ pub record SlotsLeftBelow (p : Program) (slot n : ℕ) (old new : List StackSlot
   pub below : (j : ℕ) → j < n → IsSlotLeft p slot j (slot_at old j) (slot_at new j)
   pub above : (k : ℕ) → n ≤ k → slot_at new k ≡ slot_at old k
 
-pub slots_left_none : (p : Program) (slot : ℕ) (old : List StackSlot) → length old ≡ 64
-    → SlotsLeftBelow p slot 0 old old
-slots_left_none p slot old all =
-    record { all = all; below = λ j low. absurd (omega arith); above = λ k high. refl }
+-- nothing is known of the first ones; whether they are live can be read from the mask
+pub slots_left_blank : (p : Program) (slot n : ℕ) (mask : SlotMask) (old : List StackSlot)
+    → ((j : ℕ) → HasSlot mask j ↔ IsSlotLive p j slot) → AreKnownFrom n old
+    → SlotsLeftBelow p slot n old old
+slots_left_blank p slot n mask old is known = record {
+  all = known.wide;
+  below = λ j low. elim (cases_eq (bit_at mask.bits j) 1) [
+    | inl has ↦ inl ((is j).0 has, refl)
+    | inr lacks ↦ inr (λ live. lacks ((is j).1 live), known.blank j low)
+  ];
+  above = λ k high. refl;
+}
 
 -- the next stack slot is live
 pub slots_left_live : (p : Program) (slot n : ℕ) (old new : List StackSlot) → IsSlotLive p n slot

@@ -1,7 +1,8 @@
 -- The loops that forget numbers: what is forgotten after some turns, and after all; and what that
 -- is at a join.
 use Rattle.std.proofs.Common.{◌≡◌, ◌≢◌, ◌<◌, ◌≤◌, ◌+◌, ◌↔◌, ℕ, List, length, get_or, set, refl, sym, ap, ◌∙◌, subst, arith, inl, inr}
-use Rattle.std.proofs.lemmas.Bool.{cases_eq, cases_lt}
+use Rattle.std.specs.Int.{bit_at}
+use Rattle.std.proofs.lemmas.Bool.{cases_eq}
 use Rattle.std.proofs.lemmas.Nat.Bits.{bit_at-zero}
 use Rattle.std.proofs.lemmas.List.{length-set, get_or-set_same, get_or-set_other, get_or_default}
 use Rattle.isa_model.specs.declared.registers.Reg.{Reg}
@@ -14,7 +15,7 @@ use Rattle.reg_state.specs.declared.kinds.Kind.TheVariants.{Unset}
 use Rattle.stack_state.specs.declared.slots.StackSlot.{StackSlot}
 use Rattle.stack_state.specs.declared.slots.StackSlot.TheVariants.{Written}
 use Rattle.stack_state.specs.declared.states.State.{State}
-use Rattle.stack_state.specs.Slots.{slot_at, kind_in, IsAnyNumber}
+use Rattle.stack_state.specs.Slots.{AreKnownFrom, slot_at, kind_in, IsAnyNumber}
 use Rattle.stack_state.specs.Meaning.{kind_at, registers_of}
 use Rattle.stack_state.proofs.PlaceLaws.{same_or_other}
 use Rattle.branch_refine.specs.Refining.{IsNumberKind}
@@ -105,26 +106,35 @@ pub record InBelow (Chosen : ℕ → Type 0) (n : ℕ) (old new : List StackSlot
   pub below : (j : ℕ) → j < n → ForgetsIf (Chosen j) (slot_at old j) (slot_at new j)
   pub above : (k : ℕ) → n ≤ k → slot_at new k ≡ slot_at old k
 
-pub in_none : (Chosen : ℕ → Type 0) (old : List StackSlot) → length old ≡ 64
-    → InBelow Chosen 0 old old
-in_none Chosen old all =
-    record { all = all; below = λ j low. absurd (omega arith); above = λ k high. refl }
+-- nothing is known of the first ones
+pub in_blank : (mask : SlotMask) (n : ℕ) (old : List StackSlot) → AreKnownFrom n old
+    → InBelow (HasSlot mask) n old old
+in_blank mask n old known = record {
+  all = known.wide;
+  below = λ j low.
+      let none : ForgetsSpilled (slot_at old j) (slot_at old j) =
+      inr (λ number. subst (λ s. IsNumberKind (kind_in s)) (known.blank j low) number, refl) in
+      elim (cases_eq (bit_at mask.bits j) 1) [
+        | inl has ↦ inl (has, none)
+        | inr lacks ↦ inr (lacks, refl)
+      ];
+  above = λ k high. refl;
+}
 
-pub in_to : (Chosen : ℕ → Type 0) (n m : ℕ) (old new : List StackSlot) → n ≡ m
-    → InBelow Chosen n old new → InBelow Chosen m old new
-in_to Chosen n m old new same h = subst (λ k. InBelow Chosen k old new) same h
-
--- none of the next ones is chosen
-pub in_left : (Chosen : ℕ → Type 0) (n m : ℕ) (old new : List StackSlot) → n ≤ m
-    → ((j : ℕ) → n ≤ j → j < m → Chosen j → ⊥)
-    → InBelow Chosen n old new → InBelow Chosen m old new
-in_left Chosen n m old new up aside h = record {
+-- the next one is not chosen, or it is no number
+pub in_left : (Chosen : ℕ → Type 0) (n : ℕ) (old new : List StackSlot)
+    → ForgetsIf (Chosen n) (slot_at new n) (slot_at new n)
+    → InBelow Chosen n old new → InBelow Chosen (n + 1) old new
+in_left Chosen n old new left h = record {
   all = h.all;
-  below = λ j low. elim (cases_lt j n) [
-    | inl before ↦ h.below j before
-    | inr past ↦ inr (aside j (omega (arith, past)) low, h.above j (omega (arith, past)))
+  below = λ j low. elim (cases_eq j n) [
+    | inl e ↦
+        let before : slot_at new n ≡ slot_at old n = h.above n (omega arith) in
+        subst (λ (k : ℕ). ForgetsIf (Chosen k) (slot_at old k) (slot_at new k)) (sym e)
+        (subst (λ s. ForgetsIf (Chosen n) s (slot_at new n)) before left)
+    | inr apart ↦ h.below j (omega arith)
   ];
-  above = λ k high. h.above k (omega (arith, up, high));
+  above = λ k high. h.above k (omega arith);
 }
 
 -- a number in the next one is forgotten; i is the index at which it was read

@@ -1,7 +1,7 @@
 //! What is forgotten of a state when a path reaches it.
 
-ghost use Rattle.std.specs.Prelude.{◌≡◌, ◌↔◌, ℕ, ◌<◌, IsTrue, replicate};
-ghost use Rattle.stack_state.specs.Slots.{frame_slots};
+ghost use Rattle.std.specs.Prelude.{◌≡◌, ◌↔◌, ℕ, ◌<◌, IsTrue};
+ghost use Rattle.stack_state.specs.Slots.{AreKnownFrom};
 ghost use Rattle.control_flow.specs.Endings.{EndsPlainly};
 ghost use Rattle.control_flow.specs.Flows.{IsJoin};
 ghost use Rattle.control_flow.specs.Masks.{HasSlot};
@@ -12,7 +12,7 @@ use crate::numbers::{are_numbers, forget_registers_beside, forget_slots_of, forg
 use control_flow::{Flow, RegisterMask, SlotMask};
 use isa_model::Reg;
 use reg_state::Kind;
-use stack_state::{FRAME_SLOTS, StackSlot, State};
+use stack_state::{FRAME_SLOTS, StackState, State};
 
 /// Forgets what is known of a register, which is written only if something is.
 #[inline(always)]
@@ -43,74 +43,39 @@ fn forget_registers(flow: &Flow<'_>, slot: usize, registers: &mut [Kind; 10])
     }
 }
 
-/// Forgets what is known of a stack slot. It is written as a whole only if a value was
-/// spilled there.
-#[inline(always)]
-fn clear(stack_slot: &mut StackSlot)
-    ensures { stack_slot.new ≡ StackSlot.Written 0 }
-{
-    match stack_slot {
-        StackSlot::Written(marks) => *marks = 0,
-        StackSlot::Spilled(_) => *stack_slot = StackSlot::Written(0),
-    }
-}
-
-/// Forgets what is known of all stack slots of a call frame, eight in each turn of the outer loop:
-/// those of one byte of a `SlotMask`. The compiler unrolls the inner loop.
-pub fn clear_slots(slots: &mut [StackSlot; FRAME_SLOTS])
-    ensures { slots.new ≡ replicate frame_slots (StackSlot.Written 0) }
-{
-    for byte in 0..FRAME_SLOTS / 8 {
-        for bit in 0..8 {
-            clear(&mut slots[8 * byte + bit]);
-        }
-    }
-}
-
-/// Forgets what is known of the stack slots of a frame that are dead at a slot of the code.
-fn forget_slots(flow: &Flow<'_>, slot: usize, slots: &mut [StackSlot; FRAME_SLOTS])
-    ensures { AreSlotsLeft flow.now slot slots.old slots.new }
+/// Forgets what is known of the stack slots of a frame that are dead at a slot of the code. Nothing
+/// is known of those before `known_from`.
+fn forget_slots(flow: &Flow<'_>, slot: usize, known_from: usize, stack: &mut StackState)
+    requires { AreKnownFrom known_from stack.old.slots }
+    ensures { AreSlotsLeft flow.now slot stack.old.slots stack.new.slots }
 {
     let live = flow.live_slots(slot);
     if live.is_full() {
         return;
     }
     if live.is_empty() {
-        clear_slots(slots);
+        stack.clear();
         return;
     }
-    for byte in 0..(FRAME_SLOTS / 8) as u8 {
-        if live.is_empty_in(byte) {
-            for bit in 0..8u8 {
-                clear(&mut slots[usize::from(8 * byte + bit)]);
-            }
-        } else {
-            for bit in 0..8u8 {
-                let index = 8 * byte + bit;
-                if !live.has(index) {
-                    clear(&mut slots[usize::from(index)]);
-                }
-            }
+    for index in known_from..FRAME_SLOTS {
+        if !live.has(index as u8) {
+            stack.mark(index, 0);
         }
     }
 }
 
 /// Forgets what is known of the registers and of the stack slots of a frame that are dead at a
 /// slot of the code, if it is a join.
-fn forget_places(
-    flow: &Flow<'_>,
-    slot: usize,
-    registers: &mut [Kind; 10],
-    slots: &mut [StackSlot; FRAME_SLOTS],
-)
+fn forget_places(flow: &Flow<'_>, slot: usize, registers: &mut [Kind; 10], stack: &mut StackState)
     ensures registers { AreKept flow.now slot registers.old registers.new }
-    ensures slots { AreSlotsKept flow.now slot slots.old slots.new }
+    ensures slots { AreSlotsKept flow.now slot stack.old.slots stack.new.slots }
 {
+    let known_from = stack.known_from();
     if !flow.is_join(slot) {
         return;
     }
     forget_registers(flow, slot, registers);
-    forget_slots(flow, slot, slots);
+    forget_slots(flow, slot, known_from, stack);
 }
 
 /// Forgets what is known of the stack slots of the last caller that are dead where it goes on, if
@@ -126,7 +91,8 @@ fn forget_caller(flow: &Flow<'_>, has_called: bool, state: &mut State)
     };
     let slot = state.innermost.return_slot;
     let caller = &mut state.callers[last];
-    forget_slots(flow, slot, &mut caller.stack.slots);
+    let known_from = caller.stack.known_from();
+    forget_slots(flow, slot, known_from, &mut caller.stack);
 }
 
 /// Forgets what is known of the registers and of the stack slots of the innermost frame that are
@@ -138,12 +104,7 @@ fn forget_dead(flow: &Flow<'_>, has_called: bool, state: &mut State)
 {
     forget_caller(flow, has_called, state);
     let frame = &mut state.innermost;
-    forget_places(
-        flow,
-        state.slot,
-        &mut frame.registers,
-        &mut frame.stack.slots,
-    );
+    forget_places(flow, state.slot, &mut frame.registers, &mut frame.stack);
 }
 
 /// Forgets what does not matter at a state's slot: what is dead there, and numbers that no path
@@ -156,12 +117,7 @@ pub fn forget(flow: &Flow<'_>, has_called: bool, state: &mut State)
     forget_dead(flow, has_called, state);
     if flow.forgets_numbers() && flow.is_join(state.slot) {
         let frame = &mut state.innermost;
-        forget_untested(
-            flow,
-            state.slot,
-            &mut frame.registers,
-            &mut frame.stack.slots,
-        );
+        forget_untested(flow, state.slot, &mut frame.registers, &mut frame.stack);
     }
 }
 
@@ -186,7 +142,7 @@ pub fn forget_all(flow: &Flow<'_>, state: &mut State)
 {
     let frame = &mut state.innermost;
     forget_registers_beside(RegisterMask::none(), &mut frame.registers);
-    forget_slots_of(SlotMask::all(), &mut frame.stack.slots);
+    forget_slots_of(SlotMask::all(), &mut frame.stack);
 }
 
 /// The stack slots of the innermost frame about which something may be known where a path reaches a

@@ -1,6 +1,7 @@
 //! Numbers that are forgotten when a path reaches a state, since they do not matter there.
 
-ghost use Rattle.std.specs.Prelude.{◌↔◌, IsTrue};
+ghost use Rattle.std.specs.Prelude.{◌≡◌, ◌<◌, ◌↔◌, IsTrue, slice_set};
+ghost use Rattle.stack_state.specs.Slots.{frame_slots, slot_at};
 ghost use Rattle.branch_refine.specs.Refining.{IsNumberKind};
 ghost use Rattle.control_flow.specs.Liveness.{InRegister, InSlot, IsSlotLive};
 ghost use Rattle.control_flow.specs.Masks.{HasRegister, HasSlot};
@@ -10,7 +11,7 @@ ghost use Rattle.walks.specs.Forgetting.{AreNumberRegisters, ForgetsNumber, Forg
 use control_flow::{Flow, RegisterMask, SlotMask};
 use isa_model::{Reg, Width};
 use reg_state::{Domain, Kind, Scalar};
-use stack_state::{FRAME_SLOTS, StackSlot};
+use stack_state::{FRAME_SLOTS, StackSlot, StackState};
 
 /// Makes any number of a number.
 #[inline(always)]
@@ -19,16 +20,6 @@ fn forget_number(kind: &mut Kind)
 {
     if let Kind::Number(_) = kind {
         *kind = Kind::Number(Scalar::any(Width::Full64));
-    }
-}
-
-/// Makes any number of a number that was spilled.
-#[inline(always)]
-fn forget_spilled(stack_slot: &mut StackSlot)
-    ensures { ForgetsSpilled stack_slot.old stack_slot.new }
-{
-    if let StackSlot::Spilled(Kind::Number(_)) = stack_slot {
-        *stack_slot = StackSlot::Written(255);
     }
 }
 
@@ -46,18 +37,27 @@ pub(crate) fn forget_registers_beside(kept: RegisterMask, registers: &mut [Kind;
     }
 }
 
-/// Forgets the numbers in these stack slots, eight in each turn of the outer loop.
-pub(crate) fn forget_slots_of(chosen: SlotMask, slots: &mut [StackSlot; FRAME_SLOTS])
-    ensures { ForgetsNumbersIn (HasSlot chosen) slots.old slots.new }
+/// Makes any number of a number that was spilled in a stack slot.
+#[inline(always)]
+fn forget_spilled(index: usize, stack: &mut StackState)
+    requires { index < frame_slots }
+    ensures forgets { ForgetsSpilled (slot_at stack.old.slots index)
+        (slot_at stack.new.slots index) }
+    ensures others { stack.new.slots
+        ≡ slice_set stack.old.slots index (slot_at stack.new.slots index) }
 {
-    for byte in 0..(FRAME_SLOTS / 8) as u8 {
-        if !chosen.is_empty_in(byte) {
-            for bit in 0..8u8 {
-                let index = 8 * byte + bit;
-                if chosen.has(index) {
-                    forget_spilled(&mut slots[usize::from(index)]);
-                }
-            }
+    if let StackSlot::Spilled(Kind::Number(_)) = &stack.slots()[index] {
+        stack.mark(index, 255);
+    }
+}
+
+/// Forgets the numbers in these stack slots.
+pub(crate) fn forget_slots_of(chosen: SlotMask, stack: &mut StackState)
+    ensures { ForgetsNumbersIn (HasSlot chosen) stack.old.slots stack.new.slots }
+{
+    for index in stack.known_from()..FRAME_SLOTS {
+        if chosen.has(index as u8) {
+            forget_spilled(index, stack);
         }
     }
 }
@@ -92,17 +92,17 @@ pub(crate) fn forget_untested(
     flow: &Flow<'_>,
     slot: usize,
     registers: &mut [Kind; 10],
-    slots: &mut [StackSlot; FRAME_SLOTS],
+    stack: &mut StackState,
 )
     ensures registers { MayForgetNumbers flow.now → ForgetsNumbersBeside
         (λ r. IsNumberTested flow.now (InRegister r) slot) registers.old registers.new }
     ensures slots { MayForgetNumbers flow.now → ForgetsNumbersIn
         (λ j. IsSlotLive flow.now j slot × (¬ IsNumberTested flow.now (InSlot j) slot))
-        slots.old slots.new }
+        stack.old.slots stack.new.slots }
 {
     forget_registers_beside(flow.tested(slot), registers);
     forget_slots_of(
         flow.live_slots(slot).without(flow.tested_slots(slot)),
-        slots,
+        stack,
     );
 }

@@ -59,12 +59,12 @@ const MAP_VALUE: Kind = Kind::MapValue {
 fn in_call(tested: Kind, other: Kind, copies: [Kind; 4]) -> State {
     let mut caller = AbstractFrame::default();
     caller.registers[6] = copies[2];
-    caller.stack.slots[5] = StackSlot::Spilled(copies[3]);
+    caller.stack.set(5, StackSlot::Spilled(copies[3]));
     let mut innermost = AbstractFrame::default();
     innermost.registers[2] = tested;
     innermost.registers[3] = other;
     innermost.registers[4] = copies[0];
-    innermost.stack.slots[7] = StackSlot::Spilled(copies[1]);
+    innermost.stack.set(7, StackSlot::Spilled(copies[1]));
     let mut callers = ArrayVec::new();
     callers.push(caller);
     State {
@@ -82,8 +82,9 @@ fn copies_in(state: &State) -> [Kind; 4] {
         copies[1] = kind;
     }
     for caller in state.callers.as_slice() {
-        copies[2] = caller.registers[6];
-        copies[3] = caller.stack.slots[5].kind();
+        let registers = &caller.registers;
+        copies[2] = registers[6];
+        copies[3] = caller.stack.slots()[5].kind();
     }
     copies
 }

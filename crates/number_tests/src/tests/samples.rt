@@ -47,12 +47,12 @@ fn frame_with(frame: AbstractFrame, put: &Put) -> AbstractFrame {
         }
         Put::Spill(index, held) => {
             if *index < 64 {
-                frame.stack.slots[*index] = StackSlot::Spilled(kind_of(held));
+                frame.stack.set(*index, StackSlot::Spilled(kind_of(held)));
             }
         }
         Put::Written(index, marks) => {
             if *index < 64 {
-                frame.stack.slots[*index] = StackSlot::Written(*marks);
+                frame.stack.set(*index, StackSlot::Written(*marks));
             }
         }
     }

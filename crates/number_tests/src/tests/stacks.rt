@@ -102,7 +102,7 @@ enum Look {
 fn is_shown(stack: &StackState, look: &Look) -> bool {
     match look {
         Look::Written(stack_slot, marks) => {
-            stack.slots.get(*stack_slot) == Some(&StackSlot::Written(*marks))
+            stack.slots().get(*stack_slot) == Some(&StackSlot::Written(*marks))
         }
         Look::Fill(stack_slot, held) => {
             *stack_slot < 64 && stack.fill(*stack_slot) == Some(kind_of(held))

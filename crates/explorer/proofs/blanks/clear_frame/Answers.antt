@@ -13,4 +13,4 @@ returns c =
       registers = replicate 10 Unset;
       stack = record { slots = slots };
     })
-    c.clear_slots.ensures
+    c.clear.ensures

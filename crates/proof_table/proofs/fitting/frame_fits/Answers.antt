@@ -6,5 +6,6 @@ pub returns : goal.returns
 returns c =
     FrameFits-said c.args.rows c.args.holder c.args.outer c.args.frame.now c.stack_slots_fit.result
     (omega arith) c.kinds_fit.ensures.count
-    c.stack_slots_fit.ensures.count (search rules)
-    (c.if-not-kinds_fit.ensures.fit.0 refl) c.stack_slots_fit.ensures.fit
+    (rw (← c.slots.ensures) c.stack_slots_fit.ensures.count) (search rules)
+    (c.if-not-kinds_fit.ensures.fit.0 refl)
+    (rw (← c.slots.ensures) c.stack_slots_fit.ensures.fit)

@@ -6,6 +6,6 @@ use Rattle.table_entries.proofs.forgetting.forget_slots.Given as goal
 
 abbrev pub invariant-loop-index : goal.invariant-loop-index
 invariant-loop-index l = record {
-  weaker : IsWeakerList (Written 0) l.fn.slots l.slots;
-  long : length l.slots ≡ frame_slots;
+  weaker : IsWeakerList (Written 0) l.fn.stack.slots l.stack.slots;
+  long : length l.stack.slots ≡ frame_slots;
 }

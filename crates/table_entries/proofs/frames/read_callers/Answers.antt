@@ -24,6 +24,7 @@ loop-holder-preserved c =
           rw (
             c.both-allowed.ensures,
             c.push.ensures.items,
+            c.copy.ensures,
             kept-both c.loop-holder.allowed
                 c.in_ok-fits.fits items frame,
           )

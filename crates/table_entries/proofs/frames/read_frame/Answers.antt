@@ -13,6 +13,6 @@ returns c =
     )
     (frame_in-read c.args.rows c.args.holder c.args.outer c.args.bytes.now c.in_ok-kinds.kinds
     c.read_registers.new.registers c.in_ok-kinds.rest.now
-    c.in_ok-stack_slots.stack_slots c.read_stack_slots.new.slots c.in_ok-stack_slots.rest.now
+    c.in_ok-stack_slots.stack_slots c.read_stack_slots.new.stack.slots c.in_ok-stack_slots.rest.now
     (omega arith)
     (rw (← c.skip.ensures) c.in_ok-kinds.ensures) c.in_ok-stack_slots.ensures)

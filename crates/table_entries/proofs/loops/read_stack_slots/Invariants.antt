@@ -9,8 +9,8 @@ use Rattle.table_entries.proofs.loops.read_stack_slots.Given as goal
 abbrev pub invariant-loop-index : goal.invariant-loop-index
 invariant-loop-index l =
     record {
-      so_far : with_front (kept l.allowed (take l.index l.slots))
+      so_far : with_front (kept l.allowed (take l.index l.stack.slots))
           (many (λ k. stack_slot_in l.rows l.holder) (frame_slots - l.index) l.index l.rest)
           ≡ many (λ k. stack_slot_in l.rows l.holder) frame_slots 0 l.bytes;
-      long : length l.slots ≡ frame_slots;
+      long : length l.stack.slots ≡ frame_slots;
     }

@@ -14,5 +14,5 @@ returns-then-frame_allowed c =
     sym c.frame_allowed.ensures ∙ c.if-frame_allowed.true in
     frame_in-read c.args.rows c.args.holder c.args.outer bytes true f.registers
     c.in_ok-rest.rest.now true f.stack.slots c.in_ok-rest-2.rest.now (omega arith)
-    (rw (← c.skip.ensures) c.in_ok-rest.ensures) c.in_ok-rest-2.ensures
+    (rw (← c.skip.ensures) c.in_ok-rest.ensures) (rw (← c.slots.ensures) c.in_ok-rest-2.ensures)
     ∙ rw (leads, allowed) refl

@@ -7,7 +7,7 @@ pub returns-then-is_join-clause-forgets : goal.returns-then-is_join-clause-forge
 returns-then-is_join-clause-forgets c =
     let may = c.forgets_numbers.ensures.0 c.if-forgets_numbers.true in
     forgets_both c.args.flow.now c.args.state.now c.forget_dead.new.state
-    c.forget_untested.new.registers c.forget_untested.new.slots may
+    c.forget_untested.new.registers c.forget_untested.new.stack.slots may
     (c.is_join.ensures.join.0 c.if-is_join.true) c.forget_dead.ensures
     (c.forget_untested.ensures.registers may) (c.forget_untested.ensures.slots may)
 
@@ -15,7 +15,7 @@ pub returns-then-is_join-clause-all : goal.returns-then-is_join-clause-all
 returns-then-is_join-clause-all c =
     let may = c.forgets_numbers.ensures.0 c.if-forgets_numbers.true in
     knows_tested c.args.flow.now c.args.state.now c.forget_dead.new.state
-    c.forget_untested.new.registers c.forget_untested.new.slots c.forget_dead.ensures
+    c.forget_untested.new.registers c.forget_untested.new.stack.slots c.forget_dead.ensures
     (c.forget_untested.ensures.registers may) (c.forget_untested.ensures.slots may)
 
 pub returns-else-forgets_numbers-clause-forgets : goal.returns-else-forgets_numbers-clause-forgets

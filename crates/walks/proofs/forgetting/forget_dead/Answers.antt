@@ -5,5 +5,5 @@ use Rattle.walks.proofs.forgetting.forget_dead.Goals as goal
 pub returns : goal.returns
 returns c =
     DeadForgotten-both c.args.flow.now c.args.state.now c.forget_caller.new.state _
-    c.forget_places.new.registers c.forget_places.new.slots
+    c.forget_places.new.registers c.forget_places.new.stack.slots
     c.forget_caller.ensures refl c.forget_places.ensures.registers c.forget_places.ensures.slots

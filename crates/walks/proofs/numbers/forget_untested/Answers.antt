@@ -15,7 +15,7 @@ returns-clause-slots c = λ may.
     let p = c.args.flow.now in
     let slot = c.args.slot in
     ForgetsNumbersIn-same (HasSlot c.without.result)
-    (λ j. IsSlotLive p j slot × (IsNumberTested p (InSlot j) slot → ⊥)) c.args.slots.now _
+    (λ j. IsSlotLive p j slot × (IsNumberTested p (InSlot j) slot → ⊥)) c.args.stack.now.slots _
     (chosen_of_tested p slot c.live_slots.result c.tested_slots.result c.without.result
     c.live_slots.ensures (c.tested_slots.ensures may) c.without.ensures)
     c.forget_slots_of.ensures

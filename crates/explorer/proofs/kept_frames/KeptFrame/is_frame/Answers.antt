@@ -1,4 +1,4 @@
-use Rattle.std.proofs.Common.{rules, ◌≡◌, ◌++◌, ◌∙◌, Option, None, option_to_list, ap, sym}
+use Rattle.std.proofs.Common.{rules, ◌≡◌, ◌++◌, ◌∙◌, Option, None, option_to_list, length, ap, sym}
 use Rattle.std.proofs.lemmas.List.{append-nil}
 use Rattle.state_index.specs.declared.parts.Part.{Part}
 use Rattle.state_index.specs.Parts.{unset_frame, all_written, parts_of, register_parts, slot_parts}
@@ -19,11 +19,13 @@ returns c = λ yes.
     ∙ c.are_registers.ensures.same c.if-not-are_registers.false
     ∙ ap (λ l. register_parts 0 frame.registers ++ l)
     (c.are_slots.ensures.same c.if-not-are_slots.false
-    ∙ ap (λ l. slot_parts 0 frame.stack.slots ++ l) (c.is_empty.ensures yes)
-    ∙ append-nil (slot_parts 0 frame.stack.slots)) in
+    ∙ ap (λ l. slot_parts 0 c.slots.result.now ++ l) (c.is_empty.ensures yes)
+    ∙ append-nil (slot_parts 0 c.slots.result.now)
+    ∙ ap (slot_parts 0) c.slots.ensures) in
     sym c.self.view_is
     ∙ ap (λ n. all_written (unset_frame n)
     (few_of c.self.inside.parts ++ whole (groups_of c.self.inside.parts))) slot
     ∙ all_written-parts_of frame
     (few_of c.self.inside.parts ++ whole (groups_of c.self.inside.parts))
-    c.are_registers.ensures.ten c.are_slots.ensures.wide all
+    c.are_registers.ensures.ten
+    (sym (ap length c.slots.ensures) ∙ c.are_slots.ensures.wide) all

@@ -1,9 +1,9 @@
-use Rattle.std.proofs.Common.{arith, ℕ, ◌/◌, ◌%◌, ◌+◌, Some, subst, sym, ◌∙◌}
+use Rattle.std.proofs.Common.{arith, ap, get_or, List, ℕ, ◌/◌, ◌%◌, ◌+◌, Some, subst, sym, ◌∙◌}
 use Rattle.std.specs.Prelude.{T}
 use Rattle.std.proofs.lemmas.List.{get_or_default}
 use Rattle.stack_state.specs.declared.slots.StackSlot.{StackSlot}
 use Rattle.stack_state.specs.declared.slots.StackSlot.TheVariants.{Written}
-use Rattle.stack_state.specs.Slots.{AreMarked, AreNumbers}
+use Rattle.stack_state.specs.Slots.{StackSlots, AreMarked, AreNumbers}
 use Rattle.stack_state.specs.StackMeaning.{LoadsNumber}
 use Rattle.stack_state.proofs.StackLaws.{loads}
 use Rattle.stack_state.proofs.stacks.StackState.load.Goals as goal
@@ -12,7 +12,10 @@ pub returns-then-is_bytes-clause-meant : goal.returns-then-is_bytes-clause-meant
 returns-then-is_bytes-clause-meant c =
     let slots = c.args.self.now.slots in
     let at : ℕ = c.args.at in
-    let same = get_or_default slots (at / 8) c.index-self-at.result (Written 0) (omega arith) in
+    let viewed = ap (λ (s : StackSlots). s.slots) c.self.view_is in
+    let same = get_or_default c.self.inside.slots (at / 8) c.index-self-at.result (Written 0)
+    (omega (arith, c.self.invariant.wide))
+    ∙ ap (λ (ys : List StackSlot). get_or ys (at / 8) (Written 0)) viewed in
     loads slots at c.args.size (Some c.numbers.result) c.requires.inside c.requires.in_slot (
       subst (λ (n : ℕ). AreMarked slots at (at + n)) c.bytes.ensures.value
           (c.is_bytes.ensures.exact.0 c.if-is_bytes.true),
@@ -28,7 +31,10 @@ pub returns-then-is_bytes-clause-exact : goal.returns-then-is_bytes-clause-exact
 returns-then-is_bytes-clause-exact c =
     let slots = c.args.self.now.slots in
     let at : ℕ = c.args.at in
-    let same = get_or_default slots (at / 8) c.index-self-at.result (Written 0) (omega arith) in (
+    let viewed = ap (λ (s : StackSlots). s.slots) c.self.view_is in
+    let same = get_or_default c.self.inside.slots (at / 8) c.index-self-at.result (Written 0)
+    (omega (arith, c.self.invariant.wide))
+    ∙ ap (λ (ys : List StackSlot). get_or ys (at / 8) (Written 0)) viewed in (
       subst (λ (n : ℕ). AreMarked slots at (at + n)) c.bytes.ensures.value
           (c.is_bytes.ensures.exact.0 c.if-is_bytes.true),
       subst (λ (s : StackSlot). AreNumbers s (at % 8) c.args.size c.numbers.result) same

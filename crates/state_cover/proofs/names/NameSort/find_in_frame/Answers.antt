@@ -1,7 +1,8 @@
-use Rattle.std.proofs.Common.{◌∙◌, sym}
+use Rattle.std.proofs.Common.{List, ◌∙◌, ap, sym}
 use Rattle.std.specs.List.{zip}
 use Rattle.std.proofs.lemmas.List.Folds.{find-append}
-use Rattle.state_cover.specs.Names.{is_named, spilled_kinds}
+use Rattle.stack_state.specs.declared.slots.StackSlot.{StackSlot}
+use Rattle.state_cover.specs.Names.{first_named, is_named, spilled_kinds}
 use Rattle.state_cover.proofs.names.NameSort.find_in_frame.Goals as goal
 
 pub returns-in-Some : goal.returns-in-Some
@@ -20,4 +21,9 @@ returns c =
     let split = find-append (λ place. is_named c.args.self c.args.identity place.0)
     (zip f.registers g.registers)
     (zip (spilled_kinds f.stack.slots) (spilled_kinds g.stack.slots)) in
-    c.find_in_slots.ensures ∙ sym (rw (← c.in_default.ensures) at split)
+    let named = λ (xs ys : List StackSlot). first_named c.args.self c.args.identity
+    (zip (spilled_kinds xs) (spilled_kinds ys)) in
+    c.find_in_slots.ensures
+    ∙ ap (λ xs. named xs c.slots-2.result.now) c.slots.ensures
+    ∙ ap (λ ys. named f.stack.slots ys) c.slots-2.ensures
+    ∙ sym (rw (← c.in_default.ensures) at split)

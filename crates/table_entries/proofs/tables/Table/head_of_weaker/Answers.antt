@@ -14,5 +14,6 @@ pub returns-clause-spelled : goal.returns-clause-spelled
 returns-clause-spelled c =
     let a = c.args.state.now in
     let b : State = record a { innermost = c.forget_unsaid.new.frame } in
-    AreSpelled-outer (length c.args.image.now.maps) 7 c.head_of.new.known c.keep-2.new.self b a
+    let again : State = record a { innermost = c.copy-whole.result } in
+    AreSpelled-outer (length c.args.image.now.maps) 7 c.head_of.new.known c.keep-2.new.self b again
     c.keep-2.ensures.frames c.keep-2.ensures.slots refl c.head_of.ensures.spelled
