@@ -8,7 +8,9 @@ IN is a capture (pcap or pcapng, packed by gzip or not), a frame stream, or a te
 show which. OUT gets the format that its name ends in, or the KIND that is given: `.pcap`,
 `.pcapng`, `.frames` (a frame stream) or `.txt` (text). With another name a capture or a text
 becomes a frame stream. `-` is standard input or standard output. Files are read and written frame
-by frame, so a capture may be of any size, or not yet at its end.
+by frame, so a capture may be of any size, or not yet at its end; into a pipe each frame is handed on before the next is
+read. OUT may not be IN. A file OUT is written beside it and takes its name once it is whole: where
+anything fails, an old OUT stays as it was.
 
 A frame stream is XPF1, with frames of up to 4,096 bytes. With --reasons it is XPF2, with frames of up to 9,216 bytes
 and a reason for each: why it was dropped, or 0. Longer frames are left out of XPF1, so that later ones have a smaller
@@ -46,6 +48,9 @@ import os
 import re
 import struct
 import sys
+
+from inputs import NoText, text_lines
+from outputs import IsRead, Output, end_by_signal
 
 Frame = collections.namedtuple("Frame", "time interface queue body reason", defaults=[0])
 Form = collections.namedtuple("Form", "head most")
@@ -97,9 +102,14 @@ class Source:
     def is_at_end(self):
         return not self.look(1)
 
-    def rest(self):
-        data, self.begin = self.begin + self.file.read(), b""
-        return data
+    def line(self, count):
+        """The next line with its end, or its first bytes; the last one may have no end, and after it comes nothing."""
+        begin, self.begin = self.begin, b""
+        end = begin.find(b"\n") + 1
+        if end:
+            self.begin = begin[end:]
+            return begin[:end]
+        return begin + self.file.readline(count)
 
 
 def unpack(form, data, at, what):
@@ -133,7 +143,7 @@ def write_stream(frames, magic, put):
                 tell(f"frame {number} has {len(frame.body)} bytes, more than {form.most}: an empty one with the reason {TOO_LONG} takes its place")
                 put(struct.pack(form.head, frame.time, frame.interface, frame.queue, 0, TOO_LONG))
             else:
-                tell(f"frame {number} is left out: it has {len(frame.body)} bytes, more than {form.most}")
+                tell(f"frame {number} is left out: it has {len(frame.body)} bytes, more than {form.most} (--reasons keeps up to {FORMS[b'XPF2'].most:,})")
         else:
             put(struct.pack(form.head, frame.time, frame.interface, frame.queue, len(frame.body), *reason) + frame.body)
     if lost:
@@ -310,28 +320,35 @@ def write_pcapng(frames, put):
 HEAD = re.compile(r"frame (\d+)(?: interface (\d+))?(?: queue (\d+))?(?: reason (\d+))?")
 
 
+def head_of(numbers, frame):
+    """The frame, without bytes yet, that the first line of one says."""
+    time, interface, queue, reason = (int(it or 0) for it in numbers)
+    if time >> 64 or interface >> 32 or queue >> 32 or reason >> 32:
+        raise Damaged(f"frame {frame} has a number that is too large")
+    return Frame(time, interface, queue, b"", reason)
+
+
 def read_text(source, counts):
-    try:
-        lines = source.rest().decode("utf-8").splitlines()
-    except UnicodeDecodeError:
-        raise Damaged("it is no pcap, no pcapng, no frame stream and no text") from None
-    frames = []
-    for number, line in enumerate(lines, 1):
+    frame, pieces, size, count = None, [], 0, 0
+    for number, line in text_lines(source.line):
         words = line.split("#")[0].split("|")[0].strip()
         head = HEAD.fullmatch(words)
         if head:
-            time, interface, queue, reason = (int(number or 0) for number in head.groups())
-            frames.append(Frame(time, interface, queue, b"", reason))
+            if frame:
+                yield frame._replace(body=b"".join(pieces))
+            frame, pieces, size, count = head_of(head.groups(), count), [], 0, count + 1
         elif words:
             try:
-                more = bytes.fromhex(re.sub(r"^[0-9a-f]+:", "", words))
-                frames[-1] = frames[-1]._replace(body=frames[-1].body + more)
-            except (ValueError, IndexError):
-                raise Damaged(f"line {number} is neither a frame's first line nor bytes of one: {line.strip()[:60]}") from None
-    for number, frame in enumerate(frames):
-        if frame.time >> 64 or frame.interface >> 32 or frame.queue >> 32 or frame.reason >> 32:
-            raise Damaged(f"frame {number} has a number that is too large")
-    yield from frames
+                pieces.append(bytes.fromhex(re.sub(r"^[0-9a-f]+:", "", words)))
+            except ValueError:
+                frame = None
+            if frame is None:
+                raise Damaged(f"line {number} is neither a frame's first line nor bytes of one: {line.strip()[:60]!a}")
+            size += len(pieces[-1])
+            if size > PIECE:
+                raise Damaged(f"frame {count - 1} has over {PIECE:,} bytes")
+    if frame:
+        yield frame._replace(body=b"".join(pieces))
 
 
 def write_text(frames, put):
@@ -368,10 +385,20 @@ class Joined:
             return data
         return self.file.read(count)
 
+    def readline(self, count):
+        begin, self.begin = self.begin, b""
+        end = begin.find(b"\n") + 1
+        if end:
+            self.begin = begin[end:]
+            return begin[:end]
+        return begin + self.file.readline(count)
+
 
 def reader_of(source):
     """What reads a file, by its first bytes, and whether it is a frame stream."""
     begin = source.look(4)
+    if not begin:
+        raise Damaged("it is empty, and a capture or a frame stream has at least its head")
     if begin in FORMS:
         return read_stream, True
     if begin in PCAP:
@@ -416,47 +443,11 @@ def frames_of(source, words, state):
         state["ends"] = str(why)
 
 
-class Sink:
-    """A file that is written; a failure is reported with its name."""
-
-    def __init__(self, path):
-        self.path, self.file = path, open(path, "wb")
-
-    def __enter__(self):
-        return self
-
-    def put(self, data):
-        self.named(lambda: self.file.write(data))
-
-    def __exit__(self, *_):
-        self.named(self.file.close)
-
-    def named(self, act):
-        try:
-            act()
-        except OSError as why:
-            why.filename = self.path
-            raise
-
-
 def convert(words, source, state):
-    if words.show:
-        write_text(frames_of(source, words, state), sys.stdout.buffer.write)
-        sys.stdout.buffer.flush()
-        return
-    out = words.files[1]
-    write = writer_for(out, words.to, reader_of(source)[1], words.reasons)
-    if out == "-":
-        write(frames_of(source, words, state), sys.stdout.buffer.write)
-        sys.stdout.buffer.flush()
-    else:
-        with Sink(out) as sink:
-            try:
-                write(frames_of(source, words, state), sink.put)
-            except Damaged:
-                if os.path.isfile(out):
-                    os.remove(out)
-                raise
+    out = "-" if words.show else words.files[1]
+    write = write_text if words.show else writer_for(out, words.to, reader_of(source)[1], words.reasons)
+    with Output(out, [] if words.show else words.files[:1]) as sink:
+        write(frames_of(source, words, state), sink.put)
 
 
 def main():
@@ -468,29 +459,32 @@ def main():
     parser.add_argument("--interface", type=number, help="of all frames")
     parser.add_argument("--queue", type=number, help="of all frames")
     parser.add_argument("--reasons", action="store_true", help="a frame stream of XPF2, with reasons")
+    parser.add_argument("--named", metavar="NAME", help="what messages call standard input")
     parser.add_argument("--strict", action="store_true", help="status 1 where IN ends in the middle of a frame")
     parser.add_argument("files", nargs="+", metavar="FILE")
-    words = parser.parse_args()
+    words = parser.parse_intermixed_args()
     if len(words.files) != (1 if words.show else 2):
         parser.error("--show takes one file, and else there are two")
     state = collections.Counter()
-    state["path"] = words.files[0]
+    state["path"] = words.named or words.files[0]
+    end_by_signal()
     try:
-        if not words.show and words.files[1] != "-" and os.path.exists(words.files[1]) and os.path.exists(words.files[0]) \
-                and os.path.samefile(*words.files):
-            raise Damaged("it would be written over while it is read")
         convert(words, opened(words.files[0]), state)
     except BrokenPipeError:
         os.dup2(os.open(os.devnull, os.O_WRONLY), 1)
         sys.exit(1)
     except OSError as error:
         sys.exit(f"{error.filename or state['path']}: {error.strerror or error}")
+    except IsRead as error:
+        sys.exit(f"{error}")
+    except NoText as why:
+        sys.exit(f"{state['path']}: " + ("it is no pcap, no pcapng, no frame stream and no text" if why.number == 1 else f"{why}"))
     except Damaged as error:
         sys.exit(f"{state['path']}: {error}")
     if state["cut"]:
         tell(f"{state['cut']} frames were cut when they were captured: only those bytes are here")
     if state["ends"]:
-        tell(f"{words.files[0]}: {state['ends']}: the whole frames before it were read")
+        tell(f"{state['path']}: {state['ends']}: the whole frames before it were read")
         sys.exit(1 if words.strict else 0)
 
 

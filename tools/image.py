@@ -1,7 +1,7 @@
 #!/usr/bin/env python3
 """Makes an image of an object file that clang or gcc compiled for BPF.
 
-usage: python3 tools/image.py OBJECT IMAGE [--section NAME] [--program NAME] [--source FILE] [--list]
+usage: python3 tools/image.py OBJECT IMAGE [--section NAME] [--program NAME] [--source FILE] [--btf FILE] [--list]
 
 The program is a function of the section xdp, or of the one that is named; where no section is named and only one can hold
 a program, that one. --program names the function where a section has several; --list prints what there is. Functions that
@@ -10,7 +10,11 @@ the program calls, and those that they call, go into the image after it, and no 
 Maps are those of the section .maps, as libbpf writes them; their sizes are in the type information, so compile with -g.
 Global variables that begin as zeros (.bss) become one array with one key, after the maps. Variables
 that begin with another value, and constant tables, cannot be in an image, since a map begins as
-zeros. --source is the file that messages name in place of the object.
+zeros. Fields, types and values that depend on the kernel (CO-RE) are those of the running kernel, or of the type
+information in --btf FILE; those of the context need none. --source is the file that messages name in place of the object.
+
+Each relocation and each record of the program's functions is applied, or the object is refused, with the line. IMAGE is
+written beside it and takes its name once it is whole; it may be neither OBJECT nor FILE.
 
 examples:
     clang -target bpf -g -O2 -c filter.c -o filter.o && python3 tools/image.py --source filter.c filter.o filter.image
@@ -20,225 +24,107 @@ examples:
 The exit status is 0, or 1 with a message; then no image is written.
 """
 import argparse
-import collections
 import struct
 import sys
+from typing import NamedTuple
+
+from core_relocations import Kernel
+from objects import EXECUTABLE, FUNCTION_SYMBOL, LOCAL_CALL, OBJECT_SYMBOL, SECTION_SYMBOL, WIDE_LOAD
+from objects import Object, Refused, Relocation, Symbol
+from outputs import IsRead, end_by_signal, write_whole
+from type_information import TAG, Access, Extra, Line, Type, Types
 
 HASH, ARRAY = 1, 2
-MAP, VALUE, FUNCTION = 5, 6, 1      # src_reg of a wide load of a map, of one of a value, of a local call
-RELOCATIONS, SYMBOLS = 9, 2         # types of sections
-EXECUTABLE = 4                      # a flag of sections
-OBJECT_SYMBOL, FUNCTION_SYMBOL, SECTION_SYMBOL = 1, 2, 3
+MAP, VALUE, FUNCTION = 5, 6, 1  # src_reg of a wide load of a map, of one of a value, of a local call
 KINDS = {3: "PROG_ARRAY", 4: "PERF_EVENT_ARRAY", 5: "PERCPU_HASH", 6: "PERCPU_ARRAY", 7: "STACK_TRACE", 9: "LRU_HASH",
          10: "LRU_PERCPU_HASH", 11: "LPM_TRIE", 12: "ARRAY_OF_MAPS", 13: "HASH_OF_MAPS", 14: "DEVMAP", 16: "CPUMAP",
          17: "XSKMAP", 22: "QUEUE", 23: "STACK", 25: "DEVMAP_HASH", 27: "RINGBUF", 30: "BLOOM_FILTER"}
 MOST_MAPS, MOST_SLOTS, MOST_KEY, MOST_VALUE, MOST_ENTRIES, MOST_ROOM = 16, 4096, 64, 4096, 65536, 1 << 24
-
-Symbol = collections.namedtuple("Symbol", "name section value size kind")
-Line = collections.namedtuple("Line", "file number column text")
-Image = collections.namedtuple("Image", "rows slots lines names")   # lines: a Line or None for each slot; names: of maps
+MOST_OBJECT = 1 << 26  # bytes of an object file that is read
+DAMAGED = "the object file is damaged, or of a form that is not known here"
 
 
-class Refused(Exception):
-    """What an image cannot have, or a file that is not such an object."""
+class Image(NamedTuple):
+    """The parts of an image; `lines` has a source line or nothing for each slot, `names` the names of the maps."""
+
+    rows: list[bytes]
+    slots: bytes
+    lines: list[Line | None]
+    names: list[str]
+    magic: bytes
 
 
-def text_at(data, at):
-    return data[at:data.index(b"\0", at)].decode()
+# ---- maps, from the type information
 
-
-class Object:
-    """The sections and symbols of an ELF file."""
-
-    def __init__(self, data):
-        if data[:4] != b"\x7fELF":
-            raise Refused("this is no object file")
-        if data[4:6] != b"\2\1" or struct.unpack_from("<H", data, 18)[0] != 247:
-            raise Refused("this is no object file for BPF, little-endian (clang -target bpf makes one)")
-        table, = struct.unpack_from("<Q", data, 40)
-        size, count, names = struct.unpack_from("<HHH", data, 58)
-        rows = [struct.unpack_from("<IIQQQQIIQQ", data, table + size * i) for i in range(count)]
-        self.names = [text_at(data, rows[names][4] + row[0]) for row in rows]
-        self.types = [row[1] for row in rows]
-        self.flags = [row[2] for row in rows]
-        self.sizes = [row[5] for row in rows]
-        self.bodies = [data[row[4]:row[4] + row[5]] if row[1] != 8 else b"" for row in rows]
-        self.targets = [row[7] for row in rows]
-        self.symbols = []
-        for i, row in enumerate(rows):
-            if row[1] == SYMBOLS:
-                texts = self.bodies[row[6]]
-                for name, info, _, section, value, length in struct.iter_unpack("<IBBHQQ", self.bodies[i]):
-                    self.symbols.append(Symbol(text_at(texts, name), section, value, length, info & 15))
-
-    def section(self, name):
-        return self.names.index(name) if name in self.names else None
-
-    def relocations(self, section):
-        """The symbol of each relocation of a section, by its offset."""
-        found = {}
-        for i, kind in enumerate(self.types):
-            if kind == RELOCATIONS and self.targets[i] == section:
-                for at, info in struct.iter_unpack("<QQ", self.bodies[i]):
-                    found[at] = self.symbols[info >> 32]
-        return found
-
-    def functions(self, section):
-        """The functions of a section, by where they begin."""
-        return {it.value: it for it in self.symbols if it.section == section and it.kind == FUNCTION_SYMBOL}
-
-    def variable(self, section, at):
-        """The name of the variable at an offset of a section, if it has one."""
-        for it in self.symbols:
-            if it.section == section and it.kind == OBJECT_SYMBOL and it.value <= at < it.value + max(it.size, 1):
-                return it.name
-        return None
-
-
-# ---- maps, from the type information (BTF)
-
-INT, POINTER, ARRAY_OF, STRUCT, UNION, ENUM, TYPEDEF, VOLATILE, CONST, RESTRICT = 1, 2, 3, 4, 5, 6, 8, 9, 10, 11
-PROTOTYPE, VARIABLE, SECTION, TAG, TYPE_TAG, ENUM64 = 13, 14, 15, 17, 18, 19
-AFTER = {INT: 4, ARRAY_OF: 12, VARIABLE: 4, TAG: 4}                                             # bytes after a type
-EACH = {STRUCT: 12, UNION: 12, ENUM: 8, PROTOTYPE: 8, SECTION: 12, ENUM64: 12}                  # and for each part
-
-
-class Types:
-    def __init__(self, data):
-        magic, _, _, head, types, length, texts, _ = struct.unpack_from("<HBBIIIII", data, 0)
-        if magic != 0xEB9F:
-            raise Refused("the type information is damaged")
-        self.text = lambda at: text_at(data, head + texts + at)
-        self.rows, at, end = [None], head + types, head + types + length
-        while at < end:
-            name, info, size = struct.unpack_from("<III", data, at)
-            kind, parts = info >> 24 & 31, info & 0xFFFF
-            rest = AFTER.get(kind, EACH.get(kind, 0) * parts)
-            self.rows.append((self.text(name), kind, size, data[at + 12:at + 12 + rest]))
-            at += 12 + rest
-
-    def plain(self, number):
-        """A type without its names and qualifiers."""
-        while self.rows[number] and self.rows[number][1] in (TYPEDEF, VOLATILE, CONST, RESTRICT, TYPE_TAG):
-            number = self.rows[number][2]
-        return self.rows[number]
-
-    def size(self, number):
-        _, kind, size, rest = self.plain(number)
-        if kind == ARRAY_OF:
-            of, _, count = struct.unpack("<III", rest)
-            return self.size(of) * count
-        return 8 if kind == POINTER else size
-
-    def parts(self, number):
-        """The members of a structure, by name: the types that they point to."""
-        _, _, _, rest = self.plain(number)
-        return {self.text(name): self.plain(of)[2] for name, of, _ in struct.iter_unpack("<III", rest)}
-
-    def number(self, pointed):
-        """The number that a member of a map's definition means: the length of an array."""
-        return struct.unpack("<III", self.plain(pointed)[3])[2]
-
-    def maps(self):
-        """The variables of the section .maps, by name: their rows."""
-        for name, kind, _, rest in self.rows[1:]:
-            if kind == SECTION and name == ".maps":
-                for variable, _, _ in struct.iter_unpack("<III", rest):
-                    yield self.rows[variable][0], self.row(self.rows[variable])
-
-    def row(self, variable):
-        name, _, of, _ = variable
-        parts = self.parts(of)
-        if "type" not in parts or "max_entries" not in parts:
-            raise Refused(f"map {name}: it has no type, or no max_entries")
-        kind = self.number(parts["type"])
-        if kind not in (HASH, ARRAY):
-            called = f"{KINDS[kind]} ({kind})" if kind in KINDS else kind
-            raise Refused(f"map {name}: its type is {called}; there are HASH (1) and ARRAY (2)")
-        if "map_flags" in parts and self.number(parts["map_flags"]):
-            raise Refused(f"map {name}: there are no flags of maps here")
-        key, value = (self.number(parts[part + "_size"]) if part + "_size" in parts else self.size(parts[part])
-                      for part in ("key", "value"))
-        entries = self.number(parts["max_entries"])
-        for what, size, most in (("max_entries", entries, MOST_ENTRIES), ("key", key, MOST_KEY), ("value", value, MOST_VALUE)):
-            if not 1 <= size <= most:
-                raise Refused(f"map {name}: its {what} {'is' if what == 'max_entries' else 'has'} {size:,}"
-                              f"{'' if what == 'max_entries' else ' bytes'}, and 1 to {most:,} are possible")
-        if kind == ARRAY and key != 4:
-            raise Refused(f"map {name}: the key of an array has 4 bytes, and this one has {key}")
-        return struct.pack("<HHII", kind, key, value, entries)
-
-
-class Lines:
-    """The source lines of an object's instructions, from .BTF.ext."""
-
-    def __init__(self, it):
-        self.found = {}
-        extra, types = it.section(".BTF.ext"), it.section(".BTF")
-        if extra is None or types is None:
-            return
-        data, text = it.bodies[extra], Types(it.bodies[types]).text
-        _, _, _, head, _, _, at, length = struct.unpack_from("<HBBIIIII", data, 0)
-        at, end = head + at, head + at + length
-        size, = struct.unpack_from("<I", data, at)
-        at += 4
-        while at + 8 <= end:
-            name, count = struct.unpack_from("<II", data, at)
-            at += 8
-            rows = self.found.setdefault(text(name), {})
-            for _ in range(count):
-                place, file, line, column = struct.unpack_from("<IIII", data, at)
-                rows[place] = Line(text(file), column >> 10, column & 1023, text(line).strip())
-                at += size
-
-    def at(self, section, place):
-        """The line that an instruction comes from: the last one that begins at or before it."""
-        rows = self.found.get(section, {})
-        before = [it for it in rows if it <= place]
-        return rows[max(before)] if before else None
+def map_row(types: Types, variable: Type) -> bytes:
+    """The row of a map, from the members of its definition: each is a pointer, to an array whose length is a number, or
+    to a type."""
+    name, parts = variable.name, types.pointed(variable.size)
+    if "type" not in parts or "max_entries" not in parts:
+        raise Refused(f"map {name}: it has no type, or no max_entries")
+    kind = types.length(parts["type"])
+    if kind not in (HASH, ARRAY):
+        called = f"{KINDS[kind]} ({kind})" if kind in KINDS else kind
+        raise Refused(f"map {name}: its type is {called}; there are HASH (1) and ARRAY (2)")
+    if "map_flags" in parts and types.length(parts["map_flags"]):
+        raise Refused(f"map {name}: there are no flags of maps here")
+    if "values" in parts:
+        raise Refused(f"map {name}: it begins with values, and a map begins as zeros")
+    key, value = (types.length(parts[part + "_size"]) if part + "_size" in parts else types.size(parts[part])
+                  for part in ("key", "value"))
+    entries = types.length(parts["max_entries"])
+    for what, size, most in (("max_entries", entries, MOST_ENTRIES), ("key", key, MOST_KEY), ("value", value, MOST_VALUE)):
+        if not 1 <= size <= most:
+            raise Refused(f"map {name}: its {what} {'is' if what == 'max_entries' else 'has'} {size:,}"
+                          f"{'' if what == 'max_entries' else ' bytes'}, and 1 to {most:,} are possible")
+    if kind == ARRAY and key != 4:
+        raise Refused(f"map {name}: the key of an array has 4 bytes, and this one has {key}")
+    return struct.pack("<HHII", kind, key, value, entries)
 
 
 # ---- the program
 
-def map_rows(it):
+def map_rows(it: Object) -> tuple[list[bytes], list[str], dict[int, int]]:
     """The rows and the names of all maps in the order of .maps, and the index of each by its
     offset."""
     if it.section("maps") is not None:
         raise Refused('its maps are in the old section "maps": define them with SEC(".maps"), as libbpf does')
-    section = it.section(".maps")
+    section, data = it.section(".maps"), it.body(".BTF")
     if section is None:
         return [], [], {}
-    if it.section(".BTF") is None:
+    if data is None:
         raise Refused("the object has maps, and no type information: compile with -g")
-    rows = dict(Types(it.bodies[it.section(".BTF")]).maps())
-    places = sorted((symbol.value, symbol.name) for symbol in it.symbols if symbol.section == section and symbol.name in rows)
+    types = Types(data)
+    rows_by_name = {variable.name: map_row(types, variable) for variable in types.variables(".maps")}
+    places = sorted((symbol.value, symbol.name) for symbol in it.symbols if symbol.section == section and symbol.name in rows_by_name)
     names = [name for _, name in places]
     if len(names) > MOST_MAPS:
         raise Refused(f"there are {len(names)} maps, and an image has at most {MOST_MAPS}")
-    rows = [rows[name] for name in names]
+    rows = [rows_by_name[name] for name in names]
     room = sum((key + value) * entries for _, key, value, entries in (struct.unpack("<HHII", row) for row in rows))
     if room > MOST_ROOM:
         raise Refused(f"the maps have {room:,} bytes together, and an image's have at most {MOST_ROOM:,}")
     return rows, names, {value: i for i, (value, _) in enumerate(places)}
 
 
-def programs(it):
+def programs(it: Object) -> dict[str, list[str]]:
     """The functions that can be programs, by section: those of executable sections but .text."""
-    found = {}
+    found: dict[str, list[str]] = {}
     for i, name in enumerate(it.names):
         if it.types[i] == 1 and it.flags[i] & EXECUTABLE and name != ".text" and it.sizes[i]:
             found[name] = [one.name for _, one in sorted(it.functions(i).items())]
     return found
 
 
-def chosen(it, section, name):
+def chosen(it: Object, section: str | None, name: str | None) -> Symbol:
     """The function that is the program."""
     there = programs(it)
+    every = [one for names in there.values() for one in names]
     if section is None:
         having = [one for one, names in there.items() if name in names] if name else list(there)
         section = "xdp" if "xdp" in there and (not name or name in there["xdp"]) else having[0] if len(having) == 1 else None
         if section is None and name and not having:
-            raise Refused(f"there is no function {name}; there are: {', '.join(sum(there.values(), [])) or 'none'}")
+            raise Refused(f"there is no function {name}; there are: {', '.join(every) or 'none'}")
         if section is None:
             raise Refused(f"there is no section xdp; name one of these by --section: {', '.join(sorted(there)) or 'none'}")
     if section not in there:
@@ -248,29 +134,41 @@ def chosen(it, section, name):
         raise Refused(f"the section {section} has several programs; name one by --program: {', '.join(names)}")
     if name is not None and name not in names:
         raise Refused(f"the section {section} has no function {name}; it has: {', '.join(names)}")
-    for one in it.functions(it.section(section)).values():
+    for one in it.functions(it.names.index(section)).values():
         if name in (None, one.name):
             return one
     raise Refused(f"the section {section} has no function")
 
 
+def magic_of(it: Object) -> bytes:
+    """The magic of the image that an object was made of, as a declaration tag of its type information says, or that of
+    version 1."""
+    data = it.body(".BTF")
+    types = Types(data) if data is not None else None
+    tags = [types.at(number) for number in range(1, len(types.rows))] if types else []
+    return b"XBP2" if any(one.kind == TAG and one.name.startswith("xdpvm XBP2 ") for one in tags) else b"XBP1"
+
+
 class Linker:
     """Functions put one after the other, from the program's on, and what they name."""
 
-    def __init__(self, it):
-        self.it, self.lines = it, Lines(it)
+    def __init__(self, it: Object, kernel: Kernel) -> None:
+        self.it, self.extra, self.kernel = it, Extra(it), kernel
         self.rows, self.names, self.numbers = map_rows(it)
-        self.begins, self.waiting, self.slots, self.origins = {}, [], bytearray(), []
-        self.variables = None
+        self.begins: dict[tuple[int, int], int] = {}
+        self.waiting: list[Symbol] = []
+        self.slots = bytearray()
+        self.origins: list[tuple[int, int]] = []
+        self.variables: int | None = None
 
-    def where(self, section, at):
+    def where(self, section: int, at: int) -> str:
         """The words that say where in the source an instruction is."""
         functions = [it for it in self.it.functions(section).values() if it.value <= at < it.value + it.size]
-        line = self.lines.at(self.it.names[section], at)
+        line = self.extra.at(self.it.names[section], at)
         said = f"in {functions[0].name}" if functions else f"in section {self.it.names[section]}"
         return said + (f", {line.file}:{line.number}" if line else "")
 
-    def begin(self, function):
+    def begin(self, function: Symbol) -> int:
         """Where a function begins in the image; it is put there if it is not there yet."""
         key = (function.section, function.value)
         if key not in self.begins:
@@ -285,34 +183,68 @@ class Linker:
             self.waiting.append(function)
         return self.begins[key]
 
-    def link(self, function):
+    def link(self, function: Symbol) -> Image:
         self.begin(function)
         while self.waiting:
-            one = self.waiting.pop(0)
-            named, begin, wide = self.it.relocations(one.section), self.begins[one.section, one.value], False
-            for k in range(one.size // 8):
-                opcode, registers = self.slots[8 * (begin + k)], self.slots[8 * (begin + k) + 1]
-                at = one.value + 8 * k
-                if wide:
-                    wide = False
-                elif opcode == 0x85 and (at in named or registers >> 4 == FUNCTION):
-                    self.call(begin + k, one.section, at, named.get(at))
-                elif at in named:
-                    self.load(begin + k, one.section, at, named[at], opcode)
-                wide = opcode == 0x18 and not wide
-        return Image(self.rows, bytes(self.slots), [self.lines.at(self.it.names[s], at) for s, at in self.origins], self.names)
+            self.link_function(self.waiting.pop(0))
+        lines = [self.extra.at(self.it.names[section], at) for section, at in self.origins]
+        return Image(self.rows, bytes(self.slots), lines, self.names, magic_of(self.it))
 
-    def call(self, slot, section, at, symbol):
+    def link_function(self, one: Symbol) -> None:
+        """Applies all that is named in a function; what is left over is refused."""
+        begin, wide = self.begins[one.section, one.value], False
+        named = {at: it for at, it in self.it.relocations(one.section).items() if one.value <= at < one.value + one.size}
+        accesses = self.extra.accesses.get(self.it.names[one.section], {})
+        asked = {at: it for at, it in accesses.items() if one.value <= at < one.value + one.size}
+        for k in range(one.size // 8):
+            opcode, registers = self.slots[8 * (begin + k)], self.slots[8 * (begin + k) + 1]
+            at = one.value + 8 * k
+            if not wide:
+                if at in asked:
+                    self.access(begin + k, one.section, at, asked.pop(at), opcode)
+                if opcode == 0x85 and (at in named or registers >> 4 == FUNCTION):
+                    self.call(begin + k, one.section, at, named.pop(at, None))
+                elif opcode == 0x18 and at in named:
+                    self.load(begin + k, one.section, at, named.pop(at))
+            wide = opcode == 0x18 and not wide
+        for at, it in named.items():
+            raise Refused(f"{self.called(it.symbol)} is named {self.where(one.section, at)}, in an instruction that names nothing")
+        for at in asked:
+            raise Refused(f"a field is asked for {self.where(one.section, at)}, where no instruction begins")
+
+    def access(self, slot: int, section: int, at: int, access: Access, opcode: int) -> None:
+        """What depends on the kernel: the offset of a load or store, the number of an addition, a move or a wide load."""
+        try:
+            before, after, called = self.kernel.resolved(self.extra.types, access)
+        except Refused as why:
+            raise Refused(f"{self.where(section, at)}: {why}") from None
+        place = 8 * slot
+        if opcode & 7 in (1, 2, 3):
+            is_wrong = struct.unpack_from("<h", self.slots, place + 2)[0] != before or not -(1 << 15) <= after < 1 << 15
+            new, form, there = after, "<h", place + 2
+        else:
+            is_known = opcode == 0x18 or opcode & 7 in (4, 7) and not opcode & 8
+            is_wrong = not is_known or struct.unpack_from("<i", self.slots, place + 4)[0] != before or not -(1 << 31) <= after < 1 << 31
+            new, form, there = after, "<i", place + 4
+        if is_wrong:
+            raise Refused(f"{called} is asked for {self.where(section, at)}, in an instruction of a form that is not known here")
+        struct.pack_into(form, self.slots, there, new)
+
+    def called(self, symbol: Symbol) -> str:
+        return symbol.name or self.it.section_name(symbol.section) or "a symbol"
+
+    def call(self, slot: int, section: int, at: int, named: Relocation | None) -> None:
         """A local call: by the function's own symbol, by its section's with its offset in imm, or
         in its own section."""
         imm, = struct.unpack_from("<i", self.slots, 8 * slot + 4)
-        if symbol is None:
+        symbol = named.symbol if named else None
+        if symbol is None or named is None:
             home, place = section, at + 8 * (imm + 1)
         elif symbol.section == 0:
             raise Refused(f"{symbol.name} is called {self.where(section, at)}, and the object does not have it")
-        elif symbol.kind == FUNCTION_SYMBOL:
+        elif symbol.kind == FUNCTION_SYMBOL and named.kind == LOCAL_CALL:
             home, place = symbol.section, symbol.value
-        elif symbol.kind == SECTION_SYMBOL:
+        elif symbol.kind == SECTION_SYMBOL and named.kind == LOCAL_CALL:
             home, place = symbol.section, 8 * (imm + 1)
         else:
             raise Refused(f"the call {self.where(section, at)} names {symbol.name or 'a symbol'} in a form that is not known here")
@@ -323,26 +255,46 @@ class Linker:
         self.slots[8 * slot + 1] = self.slots[8 * slot + 1] & 15 | FUNCTION << 4
         struct.pack_into("<i", self.slots, 8 * slot + 4, begin - slot - 1)
 
-    def load(self, slot, section, at, symbol, opcode):
+    def load(self, slot: int, section: int, at: int, named: Relocation) -> None:
         """A wide load of a map or of a variable."""
-        place, (imm,) = 8 * slot, struct.unpack_from("<i", self.slots, 8 * slot + 4)
-        name = self.it.names[symbol.section] if symbol.section < len(self.it.names) else ""
-        value = symbol.value + (imm if symbol.kind == SECTION_SYMBOL else 0)
-        if opcode == 0x18 and name == ".maps" and value in self.numbers:
+        symbol, place = named.symbol, 8 * slot
+        name = self.it.section_name(symbol.section)
+        value = self.address(slot, section, at, named)
+        if name == ".maps" and value in self.numbers:
             kind, number, offset = MAP, self.numbers[value], 0
-        elif opcode == 0x18 and name == ".bss":
+        elif name == ".bss":
+            if not 0 <= value < self.it.sizes[symbol.section]:
+                raise Refused(f"byte {value} of .bss is named {self.where(section, at)}, and it has {self.it.sizes[symbol.section]}")
             if self.variables is None:
                 self.variables = len(self.rows)
                 self.rows.append(struct.pack("<HHII", ARRAY, 4, self.it.sizes[symbol.section], 1))
                 self.names.append(".bss")
-            kind, number, offset = VALUE, self.variables, symbol.value + imm
+            kind, number, offset = VALUE, self.variables, value
         else:
             raise Refused(self.why_not(section, at, symbol, name, value))
         self.slots[place + 1] = self.slots[place + 1] & 15 | kind << 4
         struct.pack_into("<i", self.slots, place + 4, number)
         struct.pack_into("<i", self.slots, place + 12, offset)
 
-    def why_not(self, section, at, symbol, name, value):
+    def address(self, slot: int, section: int, at: int, named: Relocation) -> int:
+        """The place in its section that a wide load names. What clang writes into the instruction is added to the symbol's
+        value; what gcc's assembler writes there is the place."""
+        low, high = (int(struct.unpack_from("<I", self.slots, 8 * slot + there)[0]) for there in (4, 12))
+        written = high << 32 | low
+        if high == 0 and low >> 31 or written >> 63:
+            written -= 1 << (32 if high == 0 else 64)
+        symbol = named.symbol
+        if named.kind != WIDE_LOAD or symbol.kind not in (OBJECT_SYMBOL, SECTION_SYMBOL) and symbol.section != 0:
+            raise Refused(f"{self.called(symbol)} is named {self.where(section, at)} in a form that is not known here")
+        if symbol.kind == SECTION_SYMBOL or not written:
+            return symbol.value + written
+        has_addresses = self.it.has_addresses() if symbol.value else False
+        if has_addresses is None:
+            raise Refused(f"{symbol.name} is named {self.where(section, at)} with the number {written}, and the object does not say"
+                          " which compiler made it: clang's is a distance from the variable, gcc's an address")
+        return written if has_addresses else symbol.value + written
+
+    def why_not(self, section: int, at: int, symbol: Symbol, name: str, value: int) -> str:
         called = symbol.name if symbol.kind == OBJECT_SYMBOL else self.it.variable(symbol.section, value)
         here = self.where(section, at)
         if name.startswith(".rodata"):
@@ -352,53 +304,60 @@ class Linker:
         if name.startswith(".data"):
             return (f"the variable {called or 'of ' + name} is used {here} and begins with a value: an image's maps begin as"
                     " zeros; let it begin as 0, and set or add the value in code")
-        return f"{symbol.name or name or 'a symbol'} is named {here}, which an image cannot have"
+        return f"{self.called(symbol)} is named {here}, which an image cannot have"
 
 
-def linked(data, section=None, program=None):
+def linked(data: bytes, section: str | None, program: str | None, kernel: Kernel) -> Image:
     """The image of the program in an object's bytes."""
     it = Object(data)
-    return Linker(it).link(chosen(it, section, program))
+    return Linker(it, kernel).link(chosen(it, section, program))
 
 
-def bytes_of(image):
-    return b"XBP1" + struct.pack("<HH", len(image.rows), len(image.slots) // 8) + b"".join(image.rows) + image.slots
+def bytes_of(image: Image) -> bytes:
+    return image.magic + struct.pack("<HH", len(image.rows), len(image.slots) // 8) + b"".join(image.rows) + image.slots
 
 
-def made(data, section=None, program=None):
-    """The same for an object that may be damaged: then the error says so."""
+def made(data: bytes, section: str | None = None, program: str | None = None, btf: str | None = None) -> Image:
+    """The same for an object that may be damaged: then the error says so. `btf` is the file of the kernel's types."""
     try:
-        return linked(data, section, program)
-    except (struct.error, IndexError, ValueError, KeyError, TypeError, AttributeError, OverflowError, RecursionError):
-        raise Refused("the object file is damaged, or of a form that is not known here") from None
+        return linked(data, section, program, Kernel(btf))
+    except (struct.error, IndexError, ValueError, KeyError, TypeError, AttributeError, OverflowError, RecursionError, MemoryError):
+        raise Refused(DAMAGED) from None
 
 
-def main():
+def main() -> None:
     words = argparse.ArgumentParser(description=__doc__, formatter_class=argparse.RawDescriptionHelpFormatter,
-                                    usage="python3 tools/image.py OBJECT IMAGE [--section NAME] [--program NAME] [--source FILE] [--list]")
+                                    usage="python3 tools/image.py OBJECT IMAGE [--section NAME] [--program NAME] [--source FILE] [--btf FILE] [--list]")
     words.add_argument("object")
     words.add_argument("image", nargs="?")
     words.add_argument("--section")
     words.add_argument("--program")
     words.add_argument("--source")
+    words.add_argument("--btf")
     words.add_argument("--list", action="store_true")
-    given = words.parse_args()
+    given = words.parse_intermixed_args()
     if given.image is None and not given.list:
         words.error("IMAGE is missing")
+    end_by_signal()
     try:
         with open(given.object, "rb") as file:
-            data = file.read()
+            data = file.read(MOST_OBJECT + 1)
+        if len(data) > MOST_OBJECT:
+            raise Refused(f"it has over {MOST_OBJECT:,} bytes, and no object of a filter has")
         if given.list:
             for section, names in programs(Object(data)).items():
                 print(f"{section}: {', '.join(names)}")
             return
-        image = made(data, given.section, given.program)
-        with open(given.image, "wb") as file:
-            file.write(bytes_of(image))
-    except (Refused, OSError) as why:
+        image = made(data, given.section, given.program, given.btf)
+        write_whole(given.image, bytes_of(image), [given.object, given.source, given.btf])
+    except OSError as why:
+        sys.exit(f"{why.filename or 'standard output'}: {why.strerror or why}")
+    except IsRead as why:
+        sys.exit(f"{why}")
+    except Refused as why:
         sys.exit(f"{given.source or given.object}: {why}")
     except (struct.error, IndexError, ValueError, KeyError, TypeError):
-        sys.exit(f"{given.source or given.object}: the object file is damaged, or of a form that is not known here")
+        sys.exit(f"{given.source or given.object}: {DAMAGED}")
 
 
 if __name__ == "__main__":

@@ -1,22 +1,22 @@
 #!/usr/bin/env python3
-"""Compares xdpvm with the Linux kernel of this machine: the verdict on an image, and the runs of
-its program on frames.
+"""Compares xdpvm with the Linux kernel of this machine: the verdict on a filter, and its runs on frames.
 
-usage: python3 tools/kernel.py IMAGE FRAMES [--program XDPVM] [--plain] [--log LINES]
+usage: python3 tools/kernel.py FILTER FRAMES [--xdpvm PROGRAM] [--plain] [--log LINES] [--section NAME] [--program NAME]
+                               [--btf FILE] [--clang COMPILER] [-- FLAG ..]
 
-The image's maps are made in the kernel and its program is loaded there, by bpf(2); nothing is attached or pinned, and all
+FILTER is an image, a text, an object or C, as xdp.py takes it. The image's maps are made in the kernel and its program is loaded there, by bpf(2); nothing is attached or pinned, and all
 is closed at the end. The program runs on each frame of FRAMES (a frame stream, or a capture that frames.py reads) by the
 kernel's test run, and by `xdpvm run`. It prints both verdicts, and where the runs agree or differ:
 for each frame the action and the bytes after the run, and at the end the contents of the maps.
 
 The kernel's test run takes frames of 14 to 3,520 bytes that came in on interface 1, queue 0: other lengths are left out,
-and all frames are given that interface and queue. Helper 5 reads another clock there, so programs that call it may differ.
-With --plain the kernel loads the program without CAP_PERFMON, so under the stricter rules of its verifier (no leaks of
+and all frames are given that interface and queue. Helper 5 reads another clock there: if a program calls it, both are given
+the same time at each call, and a line says so. With --plain the kernel loads the program without CAP_PERFMON, so under the stricter rules of its verifier (no leaks of
 pointers, no reads of bytes of the stack that were not written), which are like those of xdpvm.
 --log prints the last lines of the kernel's verifier log.
 
 examples:
-    sudo python3 tools/kernel.py examples/firewall.image examples/firewall.frames --program crates/xdpvm/out/xdpvm
+    sudo python3 tools/kernel.py examples/firewall.image examples/firewall.frames --xdpvm crates/xdpvm/out/xdpvm
     sudo python3 tools/kernel.py filter.image traffic.pcapng --plain --log 20
 
 The exit status is 0 if verdicts and runs agree, 1 if not, 2 if the command is wrong, and 77 where
@@ -33,6 +33,8 @@ import subprocess
 import sys
 import tempfile
 
+import sources
+
 HERE = os.path.dirname(os.path.abspath(__file__))
 SYS_BPF, SYS_CAPSET = 321, 126
 MAP_CREATE, MAP_LOOKUP, MAP_NEXT, PROG_LOAD, TEST_RUN = 0, 1, 4, 5, 10
@@ -41,6 +43,7 @@ CAP_NET_ADMIN, CAP_SYS_RESOURCE, CAP_BPF = 12, 24, 39
 ACTIONS = ["ABORTED", "DROP", "PASS", "TX", "REDIRECT"]
 LEAST, MOST = 14, 3520
 LOG_BYTES = 1 << 24
+TIME = 10**9  # in nanoseconds, where both are given the same
 libc = ctypes.CDLL(None, use_errno=True)
 
 
@@ -97,6 +100,23 @@ def records(stream):
 def stream_of(frames):
     """A stream with reasons of these frames, each from interface 1 and queue 0."""
     return b"XPF2" + b"".join(struct.pack("<QIIII", time, 1, 0, len(body), 0) + body for time, body in frames)
+
+
+def asks_for_time(image):
+    """Whether a program calls helper 5."""
+    return with_time(image) != image
+
+
+def with_time(image):
+    """The image with each call of helper 5 replaced by a move of the time into r0."""
+    rows, slots = parsed(image)
+    wide, made = False, []
+    for slot in slots:
+        opcode, registers, _, imm = struct.unpack("<BBhi", slot)
+        is_call = opcode == 0x85 and registers == 0 and imm == 5 and not wide
+        made.append(struct.pack("<BBhi", 0xB7, 0, 0, TIME) if is_call else slot)
+        wide = opcode == 0x18 and not wide
+    return image[: 8 + 12 * len(rows)] + b"".join(made)
 
 
 # ---- the kernel
@@ -301,42 +321,76 @@ def frames_in(path):
     return fit, len(found) - len(fit)
 
 
-def main():
+def arguments():
+    words = sys.argv[1:]
     parser = argparse.ArgumentParser(description=__doc__, formatter_class=argparse.RawDescriptionHelpFormatter,
-                                     usage=__doc__.split("usage: ")[1].splitlines()[0])
-    parser.add_argument("image")
-    parser.add_argument("frames")
-    parser.add_argument("--program", default=os.environ.get("XDPVM", "xdpvm"))
+                                     usage=__doc__.split("usage: ")[1].split("\n\n")[0])
+    parser.add_argument("filter", metavar="FILTER")
+    parser.add_argument("frames", metavar="FRAMES")
+    parser.add_argument("--xdpvm", default=sources.the_xdpvm())
+    parser.add_argument("--section")
+    parser.add_argument("--program")
+    parser.add_argument("--btf")
+    parser.add_argument("--clang", default="clang")
     parser.add_argument("--plain", action="store_true")
     parser.add_argument("--log", type=int, default=0)
-    given = parser.parse_args()
-    if not shutil.which(given.program):
-        print(f"kernel.py: there is no program {given.program}", file=sys.stderr)
+    given = parser.parse_intermixed_args(words[: words.index("--")] if "--" in words else words)
+    given.flags = words[words.index("--") + 1 :] if "--" in words else []
+    return given
+
+
+def compared(given, folder):
+    """Prints how both judge and run the filter; the status."""
+    choice = sources.Choice(given.xdpvm, given.section, given.program, given.clang, given.flags, given.btf)
+    path, _ = sources.image_of(given.filter, choice, folder)
+    with open(path, "rb") as file:
+        image = file.read()
+    frames, left_out = frames_in(given.frames)
+    has_clock = asks_for_time(image)
+    if has_clock:
+        frames = [(TIME, body) for _, body in frames]
+    ran = Ran(given.xdpvm, path, frames)
+    if given.plain:
+        without_perfmon()
+    with Kernel(image, counts=True) as kernel:
+        print(f"xdpvm:  {ran.verdict}")
+        print(f"kernel: {'ok' if kernel.refusal is None else 'refused: ' + kernel.refusal}{kernel.processed()}")
+        if given.log and kernel.log:
+            print(*kernel.log.decode(errors="replace").splitlines()[-given.log :], sep="\n")
+        if ran.accepted != (kernel.refusal is None):
+            return 1
+        if not ran.accepted:
+            return 0
+        if not has_clock:
+            found, both = differences(kernel, ran, frames)
+    if has_clock:
+        print(f"the program asks for the time: both are given {TIME:,} nanoseconds at each call")
+        with Kernel(with_time(image)) as kernel:
+            found, both = differences(kernel, ran, frames)
+    print(f"frames: {both} run by both, {left_out} left out; {'alike' if not found else 'not alike'}")
+    print(*found[:20], sep="\n", end="\n" if found else "")
+    return 1 if found else 0
+
+
+def main():
+    given = arguments()
+    if not shutil.which(given.xdpvm):
+        print(f"kernel.py: there is no program {given.xdpvm}", file=sys.stderr)
         return 2
     try:
-        with open(given.image, "rb") as file:
-            image = file.read()
-        frames, left_out = frames_in(given.frames)
-        ran = Ran(given.program, given.image, frames)
-        if given.plain:
-            without_perfmon()
-        with Kernel(image, counts=True) as kernel:
-            print(f"xdpvm:  {ran.verdict}")
-            print(f"kernel: {'ok' if kernel.refusal is None else 'refused: ' + kernel.refusal}{kernel.processed()}")
-            if given.log and kernel.log:
-                print(*kernel.log.decode(errors="replace").splitlines()[-given.log :], sep="\n")
-            if ran.accepted != (kernel.refusal is None):
-                return 1
-            if not ran.accepted:
-                return 0
-            found, both = differences(kernel, ran, frames)
-            print(f"frames: {both} run by both, {left_out} left out; {'alike' if not found else 'not alike'}")
-            print(*found[:20], sep="\n", end="\n" if found else "")
-            return 1 if found else 0
+        with tempfile.TemporaryDirectory() as folder:
+            return compared(given, folder)
     except NoKernel as error:
         print(f"kernel.py: {error}: this needs Linux on x86-64 and root", file=sys.stderr)
         return 77
-    except (OSError, ValueError, struct.error) as error:
+    except sources.TextRefused as refused:
+        print(refused.out, end="")
+        print(refused.err, end="", file=sys.stderr)
+        return 2
+    except OSError as error:
+        print(f"kernel.py: {error.filename or given.filter}: {error.strerror or error}", file=sys.stderr)
+        return 2
+    except (sources.Failed, ValueError, struct.error) as error:
         print(f"kernel.py: {error}", file=sys.stderr)
         return 2
 

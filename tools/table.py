@@ -31,11 +31,18 @@ examples:
     python3 tools/table.py show filter.table | less
     python3 tools/table.py make changed.txt changed.table
 
+A file TABLE is written beside it and takes its name once it is whole; it may not be TEXT.
+
 The exit status is 0, or 1 with a message.
 """
+import io
+import os
 import re
 import struct
 import sys
+
+from inputs import NoText, text_lines
+from outputs import IsRead, end_by_signal, write_whole
 
 MAGIC = b"XPT1"
 MOST = 1_000_000                # entries of a table, and steps of a run
@@ -113,17 +120,17 @@ def table_bytes(entries):
 
 
 class Reader:
-    """Takes bytes from the front. A byte without a meaning is P5 of the entry, and an end is P2."""
+    """Takes bytes from the front of a file. A byte without a meaning is P5 of the entry, and an end is P2."""
 
-    def __init__(self, data):
-        self.data, self.at, self.entry = data, 8, 0
+    def __init__(self, file):
+        self.file, self.entry = file, 0
 
     def take(self, form):
         size = struct.calcsize(form)
-        if len(self.data) - self.at < size:
+        data = self.file.read(size)
+        if len(data) < size:
             raise Refused("P2")
-        self.at += size
-        return struct.unpack_from(form, self.data, self.at - size)
+        return struct.unpack(form, data)
 
     def byte(self, least, most):
         number, = self.take("<B")
@@ -153,22 +160,24 @@ class Reader:
         return entry
 
 
-def entries_of(data):
-    """The entries that bytes spell, whatever their fields hold. Refused: P1 to P5, by the
-    format."""
-    if len(data) < 8:
-        raise Refused("P2")
-    if data[:4] != MAGIC:
+def each_entry(file):
+    """The entries that a file's bytes spell, whatever their fields hold, one after the other. Refused: P1 to P5, by
+    the format."""
+    reader = Reader(file)
+    magic, count = reader.take("<4sI")
+    if magic != MAGIC:
         raise Refused("P1")
-    count, = struct.unpack_from("<I", data, 4)
     if not 1 <= count <= MOST:
         raise Refused("P4")
-    reader, entries = Reader(data), []
     for reader.entry in range(count):
-        entries.append(reader.one())
-    if reader.at < len(data):
+        yield reader.one()
+    if file.read(1):
         raise Refused("P3")
-    return entries
+
+
+def entries_of(data):
+    """The same for bytes: all entries."""
+    return list(each_entry(io.BytesIO(data)))
 
 
 # ---- text
@@ -216,14 +225,16 @@ def frame_text(frame):
     return lines
 
 
-def text_of(entries):
-    lines = []
-    for entry in entries:
-        leads = " ".join(["", "to", *map(str, entry.successors)]) if entry.successors else ""
-        lines.append(f"entry {entry.number} slot {entry.slot}{leads}")
-        for at, frame in enumerate(entry.frames):
-            lines += (["  frame"] if at else []) + ["  " + line for line in frame_text(frame)]
+def entry_text(entry):
+    leads = " ".join(["", "to", *map(str, entry.successors)]) if entry.successors else ""
+    lines = [f"entry {entry.number} slot {entry.slot}{leads}"]
+    for at, frame in enumerate(entry.frames):
+        lines += (["  frame"] if at else []) + ["  " + line for line in frame_text(frame)]
     return "\n".join(lines) + "\n"
+
+
+def text_of(entries):
+    return "".join(map(entry_text, entries))
 
 
 class Words:
@@ -330,10 +341,10 @@ def take_line(entries, words):
         raise Wrong(f"too much: {words.take()}")
 
 
-def entries_from(text):
-    """The entries of a text. Wrong: a line does not have the format, by its number."""
+def entries_in(lines):
+    """The entries of a text's lines. Wrong: a line does not have the format, by its number."""
     entries = []
-    for at, line in enumerate(text.splitlines(), 1):
+    for at, line in lines:
         words = Words(line)
         try:
             if words:
@@ -344,15 +355,20 @@ def entries_from(text):
     return entries
 
 
+def entries_from(text):
+    """The same for a text that is at hand."""
+    return entries_in(enumerate(text.splitlines(), 1))
+
+
 def main(words):
     if words[:1] == ["show"] and len(words) == 2:
         with open(words[1], "rb") as file:
-            print(text_of(entries_of(file.read())), end="")
+            for entry in each_entry(file):
+                print(entry_text(entry), end="")
     elif words[:1] == ["make"] and len(words) == 3:
-        with open(words[1]) as file:
-            data = table_bytes(entries_from(file.read()))
-        with open(words[2], "wb") as file:
-            file.write(data)
+        with open(words[1], "rb") as file:
+            data = table_bytes(entries_in(text_lines(file.readline)))
+        write_whole(words[2], data, [words[1]])
     elif words in (["--help"], ["-h"]):
         print(__doc__)
     else:
@@ -360,7 +376,14 @@ def main(words):
 
 
 if __name__ == "__main__":
+    end_by_signal()
     try:
         main(sys.argv[1:])
-    except (OSError, UnicodeDecodeError, Refused, Wrong) as why:
+        sys.stdout.flush()
+    except BrokenPipeError:
+        os.dup2(os.open(os.devnull, os.O_WRONLY), 1)
+        sys.exit(1)
+    except OSError as why:
+        sys.exit(f"table.py: {why.filename or 'standard output'}: {why.strerror or why}")
+    except (IsRead, NoText, Refused, Wrong) as why:
         sys.exit(f"table.py: {why}")

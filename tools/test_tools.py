@@ -202,7 +202,7 @@ class Messages(unittest.TestCase):
         self.assertEqual(self.said(tool, "none.pcap", "x.frames"), "none.pcap: No such file or directory\n")
         self.assertEqual(self.said(tool, "filters", "x.frames"), "filters: Is a directory\n")
         self.assertEqual(self.said(tool, "firewall.pcapng", "filters"), "filters: Is a directory\n")
-        self.assertEqual(self.said(tool, "firewall.pcapng", "firewall.pcapng"), "firewall.pcapng: it would be written over while it is read\n")
+        self.assertEqual(self.said(tool, "firewall.pcapng", "firewall.pcapng"), "firewall.pcapng: it is one of the files that are read\n")
         for number in ("-1", "4294967296", "x"):
             self.assertIn("a number from 0 to 4294967295", self.said(tool, "--interface", number, "firewall.pcapng", "x", status=2))
         if os.path.exists("/dev/full"):
@@ -287,7 +287,7 @@ class Kernel(unittest.TestCase):
     def test_a_command_that_cannot_be_done(self):
         program = sys.executable
         for words, status in ((["none.image", "two.frames"], 2), (["firewall.image", "run.sh"], 2)):
-            given = ["kernel.py", *(os.path.join(EXAMPLES, word) for word in words), "--program", program]
+            given = ["kernel.py", *(os.path.join(EXAMPLES, word) for word in words), "--xdpvm", program]
             with self.subTest(words), unittest.mock.patch.object(sys, "argv", given), contextlib.redirect_stderr(io.StringIO()):
                 self.assertEqual(kernel.main(), status)
 

@@ -1,179 +1,118 @@
 #!/usr/bin/env python3
 """Runs a filter on a capture: compiles or assembles it, verifies it, runs it, and says what it did.
 
-usage: python3 tools/xdp.py FILTER [CAPTURE [OUT]] [--trace] [--reasons] [--all] [--xdpvm PROGRAM]
-                            [--section NAME] [--program NAME] [--clang COMPILER] [-- FLAG ..]
+usage: python3 tools/xdp.py FILTER [CAPTURE [OUT]] [--trace [--limit N]] [--reasons] [--all] [--to KIND] [--xdpvm PROGRAM]
+                            [--section NAME] [--program NAME] [--btf FILE] [--clang COMPILER] [-- FLAG ..]
 
 FILTER is C (NAME.c, compiled by clang, or by the COMPILER that is named, as bpf-gcc; the flags after `--` go to it), an
 object file, an image, or a text. CAPTURE is a capture (pcap, pcapng), a frame stream, or a text of frames; without one
 the filter is only verified. OUT gets the frames that are sent on, in the format that its name ends
-in (.pcap, .pcapng, .frames, .txt). With --reasons the frames carry reasons: why each was dropped,
-in and out.
+in (.pcap, .pcapng, .frames, .txt), or in the KIND that --to names. With --reasons the frames carry reasons: why each was
+dropped, in and out. Options may stand anywhere among the files.
+
+`-` is standard input and standard output. From a pipe, and into one, each frame is handed on as it comes. A pipe gets a pcap,
+where nothing says another KIND; where OUT is standard output, all that is said goes to standard error. OUT may be none of
+the files that are read, and an old OUT stays as it was until the new one is whole.
 
 It prints the verdict, how many frames had which action and reason, and what the maps hold (the
 first ten keys of each, with 64 bytes of their values, or --all). If the filter is refused, each
 slot that the refusal names is followed by its line of the source: of the text, or of the C file, as
 the object's type information has it (clang's -g; bpf-gcc 12 has no lines there). --trace prints
-each frame's line too, and takes a program that `verify` refuses.
+each frame's line too, and takes a program that `verify` refuses; --limit is its limit of instructions a frame.
 
 examples:
     python3 tools/xdp.py examples/firewall.text examples/firewall.pcapng sent.pcapng
     python3 tools/xdp.py examples/talkers.bpf.c examples/talkers.pcapng -- -mcpu=v3
+    tcpdump -U -w - | python3 tools/xdp.py filter.text - - | tcpdump -r -
 
 The exit status is that of xdpvm, or 1 with a message if a tool before it failed.
 """
 import argparse
 import collections
+import contextlib
 import os
-import platform
 import re
 import shutil
 import struct
 import subprocess
 import sys
 import tempfile
+import threading
+from typing import BinaryIO, Iterable, Iterator
 
-import image as images
+from outputs import IsRead, end_by_signal, is_plain, refuse_inputs
+from sources import HERE, Choice, Failed, Source, TextRefused, begin_of, image_of, the_xdpvm
 
-HERE = os.path.dirname(os.path.abspath(__file__))
 FRAMES = os.path.join(HERE, "frames.py")
-CAPTURES = (b"\xa1\xb2\xc3\xd4", b"\xd4\xc3\xb2\xa1", b"\xa1\xb2\x3c\x4d", b"\x4d\x3c\xb2\xa1", b"\x0a\x0d\x0d\x0a")
+KINDS = ("pcap", "pcapng", "frames", "txt")
+SENT = "what is sent on"
 
 
-class Failed(Exception):
-    """A step before the program's own failed; its message is printed."""
+# ---- what is said
+
+def say(line: str) -> None:
+    """Prints a line of what the filter did."""
+    print(line, file=TOLD[0], flush=True)
 
 
-def begin_of(path):
-    with open(path, "rb") as file:
-        return file.read(4)
+TOLD = [sys.stdout]
 
 
-# ---- the filter
-
-class Source:
-    """The lines of a filter's source, by slots."""
-
-    def __init__(self, path):
-        self.path, self.slots, self.names = path, [], []
-
-    def line(self, slot):
-        """The file, the line number and the text of a slot's line, if they are known."""
-        return self.slots[slot] if slot < len(self.slots) else None
-
-    @staticmethod
-    def of_text(path):
-        """Of a text: each statement that is an instruction has a slot, or two."""
-        source = Source(path)
-        with open(path, encoding="utf-8", errors="replace") as file:
-            lines = file.read().split("\n")
-        for number, line in enumerate(lines, 1):
-            for part in line.split("#")[0].split(";"):
-                part = re.sub(r"^\s*\w+\s*:", "", part).strip()
-                if part and not re.match(r"(map|version)\s+\w+", part):
-                    wide = re.search(r"\bll$|\bmap_by_idx\b|\bmap_val\b", part)
-                    source.slots += [(f"{path}:{number}", line.strip())] * (2 if wide else 1)
-        return source
-
-    @staticmethod
-    def of_object(path, image):
-        source = Source(path)
-        source.slots = [it and (f"{os.path.relpath(it.file)}:{it.number}", it.text) for it in image.lines]
-        source.names = image.names
-        return source
-
-
-def compiled(path, given, folder):
-    """The object that the compiler makes of a C file."""
-    made = os.path.join(folder, "object")
-    headers = f"-I/usr/include/{platform.machine()}-linux-gnu"
-    kind = ["-gbtf", "-I/usr/include"] if "gcc" in os.path.basename(given.clang) else ["-target", "bpf", "-g"]
-    words = [given.clang, *kind, "-O2", *given.flags, headers, "-c", path, "-o", made]
-    if not shutil.which(given.clang):
-        raise Failed(f"{path} is C, and there is no {given.clang} to compile it")
-    if subprocess.run(words).returncode:
-        raise Failed(f"{path}: it does not compile")
-    return made
-
-
-def image_of(given, folder):
-    """The image of a filter of any form, and the lines of its source."""
-    path, made = given.filter, os.path.join(folder, "image")
-    begin = begin_of(path)
-    if begin[:3] == b"XBP":
-        return path, Source(path)
-    if path.endswith(".c") or begin == b"\x7fELF":
-        with open(compiled(path, given, folder) if begin != b"\x7fELF" else path, "rb") as file:
-            data = file.read()
-        try:
-            image = images.made(data, given.section, given.program)
-        except images.Refused as why:
-            raise Failed(f"{path}: {why}") from None
-        with open(made, "wb") as file:
-            file.write(images.bytes_of(image))
-        return made, Source.of_object(path, image)
-    if begin in CAPTURES or begin[:3] == b"XPF":
-        raise Failed(f"{path} is a capture or a frame stream, and the filter comes first")
-    source = Source.of_text(path)
-    ran = subprocess.run([given.xdpvm, "asm", path, made], capture_output=True, text=True)
-    if ran.returncode:
-        tell_place(path, ran)
-        raise SystemExit(ran.returncode)
-    return made, source
-
-
-def tell_place(path, ran):
+def tell_place(refused: TextRefused) -> None:
     """A refusal of the text, with its position as editors read it; the program shows the line."""
-    print(ran.stdout, end="")
-    sys.stderr.write(ran.stderr)
-    place = re.search(r"line (\d+) column (\d+)", ran.stdout + ran.stderr)
+    print(refused.out, end="", file=TOLD[0])
+    sys.stderr.write(refused.err)
+    place = re.search(r"line (\d+) column (\d+)", refused.out + refused.err)
     if place:
-        print(f"{path}:{place[1]}:{place[2]}", file=sys.stderr)
+        print(f"{refused.path}:{place[1]}:{place[2]}", file=sys.stderr)
 
 
-def tell_refusal(source, ran):
-    """A refusal of the program, each slot with its line of the source."""
-    print(ran.stdout, end="", flush=True)
+def tell_refusal(source: Source, ran: "subprocess.CompletedProcess[str]") -> None:
+    """A verdict; where it is a refusal, each slot with its line of the source."""
+    print(ran.stdout, end="", file=TOLD[0], flush=True)
     for line in ran.stderr.splitlines():
         print(line, file=sys.stderr)
         slot, way = re.match(r"slot (\d+):", line), line.startswith("way:")
-        if slot and source.line(int(slot[1])):
-            print("  {}: {}".format(*source.line(int(slot[1]))), file=sys.stderr)
+        named = source.line(int(slot[1])) if slot else None
+        if named:
+            print("  {}: {}".format(*named), file=sys.stderr)
         for here, there in re.findall(r"(\d+) -> (\d+)", line) if way else []:
-            places = [source.line(int(it)) for it in (here, there)]
-            if all(places):
-                print("  {}: {}\n    -> {}: {}".format(*places[0], *places[1]), file=sys.stderr)
+            before, after = source.line(int(here)), source.line(int(there))
+            if before and after:
+                print("  {}: {}\n    -> {}: {}".format(*before, *after), file=sys.stderr)
 
 
-# ---- the frames
-
-def converted(source, made, name, *words):
-    """Converts frames. `name` is what messages call the source if that is a temporary file."""
-    ran = subprocess.run([sys.executable, FRAMES, *words, source, made], stderr=subprocess.PIPE, text=True, errors="replace")
-    sys.stderr.write(ran.stderr.replace(source, name))
-    if ran.returncode:
-        raise Failed(f"{name} cannot be converted")
-
-
-def is_known_ending(path):
-    return path.endswith((".pcap", ".pcapng", ".frames", ".txt"))
-
-
-def plural(count, noun):
+def plural(count: int, noun: str) -> str:
     return f"{count:,} {noun}" + ("" if count == 1 else "s")
 
 
-def tell_report(lines, source, shows_all):
+def tell_maps(entries: dict[int, list[list[str]]], source: Source, shows_all: bool) -> None:
+    """What each map holds at the end."""
+    for index, rows in sorted(entries.items()):
+        name = f" ({source.names[index]})" if index < len(source.names) else ""
+        say(f"map {index}{name}: {plural(len(rows), 'entry').replace('entrys', 'entries')}")
+        shown = rows if shows_all else rows[:10]
+        for key, value in shown:
+            cut = len(value) > 128 and not shows_all
+            say(f"  {key} {value[:128] + ' ..' if cut else value}")
+        if len(shown) < len(rows):
+            say(f"  and {len(rows) - len(shown):,} more (--all)")
+
+
+def tell_report(lines: Iterable[str], source: Source, shows_all: bool) -> None:
     """What the lines of a report say, in counts. A line that is not of a report is printed as it is."""
-    actions, reasons, entries, last = collections.Counter(), collections.Counter(), collections.defaultdict(list), ""
+    actions: collections.Counter[str] = collections.Counter()
+    reasons: collections.Counter[str] = collections.Counter()
+    entries: dict[int, list[list[str]]] = collections.defaultdict(list)
+    last = ""
     for line in lines:
-        words = line.split()
+        words = line.split() or [""]
         if words[0] == "map":
             entries[int(words[1])].append(words[2:])
         elif words[0] in ("end", "fault"):
             last = line
         elif not words[0].isdigit():
-            print(line)
+            say(line)
         else:
             actions[" ".join(words[1:3]) if words[1] == "TRAP" else words[1]] += 1
             if len(words) == 5 and words[1] != "TRAP" and words[4] != "0":
@@ -181,55 +120,170 @@ def tell_report(lines, source, shows_all):
     if not last:
         return
     total = sum(actions.values())
-    print(f"{plural(total, 'frame')}: " + (", ".join(f"{count:,} {name}" for name, count in actions.most_common()) or "none"))
+    say(f"{plural(total, 'frame')}: " + (", ".join(f"{count:,} {name}" for name, count in actions.most_common()) or "none"))
     if reasons:
-        print("reasons: " + ", ".join(f"{reason} ({count:,})" for reason, count in sorted(reasons.items(), key=lambda it: -it[1])))
-    for index, rows in sorted(entries.items()):
-        name = f" ({source.names[index]})" if index < len(source.names) else ""
-        print(f"map {index}{name}: {plural(len(rows), 'entry').replace('entrys', 'entries')}")
-        shown = rows if shows_all else rows[:10]
-        for key, value in shown:
-            cut = len(value) > 128 and not shows_all
-            print(f"  {key} {value[:128] + ' ..' if cut else value}")
-        if len(shown) < len(rows):
-            print(f"  and {len(rows) - len(shown):,} more (--all)")
+        say("reasons: " + ", ".join(f"{reason} ({count:,})" for reason, count in sorted(reasons.items(), key=lambda it: -it[1])))
+    tell_maps(entries, source, shows_all)
     if last.startswith("fault"):
-        print(last)
+        say(last)
 
 
-def run(given, image, source, folder):
+def traced(lines: Iterable[str]) -> Iterator[str]:
+    """The lines, each printed as it comes."""
+    for line in lines:
+        if line[:1].isdigit():
+            say(line)
+        yield line
+
+
+# ---- the frames
+
+def converted(source: str, made: str, name: str, *words: str) -> None:
+    """Converts frames. `name` is what messages call the source if that is a temporary file."""
+    ran = subprocess.run([sys.executable, FRAMES, *words, source, made], stderr=subprocess.PIPE, text=True, errors="replace", check=False)
+    sys.stderr.write(ran.stderr.replace(source, name))
+    if ran.returncode:
+        raise Failed(f"{name} cannot be converted")
+
+
+def kind_of(out: str, to: str | None) -> str:
+    """The format of the frames that are sent on."""
+    ending = os.path.splitext(out)[1][1:]
+    if to or ending in KINDS:
+        return to or ending
+    if out == "-" or not is_plain(out):
+        return "pcap"
+    raise Failed(f"{out}: OUT has to end in .pcap, .pcapng, .frames or .txt, since that says what it becomes, or give --to KIND")
+
+
+class Chain:
+    """Programs that hand frames on to one another, each as it comes: a converter, xdpvm, and a converter."""
+
+    def __init__(self) -> None:
+        self.running: list[tuple[str, "subprocess.Popen[bytes]"]] = []
+
+    def start(self, name: str, words: list[str], **how: object) -> "subprocess.Popen[bytes]":
+        child: "subprocess.Popen[bytes]" = subprocess.Popen(words, **how)  # type: ignore[call-overload]
+        self.running.append((name, child))
+        return child
+
+    def stop(self) -> None:
+        for _, child in self.running:
+            if child.poll() is None:
+                child.terminate()
+
+    def failed(self) -> list[str]:
+        """The names of those that ended with a status other than 0."""
+        return [name for name, child in self.running if child.wait()]
+
+
+def handed_on(begin: bytes, source: BinaryIO, sink: BinaryIO) -> None:
+    """Hands on bytes that were looked at, and then all that comes."""
+    data = begin
+    with contextlib.suppress(BrokenPipeError), sink:
+        while data:
+            sink.write(data)
+            sink.flush()
+            data = os.read(source.fileno(), 1 << 16)
+
+
+def looked_at(source: BinaryIO) -> bytes:
+    """The first four bytes, or fewer where there are no more."""
+    begin = b""
+    while len(begin) < 4 and (more := os.read(source.fileno(), 4 - len(begin))):
+        begin += more
+    return begin
+
+
+def command_on(given: argparse.Namespace, image: str, frames: str, sent: str) -> list[str]:
+    limit = ["--limit", given.limit] if given.limit else []
+    return [given.xdpvm, "trace" if given.trace else "run", image, frames, sent, *limit]
+
+
+def told_lines(ran: "subprocess.Popen[bytes]") -> Iterator[str]:
+    assert ran.stdout is not None
+    for line in ran.stdout:
+        yield line.decode(errors="replace").rstrip("\n")
+
+
+class Live:
+    """A run on frames as they come, which hands on those that are sent on as they come."""
+
+    def __init__(self, given: argparse.Namespace, image: str, folder: str) -> None:
+        self.given, self.chain, self.errors = given, Chain(), os.path.join(folder, "errors")
+        self.sent = "/dev/null"
+        self.ran = self.start(image, sys.stdin.buffer if given.capture == "-" else open(given.capture, "rb"))
+
+    def start(self, image: str, capture: BinaryIO) -> "subprocess.Popen[bytes]":
+        """Starts the programs, and what feeds the first of them; the result is xdpvm."""
+        given, begin = self.given, looked_at(capture)
+        reasons = ["--reasons"] * given.reasons
+        source: object = subprocess.PIPE
+        if begin[:3] != b"XPF":
+            words = [sys.executable, FRAMES, "--to", "frames", *reasons, "-", "-"]
+            source = self.chain.start(given.capture, words, stdin=subprocess.PIPE, stdout=subprocess.PIPE).stdout
+        read_end, write_end = os.pipe()
+        if given.out:
+            self.sent = f"/dev/fd/{write_end}"
+        words = command_on(given, image, "/dev/stdin", self.sent)
+        with open(self.errors, "wb") as told:
+            ran = self.chain.start("xdpvm", words, stdin=source, stdout=subprocess.PIPE, stderr=told, pass_fds=(write_end,))
+        os.close(write_end)
+        if given.out:
+            words = [sys.executable, FRAMES, "--to", given.kind, "--named", SENT, *reasons, "-", given.out]
+            self.chain.start(SENT, words, stdin=read_end)
+        os.close(read_end)
+        sink = self.chain.running[0][1].stdin
+        assert sink is not None
+        threading.Thread(target=handed_on, args=(begin, capture, sink), daemon=True).start()
+        return ran
+
+    def finish(self) -> int:
+        """Waits for all programs; the status of xdpvm, whose errors name what the user named."""
+        status = self.ran.wait()
+        if status not in (0, 3):
+            self.chain.stop()
+        with open(self.errors, encoding="utf-8", errors="replace") as file:
+            sys.stderr.write(file.read().replace(self.sent, SENT).replace("/dev/stdin", self.given.capture))
+        failed = [name for name in self.chain.failed() if name != "xdpvm"]
+        if failed and status in (0, 3):
+            raise Failed(f"{failed[0]} cannot be converted")
+        return status
+
+
+def run_live(given: argparse.Namespace, image: str, source: Source, folder: str) -> int:
+    """Runs the image on frames as they come."""
+    live = Live(given, image, folder)
+    try:
+        lines = told_lines(live.ran)
+        tell_report(traced(lines) if given.trace else lines, source, given.all)
+        return live.finish()
+    finally:
+        live.chain.stop()
+
+
+def run(given: argparse.Namespace, image: str, source: Source, folder: str) -> int:
     """Runs the image on the frames, and prints what came of it."""
+    if given.capture == "-" or not is_plain(given.capture) or given.out and (given.out == "-" or not is_plain(given.out)):
+        return run_live(given, image, source, folder)
+    reasons = ["--reasons"] * given.reasons
     frames, sent = os.path.join(folder, "in.frames"), os.path.join(folder, "sent.frames")
     if begin_of(given.capture)[:3] == b"XPF":
         frames = given.capture
     else:
-        converted(given.capture, frames, given.capture, *["--reasons"] * given.reasons)
-    ran = subprocess.Popen([given.xdpvm, "trace" if given.trace else "run", image, frames, sent], stdout=subprocess.PIPE, text=True)
-    lines = (line.rstrip("\n") for line in ran.stdout)
-    tell_report(traced(lines) if given.trace else lines, source, given.all)
-    status = ran.wait()
+        converted(given.capture, frames, given.capture, *reasons)
+    with subprocess.Popen(command_on(given, image, frames, sent), stdout=subprocess.PIPE) as ran:
+        lines = told_lines(ran)
+        tell_report(traced(lines) if given.trace else lines, source, given.all)
+    status = ran.returncode
     if given.out and status in (0, 3):
-        converted(sent, given.out, "what is sent on", *["--reasons"] * given.reasons)
+        converted(sent, given.out, SENT, "--to", given.kind, *reasons)
     return status
 
 
-def traced(lines):
-    """The lines, each printed as it comes."""
-    for line in lines:
-        if line[:1].isdigit():
-            print(line)
-        yield line
+# ---- the command
 
-
-def program_beside():
-    """The xdpvm that is beside this script, in the repository, or on the path."""
-    for it in (os.path.join(HERE, "xdpvm"), os.path.join(HERE, "../crates/xdpvm/out/xdpvm")):
-        if os.path.exists(it):
-            return it
-    return "xdpvm"
-
-
-def arguments():
+def arguments() -> argparse.Namespace:
     words = sys.argv[1:]
     flags = words[words.index("--") + 1:] if "--" in words else []
     parser = argparse.ArgumentParser(description=__doc__, formatter_class=argparse.RawDescriptionHelpFormatter,
@@ -238,34 +292,51 @@ def arguments():
     parser.add_argument("capture", metavar="CAPTURE", nargs="?")
     parser.add_argument("out", metavar="OUT", nargs="?")
     parser.add_argument("--trace", action="store_true")
+    parser.add_argument("--limit", metavar="N")
     parser.add_argument("--reasons", action="store_true")
     parser.add_argument("--all", action="store_true")
-    parser.add_argument("--xdpvm", default=os.environ.get("XDPVM") or program_beside())
+    parser.add_argument("--to", choices=KINDS)
+    parser.add_argument("--xdpvm", default=the_xdpvm())
     parser.add_argument("--section")
     parser.add_argument("--program")
+    parser.add_argument("--btf")
     parser.add_argument("--clang", default="clang")
-    given = parser.parse_args(words[:words.index("--")] if "--" in words else words)
+    given = parser.parse_intermixed_args(words[:words.index("--")] if "--" in words else words)
     given.flags = flags
+    if given.limit and not given.trace:
+        parser.error("--limit goes with --trace")
     return given
 
 
-def main():
+def tried(given: argparse.Namespace, folder: str) -> int:
+    """Verifies the filter, and runs it if there is a capture."""
+    choice = Choice(given.xdpvm, given.section, given.program, given.clang, given.flags, given.btf)
+    image, source = image_of(given.filter, choice, folder)
+    verdict = subprocess.run([given.xdpvm, "verify", image], capture_output=True, text=True, errors="replace", check=False)
+    tell_refusal(source, verdict)
+    if given.capture is None or verdict.returncode and not given.trace:
+        return verdict.returncode
+    return run(given, image, source, folder)
+
+
+def main() -> int:
     given = arguments()
     if not shutil.which(given.xdpvm):
         sys.exit(f"xdp.py: there is no program {given.xdpvm}; `bash install.sh FOLDER` makes one")
-    if given.out and not is_known_ending(given.out):
-        sys.exit(f"xdp.py: {given.out}: OUT has to end in .pcap, .pcapng, .frames or .txt, since that says what it becomes")
+    end_by_signal()
     try:
+        if given.out:
+            refuse_inputs(given.out, [given.filter, given.capture, given.btf])
+            given.kind = kind_of(given.out, given.to)
+            TOLD[0] = sys.stderr if given.out == "-" else sys.stdout
         with tempfile.TemporaryDirectory() as folder:
-            image, source = image_of(given, folder)
-            verdict = subprocess.run([given.xdpvm, "verify", image], capture_output=True, text=True)
-            tell_refusal(source, verdict)
-            if given.capture is None or verdict.returncode and not given.trace:
-                return verdict.returncode
-            return run(given, image, source, folder)
+            return tried(given, folder)
+    except TextRefused as refused:
+        tell_place(refused)
+        return refused.status
     except OSError as why:
         sys.exit(f"xdp.py: {why.filename}: {why.strerror}" if why.filename else f"xdp.py: {why}")
-    except (Failed, struct.error) as why:
+    except (Failed, IsRead, struct.error) as why:
         sys.exit(f"xdp.py: {why}")
 
 

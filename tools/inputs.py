@@ -1,0 +1,28 @@
+"""Texts that the tools read: line by line, so that what is no text is refused at its first such line."""
+from typing import Callable, Iterator
+
+LINE = 1 << 16  # no line of a text is longer, in bytes
+
+
+class NoText(Exception):
+    """A line that is none of a text, by its number, and why."""
+
+    def __init__(self, number: int, why: str) -> None:
+        super().__init__(f"line {number} {why}")
+        self.number = number
+
+
+def text_lines(readline: Callable[[int], bytes]) -> Iterator[tuple[int, str]]:
+    """The lines of a text with their numbers, as `readline` gives their bytes."""
+    number = 0
+    while line := readline(LINE):
+        number += 1
+        try:
+            text = line.decode("utf-8")
+        except UnicodeDecodeError:
+            raise NoText(number, "is not UTF-8") from None
+        if "\0" in text:
+            raise NoText(number, "has a byte 0")
+        if len(line) >= LINE:
+            raise NoText(number, f"has {LINE:,} bytes or more")
+        yield number, text
