@@ -1,41 +1,113 @@
 #!/bin/bash
-# Proves every crate that xdpvm and xdpvm_survey depend on, builds both programs, and puts them into a folder, with the
-# scripts that go with them; the man pages and the completions for bash, zsh and fish into the folder's `share`, of a folder `bin` into the one beside it.
+# Installs xdpvm: the programs, the tools around them, the pages, the man pages and completions, and the library where it is built.
 # usage: bash install.sh FOLDER [PROGRAM [SURVEY]]        (such as ~/bin)
-# It needs the toolchain's `rt` on the path, 6 GB of memory, and about half an hour on 4 cores, an hour on 2. Work that
-# is proved is kept, so a second run goes on where one ended. With PROGRAM, one that `rt` has proved and built, as `rt ci`
-# leaves it in crates/xdpvm/out, it takes that one, and SURVEY as xdpvm_survey if it is given, and proves nothing.
+# Without PROGRAM it proves every crate that the programs depend on, and builds both. That needs the toolchain's `rt` on the
+# path, 6 GB of memory, and about half an hour on 4 cores, an hour on 2. Work that is proved is kept, so a second run goes on
+# where one ended. With PROGRAM, and SURVEY for xdpvm_survey, it takes these, as `rt ci` leaves them in crates/*/out, and
+# proves nothing.
+# FOLDER gets the programs, and links to the tools: xdp.py runs a filter of any form on a capture; frames.py, image.py,
+# table.py and compile.sh convert captures, objects, proof tables and C; kernel.py compares with Linux; run.sh runs the examples.
+# What they need is in share/xdpvm with the pages and the examples. share/, include/ and lib/ are beside a FOLDER that is
+# called bin, and in another one.
+# example: bash install.sh ~/bin && ~/bin/xdp.py ~/share/xdpvm/examples/firewall.text
+# The exit status is 0, or 1 with a message.
 set -eu
-folder=${1:?usage: bash install.sh FOLDER [PROGRAM]}
-command -v rt > /dev/null || { echo "install.sh: rt, the toolchain's command, is not on the path" >&2; exit 1; }
-mkdir -p "$folder"
-folder=$(cd "$folder" && pwd)
+top=$(dirname "$(realpath "$0")")
+
+usage() {
+    sed -n '2,/^set/{/^set/d;s/^# \?//;p}' "$0"
+}
+
+stop() {
+    echo "install.sh: $1" >&2
+    exit 1
+}
+
+case ${1-} in
+    --help | -h) usage && exit 0 ;;
+    '' | -*) usage >&2 && exit 1 ;;
+esac
+[ $# -le 3 ] || { usage >&2 && exit 1; }
 program=${2:+$(realpath "$2")}
 survey=${3:+$(realpath "$3")}
-top=$(cd "$(dirname "$0")" && pwd)
-cd "$top/crates/xdpvm"
-words=(verify "$top/examples/pass.image")
+
+# ---- the programs
+
 if [ -n "$program" ]; then
-    "$program" "${words[@]}"
+    said=$("$program" verify "$top/examples/pass.image" 2> /dev/null) || true
+    [ "$said" = "ok bound 2" ] || stop "$program is no xdpvm: it does not say 'ok bound 2' of examples/pass.image"
+    if [ -n "$survey" ]; then
+        "$survey" --format csv "$top/examples/pass.image" 2> /dev/null | grep -q 'pass.image,ok,' || stop "$survey is no xdpvm_survey"
+    fi
+    told="$program, as it was given: nothing was proved now"
 else
-    echo "install.sh: proving and building the program" >&2
-    rt run -- "${words[@]}"
-    program=$PWD/out/xdpvm
-    cd ../xdpvm_survey
-    rt run -- dis "$top/examples/pass.image" > /dev/null
-    survey=$PWD/out/xdpvm_survey
+    command -v rt > /dev/null || stop "rt, the toolchain's command, is not on the path, and no PROGRAM is given"
+    echo "install.sh: proving and building the programs" >&2
+    (cd "$top/crates/xdpvm" && rt run -- verify "$top/examples/pass.image")
+    (cd "$top/crates/xdpvm_survey" && rt run -- dis "$top/examples/pass.image" > /dev/null)
+    program=$top/crates/xdpvm/out/xdpvm
+    survey=$top/crates/xdpvm_survey/out/xdpvm_survey
+    told="proved by $(rt version)"
 fi
+
+# ---- where everything goes
+
+mkdir -p "$1"
+folder=$(cd "$1" && pwd)
+beside=$folder
+if [ "$(basename "$folder")" = bin ]; then beside=$(dirname "$folder"); fi
+share=$beside/share
+home=$share/xdpvm
 install "$program" "$folder/xdpvm"
 if [ -n "$survey" ]; then install "$survey" "$folder/xdpvm_survey"; fi
-install "$top/examples/run.sh" "$top"/tools/*.py "$top/tools/compile.sh" "$folder"
-share=$folder/share
-if [ "$(basename "$folder")" = bin ]; then share=$(dirname "$folder")/share; fi
+
+# ---- the tools; those for this project's developers stay here
+
+mkdir -p "$home/tools" "$home/examples/filters" "$home/docs/pictures"
+for tool in "$top"/tools/*; do
+    case $(basename "$tool") in
+        limits.py | manual.py | pictures.py | unproved.py | test_*) ;;
+        *.py | *.sh)
+            if [ "$(head -c 2 "$tool")" = '#!' ]; then
+                install "$tool" "$home/tools"
+                ln -sfr "$home/tools/$(basename "$tool")" "$folder"
+            else
+                install -m 644 "$tool" "$home/tools"
+            fi
+            ;;
+    esac
+done
+install "$top/examples/run.sh" "$home/examples"
+ln -sfr "$home/examples/run.sh" "$folder"
+find "$top/examples" -maxdepth 1 -type f ! -name '*.py' ! -name '*.sh' -exec install -m 644 -t "$home/examples" {} +
+install -m 644 "$top"/examples/filters/* "$home/examples/filters"
+install -m 644 "$top/README.md" "$home"
+install -m 644 "$top"/docs/*.md "$home/docs"
+install -m 644 "$top"/docs/pictures/* "$home/docs/pictures"
+
+# ---- man pages and completions
+
 for name in xdpvm xdpvm_survey; do
     install -D -m 644 "$top/docs/$name.1" "$share/man/man1/$name.1"
     install -D -m 644 "$top/tools/completions/$name.bash" "$share/bash-completion/completions/$name"
     install -D -m 644 "$top/tools/completions/_$name" "$share/zsh/site-functions/_$name"
     install -D -m 644 "$top/tools/completions/$name.fish" "$share/fish/vendor_completions.d/$name.fish"
 done
-echo "$folder/xdpvm is the program, proved by $(rt version), and xdpvm_survey the one for many programs at once"
-echo "beside it: xdp.py runs a filter of any form on a capture; frames.py converts captures, image.py objects (python3)"
-echo "in $share: the man pages (man xdpvm), and completions for bash, zsh and fish"
+
+# ---- the library for C and Rust, if it is built
+
+install -D -m 644 "$top/examples/embed/xdpvm.h" "$beside/include/xdpvm.h"
+archive=$top/crates/xdpvm_c/out/libxdpvm_c.a
+heap=$(dirname "$(dirname "$(realpath "$(command -v rt || echo /nowhere/bin/rt)")")")/c/liblibc_c.a
+if [ -f "$archive" ] && [ -f "$heap" ]; then
+    install -D -m 644 "$archive" "$beside/lib/libxdpvm_c.a"
+    install -D -m 644 "$heap" "$beside/lib/libxdpvm_heap.a"
+    library="the library in $beside/lib, with its header in $beside/include (link libxdpvm_c.a, then libxdpvm_heap.a)"
+else
+    library="the library's header in $beside/include; the library is not built (cd crates/xdpvm_c && rt lib)"
+fi
+echo "$folder/xdpvm: $told"
+if [ -n "$survey" ]; then echo "$folder/xdpvm_survey: for many programs at once"; fi
+echo "beside it: xdp.py runs a filter of any form on a capture; each tool says with --help what it does"
+echo "$library"
+echo "in $home: the pages (docs) and the examples; in $share: the man pages, and completions for bash, zsh and fish"

@@ -177,6 +177,8 @@ def rows(folder):
 
 
 def main():
+    if not os.access(PROGRAM, os.X_OK):
+        sys.exit(f"messages.py: there is no program {PROGRAM}; `rt run` in crates/xdpvm builds it")
     count = wrong = 0
     with tempfile.TemporaryDirectory() as folder:
         for tried, wanted, found in rows(folder):

@@ -2,10 +2,9 @@
 # Runs xdpvm on programs and frames of any format: texts, images, objects of clang; frame streams,
 # captures.
 # usage: bash examples/run.sh, which prints it
-# Without an xdpvm beside it the program is built by `rt try`, which keeps nothing: not optimized, with an address
-# sanitizer, for at most ten minutes of running and 1 MiB of output.
+# Without an xdpvm beside it, or a proved one in the repository, one is built without proofs (unproved.py), and kept.
 set -eu
-here=$(cd "$(dirname "$0")" && pwd)
+here=$(dirname "$(realpath "$0")")
 tools=$here
 [ -e "$tools/frames.py" ] || tools=$here/../tools
 
@@ -20,10 +19,10 @@ usage: bash $0 asm TEXT IMAGE
 PROGRAM is a program text, an image, or an object that clang compiled (image.py). FRAMES is a frame stream, a capture
 (pcap, pcapng) or a text of frames (frames.py); with --reasons a capture becomes a stream with reasons. Each is given by
 its path, or by the name of one in examples/, as in \`run filter numbers\`. OUT gets the frames that are sent on, as a
-capture if its name ends in .pcap or .pcapng. The status is that of xdpvm.
+capture if its name ends in .pcap or .pcapng; it may be none of the files that are read. The status is that of xdpvm.
 
-The program is the xdpvm beside this script, where install.sh puts both. Where there is none it is built without proofs
-first, each time. That build is for a first look: it checks each access, and is 500 to 900 times slower.
+The program is the xdpvm beside this script, where install.sh puts both, or the proved one of this repository. Where there is
+none it is built without proofs first, in about two minutes, and kept while the sources stay as they are.
 END
 }
 
@@ -95,106 +94,82 @@ case $command/${#words[@]}/${#limit[@]} in
     *) usage >&2 && exit 1 ;;
 esac
 
+# ---- the program: the one beside this script, the proved one of this repository, or one that is built without proofs
+
+program=$(dirname "$0")/xdpvm
+[ -x "$program" ] || program=$here/../crates/xdpvm/out/xdpvm
+[ -x "$program" ] || program=$(python3 "$tools/unproved.py") || exit 1
+
 # ---- the files: texts are assembled first, captures turned into streams
 
 work=$(mktemp -d)
-trap 'rm -rf "$work"' EXIT
-mkdir "$work/steps"
+part=
+trap 'rm -rf "$work" "$part"' EXIT
 
-# The words of a command, one on each line; its standard input is empty.
-step() {
-    : > "$work/steps/$1"
-    printf '%s\n' "${@:2}" > "$work/steps/$1.args"
-}
-
-absolute() {
-    case $1 in /*) echo "$1" ;; *) echo "$PWD/$1" ;; esac
-}
-
-out=
-if [ "$command" = asm ]; then
-    text=$(file_of "${words[0]}" text)
-    step 2-command asm "$text" "$(absolute "${words[1]}")"
-else
-    image=$(file_of "${words[0]}" image text)
-    case $(form_of "$image") in
-        object)
-            python3 "$tools/image.py" "$image" "$work/image"
-            image=$work/image
-            ;;
-        other)
-            step 1-text asm "$image" "$work/image"
-            image=$work/image
-            ;;
-    esac
-    if [ ${#words[@]} -eq 1 ]; then
-        step 2-command "$command" "$image"
-    else
-        frames=$(file_of "${words[1]}" frames pcapng)
-        if [ "$(form_of "$frames")" != stream ]; then
-            python3 "$tools/frames.py" "${reasons[@]}" "$frames" "$work/in.frames"
-            frames=$work/in.frames
-        fi
-        out=${words[2]-}
-        case $out in
-            '' | *.pcap | *.pcapng) sent=$work/sent.frames ;;
-            *) sent=$(absolute "$out") ;;
-        esac
-        step 2-command "$command" "$image" "$frames" "$sent" "${limit[@]}"
-    fi
-fi
-
-# ---- the commands; what the assembler says matters only if it refuses the text
-
-# Runs the xdpvm beside this script.
-run_installed() {
-    local words status=0
-    if [ -f "$work/steps/1-text" ]; then
-        mapfile -t words < "$work/steps/1-text.args"
-        "$here/xdpvm" "${words[@]}" > "$work/answer" || status=$?
-        if [ $status -ne 0 ]; then
-            cat "$work/answer"
-            return $status
-        fi
-    fi
-    mapfile -t words < "$work/steps/2-command.args"
-    "$here/xdpvm" "${words[@]}"
-}
-
-# Shows the result of a command: standard output under its name, and standard error before the line
-# of its status.
-show() {
-    awk -v name="== $1" '/^== [12]-/ { on = $0 == name; next } on' "$work/answer"
-    awk -v name="case=$1" '/^case=/ { if ($1 == name) printf "%s", said; said = ""; next } !/^interpreter: / { said = said $0 "\n" }' "$work/told" >&2
-}
-
-# Builds the program without proofs, and runs that.
-run_unproved() {
-    local name status
-    command -v rt > "$work/answer" || stop "there is no xdpvm beside run.sh, and rt, the toolchain's command, is not on the path"
-    echo "run.sh: building xdpvm without proofs, for a first look: this takes one to six minutes" >&2
-    (cd "$here/../crates/xdpvm" && rt try --steps 1 --seconds 600 --cases "$work/steps") > "$work/answer" 2> "$work/told" || true
-    for name in 1-text 2-command; do
-        [ -f "$work/steps/$name" ] || continue
-        status=$(sed -n "s/^case=$name run=ended status=\([0-9]*\) .*/\1/p" "$work/told")
-        if [ -z "$status" ]; then
-            cat "$work/told" >&2
-            stop "the program that was built gave no answer"
-        fi
-        if [ "$name" = 2-command ] || [ "$status" -ne 0 ]; then
-            show "$name"
-            return "$status"
+# Refuses to write over a file that is read.
+refuse_inputs() {
+    local out=$1 read
+    shift
+    for read; do
+        if [ -f "$out" ] && [ "$out" -ef "$read" ]; then
+            stop "$out: it is one of the files that are read"
         fi
     done
 }
 
 status=0
-if [ -x "$here/xdpvm" ]; then
-    run_installed || status=$?
-else
-    run_unproved || status=$?
+if [ "$command" = asm ]; then
+    "$program" asm "$(file_of "${words[0]}" text)" "${words[1]}" || status=$?
+    exit $status
 fi
-if [ -n "$out" ] && [ "$sent" = "$work/sent.frames" ] && [ -f "$sent" ]; then
-    python3 "$tools/frames.py" "$sent" "$out"
+given=$(file_of "${words[0]}" image text)
+image=$given
+case $(form_of "$given") in
+    object)
+        image=$work/image
+        python3 "$tools/image.py" "$given" "$image"
+        ;;
+    other)
+        image=$work/image
+        "$program" asm "$given" "$image" > "$work/answer" || status=$?
+        if [ $status -ne 0 ]; then
+            cat "$work/answer"
+            exit $status
+        fi
+        ;;
+esac
+if [ ${#words[@]} -eq 1 ]; then
+    "$program" "$command" "$image" || status=$?
+    exit $status
+fi
+frames=$(file_of "${words[1]}" frames pcapng)
+out=${words[2]-}
+refuse_inputs "$out" "$given" "$frames"
+if [ "$(form_of "$frames")" != stream ]; then
+    python3 "$tools/frames.py" "${reasons[@]}" "$frames" "$work/in.frames"
+    frames=$work/in.frames
+fi
+
+# ---- the run; a file OUT takes its name once it is whole
+
+sent=$work/sent.frames
+case $out in
+    '' | *.pcap | *.pcapng) ;;
+    *)
+        sent=$out
+        if [ ! -e "$out" ] || [ -f "$out" ]; then
+            part=$(mktemp "$(dirname "$out")/.$(basename "$out").XXXXXX")
+            sent=$part
+        fi
+        ;;
+esac
+"$program" "$command" "$image" "$frames" "$sent" "${limit[@]}" || status=$?
+if [ $status -eq 0 ] || [ $status -eq 3 ]; then
+    if [ -n "$part" ]; then
+        chmod --reference="$out" "$part" 2> /dev/null || chmod "$(printf '%o' $((0666 & ~$(umask))))" "$part"
+        mv "$part" "$(realpath "$out")"
+    elif [ -n "$out" ] && [ "$sent" != "$out" ]; then
+        python3 "$tools/frames.py" "$sent" "$out"
+    fi
 fi
 exit $status

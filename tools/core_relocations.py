@@ -40,6 +40,15 @@ class Step(NamedTuple):
     at: int
 
 
+def context_differs(types: Types) -> str | None:
+    """A field of the object's own context that is not where Linux has it."""
+    for number in types.numbers("xdp_md", (STRUCT,)):
+        for it in types.members(number):
+            if it.name in CONTEXT and it.bits != 32 * CONTEXT.index(it.name):
+                return it.name
+    return None
+
+
 def plain_name(name: str) -> str:
     """A type's name without its flavour, `___old`."""
     return name.partition("___")[0]

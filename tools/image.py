@@ -26,9 +26,9 @@ The exit status is 0, or 1 with a message; then no image is written.
 import argparse
 import struct
 import sys
-from typing import NamedTuple
+from typing import BinaryIO, NamedTuple
 
-from core_relocations import Kernel
+from core_relocations import Kernel, context_differs
 from objects import EXECUTABLE, FUNCTION_SYMBOL, LOCAL_CALL, OBJECT_SYMBOL, SECTION_SYMBOL, WIDE_LOAD
 from objects import Object, Refused, Relocation, Symbol
 from outputs import IsRead, end_by_signal, write_whole
@@ -40,7 +40,7 @@ KINDS = {3: "PROG_ARRAY", 4: "PERF_EVENT_ARRAY", 5: "PERCPU_HASH", 6: "PERCPU_AR
          10: "LRU_PERCPU_HASH", 11: "LPM_TRIE", 12: "ARRAY_OF_MAPS", 13: "HASH_OF_MAPS", 14: "DEVMAP", 16: "CPUMAP",
          17: "XSKMAP", 22: "QUEUE", 23: "STACK", 25: "DEVMAP_HASH", 27: "RINGBUF", 30: "BLOOM_FILTER"}
 MOST_MAPS, MOST_SLOTS, MOST_KEY, MOST_VALUE, MOST_ENTRIES, MOST_ROOM = 16, 4096, 64, 4096, 65536, 1 << 24
-MOST_OBJECT = 1 << 26  # bytes of an object file that is read
+MOST_OBJECT = 1 << 24  # bytes of an object file that is read
 DAMAGED = "the object file is damaged, or of a form that is not known here"
 
 
@@ -183,7 +183,18 @@ class Linker:
             self.waiting.append(function)
         return self.begins[key]
 
+    def refuse_lost_records(self) -> None:
+        """gcc 12 leaves out the records of some fields, so an object of its own that has any is refused, and so is one
+        whose context is not Linux's, unless clang recorded each use."""
+        data, by_clang = self.it.body(".BTF"), self.it.has_addresses() is False
+        if self.extra.accesses and not by_clang:
+            raise Refused("it has records of fields that depend on the kernel (CO-RE), and gcc leaves some out: compile it with clang")
+        field = context_differs(Types(data)) if data is not None else None
+        if field and not self.extra.accesses:
+            raise Refused(f"its struct xdp_md has {field} where Linux has none, and no record (CO-RE) says so")
+
     def link(self, function: Symbol) -> Image:
+        self.refuse_lost_records()
         self.begin(function)
         while self.waiting:
             self.link_function(self.waiting.pop(0))
@@ -325,6 +336,16 @@ def made(data: bytes, section: str | None = None, program: str | None = None, bt
         raise Refused(DAMAGED) from None
 
 
+def read_object(file: BinaryIO) -> bytes:
+    """The bytes of an object file; another one is read no further than its first bytes."""
+    data = file.read(4)
+    if data == b"\x7fELF":
+        data += file.read(MOST_OBJECT)
+    if len(data) > MOST_OBJECT:
+        raise Refused(f"it has over {MOST_OBJECT:,} bytes, and no object of a filter has")
+    return data
+
+
 def main() -> None:
     words = argparse.ArgumentParser(description=__doc__, formatter_class=argparse.RawDescriptionHelpFormatter,
                                     usage="python3 tools/image.py OBJECT IMAGE [--section NAME] [--program NAME] [--source FILE] [--btf FILE] [--list]")
@@ -341,9 +362,7 @@ def main() -> None:
     end_by_signal()
     try:
         with open(given.object, "rb") as file:
-            data = file.read(MOST_OBJECT + 1)
-        if len(data) > MOST_OBJECT:
-            raise Refused(f"it has over {MOST_OBJECT:,} bytes, and no object of a filter has")
+            data = read_object(file)
         if given.list:
             for section, names in programs(Object(data)).items():
                 print(f"{section}: {', '.join(names)}")

@@ -5,6 +5,7 @@ import re
 import shutil
 import stat
 import subprocess
+import sys
 from dataclasses import dataclass, field
 from typing import Mapping
 
@@ -74,9 +75,10 @@ class Source:
 
 
 def program_beside(name: str) -> str:
-    """The program of that name beside this file, in the repository, or on the path."""
-    for it in (os.path.join(HERE, name), os.path.join(HERE, f"../crates/{name}/out/{name}")):
-        if os.path.exists(it):
+    """The program of that name beside the script that was called, in the repository, or on the path."""
+    called = os.path.dirname(os.path.abspath(sys.argv[0]))
+    for it in (os.path.join(called, name), os.path.join(HERE, f"../crates/{name}/out/{name}")):
+        if os.path.isfile(it):
             return it
     return name
 

@@ -22,6 +22,7 @@ sys.path.insert(0, HERE)
 sys.dont_write_bytecode = True
 import frames
 import image
+import inputs
 import kernel
 import xdp
 
@@ -39,7 +40,7 @@ def frames_in(data):
     try:
         for one in frames.reader_of(source)[0](source, collections.Counter()):
             found.append(one)
-    except frames.Damaged as why:
+    except (frames.Damaged, inputs.NoText) as why:
         return found, why
     return found, None
 

@@ -334,6 +334,9 @@ def main() -> int:
     except TextRefused as refused:
         tell_place(refused)
         return refused.status
+    except BrokenPipeError:
+        os.dup2(os.open(os.devnull, os.O_WRONLY), 1)
+        return 1
     except OSError as why:
         sys.exit(f"xdp.py: {why.filename}: {why.strerror}" if why.filename else f"xdp.py: {why}")
     except (Failed, IsRead, struct.error) as why:

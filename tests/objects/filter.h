@@ -1,0 +1,16 @@
+/* What the filters of this folder share: types, the context, and how they are compiled for this machine (HOST). Each writes
+   what it counted into the packet, so that a run shows its variables. */
+#include <linux/bpf.h>
+#define SEC(name) __attribute__((section(name), used))
+#define NOINLINE __attribute__((noinline))
+#ifdef HOST
+#define CORE
+#else
+#define CORE __attribute__((preserve_access_index))
+#endif
+
+/* The packet's first byte; 34 bytes are there, or the filter ends. */
+#define BEGIN(packet, context)                                                                                                 \
+    unsigned char *packet = (unsigned char *)(long)(context)->data;                                                            \
+    if (packet + 34 > (unsigned char *)(long)(context)->data_end)                                                              \
+    return XDP_ABORTED
