@@ -227,7 +227,8 @@ class Messages(unittest.TestCase):
     def test_a_long_capture_is_a_stream(self):
         """100,000 frames through pipes, in less memory than they fill."""
         frame = struct.pack("<IIII", 1, 2, 600, 600) + bytes(600)
-        code = ("import re, runpy, sys; sys.argv = ['frames.py', '--to', 'frames', '-', '-']\n"
+        code = (f"import re, runpy, sys; sys.path.insert(0, {HERE!r})\n"
+                "sys.argv = ['frames.py', '--to', 'frames', '-', '-']\n"
                 f"runpy.run_path({os.path.join(HERE, 'frames.py')!r}, run_name='__main__')\n"
                 "sys.stderr.write(re.search(r'VmHWM:\\s*(\\d+)', open('/proc/self/status').read())[1])")
         with subprocess.Popen([sys.executable, "-c", code], stdin=subprocess.PIPE, stdout=subprocess.DEVNULL, stderr=subprocess.PIPE) as child:
