@@ -1,10 +1,10 @@
 #!/bin/bash
 # Builds the library and its callers in C and Rust, and compares what they say of every image in examples/ with what
 # `xdpvm verify` says. Then refuses the library every request for memory, one after the other.
-# usage: bash examples/embed/build.sh [--built | ARCHIVE [PROGRAM]]    (CC, CFLAGS and RUSTC are taken from the environment)
+# usage: bash examples/embed/build.sh [--short] [ARCHIVE [PROGRAM]]    (CC, CFLAGS and RUSTC are taken from the environment)
 # Without ARCHIVE it takes crates/xdpvm_c/out/libxdpvm_c.a; if there is none, it proves and builds it first, which takes
-# half an hour; with --built it is done then, and says so. PROGRAM is crates/xdpvm/out/xdpvm; where it is not built, the
-# callers are compared with each other.
+# half an hour. PROGRAM is crates/xdpvm/out/xdpvm; where it is not built, the callers are compared with each other. With
+# --short, as in the gate, memory is refused for two images, and an archive that is not there is an error.
 # The callers stay in crates/xdpvm_c/out. The last line says how many images were compared.
 set -eu
 here=$(cd "$(dirname "$0")" && pwd)
@@ -12,12 +12,11 @@ top=$(dirname "$(dirname "$here")")
 rt=$(command -v rt) || { echo "build.sh: rt, the toolchain's command, is not on the path" >&2; exit 1; }
 heap=$(dirname "$(dirname "$(realpath "$rt")")")/c/liblibc_c.a
 out=$top/crates/xdpvm_c/out
-if [ "${1:-}" = --built ]; then
+refused=(filter firewall unguarded damaged allow talkers pass)
+if [ "${1:-}" = --short ]; then
     shift
-    if [ ! -f "$out/libxdpvm_c.a" ] || ! command -v "${CC:-cc}" > /dev/null; then
-        echo "build.sh: skipped, since the library is not built or there is no C compiler"
-        exit 0
-    fi
+    refused=(filter allow)
+    [ -f "${1:-$out/libxdpvm_c.a}" ] || { echo "build.sh: there is no library ${1:-$out/libxdpvm_c.a}" >&2; exit 1; }
 fi
 archive=${1:-$out/libxdpvm_c.a}
 program=${2:-$top/crates/xdpvm/out/xdpvm}
@@ -70,9 +69,14 @@ done
 block() {
     sed -n "/^\`\`\`$1\$/,/^\`\`\`\$/p" "$top/docs/EMBEDDING.md" | sed '1d;$d'
 }
-block c > "$work/page.c"
-"${CC:-cc}" -std=c11 "${flags[@]}" -I"$here" -o "$work/page" "$work/page.c" "$archive" "$heap"
-"$work/page" > "$work/said" && [ "$(sed -n 3p "$work/said")" = "interface 2: action 2 after 5 steps" ] || { echo "the page's caller in C differs"; differ=$((differ + 1)); }
+# The one in C is compiled in a folder outside the tree, which has the header, the archive and the heap and nothing else.
+mkdir "$work/outside"
+cp "$here/xdpvm.h" "$work/outside"
+cp "$archive" "$work/outside/libxdpvm_c.a"
+cp "$heap" "$work/outside/libxdpvm_heap.a"
+block c > "$work/outside/page.c"
+(cd "$work/outside" && "${CC:-cc}" -std=c11 "${flags[@]}" -o page page.c -L. -lxdpvm_c -lxdpvm_heap)
+(cd "$top" && "$work/outside/page") > "$work/said" && [ "$(sed -n 3p "$work/said")" = "interface 2: action 2 after 5 steps" ] || { echo "the page's caller in C differs"; differ=$((differ + 1)); }
 if [ ${#callers[@]} = 2 ]; then
     block rust > "$work/page.rs"
     cp "$here/xdpvm.rs" "$work"
@@ -80,6 +84,8 @@ if [ ${#callers[@]} = 2 ]; then
     "$work/page" > "$work/said" && [ "$(sed -n 3p "$work/said")" = "refused V7 slot 0" ] || { echo "the page's caller in Rust differs"; differ=$((differ + 1)); }
 fi
 
-"$out/fail" "$top"/examples/{filter,firewall,unguarded,damaged,allow,talkers,pass}.image > "$work/refused" || { cat "$work/refused"; differ=$((differ + 1)); }
+images_refused=()
+for name in "${refused[@]}"; do images_refused+=("$top/examples/$name.image"); done
+"$out/fail" "${images_refused[@]}" > "$work/refused" || { cat "$work/refused"; differ=$((differ + 1)); }
 echo "$images images, ${#callers[@]} callers, $(wc -l < "$work/refused") calls without memory, $differ differ"
 ((differ == 0))
