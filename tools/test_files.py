@@ -134,6 +134,40 @@ class Inputs(InFolder):
         self.assertEqual(self.ran("image.py", "filter.o", "--section", "xdp", "made.image").returncode, 0)
 
 
+class Surveys(InFolder):
+    """survey.py, over the programs of this repository or those beside PROGRAM."""
+
+    def rows(self, *words: str) -> list[list[str]]:
+        survey = os.path.join(os.path.dirname(PROGRAM[0]), "xdpvm_survey")
+        beside = survey if os.path.exists(survey) else os.path.join(TOP, "crates/xdpvm_survey/out/xdpvm_survey")
+        ran = self.ran("survey.py", "--survey", beside, "--xdpvm", PROGRAM[0], "--format", "csv", *words)
+        self.assertIn(ran.returncode, (0, 2), ran.stderr)
+        return [line.split(",") for line in ran.stdout.decode().splitlines()]
+
+    def test_a_row_for_each_program_with_its_line(self) -> None:
+        for source in ("globals.clang14.o", "sections.clang14.o", "headers.gcc12.o"):
+            shutil.copy(os.path.join(TOP, "tests/objects/made", source), self.folder)
+        with open(f"{self.folder}/wrong.text", "w", encoding="utf-8") as file:
+            file.write("r0 = 2\nr0 = *(u8 *)(r2 + 0)\nexit\n")
+        names = ("globals.clang14.o", "sections.clang14.o", "headers.gcc12.o", "wrong.text")
+        header, *rows = self.rows(*names)
+        self.assertEqual([row[:2] for row in rows], [["globals.clang14.o", "ok"], ["sections.clang14.o:other", "ok"],
+                                                     ["sections.clang14.o:program", "ok"], ["headers.gcc12.o", "none"], ["wrong.text", "V1"]])  # fmt: skip
+        self.assertEqual(rows[4][header.index("line")], "wrong.text:2: r0 = *(u8 *)(r2 + 0)")
+        self.assertIn("CO-RE", ",".join(rows[3]))
+
+    def test_two_folders_are_compared_by_names(self) -> None:
+        for folder, compiler in (("one", "clang14"), ("other", "gcc12")):
+            os.mkdir(f"{self.folder}/{folder}")
+            shutil.copy(os.path.join(TOP, f"tests/objects/made/globals.{compiler}.o"), f"{self.folder}/{folder}/globals.o")
+        with open(f"{self.folder}/one.csv", "w", encoding="utf-8") as file:
+            file.write("\n".join(",".join(row) for row in self.rows("one")) + "\n")
+        changed = {row[1] for row in self.rows("other", "--compare", "one.csv")[1:] if row[0] == "globals.o"}
+        self.assertLessEqual({"slots", "bound"}, changed)
+        self.assertNotIn("verdict", changed)
+        self.assertEqual(self.rows("one", "--compare", "one.csv")[1:], [])
+
+
 class Endless(InFolder):
     """What is refused at its first bytes is refused when they are read."""
 
