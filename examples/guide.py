@@ -124,7 +124,7 @@ def tries(kind, body):
     """The examples of a block: what is tried, what is wanted, and the result."""
     if kind.endswith(".text"):
         write(kind, body)
-    elif kind == "console" and ("xdpvm_survey" not in body or os.path.exists(SURVEY)):
+    elif kind == "console" and ("survey" not in body or os.path.exists(SURVEY)):
         for command, wanted in COMMAND.findall(body):
             yield command, wanted, shell(command)
     elif kind in ("program", "trace", "image", "stream", "table", "entries"):
@@ -340,6 +340,7 @@ def main():
         os.symlink(os.path.join(TOP, "examples"), "examples")
         os.mkdir("bin")
         os.symlink(os.path.join(TOP, "tools"), "tools")
+        os.symlink(os.path.join(TOP, "tests"), "tests")
         os.symlink(PROGRAM, "bin/xdpvm")
         os.symlink(SURVEY, "bin/xdpvm_survey")
         os.environ["XDPVM"] = PROGRAM
