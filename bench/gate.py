@@ -6,7 +6,8 @@ usage: python3 bench/gate.py [--most N] [--to FILE] [COMMAND ..]      (the defau
 The seconds are those of the provers (user and system), by crate: its code, its tests, and its must-fail edits, and the
 greatest memory of one of them. They are read from /proc twice a second, so a prover loses half a
 second at most. The command's output is passed on, and its status is the script's. --most: only the
-N crates that took most; --to: the table is written to a file. With `taskset -c 0,1` in front it all
+N crates that took most; --to: the table is written to a file. After it comes the longest chain: crates of crates.txt, each
+of which waits for the one before, whose code and tests take most together, so that no number of cores can be faster. With `taskset -c 0,1` in front it all
 runs on two cores. In the gate: `.ci/run` prints the ten crates that took most.
 """
 import argparse
@@ -15,6 +16,7 @@ import subprocess
 import sys
 import time
 
+TOP = os.path.dirname(os.path.dirname(os.path.abspath(__file__)))
 TICKS = os.sysconf("SC_CLK_TCK")
 KINDS = ("code", "tests", "edits")
 
@@ -57,6 +59,28 @@ def sample(seen, root):
             seen[who + (pid,)] = seconds, int(peak[0]) // 1024 if peak else 0
 
 
+def below():
+    """Each crate of crates.txt, with the crates of this repository that it builds on."""
+    with open(f"{TOP}/crates.txt", encoding="utf-8") as file:
+        rows = [line.partition(":") for line in file if line.strip() and not line.startswith("#")]
+    found = {head.split()[0]: names.split() for head, _, names in rows}
+    return {crate: [name for name in names if name in found] for crate, names in found.items()}
+
+
+def longest_chain(costs):
+    """The crates of the chain that takes most, the lowest first, and its seconds."""
+    graph, known = below(), {}
+
+    def chain(crate):
+        if crate not in known:
+            before = max((chain(it) for it in graph[crate]), key=lambda it: it[0], default=(0, ()))
+            known[crate] = (before[0] + costs.get(crate, 0), (*before[1], crate))
+        return known[crate]
+
+    seconds, crates = max((chain(crate) for crate in graph), key=lambda it: it[0])
+    return [crate for crate in crates if costs.get(crate, 0)], seconds
+
+
 def table(seen, seconds, most):
     """The lines of the table: a row for each crate, the one that took most first, and their sum."""
     crates, peaks = {}, {}
@@ -69,6 +93,8 @@ def table(seen, seconds, most):
         yield f"| {crate} | " + " | ".join(f"{row[kind]:.0f}" for kind in KINDS) + f" | {peaks[crate] / 1024:.1f} |"
     sums = [sum(row[kind] for row in crates.values()) for kind in KINDS]
     yield f"| all {len(crates)} | " + " | ".join(f"{it:.0f}" for it in sums) + " | |"
+    chain, longest = longest_chain({crate: row["code"] + row["tests"] for crate, row in crates.items()})
+    yield f"\nthe longest chain, {longest:.0f} s of code and tests: {', '.join(chain)}"
 
 
 def main():
@@ -91,4 +117,5 @@ def main():
     sys.exit(running.returncode)
 
 
-main()
+if __name__ == "__main__":
+    main()
