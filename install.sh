@@ -5,11 +5,11 @@
 # path, 6 GB of memory, and about half an hour on 4 cores, an hour on 2. Work that is proved is kept, so a second run goes on
 # where one ended. With PROGRAM, and SURVEY for xdpvm_survey, it takes these, as `rt ci` leaves them in crates/*/out, and
 # proves nothing.
-# FOLDER gets the programs, and links to the tools: xdp.py runs a filter of any form on a capture; frames.py, image.py,
-# table.py and compile.sh convert captures, objects, proof tables and C; kernel.py compares with Linux; run.sh runs the examples.
-# What they need is in share/xdpvm with the pages and the examples. share/, include/ and lib/ are beside a FOLDER that is
-# called bin, and in another one.
-# example: bash install.sh ~/bin && ~/bin/xdp.py ~/share/xdpvm/examples/firewall.text
+# FOLDER gets the programs, and links to the tools, each as xdpvm-NAME for tools/NAME.py: xdpvm-xdp runs a filter of any form on
+# a capture; xdpvm-frames, xdpvm-image, xdpvm-table and xdpvm-compile convert captures, objects, proof tables and C; xdpvm-survey
+# judges many filters; xdpvm-kernel compares with Linux; xdpvm-run runs the examples. What they need is in share/xdpvm with the
+# pages and the examples. share/, include/ and lib/ are beside a FOLDER that is called bin, and in another one.
+# example: bash install.sh ~/bin && ~/bin/xdpvm-xdp ~/share/xdpvm/examples/firewall.text
 # The exit status is 0, or 1 with a message.
 set -eu
 top=$(dirname "$(realpath "$0")")
@@ -66,11 +66,12 @@ if [ -n "$survey" ]; then install "$survey" "$folder/xdpvm_survey"; fi
 mkdir -p "$home/tools" "$home/examples/filters" "$home/docs/pictures"
 for tool in "$top"/tools/*; do
     case $(basename "$tool") in
-        limits.py | manual.py | pictures.py | unproved.py | test_*) ;;
+        limits.py | manual.py | pictures.py | unproved.py | version.py | test_*) ;;
         *.py | *.sh)
             if [ "$(head -c 2 "$tool")" = '#!' ]; then
                 install "$tool" "$home/tools"
-                ln -sfr "$home/tools/$(basename "$tool")" "$folder"
+                name=$(basename "$tool")
+                ln -sfr "$home/tools/$name" "$folder/xdpvm-${name%.*}"
             else
                 install -m 644 "$tool" "$home/tools"
             fi
@@ -78,7 +79,7 @@ for tool in "$top"/tools/*; do
     esac
 done
 install "$top/examples/run.sh" "$home/examples"
-ln -sfr "$home/examples/run.sh" "$folder"
+ln -sfr "$home/examples/run.sh" "$folder/xdpvm-run"
 find "$top/examples" -maxdepth 1 -type f ! -name '*.py' ! -name '*.sh' -exec install -m 644 -t "$home/examples" {} +
 install -m 644 "$top"/examples/filters/* "$home/examples/filters"
 install -m 644 "$top/README.md" "$home"
@@ -108,6 +109,6 @@ else
 fi
 echo "$folder/xdpvm: $told"
 if [ -n "$survey" ]; then echo "$folder/xdpvm_survey: for many programs at once"; fi
-echo "beside it: xdp.py runs a filter of any form on a capture; each tool says with --help what it does"
+echo "beside it: xdpvm-xdp runs a filter of any form on a capture; each tool says with --help what it does"
 echo "$library"
 echo "in $home: the pages (docs) and the examples; in $share: the man pages, and completions for bash, zsh and fish"

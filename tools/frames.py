@@ -49,7 +49,7 @@ import re
 import struct
 import sys
 
-from inputs import NoText, text_lines
+from inputs import NoText, named, text_lines
 from outputs import IsRead, Output, end_by_signal
 
 Frame = collections.namedtuple("Frame", "time interface queue body reason", defaults=[0])
@@ -451,9 +451,9 @@ def convert(words, source, state):
 
 
 def main():
-    parser = argparse.ArgumentParser(description=__doc__, formatter_class=argparse.RawDescriptionHelpFormatter,
-                                     usage="python3 tools/frames.py [--to KIND] [--interface N] [--queue N] [--reasons] [--strict] IN OUT\n"
-                                           "       python3 tools/frames.py [--strict] --show IN")
+    parser = argparse.ArgumentParser(description=named(__doc__ or ""), formatter_class=argparse.RawDescriptionHelpFormatter,
+                                     usage=named("python3 tools/frames.py [--to KIND] [--interface N] [--queue N] [--reasons] [--strict] IN OUT\n"
+                                           "       python3 tools/frames.py [--strict] --show IN"))
     parser.add_argument("--show", action="store_true", help="print IN as text")
     parser.add_argument("--to", choices=["pcap", "pcapng", "frames", "txt"], help="what OUT is to be, whatever its name")
     parser.add_argument("--interface", type=number, help="of all frames")

@@ -29,6 +29,7 @@ import sys
 from typing import BinaryIO, NamedTuple
 
 from core_relocations import Kernel, context_differs
+from inputs import named
 from objects import EXECUTABLE, FUNCTION_SYMBOL, LOCAL_CALL, OBJECT_SYMBOL, SECTION_SYMBOL, WIDE_LOAD
 from objects import Object, Refused, Relocation, Symbol
 from outputs import IsRead, end_by_signal, write_whole
@@ -347,8 +348,8 @@ def read_object(file: BinaryIO) -> bytes:
 
 
 def main() -> None:
-    words = argparse.ArgumentParser(description=__doc__, formatter_class=argparse.RawDescriptionHelpFormatter,
-                                    usage="python3 tools/image.py OBJECT IMAGE [--section NAME] [--program NAME] [--source FILE] [--btf FILE] [--list]")
+    words = argparse.ArgumentParser(description=named(__doc__ or ""), formatter_class=argparse.RawDescriptionHelpFormatter,
+                                    usage=named("python3 tools/image.py OBJECT IMAGE [--section NAME] [--program NAME] [--source FILE] [--btf FILE] [--list]"))
     words.add_argument("object")
     words.add_argument("image", nargs="?")
     words.add_argument("--section")

@@ -1,5 +1,18 @@
-"""Texts that the tools read: line by line, so that what is no text is refused at its first such line."""
+"""What the tools are given: their words, by the name that each was called by, and texts, line by line."""
+import os
+import re
+import sys
 from typing import Callable, Iterator
+
+
+
+def named(text: str) -> str:
+    """A tool's help with the names that tools have where they are installed, if it was called by such a name."""
+    called = os.path.basename(sys.argv[0])
+    if called.endswith((".py", ".sh")):
+        return text
+    return re.sub(r"(?:python3|bash) (?:tools|examples)/(\w+)\.(?:py|sh)", r"xdpvm-\1", text)
+
 
 LINE = 1 << 16  # no line of a text is longer, in bytes
 

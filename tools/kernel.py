@@ -34,6 +34,7 @@ import sys
 import tempfile
 
 import sources
+from inputs import named
 
 HERE = os.path.dirname(os.path.abspath(__file__))
 SYS_BPF, SYS_CAPSET = 321, 126
@@ -323,8 +324,8 @@ def frames_in(path):
 
 def arguments():
     words = sys.argv[1:]
-    parser = argparse.ArgumentParser(description=__doc__, formatter_class=argparse.RawDescriptionHelpFormatter,
-                                     usage=__doc__.split("usage: ")[1].split("\n\n")[0])
+    parser = argparse.ArgumentParser(description=named(__doc__ or ""), formatter_class=argparse.RawDescriptionHelpFormatter,
+                                     usage=named(__doc__ or "").split("usage: ")[1].split("\n\n")[0])
     parser.add_argument("filter", metavar="FILTER")
     parser.add_argument("frames", metavar="FRAMES")
     parser.add_argument("--xdpvm", default=sources.the_xdpvm())

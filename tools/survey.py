@@ -31,6 +31,7 @@ import tempfile
 from typing import Iterator, NamedTuple
 
 from image import chosen, programs
+from inputs import named
 from objects import Object, Refused
 from outputs import end_by_signal
 from sources import Choice, Failed, Source, TextRefused, begin_of, compiled, image_of, program_beside, the_xdpvm
@@ -183,7 +184,7 @@ def in_order(rows: list[Row], column: str) -> list[Row]:
 def arguments() -> argparse.Namespace:
     words = sys.argv[1:]
     cut = words.index("--") if "--" in words else len(words)
-    parser = argparse.ArgumentParser(description=__doc__, formatter_class=argparse.RawDescriptionHelpFormatter, usage="python3 tools/survey.py FILTER|FOLDER .. [OPTION ..]")
+    parser = argparse.ArgumentParser(description=named(__doc__ or ""), formatter_class=argparse.RawDescriptionHelpFormatter, usage=named("python3 tools/survey.py FILTER|FOLDER .. [OPTION ..]"))
     parser.add_argument("filters", metavar="FILTER", nargs="+")
     parser.add_argument("--format", choices=["table", "csv", "json"], default="table")
     parser.add_argument("--no-header", action="store_true")

@@ -41,7 +41,7 @@ import re
 import struct
 import sys
 
-from inputs import NoText, text_lines
+from inputs import NoText, named, text_lines
 from outputs import IsRead, end_by_signal, write_whole
 
 MAGIC = b"XPT1"
@@ -370,9 +370,9 @@ def main(words):
             data = table_bytes(entries_in(text_lines(file.readline)))
         write_whole(words[2], data, [words[1]])
     elif words in (["--help"], ["-h"]):
-        print(__doc__)
+        print(named(__doc__))
     else:
-        sys.exit(__doc__)
+        sys.exit(named(__doc__))
 
 
 if __name__ == "__main__":

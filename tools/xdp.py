@@ -40,6 +40,7 @@ import tempfile
 import threading
 from typing import BinaryIO, Iterable, Iterator
 
+from inputs import named
 from outputs import IsRead, end_by_signal, is_plain, refuse_inputs
 from sources import HERE, Choice, Failed, Source, TextRefused, begin_of, image_of, the_xdpvm
 
@@ -286,8 +287,8 @@ def run(given: argparse.Namespace, image: str, source: Source, folder: str) -> i
 def arguments() -> argparse.Namespace:
     words = sys.argv[1:]
     flags = words[words.index("--") + 1:] if "--" in words else []
-    parser = argparse.ArgumentParser(description=__doc__, formatter_class=argparse.RawDescriptionHelpFormatter,
-                                     usage="python3 tools/xdp.py FILTER [CAPTURE [OUT]] [--trace] [--reasons] [--all] [--xdpvm PROGRAM] ..")
+    parser = argparse.ArgumentParser(description=named(__doc__ or ""), formatter_class=argparse.RawDescriptionHelpFormatter,
+                                     usage=named("python3 tools/xdp.py FILTER [CAPTURE [OUT]] [--trace] [--reasons] [--all] [--xdpvm PROGRAM] .."))
     parser.add_argument("filter", metavar="FILTER")
     parser.add_argument("capture", metavar="CAPTURE", nargs="?")
     parser.add_argument("out", metavar="OUT", nargs="?")
