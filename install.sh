@@ -3,7 +3,7 @@
 # usage: bash install.sh FOLDER [PROGRAM [SURVEY]]        (such as ~/bin)
 # Without PROGRAM it proves every crate that the programs depend on, and builds both. That needs the toolchain's `rt` on the
 # path, 6 GB of memory, and about half an hour on 4 cores, an hour on 2. Work that is proved is kept, so a second run goes on
-# where one ended. With PROGRAM, and SURVEY for xdpvm_survey, it takes these, as `rt ci` leaves them in crates/*/out, and
+# where one ended; what the gate (.ci/run) has proved at this commit on this machine is taken as it is. With PROGRAM, and SURVEY for xdpvm_survey, it takes these, as `rt ci` leaves them in crates/*/out, and
 # proves nothing.
 # FOLDER gets the programs, and links to the tools, each as xdpvm-NAME for tools/NAME.py: xdpvm-xdp runs a filter of any form on
 # a capture; xdpvm-frames, xdpvm-image, xdpvm-table and xdpvm-compile convert captures, objects, proof tables and C; xdpvm-survey
@@ -40,6 +40,10 @@ if [ -n "$program" ]; then
         "$survey" --format csv "$top/examples/pass.image" 2> /dev/null | grep -q 'pass.image,ok,' || stop "$survey is no xdpvm_survey"
     fi
     told="$program, as it was given: nothing was proved now"
+elif gate=$(python3 "$top/assurance/record.py" --find); then
+    program=$gate/xdpvm
+    survey=$gate/xdpvm_survey
+    told="proved by the gate at this commit ($(sed -n 's/^  "gate": "\(.*\)",$/\1/p' "$gate/record.json"), $(sed -n 's/^  "date": "\(.*\)",$/\1/p' "$gate/record.json")): nothing was proved now"
 else
     command -v rt > /dev/null || stop "rt, the toolchain's command, is not on the path, and no PROGRAM is given"
     echo "install.sh: proving and building the programs" >&2
@@ -98,7 +102,7 @@ done
 # ---- the library for C and Rust, if it is built
 
 install -D -m 644 "$top/examples/embed/xdpvm.h" "$beside/include/xdpvm.h"
-archive=$top/crates/xdpvm_c/out/libxdpvm_c.a
+archive=${gate:-$top/crates/xdpvm_c/out}/libxdpvm_c.a
 heap=$(dirname "$(dirname "$(realpath "$(command -v rt || echo /nowhere/bin/rt)")")")/c/liblibc_c.a
 if [ -f "$archive" ] && [ -f "$heap" ]; then
     install -D -m 644 "$archive" "$beside/lib/libxdpvm_c.a"

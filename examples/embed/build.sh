@@ -2,8 +2,8 @@
 # Builds the library and its callers in C and Rust, and compares what they say of every image in examples/ with what
 # `xdpvm verify` says. Then refuses the library every request for memory, one after the other.
 # usage: bash examples/embed/build.sh [--short] [ARCHIVE [PROGRAM]]    (CC, CFLAGS and RUSTC are taken from the environment)
-# Without ARCHIVE it takes crates/xdpvm_c/out/libxdpvm_c.a; if there is none, it proves and builds it first, which takes
-# half an hour. PROGRAM is crates/xdpvm/out/xdpvm; where it is not built, the callers are compared with each other. With
+# Without ARCHIVE it takes crates/xdpvm_c/out/libxdpvm_c.a, or the one that the gate has proved at this commit; if there is
+# none, it proves and builds it first, which takes half an hour. PROGRAM is crates/xdpvm/out/xdpvm; where it is not built, the callers are compared with each other. With
 # --short, as in the gate, memory is refused for two images, and an archive that is not there is an error.
 # The callers stay in crates/xdpvm_c/out. The last line says how many images were compared.
 set -eu
@@ -18,7 +18,10 @@ if [ "${1:-}" = --short ]; then
     refused=(filter allow)
     [ -f "${1:-$out/libxdpvm_c.a}" ] || { echo "build.sh: there is no library ${1:-$out/libxdpvm_c.a}" >&2; exit 1; }
 fi
+gate=$(python3 "$top/assurance/record.py" --find) || gate=
+[ -f "$out/libxdpvm_c.a" ] || [ -z "$gate" ] || out=$gate
 archive=${1:-$out/libxdpvm_c.a}
+out=$top/crates/xdpvm_c/out
 program=${2:-$top/crates/xdpvm/out/xdpvm}
 if [ ! -f "$archive" ]; then
     echo "build.sh: proving and building the library" >&2
