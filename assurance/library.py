@@ -19,7 +19,7 @@ def main() -> int:
     folder = f"{TOP}/crates/xdpvm_c"
     os.makedirs(f"{folder}/out", exist_ok=True)
     command = [f"{KIT}/bin/rattle", "build", *words("xdpvm_c", os.path.abspath(sys.argv[1]))]
-    command += ["--toolchain", f"{KIT}/toolchain", "--backend", "llvm", "-o", "out/libxdpvm_c.a"]
+    command += ["--crate-type", "staticlib", "--toolchain", f"{KIT}/toolchain", "--backend", "llvm", "-o", "out/libxdpvm_c.a"]
     ran = subprocess.run(command, cwd=folder, stdin=subprocess.DEVNULL, capture_output=True, text=True, errors="replace", check=False)
     if ran.returncode:
         sys.stderr.write(ran.stdout[-2000:] + ran.stderr[-2000:])
