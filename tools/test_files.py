@@ -13,6 +13,7 @@ import struct
 import subprocess
 import sys
 import tempfile
+import threading
 import time
 import unittest
 
@@ -212,6 +213,9 @@ class Pipes(InFolder):
         words = self.words("xdp.py", os.path.join(EXAMPLES, "pass.text"), "-", "-", "--to", "frames")
         with subprocess.Popen(words, stdin=subprocess.PIPE, stdout=subprocess.PIPE, stderr=subprocess.DEVNULL) as child:
             assert child.stdin and child.stdout
+            watchdog = threading.Timer(30, child.kill)
+            watchdog.start()
+            self.addCleanup(watchdog.cancel)
             child.stdin.write(head)
             child.stdin.flush()
             waited = []
