@@ -317,6 +317,7 @@ END
 packed xdpvm
 tree=$work/libxdpvm-dev/usr
 put_library "$tree/include" "$tree/lib/x86_64-linux-gnu" /usr /x86_64-linux-gnu
+rm "$tree"/lib/x86_64-linux-gnu/*.so*
 mkdir -p "$tree/share/doc/libxdpvm-dev/examples"
 install -m 644 "$top/examples/embed/"{embed.c,maps.c,fuzz.c,xdpvm.rs} "$tree/share/doc/libxdpvm-dev/examples"
 install -m 644 "$top/docs/EMBEDDING.md" "$tree/share/doc/libxdpvm-dev"
