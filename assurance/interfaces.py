@@ -1,21 +1,20 @@
 #!/usr/bin/env python3
-"""Runs images on a pair of virtual interfaces of the Linux kernel, and compares with `xdpvm run`: the kernel's loaders, object.py's
-own commands, and frames that are sent.
+"""Runs images on a pair of virtual interfaces of the Linux kernel, and compares with `xdpvm run`: the kernel's
+loaders, object.py's own commands, and frames that are sent.
 
 usage: python3 assurance/interfaces.py [IMAGE ..] [--program XDPVM] [--all]
 
 In a network namespace of its own it makes the interfaces in0 and out0, and tries
-  loaders  each example as an object by `ip`, `bpftool`, `xdp-loader` and libbpf, which load those that `verify` accepts and
-           no others; the kernel's tag of the program is the one that `object.py --tag` prints
-  updates  a program that drops and counts is replaced again and again while frames arrive: none gets through, and all are
-           counted; what fails on the way leaves the old program and its maps
-  frames   five of the examples (each IMAGE; --all: all of them) on in0, and frames sent one by one from out0: each has the
-           action and the bytes that `xdpvm run` says, and in the end the maps have what its report says, but for programs
-           that ask for the time
+  loaders  each example as an object by `ip`, `bpftool`, `xdp-loader` and libbpf, which load those that `verify`
+           accepts and no others; the kernel's tag of the program is the one that `object.py --tag` prints
+  updates  a program that drops and counts is replaced again and again while frames arrive: none gets through, and all
+           are counted; what fails on the way leaves the old program and its maps
+  frames   five of the examples (each IMAGE; --all: all of them) on in0, and frames sent one by one from out0: each has
+           the action and the bytes that `xdpvm run` says, and in the end the maps have what its report says, but for
+           programs that ask for the time
 
-What differs is printed; the last line counts. The exit status is 0 if nothing differs, 1 if something does, and 77 where
-it cannot be tried: it needs Linux, root, bpf(2), and the tools that the message names.
-"""
+What differs is printed; the last line counts. The exit status is 0 if nothing differs, 1 if something does, and 77
+where it cannot be tried: it needs Linux, root, bpf(2), and the tools that the message names. """
 import argparse
 import glob
 import json
@@ -37,7 +36,9 @@ sys.path[:0] = [f"{TOP}/examples", f"{TOP}/tools", HERE]
 sys.dont_write_bytecode = True
 import libbpf
 import loading
+import object_image
 import send
+from object_sweep import object_of
 
 OBJECT = [sys.executable, "-B", f"{TOP}/tools/object.py"]
 EXAMPLES = f"{TOP}/examples"
@@ -106,9 +107,10 @@ def loaders(program: str, tried: Tried, paths: List[str]) -> None:
     tried.say("libbpf.so.1", there is not None, "it is not there (Debian: libbpf1)")
     for path in paths:
         wanted = ran(program, "verify", path).returncode == 0
-        made = f"{called(path)}.o"
-        must(*OBJECT, "--unverified", path, made)
-        tags = must(*OBJECT, "--tag", path).split()
+        made, data = f"{called(path)}.o", content(path)
+        with open(made, "wb") as file:
+            file.write(object_of(data))
+        tags = object_image.tags(object_image.Program(data))
         tried.same(f"{made} by ip", wanted, by_ip(made, tags, tried))
         tried.same(f"{made} by bpftool", wanted, by_bpftool(made))
         tried.same(f"{made} by xdp-loader", wanted, by_xdp_loader(made))
@@ -278,8 +280,8 @@ def expected(program: str, path: str) -> Tuple[List[Expected], List[str]]:
 
 
 def arrived(here: socket.socket, back: socket.socket, waits: bool) -> Tuple[List[bytes], List[bytes]]:
-    """The frames that came through, and those that came back: for as long as a frame should take, or a while in which none
-    should come."""
+    """The frames that came through, and those that came back: for as long as a frame should take, or a while in which
+    none should come."""
     end = time.monotonic() + (0.5 if waits else 0.006)
     through: List[bytes] = []
     returned: List[bytes] = []
@@ -303,11 +305,11 @@ def sent_one(it: Expected, here: socket.socket, back: socket.socket) -> Optional
     return None
 
 
-def frames(program: str, tried: Tried, paths: List[str]) -> int:
-    """Each image on in0; the result is how many frames were sent. A program on out0 lets what comes back arrive."""
+def frames(program: str, tried: Tried, paths: List[str]) -> Tuple[int, int]:
+    """Each image on in0; the result is how many there were, and how many frames were sent. A program on out0 lets what comes back arrive."""
     must(*OBJECT, "--xdpvm", program, "--load", "out0", f"{EXAMPLES}/pass.image")
     time.sleep(0.3)
-    total = 0
+    count = total = 0
     for path in paths:
         if ran(program, "verify", path).returncode:
             continue
@@ -315,13 +317,13 @@ def frames(program: str, tried: Tried, paths: List[str]) -> int:
         rows, maps = expected(program, path)
         with received("in0") as here, received("out0") as back:
             wrong = [it for it in (sent_one(row, here, back) for row in rows) if it]
-        total += len(rows)
+        count, total = count + 1, total + len(rows)
         tried.say(called(path), not wrong, f"{len(wrong)} frames differ, as {wrong[:1]}")
         if CLOCK not in must(program, "dis", path):
             tried.same(f"{called(path)}: maps", maps, must(*OBJECT, "--read", "in0").splitlines())
         must(*OBJECT, "--unload", "in0")
     must(*OBJECT, "--unload", "out0")
-    return total
+    return count, total
 
 
 def run_all(given: argparse.Namespace) -> int:
@@ -335,9 +337,9 @@ def run_all(given: argparse.Namespace) -> int:
         images = stored() if given.all else given.images or few
         loaders(given.program, tried, stored() if given.all else sorted(glob.glob(f"{EXAMPLES}/*.image")))
         updates(given.program, tried)
-        count = frames(given.program, tried, images)
+        count, total = frames(given.program, tried, images)
         os.chdir("/")
-    print(f"{tried.count} tried with {count:,} frames over {len(images)} images, {tried.differ} differ")
+    print(f"{tried.count} tried, with {total:,} frames through {count} images, {tried.differ} differ")
     return 1 if tried.differ or not count else 0
 
 

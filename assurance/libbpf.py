@@ -1,4 +1,5 @@
-"""libbpf by ctypes, without headers or a compiler: opens objects, says what it found in them, loads and attaches them."""
+"""libbpf by ctypes, without headers or a compiler: opens objects, says what it found in them, loads and attaches
+them."""
 
 import ctypes
 from typing import List, NamedTuple, Optional, Tuple
@@ -70,7 +71,8 @@ class Library:
         return Found(programs, rows)
 
     def loads(self, data: bytes, interface: int = 0) -> bool:
-        """Whether the kernel takes the object, and the program on the interface, if one is given; all is closed again."""
+        """Whether the kernel takes the object, and the program on the interface, if one is given; all is closed
+        again."""
         handle, it = self.opened(data), self.it
         try:
             if it.bpf_object__load(handle):

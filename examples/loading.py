@@ -1,14 +1,14 @@
 #!/usr/bin/env python3
-"""Runs every block of docs/LOADING.md in a network namespace of its own, and prints each whose result is not what the page says.
+"""Runs every block of docs/LOADING.md in a network namespace of its own, and prints each whose result is not what the
+page says.
 
 usage: python3 examples/loading.py [PROGRAM]
 
-PROGRAM is the program that `rt run` leaves in crates/xdpvm (the default: crates/xdpvm/out/xdpvm). A block is tried by the
-first word after its backquotes: `console` and `namespace` are commands after `$`, each followed by its standard output;
-NAME.text is written to that file. guide.py tries the blocks of all pages but `namespace`, which need root. The exit status
-is 0 if every result is the one wanted, 1 if not, and 77 where it cannot be tried: it needs Linux, root, bpf(2), and the
-tools that the message names, with their Debian packages.
-"""
+PROGRAM is the program that `rt run` leaves in crates/xdpvm (the default: crates/xdpvm/out/xdpvm). A block is tried by
+the first word after its backquotes: `console` and `namespace` are commands after `$`, each followed by its standard
+output; NAME.text is written to that file. guide.py tries the blocks of all pages but `namespace`, which need root. The
+exit status is 0 if every result is the one wanted, 1 if not, and 77 where it cannot be tried: it needs Linux, root,
+bpf(2), and the tools that the message names, with their Debian packages. """
 import os
 import re
 import shutil
@@ -33,8 +33,8 @@ def missing() -> List[str]:
 
 
 def inside(script: str, *words: str) -> int:
-    """Runs a script of python in a network namespace and a mount namespace of its own, which has a BPF file system; the result
-    is its status, or 77 where that cannot be."""
+    """Runs a script of python in a network namespace and a mount namespace of its own, which has a BPF file system;
+    the result is its status, or 77 where that cannot be."""
     name = os.path.basename(script)
     if not sys.platform.startswith("linux") or os.geteuid() != 0:
         print(f"{name}: not tried, since it needs Linux and root")

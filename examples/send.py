@@ -3,9 +3,8 @@
 
 usage: python3 examples/send.py DEV FRAMES
 
-It prints how many. Frames of fewer than 14 bytes, and those that are too long for the interface, are left out and counted.
-Pages and tests use it on a pair of virtual interfaces: what is sent from one arrives at the other.
-"""
+It prints how many. Frames of fewer than 14 bytes, and those that are too long for the interface, are left out and
+counted. Pages and tests use it on a pair of virtual interfaces: what is sent from one arrives at the other. """
 import errno
 import socket
 import struct

@@ -11,15 +11,16 @@ usage: python3 tools/object.py IMAGE OBJECT [--name NAME] [--maps NAME,..] [--so
        python3 tools/object.py --tag IMAGE
 
 The image is verified first, by the xdpvm beside this script, on the path, or named; --unverified leaves that out. The
-program is called NAME (xdpvm_prog), and the maps have the NAMEs given (map0, map1, ..). --source is the text that the image
-was assembled of: the kernel's messages then show its lines, and else those of `xdpvm dis`. An object has no license if none
-is given. With --pin other loaders pin the maps by their names, or take those that are pinned.
+program is called NAME (xdpvm_prog), and the maps have the NAMEs given (map0, map1, ..). --source is the text that the
+image was assembled of: the kernel's messages then show its lines, and else those of `xdpvm dis`. An object has no
+license if none is given. With --pin other loaders pin the maps by their names, or take those that are pinned.
 
---load verifies, loads, fills the maps from the map lines of FILE (as a report and --read have them), and puts the program on
-the interface DEV, in one step in place of the one that was loaded before; it is pinned in /sys/fs/bpf/xdpvm/DEV, or in the
-folder PIN and put on no interface. --keep goes on with the maps of the program before. --replace replaces a program that
-another tool loaded, --force loads an image that `verify` refuses. --read prints the maps, --unload takes all out again.
---by ip and --by xdp-loader load on DEV without pins, and so without --fill, --keep and --read.
+--load verifies and loads the program, fills its maps from the map lines of FILE (as a report and --read have them; - is
+standard input), and puts it on the interface DEV, in one step in place of the one that was loaded before. It is pinned
+in /sys/fs/bpf/xdpvm/DEV; with a path in place of DEV it is pinned there, and put on no interface. --keep goes on with
+the maps of the program before. --replace replaces a program that another tool loaded, --force loads an image that
+`verify` refuses. --read prints the maps, --unload takes all out again. --by ip and --by xdp-loader load on DEV without
+pins, and so without --fill, --keep and --read.
 
 --check says what Linux refuses of a program that `verify` accepts, and loads it for a test where that is allowed. --tag
 prints the two tags by which `bpftool prog show` may name the program, from Linux 6.18 on and before.
@@ -49,8 +50,9 @@ import object_maps
 from object_image import Program, Refused, map_names, tags
 from object_load import Failed
 from object_types import Line
-
-HERE = os.path.dirname(os.path.realpath(__file__))
+from outputs import IsRead, Output, end_by_signal
+from sources import Failed as NotTaken
+from sources import taken, the_xdpvm
 
 
 class Verdict(NamedTuple):
@@ -69,7 +71,7 @@ def verified(given: argparse.Namespace, says_yes: bool = True) -> Verdict:
     """The verdict on the image, which is printed; a yes if that is wanted."""
     if not shutil.which(given.xdpvm):
         raise Failed(f"there is no program {given.xdpvm} to verify the image; --unverified leaves that out")
-    ran = subprocess.run([given.xdpvm, "verify", given.image], capture_output=True, text=True)
+    ran = subprocess.run([given.xdpvm, "verify", given.taken], capture_output=True, text=True)
     if ran.returncode or says_yes:
         print(ran.stdout, end="", flush=True)
     sys.stderr.write(ran.stderr)
@@ -85,7 +87,7 @@ def lines(given: argparse.Namespace, program: Program, data: bytes) -> Dict[int,
         return object_link.lines_of_text(given.source, program)
     listing = ""
     if not given.unverified:
-        ran = subprocess.run([given.xdpvm, "dis", given.image], capture_output=True)
+        ran = subprocess.run([given.xdpvm, "dis", given.taken], capture_output=True)
         listing = ran.stdout.decode() if ran.returncode == 0 else ""
     return object_link.lines_of_listing(given.image, program, listing)
 
@@ -109,36 +111,6 @@ def made(given: argparse.Namespace, data: bytes) -> object_load.Object:
     return object_load.Object(whole, given.name, names, program.rows, object_link.map_order(program), sections)
 
 
-def write(path: str, data: bytes, inputs: List[str]) -> None:
-    """Writes a file beside the one that is there, and then puts it in its place, so that an old one stays until then."""
-    for it in inputs:
-        if os.path.exists(path) and os.path.samefile(path, it):
-            raise Failed(f"{path}: it would be written over while it is read")
-    if os.path.exists(path) and not os.path.isfile(path):
-        with open(path, "wb") as other:
-            other.write(data)
-        return
-    target = os.path.realpath(path)
-    with tempfile.NamedTemporaryFile(dir=os.path.dirname(target), prefix=".object.", delete=False) as beside:
-        try:
-            beside.write(data)
-            beside.flush()
-            os.chmod(beside.name, mode_of(target))
-            os.replace(beside.name, target)
-        except BaseException:
-            os.unlink(beside.name)
-            raise
-
-
-def mode_of(path: str) -> int:
-    """The permissions of a file, or those that a new one gets."""
-    if os.path.exists(path):
-        return os.stat(path).st_mode & 0o777
-    mask = os.umask(0)
-    os.umask(mask)
-    return 0o666 & ~mask
-
-
 # ---- what is asked for
 
 
@@ -148,8 +120,8 @@ def write_object(given: argparse.Namespace, data: bytes) -> int:
         verdict = verified(given, says_yes=False)
         if verdict.status:
             return verdict.status
-    inputs = [given.image] + ([given.source] if given.source else [])
-    write(given.object, made(given, data).bytes, inputs)
+    with Output(given.object, [given.image, given.source]) as out:
+        out.put(made(given, data).bytes)
     if not program.is_in_order_of_calls():
         words = "its functions are not in the order of their calls, so image.py makes another image of the object"
         print(f"{given.image}: {words}, of the same program", file=sys.stderr)
@@ -207,21 +179,15 @@ def answered(given: argparse.Namespace) -> int:
         return unload(given)
     if given.read:
         return read(given)
-    data = content(given.image)
-    if given.tag:
-        print(*tags(Program(data)))
-        return 0
-    if given.check:
-        return check(given, data)
-    return load(given, data) if given.load else write_object(given, data)
-
-
-def program_beside() -> str:
-    """The xdpvm that is beside this script, in the repository, or on the path."""
-    for it in (os.path.join(HERE, "xdpvm"), os.path.join(HERE, "../crates/xdpvm/out/xdpvm")):
-        if os.path.exists(it):
-            return it
-    return "xdpvm"
+    with tempfile.TemporaryDirectory() as folder:
+        given.taken = taken(given.image, folder)
+        data = content(given.taken)
+        if given.tag:
+            print(*tags(Program(data)))
+            return 0
+        if given.check:
+            return check(given, data)
+        return load(given, data) if given.load else write_object(given, data)
 
 
 def arguments() -> argparse.Namespace:
@@ -242,19 +208,12 @@ def arguments() -> argparse.Namespace:
         words.add_argument(f"--{name}", action="store_true")
     words.add_argument("--mode", choices=["native", "generic"])
     words.add_argument("--by", choices=list(object_load.PACKAGES), default="bpftool")
-    words.add_argument("--xdpvm", default=os.environ.get("XDPVM") or program_beside())
-    given = words.parse_args()
-    wanted = (
-        []
-        if given.read or given.unload
-        else ["IMAGE"]
-        if given.load or given.check or given.tag
-        else ["IMAGE", "OBJECT"]
-    )
+    words.add_argument("--xdpvm", default=the_xdpvm())
+    given = words.parse_intermixed_args()
+    is_of_image = given.load or given.check or given.tag
+    wanted = [] if given.read or given.unload else ["IMAGE"] if is_of_image else ["IMAGE", "OBJECT"]
     if len(given.files) != len(wanted):
-        words.error(
-            f"{' and '.join(wanted) or 'no file'} {'are' if len(wanted) == 2 else 'is'} wanted here, and there are {len(given.files)} files"
-        )
+        words.error(f"the files are {' and '.join(wanted) or 'none'} here, and {len(given.files)} are given")
     given.image, given.object = [*given.files, None, None][:2]
     loading = [name for name in ("fill", "keep", "replace", "mode", "force") if getattr(given, name)]
     if loading and not given.load:
@@ -268,11 +227,15 @@ def arguments() -> argparse.Namespace:
 
 def main() -> int:
     given = arguments()
+    end_by_signal()
     try:
         return answered(given)
+    except BrokenPipeError:
+        os.dup2(os.open(os.devnull, os.O_WRONLY), 1)
+        return 1
     except OSError as why:
         sys.exit(f"object.py: {why.filename}: {why.strerror}" if why.filename else f"object.py: {why}")
-    except Failed as why:
+    except (Failed, NotTaken, IsRead) as why:
         sys.exit(f"object.py: {why}")
     except Refused as why:
         sys.exit(f"object.py: {why}" if given.fill and str(why).startswith(given.fill) else f"{given.image}: {why}")

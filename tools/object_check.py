@@ -15,10 +15,10 @@ JUMPS = 8192  # BPF_COMPLEXITY_LIMIT_JMP_SEQ (kernel/bpf/verifier.c)
 WITH_JIT, WITHOUT = 16, 32  # what round_up_stack_depth (kernel/bpf/verifier.c) rounds a function's stack up to
 # opcodes: classes and operations of RFC 9669
 LDX, ST, STX, ALU, JMP, JMP32, ALU64 = 1, 2, 3, 4, 5, 6, 7
-ATOMIC, ADD, DIV, LEFT, RIGHT, MODULO, MOVE, ARITHMETIC = 0xC0, 0, 3, 6, 7, 9, 11, 12
+ATOMIC, ADD, SUBTRACT, DIV, LEFT, RIGHT, MODULO, MOVE, ARITHMETIC = 0xC0, 0, 1, 3, 6, 7, 9, 11, 12
 GOTO, CALL, EXIT = 0, 8, 9
 SIZES = {0x00: 4, 0x08: 2, 0x10: 1, 0x18: 8}
-FRAME = 10  # r10
+FRAME, LAST_ARGUMENT = 10, 5  # r10, r5
 
 
 class Row(NamedTuple):
@@ -41,6 +41,16 @@ ROWS = [
         "math between|offset is outside of the packet|pointer offset .* is not allowed|pointer be out of bounds",
     ),
     Row(
+        "a pointer may move back by a number; of remainders, quotients and other operations more limits are kept",
+        "`min value is negative`, `unbounded memory access`",
+        "min value is negative|unbounded memory access|outside of the allowed memory range|invalid access to",
+    ),
+    Row(
+        "a stack pointer may be moved by a subtraction",
+        "`subtraction from stack pointer prohibited`",
+        "subtraction from stack pointer",
+    ),
+    Row(
         "a function may end with a pointer into its own call frame in r0: the caller finds r0 unset",
         "`cannot return stack pointer to the caller`",
         "cannot return stack pointer",
@@ -48,10 +58,10 @@ ROWS = [
     Row(
         "a jump is known to go one way by both limits and bits, after more operations",
         "takes both ways, and may refuse what cannot be reached",
-        "!read_ok|invalid bpf_context access|invalid write to stack|invalid read from stack|invalid access to",
+        "!read_ok|invalid bpf_context access|invalid (write to|read from) stack",
     ),
     Row(
-        "a loop is left once a test of limits, bits or stack slots says so, after more operations",
+        "a loop has an end that the limits and bits kept here show",
         "`infinite loop detected`",
         "infinite loop detected",
     ),
@@ -67,7 +77,7 @@ ROWS = [
     ),
     Row(
         "a function may call itself, while at most 8 call frames are live",
-        "`the call stack of 8 frames is too deep`: over the calls that the code has, not those that are made",
+        "`the call stack of 8 frames is too deep`: by the calls that the code has, not those that are made",
         "call stack of .* frames is too deep",
     ),
     Row(
@@ -81,7 +91,7 @@ ROWS = [
         "prohibited for !root",
     ),
 ]
-SHIFTS, BRANCHES, FRAMES, DEPTH, ATOMICS = ROWS[0], ROWS[5], ROWS[6], ROWS[7], ROWS[8]
+CONSTANTS, SUBTRACTIONS, BRANCHES, FRAMES, DEPTH, ATOMICS = ROWS[0], ROWS[3], ROWS[7], ROWS[8], ROWS[9], ROWS[10]
 
 
 class Finding(NamedTuple):
@@ -106,7 +116,7 @@ def told(row: Optional[Row]) -> str:
 
 def findings(program: Program, bound: Optional[int]) -> List[Finding]:
     """What the rules find. `bound` is that of `verify`, if it is known."""
-    return constants(program) + atomics(program) + stack(program) + jumps(program, bound)
+    return constants(program) + subtractions(program) + atomics(program) + stack(program) + jumps(program, bound)
 
 
 def constants(program: Program) -> List[Finding]:
@@ -118,9 +128,9 @@ def constants(program: Program) -> List[Finding]:
         if kind not in (ALU, ALU64) or it.opcode & 8:
             continue
         if operation in (LEFT, RIGHT, ARITHMETIC) and not 0 <= it.imm < width:
-            found.append(Finding(True, f"slot {slot} shifts {width} bits by {it.imm}", SHIFTS))
+            found.append(Finding(True, f"slot {slot} shifts {width} bits by {it.imm}", CONSTANTS))
         elif operation in (DIV, MODULO) and it.imm == 0:
-            found.append(Finding(True, f"slot {slot} divides by 0", SHIFTS))
+            found.append(Finding(True, f"slot {slot} divides by 0", CONSTANTS))
     return found
 
 
@@ -138,36 +148,60 @@ def atomics(program: Program) -> List[Finding]:
     return found
 
 
-def depths(program: Program) -> Dict[int, int]:
-    """How far down each function uses its stack, by the slot where it begins: through r10, and through copies of it that
-    were moved by constants."""
-    found = {}
-    for begin in program.begins:
-        lowest, copies = 0, {FRAME: 0}
+class Stack:
+    """How far down each function uses its stack, by the slot where it begins: through r10, and through copies of it
+    that are moved by constants. A copy is followed up to the next slot that a jump leads to."""
+
+    def __init__(self, program: Program) -> None:
+        self.program, self.depths = program, dict.fromkeys(program.begins, 0)
+        self.subtractions: List[int] = []
+        self.copies = {FRAME: 0}
+        targets = {
+            slot + 1 + distance(it) for slot in program.instructions for it in [program.slot(slot)] if is_jump(it)
+        }
+        begin = 0
         for slot in program.instructions:
-            if begin <= slot < program.end(begin):
-                lowest = min(lowest, accessed(program.slot(slot), copies))
-                moved(program.slot(slot), copies)
-                lowest = min([lowest, *copies.values()])
-        found[begin] = -lowest
-    return found
+            if slot in targets or slot in self.depths:
+                self.copies = {FRAME: 0}
+            begin = slot if slot in self.depths else begin
+            self.moved(slot, program.slot(slot))
+            lowest = min(self.accessed(program.slot(slot)), *self.copies.values())
+            self.depths[begin] = max(self.depths[begin], -lowest)
+
+    def accessed(self, it: Slot) -> int:
+        """The lowest byte of the stack that an instruction reads or writes, if it does."""
+        base = {LDX: it.source, ST: it.destination, STX: it.destination}.get(it.opcode & 7)
+        return self.copies[base] + it.offset if base is not None and base in self.copies else 0
+
+    def moved(self, slot: int, it: Slot) -> None:
+        """Keeps which registers are copies of r10, and where they point to."""
+        is_wide, operation, is_register = it.opcode & 7 == ALU64, it.opcode >> 4, it.opcode & 8
+        if is_wide and operation == MOVE and is_register and it.offset == 0 and it.source in self.copies:
+            self.copies[it.destination] = self.copies[it.source]
+        elif is_wide and operation in (ADD, SUBTRACT) and not is_register and it.destination in self.copies:
+            self.copies[it.destination] += it.imm if operation == ADD else -it.imm
+            self.subtractions += [slot] * (operation == SUBTRACT)
+        elif it.opcode & 7 in (0, LDX, ALU, ALU64):
+            self.copies.pop(it.destination, None)
+        elif it.opcode & 7 == JMP and it.opcode >> 4 == CALL:
+            self.copies = {register: at for register, at in self.copies.items() if register > LAST_ARGUMENT}
 
 
-def accessed(it: Slot, copies: Dict[int, int]) -> int:
-    """The lowest byte of the stack that an instruction reads or writes, if it does."""
-    base = {LDX: it.source, ST: it.destination, STX: it.destination}.get(it.opcode & 7)
-    return copies[base] + it.offset if base is not None and base in copies else 0
+def is_jump(it: Slot) -> bool:
+    return it.opcode & 7 in (JMP, JMP32) and it.opcode >> 4 not in (CALL, EXIT)
 
 
-def moved(it: Slot, copies: Dict[int, int]) -> None:
-    """Keeps which registers are copies of r10, and where they point to."""
-    is_wide, operation, is_register = it.opcode & 7 == ALU64, it.opcode >> 4, it.opcode & 8
-    if is_wide and operation == MOVE and is_register and it.offset == 0 and it.source in copies:
-        copies[it.destination] = copies[it.source]
-    elif is_wide and operation == ADD and not is_register and it.destination in copies:
-        copies[it.destination] += it.imm
-    elif it.opcode & 7 in (LDX, ALU, ALU64) and it.destination != FRAME:
-        copies.pop(it.destination, None)
+def distance(it: Slot) -> int:
+    """How far a jump leads, from the slot after it."""
+    return it.imm if it.opcode & 7 == JMP32 and it.opcode >> 4 == GOTO else it.offset
+
+
+def subtractions(program: Program) -> List[Finding]:
+    """Stack pointers that are moved by a subtraction."""
+    return [
+        Finding(True, f"slot {slot} subtracts from a stack pointer", SUBTRACTIONS)
+        for slot in Stack(program).subtractions
+    ]
 
 
 def callees(program: Program) -> Dict[int, List[int]]:
@@ -178,7 +212,7 @@ def callees(program: Program) -> Dict[int, List[int]]:
 
 def stack(program: Program) -> List[Finding]:
     """Calls whose call frames have over 512 bytes together, or are too many (check_max_stack_depth)."""
-    own, called = depths(program), callees(program)
+    own, called = Stack(program).depths, callees(program)
     for step, is_sure, where in ((WITH_JIT, True, ""), (WITHOUT, False, " without the JIT, and in older kernels")):
         size, chain = dearest(called, {begin: rounded(own[begin], step) for begin in own})
         if size > STACK:
@@ -227,12 +261,9 @@ def jumps(program: Program, bound: Optional[int]) -> List[Finding]:
     if bound is None or bound <= JUMPS:
         return []
     for slot in program.instructions:
-        it = program.slot(slot)
-        if it.opcode & 7 in (JMP, JMP32) and it.opcode >> 4 not in (CALL, EXIT):
-            distance = it.imm if it.opcode & 7 == JMP32 and it.opcode >> 4 == GOTO else it.offset
-            if distance < 0:
-                words = f"a run may take {bound:,} instructions, with the loop at slot {slot}: with over {JUMPS:,} jumps on one way"
-                return [Finding(False, words + " that may go either way it is refused", BRANCHES)]
+        if is_jump(program.slot(slot)) and distance(program.slot(slot)) < 0:
+            words = f"a run may take {bound:,} instructions, with the loop that ends at slot {slot}: it is refused if"
+            return [Finding(False, f"{words} over {JUMPS:,} jumps of one run may go either way", BRANCHES)]
     return []
 
 

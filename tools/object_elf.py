@@ -8,13 +8,14 @@ import struct
 from typing import List, NamedTuple, Sequence, Tuple
 
 from object_types import Texts
+from objects import FUNCTION_SYMBOL, LOCAL_CALL, MACHINE, NO_BITS, OBJECT_SYMBOL, RELOCATIONS, SYMBOLS, WIDE_LOAD
 
-PROGBITS, SYMTAB, STRTAB, NOBITS, REL = 1, 2, 3, 8, 9  # SHT_*
+PROGBITS, SYMTAB, STRTAB, NOBITS, REL = 1, SYMBOLS, 3, NO_BITS, RELOCATIONS  # SHT_*
 WRITE, ALLOC, EXEC = 1, 2, 4  # SHF_*
 LOCAL, GLOBAL = 0, 1  # STB_*
-OBJECT, FUNCTION = 1, 2  # STT_*
-TO_MAP, TO_FUNCTION = 1, 10  # R_BPF_64_64 of a wide load, R_BPF_64_32 of a call
-EM_BPF, ET_REL = 247, 1
+OBJECT, FUNCTION = OBJECT_SYMBOL, FUNCTION_SYMBOL  # STT_*
+TO_MAP, TO_FUNCTION = WIDE_LOAD, LOCAL_CALL  # R_BPF_64_64, R_BPF_64_32
+ET_REL = 1
 CLASS_64, LITTLE_ENDIAN, EV_CURRENT = 2, 1, 1
 HEAD, SECTION_HEAD, SYMBOL, RELOCATION = 64, 64, 24, 16  # bytes of Elf64_Ehdr, _Shdr, _Sym and _Rel
 
@@ -70,7 +71,8 @@ class Elf:
         return len(self.symbols) - 1
 
     def file(self, relocations: Sequence[Tuple[int, Sequence[Relocation]]]) -> bytes:
-        """The object. `relocations` are those of each section that has some. Local symbols come first, as elf(5) wants."""
+        """The object. `relocations` are those of each section that has some. Local symbols come first, as elf(5)
+        wants."""
         order = sorted(range(len(self.symbols)), key=lambda key: self.symbols[key].binding)
         numbers = {key: 1 + place for place, key in enumerate(order)}
         rows = [bytes(SYMBOL)]
@@ -105,6 +107,6 @@ class Elf:
         out += bytes(-len(out) % 8)
         magic = b"\x7fELF" + bytes([CLASS_64, LITTLE_ENDIAN, EV_CURRENT])
         table = (SECTION_HEAD, len(self.sections), len(self.sections) - 1)
-        parts = (magic, ET_REL, EM_BPF, EV_CURRENT, 0, 0, len(out), 0, HEAD, 0, 0, *table)
+        parts = (magic, ET_REL, MACHINE, EV_CURRENT, 0, 0, len(out), 0, HEAD, 0, 0, *table)
         struct.pack_into("<16sHHIQQQIHHHHHH", out, 0, *parts)
         return bytes(out) + heads

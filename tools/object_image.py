@@ -115,8 +115,8 @@ class Program:
         return next((it for it in self.begins if it > begin), self.count)
 
     def is_in_order_of_calls(self) -> bool:
-        """Whether the functions are in the order in which image.py links those that it finds: as they are called first, the
-        calls of one function after those of the one before."""
+        """Whether the functions are in the order in which image.py links those that it finds: as they are called
+        first, the calls of one function after those of the one before."""
         order = [0]
         for begin in order:
             for slot in range(begin, self.end(begin)):
@@ -126,8 +126,8 @@ class Program:
 
 
 def tags(program: Program) -> List[str]:
-    """The tags by which the kernel names the program, from Linux 6.18 on, and before: the first 8 bytes of a hash of the
-    code with the maps' numbers left out (bpf_prog_calc_tag, kernel/bpf/core.c)."""
+    """The tags by which the kernel names the program, from Linux 6.18 on, and before: the first 8 bytes of a hash of
+    the code with the maps' numbers left out (bpf_prog_calc_tag, kernel/bpf/core.c)."""
     code = bytearray(program.code)
     for slot, it in program.loads.items():
         code[8 * slot + 1] = code[8 * slot + 1] & 15 | PSEUDO[it.kind] << 4

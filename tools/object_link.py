@@ -1,8 +1,7 @@
 """Makes an object of an image's program, in the form that libbpf, and so `ip`, `bpftool` and `xdp-loader`, load.
 
-libbpf takes each function of the section xdp for a program, and links those of .text that it calls; maps are variables of
-.maps, and an array that the program has as memory is a section of its own, .data.NAME or .bss.
-"""
+libbpf takes each function of the section xdp for a program, and links those of .text that it calls; maps are variables
+of .maps, and an array that the program has as memory is a section of its own, .data.NAME or .bss. """
 
 import os
 import struct
@@ -12,6 +11,7 @@ import object_elf as elf
 import object_types as types
 from object_image import MAP, VALUE, Program, Refused
 from object_types import Line
+from sources import Source
 
 SECTION, CALLED = "xdp", ".text"
 
@@ -149,22 +149,20 @@ def map_order(program: Program) -> List[int]:
 
 def lines_of_text(path: str, program: Program) -> Dict[int, Line]:
     """The line of each instruction in the text that the image was assembled of, by its slot."""
-    import xdp
-
-    slots = xdp.Source.of_text(path).slots
+    slots = Source.of_text(path).slots
     if len(slots) != program.count:
         raise Refused(f"{path} has {len(slots)} slots, and the image {program.count}: it is not its text")
     found = {}
     for slot in program.instructions:
-        place, text = slots[slot]
+        place, text = slots[slot] or (path, "")
         file, _, number = place.rpartition(":")
         found[slot] = Line(os.path.abspath(file), int(number), text)
     return found
 
 
 def lines_of_listing(path: str, program: Program, listing: str) -> Dict[int, Line]:
-    """The same in the canonical text, as `xdpvm dis` prints it; where there is none a line says the slot. libbpf warns of
-    functions without lines."""
+    """The same in the canonical text, as `xdpvm dis` prints it; where there is none a line says the slot. libbpf warns
+    of functions without lines."""
     lines = listing.splitlines()
     first = next((place for place, it in enumerate(lines) if not it.startswith(("map ", "version "))), len(lines))
     found = {}

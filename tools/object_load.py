@@ -1,8 +1,7 @@
 """Loads objects into the kernel and takes them out again, by bpftool, ip or xdp-loader; fills and reads their maps.
 
-What bpftool loads is pinned in a folder of a BPF file system: the program as `program`, and each map as its index and its
-name. A new program is loaded, and its maps are filled, before it takes the place of the old one in one step.
-"""
+What bpftool loads is pinned in a folder of a BPF file system: the program as `program`, and each map as its index and
+its name. A new program is loaded, and its maps are filled, before it takes the place of the old one in one step. """
 
 import glob
 import json
@@ -53,8 +52,8 @@ class Place(NamedTuple):
 
 
 class Object(NamedTuple):
-    """An object to load: its bytes, the program's and the maps' names, the map rows, how libbpf orders the maps, and which of
-    them are sections."""
+    """An object to load: its bytes, the program's and the maps' names, the map rows, how libbpf orders the maps, and
+    which of them are sections."""
 
     bytes: bytes
     name: str
@@ -274,9 +273,8 @@ def unload(place: Place) -> str:
     need_file_system(place.folder)
     ours, there = pinned(place), attached(place.device) if place.device else None
     if there and there.id not in ours:
-        raise Failed(
-            f"the program on {place.said} (id {there.id}) is none that object.py loaded; `ip link set dev {place.said} xdp off` takes it off"
-        )
+        words = f"the program on {place.said} (id {there.id}) is none that object.py loaded"
+        raise Failed(f"{words}; `ip link set dev {place.said} xdp off` takes it off")
     if not there and not os.path.isdir(place.folder):
         raise Failed(f"nothing is loaded for {place.said}: there is no {place.folder}")
     if there and place.device:
@@ -334,9 +332,8 @@ def unload_by(name: str, place: Place, program: str) -> str:
         link = json.loads(ran("ip", "-j", "-d", "link", "show", "dev", place.device).decode())[0]
         there = link.get("xdp", {}).get("prog", {}).get("name")
         if there != program:
-            raise Failed(
-                f"{place.said} has {f'the program {there}' if there else 'no program'}; --name says which one to take off"
-            )
+            found = f"the program {there}" if there else "no program"
+            raise Failed(f"{place.said} has {found}; --name says which one to take off")
         kind = {2: "xdpgeneric"}.get(link["xdp"].get("mode"), "xdp")
         ran("ip", "link", "set", "dev", place.device, kind, "off")
     else:

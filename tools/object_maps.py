@@ -1,4 +1,5 @@
-"""Map lines, as a report of `xdpvm run` has them: read from a file to fill maps with, and made of the maps that the kernel has."""
+"""Map lines, as a report of `xdpvm run` has them: those of a file, to fill maps with, and those of the kernel's
+maps."""
 
 import re
 from typing import Dict, List, NamedTuple, Set
@@ -21,8 +22,8 @@ class Entry(NamedTuple):
 
 
 class Lines:
-    """The map lines of a text, each tested against the maps of an image. Blank lines, those that begin with #, and the other
-    lines of a report are passed over."""
+    """The map lines of a text, each tested against the maps of an image. Blank lines, those that begin with #, and the
+    other lines of a report are passed over."""
 
     def __init__(self, name: str, rows: List[Row]) -> None:
         self.name, self.rows = name, rows
@@ -75,7 +76,7 @@ class Lines:
 
 
 def dumped(index: int, is_hash: bool, text: bytes) -> List[Entry]:
-    """What `bpftool -j map dump` says of a map, in the order of a report: the keys of a hash map in that of their bytes."""
+    """What `bpftool -j map dump` says of a map, in the order of a report: a hash map's keys in that of their bytes."""
     pairs = [
         (bytes.fromhex(key.replace(b'","0x', b"").decode()), bytes.fromhex(value.replace(b'","0x', b"").decode()))
         for key, value in DUMPED.findall(text)

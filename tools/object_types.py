@@ -1,17 +1,18 @@
 """Writes the type information (BTF) of an object, and its lines: the sections .BTF and .BTF.ext.
 
 The layouts and the numbers of kinds are those of the kernel's page on BTF (Documentation/bpf/btf.rst); how a map is
-described by a structure of pointers is libbpf's (`__uint` and `__type` of bpf_helpers.h, parse_btf_map_def of libbpf.c).
-"""
+described by a structure of pointers is libbpf's (`__uint` and `__type` of bpf_helpers.h, parse_btf_map_def of
+libbpf.c). """
 
 import struct
 from typing import Dict, List, NamedTuple, Sequence, Tuple
 
 from object_image import ARRAY, Row
+from type_information import ARRAY as ARRAY_OF
+from type_information import INT, POINTER, PROTOTYPE, SECTION, STRUCT, TAG, VARIABLE
 
 MAGIC, VERSION, HEAD = 0xEB9F, 1, 24  # struct btf_header, and the part of struct btf_ext_header that has line info
-# BTF_KIND_*
-INT, POINTER, ARRAY_OF, STRUCT, FUNCTION, PROTOTYPE, VARIABLE, SECTION, TAG = 1, 2, 3, 4, 12, 13, 14, 15, 17
+FUNCTION = 12  # BTF_KIND_FUNC
 SIGNED = 1  # BTF_INT_SIGNED
 STATIC, GLOBAL = 0, 1  # BTF_FUNC_STATIC and BTF_FUNC_GLOBAL, BTF_VAR_GLOBAL_ALLOCATED
 WHOLE = -1  # component_idx of a tag that is of no member or argument
@@ -88,8 +89,8 @@ class Types:
         return self.word(width) if width == size else self.array(self.word(width), size // width)
 
     def map(self, name: str, row: Row, is_pinned: bool) -> Tuple[int, int]:
-        """A map's variable, and its size in .maps. The key of an array is a number, since bpftool wants that; that of a hash
-        map is bytes, since most are addresses and ports as packets have them."""
+        """A map's variable, and its size in .maps. The key of an array is a number, since bpftool wants that; that of
+        a hash map is bytes, since most are addresses and ports as packets have them."""
         members = [("type", self.said(row.kind)), ("max_entries", self.said(row.entries))]
         members.append(("key", self.pointer(self.plain(row.key, 4 if row.kind == ARRAY else 1))))
         members.append(("value", self.pointer(self.plain(row.value, 8))))
