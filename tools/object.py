@@ -47,6 +47,7 @@ import object_check
 import object_link
 import object_load
 import object_maps
+from inputs import named
 from object_image import Program, Refused, map_names, tags
 from object_load import Failed
 from object_types import Line
@@ -191,10 +192,9 @@ def answered(given: argparse.Namespace) -> int:
 
 
 def arguments() -> argparse.Namespace:
-    usage = "\n".join(it[7:] for it in (__doc__ or "").split("\n\n")[1].splitlines())
-    words = argparse.ArgumentParser(
-        description=__doc__, usage=usage, formatter_class=argparse.RawDescriptionHelpFormatter
-    )
+    text = named(__doc__ or "")
+    usage = "\n".join(it[7:] for it in text.split("\n\n")[1].splitlines())
+    words = argparse.ArgumentParser(description=text, usage=usage, formatter_class=argparse.RawDescriptionHelpFormatter)
     words.add_argument("files", nargs="*", help=argparse.SUPPRESS)
     action = words.add_mutually_exclusive_group()
     for name in ("load", "read", "unload"):
