@@ -82,7 +82,7 @@ for tool in "$top"/tools/*; do
             ;;
     esac
 done
-install "$top/examples/run.sh" "$home/examples"
+install "$top/examples/run.sh" "$top/examples/send.py" "$home/examples"
 ln -sfr "$home/examples/run.sh" "$folder/xdpvm-run"
 find "$top/examples" -maxdepth 1 -type f ! -name '*.py' ! -name '*.sh' -exec install -m 644 -t "$home/examples" {} +
 install -m 644 "$top"/examples/filters/* "$home/examples/filters"

@@ -146,4 +146,5 @@ def main():
     sys.exit(1 if wrong or not cases else 0)
 
 
-main()
+if __name__ == "__main__":
+    main()

@@ -8,9 +8,8 @@ a program, that one. --program names the function where a section has several; -
 the program calls, and those that they call, go into the image after it, and no others.
 
 Maps are those of the section .maps, as libbpf writes them; their sizes are in the type information, so compile with -g.
-Global variables that begin as zeros (.bss) become one array with one key, after the maps. Variables
-that begin with another value, and constant tables, cannot be in an image, since a map begins as
-zeros. Fields, types and values that depend on the kernel (CO-RE) are those of the running kernel, or of the type
+Global variables that begin as zeros (.bss, or a section .data.NAME) become an array with one key for each section, after the
+maps. Variables that begin with another value, and constant tables, cannot be in an image, since a map begins as zeros. Fields, types and values that depend on the kernel (CO-RE) are those of the running kernel, or of the type
 information in --btf FILE; those of the context need none. --source is the file that messages name in place of the object.
 
 Each relocation and each record of the program's functions is applied, or the object is refused, with the line. IMAGE is
@@ -141,13 +140,18 @@ def chosen(it: Object, section: str | None, name: str | None) -> Symbol:
     raise Refused(f"the section {section} has no function")
 
 
-def magic_of(it: Object) -> bytes:
-    """The magic of the image that an object was made of, as a declaration tag of its type information says, or that of
-    version 1."""
-    data = it.body(".BTF")
+def tagged(it: Object) -> tuple[bytes, dict[str, int]]:
+    """What the declaration tags of an object say of the image that it was made of: its magic, or that of version 1, and the
+    index of each map, by its variable's name."""
+    data, magic, indexes = it.body(".BTF"), b"XBP1", {}
     types = Types(data) if data is not None else None
-    tags = [types.at(number) for number in range(1, len(types.rows))] if types else []
-    return b"XBP2" if any(one.kind == TAG and one.name.startswith("xdpvm XBP2 ") for one in tags) else b"XBP1"
+    for one in [types.at(number) for number in range(1, len(types.rows))] if types else []:
+        words = one.name.split(" ") if one.kind == TAG else []
+        if types and words[:2] == ["xdpvm", "map"]:
+            indexes[types.at(one.size).name] = int(words[2])
+        elif words[:2] == ["xdpvm", "XBP2"]:
+            magic = b"XBP2"
+    return magic, indexes
 
 
 class Linker:
@@ -160,7 +164,8 @@ class Linker:
         self.waiting: list[Symbol] = []
         self.slots = bytearray()
         self.origins: list[tuple[int, int]] = []
-        self.variables: int | None = None
+        self.variables: dict[int, int] = {}  # the map of each section of variables
+        self.loads: list[int] = []  # the slots that name a map
 
     def where(self, section: int, at: int) -> str:
         """The words that say where in the source an instruction is."""
@@ -199,8 +204,21 @@ class Linker:
         self.begin(function)
         while self.waiting:
             self.link_function(self.waiting.pop(0))
+        magic, indexes = tagged(self.it)
+        self.sort(indexes)
         lines = [self.extra.at(self.it.names[section], at) for section, at in self.origins]
-        return Image(self.rows, bytes(self.slots), lines, self.names, magic_of(self.it))
+        return Image(self.rows, bytes(self.slots), lines, self.names, magic)
+
+    def sort(self, indexes: dict[str, int]) -> None:
+        """Gives the maps the indexes that tags say, if they say one of each."""
+        variables = {index: self.it.variable(section, 0) for section, index in self.variables.items()}
+        order = [indexes.get(variables.get(place) or name, -1) for place, name in enumerate(self.names)]
+        if sorted(order) == list(range(len(order))):
+            for slot in self.loads:
+                number, = struct.unpack_from("<i", self.slots, 8 * slot + 4)
+                struct.pack_into("<i", self.slots, 8 * slot + 4, order[number])
+            self.rows = [self.rows[order.index(place)] for place in range(len(order))]
+            self.names = [self.names[order.index(place)] for place in range(len(order))]
 
     def link_function(self, one: Symbol) -> None:
         """Applies all that is named in a function; what is left over is refused."""
@@ -274,19 +292,20 @@ class Linker:
         value = self.address(slot, section, at, named)
         if name == ".maps" and value in self.numbers:
             kind, number, offset = MAP, self.numbers[value], 0
-        elif name == ".bss":
+        elif name == ".bss" or name.startswith(".data.") and not any(self.it.bodies[symbol.section]):
             if not 0 <= value < self.it.sizes[symbol.section]:
-                raise Refused(f"byte {value} of .bss is named {self.where(section, at)}, and it has {self.it.sizes[symbol.section]}")
-            if self.variables is None:
-                self.variables = len(self.rows)
+                raise Refused(f"byte {value} of {name} is named {self.where(section, at)}, and it has {self.it.sizes[symbol.section]}")
+            if symbol.section not in self.variables:
+                self.variables[symbol.section] = len(self.rows)
                 self.rows.append(struct.pack("<HHII", ARRAY, 4, self.it.sizes[symbol.section], 1))
-                self.names.append(".bss")
-            kind, number, offset = VALUE, self.variables, value
+                self.names.append(name)
+            kind, number, offset = VALUE, self.variables[symbol.section], value
         else:
             raise Refused(self.why_not(section, at, symbol, name, value))
         self.slots[place + 1] = self.slots[place + 1] & 15 | kind << 4
         struct.pack_into("<i", self.slots, place + 4, number)
         struct.pack_into("<i", self.slots, place + 12, offset)
+        self.loads.append(slot)
 
     def address(self, slot: int, section: int, at: int, named: Relocation) -> int:
         """The place in its section that a wide load names. What clang writes into the instruction is added to the symbol's

@@ -232,7 +232,7 @@ def last_words(log):
         return loop[0].decode()
     dumps = ("processed ", "verification time", "stack depth", "mark_precise", "cur state", "old state", "from ", "R", "fp", ";")
     lines = [it for it in log.decode(errors="replace").splitlines() if it and not it[0].isdigit()]
-    said = [it for it in lines if not it.startswith(dumps) or it.startswith("R") and "=" not in it]
+    said = [it for it in lines if not it.startswith(dumps) or re.match(r"R\d+ [a-z!]", it)]
     return said[-1] if said else ""
 
 
