@@ -6,7 +6,7 @@ ghost use Rattle.state_index.specs.Parts.{AreBlankBeside, AreParts};
 ghost use Rattle.state_index.specs.Rooms.{HasShapeRoom};
 ghost use Rattle.explorer.specs.StoredStates.{IsStored, IsCovered, IsRepeated, StoredAt, GetsNumber};
 
-use crate::kept::{Kept, PLACES};
+use crate::kept::{Kept, Others, PLACES};
 use crate::state_trees::tree_of;
 use control_flow::SlotMask;
 use stack_state::State;
@@ -359,7 +359,7 @@ impl StoredStates {
         let state = match kept.take() {
             Some(kept) => kept,
             None => {
-                let last = last_of(&self.states);
+                let last = Others::one(last_of(&self.states));
                 Kept::of_parts(alloc, state, &mut self.key.parts, last)?
             }
         };

@@ -7,11 +7,6 @@ use crate::kept::Kept;
 use std::alloc::{AllocError, Global};
 use std::marker::Model;
 
-/// How many words of 8 bytes the pending states of a path may take, shared ones not counted. A path
-/// that takes more is out of memory, however much the machine has, so that every machine gives the
-/// same verdict.
-const MOST_WORDS: u64 = 18_000_000;
-
 /// An instruction on the path, and what is still to be explored after it.
 #[derive(Drop)]
 pub struct Visit {
@@ -40,8 +35,6 @@ struct KeptVisit {
 pub struct Trail {
     visits: Vec<KeptVisit>,
     pending: Vec<Kept>,
-    /// How many words the pending states take.
-    words: u64,
 }
 
 impl Model for Trail {
@@ -80,27 +73,18 @@ fn as_usize(stored: Option<u32>) -> Option<usize>
 }
 
 #[inline(always)]
-fn put_pending(
-    pending: &mut Vec<Kept>,
-    words: &mut u64,
-    state: Option<Kept>,
-) -> Result<(), AllocError>
+fn put_pending(pending: &mut Vec<Kept>, state: Option<Kept>) -> Result<(), AllocError>
     ensures items { OnOk result (pending.new.items ≡ pending.old.items ++ option_to_list state) }
     ensures err { OnErr result (pending.new.items ≡ pending.old.items) }
 {
     if let Some(state) = state {
-        let more = words.saturating_add(u64::from(state.words()));
-        if more > MOST_WORDS {
-            return Err(AllocError);
-        }
         pending.push(state)?;
-        *words = more;
     }
     Ok(())
 }
 
 #[inline(always)]
-fn take_pending(pending: &mut Vec<Kept>, words: &mut u64, waits: bool) -> Option<Kept>
+fn take_pending(pending: &mut Vec<Kept>, waits: bool) -> Option<Kept>
     requires { one_if waits ≤ length pending.old.items }
     ensures items { pending.old.items ≡ pending.new.items ++ option_to_list result }
     ensures waits { waits ≡ is_some result }
@@ -108,11 +92,7 @@ fn take_pending(pending: &mut Vec<Kept>, words: &mut u64, waits: bool) -> Option
     if !waits {
         return None;
     }
-    let state = pending.pop();
-    if let Some(state) = &state {
-        *words = words.saturating_sub(u64::from(state.words()));
-    }
-    state
+    pending.pop()
 }
 
 impl Trail {
@@ -124,8 +104,13 @@ impl Trail {
         Trail {
             visits: Vec::new(alloc),
             pending: Vec::new(alloc),
-            words: 0,
         }
+    }
+
+    /// The state that became pending last, and still is.
+    #[inline(always)]
+    pub fn last_pending(&self) -> Option<&Kept> {
+        self.pending.last()
     }
 
     /// Puts a visit after the others.
@@ -141,14 +126,14 @@ impl Trail {
         } = visit;
         let stored = as_u32(stored)?;
         let waits = pending.is_some();
-        put_pending(&mut self.pending, &mut self.words, pending)?;
+        put_pending(&mut self.pending, pending)?;
         let kept = KeptVisit {
             best,
             stored,
             waits,
         };
         let Ok(()) = self.visits.push(kept) else {
-            let _state = take_pending(&mut self.pending, &mut self.words, waits);
+            let _state = take_pending(&mut self.pending, waits);
             return Err(AllocError);
         };
         Ok(())
@@ -172,7 +157,7 @@ impl Trail {
             stored: kept.stored,
             waits: false,
         };
-        take_pending(&mut self.pending, &mut self.words, true)
+        take_pending(&mut self.pending, true)
     }
 
     /// Takes the last visit.
@@ -186,7 +171,7 @@ impl Trail {
         let Some(kept) = self.visits.pop() else {
             return None;
         };
-        let pending = take_pending(&mut self.pending, &mut self.words, kept.waits);
+        let pending = take_pending(&mut self.pending, kept.waits);
         Some(Visit {
             pending,
             best: kept.best,
