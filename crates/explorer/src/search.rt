@@ -81,6 +81,7 @@ impl Search {
             &mut self.states,
             &self.current,
             &mut kept,
+            self.path.last_pending(),
             &mut self.scratch,
         )
     }

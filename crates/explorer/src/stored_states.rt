@@ -336,12 +336,13 @@ impl StoredStates {
     }
 
     /// Stores the state that was taken, and returns its index. If the state was kept before, the
-    /// kept one is stored.
+    /// kept one is stored; if not, it may share with the state that became pending last.
     pub fn store(
         &mut self,
         alloc: Global,
         state: &State,
         kept: &mut Option<Kept>,
+        pending: Option<&Kept>,
     ) -> Result<usize, AllocError>
         requires drawn { kept.old ≡ None
             → AreParts self.old.key.parts.items state.now.innermost }
@@ -359,8 +360,11 @@ impl StoredStates {
         let state = match kept.take() {
             Some(kept) => kept,
             None => {
-                let last = Others::one(last_of(&self.states));
-                Kept::of_parts(alloc, state, &mut self.key.parts, last)?
+                let others = Others {
+                    first: last_of(&self.states),
+                    second: pending,
+                };
+                Kept::of_parts(alloc, state, &mut self.key.parts, others)?
             }
         };
         let words = match self.index.has_trees() {
