@@ -14,7 +14,7 @@ ghost use Rattle.explorer.specs.Search.{Arrives, IsArrival, RefusesArrival, IsNe
 ghost use Rattle.explorer.specs.Listening.{BeginsPath, BeginFails, ShowsStep, StepFails, ComesBackAt, IfReturns, ReturnFails, IfRefused, IsToTell, FollowsTo, FollowsNext, EndsIn};
 
 use crate::arrivals::{arrive, forget_at};
-use crate::kept::{Kept, Others};
+use crate::kept::Kept;
 use crate::listening::{Listener, halt, tell};
 use crate::moves::{Halt, Move, NO_MEMORY, NextMove, Refused};
 use crate::stored_states::StoredStates;
@@ -142,10 +142,7 @@ impl Search {
             Ways::Two => {
                 forget(flow, false, &mut self.scratch);
                 let mask = kept_slots(flow, self.scratch.slot);
-                let others = Others {
-                    first: self.path.last_pending(),
-                    second: self.states.last(),
-                };
+                let others = self.path.others_at(self.scratch.slot, self.states.last());
                 match Kept::of_forgotten(alloc, &self.scratch, mask, parts, others) {
                     Ok(other) => Some(other),
                     Err(_) => return Err(NO_MEMORY),

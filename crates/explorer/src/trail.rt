@@ -3,7 +3,8 @@
 ghost use Rattle.std.specs.Prelude.{◌≡◌, ◌≤◌, ◌+◌, ◌++◌, ◌∷◌, [], length, MatchOption, OnOk, OnErr, IfOk, option_to_list, is_some};
 ghost use Rattle.explorer.specs.Trail.{one_if, TakesLastPending};
 
-use crate::kept::Kept;
+use crate::kept::{Kept, Others};
+use crate::latest::LatestPending;
 use std::alloc::{AllocError, Global};
 use std::marker::Model;
 
@@ -35,6 +36,7 @@ struct KeptVisit {
 pub struct Trail {
     visits: Vec<KeptVisit>,
     pending: Vec<Kept>,
+    latest: LatestPending,
 }
 
 impl Model for Trail {
@@ -73,18 +75,23 @@ fn as_usize(stored: Option<u32>) -> Option<usize>
 }
 
 #[inline(always)]
-fn put_pending(pending: &mut Vec<Kept>, state: Option<Kept>) -> Result<(), AllocError>
+fn put_pending(
+    pending: &mut Vec<Kept>,
+    latest: &mut LatestPending,
+    state: Option<Kept>,
+) -> Result<(), AllocError>
     ensures items { OnOk result (pending.new.items ≡ pending.old.items ++ option_to_list state) }
     ensures err { OnErr result (pending.new.items ≡ pending.old.items) }
 {
     if let Some(state) = state {
+        latest.push(state.slot(), pending.len())?;
         pending.push(state)?;
     }
     Ok(())
 }
 
 #[inline(always)]
-fn take_pending(pending: &mut Vec<Kept>, waits: bool) -> Option<Kept>
+fn take_pending(pending: &mut Vec<Kept>, latest: &mut LatestPending, waits: bool) -> Option<Kept>
     requires { one_if waits ≤ length pending.old.items }
     ensures items { pending.old.items ≡ pending.new.items ++ option_to_list result }
     ensures waits { waits ≡ is_some result }
@@ -92,7 +99,11 @@ fn take_pending(pending: &mut Vec<Kept>, waits: bool) -> Option<Kept>
     if !waits {
         return None;
     }
-    pending.pop()
+    let state = pending.pop();
+    if let Some(state) = &state {
+        latest.pop(state.slot());
+    }
+    state
 }
 
 impl Trail {
@@ -104,6 +115,7 @@ impl Trail {
         Trail {
             visits: Vec::new(alloc),
             pending: Vec::new(alloc),
+            latest: LatestPending::new(alloc),
         }
     }
 
@@ -111,6 +123,20 @@ impl Trail {
     #[inline(always)]
     pub fn last_pending(&self) -> Option<&Kept> {
         self.pending.last()
+    }
+
+    /// The states with which a state that becomes pending at the slot may share: the last pending
+    /// one; and the last one of that slot, or the stored one where there is none.
+    #[inline(always)]
+    pub fn others_at<'a>(&'a self, slot: usize, stored: Option<&'a Kept>) -> Others<'a> {
+        let second = match self.latest.index_at(slot) {
+            Some(index) => self.pending.get(index),
+            None => stored,
+        };
+        Others {
+            first: self.last_pending(),
+            second,
+        }
     }
 
     /// Puts a visit after the others.
@@ -126,14 +152,14 @@ impl Trail {
         } = visit;
         let stored = as_u32(stored)?;
         let waits = pending.is_some();
-        put_pending(&mut self.pending, pending)?;
+        put_pending(&mut self.pending, &mut self.latest, pending)?;
         let kept = KeptVisit {
             best,
             stored,
             waits,
         };
         let Ok(()) = self.visits.push(kept) else {
-            let _state = take_pending(&mut self.pending, waits);
+            let _state = take_pending(&mut self.pending, &mut self.latest, waits);
             return Err(AllocError);
         };
         Ok(())
@@ -157,7 +183,7 @@ impl Trail {
             stored: kept.stored,
             waits: false,
         };
-        take_pending(&mut self.pending, true)
+        take_pending(&mut self.pending, &mut self.latest, true)
     }
 
     /// Takes the last visit.
@@ -171,7 +197,7 @@ impl Trail {
         let Some(kept) = self.visits.pop() else {
             return None;
         };
-        let pending = take_pending(&mut self.pending, kept.waits);
+        let pending = take_pending(&mut self.pending, &mut self.latest, kept.waits);
         Some(Visit {
             pending,
             best: kept.best,
